@@ -1,0 +1,29 @@
+# What can be done with this repository. It needs the Rattle toolchain (its command `rt`) and nothing else.
+
+RT ?= rt
+PREFIX ?= /usr/local
+
+.DEFAULT_GOAL := help
+.PHONY: help run build test install
+
+help:
+	@echo 'make run                    proves and builds the program, then prints the file in samples/hello.v6'
+	@echo 'make test                   the whole gate: the built program from the shell, then every proof and test from nothing'
+	@echo 'make build                  proves and builds the program, and leaves it as ./unixvol'
+	@echo 'make install PREFIX=FOLDER  builds the program and copies it to FOLDER/bin (to /usr/local/bin without PREFIX)'
+
+# The program is built only where it is proved. The words after `--` are its own: it is run once.
+build:
+	cd crates/unixvol && $(RT) run -- --version
+	cp -f crates/unixvol/out/unixvol unixvol
+
+run: build
+	./unixvol cat 6 samples/hello.v6 1
+
+test: build
+	tests/program.sh ./unixvol
+	$(RT) ci
+
+install: build
+	install -d $(DESTDIR)$(PREFIX)/bin
+	install -m 755 unixvol $(DESTDIR)$(PREFIX)/bin/unixvol

@@ -1,0 +1,6 @@
+-- The reads of `read_uninterrupted` that were interrupted consumed nothing.
+use Rattle.std.specs.Io.KnownBytes.{Keeps}
+use Rattle.pdp_words.proofs.from_read.read_uninterrupted.Given as goal
+
+abbrev pub invariant-tries : goal.invariant-tries
+invariant-tries g l = Keeps (g.R.Read.remaining l.initial.reader) (g.R.Read.remaining l.reader)

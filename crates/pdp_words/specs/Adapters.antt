@@ -1,0 +1,20 @@
+-- What stands in the devices that are made of a reader and of a writer.
+use Rattle.std.specs.Prelude.{Bool}
+use Rattle.pdp_words.specs.declared.from_read.FromRead.{FromRead}
+use Rattle.pdp_words.specs.declared.into_write.IntoWrite.{IntoWrite}
+
+-- the reader in it (std::io)
+abbrev pub reader_in : {R : Type 0} → FromRead R → R
+reader_in source = source.reader
+
+-- whether one of its reads has answered an error (std::io)
+abbrev pub has_read_failed : {R : Type 0} → FromRead R → Bool
+has_read_failed source = source.failed
+
+-- the writer in it (std::io)
+abbrev pub writer_in : {W : Type 0} → IntoWrite W → W
+writer_in sink = sink.writer
+
+-- whether one of its writes has answered an error (std::io)
+abbrev pub has_write_failed : {W : Type 0} → IntoWrite W → Bool
+has_write_failed sink = sink.failed

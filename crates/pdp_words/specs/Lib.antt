@@ -1,0 +1,4 @@
+pub mod Adapters
+pub mod Devices
+pub mod Mishaps
+pub mod Words

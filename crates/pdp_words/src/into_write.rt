@@ -1,0 +1,84 @@
+//! A sink made of a writer of the standard library.
+ghost use Rattle.std.specs.Prelude.{◌≡◌, ◌≢◌, ◌<◌, false, length, IfOk, IfErr};
+ghost use Rattle.std.specs.IoError.{error_kind};
+ghost use Rattle.std.specs.Io.{WritesAtMost};
+ghost use Rattle.std.specs.Io.KnownBytes.{WriteAppends};
+ghost use Rattle.pdp_words.specs.Adapters.{writer_in, has_write_failed};
+
+use crate::device::Sink;
+use std::io::{self, Error, ErrorKind, Write};
+
+/// A sink into a writer. A write that a signal interrupted is tried again, and a write that takes no
+/// byte of some is an error, as it would go on for ever. Nothing here flushes the writer: whoever
+/// owns it calls `Write::flush` after the last write, and sees to the error of that. A writer that is
+/// only lent goes in as `IntoWrite::new(&mut writer)`.
+#[derive(Debug, Drop)]
+pub struct IntoWrite<W> {
+    writer: W,
+    failed: bool,
+}
+
+impl<W: Write> IntoWrite<W> {
+    /// A sink into `writer`, after the bytes that it holds. It has not failed.
+    pub fn new(writer: W) -> IntoWrite<W>
+        ensures writer { writer_in result ≡ writer }
+        ensures bytes { ⟦<IntoWrite<W> as Sink>⟧.contents result ≡ W.contents writer }
+        ensures fresh { ⟦<IntoWrite<W> as Sink>⟧.failed result ≡ false }
+    {
+        IntoWrite {
+            writer,
+            failed: false,
+        }
+    }
+
+    /// The writer, with the bytes that it holds.
+    pub fn into_inner(self) -> W
+        ensures writer { result ≡ writer_in self }
+        ensures bytes { W.contents result ≡ ⟦<IntoWrite<W> as Sink>⟧.contents self }
+    {
+        self.writer
+    }
+}
+
+impl<W: Write> Sink for IntoWrite<W> {
+    ghost contents = { λ sink. W.contents (writer_in sink) };
+
+    ghost failed = { has_write_failed };
+
+    fn write(&mut self, buf: &[u8]) -> io::Result<usize> {
+        let result = write_uninterrupted(&mut self.writer, buf);
+        if result.is_err() {
+            self.failed = true;
+        }
+        result
+    }
+
+    fn failed(&self) -> bool {
+        self.failed
+    }
+}
+
+// One write, tried again where a signal interrupts it. To take none of some bytes is an error.
+fn write_uninterrupted<W: Write>(writer: &mut W, buf: &[u8]) -> io::Result<usize>
+    ensures bound { WritesAtMost result buf.now }
+    ensures bytes { WriteAppends (W.contents writer.old) (W.contents writer.new) result buf.now }
+    ensures progress { 0 < length buf.now → IfOk result (λ n. 0 < n) }
+    ensures retried { IfErr result (λ e. error_kind e ≢ ErrorKind.Interrupted) }
+{
+    'tries: for _ in 0..u64::MAX {
+        match writer.write(buf) {
+            Ok(count) => {
+                if count == 0 && !buf.is_empty() {
+                    return Err(Error::from(ErrorKind::WriteZero));
+                }
+                return Ok(count);
+            }
+            Err(error) => {
+                if error.kind() != ErrorKind::Interrupted {
+                    return Err(error);
+                }
+            }
+        }
+    }
+    Err(Error::from(ErrorKind::TimedOut))
+}

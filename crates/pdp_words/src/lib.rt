@@ -1,0 +1,22 @@
+//! Bytes as the PDP-11 saw them: words, longs and three-byte addresses, the image of a volume, and
+//! the devices that an image is loaded from and saved to.
+#![tactic(auto)]
+
+pub mod device;
+pub mod from_read;
+pub mod image;
+pub mod into_write;
+pub mod loading;
+pub mod saving;
+pub mod testing;
+pub mod words;
+
+pub use device::{Sink, Source};
+pub use from_read::FromRead;
+pub use image::{BLOCK, Image};
+pub use into_write::IntoWrite;
+pub use loading::{LoadFault, load, load_with_capacity};
+pub use saving::{SaveFault, save, write_all};
+
+#[cfg(test)]
+mod tests;

@@ -1,0 +1,44 @@
+//! Saves an image to a sink.
+ghost use Rattle.std.specs.Prelude.{◌≡◌, true, IfErr, OnOk, OnErr};
+ghost use Rattle.std.specs.Io.KnownBytes.{Appends};
+ghost use Rattle.pdp_words.specs.Devices.{AppendsFront};
+
+use crate::device::Sink;
+use crate::image::Image;
+use thiserror::Error;
+
+/// The sink answered an error after some bytes.
+#[derive(Debug, Clone, Copy, PartialEq, Eq, Error)]
+#[error("the device failed after {written} bytes")]
+pub struct SaveFault {
+    /// How many bytes the sink took before the error, counted from the first of the call.
+    pub written: u64,
+}
+
+/// Writes `bytes` to `sink`, in as many writes as it takes. A fault only where the sink failed, and
+/// then the sink took exactly the first `written` bytes. Takes no memory.
+pub fn write_all<W: Sink>(sink: &mut W, bytes: &[u8]) -> Result<(), SaveFault>
+    ensures ok { OnOk result (Appends (W.contents sink.old) (W.contents sink.new) bytes.now) }
+    ensures working { OnOk result (W.failed sink.new ≡ W.failed sink.old) }
+    ensures part { IfErr result (λ e. AppendsFront (W.contents sink.old) (W.contents sink.new) bytes.now e.written) }
+    ensures fault { OnErr result (W.failed sink.new ≡ true) }
+{
+    let mut at = 0;
+    while at < bytes.len() {
+        match sink.write(&bytes[at..]) {
+            Ok(count) => at += count,
+            Err(_) => return Err(SaveFault { written: at as u64 }),
+        }
+    }
+    Ok(())
+}
+
+/// Writes all bytes of `image` to `sink`, as [`write_all`] does. Takes no memory.
+pub fn save<W: Sink>(image: &Image, sink: &mut W) -> Result<(), SaveFault>
+    ensures ok { OnOk result (Appends (W.contents sink.old) (W.contents sink.new) image.now) }
+    ensures working { OnOk result (W.failed sink.new ≡ W.failed sink.old) }
+    ensures part { IfErr result (λ e. AppendsFront (W.contents sink.old) (W.contents sink.new) image.now e.written) }
+    ensures fault { OnErr result (W.failed sink.new ≡ true) }
+{
+    write_all(sink, image.as_bytes())
+}

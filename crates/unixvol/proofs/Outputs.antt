@@ -1,0 +1,23 @@
+-- What goes out of a list of bytes piece by piece.
+use Rattle.std.specs.Prelude.{slice_range, Option}
+use Rattle.std.specs.Io.KnownBytes.{Appends}
+use Rattle.std.proofs.KnownBytes.{Appends-trans}
+use Rattle.std.proofs.Common.{◌≡◌, ℕ, ◌+◌, ◌-◌, ◌≤◌, ◌∙◌, sym, ap, subst, arith, List, ◌++◌, take, drop}
+use Rattle.std.proofs.lemmas.List.{take-take}
+use Rattle.std.proofs.Math.Seq.{take-add}
+
+-- the first m bytes of a piece that begins after n bytes follow these
+take_on : (bytes : List ℕ) (n count m : ℕ) → m ≤ count
+    → take (n + m) bytes ≡ take n bytes ++ take m (slice_range bytes n (n + count))
+take_on bytes n count m h =
+    let whole : m ≤ n + count - n = omega arith in
+    take-add n m bytes ∙ ap (λ xs. take n bytes ++ xs) (sym (take-take m (n + count - n) (drop n bytes) whole))
+
+-- where the first n bytes went out, and then the first m of the piece after them, the first n + m did
+pub Appends-more : (a b c : Option (List ℕ)) (bytes piece : List ℕ) (n count m : ℕ) → m ≤ count
+    → piece ≡ slice_range bytes n (n + count) → Appends a b (take n bytes) → Appends b c (take m piece)
+    → Appends a c (take (n + m) bytes)
+Appends-more a b c bytes piece n count m h part front more =
+    let whole : take (n + m) bytes ≡ take n bytes ++ take m piece =
+    take_on bytes n count m h ∙ ap (λ xs. take n bytes ++ take m xs) (sym part) in
+    subst (Appends a c) (sym whole) (Appends-trans a b c _ _ front more)

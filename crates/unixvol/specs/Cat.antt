@@ -1,0 +1,85 @@
+-- What `cat` answers and writes.
+use Rattle.std.specs.Prelude.{◌≡◌, ℕ, ◌==◌, ◌||◌, Bool, nat_lt, if◌then◌else◌, List, Option, Result, Ok, Err}
+use Rattle.std.specs.Io.KnownBytes.{Appends, Keeps}
+use Rattle.pdp_words.specs.Devices.{IsReadWhole, AppendsFront}
+use Rattle.vol_layout.specs.Geometry.{geometry_read}
+use Rattle.vol_layout.specs.Inode.{kind_of, is_large, inode_place, size_at}
+use Rattle.vol_layout.specs.Names.{mode_of}
+use Rattle.vol_layout.specs.Body.{body}
+use Rattle.vol_layout.specs.declared.edition.Edition.{Edition}
+use Rattle.vol_layout.specs.declared.edition.Edition.TheVariants.{V6, V7}
+use Rattle.vol_layout.specs.declared.geometry.Geometry.{Geometry}
+use Rattle.vol_layout.specs.declared.geometry.GeometryFault.{GeometryFault}
+use Rattle.vol_layout.specs.declared.mode.Kind.{Kind}
+use Rattle.vol_layout.specs.declared.mode.Kind.TheVariants as kinds
+use Rattle.unixvol.specs.declared.cat.CatFault.{CatFault}
+use Rattle.unixvol.specs.declared.cat.CatFault.TheVariants as faults
+
+-- the status that the program ends with at a fault: 1 for a refusal, 3 for a file, 4 for memory (this project)
+abbrev pub status_of : CatFault → ℕ
+status_of faults.Device = 3
+status_of (faults.Writer written) = 3
+status_of faults.NoMemory = 4
+status_of (faults.Unsound fault) = 1
+status_of faults.NoEntry = 1
+status_of faults.NotRegular = 1
+status_of faults.NotYet = 1
+
+-- a fault that an image which was read gives rise to (this project)
+abbrev pub IsOfImage : CatFault → Type 0
+IsOfImage faults.Device = ⊥
+IsOfImage faults.NoMemory = ⊥
+IsOfImage (faults.Writer written) = ⊥
+IsOfImage (faults.Unsound fault) = Unit {0}
+IsOfImage faults.NoEntry = Unit {0}
+IsOfImage faults.NotRegular = Unit {0}
+IsOfImage faults.NotYet = Unit {0}
+
+-- whether this release can't print a file with some mode and size yet (this release)
+abbrev pub is_not_yet_in : Edition → ℕ → ℕ → Bool
+is_not_yet_in V6 mode size = is_large V6 mode
+is_not_yet_in V7 mode size = nat_lt 5120 size
+
+-- whether this release can't print a file yet: one with the large flag, or one of the seventh edition past its ten direct blocks (this release)
+abbrev pub is_not_yet : Geometry → List ℕ → ℕ → Bool
+is_not_yet geometry image i = is_not_yet_in geometry.edition (mode_of geometry image i) (size_at geometry.edition image (inode_place geometry.edition i))
+
+-- the geometry of an image in which i-node i, of some kind, can be printed, or the first refusal that applies (this project)
+abbrev pub printable : Geometry → Bool → Kind → Result Geometry CatFault
+printable geometry later kinds.Regular = if later then Err faults.NotYet else Ok geometry
+printable geometry later kinds.Directory = if later then Err faults.NotYet else Ok geometry
+printable geometry later kinds.Free = Err faults.NoEntry
+printable geometry later kinds.Special = Err faults.NotRegular
+printable geometry later kinds.Odd = Err faults.NotRegular
+
+-- the same by the i-number, which may be none of the volume's (this project)
+abbrev pub file_in : Geometry → List ℕ → ℕ → Result Geometry CatFault
+file_in geometry image i =
+    if (i == 0) || nat_lt geometry.last_inode i then Err faults.NoEntry
+    else printable geometry (is_not_yet geometry image i) (kind_of geometry.edition (mode_of geometry image i))
+
+-- the same by the geometry that was read (this project)
+abbrev pub file_by : Result Geometry GeometryFault → List ℕ → ℕ → Result Geometry CatFault
+file_by (Ok geometry) image i = file_in geometry image i
+file_by (Err fault) image i = Err (faults.Unsound fault)
+
+-- the geometry of an image whose file i `cat` prints, or the refusal that it answers: rule 1, rule 2, no such
+-- i-node, no regular file or directory
+unfoldable pub file_of : Edition → List ℕ → ℕ → Result Geometry CatFault
+file_of edition image i = file_by (geometry_read edition image) image i
+
+-- what `cat` writes and answers for an image: the body of file i, or its first bytes, as many as a writer's fault
+-- counts, or a refusal and nothing
+abbrev pub Shows : Option (List ℕ) → Option (List ℕ) → List ℕ → ℕ → Result Geometry CatFault → Result (Unit {0}) CatFault → Type 0
+Shows old new image i (Err fault) result = (result ≡ Err fault) × Keeps old new
+Shows old new image i (Ok geometry) (Ok done) = Appends old new (body geometry image i)
+Shows old new image i (Ok geometry) (Err (faults.Writer written)) = AppendsFront old new (body geometry image i) written
+Shows old new image i (Ok geometry) (Err _) = ⊥
+
+-- what `cat` does, from the bytes that its reader had and has left to those that its writer held and holds: where the
+-- image was read whole it shows it, and else it writes nothing
+abbrev pub Cats : Option (List ℕ) → Option (List ℕ) → Option (List ℕ) → Option (List ℕ) → Edition → ℕ → Result (Unit {0}) CatFault → Type 0
+Cats had left old new edition i (Err faults.Device) = Keeps old new
+Cats had left old new edition i (Err faults.NoMemory) = Keeps old new
+Cats had left old new edition i result =
+    (image : List ℕ) × IsReadWhole had left image × Shows old new image i (file_of edition image i) result

@@ -1,0 +1,45 @@
+-- What the words of the command line ask for.
+use Rattle.std.specs.Prelude.{◌≡◌, ◌≢◌, ℕ, List, [], Option, Some, None, codes}
+use Rattle.std.specs.Str.Parse.{digits_value}
+use Rattle.clap.specs.Words.{found_of, first_value}
+use Rattle.clap.specs.declared.parser.matches.ArgMatches.{ArgMatches}
+use Rattle.vol_layout.specs.declared.edition.Edition.{Edition}
+use Rattle.vol_layout.specs.declared.edition.Edition.TheVariants.{V6, V7}
+use Rattle.unixvol.specs.Decimal.{IsNumberUpTo, IsNumberGiven}
+use Rattle.unixvol.specs.declared.command_line.Invocation.{Invocation}
+use Rattle.unixvol.specs.declared.command_line.Invocation.TheVariants.{Cat, Mkfs}
+
+-- the word names this edition
+abbrev pub IsEditionNamed : Edition → List ℕ → Type 0
+IsEditionNamed V6 text = text ≡ codes "6"
+IsEditionNamed V7 text = text ≡ codes "7"
+
+-- the word names no edition
+abbrev pub IsNoEdition : List ℕ → Type 0
+IsNoEdition text = (text ≢ codes "6") × (text ≢ codes "7")
+
+-- the words after `cat` ask for this
+abbrev pub AsksForCat : List ℕ → List ℕ → List ℕ → Invocation → Type 0
+AsksForCat edition image ino (Cat named file number) =
+    IsEditionNamed named edition × (file.now ≡ image) × IsNumberUpTo 65535 ino × (number ≡ digits_value 10 ino)
+AsksForCat edition image ino (Mkfs file volume) = ⊥
+
+-- a word, or the empty one where there is none
+abbrev pub word_or_empty : Option (List ℕ) → List ℕ
+word_or_empty (Some word) = word
+word_or_empty None = []
+
+-- the first word that was given for an argument, or the empty one
+abbrev pub given_in : ArgMatches → List ℕ → List ℕ
+given_in values argument = word_or_empty (first_value (found_of values) argument)
+
+-- the words that were given ask for this volume in this file
+abbrev pub AsksForMkfs : ArgMatches → Invocation → Type 0
+AsksForMkfs values (Cat named file number) = ⊥
+AsksForMkfs values (Mkfs file volume) = (file.now ≡ given_in values (codes "IMAGE"))
+    × IsEditionNamed volume.edition (given_in values (codes "EDITION"))
+    × IsNumberGiven 4294967295 (given_in values (codes "FSIZE")) volume.blocks
+    × IsNumberGiven 65535 (given_in values (codes "IBLOCKS")) volume.list_blocks
+    × IsNumberGiven 65535 (given_in values (codes "UID")) volume.uid
+    × IsNumberGiven 65535 (given_in values (codes "GID")) volume.gid
+    × IsNumberGiven 4294967295 (given_in values (codes "NOW")) volume.now

@@ -1,0 +1,4 @@
+pub mod Cat
+pub mod CommandLine
+pub mod Decimal
+pub mod Making

@@ -1,0 +1,171 @@
+//! The commands of the program: what they open, and what they print where something fails.
+ghost use Rattle.std.specs.Prelude.{◌≡◌, ◌≢◌, ◌⊎◌, IsSome};
+ghost use Rattle.clap.specs.Words.{kind_of};
+ghost use Rattle.clap.specs.declared.error.kind.ErrorKind.TheVariants as clap_kinds;
+ghost use Rattle.unixvol.specs.Cat.{status_of};
+
+use crate::cat::{CatFault, cat};
+use crate::command_line::{self, Invocation};
+use crate::making::{Answer, mkfs_command};
+use crate::saving_file::save_file;
+use clap::error::ErrorKind;
+use pdp_words::{FromRead, IntoWrite};
+use std::env::{self, Env};
+use std::fs::{self, Files};
+use std::io::{self, Write};
+use vol_layout::Edition;
+
+/// The status where all went well.
+const DONE: u8 = 0;
+
+/// The status of a fault of the command line.
+const BAD_COMMAND_LINE: u8 = 2;
+
+/// The status where a file can't be read or written.
+const BAD_FILE: u8 = 3;
+
+/// Does what the command line asks for, and answers the status to end with. What it prints goes to
+/// `output`, which is standard output; a fault is one line on standard error, or clap's text. `errors`
+/// writes to standard error too.
+pub fn run<R: Env + Files + Eprint + AllocGlobal, W: Write, E: Write>(
+    rt: &R,
+    output: &mut W,
+    errors: &mut E,
+) -> u8 {
+    let words = match words(rt) {
+        Ok(words) => words,
+        Err(error) => return explain_words(rt, &error),
+    };
+    match command_line::read(rt.alloc(), words.as_slice()) {
+        Ok(
+            Invocation::Cat {
+                edition,
+                image,
+                ino,
+            },
+        ) => match cat_file(rt, output, edition, image, ino) {
+            Ok(()) => finish(rt, output),
+            Err(fault) => explain_cat(rt, fault, image),
+        },
+        Ok(Invocation::Mkfs { image, volume }) => {
+            let mut output = IntoWrite::new(output);
+            let mut errors = IntoWrite::new(errors);
+            let answer = mkfs_command(rt.alloc(), volume, &mut output, &mut errors);
+            save_answer(rt, image, &answer)
+        }
+        Err(error) => explain_command_line(rt, output, &error),
+    }
+}
+
+/// The words of the command line, of which the first is the program's own name.
+fn words<R: Env + AllocGlobal>(rt: &R) -> io::Result<Vec<String>> {
+    Ok(env::args(rt)?.collect(rt.alloc())?)
+}
+
+/// Prints the body of i-node `ino` of the volume in the file `image`.
+fn cat_file<R: Files + AllocGlobal, W: Write>(
+    rt: &R,
+    output: &mut W,
+    edition: Edition,
+    image: &str,
+    ino: u16,
+) -> Result<(), CatFault> {
+    let Ok(file) = fs::open(rt, image) else {
+        return Err(CatFault::Device);
+    };
+    let mut source = FromRead::new(file);
+    let mut sink = IntoWrite::new(output);
+    cat(rt.alloc(), edition, ino, &mut source, &mut sink)
+}
+
+/// Saves what a command made in the file `image`, if it made anything, and answers the status to end with.
+fn save_answer<R: Files + Eprint + AllocGlobal>(rt: &R, image: &str, answer: &Answer) -> u8
+    ensures { (result ≡ answer.now.status) ⊎ (IsSome answer.now.image × ((result ≡ 3) ⊎ (result ≡ 4))) }
+{
+    let Some(bytes) = &answer.image else {
+        return answer.status;
+    };
+    match save_file(rt, image, bytes) {
+        Ok(()) => answer.status,
+        Err(error) if error.kind() == io::ErrorKind::OutOfMemory => explain_no_memory(rt),
+        Err(_) => explain_file(rt, image),
+    }
+}
+
+/// Prints that a file can't be written, and answers the status.
+fn explain_file(rt: &impl Eprint, path: &str) -> u8
+    ensures { result ≡ 3 }
+{
+    let _ = eprintln!(rt; "unixvol: cannot write {path}");
+    BAD_FILE
+}
+
+/// Prints the line of a fault of `cat`, and answers its status.
+fn explain_cat(rt: &impl Eprint, fault: CatFault, image: &str) -> u8
+    ensures { result ≡ status_of fault }
+{
+    // Where standard error can't be written either, the status tells.
+    let _ = match fault {
+        CatFault::Device => eprintln!(rt; "unixvol: cannot read {image}"),
+        _ => eprintln!(rt; "{fault}"),
+    };
+    fault.status()
+}
+
+/// Prints the text of a command line that asks for nothing that can be done, or the help that it
+/// asks for, and answers its status.
+fn explain_command_line<W: Write>(rt: &impl Eprint, output: &mut W, error: &clap::Error) -> u8
+    ensures memory { kind_of error.now ≡ clap_kinds.OutOfMemory → result ≡ 4 }
+    ensures mistake { kind_of error.now ≢ clap_kinds.OutOfMemory → kind_of error.now ≢ clap_kinds.DisplayHelp
+        → kind_of error.now ≢ clap_kinds.DisplayVersion → result ≡ 2 }
+    ensures shown { (kind_of error.now ≡ clap_kinds.DisplayHelp) ⊎ (kind_of error.now ≡ clap_kinds.DisplayVersion)
+        → (result ≡ 0) ⊎ (result ≡ 3) }
+{
+    if error.kind() == ErrorKind::OutOfMemory {
+        return explain_no_memory(rt);
+    }
+    if error.use_stderr() {
+        let _ = rt.eprint(error);
+        return BAD_COMMAND_LINE;
+    }
+    if write!(output, "{error}").is_err() {
+        return explain_output(rt);
+    }
+    finish(rt, output)
+}
+
+/// Sees to what `output` may have kept back, and answers the status of a run that went well.
+fn finish<W: Write>(rt: &impl Eprint, output: &mut W) -> u8
+    ensures { (result ≡ 0) ⊎ (result ≡ 3) }
+{
+    match output.flush() {
+        Ok(()) => DONE,
+        Err(_) => explain_output(rt),
+    }
+}
+
+/// Prints that standard output failed, and answers the status.
+fn explain_output(rt: &impl Eprint) -> u8
+    ensures { result ≡ 3 }
+{
+    let _ = eprintln!(rt; "unixvol: cannot write -");
+    BAD_FILE
+}
+
+/// Prints why the words of the command line can't be had, and answers the status.
+fn explain_words(rt: &impl Eprint, error: &io::Error) -> u8 {
+    if error.kind() == io::ErrorKind::OutOfMemory {
+        return explain_no_memory(rt);
+    }
+    let _ = eprintln!(rt; "error: a word of the command line is not UTF-8 text");
+    BAD_COMMAND_LINE
+}
+
+/// Prints that memory ran out, and answers the status.
+fn explain_no_memory(rt: &impl Eprint) -> u8
+    ensures { result ≡ 4 }
+{
+    let fault = CatFault::NoMemory;
+    let _ = eprintln!(rt; "{fault}");
+    fault.status()
+}

@@ -1,0 +1,27 @@
+mod MissingLaws
+pub mod Alone
+pub mod BlockLists
+pub mod Bytes
+pub mod Cells
+pub mod Clearing
+pub mod Converting
+pub mod Dropping
+pub mod EmptyVolumes
+pub mod Enlarging
+pub mod Entries
+pub mod Extending
+pub mod Filling
+pub mod Fronts
+pub mod Lasts
+pub mod Naming
+pub mod Nodes
+pub mod PlaceLists
+pub mod Ranges
+pub mod Reaching
+pub mod ReadingLaws
+pub mod Sizing
+pub mod Soundness
+pub mod Splicing
+pub mod Taking
+pub mod Truncated
+pub mod Whole

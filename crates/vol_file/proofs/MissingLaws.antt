@@ -1,0 +1,743 @@
+-- Laws of the count of missing places: over the list of all places it is the count block by block.
+use Rattle.std.proofs.Common.{◌≡◌, ℕ, zero, suc, ◌+◌, ◌-◌, ◌*◌, ◌/◌, ◌%◌, ◌<◌, ◌≤◌, ◌==◌, ◌⊎◌, ◌∙◌, sym, ap, subst, List, [], ◌∷◌, length, true, false, Bool, not, ◌&&◌, ◌||◌, cond, if◌then◌else◌, Some, None, refl, arith, inl, inr}
+use Rattle.std.specs.List.{count_by, list_any, range_with_len}
+use Rattle.std.specs.Option.{option_map_or}
+use Rattle.std.specs.Str.{bytes_eq}
+use Rattle.std.proofs.lemmas.Bool.{cases_lt}
+use Rattle.std.proofs.lemmas.Bool.Decides.{nat_tests, same_from_decides, Decides-like, Decides-eqb}
+use Rattle.std.proofs.lemmas.List.Sums.{sum_by-cons}
+use Rattle.std.proofs.lemmas.Slice.Eq.{bytes_eq-Decides}
+use Rattle.vol_layout.specs.Places.{pointer_count, levels, levels_below, IsPlace, block_limit, last_place, fronts, way, places}
+use Rattle.vol_layout.specs.Laws.{IsFront}
+use Rattle.vol_layout.specs.declared.places.Form.{Form}
+use Rattle.vol_layout.specs.declared.places.Form.TheVariants.{Small, Large, Deep, Bare}
+use Rattle.vol_layout.proofs.PlaceLaws.{last_leaf, has_no_way}
+use Rattle.std.specs.Prelude.{nat_le}
+use Rattle.vol_file.specs.Shape.{touched, is_on_ways, grows_large}
+use Rattle.vol_file.specs.Need.{missing_count, need_of}
+use Rattle.vol_file.specs.Missing.{missing_to, missing_at, missing_from, grown_form, grown_names, grows_at}
+use Rattle.vol_file.proofs.PlaceLists.{same_place, first_or_later, front_length, places_once}
+
+-- Counts
+
+-- 1 for yes
+abbrev one_if : Bool → ℕ
+one_if t = cond t 1 0
+
+-- the count of a longer list
+counted_step : (t : List ℕ → Bool) (q : List ℕ) (qs : List (List ℕ)) → count_by t (q ∷ qs) ≡ one_if (t q) + count_by t qs
+counted_step t q qs = sum_by-cons (λ x. cond (t x) 1 0) q qs
+
+-- tests with the same answers count the same
+count_same : (s t : List ℕ → Bool) (qs : List (List ℕ)) → ((q : List ℕ) → s q ≡ t q) → count_by s qs ≡ count_by t qs
+count_same s t [] h = refl
+count_same s t (q ∷ qs) h =
+    let here : one_if (s q) ≡ one_if (t q) = ap one_if (h q) in
+    let rest : count_by s qs ≡ count_by t qs = count_same s t qs h in
+    counted_step s q qs ∙ (omega (arith, here, rest) ∙ sym (counted_step t q qs))
+
+-- a test that nothing passes counts nothing
+count_none : (t : List ℕ → Bool) (qs : List (List ℕ)) → ((q : List ℕ) → t q ≡ false) → count_by t qs ≡ 0
+count_none t [] h = refl
+count_none t (q ∷ qs) h =
+    let here : one_if (t q) ≡ 0 = ap one_if (h q) in
+    let rest : count_by t qs ≡ 0 = count_none t qs h in
+    counted_step t q qs ∙ omega (arith, here, rest)
+
+-- 1 for what passes one of two tests, where nothing passes both
+ones : (x y : Bool) → (x ≡ true → y ≡ false) → one_if (x || y) ≡ one_if x + one_if y
+ones true true h = let no : true ≡ false = h refl in cc
+ones true false h = refl
+ones false true h = refl
+ones false false h = refl
+
+-- what passes one of two tests is counted by both together, where nothing passes both
+count_apart : (s t : List ℕ → Bool) (qs : List (List ℕ)) → ((q : List ℕ) → s q ≡ true → t q ≡ false)
+    → count_by (λ q. s q || t q) qs ≡ count_by s qs + count_by t qs
+count_apart s t [] h = refl
+count_apart s t (q ∷ qs) h =
+    let here : one_if (s q || t q) ≡ one_if (s q) + one_if (t q) = ones (s q) (t q) (h q) in
+    let rest : count_by (λ x. s x || t x) qs ≡ count_by s qs + count_by t qs = count_apart s t qs h in
+    counted_step (λ x. s x || t x) q qs ∙ omega (arith, here, rest, counted_step s q qs, counted_step t q qs)
+
+-- Tests
+
+-- whether two places are one doesn't hang on their order
+bytes_eq_sym : (p q : List ℕ) → bytes_eq p q ≡ bytes_eq q p
+bytes_eq_sym p q =
+    same_from_decides (bytes_eq p q) (bytes_eq q p) (bytes_eq-Decides p q)
+    (Decides-like (bytes_eq q p) (λ (e : q ≡ p). sym e) (λ (e : p ≡ q). sym e) (bytes_eq-Decides q p))
+
+-- places that are told to be the same are
+same_from : (p q : List ℕ) → bytes_eq p q ≡ true → p ≡ q
+same_from p q e = (bytes_eq-Decides p q).0 e
+
+-- one of two answers is yes
+either : (x y : Bool) → (x || y) ≡ true → (x ≡ true) ⊎ ((x ≡ false) × (y ≡ true))
+either true y e = inl refl
+either false y e = inr (refl, e)
+
+-- both answers are no
+neither : (x y : Bool) → (x || y) ≡ false → (x ≡ false) × (y ≡ false)
+neither true y e = absurd (cc)
+neither false y e = (refl, e)
+
+-- both answers are yes
+both : (x y : Bool) → (x && y) ≡ true → (x ≡ true) × (y ≡ true)
+both true y e = (refl, e)
+both false y e = absurd (cc)
+
+-- a choice and a refusal, the refusal first
+or_and : (x y z : Bool) → ((x || y) && z) ≡ ((x && z) || (y && z))
+or_and true true true = refl
+or_and true true false = refl
+or_and true false true = refl
+or_and true false false = refl
+or_and false y z = refl
+
+-- a second answer of yes
+yes_after : (x y : Bool) → y ≡ true → (x || y) ≡ true
+yes_after true y e = refl
+yes_after false y e = e
+
+-- a second answer of no
+or_no : (x : Bool) → (x || false) ≡ x
+or_no true = refl
+or_no false = refl
+
+-- an answer that isn't yes is no
+no_from : (x : Bool) → (x ≡ true → ⊥) → x ≡ false
+no_from true h = absurd (h refl)
+no_from false h = refl
+
+-- The places that are new on a way
+
+-- whether q is a front of p that counts: any if the whole way counts, else one with no index after it but 0
+abbrev is_new : Bool → List ℕ → List ℕ → Bool
+is_new whole [] q = false
+is_new whole (k ∷ []) q = bytes_eq q (k ∷ [])
+is_new whole (j ∷ (a ∷ p)) q = bytes_eq q (j ∷ (a ∷ p)) || ((whole || j == 0) && is_new whole (a ∷ p) q)
+
+-- what counts is a front
+new_front : (whole : Bool) (p q : List ℕ) → is_new whole p q ≡ true → IsFront q p
+new_front whole [] q e = absurd (cc)
+new_front whole (k ∷ []) q e = inl (same_from q (k ∷ []) e)
+new_front whole (j ∷ (a ∷ p)) q e =
+    elim (either (bytes_eq q (j ∷ (a ∷ p))) ((whole || j == 0) && is_new whole (a ∷ p) q) e) [
+      | inl here ↦ inl (same_from q (j ∷ (a ∷ p)) here)
+      | inr (other, above) ↦ inr (new_front whole (a ∷ p) q (both (whole || j == 0) (is_new whole (a ∷ p) q) above).1)
+    ]
+
+-- where the whole way counts, each front does
+front_new : (p q : List ℕ) → IsFront q p → is_new true p q ≡ true
+front_new [] q front = absurd front
+front_new (k ∷ []) q (inl e) = same_place q (k ∷ []) e
+front_new (k ∷ []) q (inr none) = absurd none
+front_new (j ∷ (a ∷ p)) q (inl e) = ap (λ x. x || is_new true (a ∷ p) q) (same_place q (j ∷ (a ∷ p)) e)
+front_new (j ∷ (a ∷ p)) q (inr deeper) =
+    let above : is_new true (a ∷ p) q ≡ true = front_new (a ∷ p) q deeper in
+    yes_after (bytes_eq q (j ∷ (a ∷ p))) (is_new true (a ∷ p) q) above
+
+-- the fronts of a place are those that count where the whole way does
+fronts_new : (p q : List ℕ) → list_any (bytes_eq q) (fronts p) ≡ is_new true p q
+fronts_new [] q = refl
+fronts_new (k ∷ []) q = or_no (bytes_eq q (k ∷ []))
+fronts_new (j ∷ (a ∷ p)) q = ap (λ x. bytes_eq q (j ∷ (a ∷ p)) || x) (fronts_new (a ∷ p) q)
+
+-- one place that may name something, counted in a list where it comes once
+count_at : (names : List ℕ → Bool) (p : List ℕ) (qs : List (List ℕ)) → count_by (bytes_eq p) qs ≡ 1
+    → count_by (λ q. bytes_eq q p && not (names q)) qs ≡ (if names p then 0 else 1)
+count_at names p qs once =
+    elim (names p) as (λ t. names p ≡ t → count_by (λ q. bytes_eq q p && not (names q)) qs ≡ (if t then 0 else 1)) [
+      | true ↦ λ e. count_none (λ q. bytes_eq q p && not (names q)) qs (λ q. no_from (bytes_eq q p && not (names q)) (λ passes.
+          let parts : (bytes_eq q p ≡ true) × (not (names q) ≡ true) = both (bytes_eq q p) (not (names q)) passes in
+          let no : not (names q) ≡ false = ap (λ x. not (names x)) (same_from q p parts.0) ∙ ap not e in
+          let clash : true ≡ false = sym parts.1 ∙ no in cc))
+      | false ↦ λ e. count_same (λ q. bytes_eq q p && not (names q)) (bytes_eq p) qs (λ q.
+          elim (bytes_eq q p) as (λ t. bytes_eq q p ≡ t → (t && not (names q)) ≡ bytes_eq p q) [
+            | true ↦ λ same. ap (λ x. not (names x)) (same_from q p same) ∙ (ap not e ∙ (sym same ∙ bytes_eq_sym q p))
+            | false ↦ λ other. sym other ∙ bytes_eq_sym q p
+          ] refl) ∙ once
+    ] refl
+
+-- where some more of the way counts only under a condition
+count_if : (t : Bool) (s names : List ℕ → Bool) (qs : List (List ℕ)) (n : ℕ) → count_by (λ q. s q && not (names q)) qs ≡ n
+    → count_by (λ q. (t && s q) && not (names q)) qs ≡ (if t then n else 0)
+count_if true s names qs n h = h
+count_if false s names qs n h = count_none (λ q. false) qs (λ q. refl)
+
+-- of a form's places, those that count on the way to p and name nothing are as many as the recursion says
+count_new : (form : Form) (names : List ℕ → Bool) (whole : Bool) (p : List ℕ) → IsPlace form p
+    → count_by (λ q. is_new whole p q && not (names q)) (places form) ≡ missing_to names whole p
+count_new form names whole [] place = absurd place
+count_new form names whole (k ∷ []) place = count_at names (k ∷ []) (places form) (places_once form (k ∷ []) place)
+count_new form names whole (j ∷ (a ∷ p)) place =
+    let here : List ℕ → Bool = λ q. bytes_eq q (j ∷ (a ∷ p)) && not (names q) in
+    let above : List ℕ → Bool = λ q. ((whole || j == 0) && is_new whole (a ∷ p) q) && not (names q) in
+    let one : count_by here (places form) ≡ (if names (j ∷ (a ∷ p)) then 0 else 1) =
+    count_at names (j ∷ (a ∷ p)) (places form) (places_once form (j ∷ (a ∷ p)) place) in
+    let rest : count_by above (places form) ≡ (if whole || j == 0 then missing_to names whole (a ∷ p) else 0) =
+    count_if (whole || j == 0) (is_new whole (a ∷ p)) names (places form) (missing_to names whole (a ∷ p)) (count_new form names whole (a ∷ p) place.2) in
+    count_same (λ q. is_new whole (j ∷ (a ∷ p)) q && not (names q)) (λ q. here q || above q) (places form)
+    (λ q. or_and (bytes_eq q (j ∷ (a ∷ p))) ((whole || j == 0) && is_new whole (a ∷ p) q) (not (names q)))
+    ∙ (count_apart here above (places form) (λ q passes. no_from (above q) (λ higher.
+    let same : q ≡ j ∷ (a ∷ p) = same_from q (j ∷ (a ∷ p)) (both (bytes_eq q (j ∷ (a ∷ p))) (not (names q)) passes).0 in
+    let new : is_new whole (a ∷ p) q ≡ true =
+    (both (whole || j == 0) (is_new whole (a ∷ p) q) (both ((whole || j == 0) && is_new whole (a ∷ p) q) (not (names q)) higher).0).1 in
+    let short : length q ≤ length (a ∷ p) = front_length q (a ∷ p) (new_front whole (a ∷ p) q new) in
+    let len : length q ≡ length (j ∷ (a ∷ p)) = ap length same in
+    omega (arith, short, len)))
+    ∙ omega (arith, one, rest))
+
+-- The first block through a place
+
+-- how many logical blocks lie below a place with d levels below it
+abbrev spread : Form → ℕ → ℕ
+spread form zero = 1
+spread form (suc d) = pointer_count form * spread form d
+
+-- the first logical block through address k
+abbrev first_of : Form → ℕ → ℕ
+first_of Small k = k
+first_of Large k = if k == 7 then 1792 else 256 * k
+first_of Deep k = if k == 12 then 16522 else if k == 11 then 138 else k
+first_of Bare k = k
+
+-- the first logical block through a place
+abbrev first_through : Form → List ℕ → ℕ
+first_through form [] = 0
+first_through form (k ∷ []) = first_of form k
+first_through form (j ∷ (a ∷ p)) = first_through form (a ∷ p) + j * spread form (levels_below form (j ∷ (a ∷ p)))
+
+-- no block before goes through a front
+first_front : (form : Form) (p q : List ℕ) → IsFront q p → first_through form q ≤ first_through form p
+first_front form [] q front = absurd front
+first_front form (k ∷ []) q (inl e) = let same : first_through form q ≡ first_through form (k ∷ []) = ap (first_through form) e in omega (arith, same)
+first_front form (k ∷ []) q (inr none) = absurd none
+first_front form (j ∷ (a ∷ p)) q (inl e) =
+    let same : first_through form q ≡ first_through form (j ∷ (a ∷ p)) = ap (first_through form) e in omega (arith, same)
+first_front form (j ∷ (a ∷ p)) q (inr deeper) =
+    let above : first_through form q ≤ first_through form (a ∷ p) = first_front form (a ∷ p) q deeper in omega (arith, above)
+
+-- a front that no earlier way has begins with the place
+first_new : (form : Form) (p q : List ℕ) → is_new false p q ≡ true → first_through form q ≡ first_through form p
+first_new form [] q e = absurd (cc)
+first_new form (k ∷ []) q e = ap (first_through form) (same_from q (k ∷ []) e)
+first_new form (j ∷ (a ∷ p)) q e =
+    elim (either (bytes_eq q (j ∷ (a ∷ p))) ((false || j == 0) && is_new false (a ∷ p) q) e) [
+      | inl here ↦ ap (first_through form) (same_from q (j ∷ (a ∷ p)) here)
+      | inr (other, above) ↦
+          let parts : (j == 0 ≡ true) × (is_new false (a ∷ p) q ≡ true) = both (j == 0) (is_new false (a ∷ p) q) above in
+          let none : j ≡ 0 = (Decides-eqb j 0).0 parts.0 in
+          let less : j * spread form (levels_below form (j ∷ (a ∷ p))) ≡ 0 = ap (λ x. x * spread form (levels_below form (j ∷ (a ∷ p)))) none ∙ omega arith in
+          first_new form (a ∷ p) q parts.1 ∙ omega (arith, less)
+    ]
+
+-- The way of the block before
+
+-- the front of a last place after its zeros and the first index that isn't 0
+abbrev above : List ℕ → List ℕ
+above [] = []
+above (k ∷ []) = []
+above (j ∷ (a ∷ p)) = if j == 0 then above (a ∷ p) else a ∷ p
+
+-- a front that doesn't count as new lies above the zeros
+front_above_zeros : (p q : List ℕ) → IsFront q p → is_new false p q ≡ false → IsFront q (above p)
+front_above_zeros [] q front e = absurd front
+front_above_zeros (k ∷ []) q (inl same) e = let passes : bytes_eq q (k ∷ []) ≡ true = same_place q (k ∷ []) same in let clash : true ≡ false = sym passes ∙ e in absurd (cc)
+front_above_zeros (k ∷ []) q (inr none) e = absurd none
+front_above_zeros (j ∷ (a ∷ p)) q (inl same) e =
+    let passes : bytes_eq q (j ∷ (a ∷ p)) ≡ true = same_place q (j ∷ (a ∷ p)) same in
+    let clash : true ≡ false = sym passes ∙ (neither (bytes_eq q (j ∷ (a ∷ p))) ((false || j == 0) && is_new false (a ∷ p) q) e).0 in absurd (cc)
+front_above_zeros (j ∷ (a ∷ p)) q (inr deeper) e =
+    let rest : ((j == 0) && is_new false (a ∷ p) q) ≡ false = (neither (bytes_eq q (j ∷ (a ∷ p))) ((false || j == 0) && is_new false (a ∷ p) q) e).1 in
+    elim (j == 0) as (λ t. (t && is_new false (a ∷ p) q) ≡ false → IsFront q (if t then above (a ∷ p) else a ∷ p))
+    [ true ↦ λ old. front_above_zeros (a ∷ p) q deeper old | false ↦ λ old. deeper ] rest
+
+-- what lies above the zeros: above a 0 the same goes on, else all that is above
+above_cases : (j a : ℕ) (p q : List ℕ) → IsFront q (above (j ∷ (a ∷ p))) → ((j ≡ 0) × IsFront q (above (a ∷ p))) ⊎ ((1 ≤ j) × IsFront q (a ∷ p))
+above_cases j a p q front =
+    elim (j == 0) as (λ t. j == 0 ≡ t → IsFront q (if t then above (a ∷ p) else a ∷ p) → ((j ≡ 0) × IsFront q (above (a ∷ p))) ⊎ ((1 ≤ j) × IsFront q (a ∷ p)))
+    [ true ↦ λ e high. inl ((Decides-eqb j 0).0 e, high) | false ↦ λ e high. inr (grind (arith, nat_tests), high) ] refl front
+
+-- a front of a list of indexes is one of an equal list
+front_same : (q p r : List ℕ) → p ≡ r → IsFront q p → IsFront q r
+front_same q p r e front = subst (IsFront q) e front
+
+-- q is on the way of logical block b
+abbrev pub IsOnWay : Form → ℕ → List ℕ → Type 0
+IsOnWay form b q = (p : List ℕ) × (last_place form b ≡ Some p) × IsFront q p
+
+-- p is the last place of logical block b; b is the first block through it, and its fronts above the zeros are on the way of the block before
+record IsLastOf (form : Form) (b : ℕ) (p : List ℕ) : Type 0 where
+  starts : first_through form p ≡ b
+  shares : (q : List ℕ) → IsFront q (above p) → (1 ≤ b) × IsOnWay form (b - 1) q
+
+-- the last places of small files
+pub last_small : (b : ℕ) → b < 8 → last_place Small b ≡ Some (b ∷ [])
+unfolding last_place
+last_small b h = grind (arith, nat_tests)
+
+-- the last places of large files, below an indirect block
+pub last_large : (b : ℕ) → b < 1792 → last_place Large b ≡ Some ((b % 256) ∷ ((b / 256) ∷ []))
+unfolding last_place
+last_large b h = grind (arith, nat_tests)
+
+-- the same, below the doubly indirect block
+pub last_huge : (b : ℕ) → 1792 ≤ b → b < 32768 → last_place Large b ≡ Some ((b % 256) ∷ ((b / 256 - 7) ∷ (7 ∷ [])))
+unfolding last_place
+last_huge b l h = grind (arith, nat_tests)
+
+-- the last places of the seventh edition, without pointer blocks
+pub last_direct : (b : ℕ) → b < 10 → last_place Deep b ≡ Some (b ∷ [])
+unfolding last_place
+last_direct b h = grind (arith, nat_tests)
+
+-- the same, below the indirect block
+pub last_single : (b : ℕ) → 10 ≤ b → b < 138 → last_place Deep b ≡ Some ((b - 10) ∷ (10 ∷ []))
+unfolding last_place
+last_single b l h = grind (arith, nat_tests)
+
+-- the same, below the doubly indirect block
+pub last_double : (b : ℕ) → 138 ≤ b → b < 16522 → last_place Deep b ≡ Some (((b - 138) % 128) ∷ (((b - 138) / 128) ∷ (11 ∷ [])))
+unfolding last_place
+last_double b l h = grind (arith, nat_tests)
+
+-- the same, below the triply indirect block
+pub last_triple : (b : ℕ) → 16522 ≤ b → b < 2113674
+    → last_place Deep b ≡ Some (((b - 16522) % 128) ∷ (((b - 16522) / 128 % 128) ∷ (((b - 16522) / 16384) ∷ (12 ∷ []))))
+unfolding last_place
+last_triple b l h = grind (arith, nat_tests)
+
+-- below an indirect block of a large file
+of_large : (b : ℕ) → b < 1792 → IsLastOf Large b ((b % 256) ∷ ((b / 256) ∷ []))
+of_large b h =
+    let low : b / 256 < 7 = omega arith in
+    let one : levels Large (b / 256) ≡ 1 = grind (arith, nat_tests) in
+    let from : first_of Large (b / 256) ≡ 256 * (b / 256) = grind (arith, nat_tests) in
+    let times : (b % 256) * spread Large (levels Large (b / 256) - 1) ≡ b % 256 = ap (λ n. (b % 256) * spread Large (n - 1)) one ∙ omega arith in
+    record {
+      starts = omega (arith, from, times);
+      shares = λ q front. elim (above_cases (b % 256) (b / 256) [] q front) [
+        | inl (even, none) ↦ absurd none
+        | inr (some, higher) ↦
+            let same : b / 256 ≡ (b - 1) / 256 = omega arith in (
+              omega arith,
+              (
+                ((b - 1) % 256) ∷ (((b - 1) / 256) ∷ []),
+                last_large (b - 1) (omega arith),
+                inr (front_same q ((b / 256) ∷ []) (((b - 1) / 256) ∷ []) (ap (λ a. a ∷ []) same) higher),
+              ),
+            )
+      ];
+    }
+
+-- below the doubly indirect block of a large file
+of_huge : (b : ℕ) → 1792 ≤ b → b < 32768 → IsLastOf Large b ((b % 256) ∷ ((b / 256 - 7) ∷ (7 ∷ [])))
+of_huge b l h = record {
+  starts = omega arith;
+  shares = λ q front. elim (above_cases (b % 256) (b / 256 - 7) (7 ∷ []) q front) [
+    | inl (even, next) ↦
+        elim (above_cases (b / 256 - 7) 7 [] q next) [
+          | inl (none, nothing) ↦ absurd nothing
+          | inr (some, higher) ↦
+              (omega arith, (((b - 1) % 256) ∷ (((b - 1) / 256 - 7) ∷ (7 ∷ [])), last_huge (b - 1) (omega arith) (omega arith), inr (inr higher)))
+        ]
+    | inr (some, higher) ↦
+        let same : b / 256 - 7 ≡ (b - 1) / 256 - 7 = omega arith in (
+          omega arith,
+          (
+            ((b - 1) % 256) ∷ (((b - 1) / 256 - 7) ∷ (7 ∷ [])),
+            last_huge (b - 1) (omega arith) (omega arith),
+            inr (front_same q ((b / 256 - 7) ∷ (7 ∷ [])) (((b - 1) / 256 - 7) ∷ (7 ∷ [])) (ap (λ a. a ∷ (7 ∷ [])) same) higher),
+          ),
+        )
+  ];
+}
+
+-- below the indirect block of the seventh edition
+of_single : (b : ℕ) → 10 ≤ b → b < 138 → IsLastOf Deep b ((b - 10) ∷ (10 ∷ []))
+of_single b l h = record {
+  starts = omega arith;
+  shares = λ q front. elim (above_cases (b - 10) 10 [] q front) [
+    | inl (even, none) ↦ absurd none
+    | inr (some, higher) ↦ (omega arith, ((b - 1 - 10) ∷ (10 ∷ []), last_single (b - 1) (omega arith) (omega arith), inr higher))
+  ];
+}
+
+-- below the doubly indirect block of the seventh edition
+of_double : (b : ℕ) → 138 ≤ b → b < 16522 → IsLastOf Deep b (((b - 138) % 128) ∷ (((b - 138) / 128) ∷ (11 ∷ [])))
+of_double b l h = record {
+  starts = omega arith;
+  shares = λ q front. elim (above_cases ((b - 138) % 128) ((b - 138) / 128) (11 ∷ []) q front) [
+    | inl (even, next) ↦
+        elim (above_cases ((b - 138) / 128) 11 [] q next) [
+          | inl (none, nothing) ↦ absurd nothing
+          | inr (some, higher) ↦
+              (omega arith, (((b - 1 - 138) % 128) ∷ (((b - 1 - 138) / 128) ∷ (11 ∷ [])), last_double (b - 1) (omega arith) (omega arith), inr (inr higher)))
+        ]
+    | inr (some, higher) ↦
+        let same : (b - 138) / 128 ≡ (b - 1 - 138) / 128 = omega arith in (
+          omega arith,
+          (
+            ((b - 1 - 138) % 128) ∷ (((b - 1 - 138) / 128) ∷ (11 ∷ [])),
+            last_double (b - 1) (omega arith) (omega arith),
+            inr (front_same q (((b - 138) / 128) ∷ (11 ∷ [])) (((b - 1 - 138) / 128) ∷ (11 ∷ [])) (ap (λ a. a ∷ (11 ∷ [])) same) higher),
+          ),
+        )
+  ];
+}
+
+-- the last place of logical block 16522 + c of the seventh edition
+abbrev triple_place : ℕ → List ℕ
+triple_place c = (c % 128) ∷ ((c / 128 % 128) ∷ ((c / 16384) ∷ (12 ∷ [])))
+
+-- the fronts above the zeros of such a place are fronts of the one before
+triple_shares : (c : ℕ) (q : List ℕ) → IsFront q (above (triple_place c)) → (1 ≤ c) × IsFront q (triple_place (c - 1))
+triple_shares c q front =
+    elim (above_cases (c % 128) (c / 128 % 128) ((c / 16384) ∷ (12 ∷ [])) q front) [
+      | inl (even, next) ↦
+          elim (above_cases (c / 128 % 128) (c / 16384) (12 ∷ []) q next) [
+            | inl (none, further) ↦
+                elim (above_cases (c / 16384) 12 [] q further) [
+                  | inl (nought, nothing) ↦ absurd nothing
+                  | inr (some, higher) ↦ (omega arith, inr (inr (inr higher)))
+                ]
+            | inr (some, higher) ↦
+                let same : c / 16384 ≡ (c - 1) / 16384 = omega arith in
+                (omega arith, inr (inr (front_same q ((c / 16384) ∷ (12 ∷ [])) (((c - 1) / 16384) ∷ (12 ∷ [])) (ap (λ a. a ∷ (12 ∷ [])) same) higher)))
+          ]
+      | inr (some, higher) ↦
+          let same : c / 16384 ≡ (c - 1) / 16384 = omega arith in
+          let alike : c / 128 % 128 ≡ (c - 1) / 128 % 128 = omega arith in (
+            omega arith,
+            inr (front_same q ((c / 128 % 128) ∷ ((c / 16384) ∷ (12 ∷ []))) (((c - 1) / 128 % 128) ∷ (((c - 1) / 16384) ∷ (12 ∷ [])))
+                (ap (λ a. a ∷ ((c / 16384) ∷ (12 ∷ []))) alike ∙ ap (λ a. ((c - 1) / 128 % 128) ∷ (a ∷ (12 ∷ []))) same) higher),
+          )
+    ]
+
+-- below the triply indirect block
+of_triple : (b : ℕ) → 16522 ≤ b → b < 2113674 → IsLastOf Deep b (triple_place (b - 16522))
+of_triple b l h = record {
+  starts = omega arith;
+  shares = λ q front.
+      let before : (1 ≤ b - 16522) × IsFront q (triple_place (b - 16522 - 1)) = triple_shares (b - 16522) q front in
+      let same : b - 16522 - 1 ≡ b - 1 - 16522 = omega arith in (
+        omega (arith, before.0),
+        (
+          triple_place (b - 1 - 16522),
+          last_triple (b - 1) (omega (arith, before.0)) (omega arith),
+          front_same q (triple_place (b - 16522 - 1)) (triple_place (b - 1 - 16522)) (ap triple_place same) before.1,
+        ),
+      );
+}
+
+-- the same place
+one_place : (form : Form) (b : ℕ) (p r : List ℕ) → last_place form b ≡ Some r → last_place form b ≡ Some p → IsLastOf form b r → IsLastOf form b p
+one_place form b p r e f last = let same : Some r ≡ Some p = sym e ∙ f in let place : r ≡ p = cc in subst (IsLastOf form b) place last
+
+-- what the last place of each logical block is like
+last_of : (form : Form) (b : ℕ) (p : List ℕ) → last_place form b ≡ Some p → IsLastOf form b p
+last_of Small b p e =
+    one_place Small b p (b ∷ []) (last_small b (last_leaf Small b p e).limit) e (record { starts = refl; shares = λ q none. absurd none })
+last_of Large b p e =
+    let limit : b < 32768 = (last_leaf Large b p e).limit in
+    elim (cases_lt b 1792) [
+      | inl low ↦ one_place Large b p ((b % 256) ∷ ((b / 256) ∷ [])) (last_large b low) e (of_large b low)
+      | inr high ↦ one_place Large b p ((b % 256) ∷ ((b / 256 - 7) ∷ (7 ∷ []))) (last_huge b high limit) e (of_huge b high limit)
+    ]
+last_of Deep b p e =
+    let limit : b < 2113674 = (last_leaf Deep b p e).limit in
+    elim (cases_lt b 10) [
+      | inl direct ↦ one_place Deep b p (b ∷ []) (last_direct b direct) e
+          (record { starts = grind (arith, nat_tests); shares = λ q none. absurd none })
+      | inr past ↦ elim (cases_lt b 138) [
+        | inl single ↦ one_place Deep b p ((b - 10) ∷ (10 ∷ [])) (last_single b past single) e (of_single b past single)
+        | inr beyond ↦ elim (cases_lt b 16522) [
+          | inl double ↦ one_place Deep b p (((b - 138) % 128) ∷ (((b - 138) / 128) ∷ (11 ∷ []))) (last_double b beyond double) e (of_double b beyond double)
+          | inr far ↦ one_place Deep b p (triple_place (b - 16522)) (last_triple b far limit) e (of_triple b far limit)
+        ]
+      ]
+    ]
+last_of Bare b p e = let limit : b < 0 = (last_leaf Bare b p e).limit in absurd (omega arith)
+
+-- Ways
+
+-- whether a place is on the way of logical block b
+abbrev pub is_on_way : Form → List ℕ → ℕ → Bool
+is_on_way form q b = list_any (bytes_eq q) (way form b)
+
+-- a place is on no way where there is none
+way_none : (form : Form) (q : List ℕ) (b : ℕ) → last_place form b ≡ None → is_on_way form q b ≡ false
+way_none form q b e = ap (λ o. list_any (bytes_eq q) (option_map_or fronts o [])) e
+
+-- the places on a way are the fronts of its last place
+way_some : (form : Form) (q : List ℕ) (b : ℕ) (p : List ℕ) → last_place form b ≡ Some p → is_on_way form q b ≡ is_new true p q
+way_some form q b p e = ap (λ o. list_any (bytes_eq q) (option_map_or fronts o [])) e ∙ fronts_new p q
+
+-- what the test says of a way
+pub on_way_from : (form : Form) (q : List ℕ) (b : ℕ) → is_on_way form q b ≡ true → IsOnWay form b q
+on_way_from form q b passes =
+    elim (last_place form b) as (λ o. last_place form b ≡ o → IsOnWay form b q) [
+      | None ↦ λ e. let clash : true ≡ false = sym passes ∙ way_none form q b e in absurd (cc)
+      | Some p ↦ λ e. (p, e, new_front true p q (sym (way_some form q b p e) ∙ passes))
+    ] refl
+
+-- the converse
+pub on_way : (form : Form) (q : List ℕ) (b : ℕ) → IsOnWay form b q → is_on_way form q b ≡ true
+on_way form q b on = way_some form q b on.0 on.1 ∙ front_new on.0 q on.2
+
+-- what passes in a range of numbers
+pub any_from : (t : ℕ → Bool) (a n : ℕ) → list_any t (range_with_len a n) ≡ true → (j : ℕ) × (a ≤ j) × (j < a + n) × (t j ≡ true)
+any_from t a zero e = absurd (cc)
+any_from t a (suc n) e =
+    elim (either (t a) (list_any t (range_with_len (a + 1) n)) e) [
+      | inl here ↦ (a, omega arith, omega arith, here)
+      | inr (other, later) ↦
+          let found = any_from t (a + 1) n later in (found.0, omega (arith, found.1), omega (arith, found.2), found.3)
+    ]
+
+-- a number of a range that passes
+pub any_at : (t : ℕ → Bool) (a n j : ℕ) → a ≤ j → j < a + n → t j ≡ true → list_any t (range_with_len a n) ≡ true
+any_at t a zero j low high e = absurd (omega arith)
+any_at t a (suc n) j low high e =
+    elim (first_or_later a j low) [
+      | inl here ↦ ap (λ x. x || list_any t (range_with_len (a + 1) n)) (ap t here ∙ e)
+      | inr later ↦ yes_after (t a) (list_any t (range_with_len (a + 1) n)) (any_at t (a + 1) n j later (omega arith) e)
+    ]
+
+-- three answers, the first two together or the last two
+or_assoc : (x y z : Bool) → (x || (y || z)) ≡ ((x || y) || z)
+or_assoc true y z = refl
+or_assoc false y z = refl
+
+-- a range with one number more
+pub any_more : (t : ℕ → Bool) (a n : ℕ) → list_any t (range_with_len a (suc n)) ≡ (list_any t (range_with_len a n) || t (a + n))
+any_more t a zero = let same : a ≡ a + 0 = omega arith in or_no (t a) ∙ ap t same
+any_more t a (suc n) =
+    let same : a + 1 + n ≡ a + suc n = omega arith in
+    ap (λ x. t a || x) (any_more t (a + 1) n)
+    ∙ (or_assoc (t a) (list_any t (range_with_len (a + 1) n)) (t (a + 1 + n)) ∙ ap (λ m. list_any t (range_with_len a (suc n)) || t m) same)
+
+-- a new front of a way is on no earlier way
+new_is_new : (form : Form) (p q : List ℕ) (first n : ℕ) → last_place form (first + n) ≡ Some p → is_new false p q ≡ true
+    → is_on_ways form (range_with_len first n) q ≡ true → ⊥
+new_is_new form p q first n e new passes =
+    let found = any_from (is_on_way form q) first n passes in
+    let on : IsOnWay form found.0 q = on_way_from form q found.0 found.3 in
+    let begin : first_through form on.0 ≡ found.0 = (last_of form found.0 on.0 on.1).starts in
+    let low : first_through form q ≤ first_through form on.0 = first_front form on.0 q on.2 in
+    let here : first_through form p ≡ first + n = (last_of form (first + n) p e).starts in
+    let same : first_through form q ≡ first_through form p = first_new form p q new in
+    omega (arith, begin, low, here, same, found.2)
+
+-- a front of a way that isn't new is on the way of the block before
+old_is_old : (form : Form) (p q : List ℕ) (first n : ℕ) → last_place form (first + suc n) ≡ Some p → is_new true p q ≡ true
+    → is_new false p q ≡ false → is_on_ways form (range_with_len first (suc n)) q ≡ true
+old_is_old form p q first n e on old =
+    let before = (last_of form (first + suc n) p e).shares q (front_above_zeros p q (new_front true p q on) old) in
+    any_at (is_on_way form q) first (suc n) (first + suc n - 1) (omega arith) (omega arith) (on_way form q (first + suc n - 1) before.1)
+
+-- a new front is a front
+new_on_way : (p q : List ℕ) → is_new false p q ≡ true → is_new true p q ≡ true
+new_on_way p q e = front_new p q (new_front false p q e)
+
+-- with one way more, only its new fronts come in addition
+more_or_new : (x w z : Bool) → (z ≡ true → w ≡ true) → (w ≡ true → z ≡ false → x ≡ true) → (x || w) ≡ (x || z)
+more_or_new true w z h k = refl
+more_or_new false true true h k = refl
+more_or_new false true false h k = sym (k refl refl)
+more_or_new false false true h k = h refl
+more_or_new false false false h k = refl
+
+-- what is missing on the way of a block that has a last place
+missing_some : (form : Form) (names : List ℕ → Bool) (whole : Bool) (b : ℕ) (p : List ℕ) → last_place form b ≡ Some p
+    → missing_at form names whole b ≡ missing_to names whole p
+missing_some form names whole b p e = ap (λ o. option_map_or (missing_to names whole) o 0) e
+
+-- nothing is missing where there is no way
+missing_none : (form : Form) (names : List ℕ → Bool) (whole : Bool) (b : ℕ) → last_place form b ≡ None → missing_at form names whole b ≡ 0
+missing_none form names whole b e = ap (λ o. option_map_or (missing_to names whole) o 0) e
+
+-- the count with one block more, where it has a way and isn't the first
+count_later : (form : Form) (names : List ℕ → Bool) (first n : ℕ) (p : List ℕ) → last_place form (first + suc n) ≡ Some p
+    → missing_count form names (range_with_len first (suc n)) ≡ missing_from form names first (suc n)
+    → count_by (λ q. (is_on_ways form (range_with_len first (suc n)) q || is_on_way form q (first + suc n)) && not (names q)) (places form)
+    ≡ missing_from form names first (suc n) + missing_at form names false (first + suc n)
+unfolding missing_count
+count_later form names first n p e sofar =
+    let old : List ℕ → Bool = λ q. is_on_ways form (range_with_len first (suc n)) q && not (names q) in
+    let new : List ℕ → Bool = λ q. is_new false p q && not (names q) in
+    let added : count_by new (places form) ≡ missing_to names false p = count_new form names false p (last_leaf form (first + suc n) p e).place in
+    let at : missing_at form names false (first + suc n) ≡ missing_to names false p = missing_some form names false (first + suc n) p e in
+    count_same (λ q. (is_on_ways form (range_with_len first (suc n)) q || is_on_way form q (first + suc n)) && not (names q))
+    (λ q. old q || new q) (places form)
+    (λ q. ap (λ x. (is_on_ways form (range_with_len first (suc n)) q || x) && not (names q)) (way_some form q (first + suc n) p e)
+    ∙ (ap (λ x. x && not (names q)) (more_or_new (is_on_ways form (range_with_len first (suc n)) q) (is_new true p q) (is_new false p q)
+    (new_on_way p q) (old_is_old form p q first n e))
+    ∙ or_and (is_on_ways form (range_with_len first (suc n)) q) (is_new false p q) (not (names q))))
+    ∙ (count_apart old new (places form) (λ q passes. no_from (new q) (λ fresh.
+    new_is_new form p q first (suc n) e (both (is_new false p q) (not (names q)) fresh).0
+    (both (is_on_ways form (range_with_len first (suc n)) q) (not (names q)) passes).0))
+    ∙ omega (arith, sofar, added, at))
+
+-- the count with one block more, where it has a way
+count_way : (form : Form) (names : List ℕ → Bool) (first n : ℕ) (p : List ℕ) → last_place form (first + n) ≡ Some p
+    → missing_count form names (range_with_len first n) ≡ missing_from form names first n
+    → count_by (λ q. (is_on_ways form (range_with_len first n) q || is_on_way form q (first + n)) && not (names q)) (places form)
+    ≡ missing_from form names first n + missing_at form names (n == 0) (first + n)
+unfolding missing_from
+count_way form names first zero p e sofar =
+    let at : missing_at form names true (first + 0) ≡ missing_to names true p = missing_some form names true (first + 0) p e in
+    count_same (λ q. is_on_way form q (first + 0) && not (names q)) (λ q. is_new true p q && not (names q)) (places form)
+    (λ q. ap (λ x. x && not (names q)) (way_some form q (first + 0) p e))
+    ∙ (count_new form names true p (last_leaf form (first + 0) p e).place ∙ omega (arith, at))
+count_way form names first (suc n) p e sofar =
+    let more : (suc n == 0) ≡ false = grind (arith, nat_tests) in
+    count_later form names first n p e sofar
+    ∙ ap (λ t. missing_from form names first (suc n) + missing_at form names t (first + suc n)) (sym more)
+
+-- the count with one block more
+count_next : (form : Form) (names : List ℕ → Bool) (first n : ℕ)
+    → missing_count form names (range_with_len first n) ≡ missing_from form names first n
+    → count_by (λ q. (is_on_ways form (range_with_len first n) q || is_on_way form q (first + n)) && not (names q)) (places form)
+    ≡ missing_from form names first n + missing_at form names (n == 0) (first + n)
+unfolding missing_count
+count_next form names first n sofar =
+    elim (last_place form (first + n)) as (λ o. last_place form (first + n) ≡ o
+    → count_by (λ q. (is_on_ways form (range_with_len first n) q || is_on_way form q (first + n)) && not (names q)) (places form)
+    ≡ missing_from form names first n + missing_at form names (n == 0) (first + n)) [
+      | Some p ↦ λ e. count_way form names first n p e sofar
+      | None ↦ λ e.
+          let at : missing_at form names (n == 0) (first + n) ≡ 0 = missing_none form names (n == 0) (first + n) e in
+          count_same (λ q. (is_on_ways form (range_with_len first n) q || is_on_way form q (first + n)) && not (names q))
+          (λ q. is_on_ways form (range_with_len first n) q && not (names q)) (places form)
+          (λ q. ap (λ x. (is_on_ways form (range_with_len first n) q || x) && not (names q)) (way_none form q (first + n) e)
+          ∙ ap (λ x. x && not (names q)) (or_no (is_on_ways form (range_with_len first n) q)))
+          ∙ omega (arith, sofar, at)
+    ] refl
+
+-- the count over the list of all places is the count block by block
+pub count_blocks : (form : Form) (names : List ℕ → Bool) (first n : ℕ)
+    → missing_count form names (range_with_len first n) ≡ missing_from form names first n
+unfolding missing_count missing_from
+count_blocks form names first zero = count_none (λ q. false) (places form) (λ q. refl)
+count_blocks form names first (suc n) =
+    let sofar : missing_count form names (range_with_len first n) ≡ missing_from form names first n = count_blocks form names first n in
+    count_same (λ q. is_on_ways form (range_with_len first (suc n)) q && not (names q))
+    (λ q. (is_on_ways form (range_with_len first n) q || is_on_way form q (first + n)) && not (names q)) (places form)
+    (λ q. ap (λ x. x && not (names q)) (any_more (is_on_way form q) first n))
+    ∙ count_next form names first n sofar
+
+-- Steps of the count
+
+-- no block has been counted
+pub missing_start : (form : Form) (names : List ℕ → Bool) (first : ℕ) → missing_from form names first (first - first) ≡ 0
+unfolding missing_from
+missing_start form names first = let none : first - first ≡ 0 = omega arith in ap (missing_from form names first) none
+
+-- one block more, by the number of blocks
+missing_next : (form : Form) (names : List ℕ → Bool) (first n : ℕ)
+    → missing_from form names first (suc n) ≡ missing_from form names first n + missing_at form names (n == 0) (first + n)
+unfolding missing_from
+missing_next form names first n = refl
+
+-- one block more
+pub missing_more : (form : Form) (names : List ℕ → Bool) (first b : ℕ) → first ≤ b
+    → missing_from form names first (b + 1 - first) ≡ missing_from form names first (b - first) + missing_at form names (b == first) b
+missing_more form names first b low =
+    let count : b + 1 - first ≡ suc (b - first) = omega arith in
+    let place : first + (b - first) ≡ b = omega arith in
+    let start : (b - first == 0) ≡ (b == first) = grind (arith, nat_tests) in
+    ap (missing_from form names first) count
+    ∙ (missing_next form names first (b - first)
+    ∙ ap (λ x. missing_from form names first (b - first) + x)
+    (ap (λ t. missing_at form names t (first + (b - first))) start ∙ ap (missing_at form names (b == first)) place))
+
+-- past the limit no blocks are missing
+missing_past : (form : Form) (names : List ℕ → Bool) (first n k : ℕ) → block_limit form ≤ first + n
+    → missing_from form names first (n + k) ≡ missing_from form names first n
+missing_past form names first n zero h = let same : n + 0 ≡ n = omega arith in ap (missing_from form names first) same
+missing_past form names first n (suc k) h =
+    let count : n + suc k ≡ suc (n + k) = omega arith in
+    let none : missing_at form names (n + k == 0) (first + (n + k)) ≡ 0 =
+    missing_none form names (n + k == 0) (first + (n + k)) (has_no_way form (first + (n + k)) (omega arith)) in
+    let before : missing_from form names first (n + k) ≡ missing_from form names first n = missing_past form names first n k h in
+    ap (missing_from form names first) count ∙ (missing_next form names first (n + k) ∙ omega (arith, none, before))
+
+-- a count up to the end, or to the limit before it, is the whole count
+pub missing_limit : (form : Form) (names : List ℕ → Bool) (first b end : ℕ) → first ≤ b → (b ≤ end) ⊎ (b ≡ first) → (end ≤ b) ⊎ (block_limit form ≤ b)
+    → missing_from form names first (b - first) ≡ missing_from form names first (end - first)
+missing_limit form names first b end low (inl high) (inl done) = let same : b ≡ end = omega arith in ap (λ x. missing_from form names first (x - first)) same
+missing_limit form names first b end low (inr none) (inl done) =
+    let same : b - first ≡ end - first = omega arith in ap (missing_from form names first) same
+missing_limit form names first b end low (inl high) (inr past) =
+    let same : end - first ≡ b - first + (end - b) = omega arith in
+    sym (ap (missing_from form names first) same ∙ missing_past form names first (b - first) (end - b) (omega arith))
+missing_limit form names first b end low (inr none) (inr past) =
+    let same : end - first ≡ b - first + (end - first) = omega arith in
+    sym (ap (missing_from form names first) same ∙ missing_past form names first (b - first) (end - first) (omega arith))
+
+-- What a write needs
+
+-- the later of two numbers is the larger
+later : (m a b : ℕ) → a ≤ b → (nat_le m a || nat_le m b) ≡ nat_le m b
+later m a b h = grind (arith, nat_tests)
+
+-- one of the numbers of a range is as large as m where the last one is
+any_large : (m a n : ℕ) → list_any (λ b. nat_le m b) (range_with_len a (suc n)) ≡ nat_le m (a + n)
+any_large m a zero = let same : a ≡ a + 0 = omega arith in or_no (nat_le m a) ∙ ap (nat_le m) same
+any_large m a (suc n) =
+    let same : a + 1 + n ≡ a + suc n = omega arith in
+    ap (λ x. nat_le m a || x) (any_large m (a + 1) n ∙ ap (nat_le m) same) ∙ later m a (a + suc n) (omega arith)
+
+-- whether a file becomes large hangs on the last block touched
+large_by_last : (form : Form) (a n : ℕ) → grows_large form (range_with_len a (suc n)) ≡ grows_at form (a + n)
+large_by_last Small a n = any_large 8 a n
+large_by_last Large a n = refl
+large_by_last Deep a n = refl
+large_by_last Bare a n = refl
+
+-- what some blocks need, by the number of them
+need_by_count : (form : Form) (names : List ℕ → Bool) (a n : ℕ)
+    → need_of form names (range_with_len a (suc n))
+    ≡ missing_from (grown_form form (grows_at form (a + n))) (grown_names names (grows_at form (a + n))) a (suc n) + (if grows_at form (a + n) then 1 else 0)
+unfolding need_of
+need_by_count form names a n =
+    let blocks : List ℕ = range_with_len a (suc n) in
+    ap (λ t. missing_count (grown_form form t) (grown_names names t) blocks + (if t then 1 else 0)) (large_by_last form a n)
+    ∙ ap (λ x. x + (if grows_at form (a + n) then 1 else 0))
+    (count_blocks (grown_form form (grows_at form (a + n))) (grown_names names (grows_at form (a + n))) a (suc n))
+
+-- what a write of some bytes needs
+pub need_some : (form : Form) (names : List ℕ → Bool) (offset len last : ℕ) → 1 ≤ len → last ≡ (offset + (len - 1)) / 512
+    → need_of form names (touched offset len)
+    ≡ missing_from (grown_form form (grows_at form last)) (grown_names names (grows_at form last)) (offset / 512) (last + 1 - offset / 512)
+    + (if grows_at form last then 1 else 0)
+need_some form names offset zero last some e = absurd (omega arith)
+need_some form names offset (suc n) last some e =
+    let ends : last ≡ (offset + n) / 512 = e ∙ ap (λ x. (offset + x) / 512) (omega arith) in
+    let order : offset / 512 ≤ (offset + n) / 512 = omega arith in
+    let count : (offset + n) / 512 - offset / 512 + 1 ≡ suc ((offset + n) / 512 - offset / 512) = omega arith in
+    let place : offset / 512 + ((offset + n) / 512 - offset / 512) ≡ last = omega arith in
+    let number : suc ((offset + n) / 512 - offset / 512) ≡ last + 1 - offset / 512 = omega arith in
+    ap (λ x. need_of form names (range_with_len (offset / 512) x)) count
+    ∙ (need_by_count form names (offset / 512) ((offset + n) / 512 - offset / 512)
+    ∙ (ap (λ x. missing_from (grown_form form (grows_at form x)) (grown_names names (grows_at form x)) (offset / 512)
+    (suc ((offset + n) / 512 - offset / 512)) + (if grows_at form x then 1 else 0)) place
+    ∙ ap (λ x. missing_from (grown_form form (grows_at form last)) (grown_names names (grows_at form last)) (offset / 512) x
+    + (if grows_at form last then 1 else 0)) number))
+
+-- no bytes make no file large
+small_grows_not : (form : Form) → grows_large form [] ≡ false
+small_grows_not Small = refl
+small_grows_not Large = refl
+small_grows_not Deep = refl
+small_grows_not Bare = refl
+
+-- no bytes need nothing
+pub need_nothing : (form : Form) (names : List ℕ → Bool) → need_of form names [] ≡ 0
+unfolding need_of missing_count
+need_nothing form names = let none : grows_large form [] ≡ false = small_grows_not form in
+    ap (λ t. missing_count (grown_form form t) (grown_names names t) [] + (if t then 1 else 0)) none
+    ∙ omega (arith, count_none (λ q. false) (places form) (λ q. refl))

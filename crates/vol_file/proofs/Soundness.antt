@@ -1,0 +1,139 @@
+-- The rules after a change of one file that names no more than before.
+use Rattle.std.proofs.Common.{◌≡◌, ◌≢◌, ℕ, ◌+◌, ◌<◌, ◌≤◌, ◌∙◌, sym, ap, subst, List, get_or, refl, arith, inl, inr, true}
+use Rattle.std.proofs.lemmas.Bool.{cases_eq}
+use Rattle.pdp_words.specs.Words.{word}
+use Rattle.vol_layout.specs.Edition.{constants}
+use Rattle.vol_layout.specs.Geometry.{in_zone, Fits}
+use Rattle.vol_layout.specs.Inode.{inode_place, inode_at, inode_of, kind_of}
+use Rattle.vol_layout.specs.Places.{has_places}
+use Rattle.vol_layout.specs.Names.{form_at, IsFile, IsPlaceOf, named}
+use Rattle.vol_layout.specs.declared.edition.Edition.{Edition}
+use Rattle.vol_layout.specs.declared.edition.Edition.TheVariants.{V6, V7}
+use Rattle.vol_layout.specs.declared.geometry.Geometry.{Geometry}
+use Rattle.vol_layout.specs.declared.mode.Kind.TheVariants as kinds
+use Rattle.vol_layout.specs.declared.places.Form.TheVariants.{Small}
+use Rattle.vol_layout.proofs.InodeLaws.{inode_v6, inode_v7, inode_of_kept, mode_kept, size_kept, form_kept}
+use Rattle.vol_free.specs.Stack.{IsIn, IsFree}
+use Rattle.vol_file.specs.Rules.{size_of, kind_at, HasKinds, HasSizes, IsSoundWith}
+use Rattle.vol_file.specs.Changes.{is_kept_byte}
+use Rattle.vol_file.specs.Steps.{StaysElsewhere}
+use Rattle.vol_file.proofs.Alone.{fits_len, elsewhere_inode, elsewhere_before, elsewhere_named}
+
+-- the i-number of the root is 1 at least
+root_from : (edition : Edition) → 1 ≤ (constants edition).root
+root_from V6 = omega arith
+root_from V7 = omega arith
+
+-- the kept bytes of an i-node hold its link count
+links_in : (edition : Edition) (old new : List ℕ) (at : ℕ)
+    → ((r : ℕ) → is_kept_byte edition r ≡ true → get_or new (at + r) 0 ≡ get_or old (at + r) 0)
+    → (inode_at edition new at).links ≡ (inode_at edition old at).links
+links_in V6 old new at kept = (inode_v6 new at).0 ∙ (kept 2 refl ∙ sym (inode_v6 old at).0)
+links_in V7 old new at kept =
+    let low : get_or new (at + 2) 0 ≡ get_or old (at + 2) 0 = kept 2 refl in
+    let high : get_or new (at + 3) 0 ≡ get_or old (at + 3) 0 = kept 3 refl in
+    let next : at + 2 + 1 ≡ at + 3 = omega arith in
+    let same : word new (at + 2) ≡ word old (at + 2) = rw (next, low, high) in
+    (inode_v7 new at).0 ∙ (same ∙ sym (inode_v7 old at).0)
+
+-- what changes of file i: it keeps its kind, its size is within the limits, and each of its places names what it did, or nothing
+pub record Lessens (geometry : Geometry) (old new : List ℕ) (i : ℕ) : Type 0 where
+  pub alone : StaysElsewhere geometry old new i
+  pub kind : kind_at geometry new i ≡ kind_at geometry old i
+  pub greatest : size_of geometry new i ≤ (constants geometry.edition).greatest
+  pub small : form_at geometry new i ≡ Small → size_of geometry new i ≤ 4096
+  pub names : (p : List ℕ) → IsPlaceOf geometry new i p → named geometry new i p ≢ 0
+      → IsPlaceOf geometry old i p × (named geometry new i p ≡ named geometry old i p)
+
+-- each kind is as before
+kind_after : (geometry : Geometry) (old new : List ℕ) (i j : ℕ) → Fits geometry old → IsFile geometry old i → Lessens geometry old new i
+    → 1 ≤ j → j ≤ geometry.last_inode → kind_at geometry new j ≡ kind_at geometry old j
+kind_after geometry old new i j fits file less first last =
+    elim (cases_eq j i) [
+      | inl e ↦ subst (λ x. kind_at geometry new x ≡ kind_at geometry old x) (sym e) less.kind
+      | inr other ↦ ap (kind_of geometry.edition) (mode_kept geometry old new j (elsewhere_inode geometry old new i j fits less.alone file.first first last other))
+    ]
+
+-- a file was one before
+file_before : (geometry : Geometry) (old new : List ℕ) (i j : ℕ) → Fits geometry old → IsFile geometry old i → Lessens geometry old new i
+    → IsFile geometry new j → IsFile geometry old j
+file_before geometry old new i j fits file less is = record {
+  first = is.first;
+  last = is.last;
+  kind = ap has_places (sym (kind_after geometry old new i j fits file less is.first is.last)) ∙ is.kind;
+}
+
+-- a place that names something named it before
+pub named_before : (geometry : Geometry) (old new : List ℕ) (i j : ℕ) (p : List ℕ) → Fits geometry old → IsFile geometry old i
+    → Lessens geometry old new i → IsPlaceOf geometry new j p → named geometry new j p ≢ 0
+    → IsPlaceOf geometry old j p × (named geometry new j p ≡ named geometry old j p)
+named_before geometry old new i j p fits file less place some =
+    elim (cases_eq j i) [
+      | inl e ↦
+          subst (λ x. IsPlaceOf geometry old x p × (named geometry new x p ≡ named geometry old x p)) (sym e)
+          (less.names p (subst (λ x. IsPlaceOf geometry new x p) e place) (λ zero. some (ap (λ x. named geometry new x p) e ∙ zero)))
+      | inr other ↦
+          let before = elsewhere_before geometry old new i j p fits less.alone file.first other place in
+          (before, elsewhere_named geometry old new i j p fits less.alone file.first other before)
+    ]
+
+-- the kinds keep their rules
+kinds_after : (geometry : Geometry) (old new : List ℕ) (i : ℕ) → Fits geometry old → IsFile geometry old i → Lessens geometry old new i
+    → HasKinds geometry old → HasKinds geometry new
+kinds_after geometry old new i fits file less has =
+    let root : 1 ≤ (constants geometry.edition).root = root_from geometry.edition in
+    let second : (constants geometry.edition).root < geometry.last_inode = fits.root in
+    let one = kind_after geometry old new i 1 fits file less (omega arith) (omega arith) in
+    record {
+      known = λ j first last odd. has.known j first last (sym (kind_after geometry old new i j fits file less first last) ∙ odd);
+      root = kind_after geometry old new i (constants geometry.edition).root fits file less root (omega arith) ∙ has.root;
+      bad_blocks = λ e. elim (has.bad_blocks e) [ inl free ↦ inl (one ∙ free) | inr regular ↦ inr (one ∙ regular) ];
+    }
+
+-- the sizes and link counts keep their rules
+sizes_after : (geometry : Geometry) (old new : List ℕ) (i : ℕ) → Fits geometry old → IsFile geometry old i → Lessens geometry old new i
+    → HasSizes geometry old → HasSizes geometry new
+sizes_after geometry old new i fits file less has = record {
+  greatest = λ j is. elim (cases_eq j i) [
+    | inl e ↦ subst (λ x. size_of geometry new x ≤ (constants geometry.edition).greatest) (sym e) less.greatest
+    | inr other ↦
+        let before = file_before geometry old new i j fits file less is in
+        let same = size_kept geometry old new j (elsewhere_inode geometry old new i j fits less.alone file.first is.first is.last other) in
+        subst (λ n. n ≤ (constants geometry.edition).greatest) (sym same) (has.greatest j before)
+  ];
+  small = λ j is e. elim (cases_eq j i) [
+    | inl f ↦ subst (λ x. size_of geometry new x ≤ 4096) (sym f) (less.small (ap (form_at geometry new) (sym f) ∙ e))
+    | inr other ↦
+        let before = file_before geometry old new i j fits file less is in
+        let kept = elsewhere_inode geometry old new i j fits less.alone file.first is.first is.last other in
+        subst (λ n. n ≤ 4096) (sym (size_kept geometry old new j kept))
+        (has.small j before (sym (form_kept geometry old new j kept) ∙ e))
+  ];
+  links = λ j first last some.
+      let before : kind_at geometry old j ≢ kinds.Free = λ free. some (kind_after geometry old new i j fits file less first last ∙ free) in
+      let same : (inode_of geometry.edition new j).links ≡ (inode_of geometry.edition old j).links = elim (cases_eq j i) [
+        | inl e ↦ subst (λ x. (inode_of geometry.edition new x).links ≡ (inode_of geometry.edition old x).links) (sym e)
+            (links_in geometry.edition old new (inode_place geometry.edition i) less.alone.inode)
+        | inr other ↦ ap (λ node. node.links) (inode_of_kept geometry old new j (elsewhere_inode geometry old new i j fits less.alone file.first first last other))
+      ] in
+      subst (λ n. n ≤ (constants geometry.edition).link_limit) (sym same) (has.links j first last before);
+}
+
+-- the rules hold where file i lessens, and the free blocks are a stack of which no place names one
+pub sound_after : (geometry : Geometry) (old new blocks after : List ℕ) (i : ℕ) → IsSoundWith geometry old blocks → IsFile geometry old i
+    → Lessens geometry old new i → IsFree geometry new after
+    → ((j : ℕ) (p : List ℕ) → IsPlaceOf geometry new j p → IsIn (named geometry new j p) after → ⊥) → IsSoundWith geometry new after
+sound_after geometry old new blocks after i sound file less free out = record {
+  fits = fits_len geometry old new less.alone.len sound.fits;
+  kinds = kinds_after geometry old new i sound.fits file less sound.kinds;
+  sizes = sizes_after geometry old new i sound.fits file less sound.sizes;
+  zoned = λ j p place some.
+      let before = named_before geometry old new i j p sound.fits file less place some in
+      ap (in_zone geometry) before.1 ∙ sound.zoned j p before.0 (λ zero. some (before.1 ∙ zero));
+  free = free;
+  apart = λ j k p q place other some same.
+      let before = named_before geometry old new i j p sound.fits file less place some in
+      let too = named_before geometry old new i k q sound.fits file less other (λ zero. some (same ∙ zero)) in
+      sound.apart j k p q before.0 too.0 (λ zero. some (before.1 ∙ zero)) (sym before.1 ∙ (same ∙ too.1));
+  outside = out;
+}

@@ -1,0 +1,81 @@
+-- What a write and a truncation leave.
+use Rattle.std.specs.Prelude.{◌≡◌, ◌≢◌, ℕ, ◌+◌, ◌-◌, ◌*◌, ◌<◌, ◌≤◌, ◌==◌, ◌&&◌, ◌||◌, Bool, true, false, not, max, nat_lt, nat_le, if◌then◌else◌, List, [], ◌++◌, length, map, filter, take, drop, replicate, slice_index}
+use Rattle.vol_layout.specs.Edition.{constants}
+use Rattle.vol_layout.specs.Inode.{inode_place, with_large}
+use Rattle.vol_layout.specs.Super.{free_head}
+use Rattle.vol_layout.specs.Places.{IsPlace, places}
+use Rattle.vol_layout.specs.Names.{mode_of, form_at, IsFile, IsPlaceOf, named, Names}
+use Rattle.vol_layout.specs.Body.{body}
+use Rattle.vol_file.specs.Shape.{is_named, touched, grows_large, filled}
+use Rattle.vol_file.specs.Need.{need}
+use Rattle.vol_file.specs.Rules.{size_of, IsSoundWith, IsCovered}
+use Rattle.vol_layout.specs.declared.edition.Edition.{Edition}
+use Rattle.vol_layout.specs.declared.edition.Edition.TheVariants.{V6, V7}
+use Rattle.vol_layout.specs.declared.geometry.Geometry.{Geometry}
+
+-- whether byte r of an i-node is none of its size and addresses, nor, in the sixth edition, of its mode
+abbrev pub is_kept_byte : Edition → ℕ → Bool
+is_kept_byte V6 r = (nat_le 2 r && nat_lt r 5) || (nat_le 24 r && nat_lt r 32)
+is_kept_byte V7 r = nat_lt r 8 || (nat_le 51 r && nat_lt r 64)
+
+-- of all that isn't file i's and isn't free nothing has changed: block 0, block 1 outside the free list, the other
+-- i-nodes, the other bytes of i's own, the blocks, bodies and places of all other files, and what lies behind the volume
+pub record ChangesFileAlone (geometry : Geometry) (old new : List ℕ) (i : ℕ) : Type 0 where
+  pub len : length new ≡ length old
+  pub before : (k : ℕ) → k < free_head geometry.edition → slice_index new k ≡ slice_index old k
+  pub super_block : (k : ℕ) → free_head geometry.edition + 202 ≤ k → k < 1024 → slice_index new k ≡ slice_index old k
+  pub lower_inodes : (k : ℕ) → 1024 ≤ k → k < inode_place geometry.edition i → slice_index new k ≡ slice_index old k
+  pub higher_inodes : (k : ℕ) → inode_place geometry.edition i + (constants geometry.edition).inode_bytes ≤ k → k < 512 * geometry.zone_start
+      → slice_index new k ≡ slice_index old k
+  pub inode : (r : ℕ) → is_kept_byte geometry.edition r ≡ true
+      → slice_index new (inode_place geometry.edition i + r) ≡ slice_index old (inode_place geometry.edition i + r)
+  pub blocks : (j : ℕ) (p : List ℕ) (k r : ℕ) → j ≢ i → Names geometry old j p k → r < 512
+      → slice_index new (512 * k + r) ≡ slice_index old (512 * k + r)
+  pub places : (j : ℕ) (p : List ℕ) → j ≢ i → IsPlaceOf geometry old j p → named geometry new j p ≡ named geometry old j p
+  pub bodies : (j : ℕ) → j ≢ i → IsFile geometry old j → body geometry new j ≡ body geometry old j
+  pub behind : (k : ℕ) → 512 * geometry.zone_end ≤ k → slice_index new k ≡ slice_index old k
+
+-- bytes with others put at an offset over them, and zeros between their end and the offset
+abbrev pub spliced : List ℕ → ℕ → List ℕ → List ℕ
+spliced bytes offset text = (take offset bytes ++ replicate (offset - length bytes) 0) ++ (text ++ drop (offset + length text) bytes)
+
+-- the mode of a file once these logical blocks are touched
+abbrev pub mode_after : Geometry → List ℕ → ℕ → List ℕ → ℕ
+mode_after geometry image i blocks =
+    if grows_large (form_at geometry image i) blocks then with_large (mode_of geometry image i) true else mode_of geometry image i
+
+-- a write of at least one byte at an offset of file i, where `blocks` were free: those taken are the first of them, as
+-- many as are needed, and the rest stay free
+pub record Writes (geometry : Geometry) (old new : List ℕ) (i offset : ℕ) (text blocks : List ℕ) : Type 0 where
+  pub taken : List ℕ
+  pub rest : List ℕ
+  pub free : blocks ≡ taken ++ rest
+  pub count : length taken ≡ need geometry old i offset (length text)
+  pub sound : IsSoundWith geometry new rest
+  pub covered : IsCovered geometry old blocks → IsCovered geometry new rest
+  pub alone : ChangesFileAlone geometry old new i
+  pub mode : mode_of geometry new i ≡ mode_after geometry old i (touched offset (length text))
+  pub size : size_of geometry new i ≡ max (size_of geometry old i) (offset + length text)
+  pub body : body geometry new i ≡ spliced (body geometry old i) offset text
+  pub names : (p : List ℕ) → IsPlace (form_at geometry new i) p
+      → is_named geometry new i p ≡ filled (form_at geometry old i) (is_named geometry old i) (touched offset (length text)) p
+
+-- the blocks that a file names, in the order of its places
+unfoldable pub blocks_of : Geometry → List ℕ → ℕ → List ℕ
+blocks_of geometry image i = filter (λ k. not (k == 0)) (map (named geometry image i) (places (form_at geometry image i)))
+
+-- the mode of a file once it is truncated: the sixth edition's large flag goes
+abbrev pub truncated_mode : Edition → ℕ → ℕ
+truncated_mode V6 mode = with_large mode false
+truncated_mode V7 mode = mode
+
+-- a truncation of file i to nothing, where `blocks` were free: its blocks lie upon them, in the order of its places,
+-- since they are given back from the last place to the first
+pub record Truncates (geometry : Geometry) (old new : List ℕ) (i : ℕ) (blocks : List ℕ) : Type 0 where
+  pub sound : IsSoundWith geometry new (blocks_of geometry old i ++ blocks)
+  pub covered : IsCovered geometry old blocks → IsCovered geometry new (blocks_of geometry old i ++ blocks)
+  pub alone : ChangesFileAlone geometry old new i
+  pub mode : mode_of geometry new i ≡ truncated_mode geometry.edition (mode_of geometry old i)
+  pub size : size_of geometry new i ≡ 0
+  pub body : body geometry new i ≡ []
+  pub names : (p : List ℕ) → IsPlaceOf geometry new i p → named geometry new i p ≡ 0

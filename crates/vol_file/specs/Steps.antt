@@ -1,0 +1,224 @@
+-- What single steps of a change of one file leave, from which the whole change is put together.
+use Rattle.std.specs.Prelude.{◌≡◌, ◌≢◌, ℕ, ◌+◌, ◌-◌, ◌*◌, ◌<◌, ◌≤◌, ◌&&◌, ◌||◌, Bool, not, max, true, List, ◌∷◌, ◌++◌, length, slice_index}
+use Rattle.std.specs.List.{count_by, list_any, range_with_len}
+use Rattle.std.specs.Str.{bytes_eq}
+use Rattle.vol_layout.specs.Edition.{constants}
+use Rattle.vol_layout.specs.Geometry.{in_zone}
+use Rattle.vol_layout.specs.Inode.{inode_place, with_large}
+use Rattle.vol_layout.specs.Super.{free_head}
+use Rattle.vol_layout.specs.Places.{IsPlace, levels_below, block_limit, fronts, way, places}
+use Rattle.vol_layout.specs.Body.{body_byte}
+use Rattle.vol_layout.specs.Laws.{IsFront}
+use Rattle.vol_layout.specs.Names.{mode_of, form_at, IsFile, IsPlaceOf, named, Names}
+use Rattle.vol_free.specs.Stack.{IsFree}
+use Rattle.vol_file.specs.Shape.{is_named, is_on_ways, moved_down, fit_form, filled}
+use Rattle.vol_file.specs.Need.{need_of}
+use Rattle.vol_file.specs.Rules.{size_of, IsSoundWith, IsCovered}
+use Rattle.vol_file.specs.Changes.{is_kept_byte, mode_after}
+use Rattle.vol_layout.specs.declared.geometry.Geometry.{Geometry}
+use Rattle.vol_layout.specs.declared.places.Form.TheVariants.{Large}
+
+-- of the bytes that are neither file i's nor the free list's nor a free block's none has changed
+pub record StaysElsewhere (geometry : Geometry) (old new : List ℕ) (i : ℕ) : Type 0 where
+  pub len : length new ≡ length old
+  pub before : (k : ℕ) → k < free_head geometry.edition → slice_index new k ≡ slice_index old k
+  pub super_block : (k : ℕ) → free_head geometry.edition + 202 ≤ k → k < 1024 → slice_index new k ≡ slice_index old k
+  pub lower_inodes : (k : ℕ) → 1024 ≤ k → k < inode_place geometry.edition i → slice_index new k ≡ slice_index old k
+  pub higher_inodes : (k : ℕ) → inode_place geometry.edition i + (constants geometry.edition).inode_bytes ≤ k → k < 512 * geometry.zone_start
+      → slice_index new k ≡ slice_index old k
+  pub inode : (r : ℕ) → is_kept_byte geometry.edition r ≡ true
+      → slice_index new (inode_place geometry.edition i + r) ≡ slice_index old (inode_place geometry.edition i + r)
+  pub blocks : (j : ℕ) (p : List ℕ) (k r : ℕ) → j ≢ i → Names geometry old j p k → r < 512
+      → slice_index new (512 * k + r) ≡ slice_index old (512 * k + r)
+  pub behind : (k : ℕ) → 512 * geometry.zone_end ≤ k → slice_index new k ≡ slice_index old k
+
+-- number v was put at place q of file i, where these blocks are free: nothing else has changed
+pub record Stores (geometry : Geometry) (old new : List ℕ) (i : ℕ) (q : List ℕ) (v : ℕ) (blocks : List ℕ) : Type 0 where
+  pub alone : StaysElsewhere geometry old new i
+  pub mode : mode_of geometry new i ≡ mode_of geometry old i
+  pub size : size_of geometry new i ≡ size_of geometry old i
+  pub here : named geometry new i q ≡ v
+  pub others : (p : List ℕ) → IsPlaceOf geometry old i p → (IsFront q p → ⊥) → named geometry new i p ≡ named geometry old i p
+  pub bytes : (k r : ℕ) → in_zone geometry k ≡ true
+      → ((p : List ℕ) → IsPlaceOf geometry old i p → 1 ≤ levels_below (form_at geometry old i) p → named geometry old i p ≢ k)
+      → r < 512 → slice_index new (512 * k + r) ≡ slice_index old (512 * k + r)
+  pub free : IsFree geometry new blocks
+
+-- how many of the wanted places of file i name nothing
+unfoldable pub lacking : Geometry → List ℕ → ℕ → (List ℕ → Bool) → ℕ
+lacking geometry image i wanted = count_by (λ p. wanted p && not (is_named geometry image i p)) (places (form_at geometry image i))
+
+-- the places of a set of file i's name something now, each that didn't by the next of the free blocks, which was zeroed:
+-- the file's bytes are as before
+pub record Extends (geometry : Geometry) (old new : List ℕ) (i : ℕ) (wanted set : List ℕ → Bool) (blocks rest : List ℕ) : Type 0 where
+  pub alone : StaysElsewhere geometry old new i
+  pub sound : IsSoundWith geometry new rest
+  pub covered : IsCovered geometry old blocks → IsCovered geometry new rest
+  pub taken : List ℕ
+  pub free : blocks ≡ taken ++ rest
+  pub count : length blocks + lacking geometry new i wanted ≡ length rest + lacking geometry old i wanted
+  pub mode : mode_of geometry new i ≡ mode_of geometry old i
+  pub size : size_of geometry new i ≡ size_of geometry old i
+  pub names : (p : List ℕ) → IsPlaceOf geometry old i p → is_named geometry new i p ≡ (is_named geometry old i p || set p)
+  pub bytes : (n : ℕ) → body_byte geometry new i n ≡ body_byte geometry old i n
+
+-- whether the second place is a front of the first, or that itself
+abbrev pub is_front : List ℕ → List ℕ → Bool
+is_front q p = list_any (bytes_eq p) (fronts q)
+
+-- place q of file i names block k now, and all its fronts name something
+pub record Reaches (geometry : Geometry) (old new : List ℕ) (i : ℕ) (wanted : List ℕ → Bool) (q blocks : List ℕ) (k : ℕ) : Type 0 where
+  pub rest : List ℕ
+  pub extends : Extends geometry old new i wanted (is_front q) blocks rest
+  pub is : named geometry new i q ≡ k
+  pub some : k ≢ 0
+
+-- the rules hold with these free blocks, which are enough for the wanted places of file i
+pub record IsReady (geometry : Geometry) (image : List ℕ) (i : ℕ) (wanted : List ℕ → Bool) (blocks : List ℕ) : Type 0 where
+  pub file : IsFile geometry image i
+  pub sound : IsSoundWith geometry image blocks
+  pub room : lacking geometry image i wanted ≤ length blocks
+
+-- the rules hold with these free blocks, which are enough for the wanted places of file i, and place q is one of those
+pub record IsWanted (geometry : Geometry) (image : List ℕ) (i : ℕ) (wanted : List ℕ → Bool) (q blocks : List ℕ) : Type 0 where
+  pub ready : IsReady geometry image i wanted blocks
+  pub place : IsPlaceOf geometry image i q
+  pub want : wanted q ≡ true
+
+-- place q of file i may be named: there are free blocks enough
+pub record MayName (geometry : Geometry) (image : List ℕ) (i : ℕ) (q : List ℕ) : Type 0 where
+  pub wanted : List ℕ → Bool
+  pub blocks : List ℕ
+  pub is : IsWanted geometry image i wanted q blocks
+
+-- entry j of block m, which place a ∷ p of file i names by now, is wanted
+pub record IsNext (geometry : Geometry) (old image : List ℕ) (i : ℕ) (wanted : List ℕ → Bool) (j a : ℕ) (p blocks : List ℕ) (m : ℕ) : Type 0 where
+  pub want : IsWanted geometry old i wanted (j ∷ (a ∷ p)) blocks
+  pub reached : Reaches geometry old image i wanted (a ∷ p) blocks m
+
+-- entry j of block m may be named: a place of a file names m, and there are free blocks enough
+pub record MayNameEntry (geometry : Geometry) (image : List ℕ) (m j : ℕ) : Type 0 where
+  pub old : List ℕ
+  pub i : ℕ
+  pub wanted : List ℕ → Bool
+  pub a : ℕ
+  pub p : List ℕ
+  pub blocks : List ℕ
+  pub next : IsNext geometry old image i wanted j a p blocks m
+
+-- the rules hold with these free blocks, which are enough for the wanted places of file i, those on the way of logical block b among them
+pub record WantsWay (geometry : Geometry) (image : List ℕ) (i : ℕ) (wanted : List ℕ → Bool) (b : ℕ) (blocks : List ℕ) : Type 0 where
+  pub ready : IsReady geometry image i wanted blocks
+  pub limit : b < block_limit (form_at geometry image i)
+  pub want : (p : List ℕ) → list_any (bytes_eq p) (way (form_at geometry image i) b) ≡ true → wanted p ≡ true
+
+-- the places on the way of logical block b may be named: there are free blocks enough
+pub record MayNameWay (geometry : Geometry) (image : List ℕ) (i b : ℕ) : Type 0 where
+  pub wanted : List ℕ → Bool
+  pub blocks : List ℕ
+  pub is : WantsWay geometry image i wanted b blocks
+
+-- the places on the way of logical block b name something now
+pub record NamesWay (geometry : Geometry) (old new : List ℕ) (i : ℕ) (wanted : List ℕ → Bool) (b : ℕ) (blocks : List ℕ) : Type 0 where
+  pub rest : List ℕ
+  pub extends : Extends geometry old new i wanted (λ p. list_any (bytes_eq p) (way (form_at geometry old i) b)) blocks rest
+
+-- the rules hold with these free blocks, which are enough for the wanted places of file i, those on the ways of n logical
+-- blocks from `from` on among them
+pub record WantsWays (geometry : Geometry) (image : List ℕ) (i : ℕ) (wanted : List ℕ → Bool) (from n : ℕ) (blocks : List ℕ) : Type 0 where
+  pub ready : IsReady geometry image i wanted blocks
+  pub limit : from + n ≤ block_limit (form_at geometry image i)
+  pub want : (p : List ℕ) → is_on_ways (form_at geometry image i) (range_with_len from n) p ≡ true → wanted p ≡ true
+
+-- the places on the ways of n logical blocks may be named: there are free blocks enough
+pub record MayNameWays (geometry : Geometry) (image : List ℕ) (i from n : ℕ) : Type 0 where
+  pub wanted : List ℕ → Bool
+  pub blocks : List ℕ
+  pub is : WantsWays geometry image i wanted from n blocks
+
+-- the places on the ways of n logical blocks name something now
+pub record NamesWays (geometry : Geometry) (old new : List ℕ) (i : ℕ) (wanted : List ℕ → Bool) (from n : ℕ) (blocks : List ℕ) : Type 0 where
+  pub rest : List ℕ
+  pub extends : Extends geometry old new i wanted (is_on_ways (form_at geometry old i) (range_with_len from n)) blocks rest
+
+-- the bytes of file i from byte lo up to hi are those of a function now, and all else is as before
+pub record Rewrites (geometry : Geometry) (old new : List ℕ) (i lo hi : ℕ) (content : ℕ → ℕ) (blocks : List ℕ) : Type 0 where
+  pub alone : StaysElsewhere geometry old new i
+  pub sound : IsSoundWith geometry new blocks
+  pub covered : IsCovered geometry old blocks → IsCovered geometry new blocks
+  pub mode : mode_of geometry new i ≡ mode_of geometry old i
+  pub size : size_of geometry new i ≡ size_of geometry old i
+  pub names : (p : List ℕ) → IsPlaceOf geometry old i p → named geometry new i p ≡ named geometry old i p
+  pub inside : (n : ℕ) → lo ≤ n → n < hi → body_byte geometry new i n ≡ content n
+  pub below : (n : ℕ) → n < lo → body_byte geometry new i n ≡ body_byte geometry old i n
+  pub above : (n : ℕ) → hi ≤ n → body_byte geometry new i n ≡ body_byte geometry old i n
+
+-- the bytes of a text that is put at an offset
+abbrev pub text_at : ℕ → List ℕ → ℕ → ℕ
+text_at offset text n = slice_index text (n - offset)
+
+-- zeros
+abbrev pub zeros_at : ℕ → ℕ
+zeros_at n = 0
+
+-- the small file i was made large, by the first of the free blocks, which holds its eight old addresses now
+pub record Enlarges (geometry : Geometry) (old new : List ℕ) (i : ℕ) (blocks : List ℕ) : Type 0 where
+  pub first : ℕ
+  pub rest : List ℕ
+  pub free : blocks ≡ first ∷ rest
+  pub alone : StaysElsewhere geometry old new i
+  pub sound : IsSoundWith geometry new rest
+  pub covered : IsCovered geometry old blocks → IsCovered geometry new rest
+  pub form : form_at geometry new i ≡ Large
+  pub mode : mode_of geometry new i ≡ with_large (mode_of geometry old i) true
+  pub size : size_of geometry new i ≡ size_of geometry old i
+  pub names : (p : List ℕ) → IsPlace Large p → is_named geometry new i p ≡ moved_down (is_named geometry old i) p
+  pub bytes : (n : ℕ) → body_byte geometry new i n ≡ body_byte geometry old i n
+
+-- file i may be made large: the rules hold, and a block is free
+pub record MayEnlarge (geometry : Geometry) (image : List ℕ) (i : ℕ) : Type 0 where
+  pub file : IsFile geometry image i
+  pub blocks : List ℕ
+  pub sound : IsSoundWith geometry image blocks
+  pub some : 1 ≤ length blocks
+
+-- all places on the ways of these logical blocks name something now, by as many of the free blocks as are needed
+pub record Fills (geometry : Geometry) (old new : List ℕ) (i : ℕ) (touches blocks : List ℕ) : Type 0 where
+  pub rest : List ℕ
+  pub taken : List ℕ
+  pub free : blocks ≡ taken ++ rest
+  pub count : length taken ≡ need_of (form_at geometry old i) (is_named geometry old i) touches
+  pub alone : StaysElsewhere geometry old new i
+  pub sound : IsSoundWith geometry new rest
+  pub covered : IsCovered geometry old blocks → IsCovered geometry new rest
+  pub file : IsFile geometry new i
+  pub form : form_at geometry new i ≡ fit_form (form_at geometry old i) touches
+  pub mode : mode_of geometry new i ≡ mode_after geometry old i touches
+  pub size : size_of geometry new i ≡ size_of geometry old i
+  pub names : (p : List ℕ) → IsPlace (form_at geometry new i) p
+      → is_named geometry new i p ≡ filled (form_at geometry old i) (is_named geometry old i) touches p
+  pub bytes : (n : ℕ) → body_byte geometry new i n ≡ body_byte geometry old i n
+
+-- the rules hold with these free blocks, which are enough for the ways of the logical blocks from `from` up to `to`
+pub record HasRoom (geometry : Geometry) (image : List ℕ) (i from to : ℕ) (blocks : List ℕ) : Type 0 where
+  pub sound : IsSoundWith geometry image blocks
+  pub room : need_of (form_at geometry image i) (is_named geometry image i) (range_with_len from (to - from)) ≤ length blocks
+
+-- the ways of the logical blocks from `from` up to `to` may be named
+pub record MayFill (geometry : Geometry) (image : List ℕ) (i from to : ℕ) : Type 0 where
+  pub file : IsFile geometry image i
+  pub blocks : List ℕ
+  pub has : HasRoom geometry image i from to blocks
+
+-- a text was put at an offset of file i, whose places named blocks for it: between the old size and the offset stand zeros
+pub record Puts (geometry : Geometry) (old new : List ℕ) (i offset : ℕ) (text blocks : List ℕ) : Type 0 where
+  pub alone : StaysElsewhere geometry old new i
+  pub sound : IsSoundWith geometry new blocks
+  pub covered : IsCovered geometry old blocks → IsCovered geometry new blocks
+  pub mode : mode_of geometry new i ≡ mode_of geometry old i
+  pub names : (p : List ℕ) → IsPlaceOf geometry old i p → named geometry new i p ≡ named geometry old i p
+  pub size : size_of geometry new i ≡ max (size_of geometry old i) (offset + length text)
+  pub low : (n : ℕ) → n < offset → n < size_of geometry old i → body_byte geometry new i n ≡ body_byte geometry old i n
+  pub gap : (n : ℕ) → size_of geometry old i ≤ n → n < offset → body_byte geometry new i n ≡ 0
+  pub middle : (n : ℕ) → offset ≤ n → n < offset + length text → body_byte geometry new i n ≡ text_at offset text n
+  pub high : (n : ℕ) → offset + length text ≤ n → body_byte geometry new i n ≡ body_byte geometry old i n

@@ -1,0 +1,97 @@
+//! The block map of a file: which block holds which of its logical blocks.
+ghost use Rattle.std.specs.Prelude.{◌≡◌, ◌+◌, ◌*◌, ◌≤◌};
+ghost use Rattle.vol_layout.specs.Edition.{constants};
+ghost use Rattle.vol_layout.specs.Geometry.{Fits};
+ghost use Rattle.vol_layout.specs.Names.{entry_of, form_at, stored, block_named};
+
+use pdp_words::Image;
+use vol_layout::i_list::{address, mode};
+use vol_layout::{Form, Geometry, number};
+
+/// The block that holds logical block `b` of i-node `i`, from 1 to the last, by the number that its
+/// last place holds; None where nothing is named there, `b` is past the blocks that a file can have,
+/// or `i` is no regular file or directory. The number may be outside the data zone.
+pub fn block_at(image: &Image, geometry: &Geometry, i: u16, b: u32) -> Option<u32>
+    requires fits { Fits geometry.now image.now }
+    requires first { 1 ≤ i }
+    requires last { i ≤ geometry.now.last_inode }
+    ensures { result ≡ block_named geometry.now image.now i b }
+{
+    let form = Form::of(geometry.edition, mode(image, geometry, i));
+    match number_at(image, geometry, i, form, b) {
+        0 => None,
+        k => Some(k),
+    }
+}
+
+/// Entry `j` of block `m`, which is a pointer block; 0 where `m` is no data block.
+#[tactic(auto, unfolding(vol_layout::specs::Names::entry_of))]
+pub(crate) fn entry(image: &Image, geometry: &Geometry, m: u32, j: u32) -> u32
+    requires fits { Fits geometry.now image.now }
+    requires index { (constants geometry.now.edition).number_bytes * (j + 1) ≤ 512 }
+    ensures { result ≡ entry_of geometry.now image.now m j }
+{
+    if geometry.in_zone(m) {
+        number(image, geometry.edition, m as usize * 512, j as usize)
+    } else {
+        0
+    }
+}
+
+/// The number at the last place of the way of logical block `b`, in a file of some form; 0 where there
+/// is no way, or nothing is named.
+#[tactic(auto, unfolding(vol_layout::specs::Places::last_place))]
+pub(crate) fn number_at(image: &Image, geometry: &Geometry, i: u16, form: Form, b: u32) -> u32
+    requires fits { Fits geometry.now image.now }
+    requires first { 1 ≤ i }
+    requires last { i ≤ geometry.now.last_inode }
+    requires form { form ≡ form_at geometry.now image.now i }
+    ensures { result ≡ stored geometry.now image.now i form b }
+{
+    match form {
+        Form::Small if b < 8 => address(image, geometry, i, b as usize),
+        Form::Large if b < 1792 => {
+            let indirect = address(image, geometry, i, (b / 256) as usize);
+            entry(image, geometry, indirect, b % 256)
+        }
+        Form::Large if b < 32_768 => {
+            let double = address(image, geometry, i, 7);
+            let indirect = entry(image, geometry, double, b / 256 - 7);
+            entry(image, geometry, indirect, b % 256)
+        }
+        Form::Deep => number_in_deep(image, geometry, i, b),
+        _ => 0,
+    }
+}
+
+/// The same in a file of the seventh edition.
+#[tactic(auto, unfolding(vol_layout::specs::Places::last_place))]
+fn number_in_deep(image: &Image, geometry: &Geometry, i: u16, b: u32) -> u32
+    requires fits { Fits geometry.now image.now }
+    requires first { 1 ≤ i }
+    requires last { i ≤ geometry.now.last_inode }
+    requires form { form_at geometry.now image.now i ≡ Form.Deep }
+    ensures { result ≡ stored geometry.now image.now i Form.Deep b }
+{
+    if b < 10 {
+        return address(image, geometry, i, b as usize);
+    }
+    if b < 138 {
+        let indirect = address(image, geometry, i, 10);
+        return entry(image, geometry, indirect, b - 10);
+    }
+    if b < 16_522 {
+        let c = b - 138;
+        let double = address(image, geometry, i, 11);
+        let indirect = entry(image, geometry, double, c / 128);
+        return entry(image, geometry, indirect, c % 128);
+    }
+    if b < 2_113_674 {
+        let c = b - 16_522;
+        let triple = address(image, geometry, i, 12);
+        let double = entry(image, geometry, triple, c / 16_384);
+        let indirect = entry(image, geometry, double, c / 128 % 128);
+        return entry(image, geometry, indirect, c % 128);
+    }
+    0
+}

@@ -1,0 +1,22 @@
+//! Laws about the definitions of places and of the need of blocks. A call does nothing: what matters is
+//! the contract, which is proved.
+ghost use Rattle.vol_file.specs.Laws.{
+  ListsPlaces,
+  ListsPlacesOnce,
+  CountsBlockByBlock,
+  NeedsNothingForNothing,
+};
+
+/// The list of a form's places has each of its places once, and nothing else.
+pub fn places_are_listed_once()
+    ensures all { ListsPlaces }
+    ensures once { ListsPlacesOnce }
+{}
+
+/// How many blocks a write needs: the places on the ways of the touched blocks that name nothing, among
+/// all places of the form, are as many as are found block by block, where what the way of a block
+/// shares with that of the block before it isn't counted again. No bytes need nothing.
+pub fn need_is_counted_by_blocks()
+    ensures count { CountsBlockByBlock }
+    ensures nothing { NeedsNothingForNothing }
+{}

@@ -1,0 +1,20 @@
+//! The files of a volume: where the blocks of a file lie, and its bytes.
+#![tactic(auto)]
+
+pub mod block_map;
+pub mod laws;
+pub mod needing;
+mod pieces;
+pub mod reading;
+pub mod truncating;
+mod ways;
+pub mod writing;
+
+pub use block_map::block_at;
+pub use needing::need;
+pub use reading::read;
+pub use truncating::truncate;
+pub use writing::write;
+
+#[cfg(test)]
+mod fixtures;

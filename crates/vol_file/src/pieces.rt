@@ -1,0 +1,95 @@
+//! Writing the bytes of a file where its places name blocks.
+ghost use Rattle.std.specs.Prelude.{◌≡◌, ℕ, ◌+◌, ◌-◌, ◌*◌, ◌/◌, ◌%◌, ◌^◌, ◌<◌, ◌≤◌, true, List, length, slice_index};
+ghost use Rattle.vol_layout.specs.Geometry.{in_zone};
+ghost use Rattle.vol_layout.specs.Names.{form_at, IsFile, stored};
+ghost use Rattle.vol_file.specs.Rules.{IsSoundWith, HasSoundFiles};
+ghost use Rattle.vol_file.specs.Steps.{Rewrites, text_at, zeros_at};
+
+use crate::block_map::number_at;
+use pdp_words::{BLOCK, Image};
+use vol_layout::{Form, Geometry};
+
+/// Puts bytes of file `i` from byte `at` on, all in one logical block, for which a block is named.
+fn put_piece(image: &mut Image, geometry: &Geometry, i: u16, form: Form, at: usize, piece: &[u8])
+    requires form { form ≡ form_at geometry.now image.old i }
+    requires file { IsFile geometry.now image.old i }
+    requires sound { HasSoundFiles geometry.now image.old }
+    requires near { at < 2 ^ 32 }
+    requires room { at % 512 + length piece.now ≤ 512 }
+    requires zone { in_zone geometry.now (stored geometry.now image.old i form (at / 512)) ≡ true }
+    ensures { (content : ℕ → ℕ) (blocks : List ℕ) → IsSoundWith geometry.now image.old blocks
+        → ((n : ℕ) → n < length piece.now → slice_index piece.now n ≡ content (at + n))
+        → Rewrites geometry.now image.old image.new i at (at + length piece.now) content blocks }
+{
+    let block = number_at(image, geometry, i, form, (at / BLOCK) as u32);
+    image.put_bytes(BLOCK * block as usize + at % BLOCK, piece);
+}
+
+/// Makes bytes of file `i` from byte `at` on zero, all in one logical block; a hole stays one.
+fn clear_piece(image: &mut Image, geometry: &Geometry, i: u16, form: Form, at: usize, count: usize)
+    requires form { form ≡ form_at geometry.now image.old i }
+    requires file { IsFile geometry.now image.old i }
+    requires sound { HasSoundFiles geometry.now image.old }
+    requires near { at < 2 ^ 32 }
+    requires room { at % 512 + count ≤ 512 }
+    ensures { (blocks : List ℕ) → IsSoundWith geometry.now image.old blocks
+        → Rewrites geometry.now image.old image.new i at (at + count) zeros_at blocks }
+{
+    let block = number_at(image, geometry, i, form, (at / BLOCK) as u32);
+    if block != 0 {
+        let start = BLOCK * block as usize + at % BLOCK;
+        image.clear(start, start + count);
+    }
+}
+
+/// Puts `text` as the bytes of file `i` from byte `offset` on, where a block is named for each.
+pub(crate) fn put_text(
+    image: &mut Image,
+    geometry: &Geometry,
+    i: u16,
+    form: Form,
+    offset: u32,
+    text: &[u8],
+)
+    requires form { form ≡ form_at geometry.now image.old i }
+    requires file { IsFile geometry.now image.old i }
+    requires sound { HasSoundFiles geometry.now image.old }
+    requires range { offset + length text.now < 2 ^ 32 }
+    requires zone { (n : ℕ) → n < length text.now
+        → in_zone geometry.now (stored geometry.now image.old i form ((offset + n) / 512)) ≡ true }
+    ensures { (blocks : List ℕ) → IsSoundWith geometry.now image.old blocks
+        → Rewrites geometry.now image.old image.new i offset (offset + length text.now) (text_at offset text.now) blocks }
+{
+    let mut done = 0;
+    while done < text.len() {
+        let at = offset as usize + done;
+        let count = (BLOCK - at % BLOCK).min(text.len() - done);
+        put_piece(image, geometry, i, form, at, &text[done..done + count]);
+        done += count;
+    }
+}
+
+/// Makes the bytes of file `i` from byte `from` up to `to` zero; holes stay.
+pub(crate) fn clear_between(
+    image: &mut Image,
+    geometry: &Geometry,
+    i: u16,
+    form: Form,
+    from: u32,
+    to: u32,
+)
+    requires form { form ≡ form_at geometry.now image.old i }
+    requires file { IsFile geometry.now image.old i }
+    requires sound { HasSoundFiles geometry.now image.old }
+    requires order { from ≤ to }
+    ensures { (blocks : List ℕ) → IsSoundWith geometry.now image.old blocks
+        → Rewrites geometry.now image.old image.new i from to zeros_at blocks }
+{
+    let mut at = from as usize;
+    let end = to as usize;
+    while at < end {
+        let count = (BLOCK - at % BLOCK).min(end - at);
+        clear_piece(image, geometry, i, form, at, count);
+        at += count;
+    }
+}

@@ -1,0 +1,94 @@
+//! Reading the bytes of a file.
+ghost use Rattle.std.specs.Prelude.{◌≡◌, ℕ, ◌+◌, ◌-◌, ◌^◌, ◌<◌, ◌≤◌, min, length, take, drop, slice_index, slice_range};
+ghost use Rattle.vol_layout.specs.Geometry.{Fits};
+ghost use Rattle.vol_layout.specs.Names.{form_at};
+ghost use Rattle.vol_layout.specs.Body.{zone_byte, body_byte, body_size, body};
+
+use crate::block_map::number_at;
+use pdp_words::{BLOCK, Image};
+use vol_layout::i_list::{mode, size};
+use vol_layout::{Form, Geometry};
+
+/// Reads the bytes of i-node `i`, from 1 to the last, from byte `offset` on, as many as `buffer` has
+/// room for, and answers how many: none at the end and past it. The rest of `buffer` stays. Holes, and
+/// numbers outside the data zone, read as zeros; so does all of an i-node that is no regular file or
+/// directory.
+///
+/// Costs a copy of the bytes, and for each logical block its way.
+pub fn read(image: &Image, geometry: &Geometry, i: u16, offset: u32, buffer: &mut [u8]) -> usize
+    requires fits { Fits geometry.now image.now }
+    requires first { 1 ≤ i }
+    requires last { i ≤ geometry.now.last_inode }
+    ensures count { result ≡ min (length buffer.old) (body_size geometry.now image.now i - offset) }
+    ensures bytes { take result buffer.new ≡ slice_range (body geometry.now image.now i) offset (offset + result) }
+    ensures rest { drop result buffer.new ≡ drop result buffer.old }
+{
+    let length = body_length(image, geometry, i);
+    if length <= offset {
+        return 0;
+    }
+    let count = buffer.len().min((length - offset) as usize);
+    let form = Form::of(geometry.edition, mode(image, geometry, i));
+    read_whole(image, geometry, i, form, offset, &mut buffer[..count]);
+    count
+}
+
+/// How many bytes the body of i-node `i` has: its size, cut at the greatest.
+fn body_length(image: &Image, geometry: &Geometry, i: u16) -> u32
+    requires fits { Fits geometry.now image.now }
+    requires first { 1 ≤ i }
+    requires last { i ≤ geometry.now.last_inode }
+    ensures { result ≡ body_size geometry.now image.now i }
+{
+    size(image, geometry, i).min(geometry.edition.constants().greatest)
+}
+
+/// Fills `buffer` with the bytes of i-node `i` from byte `offset` on.
+fn read_whole(
+    image: &Image,
+    geometry: &Geometry,
+    i: u16,
+    form: Form,
+    offset: u32,
+    buffer: &mut [u8],
+)
+    requires fits { Fits geometry.now image.now }
+    requires first { 1 ≤ i }
+    requires last { i ≤ geometry.now.last_inode }
+    requires form { form ≡ form_at geometry.now image.now i }
+    requires range { offset + length buffer.old < 2 ^ 32 }
+    ensures { (n : ℕ) → n < length buffer.old
+        → slice_index buffer.new n ≡ body_byte geometry.now image.now i (offset + n) }
+{
+    let mut done = 0;
+    while done < buffer.len() {
+        let at = offset as usize + done;
+        let block = number_at(image, geometry, i, form, (at / BLOCK) as u32);
+        let start = at % BLOCK;
+        let count = (BLOCK - start).min(buffer.len() - done);
+        read_piece(
+            image,
+            geometry,
+            block,
+            start,
+            &mut buffer[done..done + count],
+        );
+        done += count;
+    }
+}
+
+/// Fills `piece` with bytes of block `k` from its byte `start` on, or with zeros where `k` is no data
+/// block.
+#[tactic(auto, unfolding(vol_layout::specs::Body::zone_byte))]
+fn read_piece(image: &Image, geometry: &Geometry, k: u32, start: usize, piece: &mut [u8])
+    requires fits { Fits geometry.now image.now }
+    requires range { start + length piece.old ≤ 512 }
+    ensures { (n : ℕ) → n < length piece.old → slice_index piece.new n ≡ zone_byte geometry.now image.now k (start + n) }
+{
+    if geometry.in_zone(k) {
+        let block = image.block(k);
+        piece.copy_from_slice(&block[start..start + piece.len()]);
+    } else {
+        piece.fill(0);
+    }
+}

@@ -1,0 +1,121 @@
+//! Truncating a file to nothing: its blocks go back to the free list.
+ghost use Rattle.std.specs.Prelude.{◌≡◌, ℕ, ◌+◌, ◌*◌, ◌≤◌, List, [], ◌∷◌};
+ghost use Rattle.vol_layout.specs.Geometry.{Fits};
+ghost use Rattle.vol_layout.specs.Names.{form_at, IsFile, named};
+ghost use Rattle.vol_layout.specs.Places.{first_count, levels};
+ghost use Rattle.vol_file.specs.Rules.{IsSoundWith, HasSoundFiles};
+ghost use Rattle.vol_file.specs.Changes.{blocks_of, Truncates};
+ghost use Rattle.vol_file.specs.Clears.{IsUnder, Clears, Drops, HasEntry, HasAddress, HasNode, ClearsBelow};
+
+use pdp_words::{BLOCK, Image};
+use vol_free::give;
+use vol_layout::i_list::{address, mode};
+use vol_layout::{Edition, Form, Geometry, number, put_address, put_mode, put_number, put_size};
+
+/// Truncates file `i` to nothing: it has no bytes and names no block any more. Its blocks go back to
+/// the free list, from its last place to its first, so that the next to be taken is the one that its
+/// first place named. In the sixth edition the large flag goes, and the rest of the mode stays. Takes
+/// no memory.
+///
+/// Costs one read for each entry of the file's pointer blocks, and two writes for each of its blocks.
+pub fn truncate(image: &mut Image, geometry: &Geometry, i: u16)
+    requires file { IsFile geometry.now image.old i }
+    requires sound { HasSoundFiles geometry.now image.old }
+    ensures truncated { (blocks : List ℕ) → IsSoundWith geometry.now image.old blocks
+        → Truncates geometry.now image.old image.new i blocks }
+    ensures sound { HasSoundFiles geometry.now image.new }
+    ensures fits { Fits geometry.now image.new }
+{
+    let mode = mode(image, geometry, i);
+    clear_addresses(image, geometry, i, Form::of(geometry.edition, mode));
+    put_size(image, geometry, i, 0);
+    match geometry.edition {
+        Edition::V6 => put_mode(image, geometry, i, mode.with_large(false)),
+        Edition::V7 => {}
+    }
+}
+
+/// Makes all addresses of file `i` 0, the last one first, and gives back what they lead to.
+fn clear_addresses(image: &mut Image, geometry: &Geometry, i: u16, form: Form)
+    requires file { IsFile geometry.now image.old i }
+    requires sound { HasSoundFiles geometry.now image.old }
+    requires form { form ≡ form_at geometry.now image.old i }
+    ensures { (blocks : List ℕ) → IsSoundWith geometry.now image.old blocks
+        → Clears geometry.now image.old image.new i (IsUnder [] 0) (blocks_of geometry.now image.old i) blocks }
+{
+    let mut k = address_count(form);
+    while k > 0 {
+        k -= 1;
+        let b = address(image, geometry, i, k);
+        if b != 0 {
+            clear_below(image, geometry, b, levels(form, k));
+            drop_address(image, geometry, i, k, b);
+        }
+    }
+}
+
+/// How many addresses of an i-node are places of its file.
+fn address_count(form: Form) -> usize
+    ensures { result ≡ first_count form }
+{
+    match form {
+        Form::Small | Form::Large => 8,
+        Form::Deep => 13,
+        Form::Bare => 0,
+    }
+}
+
+/// How many levels of pointer blocks stand between address `k` and the data.
+fn levels(form: Form, k: usize) -> u32
+    requires { k ≤ 12 }
+    ensures { result ≡ levels form k }
+{
+    match form {
+        Form::Large if k == 7 => 2,
+        Form::Large => 1,
+        Form::Deep if k > 9 => k as u32 - 9,
+        _ => 0,
+    }
+}
+
+/// Makes all entries of block `m` 0, the last one first, and gives back what they lead to. Block `m` is
+/// named by a place with `level` levels below it; where there is none, nothing is done.
+fn clear_below(image: &mut Image, geometry: &Geometry, m: u32, level: u32)
+    requires { HasNode geometry.now image.old m level }
+    ensures { ClearsBelow geometry.now image.old image.new m level }
+{
+    if level == 0 {
+        return;
+    }
+    let mut j = geometry.edition.constants().pointers;
+    while j > 0 {
+        j -= 1;
+        let b = number(image, geometry.edition, BLOCK * m as usize, j as usize);
+        if b != 0 {
+            clear_below(image, geometry, b, level - 1);
+            drop_entry(image, geometry, m, j, b);
+        }
+    }
+}
+
+/// Makes entry `j` of block `m` 0, and gives back block `b`, which it named.
+fn drop_entry(image: &mut Image, geometry: &Geometry, m: u32, j: u32, b: u32)
+    requires { HasEntry geometry.now image.old m j b }
+    ensures { (i a : ℕ) (p blocks : List ℕ) → named geometry.now image.old i (a ∷ p) ≡ m
+        → Drops geometry.now image.old image.new i (j ∷ (a ∷ p)) b blocks }
+{
+    put_number(image, geometry.edition, BLOCK * m as usize, j as usize, 0);
+    give(image, geometry, b);
+}
+
+/// Makes address `k` of file `i` 0, and gives back block `b`, which it named.
+fn drop_address(image: &mut Image, geometry: &Geometry, i: u16, k: usize, b: u32)
+    requires { HasAddress geometry.now image.old i k b }
+    ensures { (blocks : List ℕ) → Drops geometry.now image.old image.new i (k ∷ []) b blocks }
+{
+    put_address(image, geometry, i, k, 0);
+    give(image, geometry, b);
+}
+
+#[cfg(test)]
+mod tests;

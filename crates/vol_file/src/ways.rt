@@ -1,0 +1,156 @@
+//! Naming blocks: giving each place on the way of a logical block a block where it has none.
+ghost use Rattle.std.specs.Prelude.{◌≡◌, ℕ, ◌+◌, ◌-◌, ◌*◌, ◌<◌, ◌≤◌, Bool, true, List, [], ◌∷◌};
+ghost use Rattle.vol_layout.specs.Edition.{constants};
+ghost use Rattle.vol_layout.specs.Names.{form_at};
+ghost use Rattle.vol_file.specs.Steps.{
+  Reaches,
+  IsWanted,
+  MayName,
+  IsNext,
+  MayNameEntry,
+  WantsWay,
+  MayNameWay,
+  NamesWay,
+  WantsWays,
+  MayNameWays,
+  NamesWays,
+};
+
+use pdp_words::{BLOCK, Image};
+use vol_free::take;
+use vol_layout::i_list::address;
+use vol_layout::{Form, Geometry, number, put_address, put_number};
+
+/// The block that address `k` of i-node `i` names: if it names none, the first free block, which it
+/// names from then on.
+fn name_address(image: &mut Image, geometry: &Geometry, i: u16, k: usize) -> u32
+    requires may { MayName geometry.now image.old i (k ∷ []) }
+    ensures { (wanted : List ℕ → Bool) (blocks : List ℕ) → IsWanted geometry.now image.old i wanted (k ∷ []) blocks
+        → Reaches geometry.now image.old image.new i wanted (k ∷ []) blocks result }
+{
+    let named = address(image, geometry, i, k);
+    if named != 0 {
+        return named;
+    }
+    match take(image, geometry) {
+        None => 0,
+        Some(b) => {
+            put_address(image, geometry, i, k, b);
+            b
+        }
+    }
+}
+
+/// The block that entry `j` of pointer block `m` names: if it names none, the first free block, which
+/// it names from then on.
+fn name_entry(image: &mut Image, geometry: &Geometry, m: u32, j: u32) -> u32
+    requires may { MayNameEntry geometry.now image.old m j }
+    ensures { (old : List ℕ) (i : ℕ) (wanted : List ℕ → Bool) (a : ℕ) (p blocks : List ℕ)
+        → IsNext geometry.now old image.old i wanted j a p blocks m
+        → Reaches geometry.now old image.new i wanted (j ∷ (a ∷ p)) blocks result }
+{
+    let at = BLOCK * m as usize;
+    let named = number(image, geometry.edition, at, j as usize);
+    if named != 0 {
+        return named;
+    }
+    match take(image, geometry) {
+        None => 0,
+        Some(b) => {
+            put_number(image, geometry.edition, at, j as usize, b);
+            b
+        }
+    }
+}
+
+/// Names what is missing on the way of logical block `b` of file `i`, from the i-node down.
+fn name_way(image: &mut Image, geometry: &Geometry, i: u16, form: Form, b: u32)
+    requires form { form ≡ form_at geometry.now image.old i }
+    requires may { MayNameWay geometry.now image.old i b }
+    ensures { (wanted : List ℕ → Bool) (blocks : List ℕ) → WantsWay geometry.now image.old i wanted b blocks
+        → NamesWay geometry.now image.old image.new i wanted b blocks }
+{
+    match form {
+        Form::Small => {
+            name_address(image, geometry, i, b as usize);
+        }
+        Form::Large => name_way_in_large(image, geometry, i, b),
+        Form::Deep if b < 138 => name_short_way(image, geometry, i, b),
+        Form::Deep => name_long_way(image, geometry, i, b),
+        Form::Bare => {}
+    }
+}
+
+/// The same in a large file of the sixth edition.
+fn name_way_in_large(image: &mut Image, geometry: &Geometry, i: u16, b: u32)
+    requires form { form_at geometry.now image.old i ≡ Form.Large }
+    requires may { MayNameWay geometry.now image.old i b }
+    ensures { (wanted : List ℕ → Bool) (blocks : List ℕ) → WantsWay geometry.now image.old i wanted b blocks
+        → NamesWay geometry.now image.old image.new i wanted b blocks }
+{
+    if b < 1792 {
+        let indirect = name_address(image, geometry, i, (b / 256) as usize);
+        name_entry(image, geometry, indirect, b % 256);
+    } else {
+        let double = name_address(image, geometry, i, 7);
+        let indirect = name_entry(image, geometry, double, b / 256 - 7);
+        name_entry(image, geometry, indirect, b % 256);
+    }
+}
+
+/// The same in the seventh edition, for a logical block that no doubly indirect block leads to.
+fn name_short_way(image: &mut Image, geometry: &Geometry, i: u16, b: u32)
+    requires form { form_at geometry.now image.old i ≡ Form.Deep }
+    requires short { b < 138 }
+    requires may { MayNameWay geometry.now image.old i b }
+    ensures { (wanted : List ℕ → Bool) (blocks : List ℕ) → WantsWay geometry.now image.old i wanted b blocks
+        → NamesWay geometry.now image.old image.new i wanted b blocks }
+{
+    if b < 10 {
+        name_address(image, geometry, i, b as usize);
+    } else {
+        let indirect = name_address(image, geometry, i, 10);
+        name_entry(image, geometry, indirect, b - 10);
+    }
+}
+
+/// The same for a logical block that a doubly or triply indirect block leads to.
+fn name_long_way(image: &mut Image, geometry: &Geometry, i: u16, b: u32)
+    requires form { form_at geometry.now image.old i ≡ Form.Deep }
+    requires long { 138 ≤ b }
+    requires may { MayNameWay geometry.now image.old i b }
+    ensures { (wanted : List ℕ → Bool) (blocks : List ℕ) → WantsWay geometry.now image.old i wanted b blocks
+        → NamesWay geometry.now image.old image.new i wanted b blocks }
+{
+    if b < 16_522 {
+        let double = name_address(image, geometry, i, 11);
+        let indirect = name_entry(image, geometry, double, (b - 138) / 128);
+        name_entry(image, geometry, indirect, (b - 138) % 128);
+    } else {
+        let c = b - 16_522;
+        let triple = name_address(image, geometry, i, 12);
+        let double = name_entry(image, geometry, triple, c / 16_384);
+        let indirect = name_entry(image, geometry, double, c / 128 % 128);
+        name_entry(image, geometry, indirect, c % 128);
+    }
+}
+
+/// Names what is missing on the ways of the logical blocks of file `i` from `from` up to `to`.
+pub(crate) fn name_ways(
+    image: &mut Image,
+    geometry: &Geometry,
+    i: u16,
+    form: Form,
+    from: u32,
+    to: u32,
+)
+    requires form { form ≡ form_at geometry.now image.old i }
+    requires order { from ≤ to }
+    requires may { MayNameWays geometry.now image.old i from (to - from) }
+    ensures { (wanted : List ℕ → Bool) (blocks : List ℕ) → WantsWays geometry.now image.old i wanted from (to - from) blocks
+        → NamesWays geometry.now image.old image.new i wanted from (to - from) blocks }
+{
+    for b in from..to {
+        name_way(image, geometry, i, form, b);
+    }
+}

@@ -1,0 +1,122 @@
+//! Writing the bytes of a file, where it is made longer if it must be.
+ghost use Rattle.std.specs.Prelude.{◌≡◌, ℕ, ◌+◌, ◌-◌, ◌*◌, ◌/◌, ◌<◌, ◌≤◌, true, false, List, length};
+ghost use Rattle.std.specs.List.{range_with_len};
+ghost use Rattle.vol_layout.specs.Edition.{constants};
+ghost use Rattle.vol_layout.specs.Places.{block_limit};
+ghost use Rattle.vol_layout.specs.Names.{form_at, IsFile, stored};
+ghost use Rattle.vol_layout.specs.Geometry.{in_zone, Fits};
+ghost use Rattle.vol_file.specs.Need.{need};
+ghost use Rattle.vol_file.specs.Changes.{Writes};
+ghost use Rattle.vol_file.specs.Rules.{IsSoundWith, HasSoundFiles};
+ghost use Rattle.vol_file.specs.Steps.{MayEnlarge, Enlarges, HasRoom, MayFill, Fills, Puts};
+
+use crate::pieces::{clear_between, put_text};
+use crate::ways::name_ways;
+use pdp_words::{BLOCK, Image};
+use vol_free::take;
+use vol_layout::i_list::{mode, size};
+use vol_layout::{
+    Form, Geometry, clear_addresses, copy_addresses, put_address, put_mode, put_size,
+};
+
+/// Makes the small file `i` large: the first free block gets its eight addresses, and the first address
+/// names that block then. Nothing is done where no block is free.
+fn make_large(image: &mut Image, geometry: &Geometry, i: u16)
+    requires form { form_at geometry.now image.old i ≡ Form.Small }
+    requires may { MayEnlarge geometry.now image.old i }
+    ensures { (blocks : List ℕ) → IsSoundWith geometry.now image.old blocks → 1 ≤ length blocks
+        → Enlarges geometry.now image.old image.new i blocks }
+{
+    let large = mode(image, geometry, i).with_large(true);
+    match take(image, geometry) {
+        None => {}
+        Some(b) => {
+            copy_addresses(image, geometry, i, BLOCK * b as usize);
+            clear_addresses(image, geometry, i);
+            put_address(image, geometry, i, 0, b);
+            put_mode(image, geometry, i, large);
+        }
+    }
+}
+
+/// Names what is missing on the ways of the logical blocks of file `i` from `from` up to `to`. A small
+/// file is made large first, where the last of them is its ninth or later.
+fn name_blocks(image: &mut Image, geometry: &Geometry, i: u16, from: u32, to: u32)
+    requires order { from < to }
+    requires greatest { 512 * to < (constants geometry.now.edition).greatest + 512 }
+    requires may { MayFill geometry.now image.old i from to }
+    ensures filled { (blocks : List ℕ) → HasRoom geometry.now image.old i from to blocks
+        → Fills geometry.now image.old image.new i (range_with_len from (to - from)) blocks }
+    ensures limit { to ≤ block_limit (form_at geometry.now image.new i) }
+{
+    let form = Form::of(geometry.edition, mode(image, geometry, i));
+    if becomes_large(form, to) {
+        make_large(image, geometry, i);
+        name_ways(image, geometry, i, Form::Large, from, to);
+    } else {
+        name_ways(image, geometry, i, form, from, to);
+    }
+}
+
+/// Whether a file with `to` logical blocks has to become large: a small file has eight.
+fn becomes_large(form: Form, to: u32) -> bool
+    ensures small { result ≡ true → form ≡ Form.Small }
+    ensures past { result ≡ true → 8 < to }
+    ensures not { result ≡ false → form ≡ Form.Small → to ≤ 8 }
+{
+    match form {
+        Form::Small => 8 < to,
+        Form::Large | Form::Deep | Form::Bare => false,
+    }
+}
+
+/// Puts `text` in file `i` from byte `offset` on, where a block is named for each of its bytes: zeros
+/// between the size and the offset, then the text, then the size.
+fn put_in_blocks(image: &mut Image, geometry: &Geometry, i: u16, offset: u32, text: &[u8])
+    requires file { IsFile geometry.now image.old i }
+    requires sound { HasSoundFiles geometry.now image.old }
+    requires greatest { offset + length text.now ≤ (constants geometry.now.edition).greatest }
+    requires small { form_at geometry.now image.old i ≡ Form.Small → offset + length text.now ≤ 4096 }
+    requires zone { (n : ℕ) → n < length text.now
+        → in_zone geometry.now (stored geometry.now image.old i (form_at geometry.now image.old i) ((offset + n) / 512)) ≡ true }
+    ensures { (blocks : List ℕ) → IsSoundWith geometry.now image.old blocks
+        → Puts geometry.now image.old image.new i offset text.now blocks }
+{
+    let form = Form::of(geometry.edition, mode(image, geometry, i));
+    let before = size(image, geometry, i);
+    clear_between(image, geometry, i, form, before.min(offset), offset);
+    put_text(image, geometry, i, form, offset, text);
+    put_size(image, geometry, i, before.max(offset + text.len() as u32));
+}
+
+/// Writes `text` in file `i` from byte `offset` on, up to the edition's greatest size. Where the file
+/// is shorter than `offset`, zeros stand between. Blocks are taken from the front of the free list, for
+/// each place that names none: in the sixth edition first the block that makes a small file large, then
+/// for each logical block in turn what is missing on its way, from the i-node down. The size grows
+/// where it must; a write of no bytes changes nothing.
+///
+/// Costs a copy of `text`, and the way of each logical block that it touches, and of each between the
+/// old size and `offset`.
+pub fn write(image: &mut Image, geometry: &Geometry, i: u16, offset: u32, text: &[u8])
+    requires file { IsFile geometry.now image.old i }
+    requires sound { HasSoundFiles geometry.now image.old }
+    requires greatest { offset + length text.now ≤ (constants geometry.now.edition).greatest }
+    requires room { (blocks : List ℕ) → IsSoundWith geometry.now image.old blocks
+        → need geometry.now image.old i offset (length text.now) ≤ length blocks }
+    ensures nothing { length text.now ≡ 0 → image.new ≡ image.old }
+    ensures written { 1 ≤ length text.now → (blocks : List ℕ) → IsSoundWith geometry.now image.old blocks
+        → Writes geometry.now image.old image.new i offset text.now blocks }
+    ensures sound { HasSoundFiles geometry.now image.new }
+    ensures fits { Fits geometry.now image.new }
+    ensures file { IsFile geometry.now image.new i }
+{
+    if text.is_empty() {
+        return;
+    }
+    let end = offset + text.len() as u32;
+    name_blocks(image, geometry, i, offset / 512, (end - 1) / 512 + 1);
+    put_in_blocks(image, geometry, i, offset, text);
+}
+
+#[cfg(test)]
+mod tests;

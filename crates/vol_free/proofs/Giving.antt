@@ -1,0 +1,131 @@
+-- What giving a block to the free list does to its stack.
+use Rattle.std.proofs.Common.{◌≡◌, ℕ, ◌+◌, ◌*◌, ◌<◌, ◌≤◌, inl, inr, true, List, [], ◌∷◌, refl, ◌∙◌, arith}
+use Rattle.pdp_words.specs.Words.{word, SameOutside}
+use Rattle.vol_layout.specs.Edition.{constants, number}
+use Rattle.vol_layout.specs.Geometry.{in_zone}
+use Rattle.vol_layout.specs.Super.{free_head}
+use Rattle.vol_layout.specs.declared.geometry.Geometry.{Geometry}
+use Rattle.vol_layout.specs.declared.edition.Edition.{Edition}
+use Rattle.vol_layout.specs.declared.edition.Edition.TheVariants.{V6, V7}
+use Rattle.vol_free.specs.Stack.{IsIn, Once, IsFree, HasStack, StaysBut}
+use Rattle.vol_free.proofs.Copies.{IsCopy, word_copied, number_copied, copied_twice, copied_above}
+use Rattle.vol_free.proofs.Stacks.{IsStack-moved, IsFree_unique, array_copied, stack_none, stack_above, stack_chained, stack_zero, zone_from, head_end}
+use Rattle.vol_free.proofs.Frames.{free_from, kept_apart}
+
+-- the free blocks keep their first bytes where one that isn't free is written
+pub others_kept : {geometry : Geometry} {old new : List ℕ} {b size : ℕ} {blocks : List ℕ} → IsFree geometry old blocks → 2 ≤ geometry.zone_start
+    → StaysBut geometry old new b size → size ≤ 512 → (IsIn b blocks → ⊥) → (c : ℕ) → IsIn c blocks → IsCopy old new (512 * c) (512 * c) 202
+others_kept free low s small fresh c i =
+    let from = free_from free c i in
+    kept_apart s small c (omega arith) (λ same. fresh (rw same i))
+
+-- one more number comes once
+pub more_once : (b : ℕ) (blocks : List ℕ) → (IsIn b blocks → ⊥) → Once blocks → Once (b ∷ blocks)
+unfolding Once
+more_once b blocks fresh once = (fresh, once)
+
+-- there are at least two numbers in an array
+pub slots_above : (edition : Edition) → 2 ≤ (constants edition).free_slots
+slots_above V6 = omega arith
+slots_above V7 = omega arith
+
+-- block b was put as number `count` of the head, whose count is one more then, and whose earlier numbers stayed
+pub record IsPushed (geometry : Geometry) (old new : List ℕ) (count b : ℕ) : Type 0 where
+  pub more : word new (free_head geometry.edition) ≡ count + 1
+  pub put : number geometry.edition new (free_head geometry.edition + 2) count ≡ b
+  pub kept : (j : ℕ) → j < count → number geometry.edition new (free_head geometry.edition + 2) j
+      ≡ number geometry.edition old (free_head geometry.edition + 2) j
+
+-- giving puts the block above the numbers of an array that isn't full
+pub pushed_above : (geometry : Geometry) (old new : List ℕ) (b n : ℕ) (blocks : List ℕ) → 2 ≤ geometry.zone_start → in_zone geometry b ≡ true
+    → (IsIn b blocks → ⊥) → IsFree geometry old blocks → StaysBut geometry old new b 202
+    → word old (free_head geometry.edition) ≡ n → (n ≡ 0 → ⊥) → n < (constants geometry.edition).free_slots
+    → IsPushed geometry old new n b → IsFree geometry new (b ∷ blocks)
+pushed_above geometry old new b n blocks low zone fresh free stays is some room pushed =
+    let stack = rw is at free.stack in
+    record {
+      count = omega (arith, pushed.more);
+      stack = rw pushed.more (stack_above geometry new (free_head geometry.edition) n (n + 1) b blocks refl (omega arith) pushed.put zone
+          (IsStack-moved geometry old new (free_head geometry.edition) (free_head geometry.edition) n blocks
+          pushed.kept (others_kept free low stays (omega arith) fresh) stack));
+      once = more_once b blocks fresh free.once;
+    }
+
+-- giving to a list whose head has no number begins with number 0, which is 0
+pub pushed_first : (geometry : Geometry) (old mid new : List ℕ) (b : ℕ) (blocks : List ℕ) → 2 ≤ geometry.zone_start → in_zone geometry b ≡ true
+    → IsFree geometry old blocks → word old (free_head geometry.edition) ≡ 0
+    → number geometry.edition mid (free_head geometry.edition + 2) 0 ≡ 0
+    → IsPushed geometry mid new 1 b → (IsIn b blocks → ⊥) → IsFree geometry new (b ∷ blocks)
+pushed_first geometry old mid new b [] low zone free none zero pushed fresh =
+    let slots : 2 ≤ (constants geometry.edition).free_slots = slots_above geometry.edition in
+    record {
+      count = omega (arith, pushed.more);
+      stack = rw pushed.more (stack_above geometry new (free_head geometry.edition) 1 2 b [] (omega arith) (omega arith) pushed.put zone
+          (stack_zero geometry new (free_head geometry.edition) (pushed.kept 0 (omega arith) ∙ zero)));
+      once = more_once b [] fresh free.once;
+    }
+pushed_first geometry old mid new b (c ∷ rest) low zone free none zero pushed fresh =
+    let empty : c ∷ rest ≡ [] = stack_none geometry old (free_head geometry.edition) (word old (free_head geometry.edition)) (c ∷ rest)
+    (omega arith) free.stack (inl none) in absurd (cc)
+
+-- giving to a full array moves the head into the block, which is number 0 then
+pub pushed_chained : (geometry : Geometry) (old mid new : List ℕ) (b : ℕ) (blocks : List ℕ) → 2 ≤ geometry.zone_start → in_zone geometry b ≡ true
+    → (IsIn b blocks → ⊥) → IsFree geometry old blocks → StaysBut geometry old new b 202
+    → IsCopy old mid (free_head geometry.edition) (512 * b) 202
+    → SameOutside mid new (free_head geometry.edition) (free_head geometry.edition + 202)
+    → IsPushed geometry mid new 0 b → IsFree geometry new (b ∷ blocks)
+pushed_chained geometry old mid new b blocks low zone fresh free stays copy outside pushed =
+    let slots : 2 ≤ (constants geometry.edition).free_slots = slots_above geometry.edition in
+    let end : free_head geometry.edition + 202 ≤ 720 = head_end geometry.edition in
+    let from : geometry.zone_start ≤ b = zone_from geometry b zone in
+    let head : IsCopy old new (free_head geometry.edition) (512 * b) 202 =
+    copied_twice copy (copied_above outside (512 * b) 202 (omega arith)) in
+    let count : word new (512 * b) ≡ word old (free_head geometry.edition) =
+    word_copied head (512 * b) (free_head geometry.edition) 0 (omega arith) (omega arith) (omega arith) in
+    record {
+      count = omega (arith, pushed.more);
+      stack = rw pushed.more (stack_chained geometry new (free_head geometry.edition) 1 b blocks refl pushed.put zone
+          (omega (arith, count, free.count))
+          (rw count (IsStack-moved geometry old new (free_head geometry.edition) (512 * b) (word old (free_head geometry.edition)) blocks
+          (λ j h. number_copied geometry.edition (array_copied head) j (omega (arith, free.count)))
+          (others_kept free low stays (omega arith) fresh) free.stack)));
+      once = more_once b blocks fresh free.once;
+    }
+
+-- a write within the head leaves alone what lies outside it, and all but the head and block b
+pub head_stays : {geometry : Geometry} {old new : List ℕ} {b size : ℕ} → 2 ≤ b
+    → SameOutside old new (free_head geometry.edition) (free_head geometry.edition + 202) → StaysBut geometry old new b size
+head_stays {geometry = geometry} two s =
+    let end : free_head geometry.edition + 202 ≤ 720 = head_end geometry.edition in
+    record { len = s.len; below = s.below; between = λ k h less. s.above k h; above = λ k h. s.above k (omega arith) }
+
+-- a copy of the head into block b, and a write within the head, leave alone all but both
+pub chained_stays : {geometry : Geometry} {old mid new : List ℕ} {b : ℕ} → 2 ≤ b → SameOutside old mid (512 * b) (512 * b + 202)
+    → SameOutside mid new (free_head geometry.edition) (free_head geometry.edition + 202) → StaysBut geometry old new b 202
+chained_stays {geometry = geometry} two s t =
+    let end : free_head geometry.edition + 202 ≤ 720 = head_end geometry.edition in
+    record {
+      len = t.len ∙ s.len;
+      below = λ k h. t.below k h ∙ s.below k (omega arith);
+      between = λ k h less. t.above k h ∙ s.below k less;
+      above = λ k h. t.above k (omega arith) ∙ s.above k h;
+    }
+
+-- nothing is among the free blocks of an empty list
+pub none_free : {geometry : Geometry} {image blocks : List ℕ} → 1 ≤ geometry.zone_start → IsFree geometry image [] → IsFree geometry image blocks
+    → (b : ℕ) → IsIn b blocks → ⊥
+unfolding IsIn
+none_free {blocks = blocks} low none free b i =
+    let same : blocks ≡ [] = IsFree_unique low free none in
+    let there = rw same at i in absurd there
+
+-- where no free block stands before b, none does once b is given
+pub given_from : {geometry : Geometry} {old new : List ℕ} (b : ℕ) → 1 ≤ geometry.zone_start → HasStack geometry old
+    → ((blocks : List ℕ) → IsFree geometry old blocks → IsFree geometry new (b ∷ blocks))
+    → ((blocks : List ℕ) → IsFree geometry old blocks → (c : ℕ) → IsIn c blocks → b ≤ c)
+    → (blocks : List ℕ) → IsFree geometry new blocks → (c : ℕ) → IsIn c blocks → b ≤ c
+unfolding IsIn
+given_from b low has pushed above blocks free c i =
+    let same : blocks ≡ b ∷ has.blocks = IsFree_unique low free (pushed has.blocks has.free) in
+    let there = rw same at i in
+    elim there [ inl first ↦ omega arith | inr later ↦ above has.blocks has.free c later ]

@@ -1,0 +1,17 @@
+use Rattle.std.proofs.Common.{ℕ, ◌+◌, ◌-◌, ◌≤◌, List, length}
+use Rattle.vol_layout.specs.Edition.{constants}
+use Rattle.vol_free.specs.Stack.{IsFree}
+use Rattle.vol_free.proofs.Counting.{IsLeft}
+use Rattle.vol_free.proofs.free_list.free_count.Given as goal
+
+-- a head stands at `head`, and the blocks that aren't counted are its stack
+abbrev pub invariant-loop-count : goal.invariant-loop-count
+invariant-loop-count l = record {
+  few : l.count ≤ (constants l.geometry.edition).free_slots;
+  room : l.head + 202 ≤ length l.image;
+  left : (blocks : List ℕ) → IsFree l.geometry l.image blocks → IsLeft l.geometry l.image l.head l.count l.total blocks;
+}
+
+-- each block of the chain counts at least one, and no more are free than the zone has
+abbrev pub decreases-loop-count : goal.decreases-loop-count
+decreases-loop-count l = l.geometry.zone_end - l.total

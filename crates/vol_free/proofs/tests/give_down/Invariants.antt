@@ -1,0 +1,13 @@
+use Rattle.std.proofs.Common.{ℕ, ◌≤◌, List}
+use Rattle.vol_layout.specs.Geometry.{Fits}
+use Rattle.vol_free.specs.Stack.{IsIn, IsFree, HasStack}
+use Rattle.vol_free.proofs.tests.give_down.Given as goal
+
+-- the blocks given so far are the free ones, none of them below the last one given
+abbrev pub invariant-loop-block : goal.invariant-loop-block
+invariant-loop-block l = record {
+  low : l.first ≤ l.block;
+  fits : Fits l.geometry l.image;
+  stack : HasStack l.geometry l.image;
+  above : (blocks : List ℕ) → IsFree l.geometry l.image blocks → (b : ℕ) → IsIn b blocks → l.block ≤ b;
+}

@@ -1,0 +1,27 @@
+-- The i-numbers that are free, and the cache of some of them in the super-block.
+use Rattle.std.specs.Prelude.{◌≡◌, ℕ, ◌+◌, ◌*◌, ◌<◌, ◌≤◌, if◌then◌else◌, nat_lt, List, length, slice_index}
+use Rattle.pdp_words.specs.Words.{word}
+use Rattle.vol_layout.specs.Edition.{constants}
+use Rattle.vol_layout.specs.Inode.{inode_place}
+use Rattle.vol_layout.specs.Super.{cache_head}
+use Rattle.vol_layout.specs.declared.edition.Edition.{Edition}
+use Rattle.vol_layout.specs.declared.geometry.Geometry.{Geometry}
+
+-- the i-number may be taken: it is above the root's, the volume has it, and its i-node's mode is 0 (manual section 5, file system)
+pub record IsFreeNumber (geometry : Geometry) (image : List ℕ) (i : ℕ) : Type 0 where
+  pub above : (constants geometry.edition).root < i
+  pub within : i ≤ geometry.last_inode
+  pub mode : word image (inode_place geometry.edition i) ≡ 0
+
+-- how many i-numbers the cache holds: ninode, but none where it is above 100 (filsys.h; a count above 100 is this project's reading)
+abbrev pub cache_len : Edition → List ℕ → ℕ
+cache_len edition image = if nat_lt 100 (word image (cache_head edition)) then 0 else word image (cache_head edition)
+
+-- i-number i was put at place n of the cache, whose count is n + 1 then; all else stays (Lions on ifree)
+pub record Cached (edition : Edition) (old new : List ℕ) (n i : ℕ) : Type 0 where
+  pub count : word new (cache_head edition) ≡ n + 1
+  pub number : word new (cache_head edition + 2 + 2 * n) ≡ i
+  pub len : length new ≡ length old
+  pub below : (k : ℕ) → k < cache_head edition → slice_index new k ≡ slice_index old k
+  pub between : (k : ℕ) → cache_head edition + 2 ≤ k → k < cache_head edition + 2 + 2 * n → slice_index new k ≡ slice_index old k
+  pub above : (k : ℕ) → cache_head edition + 4 + 2 * n ≤ k → slice_index new k ≡ slice_index old k

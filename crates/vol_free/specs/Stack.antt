@@ -1,0 +1,56 @@
+-- The free blocks, which form a stack: the last one given is the first one taken.
+use Rattle.std.specs.Prelude.{◌≡◌, ℕ, ◌+◌, ◌-◌, ◌*◌, ◌<◌, ◌≤◌, ◌⊎◌, true, List, [], ◌∷◌, length, slice_index, Option, None, Some}
+use Rattle.pdp_words.specs.Words.{word}
+use Rattle.vol_layout.specs.Edition.{constants, number}
+use Rattle.vol_layout.specs.Geometry.{in_zone}
+use Rattle.vol_layout.specs.Super.{free_head}
+use Rattle.vol_layout.specs.declared.geometry.Geometry.{Geometry}
+
+-- b is one of the numbers (membership)
+unfoldable pub IsIn : ℕ → List ℕ → Type 0
+IsIn b [] = ⊥
+IsIn b (c ∷ blocks) = (b ≡ c) ⊎ IsIn b blocks
+
+-- no number comes twice (rule 6)
+unfoldable pub Once : List ℕ → Type 0
+Once [] = Unit {0}
+Once (b ∷ blocks) = (IsIn b blocks → ⊥) × Once blocks
+
+-- the blocks are those of the stack whose head stands at byte `at`, where n of its numbers are left: the last of them comes
+-- first, and after number 0 comes the stack that its block begins with, or nothing where number 0 is 0 (filsys.h, fblk.h)
+unfoldable pub IsStack : Geometry → List ℕ → ℕ → ℕ → List ℕ → Type 0
+IsStack geometry image at n [] = (n ≡ 0) ⊎ ((n ≡ 1) × (number geometry.edition image (at + 2) 0 ≡ 0))
+IsStack geometry image at n (b ∷ blocks) =
+    (number geometry.edition image (at + 2) (n - 1) ≡ b) × (in_zone geometry b ≡ true)
+    × (((2 ≤ n) × IsStack geometry image at (n - 1) blocks)
+    ⊎ ((n ≡ 1) × (word image (512 * b) ≤ (constants geometry.edition).free_slots)
+    × IsStack geometry image (512 * b) (word image (512 * b)) blocks))
+
+-- the blocks are the free ones of the volume, the next to be taken first: its stack has its head in the super-block (filsys.h)
+pub record IsFree (geometry : Geometry) (image : List ℕ) (blocks : List ℕ) : Type 0 where
+  pub count : word image (free_head geometry.edition) ≤ (constants geometry.edition).free_slots
+  pub stack : IsStack geometry image (free_head geometry.edition) (word image (free_head geometry.edition)) blocks
+  pub once : Once blocks
+
+-- the volume has a stack of free blocks (rule 6)
+pub record HasStack (geometry : Geometry) (image : List ℕ) : Type 0 where
+  pub blocks : List ℕ
+  pub free : IsFree geometry image blocks
+
+-- the same bytes outside the count and array of the super-block, which have 202 bytes, and the first `size` of block b (a frame)
+pub record StaysBut (geometry : Geometry) (old new : List ℕ) (b size : ℕ) : Type 0 where
+  pub len : length new ≡ length old
+  pub below : (k : ℕ) → k < free_head geometry.edition → slice_index new k ≡ slice_index old k
+  pub between : (k : ℕ) → free_head geometry.edition + 202 ≤ k → k < 512 * b → slice_index new k ≡ slice_index old k
+  pub above : (k : ℕ) → 512 * b + size ≤ k → slice_index new k ≡ slice_index old k
+
+-- block b was taken from the stack: the others are left, its bytes are zero, and all else stays (Lions on alloc)
+pub record Popped (geometry : Geometry) (old new : List ℕ) (b : ℕ) (rest : List ℕ) : Type 0 where
+  pub free : IsFree geometry new rest
+  pub zero : (k : ℕ) → 512 * b ≤ k → k < 512 * b + 512 → slice_index new k ≡ 0
+  pub stays : StaysBut geometry old new b 512
+
+-- what taking from the stack gives and leaves: nothing where it is empty, else its first block (Lions on alloc)
+abbrev pub Pops : Geometry → List ℕ → List ℕ → List ℕ → Option ℕ → Type 0
+Pops geometry old new [] taken = (taken ≡ None) × (new ≡ old)
+Pops geometry old new (b ∷ rest) taken = (taken ≡ Some b) × Popped geometry old new b rest

@@ -1,0 +1,131 @@
+//! The free list: a stack of block numbers. The super-block has a count and an array, and number 0 of
+//! the array is the block that begins with the next count and array, or 0 where there is none.
+ghost use Rattle.std.specs.Prelude.{◌≡◌, ℕ, ◌+◌, ◌*◌, ◌<◌, ◌≤◌, true, List, ◌∷◌, length, slice_index};
+ghost use Rattle.pdp_words.specs.Words.{SameOutside, word};
+ghost use Rattle.vol_layout.specs.Edition.{constants, number};
+ghost use Rattle.vol_layout.specs.Geometry.{Fits, in_zone};
+ghost use Rattle.vol_layout.specs.Super.{free_head};
+ghost use Rattle.vol_free.specs.Stack.{IsIn, IsFree, HasStack, Pops, StaysBut};
+
+use pdp_words::{BLOCK, Image};
+use vol_layout::{Geometry, Super, number};
+
+/// Bytes of a count and its array: 2, and then 100 words in the sixth edition or 50 longs in the seventh.
+const HEAD_BYTES: usize = 202;
+
+/// Takes the first block of the free list, and hands it out zeroed. None where no block is free, and
+/// then the image stays as it was. Takes no memory.
+pub fn take(image: &mut Image, geometry: &Geometry) -> Option<u32>
+    requires fits { Fits geometry.now image.old }
+    requires stack { HasStack geometry.now image.old }
+    ensures popped { (blocks : List ℕ) → IsFree geometry.now image.old blocks
+        → Pops geometry.now image.old image.new blocks result }
+    ensures stack { HasStack geometry.now image.new }
+    ensures fits { Fits geometry.now image.new }
+{
+    let super_block = Super {
+        edition: geometry.edition,
+    };
+    let count = super_block.free_count(image);
+    if count == 0 {
+        return None;
+    }
+    let taken = super_block.free(image, count as usize - 1);
+    if taken == 0 {
+        return None;
+    }
+    let block = BLOCK * taken as usize;
+    if count == 1 {
+        copy_head(image, block, super_block.free_head());
+    } else {
+        super_block.put_free_count(image, count - 1);
+    }
+    image.clear(block, block + BLOCK);
+    Some(taken)
+}
+
+/// Gives data block `b` to the free list, of which it becomes the first. Where the array of the
+/// super-block is full, block `b` begins with its count and array then; else the block isn't written.
+/// Takes no memory.
+pub fn give(image: &mut Image, geometry: &Geometry, b: u32)
+    requires fits { Fits geometry.now image.old }
+    requires stack { HasStack geometry.now image.old }
+    requires zone { in_zone geometry.now b ≡ true }
+    requires fresh { (blocks : List ℕ) → IsFree geometry.now image.old blocks → IsIn b blocks → ⊥ }
+    ensures pushed { (blocks : List ℕ) → IsFree geometry.now image.old blocks → IsFree geometry.now image.new (b ∷ blocks) }
+    ensures stack { HasStack geometry.now image.new }
+    ensures others { StaysBut geometry.now image.old image.new b 202 }
+    ensures unwritten { word image.old (free_head geometry.now.edition) < (constants geometry.now.edition).free_slots
+        → SameOutside image.old image.new (free_head geometry.now.edition) (free_head geometry.now.edition + 202) }
+    ensures chained { word image.old (free_head geometry.now.edition) ≡ (constants geometry.now.edition).free_slots
+        → (k : ℕ) → k < 202 → slice_index image.new (512 * b + k) ≡ slice_index image.old (free_head geometry.now.edition + k) }
+    ensures fits { Fits geometry.now image.new }
+{
+    let super_block = Super {
+        edition: geometry.edition,
+    };
+    let count = super_block.free_count(image);
+    if count == 0 {
+        super_block.put_free(image, 0, 0);
+        push(image, super_block, 1, b);
+    } else if count == geometry.edition.constants().free_slots {
+        copy_head(image, super_block.free_head(), BLOCK * b as usize);
+        push(image, super_block, 0, b);
+    } else {
+        push(image, super_block, count, b);
+    }
+}
+
+/// How many blocks are free. Reads the super-block and each block that the list is chained by, once.
+/// Takes no memory.
+pub fn free_count(image: &Image, geometry: &Geometry) -> u32
+    requires fits { Fits geometry.now image.now }
+    requires stack { HasStack geometry.now image.now }
+    ensures { (blocks : List ℕ) → IsFree geometry.now image.now blocks → result ≡ length blocks }
+{
+    let super_block = Super {
+        edition: geometry.edition,
+    };
+    let _ = image.len();
+    let mut head = super_block.free_head();
+    let mut count = super_block.free_count(image);
+    let mut total = 0;
+    while count > 0 {
+        let chained = number(image, geometry.edition, head + 2, 0);
+        if chained == 0 {
+            return total + u32::from(count - 1);
+        }
+        total += u32::from(count);
+        head = BLOCK * chained as usize;
+        count = image.word(head);
+    }
+    total
+}
+
+/// Puts `b` as number `count` of the array in the super-block, which has one more then.
+fn push(image: &mut Image, super_block: Super, count: u16, b: u32)
+    requires room { 1024 ≤ length image.old }
+    requires slots { count < (constants super_block.edition).free_slots }
+    requires range { b < (constants super_block.edition).number_limit }
+    ensures count { word image.new (free_head super_block.edition) ≡ count + 1 }
+    ensures put { number super_block.edition image.new (free_head super_block.edition + 2) count ≡ b }
+    ensures kept { (j : ℕ) → j < count → number super_block.edition image.new (free_head super_block.edition + 2) j
+        ≡ number super_block.edition image.old (free_head super_block.edition + 2) j }
+    ensures others { SameOutside image.old image.new (free_head super_block.edition) (free_head super_block.edition + 202) }
+{
+    super_block.put_free(image, count as usize, b);
+    super_block.put_free_count(image, count + 1);
+}
+
+/// Copies the count and array that begin at byte `from` to byte `to`. One copy of 202 bytes, by way of
+/// a buffer.
+fn copy_head(image: &mut Image, from: usize, to: usize)
+    requires from { from + 202 ≤ length image.old }
+    requires to { to + 202 ≤ length image.old }
+    ensures copied { (k : ℕ) → k < 202 → slice_index image.new (to + k) ≡ slice_index image.old (from + k) }
+    ensures others { SameOutside image.old image.new to (to + 202) }
+{
+    let mut head = [0; HEAD_BYTES];
+    head.copy_from_slice(&image.as_bytes()[from..from + HEAD_BYTES]);
+    image.put_bytes(to, &head);
+}

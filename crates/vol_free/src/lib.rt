@@ -1,0 +1,11 @@
+//! What is free on a volume: its free blocks, and its free i-numbers.
+#![tactic(auto)]
+
+pub mod free_list;
+pub mod i_numbers;
+
+pub use free_list::{free_count, give, take};
+pub use i_numbers::{any_inode, give_inode, take_inode};
+
+#[cfg(test)]
+mod tests;

@@ -1,0 +1,53 @@
+-- Laws of the kinds of i-nodes.
+use Rattle.std.proofs.Common.{◌≡◌, ◌≢◌, ℕ, ◌<◌, ◌≤◌, ◌∙◌, ap, refl, eqb, ltb, true, false, inl, inr, if◌then◌else◌, List, [], ◌∷◌, arith}
+use Rattle.std.proofs.lemmas.Bool.{cases_lt, ne_eqb, lt-ltb}
+use Rattle.vol_layout.specs.Inode.{kind_of}
+use Rattle.vol_layout.specs.Places.{has_places, form_of, file_form, IsPlace}
+use Rattle.vol_layout.specs.declared.edition.Edition.{Edition}
+use Rattle.vol_layout.specs.declared.edition.Edition.TheVariants.{V6, V7}
+use Rattle.vol_layout.specs.declared.mode.Kind.TheVariants as kinds
+use Rattle.vol_layout.specs.declared.places.Form.TheVariants.{Bare}
+
+-- an i-node with mode 0 is free
+pub kind_zero : (edition : Edition) → kind_of edition 0 ≡ kinds.Free
+unfolding kind_of
+kind_zero V6 = refl
+kind_zero V7 = refl
+
+-- the i-node of a regular file or directory is allocated
+pub file_used : (edition : Edition) (mode : ℕ) → has_places (kind_of edition mode) ≡ true → mode ≢ 0
+file_used edition mode file zero =
+    let none : has_places (kind_of edition mode) ≡ false = ap has_places (ap (kind_of edition) zero ∙ kind_zero edition) in
+    absurd (cc)
+
+-- a mode of the sixth edition without the allocated bit is that of no file
+pub kind_low : (mode : ℕ) → mode ≢ 0 → mode < 32768 → kind_of V6 mode ≡ kinds.Odd
+unfolding kind_of
+kind_low mode some low =
+    let t : eqb mode 0 ≡ false = ne_eqb mode 0 some in
+    let u : ltb mode 32768 ≡ true = lt-ltb mode 32768 low in
+    rw (t, u)
+
+-- the mode of a regular file or directory of the sixth edition has the allocated bit
+pub file_allocated : (mode : ℕ) → has_places (kind_of V6 mode) ≡ true → 32768 ≤ mode
+file_allocated mode file =
+    elim (cases_lt mode 32768) [
+      | inl low ↦ let none : has_places (kind_of V6 mode) ≡ false = ap has_places (kind_low mode (file_used V6 mode file) low) in absurd (cc)
+      | inr high ↦ high
+    ]
+
+-- a regular file or directory has the form of its edition
+pub form_file : (edition : Edition) (mode : ℕ) → has_places (kind_of edition mode) ≡ true → form_of edition mode ≡ file_form edition mode
+form_file edition mode file = rw file
+
+-- a bare i-node has no place
+pub bare_none : (p : List ℕ) → IsPlace Bare p → ⊥
+bare_none [] place = place
+bare_none (k ∷ []) place = omega arith
+bare_none (j ∷ (a ∷ p)) place = bare_none (a ∷ p) place.2
+
+-- an i-node that has a place is that of a regular file or directory
+pub place_file : (edition : Edition) (mode : ℕ) (p : List ℕ) → IsPlace (form_of edition mode) p → has_places (kind_of edition mode) ≡ true
+place_file edition mode p place =
+    elim (has_places (kind_of edition mode)) as (λ t. IsPlace (if t then file_form edition mode else Bare) p → t ≡ true)
+    [ true ↦ λ h. refl | false ↦ λ h. absurd (bare_none p h) ] place

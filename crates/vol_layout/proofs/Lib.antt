@@ -1,0 +1,10 @@
+pub mod AddressLaws
+pub mod BodyLaws
+pub mod CopyLaws
+pub mod FrameLaws
+pub mod InodeLaws
+pub mod KindLaws
+pub mod NameLaws
+pub mod PlaceLaws
+pub mod SlotLaws
+pub mod StoredInodes

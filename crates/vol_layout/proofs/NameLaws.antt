@@ -1,0 +1,114 @@
+-- Laws of what the places of a file name.
+use Rattle.std.specs.Prelude.{reverse}
+use Rattle.std.proofs.Common.{◌≡◌, ◌≢◌, ℕ, ◌*◌, ◌<◌, ◌≤◌, ◌∙◌, sym, ap, subst, List, [], ◌∷◌, ◌++◌, true, false, refl, arith, inl, inr, Some, None}
+use Rattle.std.proofs.lemmas.List.{append_assoc}
+use Rattle.std.proofs.lemmas.Grind.{reverse_onto}
+use Rattle.vol_layout.specs.Edition.{number}
+use Rattle.vol_layout.specs.Geometry.{in_zone, Fits}
+use Rattle.vol_layout.specs.Inode.{address_at, inode_place}
+use Rattle.vol_layout.specs.Names.{entry_of, named, Holds, stored}
+use Rattle.vol_layout.specs.Places.{last_place}
+use Rattle.vol_layout.specs.declared.places.Form.{Form}
+use Rattle.std.specs.Option.{option_map_or}
+use Rattle.vol_layout.specs.Walk.{walk_down}
+use Rattle.vol_layout.specs.Laws.{IsFront}
+use Rattle.vol_layout.specs.declared.geometry.Geometry.{Geometry}
+use Rattle.vol_layout.proofs.BodyLaws.{zone_bounds}
+
+-- an entry of a data block is the number that stands there
+pub entry_in : (geometry : Geometry) (image : List ℕ) (m j : ℕ) → in_zone geometry m ≡ true
+    → entry_of geometry image m j ≡ number geometry.edition image (512 * m) j
+unfolding entry_of
+entry_in geometry image m j z = rw z
+
+-- a number outside the data zone has no entries
+pub entry_out : (geometry : Geometry) (image : List ℕ) (m j : ℕ) → in_zone geometry m ≡ false → entry_of geometry image m j ≡ 0
+unfolding entry_of
+entry_out geometry image m j z = rw z
+
+-- 0 is no data block
+pub zero_out : (geometry : Geometry) (image : List ℕ) → Fits geometry image → in_zone geometry 0 ≡ false
+zero_out geometry image fits =
+    elim (in_zone geometry 0) as (λ z. in_zone geometry 0 ≡ z → z ≡ false)
+    [ false ↦ λ z. refl | true ↦ λ z. let bounds : (geometry.zone_start ≤ 0) × (0 < geometry.zone_end) = zone_bounds geometry 0 z in absurd (omega arith) ] refl
+
+-- a place with one index more names an entry of what the place names
+pub named_more : (geometry : Geometry) (image : List ℕ) (i j a : ℕ) (p : List ℕ)
+    → named geometry image i (j ∷ (a ∷ p)) ≡ entry_of geometry image (named geometry image i (a ∷ p)) j
+named_more geometry image i j a p = refl
+
+-- a place that names no data block has nothing below it
+pub named_stops : (geometry : Geometry) (image : List ℕ) (i j a : ℕ) (p : List ℕ) → in_zone geometry (named geometry image i (a ∷ p)) ≡ false
+    → named geometry image i (j ∷ (a ∷ p)) ≡ 0
+named_stops geometry image i j a p z = entry_out geometry image (named geometry image i (a ∷ p)) j z
+
+-- a longer place names 0 where a front of it names no data block
+pub named_past : (geometry : Geometry) (image : List ℕ) (i j : ℕ) (p q : List ℕ) → Fits geometry image → IsFront q p
+    → in_zone geometry (named geometry image i q) ≡ false → named geometry image i (j ∷ p) ≡ 0
+named_past geometry image i j [] q fits front z = absurd front
+named_past geometry image i j (a ∷ p) q fits front z =
+    elim front [
+      | inl e ↦ named_stops geometry image i j a p (subst (λ x. in_zone geometry (named geometry image i x) ≡ false) e z)
+      | inr deeper ↦
+          let zero : named geometry image i (a ∷ p) ≡ 0 = named_past geometry image i a p q fits deeper z in
+          named_stops geometry image i j a p (ap (in_zone geometry) zero ∙ zero_out geometry image fits)
+    ]
+
+-- what a place holds by the rules is what it names, and not 0
+pub holds_named : (geometry : Geometry) (image : List ℕ) (i : ℕ) (p : List ℕ) (k : ℕ) → Holds geometry image i p k
+    → (named geometry image i p ≡ k) × (k ≢ 0)
+holds_named geometry image i p k (Holds.address a m some at) = (at, some)
+holds_named geometry image i p k (Holds.entry j a q m n some front zone at) =
+    let deeper : (named geometry image i (a ∷ q) ≡ m) × (m ≢ 0) = holds_named geometry image i (a ∷ q) m front in
+    (ap (λ x. entry_of geometry image x j) deeper.0 ∙ (entry_in geometry image m j zone ∙ at), some)
+
+-- a data block's number is not 0
+pub zone_some : (geometry : Geometry) (image : List ℕ) (k : ℕ) → Fits geometry image → in_zone geometry k ≡ true → k ≢ 0
+zone_some geometry image k fits z e =
+    let bounds : (geometry.zone_start ≤ k) × (k < geometry.zone_end) = zone_bounds geometry k z in omega arith
+
+-- what a place names holds by the rules, unless it is 0
+pub named_holds : (geometry : Geometry) (image : List ℕ) (i : ℕ) (p : List ℕ) (k : ℕ) → Fits geometry image → named geometry image i p ≡ k → k ≢ 0
+    → Holds geometry image i p k
+named_holds geometry image i [] k fits e some = absurd (some (sym e))
+named_holds geometry image i (a ∷ []) k fits e some = Holds.address a k some e
+named_holds geometry image i (j ∷ (a ∷ p)) k fits e some =
+    elim (in_zone geometry (named geometry image i (a ∷ p))) as (λ z. in_zone geometry (named geometry image i (a ∷ p)) ≡ z → Holds geometry image i (j ∷ (a ∷ p)) k) [
+      | true ↦ λ z. Holds.entry j a p (named geometry image i (a ∷ p)) k some
+          (named_holds geometry image i (a ∷ p) (named geometry image i (a ∷ p)) fits refl (zone_some geometry image (named geometry image i (a ∷ p)) fits z)) z
+          (sym (entry_in geometry image (named geometry image i (a ∷ p)) j z) ∙ e)
+      | false ↦ λ z. absurd (some (sym e ∙ named_stops geometry image i j a p z))
+    ] refl
+
+-- the walk from what a place names leads to what the place with the further indexes names
+pub walk_named : (geometry : Geometry) (image : List ℕ) (i a : ℕ) (p js : List ℕ)
+    → walk_down geometry image (named geometry image i (a ∷ p)) js ≡ named geometry image i (reverse js ++ (a ∷ p))
+walk_named geometry image i a p [] = refl
+walk_named geometry image i a p (j ∷ js) =
+    let list : reverse js ++ (j ∷ (a ∷ p)) ≡ reverse (j ∷ js) ++ (a ∷ p) =
+    sym (ap (λ xs. xs ++ (a ∷ p)) (reverse_onto js j []) ∙ append_assoc (reverse js) (j ∷ []) (a ∷ p)) in
+    walk_named geometry image i j (a ∷ p) js ∙ ap (named geometry image i) list
+
+-- the walk from an address, by the indexes after the first, leads to what the place names
+pub walk_address : (geometry : Geometry) (image : List ℕ) (i k : ℕ) (js : List ℕ)
+    → walk_down geometry image (address_at geometry.edition image (inode_place geometry.edition i) k) js ≡ named geometry image i (reverse (k ∷ js))
+walk_address geometry image i k js = walk_named geometry image i k [] js ∙ ap (named geometry image i) (sym (reverse_onto js k []))
+
+-- the number stored for a logical block is what its last place names
+pub stored_is : (geometry : Geometry) (image : List ℕ) (i : ℕ) (form : Form) (b : ℕ) (p : List ℕ) → last_place form b ≡ Some p
+    → stored geometry image i form b ≡ named geometry image i p
+stored_is geometry image i form b p e = ap (λ o. option_map_or (named geometry image i) o 0) e
+
+-- nothing is stored for a logical block with no way
+pub stored_none : (geometry : Geometry) (image : List ℕ) (i : ℕ) (form : Form) (b : ℕ) → last_place form b ≡ None → stored geometry image i form b ≡ 0
+stored_none geometry image i form b e = ap (λ o. option_map_or (named geometry image i) o 0) e
+
+-- a data block that is stored for a logical block is named by the block's last place
+pub stored_apart_from : (geometry : Geometry) (image : List ℕ) (i k : ℕ) (form : Form) (b : ℕ) → Fits geometry image
+    → in_zone geometry (stored geometry image i form b) ≡ true
+    → ((p : List ℕ) → last_place form b ≡ Some p → named geometry image i p ≢ k) → stored geometry image i form b ≢ k
+stored_apart_from geometry image i k form b fits zone apart same =
+    elim (last_place form b) as (λ o. last_place form b ≡ o → ⊥) [
+      | None ↦ λ e. zone_some geometry image (stored geometry image i form b) fits zone (stored_none geometry image i form b e)
+      | Some p ↦ λ e. apart p e (sym (stored_is geometry image i form b p e) ∙ same)
+    ] refl

@@ -1,0 +1,61 @@
+-- How a volume is divided into blocks, as its super-block says.
+use Rattle.std.specs.Prelude.{◌≡◌, ℕ, ◌+◌, ◌-◌, ◌*◌, ◌<◌, ◌≤◌, Bool, ◌&&◌, nat_lt, nat_le, if◌then◌else◌, List, length, Result, Ok, Err}
+use Rattle.pdp_words.specs.Words.{word, long}
+use Rattle.vol_layout.specs.Edition.{constants}
+use Rattle.vol_layout.specs.declared.edition.Edition.{Edition}
+use Rattle.vol_layout.specs.declared.edition.Edition.TheVariants.{V6, V7}
+use Rattle.vol_layout.specs.declared.geometry.Geometry.{Geometry}
+use Rattle.vol_layout.specs.declared.geometry.GeometryFault.{GeometryFault}
+use Rattle.vol_layout.specs.declared.geometry.GeometryFault.TheVariants.{Short, Bounds}
+
+-- the word isize of the super-block: the blocks of the i-list in the sixth edition, the block after it in the seventh (filsys.h)
+abbrev pub list_size : List ℕ → ℕ
+list_size image = word image 512
+
+-- fsize of the super-block: how many blocks the volume has (filsys.h)
+abbrev pub block_count : Edition → List ℕ → ℕ
+block_count V6 image = word image 514
+block_count V7 image = long image 514
+
+-- rule 1: the image has at least 1024 bytes, and at least as many blocks as the super-block says (this project)
+abbrev pub is_whole : Edition → List ℕ → Bool
+is_whole edition image = nat_le 1024 (length image) && nat_le (512 * block_count edition image) (length image)
+
+-- rule 2: the i-list and the data zone have a block each at least, and the sizes are within the edition's limits (this project)
+abbrev pub is_bounded : Edition → List ℕ → Bool
+is_bounded V6 image =
+    nat_le 1 (list_size image) && (nat_le (list_size image) 4095 && nat_lt (list_size image + 2) (block_count V6 image))
+is_bounded V7 image =
+    nat_le 3 (list_size image) && (nat_le (list_size image) 8193
+    && (nat_lt (list_size image) (block_count V7 image) && nat_le (block_count V7 image) 16777216))
+
+-- the first block after the i-list: blocks 0 and 1, and then the i-list, stand before it (manual section 5, file system)
+abbrev pub first_data_block : Edition → List ℕ → ℕ
+first_data_block V6 image = list_size image + 2
+first_data_block V7 image = list_size image
+
+-- the geometry that the super-block states (filsys.h)
+abbrev pub geometry_of : Edition → List ℕ → Geometry
+geometry_of edition image = record {
+  edition = edition;
+  zone_start = first_data_block edition image;
+  zone_end = block_count edition image;
+  last_inode = (constants edition).inodes_per_block * (first_data_block edition image - 2);
+}
+
+-- what reading the geometry gives: rule 1 is asked before rule 2 (this project)
+unfoldable pub geometry_read : Edition → List ℕ → Result Geometry GeometryFault
+geometry_read edition image =
+    if is_whole edition image then (if is_bounded edition image then Ok (geometry_of edition image) else Err Bounds) else Err Short
+
+-- whether a number is that of a data block (icheck)
+abbrev pub in_zone : Geometry → ℕ → Bool
+in_zone geometry k = nat_le geometry.zone_start k && nat_lt k geometry.zone_end
+
+-- the geometry's blocks lie within the image, its i-list ends where its data zone begins, and its numbers are the edition's (rules 1 and 2)
+pub record Fits (geometry : Geometry) (image : List ℕ) : Type 0 where
+  pub blocks : 512 * geometry.zone_end ≤ length image
+  pub i_list : 1024 + (constants geometry.edition).inode_bytes * geometry.last_inode ≡ 512 * geometry.zone_start
+  pub zone : geometry.zone_start < geometry.zone_end
+  pub root : (constants geometry.edition).root < geometry.last_inode
+  pub limit : geometry.zone_end ≤ (constants geometry.edition).number_limit

@@ -1,0 +1,123 @@
+-- The i-nodes of both layouts, field by field.
+use Rattle.std.specs.Prelude.{◌≡◌, ℕ, ◌+◌, ◌-◌, ◌*◌, ◌/◌, ◌%◌, ◌<◌, ◌≤◌, Bool, false, ◌==◌, nat_lt, if◌then◌else◌, List, map, slice_index, None, Some, IsSome}
+use Rattle.std.specs.List.{range_with_len}
+use Rattle.pdp_words.specs.Words.{word, long, addr3}
+use Rattle.vol_layout.specs.Edition.{constants}
+use Rattle.vol_layout.specs.declared.edition.Edition.{Edition}
+use Rattle.vol_layout.specs.declared.edition.Edition.TheVariants.{V6, V7}
+use Rattle.vol_layout.specs.declared.mode.Kind.{Kind}
+use Rattle.vol_layout.specs.declared.mode.Kind.TheVariants as kinds
+use Rattle.vol_layout.specs.declared.i_node.Inode.{Inode}
+
+-- the kind that the type bits 060000 of an allocated mode stand for (manual section 5 of the sixth edition, file system)
+abbrev pub kind_of_type_v6 : ℕ → Kind
+kind_of_type_v6 type = if type == 0 then kinds.Regular else if type == 2 then kinds.Directory else kinds.Special
+
+-- the kind that the type bits 0170000 stand for (stat.h of the seventh edition); both multiplexor types are special files
+abbrev pub kind_of_type_v7 : ℕ → Kind
+kind_of_type_v7 type =
+    if type == 8 then kinds.Regular else if type == 4 then kinds.Directory
+    else if type == 2 then kinds.Special else if type == 6 then kinds.Special
+    else if type == 3 then kinds.Special else if type == 7 then kinds.Special else kinds.Odd
+
+-- what a mode stands for: free where it is 0; odd where it is no mode of the edition (manual section 5, file system; stat.h)
+unfoldable pub kind_of : Edition → ℕ → Kind
+kind_of V6 mode =
+    if mode == 0 then kinds.Free else if nat_lt mode 32768 then kinds.Odd else kind_of_type_v6 (mode / 8192 % 4)
+kind_of V7 mode = if mode == 0 then kinds.Free else kind_of_type_v7 (mode / 4096)
+
+-- the permission bits of a mode, set-uid, set-gid and sticky among them: those under octal 7777 (manual section 5, file system; stat.h)
+abbrev pub permissions_of : ℕ → ℕ
+permissions_of mode = mode % 4096
+
+-- whether a mode has the large flag, octal 010000, which the sixth edition alone has (manual section 5 of the sixth edition, file system)
+abbrev pub is_large : Edition → ℕ → Bool
+is_large V6 mode = mode / 4096 % 2 == 1
+is_large V7 mode = false
+
+-- a mode of the sixth edition with the large flag set or cleared (manual section 5 of the sixth edition, file system)
+abbrev pub with_large : ℕ → Bool → ℕ
+with_large mode large = mode % 4096 + mode / 8192 * 8192 + (if large then 4096 else 0)
+
+-- the byte where i-node i begins: the i-list begins in block 2, with i-number 1 (manual section 5, file system)
+abbrev pub inode_place : Edition → ℕ → ℕ
+inode_place edition i = 1024 + (constants edition).inode_bytes * (i - 1)
+
+-- address k of the i-node at byte `at`: 8 words in the sixth edition, 13 three-byte addresses in the seventh (ino.h)
+abbrev pub address_at : Edition → List ℕ → ℕ → ℕ → ℕ
+address_at V6 image at k = if nat_lt k 8 then word image (at + 8 + 2 * k) else 0
+address_at V7 image at k = addr3 image (at + 12 + 3 * k)
+
+-- all addresses of the i-node at byte `at`; of the 13 the sixth edition has the first 8 (manual section 5, file system; ino.h)
+unfoldable pub addresses_at : Edition → List ℕ → ℕ → List ℕ
+addresses_at edition image at = map (address_at edition image at) (range_with_len 0 13)
+
+-- the size in the i-node at byte `at`: 24 bits in the sixth edition, the high 8 first; a long in the seventh (ino.h)
+abbrev pub size_at : Edition → List ℕ → ℕ → ℕ
+size_at V6 image at = 65536 * slice_index image (at + 5) + word image (at + 6)
+size_at V7 image at = long image (at + 8)
+
+-- how many addresses an i-node of an edition has (manual section 5 of the sixth edition, file system; ino.h)
+abbrev pub address_count : Edition → ℕ
+address_count V6 = 8
+address_count V7 = 13
+
+-- how far the addresses stand behind the first byte of an i-node; the size stands right before them in both editions
+abbrev pub address_offset : Edition → ℕ
+address_offset V6 = 8
+address_offset V7 = 12
+
+-- how many bytes an address has in an i-node
+abbrev pub address_bytes : Edition → ℕ
+address_bytes V6 = 2
+address_bytes V7 = 3
+
+-- the byte where address k of i-node i begins
+abbrev pub address_place : Edition → ℕ → ℕ → ℕ
+address_place edition i k = inode_place edition i + address_offset edition + address_bytes edition * k
+
+-- how many bytes the size has in an i-node
+abbrev pub size_bytes : Edition → ℕ
+size_bytes V6 = 3
+size_bytes V7 = 4
+
+-- the byte where the size of i-node i begins
+abbrev pub size_place : Edition → ℕ → ℕ
+size_place edition i = inode_place edition i + (address_offset edition - size_bytes edition)
+
+-- the i-node at byte `at` (manual section 5 of the sixth edition, file system; ino.h of the seventh)
+unfoldable pub inode_at : Edition → List ℕ → ℕ → Inode
+inode_at V6 image at = record {
+  mode = record { bits = word image at };
+  links = slice_index image (at + 2);
+  uid = slice_index image (at + 3);
+  gid = slice_index image (at + 4);
+  size = size_at V6 image at;
+  addresses = addresses_at V6 image at;
+  accessed = long image (at + 24);
+  modified = long image (at + 28);
+  changed = None;
+}
+inode_at V7 image at = record {
+  mode = record { bits = word image at };
+  links = word image (at + 2);
+  uid = word image (at + 4);
+  gid = word image (at + 6);
+  size = size_at V7 image at;
+  addresses = addresses_at V7 image at;
+  accessed = long image (at + 52);
+  modified = long image (at + 56);
+  changed = Some (long image (at + 60));
+}
+
+-- i-node i of an image (manual section 5, file system)
+abbrev pub inode_of : Edition → List ℕ → ℕ → Inode
+inode_of edition image i = inode_at edition image (inode_place edition i)
+
+-- the i-node's values fit the fields of the edition, and those that it lacks are zero or nothing (manual section 5, file system; ino.h)
+pub data IsStorable : Edition → Inode → Type 0 where
+  in_v6 : {node : Inode} → node.links < 256 → node.uid < 256 → node.gid < 256 → node.size < 16777216
+      → ((k : ℕ) → k < 8 → slice_index node.addresses k < 65536)
+      → ((k : ℕ) → 8 ≤ k → slice_index node.addresses k ≡ 0)
+      → node.changed ≡ None → IsStorable V6 node
+  in_v7 : {node : Inode} → ((k : ℕ) → slice_index node.addresses k < 16777216) → IsSome node.changed → IsStorable V7 node

@@ -1,0 +1,10 @@
+pub mod Edition
+pub mod Geometry
+pub mod Inode
+pub mod Super
+pub mod Slot
+pub mod Places
+pub mod Names
+pub mod Body
+pub mod Laws
+pub mod Walk

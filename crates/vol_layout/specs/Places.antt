@@ -1,0 +1,101 @@
+-- The places of a file, by which its blocks are named. A place is a list of indexes, the last one first: the manual's
+-- order is the other way round. `k ∷ []` is address k of the i-node, and `j ∷ p` entry j of the block that place p names.
+use Rattle.std.specs.Prelude.{Bool, true, false, ℕ, zero, suc, ◌-◌, ◌/◌, ◌%◌, ◌<◌, ◌≤◌, ◌==◌, nat_lt, if◌then◌else◌, List, [], ◌∷◌, Option, None, Some}
+use Rattle.std.specs.Option.{option_map_or}
+use Rattle.std.specs.List.{flat_map, range_with_len}
+use Rattle.vol_layout.specs.Inode.{is_large, kind_of}
+use Rattle.vol_layout.specs.declared.edition.Edition.{Edition}
+use Rattle.vol_layout.specs.declared.edition.Edition.TheVariants.{V6, V7}
+use Rattle.vol_layout.specs.declared.mode.Kind.{Kind}
+use Rattle.vol_layout.specs.declared.mode.Kind.TheVariants as kinds
+use Rattle.vol_layout.specs.declared.places.Form.{Form}
+use Rattle.vol_layout.specs.declared.places.Form.TheVariants.{Small, Large, Deep, Bare}
+
+-- whether i-nodes of a kind have places: regular files and directories do (manual section 5, file system)
+abbrev pub has_places : Kind → Bool
+has_places kinds.Regular = true
+has_places kinds.Directory = true
+has_places kinds.Free = false
+has_places kinds.Special = false
+has_places kinds.Odd = false
+
+-- the form of a file in its edition: small or large in the sixth, deep in the seventh (manual section 5, file system)
+abbrev pub file_form : Edition → ℕ → Form
+file_form V6 mode = if is_large V6 mode then Large else Small
+file_form V7 mode = Deep
+
+-- the form of an i-node with some mode; one that has no places is bare (manual section 5, file system)
+abbrev pub form_of : Edition → ℕ → Form
+form_of edition mode = if has_places (kind_of edition mode) then file_form edition mode else Bare
+
+-- how many addresses of the i-node are places (manual section 5; ino.h)
+abbrev pub first_count : Form → ℕ
+first_count Small = 8
+first_count Large = 8
+first_count Deep = 13
+first_count Bare = 0
+
+-- how many numbers a pointer block holds (Lions on bmap; param.h)
+abbrev pub pointer_count : Form → ℕ
+pointer_count Small = 256
+pointer_count Large = 256
+pointer_count Deep = 128
+pointer_count Bare = 0
+
+-- how many levels of pointer blocks stand between an address and the data (Lions on bmap; ino.h)
+abbrev pub levels : Form → ℕ → ℕ
+levels Small k = 0
+levels Large k = if k == 7 then 2 else 1
+levels Deep k = k - 9
+levels Bare k = 0
+
+-- how many levels lie below a place (Lions on bmap)
+abbrev pub levels_below : Form → List ℕ → ℕ
+levels_below form [] = 0
+levels_below form (k ∷ []) = levels form k
+levels_below form (j ∷ (a ∷ p)) = levels_below form (a ∷ p) - 1
+
+-- a list of indexes is a place of the form: an address, or an entry of the block of a place with a level below it (Lions on bmap; ino.h)
+abbrev pub IsPlace : Form → List ℕ → Type 0
+IsPlace form [] = ⊥
+IsPlace form (k ∷ []) = k < first_count form
+IsPlace form (j ∷ (a ∷ p)) = (j < pointer_count form) × (1 ≤ levels_below form (a ∷ p)) × IsPlace form (a ∷ p)
+
+-- how many logical blocks a file of the form can have (Lions on bmap; ino.h; the sixth edition's limit is this project's)
+abbrev pub block_limit : Form → ℕ
+block_limit Small = 8
+block_limit Large = 32768
+block_limit Deep = 2113674
+block_limit Bare = 0
+
+-- the last place of the way of logical block b (Lions on bmap; the seventh edition's ino.h)
+unfoldable pub last_place : Form → ℕ → Option (List ℕ)
+last_place Small b = if nat_lt b 8 then Some (b ∷ []) else None
+last_place Large b =
+    if nat_lt b 1792 then Some ((b % 256) ∷ (b / 256) ∷ [])
+    else if nat_lt b 32768 then Some ((b % 256) ∷ (b / 256 - 7) ∷ 7 ∷ []) else None
+last_place Deep b =
+    if nat_lt b 10 then Some (b ∷ [])
+    else if nat_lt b 138 then Some ((b - 10) ∷ 10 ∷ [])
+    else if nat_lt b 16522 then Some (((b - 138) % 128) ∷ ((b - 138) / 128) ∷ 11 ∷ [])
+    else if nat_lt b 2113674
+    then Some (((b - 16522) % 128) ∷ ((b - 16522) / 128 % 128) ∷ ((b - 16522) / 16384) ∷ 12 ∷ []) else None
+last_place Bare b = None
+
+-- the fronts of a place, itself among them, the longest first (Lions on bmap)
+abbrev pub fronts : List ℕ → List (List ℕ)
+fronts [] = []
+fronts (j ∷ p) = (j ∷ p) ∷ fronts p
+
+-- the way of logical block b: its last place with all fronts; nothing where b has no way (Lions on bmap)
+abbrev pub way : Form → ℕ → List (List ℕ)
+way form b = option_map_or fronts (last_place form b) []
+
+-- a place, and the places below it in d more levels, in ascending order of their indexes, each before those below it (Lions on itrunc)
+abbrev pub places_from : ℕ → List ℕ → ℕ → List (List ℕ)
+places_from n p zero = p ∷ []
+places_from n p (suc d) = p ∷ flat_map (λ j. places_from n (j ∷ p) d) (range_with_len 0 n)
+
+-- all places of a form, each once, in the same order (Lions on itrunc)
+unfoldable pub places : Form → List (List ℕ)
+places form = flat_map (λ k. places_from (pointer_count form) (k ∷ []) (levels form k)) (range_with_len 0 (first_count form))

@@ -1,0 +1,72 @@
+//! The two editions, and the numbers in which they differ.
+ghost use Rattle.std.specs.Prelude.{◌≡◌};
+
+/// An edition of Unix, whose layout a volume has.
+#[derive(Clone, Copy, Debug, PartialEq, Eq)]
+pub enum Edition {
+    /// The Sixth Edition, of 1975.
+    V6,
+    /// The Seventh Edition, of 1979.
+    V7,
+}
+
+/// The numbers of an edition.
+#[derive(Clone, Copy, Debug, PartialEq, Eq)]
+pub struct Constants {
+    /// The root's i-number.
+    pub root: u16,
+    /// Bytes of an i-node.
+    pub inode_bytes: usize,
+    /// I-nodes in a block of the i-list.
+    pub inodes_per_block: u16,
+    /// Numbers that the array of the free list holds, in the super-block and in a chain block.
+    pub free_slots: u16,
+    /// Bytes of a block number in the free list and in pointer blocks.
+    pub number_bytes: usize,
+    /// Block numbers in a pointer block.
+    pub pointers: u32,
+    /// The greatest size of a file, in bytes.
+    pub greatest: u32,
+    /// What each block number is below.
+    pub number_limit: u32,
+    /// The highest link count.
+    pub link_limit: u16,
+    /// The highest user and group number.
+    pub id_limit: u16,
+}
+
+impl Edition {
+    ghost use Rattle.vol_layout.specs.Edition.{constants};
+
+    /// The numbers of this edition.
+    pub fn constants(self) -> Constants
+        ensures { result ≡ constants self }
+    {
+        match self {
+            Edition::V6 => Constants {
+                root: 1,
+                inode_bytes: 32,
+                inodes_per_block: 16,
+                free_slots: 100,
+                number_bytes: 2,
+                pointers: 256,
+                greatest: 16_777_215,
+                number_limit: 0x1_0000,
+                link_limit: 127,
+                id_limit: 255,
+            },
+            Edition::V7 => Constants {
+                root: 2,
+                inode_bytes: 64,
+                inodes_per_block: 8,
+                free_slots: 50,
+                number_bytes: 4,
+                pointers: 128,
+                greatest: 1_082_201_088,
+                number_limit: 0x100_0000,
+                link_limit: 32_767,
+                id_limit: 32_767,
+            },
+        }
+    }
+}

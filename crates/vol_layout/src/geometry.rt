@@ -1,0 +1,88 @@
+//! How a volume is divided into blocks.
+ghost use Rattle.std.specs.Prelude.{◌≡◌, IfOk, ◌&&◌, nat_le, nat_lt};
+
+use crate::edition::Edition;
+use pdp_words::Image;
+use thiserror::Error;
+
+/// The sizes of a volume.
+#[derive(Clone, Copy, Debug, PartialEq, Eq)]
+pub struct Geometry {
+    /// The edition whose layout the volume has.
+    pub edition: Edition,
+    /// The first block of the data zone: the first after the i-list.
+    pub zone_start: u32,
+    /// The first block after the data zone, which is the number of the volume's blocks.
+    pub zone_end: u32,
+    /// The last i-number.
+    pub last_inode: u16,
+}
+
+/// Why an image has no geometry.
+#[derive(Clone, Copy, Debug, PartialEq, Eq, Error)]
+pub enum GeometryFault {
+    /// The image has fewer than 1024 bytes, or fewer blocks than its super-block says: rule 1.
+    #[error("rule 1")]
+    Short,
+    /// The sizes in the super-block aren't those of a volume: rule 2.
+    #[error("rule 2")]
+    Bounds,
+}
+
+impl Geometry {
+    ghost use Rattle.vol_layout.specs.Geometry.{geometry_read, Fits};
+
+    /// Reads the geometry from the super-block of an image, which may be any bytes.
+    #[tactic(auto, unfolding(crate::specs::Geometry::geometry_read))]
+    pub fn read(edition: Edition, image: &Image) -> Result<Geometry, GeometryFault>
+        ensures exact { result ≡ geometry_read edition image.now }
+        ensures fits { IfOk result (λ geometry. Fits geometry image.now) }
+    {
+        if image.len() < 1024 {
+            return Err(GeometryFault::Short);
+        }
+        let list_size = u32::from(image.word(512));
+        let (zone_start, zone_end) = match edition {
+            Edition::V6 => (list_size + 2, u32::from(image.word(514))),
+            Edition::V7 => (list_size, image.long(514)),
+        };
+        if image.len() < 512 * zone_end as usize {
+            return Err(GeometryFault::Short);
+        }
+        if !is_bounded(edition, list_size, zone_start, zone_end) {
+            return Err(GeometryFault::Bounds);
+        }
+        let inodes = edition.constants().inodes_per_block;
+        Ok(Geometry {
+            edition,
+            zone_start,
+            zone_end,
+            last_inode: inodes * (zone_start - 2) as u16,
+        })
+    }
+}
+
+impl Geometry {
+    ghost use Rattle.vol_layout.specs.Geometry.{in_zone};
+
+    /// Whether `k` is the number of a data block.
+    pub fn in_zone(&self, k: u32) -> bool
+        ensures { result ≡ in_zone self.now k }
+    {
+        self.zone_start <= k && k < self.zone_end
+    }
+}
+
+/// Whether the sizes are those of a volume.
+fn is_bounded(edition: Edition, list_size: u32, zone_start: u32, zone_end: u32) -> bool
+    ensures v6 { edition ≡ Edition.V6 → result ≡ (nat_le 1 list_size && (nat_le list_size 4095 && nat_lt zone_start zone_end)) }
+    ensures v7 { edition ≡ Edition.V7 → result ≡ (nat_le 3 list_size && (nat_le list_size 8193
+        && (nat_lt zone_start zone_end && nat_le zone_end 16777216))) }
+{
+    match edition {
+        Edition::V6 => 1 <= list_size && list_size <= 4095 && zone_start < zone_end,
+        Edition::V7 => {
+            3 <= list_size && list_size <= 8193 && zone_start < zone_end && zone_end <= 0x100_0000
+        }
+    }
+}

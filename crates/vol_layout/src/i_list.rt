@@ -1,0 +1,377 @@
+//! The i-list: the i-nodes, each at its place.
+ghost use Rattle.std.specs.Prelude.{◌≡◌, ◌+◌, ◌*◌, ◌-◌, ◌≤◌, length, ℕ, ◌<◌, slice_index};
+ghost use Rattle.pdp_words.specs.Words.{SameOutside, word, long, addr3};
+ghost use Rattle.vol_layout.specs.Edition.{constants};
+ghost use Rattle.vol_layout.specs.Geometry.{Fits};
+ghost use Rattle.vol_layout.specs.Names.{mode_of};
+ghost use Rattle.vol_layout.specs.Inode.{
+  inode_place,
+  inode_of,
+  inode_at,
+  addresses_at,
+  address_at,
+  address_count,
+  address_bytes,
+  address_place,
+  size_at,
+  size_bytes,
+  size_place,
+  IsStorable,
+};
+
+use crate::edition::Edition;
+use crate::geometry::Geometry;
+use crate::i_node::Inode;
+use crate::mode::Mode;
+use pdp_words::Image;
+use std::array;
+
+/// The byte where i-node `i` begins.
+fn place_of(edition: Edition, i: u16) -> usize
+    requires { 1 ≤ i }
+    ensures { result ≡ inode_place edition i }
+{
+    1024 + edition.constants().inode_bytes * (i as usize - 1)
+}
+
+/// Address `k` of the i-node at byte `at`; of the 13 the sixth edition has the first 8.
+fn address_in(image: &Image, edition: Edition, at: usize, k: usize) -> u32
+    requires room { at + (constants edition).inode_bytes ≤ length image.now }
+    requires range { k < 13 }
+    ensures value { result ≡ address_at edition image.now at k }
+    ensures bound { result < (constants edition).number_limit }
+    ensures none { edition ≡ Edition.V6 → 8 ≤ k → result ≡ 0 }
+{
+    let _ = image.len();
+    match edition {
+        Edition::V6 if k < 8 => u32::from(image.word(at + 8 + 2 * k)),
+        Edition::V6 => 0,
+        Edition::V7 => image.addr3(at + 12 + 3 * k),
+    }
+}
+
+/// All addresses of the i-node at byte `at`.
+#[tactic(auto, unfolding(crate::specs::Inode::addresses_at))]
+fn addresses(image: &Image, edition: Edition, at: usize) -> [u32; 13]
+    requires { at + (constants edition).inode_bytes ≤ length image.now }
+    ensures value { result ≡ addresses_at edition image.now at }
+    ensures bound { (k : ℕ) → slice_index result k < (constants edition).number_limit }
+    ensures none { edition ≡ Edition.V6 → (k : ℕ) → 8 ≤ k → slice_index result k ≡ 0 }
+{
+    let mut all = [0; 13];
+    for k in 0..13 {
+        all[k] = address_in(image, edition, at, k);
+    }
+    all
+}
+
+/// Puts the addresses of a sixth edition i-node, eight words.
+fn put_addresses_v6(image: &mut Image, at: usize, addresses: &[u32; 13])
+    requires room { at + 32 ≤ length image.old }
+    requires range { (k : ℕ) → k < 8 → slice_index addresses.now k < 65536 }
+    ensures put { (k : ℕ) → k < 8 → word image.new (at + 8 + 2 * k) ≡ slice_index addresses.now k }
+    ensures others { SameOutside image.old image.new (at + 8) (at + 24) }
+{
+    let _ = image.len();
+    for k in 0..8 {
+        image.put_word(at + 8 + 2 * k, addresses[k] as u16);
+    }
+}
+
+/// Puts the addresses of a seventh edition i-node, thirteen of three bytes.
+fn put_addresses_v7(image: &mut Image, at: usize, addresses: &[u32; 13])
+    requires room { at + 64 ≤ length image.old }
+    requires range { (k : ℕ) → slice_index addresses.now k < 16777216 }
+    ensures put { (k : ℕ) → k < 13 → addr3 image.new (at + 12 + 3 * k) ≡ slice_index addresses.now k }
+    ensures others { SameOutside image.old image.new (at + 12) (at + 51) }
+{
+    let _ = image.len();
+    for k in 0..13 {
+        image.put_addr3(at + 12 + 3 * k, addresses[k]);
+    }
+}
+
+/// I-node `i` of a volume, from 1 to the last. It can be put back, changed or not.
+#[tactic(auto, unfolding(crate::specs::Inode::inode_at))]
+pub fn inode(image: &Image, geometry: &Geometry, i: u16) -> Inode
+    requires fits { Fits geometry.now image.now }
+    requires first { 1 ≤ i }
+    requires last { i ≤ geometry.now.last_inode }
+    ensures value { result ≡ inode_of geometry.now.edition image.now i }
+    ensures storable { IsStorable geometry.now.edition result }
+{
+    let at = place_of(geometry.edition, i);
+    let addresses = addresses(image, geometry.edition, at);
+    let mode = Mode {
+        bits: image.word(at),
+    };
+    match geometry.edition {
+        Edition::V6 => Inode {
+            mode,
+            links: u16::from(image.byte(at + 2)),
+            uid: u16::from(image.byte(at + 3)),
+            gid: u16::from(image.byte(at + 4)),
+            size: u32::from(image.byte(at + 5)) * 0x1_0000 + u32::from(image.word(at + 6)),
+            addresses,
+            accessed: image.long(at + 24),
+            modified: image.long(at + 28),
+            changed: None,
+        },
+        Edition::V7 => Inode {
+            mode,
+            links: image.word(at + 2),
+            uid: image.word(at + 4),
+            gid: image.word(at + 6),
+            size: image.long(at + 8),
+            addresses,
+            accessed: image.long(at + 52),
+            modified: image.long(at + 56),
+            changed: Some(image.long(at + 60)),
+        },
+    }
+}
+
+/// The mode of i-node `i` of a volume, from 1 to the last.
+pub fn mode(image: &Image, geometry: &Geometry, i: u16) -> Mode
+    requires fits { Fits geometry.now image.now }
+    requires first { 1 ≤ i }
+    requires last { i ≤ geometry.now.last_inode }
+    ensures { result.bits ≡ mode_of geometry.now image.now i }
+{
+    Mode {
+        bits: image.word(place_of(geometry.edition, i)),
+    }
+}
+
+/// The size of i-node `i` of a volume, from 1 to the last, in bytes.
+pub fn size(image: &Image, geometry: &Geometry, i: u16) -> u32
+    requires fits { Fits geometry.now image.now }
+    requires first { 1 ≤ i }
+    requires last { i ≤ geometry.now.last_inode }
+    ensures { result ≡ size_at geometry.now.edition image.now (inode_place geometry.now.edition i) }
+{
+    let at = place_of(geometry.edition, i);
+    match geometry.edition {
+        Edition::V6 => u32::from(image.byte(at + 5)) * 0x1_0000 + u32::from(image.word(at + 6)),
+        Edition::V7 => image.long(at + 8),
+    }
+}
+
+/// Address `k` of i-node `i` of a volume, from 1 to the last, of 13 addresses; those from 8 on are 0 in
+/// the sixth edition.
+pub fn address(image: &Image, geometry: &Geometry, i: u16, k: usize) -> u32
+    requires fits { Fits geometry.now image.now }
+    requires first { 1 ≤ i }
+    requires last { i ≤ geometry.now.last_inode }
+    requires index { k < 13 }
+    ensures { result ≡ address_at geometry.now.edition image.now (inode_place geometry.now.edition i) k }
+{
+    address_in(image, geometry.edition, place_of(geometry.edition, i), k)
+}
+
+/// Puts what stands before the addresses of a sixth edition i-node, its first 8 bytes.
+fn put_head_v6(image: &mut Image, at: usize, node: &Inode)
+    requires room { at + 32 ≤ length image.old }
+    requires storable { IsStorable Edition.V6 node.now }
+    ensures mode { word image.new at ≡ node.now.mode.bits }
+    ensures links { slice_index image.new (at + 2) ≡ node.now.links }
+    ensures uid { slice_index image.new (at + 3) ≡ node.now.uid }
+    ensures gid { slice_index image.new (at + 4) ≡ node.now.gid }
+    ensures size { size_at Edition.V6 image.new at ≡ node.now.size }
+    ensures others { SameOutside image.old image.new at (at + 8) }
+{
+    let _ = image.len();
+    image.put_word(at, node.mode.bits);
+    image.put_byte(at + 2, node.links as u8);
+    image.put_byte(at + 3, node.uid as u8);
+    image.put_byte(at + 4, node.gid as u8);
+    image.put_byte(at + 5, (node.size / 0x1_0000) as u8);
+    image.put_word(at + 6, (node.size % 0x1_0000) as u16);
+}
+
+/// Puts what stands before the addresses of a seventh edition i-node, its first 12 bytes.
+fn put_head_v7(image: &mut Image, at: usize, node: &Inode)
+    requires room { at + 64 ≤ length image.old }
+    ensures mode { word image.new at ≡ node.now.mode.bits }
+    ensures links { word image.new (at + 2) ≡ node.now.links }
+    ensures uid { word image.new (at + 4) ≡ node.now.uid }
+    ensures gid { word image.new (at + 6) ≡ node.now.gid }
+    ensures size { size_at Edition.V7 image.new at ≡ node.now.size }
+    ensures others { SameOutside image.old image.new at (at + 12) }
+{
+    let _ = image.len();
+    image.put_word(at, node.mode.bits);
+    image.put_word(at + 2, node.links);
+    image.put_word(at + 4, node.uid);
+    image.put_word(at + 6, node.gid);
+    image.put_long(at + 8, node.size);
+}
+
+/// Puts the times that both editions have, two longs from byte `at` on.
+fn put_times(image: &mut Image, at: usize, node: &Inode)
+    requires room { at + 8 ≤ length image.old }
+    ensures accessed { long image.new at ≡ node.now.accessed }
+    ensures modified { long image.new (at + 4) ≡ node.now.modified }
+    ensures others { SameOutside image.old image.new at (at + 8) }
+{
+    let _ = image.len();
+    image.put_long(at, node.accessed);
+    image.put_long(at + 4, node.modified);
+}
+
+/// Puts a sixth edition i-node at byte `at`.
+fn put_v6(image: &mut Image, at: usize, node: &Inode)
+    requires room { at + 32 ≤ length image.old }
+    requires storable { IsStorable Edition.V6 node.now }
+    ensures put { inode_at Edition.V6 image.new at ≡ node.now }
+    ensures others { SameOutside image.old image.new at (at + 32) }
+{
+    let _ = image.len();
+    put_head_v6(image, at, node);
+    put_addresses_v6(image, at, &node.addresses);
+    put_times(image, at + 24, node);
+}
+
+/// Puts a seventh edition i-node at byte `at`, but for its byte 51.
+fn put_v7(image: &mut Image, at: usize, node: &Inode)
+    requires room { at + 64 ≤ length image.old }
+    requires storable { IsStorable Edition.V7 node.now }
+    ensures put { inode_at Edition.V7 image.new at ≡ node.now }
+    ensures others { SameOutside image.old image.new at (at + 64) }
+    ensures unused { slice_index image.new (at + 51) ≡ slice_index image.old (at + 51) }
+{
+    let _ = image.len();
+    put_head_v7(image, at, node);
+    put_addresses_v7(image, at, &node.addresses);
+    put_times(image, at + 52, node);
+    image.put_long(at + 60, node.changed.unwrap_or(0));
+}
+
+/// Puts i-node `i` of a volume, from 1 to the last, whose values fit the edition's fields: those that
+/// the edition lacks are zero, or none. Byte 51 of a seventh edition i-node stays.
+pub fn put_inode(image: &mut Image, geometry: &Geometry, i: u16, node: &Inode)
+    requires fits { Fits geometry.now image.old }
+    requires first { 1 ≤ i }
+    requires last { i ≤ geometry.now.last_inode }
+    requires storable { IsStorable geometry.now.edition node.now }
+    ensures put { inode_of geometry.now.edition image.new i ≡ node.now }
+    ensures others { SameOutside image.old image.new (inode_place geometry.now.edition i)
+        (inode_place geometry.now.edition i + (constants geometry.now.edition).inode_bytes) }
+    ensures unused { geometry.now.edition ≡ Edition.V7
+        → slice_index image.new (inode_place Edition.V7 i + 51) ≡ slice_index image.old (inode_place Edition.V7 i + 51) }
+{
+    let at = place_of(geometry.edition, i);
+    match geometry.edition {
+        Edition::V6 => put_v6(image, at, node),
+        Edition::V7 => put_v7(image, at, node),
+    }
+}
+
+/// Puts address `k` of i-node `i` of a volume, from 1 to the last: of 8 addresses in the sixth edition,
+/// of 13 in the seventh. No other byte changes.
+pub fn put_address(image: &mut Image, geometry: &Geometry, i: u16, k: usize, value: u32)
+    requires fits { Fits geometry.now image.old }
+    requires first { 1 ≤ i }
+    requires last { i ≤ geometry.now.last_inode }
+    requires index { k < address_count geometry.now.edition }
+    requires range { value < (constants geometry.now.edition).number_limit }
+    ensures put { address_at geometry.now.edition image.new (inode_place geometry.now.edition i) k ≡ value }
+    ensures others { SameOutside image.old image.new (address_place geometry.now.edition i k)
+        (address_place geometry.now.edition i k + address_bytes geometry.now.edition) }
+{
+    let at = place_of(geometry.edition, i);
+    let _ = image.len();
+    match geometry.edition {
+        Edition::V6 => image.put_word(at + 8 + 2 * k, value as u16),
+        Edition::V7 => image.put_addr3(at + 12 + 3 * k, value),
+    }
+}
+
+/// Copies the eight addresses of sixth edition i-node `i`, from 1 to the last, to byte `to`. One copy
+/// of 16 bytes, by way of a buffer.
+pub fn copy_addresses(image: &mut Image, geometry: &Geometry, i: u16, to: usize)
+    requires edition { geometry.now.edition ≡ Edition.V6 }
+    requires fits { Fits geometry.now image.old }
+    requires first { 1 ≤ i }
+    requires last { i ≤ geometry.now.last_inode }
+    requires room { to + 16 ≤ length image.old }
+    ensures copied { (k : ℕ) → k < 16
+        → slice_index image.new (to + k) ≡ slice_index image.old (inode_place geometry.now.edition i + 8 + k) }
+    ensures others { SameOutside image.old image.new to (to + 16) }
+{
+    copy_words(image, place_of(geometry.edition, i) + 8, to);
+}
+
+/// Copies the eight words at byte `from` to byte `to`.
+fn copy_words(image: &mut Image, from: usize, to: usize)
+    requires from { from + 16 ≤ length image.old }
+    requires to { to + 16 ≤ length image.old }
+    ensures copied { (k : ℕ) → k < 16 → slice_index image.new (to + k) ≡ slice_index image.old (from + k) }
+    ensures others { SameOutside image.old image.new to (to + 16) }
+{
+    let mut words = [0; 16];
+    words.copy_from_slice(&image.as_bytes()[from..from + 16]);
+    image.put_bytes(to, &words);
+}
+
+/// Makes the eight addresses of sixth edition i-node `i` zero, from 1 to the last.
+pub fn clear_addresses(image: &mut Image, geometry: &Geometry, i: u16)
+    requires edition { geometry.now.edition ≡ Edition.V6 }
+    requires fits { Fits geometry.now image.old }
+    requires first { 1 ≤ i }
+    requires last { i ≤ geometry.now.last_inode }
+    ensures zero { (k : ℕ) → 8 ≤ k → k < 24 → slice_index image.new (inode_place geometry.now.edition i + k) ≡ 0 }
+    ensures others { SameOutside image.old image.new (inode_place geometry.now.edition i + 8)
+        (inode_place geometry.now.edition i + 24) }
+{
+    let at = place_of(geometry.edition, i);
+    image.clear(at + 8, at + 24);
+}
+
+/// Puts the size of i-node `i` of a volume, from 1 to the last, in bytes: below 2^24 in the sixth
+/// edition. No other byte changes.
+pub fn put_size(image: &mut Image, geometry: &Geometry, i: u16, size: u32)
+    requires fits { Fits geometry.now image.old }
+    requires first { 1 ≤ i }
+    requires last { i ≤ geometry.now.last_inode }
+    requires range { geometry.now.edition ≡ Edition.V6 → size < 16777216 }
+    ensures put { size_at geometry.now.edition image.new (inode_place geometry.now.edition i) ≡ size }
+    ensures others { SameOutside image.old image.new (size_place geometry.now.edition i)
+        (size_place geometry.now.edition i + size_bytes geometry.now.edition) }
+{
+    let at = place_of(geometry.edition, i);
+    let _ = image.len();
+    match geometry.edition {
+        Edition::V6 => {
+            image.put_byte(at + 5, (size / 0x1_0000) as u8);
+            image.put_word(at + 6, (size % 0x1_0000) as u16);
+        }
+        Edition::V7 => image.put_long(at + 8, size),
+    }
+}
+
+/// Puts the mode of i-node `i` of a volume, from 1 to the last. No other byte changes.
+pub fn put_mode(image: &mut Image, geometry: &Geometry, i: u16, mode: Mode)
+    requires fits { Fits geometry.now image.old }
+    requires first { 1 ≤ i }
+    requires last { i ≤ geometry.now.last_inode }
+    ensures put { mode_of geometry.now image.new i ≡ mode.bits }
+    ensures others { SameOutside image.old image.new (inode_place geometry.now.edition i)
+        (inode_place geometry.now.edition i + 2) }
+{
+    image.put_word(place_of(geometry.edition, i), mode.bits);
+}
+
+/// Makes all bytes of i-node `i` zero, from 1 to the last: the i-node is free then.
+pub fn clear_inode(image: &mut Image, geometry: &Geometry, i: u16)
+    requires fits { Fits geometry.now image.old }
+    requires first { 1 ≤ i }
+    requires last { i ≤ geometry.now.last_inode }
+    ensures zero { (k : ℕ) → inode_place geometry.now.edition i ≤ k
+        → k < inode_place geometry.now.edition i + (constants geometry.now.edition).inode_bytes → slice_index image.new k ≡ 0 }
+    ensures others { SameOutside image.old image.new (inode_place geometry.now.edition i)
+        (inode_place geometry.now.edition i + (constants geometry.now.edition).inode_bytes) }
+{
+    let at = place_of(geometry.edition, i);
+    image.clear(at, at + geometry.edition.constants().inode_bytes);
+}

@@ -1,0 +1,29 @@
+//! The layout of a volume, in both editions: its geometry, the super-block, i-nodes and directory
+//! slots, each read from its place in the image and put there.
+#![tactic(auto)]
+
+pub mod edition;
+pub mod geometry;
+pub mod i_list;
+pub mod i_node;
+pub mod laws;
+pub mod mode;
+pub mod numbers;
+pub mod places;
+pub mod slot;
+pub mod super_block;
+
+pub use edition::{Constants, Edition};
+pub use geometry::{Geometry, GeometryFault};
+pub use i_list::{
+    clear_addresses, clear_inode, copy_addresses, inode, put_address, put_inode, put_mode, put_size,
+};
+pub use i_node::Inode;
+pub use mode::{Kind, Mode};
+pub use numbers::{number, put_number};
+pub use places::Form;
+pub use slot::Slot;
+pub use super_block::{Flag, Super};
+
+#[cfg(test)]
+mod tests;

@@ -1,0 +1,50 @@
+//! The forms of a file, by which its blocks are found.
+ghost use Rattle.std.specs.Prelude.{◌≡◌};
+
+use crate::edition::Edition;
+use crate::mode::{Kind, Mode};
+
+/// How the addresses of an i-node lead to a file's blocks.
+#[derive(Clone, Copy, Debug, PartialEq, Eq)]
+pub enum Form {
+    /// Sixth edition, without the large flag: eight addresses of data blocks.
+    Small,
+    /// Sixth edition, with the large flag: seven addresses of indirect blocks, and an eighth of a
+    /// doubly indirect one.
+    Large,
+    /// Seventh edition: ten addresses of data blocks, and one each of an indirect, a doubly indirect
+    /// and a triply indirect block.
+    Deep,
+    /// An i-node that has no blocks: a free, special or odd one.
+    Bare,
+}
+
+impl Form {
+    ghost use Rattle.vol_layout.specs.Places.{form_of, block_limit};
+
+    /// The form of an i-node with some mode.
+    pub fn of(edition: Edition, mode: Mode) -> Form
+        ensures { result ≡ form_of edition mode.bits }
+    {
+        match mode.kind(edition) {
+            Kind::Regular | Kind::Directory => match edition {
+                Edition::V6 if mode.is_large(edition) => Form::Large,
+                Edition::V6 => Form::Small,
+                Edition::V7 => Form::Deep,
+            },
+            Kind::Free | Kind::Special | Kind::Odd => Form::Bare,
+        }
+    }
+
+    /// How many logical blocks a file of this form can have.
+    pub fn block_limit(self) -> u32
+        ensures { result ≡ block_limit self }
+    {
+        match self {
+            Form::Small => 8,
+            Form::Large => 32_768,
+            Form::Deep => 2_113_674,
+            Form::Bare => 0,
+        }
+    }
+}

@@ -1,0 +1,95 @@
+//! The slots of a directory.
+ghost use Rattle.std.specs.Prelude.{◌≡◌, ◌+◌, ◌≤◌, ◌==◌, length};
+ghost use Rattle.std.specs.List.{position_or_len};
+ghost use Rattle.pdp_words.specs.Words.{SameOutside};
+ghost use Rattle.vol_layout.specs.Slot.{padded_name};
+
+use pdp_words::{Image, words};
+
+/// Bytes in a slot.
+pub const SLOT: usize = 16;
+
+/// Bytes in the name of a slot.
+pub const NAME: usize = 14;
+
+/// A slot of a directory: an i-number, 0 where the slot is empty, and 14 bytes of name.
+#[derive(Clone, Copy, Debug, PartialEq, Eq)]
+pub struct Slot {
+    /// The i-number that the entry names; 0 where the slot is empty.
+    pub inode: u16,
+    /// The name, with zero bytes behind it where it is shorter.
+    pub name: [u8; NAME],
+}
+
+impl Slot {
+    ghost use Rattle.vol_layout.specs.Slot.{slot_at, name_of};
+
+    /// The slot in the 16 bytes from `at` on.
+    pub fn read(bytes: &[u8], at: usize) -> Slot
+        requires { at + 16 ≤ length bytes.now }
+        ensures { result ≡ slot_at bytes.now at }
+    {
+        let mut name = [0; NAME];
+        name.copy_from_slice(&bytes[at + 2..at + SLOT]);
+        Slot {
+            inode: words::word(bytes, at),
+            name,
+        }
+    }
+
+    /// Puts the slot into the 16 bytes from `at` on.
+    pub fn put(&self, bytes: &mut [u8], at: usize)
+        requires { at + 16 ≤ length bytes.old }
+        ensures put { slot_at bytes.new at ≡ self.now }
+        ensures others { SameOutside bytes.old bytes.new at (at + 16) }
+    {
+        words::put_word(bytes, at, self.inode);
+        words::put_bytes(bytes, at + 2, &self.name);
+    }
+
+    /// Puts the slot into the 16 bytes of an image from `at` on.
+    pub fn put_in(&self, image: &mut Image, at: usize)
+        requires { at + 16 ≤ length image.old }
+        ensures put { slot_at image.new at ≡ self.now }
+        ensures others { SameOutside image.old image.new at (at + 16) }
+    {
+        let _ = image.len();
+        image.put_word(at, self.inode);
+        image.put_bytes(at + 2, &self.name);
+    }
+
+    /// A slot that gives a name of at most 14 bytes to an i-number.
+    pub fn new(inode: u16, name: &[u8]) -> Slot
+        requires { length name.now ≤ 14 }
+        ensures inode { result.inode ≡ inode }
+        ensures name { result.name ≡ padded_name name.now }
+    {
+        let mut padded = [0; NAME];
+        padded[..name.len()].copy_from_slice(name);
+        Slot {
+            inode,
+            name: padded,
+        }
+    }
+
+    /// The name: the bytes before the first zero byte.
+    pub fn name(&self) -> &[u8]
+        ensures { result.now ≡ name_of self.now.name }
+    {
+        &self.name[..first_zero(&self.name)]
+    }
+}
+
+/// Where the first zero byte stands, or the length where there is none.
+#[tactic(auto, using(std::proofs::lemmas::List::Sums::position_or_len_is))]
+fn first_zero(bytes: &[u8]) -> usize
+    ensures place { result ≡ position_or_len (λ c. c == 0) bytes.now }
+    ensures within { result ≤ length bytes.now }
+{
+    for (i, c) in bytes.iter().enumerate() {
+        if *c == 0 {
+            return i;
+        }
+    }
+    bytes.len()
+}

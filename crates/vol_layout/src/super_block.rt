@@ -1,0 +1,247 @@
+//! The super-block, which is block 1.
+ghost use Rattle.std.specs.Prelude.{◌≡◌, ◌+◌, ◌*◌, ◌<◌, ◌≤◌, length, slice_index};
+ghost use Rattle.pdp_words.specs.Words.{SameOutside, word, long};
+ghost use Rattle.vol_layout.specs.Edition.{constants, number};
+
+use crate::edition::Edition;
+use crate::numbers::{number, put_number};
+use pdp_words::Image;
+
+/// A byte of the super-block by which a mounted volume was guarded.
+#[derive(Clone, Copy, Debug, PartialEq, Eq)]
+pub enum Flag {
+    /// `s_flock`: the free list was in use.
+    FreeLock,
+    /// `s_ilock`: the i-number cache was in use.
+    InodeLock,
+    /// `s_fmod`: the super-block was modified.
+    Modified,
+    /// `s_ronly`: the volume was mounted read-only.
+    ReadOnly,
+}
+
+impl Flag {
+    ghost use Rattle.vol_layout.specs.Super.{flag_offset};
+
+    /// How far the byte stands behind the first of the flags.
+    fn offset(self) -> usize
+        ensures { result ≡ flag_offset self }
+    {
+        match self {
+            Flag::FreeLock => 0,
+            Flag::InodeLock => 1,
+            Flag::Modified => 2,
+            Flag::ReadOnly => 3,
+        }
+    }
+}
+
+/// The byte where the super-block begins, which has 512.
+pub const SUPER: usize = 512;
+
+/// The super-block of an image of an edition: each method reads or puts one field, of an image of at
+/// least 1024 bytes.
+#[derive(Clone, Copy, Debug, PartialEq, Eq)]
+pub struct Super {
+    /// The edition whose layout the super-block has.
+    pub edition: Edition,
+}
+
+impl Super {
+    ghost use Rattle.vol_layout.specs.Geometry.{list_size, block_count};
+    ghost use Rattle.vol_layout.specs.Super.{free_head, cache_head, flag_place, time_place};
+
+    /// `s_isize`: in the sixth edition how many blocks the i-list has, in the seventh the first block
+    /// after it.
+    pub fn list_size(self, image: &Image) -> u16
+        requires { 1024 ≤ length image.now }
+        ensures { result ≡ list_size image.now }
+    {
+        image.word(SUPER)
+    }
+
+    /// Puts `s_isize`.
+    pub fn put_list_size(self, image: &mut Image, value: u16)
+        requires { 1024 ≤ length image.old }
+        ensures put { list_size image.new ≡ value }
+        ensures others { SameOutside image.old image.new 512 514 }
+    {
+        image.put_word(SUPER, value);
+    }
+
+    /// `s_fsize`: how many blocks the volume has.
+    pub fn block_count(self, image: &Image) -> u32
+        requires { 1024 ≤ length image.now }
+        ensures { result ≡ block_count self.edition image.now }
+    {
+        match self.edition {
+            Edition::V6 => u32::from(image.word(SUPER + 2)),
+            Edition::V7 => image.long(SUPER + 2),
+        }
+    }
+
+    /// Puts `s_fsize`, which is a word in the sixth edition.
+    pub fn put_block_count(self, image: &mut Image, value: u32)
+        requires room { 1024 ≤ length image.old }
+        requires range { self.edition ≡ Edition.V6 → value < 65536 }
+        ensures put { block_count self.edition image.new ≡ value }
+        ensures others { SameOutside image.old image.new 514 (514 + (constants self.edition).number_bytes) }
+    {
+        match self.edition {
+            Edition::V6 => image.put_word(SUPER + 2, value as u16),
+            Edition::V7 => image.put_long(SUPER + 2, value),
+        }
+    }
+
+    /// The byte where the free list begins: its count, and then its array. A chain block begins so too.
+    pub fn free_head(self) -> usize
+        ensures { result ≡ free_head self.edition }
+    {
+        match self.edition {
+            Edition::V6 => SUPER + 4,
+            Edition::V7 => SUPER + 6,
+        }
+    }
+
+    /// `s_nfree`: how many numbers of the free array are in use.
+    pub fn free_count(self, image: &Image) -> u16
+        requires { 1024 ≤ length image.now }
+        ensures { result ≡ word image.now (free_head self.edition) }
+    {
+        image.word(self.free_head())
+    }
+
+    /// Puts `s_nfree`.
+    pub fn put_free_count(self, image: &mut Image, value: u16)
+        requires { 1024 ≤ length image.old }
+        ensures put { word image.new (free_head self.edition) ≡ value }
+        ensures others { SameOutside image.old image.new (free_head self.edition) (free_head self.edition + 2) }
+    {
+        image.put_word(self.free_head(), value);
+    }
+
+    /// `s_free`: number `j` of the free array, which has 100 in the sixth edition and 50 in the seventh.
+    pub fn free(self, image: &Image, j: usize) -> u32
+        requires room { 1024 ≤ length image.now }
+        requires range { j < (constants self.edition).free_slots }
+        ensures { result ≡ number self.edition image.now (free_head self.edition + 2) j }
+    {
+        number(image, self.edition, self.free_head() + 2, j)
+    }
+
+    /// Puts number `j` of the free array: a word in the sixth edition, a long in the seventh.
+    pub fn put_free(self, image: &mut Image, j: usize, value: u32)
+        requires room { 1024 ≤ length image.old }
+        requires index { j < (constants self.edition).free_slots }
+        requires range { self.edition ≡ Edition.V6 → value < 65536 }
+        ensures put { number self.edition image.new (free_head self.edition + 2) j ≡ value }
+        ensures others { SameOutside image.old image.new
+            (free_head self.edition + 2 + (constants self.edition).number_bytes * j)
+            (free_head self.edition + 2 + (constants self.edition).number_bytes * (j + 1)) }
+    {
+        put_number(image, self.edition, self.free_head() + 2, j, value);
+    }
+
+    /// The byte where the i-number cache begins: its count, and then its array of 100 words.
+    pub fn cache_head(self) -> usize
+        ensures { result ≡ cache_head self.edition }
+    {
+        match self.edition {
+            Edition::V6 => SUPER + 206,
+            Edition::V7 => SUPER + 208,
+        }
+    }
+
+    /// `s_ninode`: how many i-numbers of the cache are in use.
+    pub fn cache_count(self, image: &Image) -> u16
+        requires { 1024 ≤ length image.now }
+        ensures { result ≡ word image.now (cache_head self.edition) }
+    {
+        image.word(self.cache_head())
+    }
+
+    /// Puts `s_ninode`.
+    pub fn put_cache_count(self, image: &mut Image, value: u16)
+        requires { 1024 ≤ length image.old }
+        ensures put { word image.new (cache_head self.edition) ≡ value }
+        ensures others { SameOutside image.old image.new (cache_head self.edition) (cache_head self.edition + 2) }
+    {
+        image.put_word(self.cache_head(), value);
+    }
+
+    /// `s_inode`: i-number `j` of the cache, below 100.
+    pub fn cached(self, image: &Image, j: usize) -> u16
+        requires room { 1024 ≤ length image.now }
+        requires range { j < 100 }
+        ensures { result ≡ word image.now (cache_head self.edition + 2 + 2 * j) }
+    {
+        image.word(self.cache_head() + 2 + 2 * j)
+    }
+
+    /// Puts i-number `j` of the cache, below 100.
+    pub fn put_cached(self, image: &mut Image, j: usize, value: u16)
+        requires room { 1024 ≤ length image.old }
+        requires range { j < 100 }
+        ensures put { word image.new (cache_head self.edition + 2 + 2 * j) ≡ value }
+        ensures others { SameOutside image.old image.new
+            (cache_head self.edition + 2 + 2 * j) (cache_head self.edition + 4 + 2 * j) }
+    {
+        image.put_word(self.cache_head() + 2 + 2 * j, value);
+    }
+
+    /// A flag byte, as it is stored.
+    pub fn flag(self, image: &Image, flag: Flag) -> u8
+        requires { 1024 ≤ length image.now }
+        ensures { result ≡ slice_index image.now (flag_place self.edition flag) }
+    {
+        image.byte(self.flag_place(flag))
+    }
+
+    /// Puts a flag byte.
+    pub fn put_flag(self, image: &mut Image, flag: Flag, value: u8)
+        requires { 1024 ≤ length image.old }
+        ensures put { slice_index image.new (flag_place self.edition flag) ≡ value }
+        ensures others { SameOutside image.old image.new
+            (flag_place self.edition flag) (flag_place self.edition flag + 1) }
+    {
+        image.put_byte(self.flag_place(flag), value);
+    }
+
+    /// The byte of a flag.
+    fn flag_place(self, flag: Flag) -> usize
+        ensures place { result ≡ flag_place self.edition flag }
+        ensures within { result < 1024 }
+    {
+        match self.edition {
+            Edition::V6 => SUPER + 408 + flag.offset(),
+            Edition::V7 => SUPER + 410 + flag.offset(),
+        }
+    }
+
+    /// `s_time`: when the volume was last changed, in seconds.
+    pub fn time(self, image: &Image) -> u32
+        requires { 1024 ≤ length image.now }
+        ensures { result ≡ long image.now (time_place self.edition) }
+    {
+        image.long(self.time_place())
+    }
+
+    /// Puts `s_time`.
+    pub fn put_time(self, image: &mut Image, value: u32)
+        requires { 1024 ≤ length image.old }
+        ensures put { long image.new (time_place self.edition) ≡ value }
+        ensures others { SameOutside image.old image.new (time_place self.edition) (time_place self.edition + 4) }
+    {
+        image.put_long(self.time_place(), value);
+    }
+
+    /// The byte of the time.
+    fn time_place(self) -> usize
+        ensures { result ≡ time_place self.edition }
+    {
+        match self.edition {
+            Edition::V6 => SUPER + 412,
+            Edition::V7 => SUPER + 414,
+        }
+    }
+}

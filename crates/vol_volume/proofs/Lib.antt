@@ -1,0 +1,2 @@
+pub mod NewSizes
+pub mod NewVolumes

@@ -1,0 +1,148 @@
+-- Lemmas on the sizes and the fields of a new volume.
+use Rattle.std.proofs.Common.{◌≡◌, ◌≢◌, ℕ, ◌+◌, ◌-◌, ◌*◌, ◌<◌, ◌≤◌, List, length, true, ap, ◌∙◌, arith, inl, inr, get_or, replicate, Ok}
+use Rattle.std.proofs.lemmas.Bool.{cases_lt}
+use Rattle.std.proofs.lemmas.Bool.Decides.{nat_tests}
+use Rattle.std.proofs.lemmas.List.{length-replicate}
+use Rattle.pdp_words.specs.Words.{word, long, SameOutside}
+use Rattle.vol_layout.specs.Edition.{constants}
+use Rattle.vol_layout.specs.Geometry.{Fits, is_whole, is_bounded, first_data_block, block_count, geometry_of, geometry_read}
+use Rattle.vol_layout.specs.Inode.{inode_place}
+use Rattle.vol_layout.specs.Super.{free_head, time_place}
+use Rattle.vol_layout.proofs.CopyLaws.{IsCopy, long_copied}
+use Rattle.vol_layout.proofs.InodeLaws.{place_from, place_room, place_apart}
+use Rattle.vol_free.proofs.Stacks.{head_end}
+use Rattle.vol_volume.proofs.NewVolumes.{zeros_at, root_first}
+use Rattle.vol_volume.specs.Mkfs.{is_size, IsMakeable, KeepsFirstBlocks}
+use Rattle.vol_layout.specs.declared.edition.Edition.{Edition}
+use Rattle.vol_layout.specs.declared.edition.Edition.TheVariants.{V6, V7}
+use Rattle.vol_layout.specs.declared.geometry.Geometry.{Geometry}
+
+-- the sizes of a volume that can be made fit an image of as many blocks
+fits_by : (edition : Edition) (start end last : ℕ) (image : List ℕ) → is_size edition end (start - 2) ≡ true → 3 ≤ start
+    → last ≡ (constants edition).inodes_per_block * (start - 2) → length image ≡ 512 * end
+    → Fits (record { edition = edition; zone_start = start; zone_end = end; last_inode = last }) image
+fits_by V6 start end last image size low inodes len =
+    let sizes : (start < end) × (end ≤ 65535) = grind (arith, nat_tests) in
+    record { blocks = omega arith; i_list = omega arith; zone = omega arith; root = omega arith; limit = omega arith }
+fits_by V7 start end last image size low inodes len =
+    let sizes : (start < end) × (end ≤ 16777216) = grind (arith, nat_tests) in
+    record { blocks = omega arith; i_list = omega arith; zone = omega arith; root = omega arith; limit = omega arith }
+
+-- the same of a geometry
+pub fits_makeable : (geometry : Geometry) (image : List ℕ) → IsMakeable geometry → length image ≡ 512 * geometry.zone_end → Fits geometry image
+fits_makeable geometry image makeable len =
+    fits_by geometry.edition geometry.zone_start geometry.zone_end geometry.last_inode image makeable.size makeable.start makeable.inodes len
+
+-- a whole image with sizes within bounds has the geometry that it states
+read_whole : (edition : Edition) (image : List ℕ) → is_whole edition image ≡ true → is_bounded edition image ≡ true
+    → geometry_read edition image ≡ Ok (geometry_of edition image)
+unfolding geometry_read
+read_whole edition image whole bounded = rw (whole, bounded)
+
+-- an image that states the sizes of a volume that can be made has them
+read_by : (edition : Edition) (start end last : ℕ) (image : List ℕ) → is_size edition end (start - 2) ≡ true → 3 ≤ start
+    → last ≡ (constants edition).inodes_per_block * (start - 2) → length image ≡ 512 * end
+    → first_data_block edition image ≡ start → block_count edition image ≡ end
+    → geometry_read edition image ≡ Ok (record { edition = edition; zone_start = start; zone_end = end; last_inode = last })
+read_by V6 start end last image size low inodes len first count =
+    let whole : is_whole V6 image ≡ true = grind (arith, nat_tests) in
+    let bounded : is_bounded V6 image ≡ true = grind (arith, nat_tests) in
+    read_whole V6 image whole bounded ∙ rw (first, count, ← inodes)
+read_by V7 start end last image size low inodes len first count =
+    let whole : is_whole V7 image ≡ true = grind (arith, nat_tests) in
+    let bounded : is_bounded V7 image ≡ true = grind (arith, nat_tests) in
+    read_whole V7 image whole bounded ∙ rw (first, count, ← inodes)
+
+-- the same of a geometry
+pub read_makeable : (geometry : Geometry) (image : List ℕ) → IsMakeable geometry → length image ≡ 512 * geometry.zone_end
+    → first_data_block geometry.edition image ≡ geometry.zone_start → block_count geometry.edition image ≡ geometry.zone_end
+    → geometry_read geometry.edition image ≡ Ok geometry
+read_makeable geometry image makeable len first count =
+    read_by geometry.edition geometry.zone_start geometry.zone_end geometry.last_inode image makeable.size makeable.start makeable.inodes len first count
+
+-- the sizes stand before the free list
+pub sizes_kept : (edition : Edition) (old new : List ℕ) → ((k : ℕ) → k < free_head edition → get_or new k 0 ≡ get_or old k 0)
+    → (first_data_block edition new ≡ first_data_block edition old) × (block_count edition new ≡ block_count edition old)
+sizes_kept V6 old new same =
+    let b0 = same 512 (omega arith) in let b1 = same 513 (omega arith) in let b2 = same 514 (omega arith) in let b3 = same 515 (omega arith) in
+    (omega arith, omega arith)
+sizes_kept V7 old new same =
+    let b0 = same 512 (omega arith) in let b1 = same 513 (omega arith) in let b2 = same 514 (omega arith) in let b3 = same 515 (omega arith) in
+    let b4 = same 516 (omega arith) in let b5 = same 517 (omega arith) in
+    (omega arith, omega arith)
+
+-- the time stands behind the free list, in block 1
+pub time_within : (edition : Edition) → (free_head edition + 202 ≤ time_place edition) × (time_place edition + 4 ≤ 1024)
+time_within V6 = (omega arith, omega arith)
+time_within V7 = (omega arith, omega arith)
+
+-- the time stays where its bytes do
+pub time_kept : (edition : Edition) (old new : List ℕ) → IsCopy old new (time_place edition) (time_place edition) 4
+    → long new (time_place edition) ≡ long old (time_place edition)
+time_kept edition old new copy =
+    long_copied old new (time_place edition) (time_place edition) 4 0 (time_place edition) (time_place edition) copy (omega arith) (omega arith) (omega arith)
+
+-- the steps of making a volume: zeros, a super-block put over them, the root put, all other data blocks given
+module _ (geometry : Geometry) (zeros blank rooted full : List ℕ)
+    (makeable : IsMakeable geometry) (are_zeros : zeros ≡ replicate (512 * geometry.zone_end) 0) (super : SameOutside zeros blank 512 1024)
+    (len : length rooted ≡ length blank)
+    (before : (k : ℕ) → k < inode_place geometry.edition (constants geometry.edition).root → get_or rooted k 0 ≡ get_or blank k 0)
+    (between : (k : ℕ) → inode_place geometry.edition (constants geometry.edition).root + (constants geometry.edition).inode_bytes ≤ k
+    → k < 512 * geometry.zone_start → get_or rooted k 0 ≡ get_or blank k 0) where
+  -- the image has all blocks from the start
+  pub len_blank : length blank ≡ 512 * geometry.zone_end
+  len_blank =
+      let whole : length zeros ≡ 512 * geometry.zone_end = ap length are_zeros ∙ length-replicate (512 * geometry.zone_end) 0 in
+      super.len ∙ whole
+
+  -- the geometry fits it
+  pub fits_blank : Fits geometry blank
+  fits_blank = fits_makeable geometry blank makeable len_blank
+
+  -- it fits it with the root, too
+  pub fits_rooted : Fits geometry rooted
+  fits_rooted = fits_makeable geometry rooted makeable (len ∙ len_blank)
+
+  -- the super-block stands before the root's i-node
+  pub super_rooted : (k : ℕ) → k < 1024 → get_or rooted k 0 ≡ get_or blank k 0
+  super_rooted k h =
+      let from : 1024 ≤ inode_place geometry.edition (constants geometry.edition).root = place_from geometry.edition (constants geometry.edition).root in
+      before k (omega arith)
+
+  -- the free list is empty when the root is put
+  pub free_rooted : word blank (free_head geometry.edition) ≡ word zeros (free_head geometry.edition) → word rooted (free_head geometry.edition) ≡ 0
+  free_rooted same =
+      let end : free_head geometry.edition + 202 ≤ 720 = head_end geometry.edition in
+      let first : get_or rooted (free_head geometry.edition) 0 ≡ get_or blank (free_head geometry.edition) 0 = super_rooted (free_head geometry.edition) (omega arith) in
+      let second : get_or rooted (free_head geometry.edition + 1) 0 ≡ get_or blank (free_head geometry.edition + 1) 0 =
+      super_rooted (free_head geometry.edition + 1) (omega arith) in
+      let none : get_or zeros (free_head geometry.edition) 0 ≡ 0 =
+      ap (λ xs. get_or xs (free_head geometry.edition) 0) are_zeros ∙ zeros_at (512 * geometry.zone_end) (free_head geometry.edition) in
+      let no_more : get_or zeros (free_head geometry.edition + 1) 0 ≡ 0 =
+      ap (λ xs. get_or xs (free_head geometry.edition + 1) 0) are_zeros ∙ zeros_at (512 * geometry.zone_end) (free_head geometry.edition + 1) in
+      omega arith
+
+  -- a byte of another i-node than the root's is zero
+  pub others_zero : KeepsFirstBlocks geometry rooted full → (i k : ℕ) → 1 ≤ i → i ≤ geometry.last_inode → i ≢ (constants geometry.edition).root
+      → k < (constants geometry.edition).inode_bytes → get_or full (inode_place geometry.edition i + k) 0 ≡ 0
+  others_zero kept i k first last other within =
+      let at = inode_place geometry.edition i + k in
+      let end : free_head geometry.edition + 202 ≤ 720 = head_end geometry.edition in
+      let from : 1024 ≤ inode_place geometry.edition i = place_from geometry.edition i in
+      let room : inode_place geometry.edition i + (constants geometry.edition).inode_bytes ≤ 512 * geometry.zone_start =
+      place_room geometry blank i fits_blank first last in
+      let root : 1 ≤ (constants geometry.edition).root = root_first geometry.edition in
+      let zero : get_or zeros at 0 ≡ 0 = ap (λ xs. get_or xs at 0) are_zeros ∙ zeros_at (512 * geometry.zone_end) at in
+      let stays : get_or rooted at 0 ≡ get_or blank at 0 =
+      elim (cases_lt i (constants geometry.edition).root) [
+        | inl low ↦
+            let apart : inode_place geometry.edition i + (constants geometry.edition).inode_bytes ≤ inode_place geometry.edition (constants geometry.edition).root =
+            place_apart geometry.edition i (constants geometry.edition).root first low in
+            before at (omega arith)
+        | inr high ↦
+            let above : (constants geometry.edition).root < i = omega (arith, other) in
+            let apart : inode_place geometry.edition (constants geometry.edition).root + (constants geometry.edition).inode_bytes ≤ inode_place geometry.edition i =
+            place_apart geometry.edition (constants geometry.edition).root i root above in
+            between at (omega arith) (omega arith)
+      ] in
+      kept.between at (omega arith) (omega arith) ∙ (stays ∙ (super.above at (omega arith) ∙ zero))

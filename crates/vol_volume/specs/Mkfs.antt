@@ -1,0 +1,85 @@
+-- What `mkfs` makes: a volume with the root alone. (mkfs of the seventh edition, without its prototype file.)
+use Rattle.std.specs.Prelude.{◌≡◌, ◌≢◌, ℕ, ◌+◌, ◌-◌, ◌*◌, ◌<◌, ◌≤◌, ◌&&◌, ◌||◌, Bool, true, nat_lt, nat_le, List, [], ◌∷◌, length, replicate, slice_index, Option, None, Some, Ok}
+use Rattle.std.specs.List.{range_with_len}
+use Rattle.pdp_words.specs.Words.{long}
+use Rattle.vol_layout.specs.Edition.{constants}
+use Rattle.vol_layout.specs.Geometry.{geometry_read}
+use Rattle.vol_layout.specs.Inode.{inode_place, inode_of}
+use Rattle.vol_layout.specs.Super.{free_head, time_place}
+use Rattle.vol_layout.specs.Slot.{padded_name, slot_at}
+use Rattle.vol_free.specs.Stack.{IsFree}
+use Rattle.vol_layout.specs.declared.edition.Edition.{Edition}
+use Rattle.vol_layout.specs.declared.edition.Edition.TheVariants.{V6, V7}
+use Rattle.vol_layout.specs.declared.geometry.Geometry.{Geometry}
+use Rattle.vol_layout.specs.declared.i_node.Inode.{Inode}
+
+-- whether a volume can have so many blocks, of which so many are the i-list: those are rule 2's limits (rule 2)
+abbrev pub is_size : Edition → ℕ → ℕ → Bool
+is_size V6 blocks list_blocks =
+    nat_le 1 list_blocks && (nat_le list_blocks 4095 && (nat_lt (list_blocks + 2) blocks && nat_le blocks 65535))
+is_size V7 blocks list_blocks =
+    nat_le 1 list_blocks && (nat_le list_blocks 8191 && (nat_lt (list_blocks + 2) blocks && nat_le blocks 16777216))
+
+-- whether a user or group number is above the edition's highest (manual section 5, file system)
+abbrev pub is_bad_id : Edition → ℕ → ℕ → Bool
+is_bad_id edition uid gid = nat_lt (constants edition).id_limit uid || nat_lt (constants edition).id_limit gid
+
+-- the geometry of a volume of so many blocks, of which so many are the i-list (filsys.h)
+abbrev pub volume_of : Edition → ℕ → ℕ → Geometry
+volume_of edition blocks list_blocks = record {
+  edition = edition;
+  zone_start = list_blocks + 2;
+  zone_end = blocks;
+  last_inode = (constants edition).inodes_per_block * list_blocks;
+}
+
+-- the mode of a directory with permissions 0777 (mkfs)
+abbrev pub root_mode : Edition → ℕ
+root_mode V6 = 0xC1FF
+root_mode V7 = 0x41FF
+
+-- the time of the last change of an i-node, which the sixth edition lacks (ino.h)
+abbrev pub first_change : Edition → ℕ → Option ℕ
+first_change V6 now = None
+first_change V7 now = Some now
+
+-- the root's i-node: a directory with two links and two slots, whose body is in one block (mkfs)
+abbrev pub root_inode : Edition → ℕ → ℕ → ℕ → ℕ → Inode
+root_inode edition block uid gid now = record {
+  mode = record { bits = root_mode edition };
+  links = 2;
+  uid = uid;
+  gid = gid;
+  size = 32;
+  addresses = block ∷ replicate 12 0;
+  accessed = now;
+  modified = now;
+  changed = first_change edition now;
+}
+
+-- a geometry is that of a volume that can be made (rule 2)
+pub record IsMakeable (geometry : Geometry) : Type 0 where
+  pub size : is_size geometry.edition geometry.zone_end (geometry.zone_start - 2) ≡ true
+  pub start : 3 ≤ geometry.zone_start
+  pub inodes : geometry.last_inode ≡ (constants geometry.edition).inodes_per_block * (geometry.zone_start - 2)
+
+-- an image is that of a new volume: its geometry is the one asked for and it has no more bytes, its time is `now`, the
+-- root has its i-node and its two slots, both of which name it, each other i-node is all zeros, and the free blocks are all
+-- data blocks but the root's, ascending
+pub record IsNewVolume (geometry : Geometry) (uid gid now : ℕ) (image : List ℕ) : Type 0 where
+  pub len : length image ≡ 512 * geometry.zone_end
+  pub sizes : geometry_read geometry.edition image ≡ Ok geometry
+  pub time : long image (time_place geometry.edition) ≡ now
+  pub root : inode_of geometry.edition image (constants geometry.edition).root ≡ root_inode geometry.edition geometry.zone_start uid gid now
+  pub dot : slot_at image (512 * geometry.zone_start) ≡ record { inode = (constants geometry.edition).root; name = padded_name (46 ∷ []) }
+  pub dot_dot : slot_at image (512 * geometry.zone_start + 16)
+      ≡ record { inode = (constants geometry.edition).root; name = padded_name (46 ∷ 46 ∷ []) }
+  pub others : (i k : ℕ) → 1 ≤ i → i ≤ geometry.last_inode → i ≢ (constants geometry.edition).root
+      → k < (constants geometry.edition).inode_bytes → slice_index image (inode_place geometry.edition i + k) ≡ 0
+  pub free : IsFree geometry image (range_with_len (geometry.zone_start + 1) (geometry.zone_end - (geometry.zone_start + 1)))
+
+-- the blocks up to the first of the data zone have the same bytes, but for the count and array of the free list (a frame)
+pub record KeepsFirstBlocks (geometry : Geometry) (old new : List ℕ) : Type 0 where
+  pub len : length new ≡ length old
+  pub below : (k : ℕ) → k < free_head geometry.edition → slice_index new k ≡ slice_index old k
+  pub between : (k : ℕ) → free_head geometry.edition + 202 ≤ k → k < 512 * (geometry.zone_start + 1) → slice_index new k ≡ slice_index old k

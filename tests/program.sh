@@ -1,0 +1,340 @@
+#!/usr/bin/env bash
+# Runs the built program from the shell, and compares its output, its standard error and its status, byte by byte.
+# Usage: tests/program.sh PROGRAM. It prints a line for each row that fails, and ends with 'N passed, N failed'.
+set -uo pipefail
+program=$(realpath "${1:?usage: tests/program.sh PROGRAM}")
+folder=$(mktemp -d)
+trap 'rm -rf "$folder"' EXIT
+cd "$folder" || exit 1
+passed=0
+failed=0
+
+# image FILE BYTES: a file of so many zeros
+image() { head -c "$2" /dev/zero > "$1"; }
+
+# put FILE AT HEX: these bytes from byte AT of FILE on
+put() {
+    local escaped
+    escaped=$(sed 's/../\\x&/g' <<< "${3// /}")
+    printf '%b' "$escaped" | dd of="$1" bs=1 seek="$2" conv=notrunc status=none
+}
+
+# changed FROM TO AT HEX: TO is FROM with these bytes from byte AT on
+changed() {
+    cp "$1" "$2"
+    put "$2" "$3" "$4"
+}
+
+# wants LABEL STATUS OUTPUT ERROR: compares what the last run left in status, output and error; OUTPUT and ERROR are files
+wants() {
+    if [ "$(cat status)" = "$2" ] && cmp -s output "$3" && cmp -s error "$4"; then
+        passed=$((passed + 1))
+    else
+        failed=$((failed + 1))
+        echo "failed: $1: status $(cat status), wanted $2; output $(wc -c < output) bytes; error: $(head -c 300 error)"
+    fi
+}
+
+# runs WORD..: runs the program
+runs() {
+    "$program" "$@" > output 2> error < /dev/null
+    echo $? > status
+}
+
+# prints FILE WORD..: the program prints the bytes of FILE, and nothing else, with status 0
+prints() {
+    local file=$1
+    shift
+    runs "$@"
+    wants "$*" 0 "$file" none
+}
+
+# refuses STATUS LINE WORD..: the program prints this line on standard error, and nothing else
+refuses() {
+    local status=$1
+    printf '%s\n' "$2" > line
+    shift 2
+    runs "$@"
+    wants "$*" "$status" none line
+}
+
+# misread TEXT WORD..: the command line is at fault: status 2, no output, and an error that begins with TEXT
+misread() {
+    local text=$1
+    shift
+    runs "$@"
+    if [ "$(head -c ${#text} error)" = "$text" ]; then
+        cp error line
+    else
+        printf '%s\n' "$text" > line
+    fi
+    wants "$*" 2 none line
+}
+
+# helps WORD..: the program prints a help that begins with a sentence and has a usage, with status 0
+helps() {
+    runs "$@"
+    cp output help
+    grep -q '^Usage: unixvol' help || echo 'no usage' > help
+    wants "$*" 0 help none
+}
+
+: > none
+printf hello > hello
+head -c 5 /dev/zero > zeros
+{ cat hello; head -c 515 /dev/zero; } > long_hello
+
+# A volume of the sixth edition: one block of i-nodes, five blocks; i-node 1 is a file of five bytes in block 3.
+image six 2560
+put six 512 '01 00 05 00'
+put six 1024 'A4 81 01 00 00 00 05 00 03 00'
+put six 1536 '68 65 6C 6C 6F'
+# A volume of the seventh edition: one block of i-nodes, five blocks; i-node 2 is a file of five bytes in block 3.
+image seven 2560
+put seven 512 '03 00 00 00 05 00'
+put seven 1088 'A4 81 01 00 00 00 00 00 00 00 05 00 00 03 00'
+put seven 1536 '68 65 6C 6C 6F'
+
+# Files of the sixth edition.
+prints hello cat 6 six 1
+prints hello cat 6 six 00001
+refuses 1 'unixvol: 2 NoEntry' cat 6 six 16
+refuses 1 'unixvol: 2 NoEntry' cat 6 six 17
+refuses 1 'unixvol: 2 NoEntry' cat 6 six 0
+refuses 1 'unixvol: 2 NoEntry' cat 6 six 65535
+changed six edited 1030 '08 02' # 520 bytes: more than a block, and no second block
+prints long_hello cat 6 edited 1
+changed six edited 1032 '09' # a block outside the zone
+prints zeros cat 6 edited 1
+changed six edited 1025 '91' # the large flag
+refuses 1 'unixvol: 106 NotYet' cat 6 edited 1
+changed six edited 512 '03' # no data block is left
+refuses 1 'unixvol: unsound, rule 2' cat 6 edited 1
+changed six edited 514 '06' # six blocks, of which five are there
+refuses 1 'unixvol: unsound, rule 1' cat 6 edited 1
+head -c 1023 six > edited
+refuses 1 'unixvol: unsound, rule 1' cat 6 edited 1
+refuses 1 'unixvol: unsound, rule 1' cat 6 none 1
+changed six edited 1025 'C1' # a directory
+prints hello cat 6 edited 1
+changed six edited 1025 'A1' # a character special file
+refuses 1 'unixvol: 102 NotRegular' cat 6 edited 1
+changed six edited 1025 'E1' # a block special file
+refuses 1 'unixvol: 102 NotRegular' cat 6 edited 1
+changed six edited 1025 '01' # permissions, and not allocated
+refuses 1 'unixvol: 102 NotRegular' cat 6 edited 1
+changed six edited 1024 '00 00' # a free i-node
+refuses 1 'unixvol: 2 NoEntry' cat 6 edited 1
+changed six edited 1030 '00 00' # no byte
+prints none cat 6 edited 1
+
+# Files of the seventh edition.
+prints hello cat 7 seven 2
+refuses 1 'unixvol: 2 NoEntry' cat 7 seven 1
+refuses 1 'unixvol: 2 NoEntry' cat 7 seven 9
+changed seven edited 512 '02'
+refuses 1 'unixvol: unsound, rule 2' cat 7 edited 2
+changed seven edited 516 '06'
+refuses 1 'unixvol: unsound, rule 1' cat 7 edited 2
+changed seven edited 1096 '00 00 00 14' # 5,120 bytes: ten blocks
+{ cat hello; head -c 5115 /dev/zero; } > ten_blocks
+prints ten_blocks cat 7 edited 2
+changed seven edited 1096 '00 00 01 14' # 5,121 bytes
+refuses 1 'unixvol: 106 NotYet' cat 7 edited 2
+changed seven edited 1088 'ED 41' # a directory
+prints hello cat 7 edited 2
+changed seven edited 1088 'A4 21' # a character special file
+refuses 1 'unixvol: 102 NotRegular' cat 7 edited 2
+changed seven edited 1088 'A4 11' # none of the edition's types
+refuses 1 'unixvol: 102 NotRegular' cat 7 edited 2
+
+# Files that can't be read or written.
+refuses 3 'unixvol: cannot read missing' cat 6 missing 1
+refuses 3 'unixvol: cannot read .' cat 6 . 1
+refuses 3 'unixvol: cannot read ' cat 6 '' 1
+"$program" cat 6 six 1 > /dev/full 2> error
+echo $? > status
+: > output
+echo 'unixvol: cannot write -' > line
+wants 'cat to a full device' 3 none line
+"$program" cat 6 six 1 >&- 2> error
+echo $? > status
+wants 'cat to a closed output' 3 none line
+"$program" --help > /dev/full 2> error
+echo $? > status
+wants 'help to a full device' 3 none line
+# A pipe that nobody reads any more, where the signal of that would end a program, and where it is ignored.
+signal=()
+env --default-signal=PIPE true 2> /dev/null && signal=(env --default-signal=PIPE)
+(sleep 0.3; "${signal[@]}" "$program" cat 6 six 1 2> error; echo $? > status) | true
+wants 'cat to a pipe that nobody reads' 3 none line
+(sleep 0.3; trap '' PIPE; "$program" cat 6 six 1 2> error; echo $? > status) | true
+wants 'cat to a pipe that nobody reads, the signal ignored' 3 none line
+(sleep 0.3; "${signal[@]}" "$program" --help 2> error; echo $? > status) | true
+wants 'help to a pipe that nobody reads' 3 none line
+"$program" cat 6 six 1 > output 2>&-
+echo $? > status
+: > error
+wants 'cat with a closed standard error' 0 hello none
+mkfifo pipe
+cat six > pipe &
+prints hello cat 6 pipe 1
+wait
+
+# Words that are none of the command line's.
+misread 'error: invalid value' cat 8 six 1
+misread 'error: invalid value' cat six 6 1
+for number in 65536 99999999999999999999 +1 1.0 0x1 '' ' 1' '1 ' one; do
+    misread "error: invalid value '$number' for '<INO>'" cat 6 six "$number"
+done
+misread 'error: unexpected argument' cat 6 six -1
+misread "error: invalid value '-1' for '<INO>'" cat 6 six -- -1
+misread 'error: the following required arguments were not provided' cat 6 six
+misread 'error: unexpected argument' cat 6 six 1 2
+misread 'error: unrecognized subcommand' dog 6 six 1
+misread 'Works on disk images'
+misread 'error: a word of the command line is not UTF-8 text' cat 6 $'\xff' 1
+
+# New volumes. `made` is the volume of twenty blocks of the sixth edition, two of them the i-list, at 0x0A0B0C0D.
+image made 10240
+put made 512 '02 00 14 00 10 00 00 00 13 00 12 00 11 00 10 00 0F 00 0E 00 0D 00 0C 00 0B 00 0A 00 09 00 08 00 07 00 06 00 05 00'
+put made 924 '0B 0A 0D 0C'
+put made 1024 'FF C1 02 00 00 00 20 00 04 00'
+put made 1048 '0B 0A 0D 0C 0B 0A 0D 0C'
+put made 2048 '01 00 2E'
+put made 2064 '01 00 2E 2E'
+image root 32
+put root 0 '01 00 2E'
+put root 16 '01 00 2E 2E'
+twenty=(20 2 0 0 168496141)
+
+# saves LABEL FILE WANTED: FILE has the bytes of WANTED, and no new file is left over in its folder
+saves() {
+    if cmp -s "$2" "$3" && [ -z "$(find "$(dirname "$2")" -maxdepth 1 -name '.unixvol-*')" ]; then
+        passed=$((passed + 1))
+    else
+        failed=$((failed + 1))
+        echo "failed: $1: $2 isn't as it was to be saved"
+    fi
+}
+
+# has LABEL WANTED TEXT: the two texts are equal
+has() {
+    if [ "$2" = "$3" ]; then
+        passed=$((passed + 1))
+    else
+        failed=$((failed + 1))
+        echo "failed: $1: $3, wanted $2"
+    fi
+}
+
+mkdir volumes
+prints none mkfs 6 volumes/a "${twenty[@]}"
+saves 'a new file' volumes/a made
+prints root cat 6 volumes/a 1
+prints none mkfs 7 volumes/b 100 2 0 0 168496141
+has 'the size of a volume of the seventh edition' 51200 "$(wc -c < volumes/b)"
+put root 0 '02'
+put root 16 '02'
+prints root cat 7 volumes/b 2
+prints none mkfs 6 volumes/b "${twenty[@]}"
+saves 'an old file of more bytes' volumes/b made
+prints none mkfs 7 volumes/b 5 2 32767 32767 4294967295
+put volumes/b 1092 '00 00 00 00' # the root's user and group
+prints root cat 7 volumes/b 2
+
+# A volume that isn't made leaves the file that was there, and makes none.
+cp hello volumes/kept
+for sizes in '4 2' '20 0' '65536 2' '4294967295 2' '20 65535'; do
+    read -r blocks list_blocks <<< "$sizes"
+    refuses 1 'unixvol: bounds' mkfs 6 volumes/kept "$blocks" "$list_blocks" 0 0 0
+done
+refuses 1 'unixvol: bounds' mkfs 7 volumes/kept 100 0 0 0 0
+refuses 1 'unixvol: bounds' mkfs 7 volumes/kept 20000 8192 0 0 0
+refuses 1 'unixvol: bounds' mkfs 6 volumes/kept 4 2 256 0 0
+refuses 1 'unixvol: 104 BadId' mkfs 6 volumes/kept 20 2 256 0 0
+refuses 1 'unixvol: 104 BadId' mkfs 6 volumes/kept 20 2 0 256 0
+refuses 1 'unixvol: 104 BadId' mkfs 7 volumes/kept 100 2 32768 0 0
+saves 'a file where no volume was made' volumes/kept hello
+refuses 1 'unixvol: bounds' mkfs 6 volumes/none 4 2 0 0 0
+has 'a file where none was made' no "$([ -e volumes/none ] && echo yes || echo no)"
+(ulimit -v 1000000; runs mkfs 7 volumes/kept 16777216 2 0 0 0)
+echo 'unixvol: 12 NoMemory' > line
+wants 'mkfs of 8 GiB in less memory' 4 none line
+saves 'a file for whose volume there was no memory' volumes/kept hello
+
+# Files that are replaced: what stands at the end of a link, permissions, and what is no regular file.
+cp hello volumes/linked
+chmod 640 volumes/linked
+ln -s linked volumes/link
+prints none mkfs 6 volumes/link "${twenty[@]}"
+has 'a symbolic link' linked "$(readlink volumes/link)"
+saves 'what a symbolic link leads to' volumes/linked made
+has 'the permissions of an old file' 640 "$(stat -c %a volumes/linked)"
+ln -s later volumes/early
+prints none mkfs 6 volumes/early "${twenty[@]}"
+has 'a symbolic link that led to nothing' later "$(readlink volumes/early)"
+saves 'what a symbolic link leads to from now on' volumes/later made
+(umask 027; runs mkfs 6 volumes/masked "${twenty[@]}")
+has 'the permissions of a new file' 640 "$(stat -c %a volumes/masked)"
+cat pipe > piped &
+prints none mkfs 6 pipe "${twenty[@]}"
+wait
+saves 'what went through a pipe' piped made
+prints made mkfs 6 /dev/stdout "${twenty[@]}"
+refuses 3 'unixvol: cannot write /dev/full' mkfs 6 /dev/full "${twenty[@]}"
+refuses 3 'unixvol: cannot write volumes' mkfs 6 volumes "${twenty[@]}"
+refuses 3 'unixvol: cannot write missing/a' mkfs 6 missing/a "${twenty[@]}"
+refuses 3 'unixvol: cannot write /proc/a' mkfs 6 /proc/a "${twenty[@]}"
+refuses 3 'unixvol: cannot write ' mkfs 6 '' "${twenty[@]}"
+refuses 3 'unixvol: cannot write hello/a' mkfs 6 hello/a "${twenty[@]}"
+
+# A disk that is full, which a limit on the size of files stands for: the old file stays, and no new one.
+(ulimit -f 8; trap '' XFSZ; runs mkfs 6 volumes/kept "${twenty[@]}")
+echo 'unixvol: cannot write volumes/kept' > line
+wants 'mkfs where the new file finds no room' 3 none line
+saves 'a file whose new one found no room' volumes/kept hello
+ln -s nothing volumes/empty
+(ulimit -f 8; trap '' XFSZ; runs mkfs 6 volumes/empty "${twenty[@]}")
+echo 'unixvol: cannot write volumes/empty' > line
+wants 'mkfs at the end of a link where the new file finds no room' 3 none line
+has 'a file at the end of a link' no "$([ -e volumes/nothing ] && echo yes || echo no)"
+
+# Files and folders that are closed to the user: the super-user may write them all the same.
+if [ "$(id -u)" != 0 ]; then
+    chmod 555 volumes
+    refuses 3 'unixvol: cannot write volumes/kept' mkfs 6 volumes/kept "${twenty[@]}"
+    chmod 755 volumes
+    chmod 444 volumes/kept
+    refuses 3 'unixvol: cannot write volumes/kept' mkfs 6 volumes/kept "${twenty[@]}"
+    saves 'a file that is closed to writing' volumes/kept hello
+fi
+
+# Words of mkfs that are none of the command line's.
+misread 'error: invalid value' mkfs 8 volumes/kept "${twenty[@]}"
+for number in 4294967296 +1 0x1 '' ' 1' one; do
+    misread "error: invalid value '$number' for '<FSIZE>'" mkfs 6 volumes/kept "$number" 2 0 0 0
+    misread "error: invalid value '$number' for '<NOW>'" mkfs 6 volumes/kept 20 2 0 0 "$number"
+done
+for number in 65536 +1 0x1 '' ' 1' one; do
+    misread "error: invalid value '$number' for '<IBLOCKS>'" mkfs 6 volumes/kept 20 "$number" 0 0 0
+    misread "error: invalid value '$number' for '<UID>'" mkfs 6 volumes/kept 20 2 "$number" 0 0
+    misread "error: invalid value '$number' for '<GID>'" mkfs 6 volumes/kept 20 2 0 "$number" 0
+done
+misread 'error: the following required arguments were not provided' mkfs 6 volumes/kept 20 2 0 0
+misread 'error: unexpected argument' mkfs 6 volumes/kept 20 2 0 0 0 0
+saves 'a file whose command line was misread' volumes/kept hello
+
+# What the program says of itself.
+echo 'unixvol 0.1.0' > version
+prints version --version
+prints version -V
+helps --help
+helps help
+helps cat --help
+helps help cat
+helps mkfs --help
+helps help mkfs
+
+echo "$passed passed, $failed failed"
+[ "$failed" = 0 ]

@@ -7,13 +7,11 @@ mod commands;
 mod decimal;
 mod making;
 mod saving_file;
-mod standard_output;
 
-use standard_output::StandardOutput;
 use std::process::ExitCode;
 
 fn main(rt: HostRuntime) -> ExitCode {
-    let mut output = StandardOutput::new(rt.stdout());
+    let mut output = rt.stdout();
     let mut errors = rt.stderr();
     ExitCode::from(commands::run(&rt, &mut output, &mut errors))
 }

@@ -13,7 +13,7 @@ use Rattle.vol_layout.specs.declared.geometry.Geometry.{Geometry}
 use Rattle.vol_layout.specs.declared.places.Form.{Form}
 use Rattle.vol_layout.specs.declared.places.Form.TheVariants.{Small, Large}
 use Rattle.vol_layout.proofs.InodeLaws.{mode_kept, size_kept, form_kept}
-use Rattle.vol_layout.proofs.PlaceLaws.{IsLeaf, leaf_block, last_leaf, has_no_way}
+use Rattle.vol_layout.proofs.PlaceLaws.{IsLeaf, leaf_block, last_leaf, has_no_way, small_levels}
 use Rattle.vol_layout.proofs.BodyLaws.{body_byte_is, zone_byte_out}
 use Rattle.vol_layout.proofs.NameLaws.{zone_some, zero_out, named_stops, holds_named, named_holds}
 use Rattle.vol_layout.proofs.FrameLaws.{zone_byte_kept}
@@ -241,16 +241,11 @@ record IsAddress (p : List ℕ) : Type 0 where
   low : index < 8
   is : p ≡ index ∷ []
 
--- nothing is below an address of a small file
-small_levels : (a : ℕ) (p : List ℕ) → levels_below Small (a ∷ p) ≡ 0
-small_levels a [] = refl
-small_levels a (h ∷ p) = let none : levels_below Small (h ∷ p) ≡ 0 = small_levels h p in omega arith
-
 -- each place of a small file is an address
 small_place : (p : List ℕ) → IsPlace Small p → IsAddress p
 small_place [] place = absurd place
 small_place (k ∷ []) place = record { index = k; low = place; is = refl }
-small_place (j ∷ (a ∷ p)) place = let none : levels_below Small (a ∷ p) ≡ 0 = small_levels a p in let deep = place.1 in absurd (omega (arith, none, deep))
+small_place (j ∷ (a ∷ p)) place = let none : levels_below Small (a ∷ p) ≡ 0 = small_levels (a ∷ p) in let deep = place.1 in absurd (omega (arith, none, deep))
 
 -- the place to which an address is moved down
 moved_place : (x : ℕ) → x < 8 → IsPlace Large (x ∷ (0 ∷ []))

@@ -31,11 +31,11 @@ use Rattle.vol_file.proofs.Extending.{body_same}
 use Rattle.vol_file.proofs.Bytes.{same_names, same_covered}
 
 -- a byte of an i-node that is kept stands apart from the size
-kept_apart : (edition : Edition) (i r : ℕ) → is_kept_byte edition r ≡ true
+pub size_apart : (edition : Edition) (i r : ℕ) → is_kept_byte edition r ≡ true
     → (inode_place edition i + r < size_place edition i) ⊎ (size_place edition i + size_bytes edition ≤ inode_place edition i + r)
-kept_apart V6 i r kept =
+size_apart V6 i r kept =
     elim (cases_lt r 5) [ inl less ↦ inl (omega arith) | inr more ↦ let high : 24 ≤ r = grind (arith, nat_tests) in inr (omega arith) ]
-kept_apart V7 i r kept =
+size_apart V7 i r kept =
     elim (cases_lt r 8) [ inl less ↦ inl (omega arith) | inr more ↦ let high : 51 ≤ r = grind (arith, nat_tests) in inr (omega arith) ]
 
 -- a write of the size leaves all but file i
@@ -52,7 +52,7 @@ size_elsewhere geometry old new blocks i sound file same =
       super_block = λ x b l. same.below x (omega (arith, within.0, from, l));
       lower_inodes = λ x b l. same.below x (omega (arith, within.0, l));
       higher_inodes = λ x b l. same.above x (omega (arith, within.1, within.2, b));
-      inode = λ r kept. elim (kept_apart geometry.edition i r kept) [
+      inode = λ r kept. elim (size_apart geometry.edition i r kept) [
         | inl less ↦ same.below (inode_place geometry.edition i + r) less
         | inr more ↦ same.above (inode_place geometry.edition i + r) more
       ];

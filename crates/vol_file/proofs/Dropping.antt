@@ -1,28 +1,21 @@
 -- Making the number at a place 0, and giving back the block that it named.
-use Rattle.std.proofs.Common.{◌≡◌, ◌≢◌, ℕ, ◌+◌, ◌*◌, ◌<◌, ◌≤◌, ◌⊎◌, ◌∙◌, sym, ap, subst, List, [], ◌∷◌, arith, inl, inr, true}
-use Rattle.std.proofs.lemmas.Bool.{cases_lt, cases_eq}
+use Rattle.std.proofs.Common.{◌≡◌, ◌≢◌, ℕ, ◌≤◌, ◌⊎◌, ◌∙◌, sym, ap, subst, List, [], ◌∷◌, arith, inl, inr, true}
+use Rattle.std.proofs.lemmas.Bool.{cases_eq}
 use Rattle.vol_layout.specs.Edition.{constants}
 use Rattle.vol_layout.specs.Geometry.{in_zone, Fits}
-use Rattle.vol_layout.specs.Inode.{inode_place, kind_of}
-use Rattle.vol_layout.specs.Super.{free_head}
-use Rattle.vol_layout.specs.Places.{IsPlace, has_places}
+use Rattle.vol_layout.specs.Inode.{kind_of}
 use Rattle.vol_layout.specs.Laws.{IsFront}
-use Rattle.vol_layout.specs.Names.{mode_of, form_at, IsFile, IsPlaceOf, named, Names}
+use Rattle.vol_layout.specs.Names.{mode_of, form_at, IsFile, IsPlaceOf, named}
 use Rattle.vol_layout.specs.declared.geometry.Geometry.{Geometry}
-use Rattle.vol_layout.proofs.CopyLaws.{IsCopy, number_copied, number_room}
-use Rattle.vol_layout.proofs.InodeLaws.{KeepsInode, place_from, place_room, mode_kept, size_kept, form_same, address_kept}
-use Rattle.vol_layout.proofs.PlaceLaws.{place_front, front_self}
-use Rattle.vol_layout.proofs.BodyLaws.{zone_bounds}
+use Rattle.vol_layout.proofs.InodeLaws.{mode_kept, size_kept, form_same}
+use Rattle.vol_layout.proofs.PlaceLaws.{front_self}
 use Rattle.vol_layout.proofs.NameLaws.{zone_some, named_holds, holds_named}
-use Rattle.vol_layout.proofs.FrameLaws.{named_kept, addresses_of, pointers_of}
 use Rattle.vol_free.specs.Stack.{IsIn, IsFree, StaysBut}
-use Rattle.vol_free.proofs.Stacks.{head_end, stack_zoned}
 use Rattle.vol_free.proofs.Frames.{free_zone}
 use Rattle.vol_file.specs.Rules.{size_of, IsSoundWith, IsCovered}
 use Rattle.vol_file.specs.Steps.{StaysElsewhere, Stores}
 use Rattle.vol_file.specs.Clears.{IsNamedAt, IsEmptyUnder, Clears}
 use Rattle.vol_file.proofs.Alone.{fits_len, elsewhere_before, elsewhere_named, elsewhere_names, elsewhere_then}
-use Rattle.vol_file.proofs.Cells.{kept_within}
 use Rattle.vol_file.proofs.Fronts.{front_or, front_under, front_zero}
 use Rattle.vol_file.proofs.Soundness.{Lessens, named_before, sound_after}
 use Rattle.vol_file.proofs.Naming.{place_same}

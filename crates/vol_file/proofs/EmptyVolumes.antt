@@ -1,10 +1,9 @@
 -- A volume with an empty root directory and an empty file, on which tests begin.
-use Rattle.std.proofs.Common.{◌≡◌, ◌≢◌, ℕ, ◌+◌, ◌*◌, ◌<◌, ◌≤◌, ◌∙◌, sym, ap, subst, List, [], ◌∷◌, get_or, refl, arith, inl, inr, true, false, if◌then◌else◌, ltb}
+use Rattle.std.proofs.Common.{◌≡◌, ◌≢◌, ℕ, ◌+◌, ◌*◌, ◌<◌, ◌≤◌, ◌∙◌, sym, ap, List, [], ◌∷◌, get_or, refl, arith, inl, inr, true, false, if◌then◌else◌, ltb}
 use Rattle.std.proofs.lemmas.Bool.{cases_lt, cases_eq}
 use Rattle.pdp_words.specs.Words.{word, SameOutside}
 use Rattle.vol_layout.specs.Edition.{constants}
 use Rattle.vol_layout.specs.Geometry.{Fits}
-use Rattle.vol_layout.specs.Super.{free_head}
 use Rattle.vol_layout.specs.Inode.{inode_place, inode_at, address_at, address_count, size_at, kind_of}
 use Rattle.vol_layout.specs.Places.{first_count}
 use Rattle.vol_layout.specs.Names.{mode_of, form_at, IsPlaceOf, named}
@@ -16,8 +15,7 @@ use Rattle.vol_layout.proofs.InodeLaws.{inode_v6, inode_v7, place_from, place_ap
 use Rattle.vol_layout.proofs.AddressLaws.{mode_within, inode_within}
 use Rattle.vol_layout.proofs.NameLaws.{zone_some}
 use Rattle.vol_layout.proofs.KindLaws.{kind_zero}
-use Rattle.vol_free.specs.Stack.{IsIn, Once, IsStack, IsFree, HasStack}
-use Rattle.vol_free.proofs.Stacks.{IsFree_unique}
+use Rattle.vol_free.specs.Stack.{IsFree}
 use Rattle.vol_free.proofs.Frames.{IsFree-before_zone, free_zone}
 use Rattle.vol_file.specs.Rules.{size_of, kind_at, HasKinds, IsSoundWith}
 use Rattle.vol_file.proofs.Fronts.{front_zero}

@@ -1,15 +1,12 @@
 -- Entries of pointer blocks and addresses of i-nodes that name a block, once they are made 0.
-use Rattle.std.proofs.Common.{◌≡◌, ℕ, ◌+◌, ◌*◌, ◌<◌, ◌≤◌, ◌∙◌, sym, ap, subst, List, [], ◌∷◌, length, arith, true, false, if◌then◌else◌}
+use Rattle.std.proofs.Common.{◌≡◌, ℕ, ◌+◌, ◌*◌, ◌<◌, ◌≤◌, ◌∙◌, sym, ap, subst, List, [], ◌∷◌, length, arith, true}
 use Rattle.pdp_words.specs.Words.{SameOutside}
 use Rattle.vol_layout.specs.Edition.{constants, number}
 use Rattle.vol_layout.specs.Geometry.{in_zone}
-use Rattle.vol_layout.specs.Inode.{inode_place, address_at, address_count, address_bytes, address_place, is_large, kind_of}
-use Rattle.vol_layout.specs.Places.{first_count, pointer_count, form_of, file_form, has_places}
+use Rattle.vol_layout.specs.Inode.{inode_place, address_at, address_bytes, address_place}
+use Rattle.vol_layout.specs.Places.{first_count, pointer_count}
 use Rattle.vol_layout.specs.Names.{mode_of, form_at, named}
-use Rattle.vol_layout.specs.declared.edition.Edition.{Edition}
-use Rattle.vol_layout.specs.declared.edition.Edition.TheVariants.{V6, V7}
 use Rattle.vol_layout.specs.declared.geometry.Geometry.{Geometry}
-use Rattle.vol_layout.specs.declared.places.Form.TheVariants.{Small, Large, Bare}
 use Rattle.vol_layout.proofs.CopyLaws.{number_room}
 use Rattle.vol_layout.proofs.BodyLaws.{zone_bounds}
 use Rattle.vol_layout.proofs.NameLaws.{named_stops, zero_out}

@@ -1,11 +1,10 @@
 -- All places on the ways of the touched blocks named: how many blocks that takes, and the form that the file has then.
-use Rattle.std.proofs.Common.{◌≡◌, ◌≢◌, ℕ, zero, suc, ◌+◌, ◌-◌, ◌*◌, ◌/◌, ◌<◌, ◌≤◌, ◌∙◌, sym, ap, subst, List, [], ◌∷◌, ◌++◌, length, refl, arith, rules, inl, inr, true, false, Bool, cond, if◌then◌else◌, leb}
+use Rattle.std.proofs.Common.{◌≡◌, ℕ, zero, suc, ◌+◌, ◌*◌, ◌<◌, ◌≤◌, ◌∙◌, sym, ap, subst, List, ◌∷◌, ◌++◌, length, refl, arith, true, false, Bool, if◌then◌else◌, leb}
 use Rattle.std.specs.Prelude.{◌&&◌, ◌||◌, not}
-use Rattle.std.specs.List.{count_by, sum_by, list_any, range_with_len}
-use Rattle.std.proofs.lemmas.Bool.{cases_lt, lt-leb, le-leb}
+use Rattle.std.specs.List.{count_by, list_any, range_with_len}
+use Rattle.std.proofs.lemmas.Bool.{lt-leb, le-leb}
 use Rattle.std.proofs.lemmas.Bool.Decides.{nat_tests}
 use Rattle.std.proofs.lemmas.List.{length-append}
-use Rattle.std.proofs.lemmas.List.Sums.{sum_by-cons}
 use Rattle.vol_layout.specs.Edition.{constants}
 use Rattle.vol_layout.specs.Inode.{kind_of, is_large, with_large}
 use Rattle.vol_layout.specs.Places.{IsPlace, form_of, file_form, has_places, block_limit, places}
@@ -16,16 +15,14 @@ use Rattle.vol_layout.specs.declared.edition.Edition.TheVariants.{V6, V7}
 use Rattle.vol_layout.specs.declared.places.Form.{Form}
 use Rattle.vol_layout.specs.declared.places.Form.TheVariants.{Small, Large, Deep, Bare}
 use Rattle.vol_layout.proofs.InodeLaws.{form_same}
-use Rattle.vol_file.specs.Shape.{is_named, is_on_ways, grows_large, moved_down, fit_form, fit_names, filled}
+use Rattle.vol_file.specs.Shape.{is_named, is_on_ways, grows_large, moved_down}
 use Rattle.vol_file.specs.Need.{missing_count, need_of}
 use Rattle.vol_file.specs.Rules.{IsSoundWith}
-use Rattle.vol_file.specs.Changes.{mode_after}
-use Rattle.vol_file.specs.Laws.{IsAmong}
-use Rattle.vol_file.specs.Steps.{lacking, Extends, IsReady, WantsWays, NamesWays, Enlarges, Fills}
+use Rattle.vol_file.specs.Steps.{lacking, WantsWays, NamesWays, Enlarges, Fills}
 use Rattle.vol_file.specs.Missing.{grows_at}
 use Rattle.vol_file.proofs.PlaceLists.{count_among, count_none, among_places}
 use Rattle.vol_file.proofs.Alone.{elsewhere_then}
-use Rattle.vol_file.proofs.Naming.{file_same, place_same}
+use Rattle.vol_file.proofs.Naming.{file_same}
 use Rattle.vol_file.proofs.Lasts.{or_true}
 
 -- a test that holds of what is there

@@ -1,15 +1,12 @@
 -- Clearing the entries of a pointer block, and the addresses of an i-node, one after another.
-use Rattle.std.proofs.Common.{◌≡◌, ◌≢◌, ℕ, zero, suc, ◌+◌, ◌-◌, ◌*◌, ◌<◌, ◌≤◌, ◌∙◌, sym, ap, subst, List, [], ◌∷◌, ◌++◌, length, refl, arith, true, false, if◌then◌else◌}
+use Rattle.std.proofs.Common.{◌≡◌, ◌≢◌, ℕ, zero, suc, ◌+◌, ◌-◌, ◌*◌, ◌<◌, ◌≤◌, ◌∙◌, sym, ap, subst, List, [], ◌∷◌, ◌++◌, length, refl, arith}
 use Rattle.vol_layout.specs.Edition.{constants, number}
 use Rattle.vol_layout.specs.Geometry.{Fits}
-use Rattle.vol_layout.specs.Inode.{inode_place, address_at, is_large}
-use Rattle.vol_layout.specs.Places.{places, levels, levels_below, first_count, pointer_count, file_form}
+use Rattle.vol_layout.specs.Inode.{inode_place, address_at}
+use Rattle.vol_layout.specs.Places.{places, levels, levels_below, first_count, pointer_count}
 use Rattle.vol_layout.specs.Laws.{IsFront}
 use Rattle.vol_layout.specs.Names.{mode_of, form_at, IsFile, IsPlaceOf, named}
-use Rattle.vol_layout.specs.declared.edition.Edition.{Edition}
-use Rattle.vol_layout.specs.declared.edition.Edition.TheVariants.{V6, V7}
 use Rattle.vol_layout.specs.declared.geometry.Geometry.{Geometry}
-use Rattle.vol_layout.specs.declared.places.Form.TheVariants.{Small, Large, Bare}
 use Rattle.vol_layout.proofs.CopyLaws.{number_room}
 use Rattle.vol_layout.proofs.InodeLaws.{form_same}
 use Rattle.vol_layout.proofs.BodyLaws.{zone_bounds}

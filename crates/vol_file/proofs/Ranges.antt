@@ -1,5 +1,5 @@
 -- The places on the ways of a run of logical blocks.
-use Rattle.std.proofs.Common.{◌≡◌, ℕ, zero, suc, ◌+◌, ◌-◌, ◌*◌, ◌<◌, ◌≤◌, ◌∙◌, sym, ap, subst, List, [], ◌∷◌, length, refl, arith, rules, inl, inr, true, false, Bool}
+use Rattle.std.proofs.Common.{◌≡◌, ℕ, zero, suc, ◌+◌, ◌<◌, ◌∙◌, sym, ap, subst, List, arith, rules, true, Bool}
 use Rattle.std.specs.Prelude.{◌||◌}
 use Rattle.std.specs.List.{list_any, range_with_len}
 use Rattle.std.specs.Str.{bytes_eq}
@@ -10,7 +10,7 @@ use Rattle.vol_layout.specs.declared.geometry.Geometry.{Geometry}
 use Rattle.vol_layout.specs.declared.places.Form.{Form}
 use Rattle.vol_layout.proofs.InodeLaws.{form_same}
 use Rattle.vol_file.specs.Shape.{is_on_ways}
-use Rattle.vol_file.specs.Steps.{Extends, WantsWay, MayNameWay, NamesWay, WantsWays, NamesWays}
+use Rattle.vol_file.specs.Steps.{WantsWay, NamesWay, WantsWays, NamesWays}
 use Rattle.vol_file.proofs.Lasts.{or_true}
 use Rattle.vol_file.proofs.Reaching.{extends_as, extends_then, extends_none, ready_after}
 

@@ -1,20 +1,16 @@
 -- One place of a way more that names something, and the way so far.
-use Rattle.std.proofs.Common.{◌≡◌, ◌≢◌, ℕ, ◌+◌, ◌*◌, ◌<◌, ◌≤◌, ◌∙◌, sym, ap, subst, List, [], ◌∷◌, ◌++◌, length, refl, arith, rules, true, false, Bool, None, Some, if◌then◌else◌}
+use Rattle.std.proofs.Common.{◌≡◌, ◌≢◌, ℕ, ◌+◌, ◌*◌, ◌<◌, ◌≤◌, ◌∙◌, sym, ap, subst, List, [], ◌∷◌, ◌++◌, length, refl, arith, rules, true, false, Bool, None, Some}
 use Rattle.std.specs.Prelude.{◌&&◌, ◌||◌, not}
 use Rattle.std.specs.Str.{bytes_eq}
 use Rattle.std.proofs.lemmas.List.{append_assoc}
-use Rattle.std.proofs.lemmas.Slice.Eq.{bytes_eq-Decides}
 use Rattle.std.proofs.Math.Bool.{or-false, or_assoc}
 use Rattle.pdp_words.specs.Words.{SameOutside}
 use Rattle.vol_layout.specs.Edition.{constants, number}
 use Rattle.vol_layout.specs.Geometry.{in_zone, Fits}
-use Rattle.vol_layout.specs.Inode.{inode_place, address_at, address_count, address_bytes, address_place, is_large, kind_of}
-use Rattle.vol_layout.specs.Places.{form_of, file_form, has_places, first_count, pointer_count, places}
+use Rattle.vol_layout.specs.Inode.{inode_place, address_at, address_bytes, address_place}
+use Rattle.vol_layout.specs.Places.{first_count, pointer_count, places}
 use Rattle.vol_layout.specs.Names.{mode_of, form_at, IsPlaceOf, named, entry_of}
 use Rattle.vol_layout.specs.declared.geometry.Geometry.{Geometry}
-use Rattle.vol_layout.specs.declared.edition.Edition.{Edition}
-use Rattle.vol_layout.specs.declared.edition.Edition.TheVariants.{V6, V7}
-use Rattle.vol_layout.specs.declared.places.Form.TheVariants.{Small, Large, Bare}
 use Rattle.vol_layout.proofs.BodyLaws.{zone_bounds, zone_room}
 use Rattle.vol_layout.proofs.CopyLaws.{number_room}
 use Rattle.vol_layout.proofs.FrameLaws.{pointers_of, addresses_few}

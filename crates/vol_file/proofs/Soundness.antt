@@ -1,21 +1,17 @@
 -- The rules after a change of one file that names no more than before.
-use Rattle.std.proofs.Common.{◌≡◌, ◌≢◌, ℕ, ◌+◌, ◌<◌, ◌≤◌, ◌∙◌, sym, ap, subst, List, get_or, refl, arith, inl, inr, true}
+use Rattle.std.proofs.Common.{◌≡◌, ◌≢◌, ℕ, ◌≤◌, ◌∙◌, sym, ap, subst, List, inl, inr}
 use Rattle.std.proofs.lemmas.Bool.{cases_eq}
-use Rattle.pdp_words.specs.Words.{word}
 use Rattle.vol_layout.specs.Edition.{constants}
 use Rattle.vol_layout.specs.Geometry.{in_zone, Fits}
-use Rattle.vol_layout.specs.Inode.{inode_place, inode_at, inode_of, kind_of}
+use Rattle.vol_layout.specs.Inode.{inode_place, inode_of, kind_of}
 use Rattle.vol_layout.specs.Places.{has_places}
 use Rattle.vol_layout.specs.Names.{form_at, IsFile, IsPlaceOf, named}
-use Rattle.vol_layout.specs.declared.edition.Edition.{Edition}
-use Rattle.vol_layout.specs.declared.edition.Edition.TheVariants.{V6, V7}
 use Rattle.vol_layout.specs.declared.geometry.Geometry.{Geometry}
 use Rattle.vol_layout.specs.declared.mode.Kind.TheVariants as kinds
 use Rattle.vol_layout.specs.declared.places.Form.TheVariants.{Small}
-use Rattle.vol_layout.proofs.InodeLaws.{inode_v6, inode_v7, inode_of_kept, mode_kept, size_kept, form_kept}
+use Rattle.vol_layout.proofs.InodeLaws.{inode_of_kept, mode_kept, size_kept, form_kept}
 use Rattle.vol_free.specs.Stack.{IsIn, IsFree}
 use Rattle.vol_file.specs.Rules.{size_of, kind_at, HasKinds, HasSizes, IsSoundWith}
-use Rattle.vol_file.specs.Changes.{is_kept_byte}
 use Rattle.vol_file.specs.Steps.{StaysElsewhere}
 use Rattle.vol_file.proofs.Alone.{fits_len, elsewhere_inode, elsewhere_before, elsewhere_named}
 use Rattle.vol_file.proofs.Naming.{kinds_kept, links_same, links_kept_byte}

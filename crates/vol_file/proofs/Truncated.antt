@@ -1,21 +1,18 @@
 -- The end of a truncation: the size and the mode of a file that names nothing any more.
-use Rattle.std.proofs.Common.{◌≡◌, ℕ, ◌+◌, ◌*◌, ◌<◌, ◌≤◌, ◌∙◌, sym, ap, subst, List, [], ◌∷◌, ◌++◌, length, get_or, refl, arith, inl, inr, true, false, if◌then◌else◌}
-use Rattle.std.proofs.lemmas.Bool.{cases_lt, cases_eq}
+use Rattle.std.proofs.Common.{◌≡◌, ℕ, ◌+◌, ◌*◌, ◌<◌, ◌≤◌, ◌∙◌, sym, ap, subst, List, [], ◌∷◌, ◌++◌, length, get_or, refl, arith, inl, inr, true, false}
+use Rattle.std.proofs.lemmas.Bool.{cases_eq}
 use Rattle.std.proofs.lemmas.Bool.Decides.{nat_tests}
 use Rattle.pdp_words.specs.Words.{SameOutside}
 use Rattle.pdp_words.proofs.Outside.{join, widen}
 use Rattle.vol_layout.specs.Edition.{constants}
 use Rattle.vol_layout.specs.Geometry.{Fits}
-use Rattle.vol_layout.specs.Inode.{inode_place, address_count, address_offset, size_place, size_bytes, size_at, is_large, with_large, kind_of}
-use Rattle.vol_layout.specs.Places.{IsPlace, has_places, first_count, file_form}
-use Rattle.vol_layout.specs.Laws.{IsFront}
+use Rattle.vol_layout.specs.Inode.{inode_place, address_count, address_offset, size_place, size_bytes, size_at, with_large, kind_of}
+use Rattle.vol_layout.specs.Places.{has_places, first_count}
 use Rattle.vol_layout.specs.Names.{mode_of, form_at, IsFile, IsPlaceOf, named}
 use Rattle.vol_layout.specs.Body.{body, body_size}
 use Rattle.vol_layout.specs.declared.edition.Edition.{Edition}
 use Rattle.vol_layout.specs.declared.edition.Edition.TheVariants.{V6, V7}
 use Rattle.vol_layout.specs.declared.geometry.Geometry.{Geometry}
-use Rattle.vol_layout.specs.declared.places.Form.{Form}
-use Rattle.vol_layout.specs.declared.places.Form.TheVariants.{Small, Large, Bare}
 use Rattle.vol_layout.proofs.AddressLaws.{addresses_before, size_within, mode_within, mode_behind, size_above}
 use Rattle.vol_layout.proofs.InodeLaws.{place_from, place_room}
 use Rattle.vol_layout.proofs.BodyLaws.{zone_bounds, length-body}

@@ -1,12 +1,9 @@
-use Rattle.std.proofs.Common.{◌≡◌, ℕ, ◌+◌, ◌-◌, ◌*◌, ◌<◌, ◌≤◌, true, false, if◌then◌else◌, List, length, ap, sym, subst, ◌∙◌, arith}
+use Rattle.std.proofs.Common.{◌≡◌, ◌-◌, ◌<◌, ◌≤◌, if◌then◌else◌, ap, sym, subst, ◌∙◌, arith}
 use Rattle.std.specs.List.{range_with_len}
-use Rattle.vol_layout.specs.Edition.{constants}
 use Rattle.vol_layout.specs.Places.{form_of, block_limit}
 use Rattle.vol_layout.specs.Names.{mode_of, form_at}
 use Rattle.vol_layout.specs.declared.places.Form.TheVariants.{Small, Large}
-use Rattle.vol_layout.proofs.InodeLaws.{form_same}
-use Rattle.vol_file.specs.Shape.{is_named, is_on_ways, grows_large}
-use Rattle.vol_file.specs.Steps.{HasRoom, Fills, MayEnlarge, MayNameWays, WantsWays}
+use Rattle.vol_file.specs.Shape.{is_named, is_on_ways}
 use Rattle.vol_file.proofs.Filling.{grows_small, grows_few, wants_plain, fills_plain, wants_large, fills_large, grows_not, grows_then, limit_of, limit_large, enlarged_file, room_some}
 use Rattle.vol_file.proofs.Enlarging.{small_edition}
 use Rattle.vol_file.proofs.writing.name_blocks.Goals as goal

@@ -42,11 +42,6 @@ names_zone geometry image j p fits place zone = record {
   holds = named_holds geometry image j p (named geometry image j p) fits refl (zone_some geometry image (named geometry image j p) fits zone);
 }
 
--- a front of a place of a file is a place of it
-pub front_of : (geometry : Geometry) (image : List ℕ) (j x a : ℕ) (q : List ℕ) → IsPlaceOf geometry image j (x ∷ (a ∷ q))
-    → IsPlaceOf geometry image j (a ∷ q)
-front_of geometry image j x a q place = record { file = place.file; place = place.place.2 }
-
 -- the other i-nodes stay
 pub elsewhere_inode : (geometry : Geometry) (old new : List ℕ) (i j : ℕ) → Fits geometry old → StaysElsewhere geometry old new i
     → 1 ≤ i → 1 ≤ j → j ≤ geometry.last_inode → j ≢ i → KeepsInode geometry old new j

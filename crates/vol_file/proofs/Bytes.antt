@@ -1,20 +1,19 @@
 -- Writing bytes in a data block of a file: names stay, and the file's bytes there are the ones written.
-use Rattle.std.proofs.Common.{◌≡◌, ◌≢◌, ℕ, ◌+◌, ◌-◌, ◌*◌, ◌/◌, ◌%◌, ◌<◌, ◌≤◌, ◌⊎◌, ◌∙◌, sym, ap, subst, List, [], ◌∷◌, length, get_or, slice_index, refl, arith, inl, inr, true, false, Some, None}
+use Rattle.std.proofs.Common.{◌≡◌, ◌≢◌, ℕ, ◌+◌, ◌-◌, ◌*◌, ◌/◌, ◌%◌, ◌<◌, ◌≤◌, ◌⊎◌, ◌∙◌, sym, ap, subst, List, get_or, refl, arith, inl, inr, true, Some, None}
 use Rattle.std.specs.Option.{option_map_or}
 use Rattle.std.proofs.lemmas.Bool.{cases_lt, cases_eq}
 use Rattle.pdp_words.specs.Words.{SameOutside}
-use Rattle.vol_layout.specs.Edition.{constants}
 use Rattle.vol_layout.specs.Geometry.{in_zone, Fits}
-use Rattle.vol_layout.specs.Inode.{inode_place, kind_of}
+use Rattle.vol_layout.specs.Inode.{kind_of}
 use Rattle.vol_layout.specs.Places.{IsPlace, levels_below, last_place}
 use Rattle.vol_layout.specs.Names.{mode_of, form_at, IsFile, IsPlaceOf, named, stored, Names}
 use Rattle.vol_layout.specs.Body.{body_byte, zone_byte}
 use Rattle.vol_layout.specs.declared.geometry.Geometry.{Geometry}
 use Rattle.vol_layout.specs.declared.places.Form.{Form}
 use Rattle.pdp_words.proofs.Outside.{widen}
-use Rattle.vol_layout.proofs.InodeLaws.{KeepsInode, mode_kept, size_kept, form_same}
+use Rattle.vol_layout.proofs.InodeLaws.{KeepsInode, mode_kept, size_kept}
 use Rattle.vol_layout.proofs.PlaceLaws.{last_leaf, last_apart}
-use Rattle.vol_layout.proofs.BodyLaws.{body_byte_is, zone_byte_in, zone_byte_out, zone_room}
+use Rattle.vol_layout.proofs.BodyLaws.{body_byte_is, zone_byte_in, zone_byte_out}
 use Rattle.vol_layout.proofs.NameLaws.{zone_some, zero_out, holds_named, named_holds, stored_is}
 use Rattle.vol_layout.proofs.FrameLaws.{block_keeps_inode, places_kept, named_apart, stored_kept, body_byte_there, body_byte_elsewhere}
 use Rattle.vol_free.specs.Stack.{IsIn, IsFree}
@@ -23,7 +22,7 @@ use Rattle.vol_file.specs.Rules.{size_of, IsSoundWith, IsCovered}
 use Rattle.vol_file.specs.Steps.{StaysElsewhere, Rewrites}
 use Rattle.vol_file.proofs.Alone.{fits_len, elsewhere_self, elsewhere_then, elsewhere_before, elsewhere_named, elsewhere_names}
 use Rattle.vol_file.proofs.Cells.{block_elsewhere}
-use Rattle.vol_file.proofs.Naming.{kinds_kept, sizes_kept, modes_kept, place_same, file_same}
+use Rattle.vol_file.proofs.Naming.{kinds_kept, sizes_kept, modes_kept, place_same}
 use Rattle.vol_file.proofs.Taking.{zone_two}
 
 -- each place of the new image was one, and names what it did

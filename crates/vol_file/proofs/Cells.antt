@@ -1,9 +1,10 @@
 -- What storing a number in an address of an i-node, or in an entry of a pointer block, does to what places name.
-use Rattle.std.proofs.Common.{◌≡◌, ◌≢◌, ℕ, ◌+◌, ◌*◌, ◌<◌, ◌≤◌, ◌⊎◌, ◌∙◌, sym, ap, subst, List, [], ◌∷◌, length, arith, inl, inr, true}
+use Rattle.std.proofs.Common.{◌≡◌, ◌≢◌, ℕ, ◌+◌, ◌*◌, ◌<◌, ◌≤◌, ◌⊎◌, ◌∙◌, sym, ap, subst, List, [], ◌∷◌, arith, inl, inr, true}
 use Rattle.std.proofs.lemmas.Bool.{cases_lt, cases_eq}
 use Rattle.std.proofs.lemmas.Bool.Decides.{nat_tests}
 use Rattle.pdp_words.specs.Words.{SameOutside}
 use Rattle.pdp_words.proofs.Below.{word_below, word_above, long_below, long_above}
+use Rattle.pdp_words.proofs.Outside.{widen}
 use Rattle.vol_layout.specs.Edition.{constants, number}
 use Rattle.vol_layout.specs.Geometry.{in_zone}
 use Rattle.vol_layout.specs.Inode.{inode_place, address_at, address_count, address_bytes, address_place}
@@ -13,7 +14,6 @@ use Rattle.vol_layout.specs.Names.{mode_of, form_at, IsFile, IsPlaceOf, named, e
 use Rattle.vol_layout.specs.declared.edition.Edition.{Edition}
 use Rattle.vol_layout.specs.declared.edition.Edition.TheVariants.{V6, V7}
 use Rattle.vol_layout.specs.declared.geometry.Geometry.{Geometry}
-use Rattle.pdp_words.proofs.Outside.{widen}
 use Rattle.vol_layout.proofs.CopyLaws.{copy_block, number_room, number_kept}
 use Rattle.vol_layout.proofs.InodeLaws.{KeepsInode, place_from, place_room, mode_kept, size_kept, address_kept}
 use Rattle.vol_layout.proofs.AddressLaws.{address_others, address_within, mode_within, mode_behind, size_behind, address_room}
@@ -27,6 +27,7 @@ use Rattle.vol_free.proofs.Frames.{IsFree-before_zone, IsFree-within}
 use Rattle.vol_file.specs.Rules.{IsSoundWith}
 use Rattle.vol_file.specs.Changes.{is_kept_byte}
 use Rattle.vol_file.specs.Steps.{StaysElsewhere, Stores}
+use Rattle.vol_file.proofs.Fronts.{front_longer}
 
 -- another number of an array stays where one is written
 pub number_other : (edition : Edition) (old new : List ℕ) (at j h : ℕ)
@@ -42,16 +43,6 @@ pub number_above : (edition : Edition) (old new : List ℕ) (m h from to : ℕ) 
     → number edition new (512 * m) h ≡ number edition old (512 * m) h
 number_above V6 old new m h from to same high = word_above same (512 * m + 2 * h) (omega arith)
 number_above V7 old new m h from to same high = long_above same (512 * m + 4 * h) (omega arith)
-
--- a front is at most as long
-pub front_length : (p q : List ℕ) → IsFront q p → length q ≤ length p
-front_length [] q front = absurd front
-front_length (h ∷ p) q (inl e) = rw e (omega arith)
-front_length (h ∷ p) q (inr front) = let less : length q ≤ length p = front_length p q front in omega arith
-
--- no place is a front of its own front
-pub front_longer : (j : ℕ) (p : List ℕ) → IsFront (j ∷ p) p → ⊥
-front_longer j p front = let less : length (j ∷ p) ≤ length p = front_length p (j ∷ p) front in omega arith
 
 -- a byte of an i-node that a write of a file keeps stands apart from each of its addresses
 kept_apart : (edition : Edition) (i k r : ℕ) → is_kept_byte edition r ≡ true → k < address_count edition

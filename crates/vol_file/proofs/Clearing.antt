@@ -12,8 +12,8 @@ use Rattle.vol_file.specs.Rules.{IsSoundWith, IsCovered}
 use Rattle.vol_file.specs.Clears.{IsUnder, blocks_at, places_among, places_below, IsNamedAt, IsEmptyUnder, Clears}
 use Rattle.vol_file.proofs.Alone.{elsewhere_self, elsewhere_then}
 use Rattle.vol_file.proofs.BlockLists.{at_nil, at_some, from_below, below_same, from_none, among_step}
-use Rattle.vol_file.proofs.Dropping.{place_same}
 use Rattle.vol_file.proofs.Fronts.{front_zero, under_front, under_longer, under_later, under_apart, under_more, under_here, under_split}
+use Rattle.vol_file.proofs.Naming.{place_same}
 
 -- where places name nothing already, nothing is done to clear them
 pub clears_none : (geometry : Geometry) (image : List ℕ) (i : ℕ) (Cleared : List ℕ → Type 0) (blocks : List ℕ) → IsSoundWith geometry image blocks

@@ -1,19 +1,17 @@
 -- Making a small file of the sixth edition large: names, soundness and bytes.
-use Rattle.std.proofs.Common.{◌≡◌, ◌≢◌, ℕ, ◌+◌, ◌-◌, ◌*◌, ◌/◌, ◌%◌, ◌<◌, ◌≤◌, ◌⊎◌, ◌∙◌, sym, ap, subst, List, [], ◌∷◌, length, get_or, refl, arith, inl, inr, true, false, Bool, Some, None, ltb, eqb}
+use Rattle.std.proofs.Common.{◌≡◌, ◌≢◌, ℕ, ◌+◌, ◌-◌, ◌*◌, ◌/◌, ◌%◌, ◌<◌, ◌≤◌, ◌∙◌, sym, ap, subst, List, [], ◌∷◌, get_or, refl, arith, inl, inr, true, Some, None, ltb, eqb}
 use Rattle.std.specs.Prelude.{◌&&◌, not}
 use Rattle.std.specs.Option.{option_map_or}
 use Rattle.std.proofs.lemmas.Bool.{cases_lt, cases_eq, lt-ltb, le-ltb, ne_eqb}
-use Rattle.vol_layout.specs.Edition.{constants}
 use Rattle.vol_layout.specs.Geometry.{in_zone, Fits}
-use Rattle.vol_layout.specs.Inode.{inode_of, kind_of, with_large}
+use Rattle.vol_layout.specs.Inode.{kind_of, with_large}
 use Rattle.vol_layout.specs.Places.{IsPlace, has_places, levels, levels_below, last_place}
-use Rattle.vol_layout.specs.Names.{mode_of, form_at, IsFile, IsPlaceOf, named, entry_of, stored, Names}
+use Rattle.vol_layout.specs.Names.{mode_of, form_at, IsFile, IsPlaceOf, named, stored, Names}
 use Rattle.vol_layout.specs.Body.{body_byte, zone_byte}
 use Rattle.vol_layout.specs.declared.geometry.Geometry.{Geometry}
-use Rattle.vol_layout.specs.declared.places.Form.{Form}
 use Rattle.vol_layout.specs.declared.places.Form.TheVariants.{Small, Large}
 use Rattle.vol_layout.proofs.InodeLaws.{mode_kept, size_kept, form_kept}
-use Rattle.vol_layout.proofs.PlaceLaws.{IsLeaf, leaf_block, last_leaf, has_no_way}
+use Rattle.vol_layout.proofs.PlaceLaws.{IsLeaf, leaf_block, last_leaf, has_no_way, small_levels}
 use Rattle.vol_layout.proofs.BodyLaws.{body_byte_is, zone_byte_out}
 use Rattle.vol_layout.proofs.NameLaws.{zone_some, zero_out, named_stops, holds_named, named_holds}
 use Rattle.vol_layout.proofs.FrameLaws.{zone_byte_kept}
@@ -23,7 +21,7 @@ use Rattle.vol_file.specs.Shape.{is_named, moved_down}
 use Rattle.vol_file.specs.Rules.{size_of, kind_at, HasSizes, IsSoundWith, IsCovered}
 use Rattle.vol_file.specs.Steps.{StaysElsewhere, Enlarges}
 use Rattle.vol_file.proofs.Alone.{fits_len, elsewhere_inode, elsewhere_before, elsewhere_named, elsewhere_names}
-use Rattle.vol_file.proofs.Naming.{kinds_kept, links_kept, sizes_stay, file_same}
+use Rattle.vol_file.proofs.Naming.{kinds_kept, links_kept, sizes_stay}
 use Rattle.vol_file.proofs.Extending.{unnamed_false, named_true}
 use Rattle.vol_file.proofs.Lasts.{last_small, last_large}
 use Rattle.vol_file.proofs.Taking.{first_unnamed, first_zoned, first_once, rest_in}
@@ -241,16 +239,11 @@ record IsAddress (p : List ℕ) : Type 0 where
   low : index < 8
   is : p ≡ index ∷ []
 
--- nothing is below an address of a small file
-small_levels : (a : ℕ) (p : List ℕ) → levels_below Small (a ∷ p) ≡ 0
-small_levels a [] = refl
-small_levels a (h ∷ p) = let none : levels_below Small (h ∷ p) ≡ 0 = small_levels h p in omega arith
-
 -- each place of a small file is an address
 small_place : (p : List ℕ) → IsPlace Small p → IsAddress p
 small_place [] place = absurd place
 small_place (k ∷ []) place = record { index = k; low = place; is = refl }
-small_place (j ∷ (a ∷ p)) place = let none : levels_below Small (a ∷ p) ≡ 0 = small_levels a p in let deep = place.1 in absurd (omega (arith, none, deep))
+small_place (j ∷ (a ∷ p)) place = let none : levels_below Small (a ∷ p) ≡ 0 = small_levels (a ∷ p) in let deep = place.1 in absurd (omega (arith, none, deep))
 
 -- the place to which an address is moved down
 moved_place : (x : ℕ) → x < 8 → IsPlace Large (x ∷ (0 ∷ []))

@@ -1,117 +1,35 @@
 -- Making the number at a place 0, and giving back the block that it named.
-use Rattle.std.proofs.Common.{◌≡◌, ◌≢◌, ℕ, ◌+◌, ◌*◌, ◌<◌, ◌≤◌, ◌⊎◌, ◌∙◌, sym, ap, subst, List, [], ◌∷◌, arith, inl, inr, true}
-use Rattle.std.proofs.lemmas.Bool.{cases_lt, cases_eq}
+use Rattle.std.proofs.Common.{◌≡◌, ◌≢◌, ℕ, ◌≤◌, ◌⊎◌, ◌∙◌, sym, ap, subst, List, [], ◌∷◌, arith, inl, inr, true}
+use Rattle.std.proofs.lemmas.Bool.{cases_eq}
 use Rattle.vol_layout.specs.Edition.{constants}
 use Rattle.vol_layout.specs.Geometry.{in_zone, Fits}
-use Rattle.vol_layout.specs.Inode.{inode_place, kind_of}
-use Rattle.vol_layout.specs.Super.{free_head}
-use Rattle.vol_layout.specs.Places.{IsPlace, has_places}
+use Rattle.vol_layout.specs.Inode.{kind_of}
 use Rattle.vol_layout.specs.Laws.{IsFront}
-use Rattle.vol_layout.specs.Names.{mode_of, form_at, IsFile, IsPlaceOf, named, Names}
+use Rattle.vol_layout.specs.Names.{mode_of, form_at, IsFile, IsPlaceOf, named}
 use Rattle.vol_layout.specs.declared.geometry.Geometry.{Geometry}
-use Rattle.vol_layout.proofs.CopyLaws.{IsCopy, number_copied, number_room}
-use Rattle.vol_layout.proofs.InodeLaws.{KeepsInode, place_from, place_room, mode_kept, size_kept, form_same, address_kept}
-use Rattle.vol_layout.proofs.PlaceLaws.{place_front, front_self}
-use Rattle.vol_layout.proofs.BodyLaws.{zone_bounds}
+use Rattle.vol_layout.proofs.InodeLaws.{mode_kept, size_kept, form_same}
+use Rattle.vol_layout.proofs.PlaceLaws.{front_self}
 use Rattle.vol_layout.proofs.NameLaws.{zone_some, named_holds, holds_named}
-use Rattle.vol_layout.proofs.FrameLaws.{named_kept, addresses_of, pointers_of}
 use Rattle.vol_free.specs.Stack.{IsIn, IsFree, StaysBut}
-use Rattle.vol_free.proofs.Stacks.{head_end, stack_zoned}
+use Rattle.vol_free.proofs.Frames.{free_zone}
 use Rattle.vol_file.specs.Rules.{size_of, IsSoundWith, IsCovered}
 use Rattle.vol_file.specs.Steps.{StaysElsewhere, Stores}
 use Rattle.vol_file.specs.Clears.{IsNamedAt, IsEmptyUnder, Clears}
 use Rattle.vol_file.proofs.Alone.{fits_len, elsewhere_before, elsewhere_named, elsewhere_names, elsewhere_then}
-use Rattle.vol_file.proofs.Cells.{kept_within}
 use Rattle.vol_file.proofs.Fronts.{front_or, front_under, front_zero}
 use Rattle.vol_file.proofs.Soundness.{Lessens, named_before, sound_after}
-
--- file i has the same places where its mode is the same
-pub place_same : (geometry : Geometry) (old new : List ℕ) (i : ℕ) (p : List ℕ) → mode_of geometry new i ≡ mode_of geometry old i
-    → IsPlaceOf geometry old i p → IsPlaceOf geometry new i p
-place_same geometry old new i p same place = record {
-  file = record {
-    first = place.file.first;
-    last = place.file.last;
-    kind = ap (λ mode. has_places (kind_of geometry.edition mode)) same ∙ place.file.kind;
-  };
-  place = subst (λ form. IsPlace form p) (sym (form_same geometry old new i same)) place.place;
-}
+use Rattle.vol_file.proofs.Naming.{place_same}
+use Rattle.vol_file.proofs.Taking.{IsUnnamed, stays_inode, stays_named, stays_around, rest_in}
 
 -- block b is a data block that no place names
-pub record IsUnnamed (geometry : Geometry) (image : List ℕ) (b : ℕ) : Type 0 where
+pub record IsReleased (geometry : Geometry) (image : List ℕ) (b : ℕ) : Type 0 where
   pub fits : Fits geometry image
   pub zone : in_zone geometry b ≡ true
-  pub unnamed : (j : ℕ) (p : List ℕ) → IsPlaceOf geometry image j p → named geometry image j p ≢ b
-
--- giving block b keeps the i-nodes
-give_inode : (geometry : Geometry) (old new : List ℕ) (b j : ℕ) → IsUnnamed geometry old b → StaysBut geometry old new b 202
-    → 1 ≤ j → j ≤ geometry.last_inode → KeepsInode geometry old new j
-give_inode geometry old new b j free stays first last =
-    let bounds = zone_bounds geometry b free.zone in
-    let room = place_room geometry old j free.fits first last in
-    let from = place_from geometry.edition j in
-    let head = head_end geometry.edition in
-    record { bytes = λ r h. stays.between (inode_place geometry.edition j + r) (omega (arith, from, head)) (omega (arith, bounds.0, room)) }
-
--- giving block b keeps the other data blocks
-give_block : (geometry : Geometry) (old new : List ℕ) (b k : ℕ) → IsUnnamed geometry old b → StaysBut geometry old new b 202
-    → in_zone geometry k ≡ true → k ≢ b → IsCopy old new (512 * k) (512 * k) 512
-give_block geometry old new b k free stays zone other =
-    let bounds = zone_bounds geometry k zone in
-    let head = head_end geometry.edition in
-    let start : 1024 ≤ 512 * geometry.zone_start = omega (arith, free.fits.i_list) in
-    elim (cases_lt k b) [
-      | inl less ↦ record { bytes = λ r h. stays.between (512 * k + r) (omega (arith, bounds.0, head, start)) (omega arith) }
-      | inr more ↦ record { bytes = λ r h. stays.above (512 * k + r) (omega arith) }
-    ]
-
--- giving block b leaves what the places name
-give_named : (geometry : Geometry) (old new : List ℕ) (b j : ℕ) (p : List ℕ) → IsUnnamed geometry old b → StaysBut geometry old new b 202
-    → IsPlaceOf geometry old j p → named geometry new j p ≡ named geometry old j p
-give_named geometry old new b j p free stays place =
-    let kept = give_inode geometry old new b j free stays place.file.first place.file.last in
-    let few = addresses_of geometry.edition (mode_of geometry old j) in
-    let many = pointers_of geometry.edition (mode_of geometry old j) in
-    named_kept geometry old new j p
-    (λ k front.
-    let here : IsPlace (form_at geometry old j) (k ∷ []) = place_front (form_at geometry old j) p (k ∷ []) place.place front in
-    address_kept geometry old new j k kept (omega (arith, here, few)))
-    (λ x a q front zone.
-    let here : IsPlace (form_at geometry old j) (x ∷ (a ∷ q)) = place_front (form_at geometry old j) p (x ∷ (a ∷ q)) place.place front in
-    let above : IsPlaceOf geometry old j (a ∷ q) = record { file = place.file; place = here.2 } in
-    let within : x < (constants geometry.edition).pointers = omega (arith, here.0, many) in
-    number_copied geometry.edition old new (512 * named geometry old j (a ∷ q)) (512 * named geometry old j (a ∷ q)) 512 x
-    (give_block geometry old new b (named geometry old j (a ∷ q)) free stays zone (free.unnamed j (a ∷ q) above))
-    (number_room geometry.edition x within))
-
--- giving block b leaves all but the free list, with regard to any file
-give_elsewhere : (geometry : Geometry) (old new : List ℕ) (b i : ℕ) → IsUnnamed geometry old b → StaysBut geometry old new b 202
-    → ((j : ℕ) (p : List ℕ) (k : ℕ) → j ≢ i → Names geometry old j p k → in_zone geometry k ≡ true)
-    → 1 ≤ i → i ≤ geometry.last_inode → StaysElsewhere geometry old new i
-give_elsewhere geometry old new b i free stays zoned first last =
-    let bounds = zone_bounds geometry b free.zone in
-    let room = place_room geometry old i free.fits first last in
-    let from = place_from geometry.edition i in
-    let head = head_end geometry.edition in
-    let start : 1024 ≤ 512 * geometry.zone_start = omega (arith, free.fits.i_list) in
-    record {
-      len = stays.len;
-      before = stays.below;
-      super_block = λ k h l. stays.between k h (omega (arith, bounds.0, start));
-      lower_inodes = λ k h l. stays.between k (omega (arith, head)) (omega (arith, bounds.0, room));
-      higher_inodes = λ k h l. stays.between k (omega (arith, head, from)) (omega (arith, bounds.0));
-      inode = λ r kept. let within = kept_within geometry.edition r kept in
-          stays.between (inode_place geometry.edition i + r) (omega (arith, head, from)) (omega (arith, bounds.0, room, within));
-      blocks = λ j p k r other names h.
-          let held = holds_named geometry old j p k names.holds in
-          let differ : k ≢ b = λ e. free.unnamed j p names.place (held.0 ∙ e) in
-          (give_block geometry old new b k free stays (zoned j p k other names) differ).bytes r h;
-      behind = λ k h. stays.above k (omega (arith, bounds.1));
-    }
+  pub unnamed : IsUnnamed geometry image b
 
 -- once the number at its place is 0, no place names a block
 stored_unnamed : (geometry : Geometry) (old mid blocks : List ℕ) (i b : ℕ) (q : List ℕ) → IsSoundWith geometry old blocks
-    → IsNamedAt geometry old i q b → Stores geometry old mid i q 0 blocks → IsUnnamed geometry mid b
+    → IsNamedAt geometry old i q b → Stores geometry old mid i q 0 blocks → IsReleased geometry mid b
 stored_unnamed geometry old mid blocks i b q sound is store =
     let some : named geometry old i q ≢ 0 = λ zero. is.some (sym is.names ∙ zero) in
     let fits : Fits geometry mid = fits_len geometry old mid store.alone.len sound.fits in
@@ -152,18 +70,19 @@ dropped : (geometry : Geometry) (old mid new blocks : List ℕ) (i b : ℕ) (q :
 dropped geometry old mid new blocks i b q sound is store stays =
     let free = stored_unnamed geometry old mid blocks i b q sound is store in
     let first = is.place.file.first in
-    let kept = give_inode geometry mid new b i free stays first is.place.file.last in
+    let kept = stays_inode geometry mid new b 202 i free.fits stays free.zone first is.place.file.last in
     let same : (p : List ℕ) → IsPlaceOf geometry old i p → named geometry new i p ≡ named geometry mid i p =
-    λ p place. give_named geometry mid new b i p free stays (place_same geometry old mid i p store.mode place) in
+    λ p place. stays_named geometry mid new b 202 i p free.fits stays (omega arith) free.zone free.unnamed
+    (place_same geometry old mid i p store.mode place) in
     record {
       alone = elsewhere_then geometry old mid new i sound.fits first store.alone
-          (give_elsewhere geometry mid new b i free stays
+          (stays_around geometry mid new b 202 i free.fits
           (λ j p k other names.
           let held = holds_named geometry mid j p k names.holds in
           let before = elsewhere_before geometry old mid i j p sound.fits store.alone first other names.place in
           let was : named geometry old j p ≡ k = sym (elsewhere_named geometry old mid i j p sound.fits store.alone first other before) ∙ held.0 in
           ap (in_zone geometry) (sym was) ∙ sound.zoned j p before (λ zero. held.1 (sym was ∙ zero)))
-          first is.place.file.last);
+          first is.place.file.last stays (omega arith) free.zone free.unnamed);
       mode = mode_kept geometry mid new i kept ∙ store.mode;
       size = size_kept geometry mid new i kept ∙ store.size;
       gone = λ p place front. same p place ∙ front_zero geometry mid i q p free.fits store.here front;
@@ -186,26 +105,22 @@ lessens geometry old new blocks i q sound file drop = record {
       ];
 }
 
--- a free block is a data block
-pub free_zoned : (geometry : Geometry) (image blocks : List ℕ) (k : ℕ) → IsFree geometry image blocks → IsIn k blocks → in_zone geometry k ≡ true
-free_zoned geometry image blocks k free within = stack_zoned geometry image (free_head geometry.edition) _ blocks free.stack k within
-
 -- a number of a longer list is its first or one of the rest
 pub in_more : (k b : ℕ) (blocks : List ℕ) → IsIn k (b ∷ blocks) → (k ≡ b) ⊎ IsIn k blocks
 unfolding IsIn
 in_more k b blocks within = within
 
--- the first number of a list, or one of the rest, is one of the list
-more_in : (k b : ℕ) (blocks : List ℕ) → (k ≡ b) ⊎ IsIn k blocks → IsIn k (b ∷ blocks)
+-- the first number of a list is one of the list
+first_in : (k b : ℕ) (blocks : List ℕ) → k ≡ b → IsIn k (b ∷ blocks)
 unfolding IsIn
-more_in k b blocks within = within
+first_in k b blocks e = inl e
 
 -- each data block is free or named, also after block b was given
 dropped_covered : (geometry : Geometry) (old new blocks : List ℕ) (i b : ℕ) (q : List ℕ) → IsSoundWith geometry old blocks
     → IsNamedAt geometry old i q b → IsEmptyUnder geometry old i q → Dropped geometry old new i q
     → IsCovered geometry old blocks → IsCovered geometry new (b ∷ blocks)
 dropped_covered geometry old new blocks i b q sound is empty drop covered k zone = elim (covered k zone) [
-  | inl within ↦ inl (more_in k b blocks (inr within))
+  | inl within ↦ inl (rest_in b k blocks within)
   | inr (j, p, names) ↦
       let held = holds_named geometry old j p k names.holds in
       elim (cases_eq j i) [
@@ -214,7 +129,7 @@ dropped_covered geometry old new blocks i b q sound is empty drop covered k zone
             let was : named geometry old i p ≡ k = ap (λ x. named geometry old x p) (sym same) ∙ held.0 in
             elim (front_or q p) [
               | inl front ↦ elim (front_under q p front) [
-                | inl e ↦ inl (more_in k b blocks (inl (sym was ∙ (ap (named geometry old i) e ∙ is.names))))
+                | inl e ↦ inl (first_in k b blocks (sym was ∙ (ap (named geometry old i) e ∙ is.names)))
                 | inr under ↦ absurd (held.1 (sym was ∙ empty p place under))
               ]
               | inr apart ↦ inr (
@@ -246,7 +161,7 @@ drops geometry old mid new blocks i b q sound is empty store stays free =
       size = drop.size;
       sound = sound_after geometry old new blocks (b ∷ blocks) i sound is.place.file less free
           (λ j p place within.
-          let zone : in_zone geometry (named geometry new j p) ≡ true = free_zoned geometry new (b ∷ blocks) (named geometry new j p) free within in
+          let zone : in_zone geometry (named geometry new j p) ≡ true = free_zone free (named geometry new j p) within in
           let some = zone_some geometry new (named geometry new j p) fits zone in
           let before = named_before geometry old new i j p sound.fits is.place.file less place some in
           elim (in_more (named geometry new j p) b blocks within) [

@@ -1,10 +1,9 @@
 -- A volume with an empty root directory and an empty file, on which tests begin.
-use Rattle.std.proofs.Common.{◌≡◌, ◌≢◌, ℕ, ◌+◌, ◌*◌, ◌<◌, ◌≤◌, ◌∙◌, sym, ap, subst, List, [], ◌∷◌, get_or, refl, arith, inl, inr, true, false, if◌then◌else◌, ltb}
+use Rattle.std.proofs.Common.{◌≡◌, ◌≢◌, ℕ, ◌+◌, ◌*◌, ◌<◌, ◌≤◌, ◌∙◌, sym, ap, List, [], ◌∷◌, get_or, refl, arith, inl, inr, true, false, if◌then◌else◌, ltb}
 use Rattle.std.proofs.lemmas.Bool.{cases_lt, cases_eq}
 use Rattle.pdp_words.specs.Words.{word, SameOutside}
 use Rattle.vol_layout.specs.Edition.{constants}
 use Rattle.vol_layout.specs.Geometry.{Fits}
-use Rattle.vol_layout.specs.Super.{free_head}
 use Rattle.vol_layout.specs.Inode.{inode_place, inode_at, address_at, address_count, size_at, kind_of}
 use Rattle.vol_layout.specs.Places.{first_count}
 use Rattle.vol_layout.specs.Names.{mode_of, form_at, IsPlaceOf, named}
@@ -15,18 +14,14 @@ use Rattle.vol_layout.specs.declared.mode.Kind.TheVariants as kinds
 use Rattle.vol_layout.proofs.InodeLaws.{inode_v6, inode_v7, place_from, place_apart, place_room, mode_kept, fits_kept}
 use Rattle.vol_layout.proofs.AddressLaws.{mode_within, inode_within}
 use Rattle.vol_layout.proofs.NameLaws.{zone_some}
-use Rattle.vol_free.specs.Stack.{IsIn, Once, IsStack, IsFree, HasStack}
-use Rattle.vol_free.proofs.Stacks.{IsFree_unique}
-use Rattle.vol_free.proofs.Frames.{IsFree-before_zone}
+use Rattle.vol_layout.proofs.KindLaws.{kind_zero}
+use Rattle.vol_free.specs.Stack.{IsFree}
+use Rattle.vol_free.proofs.Frames.{IsFree-before_zone, free_zone}
 use Rattle.vol_file.specs.Rules.{size_of, kind_at, HasKinds, IsSoundWith}
-use Rattle.vol_file.proofs.Dropping.{free_zoned, in_more}
 use Rattle.vol_file.proofs.Fronts.{front_zero}
-use Rattle.vol_file.proofs.Truncated.{addresses_file, place_base}
-
--- where the count of the free list is 0 no block is free
-pub nothing_free : (geometry : Geometry) (image : List ℕ) → word image (free_head geometry.edition) ≡ 0 → IsFree geometry image []
-unfolding IsStack Once
-nothing_free geometry image e = record { count = omega arith; stack = inl e; once = tt }
+use Rattle.vol_file.proofs.Truncated.{addresses_file}
+use Rattle.vol_file.proofs.PlaceLists.{front_first}
+use Rattle.vol_file.proofs.Naming.{root_first}
 
 -- the size, the links and the addresses of an i-node are 0 where its bytes behind the mode are
 size_zero : (edition : Edition) (image : List ℕ) (at : ℕ)
@@ -74,12 +69,6 @@ address_zero V7 image at k zero low =
     let third : get_or image (at + 12 + 3 * k + 2) 0 ≡ 0 = rw two (zero (14 + 3 * k) (omega arith) (omega arith)) in
     omega arith
 
--- a mode of 0 is that of a free i-node
-kind_zero : (edition : Edition) → kind_of edition 0 ≡ kinds.Free
-unfolding kind_of
-kind_zero V6 = refl
-kind_zero V7 = refl
-
 -- each i-node has nothing but a mode
 pub record HasBareInodes (geometry : Geometry) (image : List ℕ) : Type 0 where
   pub bytes : (j : ℕ) → 1 ≤ j → j ≤ geometry.last_inode → (r : ℕ) → 2 ≤ r → r < (constants geometry.edition).inode_bytes
@@ -121,7 +110,7 @@ bare_zeros geometry image fits zero = record {
 bare_named : (geometry : Geometry) (image : List ℕ) (j : ℕ) (p : List ℕ) → Fits geometry image → HasBareInodes geometry image
     → IsPlaceOf geometry image j p → named geometry image j p ≡ 0
 bare_named geometry image j p fits bare place =
-    let base = place_base (form_at geometry image j) p place.place in
+    let base = front_first (form_at geometry image j) p place.place in
     let few : first_count (form_at geometry image j) ≡ address_count geometry.edition = addresses_file geometry image j place.file in
     front_zero geometry image j (base.0 ∷ []) p fits
     (address_zero geometry.edition image (inode_place geometry.edition j) base.0 (bare.bytes j place.file.first place.file.last) (omega (arith, base.1, few)))
@@ -146,7 +135,7 @@ bare_sound geometry image blocks fits bare kinds free =
       free = free;
       apart = λ j k p q place other some same. absurd (some (bare_named geometry image j p fits bare place));
       outside = λ j p place inside.
-          zone_some geometry image (named geometry image j p) fits (free_zoned geometry image blocks (named geometry image j p) free inside)
+          zone_some geometry image (named geometry image j p) fits (free_zone free (named geometry image j p) inside)
           (bare_named geometry image j p fits bare place);
     }
 
@@ -192,11 +181,6 @@ kinds_put geometry old mid new i fits zero first directory second regular from a
           inl (free 1 (omega arith) (omega arith) (λ same. let f : 1 ≡ i = same in omega arith) (λ same. let f : 1 ≡ root = same in omega arith));
     }
 
--- the root's i-number
-root_from : (edition : Edition) → 1 ≤ (constants edition).root
-root_from V6 = omega arith
-root_from V7 = omega arith
-
 -- a volume of zeros with a free list is sound once it has got a root and a file
 pub volume_sound : (geometry : Geometry) (old mid new blocks : List ℕ) (i directory regular : ℕ) → Fits geometry old → IsFree geometry old blocks
     → ((k : ℕ) → 1024 ≤ k → k < 512 * geometry.zone_start → get_or old k 0 ≡ 0)
@@ -207,7 +191,7 @@ pub volume_sound : (geometry : Geometry) (old mid new blocks : List ℕ) (i dire
     → (constants geometry.edition).root < i → i ≤ geometry.last_inode → IsSoundWith geometry new blocks
 volume_sound geometry old mid new blocks i directory regular fits free zero first put_root is_directory second put_file is_regular above last =
     let root = (constants geometry.edition).root in
-    let from : 1 ≤ root = root_from geometry.edition in
+    let from : 1 ≤ root = root_first geometry.edition in
     let fits_mid = fits_kept geometry old mid (inode_place geometry.edition root) (inode_place geometry.edition root + 2) first fits in
     let fits_new = fits_kept geometry mid new (inode_place geometry.edition i) (inode_place geometry.edition i + 2) second fits_mid in
     let bare = bare_after geometry mid new i (omega arith) second (bare_after geometry old mid root from first (bare_zeros geometry old fits zero)) in
@@ -222,22 +206,3 @@ volume_sound geometry old mid new blocks i directory regular fits free zero firs
     bare_sound geometry new blocks fits_new bare
     (kinds_put geometry old mid new i fits zero first (ap (kind_of geometry.edition) put_root ∙ is_directory) second
     (ap (kind_of geometry.edition) put_file ∙ is_regular) from above last) free_new
-
--- no block of an empty free list is below a limit
-pub none_below : (geometry : Geometry) (image : List ℕ) (limit : ℕ) → 1 ≤ geometry.zone_start → IsFree geometry image []
-    → (blocks : List ℕ) → IsFree geometry image blocks → (k : ℕ) → IsIn k blocks → limit ≤ k
-unfolding IsIn
-none_below geometry image limit low none blocks free k within =
-    let empty : IsIn k [] = subst (IsIn k) (IsFree_unique low free none) within in absurd empty
-
--- a block that is given is one of the free blocks, of which the others were free before
-pub given_below : (geometry : Geometry) (old new : List ℕ) (b limit : ℕ) → 1 ≤ geometry.zone_start → limit ≤ b → HasStack geometry old
-    → ((blocks : List ℕ) → IsFree geometry old blocks → IsFree geometry new (b ∷ blocks))
-    → ((blocks : List ℕ) → IsFree geometry old blocks → (k : ℕ) → IsIn k blocks → limit ≤ k)
-    → (blocks : List ℕ) → IsFree geometry new blocks → (k : ℕ) → IsIn k blocks → limit ≤ k
-given_below geometry old new b limit low above stack pushed before blocks free k within =
-    let same : blocks ≡ b ∷ stack.blocks = IsFree_unique low free (pushed stack.blocks stack.free) in
-    elim (in_more k b stack.blocks (subst (IsIn k) same within)) [
-      | inl e ↦ omega arith
-      | inr rest ↦ before stack.blocks stack.free k rest
-    ]

@@ -1,32 +1,30 @@
 -- What the writes that make a small file large do to its names.
-use Rattle.std.proofs.Common.{◌≡◌, ◌≢◌, ℕ, ◌+◌, ◌-◌, ◌*◌, ◌<◌, ◌≤◌, ◌⊎◌, ◌∙◌, sym, ap, subst, List, [], ◌∷◌, length, get_or, refl, arith, inl, inr, true, false, Bool, if◌then◌else◌, ltb, eqb}
+use Rattle.std.proofs.Common.{◌≡◌, ℕ, ◌+◌, ◌*◌, ◌<◌, ◌≤◌, ◌⊎◌, ◌∙◌, sym, ap, List, [], ◌∷◌, get_or, refl, arith, inl, inr, true, false, if◌then◌else◌, ltb}
 use Rattle.std.proofs.lemmas.Bool.{cases_lt, lt-ltb, ltb-true}
 use Rattle.std.proofs.lemmas.Bool.Decides.{nat_tests}
 use Rattle.pdp_words.specs.Words.{word, SameOutside}
+use Rattle.pdp_words.proofs.Outside.{widen, join}
 use Rattle.vol_layout.specs.Edition.{constants, number}
-use Rattle.vol_layout.specs.Geometry.{in_zone, Fits}
-use Rattle.vol_layout.specs.Super.{free_head}
+use Rattle.vol_layout.specs.Geometry.{in_zone}
 use Rattle.vol_layout.specs.Inode.{inode_place, address_at, address_bytes, address_offset, address_place, kind_of, is_large, with_large}
-use Rattle.vol_layout.specs.Places.{form_of, file_form, has_places}
-use Rattle.vol_layout.specs.Names.{mode_of, form_at, IsFile, IsPlaceOf, named, entry_of, Names}
+use Rattle.vol_layout.specs.Places.{form_of, has_places}
+use Rattle.vol_layout.specs.Names.{mode_of, form_at, IsFile, IsPlaceOf, named, entry_of}
 use Rattle.vol_layout.specs.declared.edition.Edition.{Edition}
 use Rattle.vol_layout.specs.declared.edition.Edition.TheVariants.{V6, V7}
 use Rattle.vol_layout.specs.declared.geometry.Geometry.{Geometry}
 use Rattle.vol_layout.specs.declared.places.Form.TheVariants.{Small, Large, Deep, Bare}
-use Rattle.vol_layout.specs.declared.mode.Kind.TheVariants as kinds
-use Rattle.vol_layout.proofs.CopyLaws.{copy_block}
-use Rattle.pdp_words.proofs.Outside.{widen, join}
-use Rattle.vol_layout.proofs.InodeLaws.{KeepsInode, place_from, place_room, mode_kept, size_kept, address_kept, inode_kept, form_same}
-use Rattle.vol_layout.proofs.AddressLaws.{address_others, addresses_before, mode_behind, size_behind, size_above, mode_within}
+use Rattle.vol_layout.proofs.InodeLaws.{KeepsInode, place_from, place_room, mode_kept, size_kept, address_kept}
+use Rattle.vol_layout.proofs.AddressLaws.{address_others, addresses_before, size_behind, size_above}
 use Rattle.vol_layout.proofs.BodyLaws.{zone_bounds}
 use Rattle.vol_layout.proofs.NameLaws.{entry_in}
-use Rattle.vol_free.specs.Stack.{IsIn, IsFree, StaysBut, Popped}
+use Rattle.vol_layout.proofs.KindLaws.{file_allocated}
+use Rattle.vol_free.specs.Stack.{IsFree, StaysBut, Popped}
 use Rattle.vol_free.proofs.Stacks.{head_end}
 use Rattle.vol_free.proofs.Frames.{IsFree-before_zone, IsFree-within}
 use Rattle.vol_file.specs.Changes.{is_kept_byte}
-use Rattle.vol_file.specs.Rules.{size_of, kind_at, IsSoundWith}
+use Rattle.vol_file.specs.Rules.{kind_at, IsSoundWith}
 use Rattle.vol_file.specs.Steps.{StaysElsewhere}
-use Rattle.vol_file.proofs.Alone.{elsewhere_then, fits_len}
+use Rattle.vol_file.proofs.Alone.{elsewhere_then}
 use Rattle.vol_file.proofs.Cells.{number_above, names_zoned}
 use Rattle.vol_file.proofs.Taking.{IsUnnamed, stays_block, stays_inode, stays_named, stays_before, stays_elsewhere, stays_sound, zone_two, first_unnamed, first_zoned, first_once, taken_sound}
 use Rattle.vol_file.proofs.Converting.{Moves}
@@ -218,22 +216,11 @@ moves geometry old mid one two three new i b rest sound file small m =
           ∙ (stays_block geometry old mid b 512 k m.popped.stays (omega arith) two_k other).bytes r h));
     }
 
--- an allocated mode of the sixth edition
-allocated : (mode : ℕ) → has_places (kind_of V6 mode) ≡ true → 32768 ≤ mode
-unfolding kind_of
-allocated mode kind =
-    elim (cases_lt mode 32768) [
-      | inl less ↦
-          let none = rw (lt-ltb mode 32768 less) at kind in
-          absurd (elim (eqb mode 0) as (λ t. has_places (if t then kinds.Free else kinds.Odd) ≡ true → ⊥) [ true ↦ λ e. cc | false ↦ λ e. cc ] none)
-      | inr more ↦ more
-    ]
-
 -- the kind stays
 pub large_kind : (geometry : Geometry) (old new : List ℕ) (i bits : ℕ) → form_at geometry old i ≡ Small → IsFile geometry old i
     → mode_of geometry new i ≡ bits → (32768 ≤ mode_of geometry old i → kind_of V6 bits ≡ kind_of V6 (mode_of geometry old i))
     → kind_at geometry new i ≡ kind_at geometry old i
 large_kind geometry old new i bits small file is same =
     let v6 : geometry.edition ≡ V6 = small_edition geometry.edition (mode_of geometry old i) small in
-    let high = allocated (mode_of geometry old i) (ap (λ e. has_places (kind_of e (mode_of geometry old i))) (sym v6) ∙ file.kind) in
+    let high = file_allocated (mode_of geometry old i) (ap (λ e. has_places (kind_of e (mode_of geometry old i))) (sym v6) ∙ file.kind) in
     ap (kind_of geometry.edition) is ∙ (ap (λ e. kind_of e bits) v6 ∙ (same high ∙ ap (λ e. kind_of e (mode_of geometry old i)) (sym v6)))

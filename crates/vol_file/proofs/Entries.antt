@@ -1,25 +1,22 @@
 -- Entries of pointer blocks and addresses of i-nodes that name a block, once they are made 0.
-use Rattle.std.proofs.Common.{◌≡◌, ℕ, ◌+◌, ◌*◌, ◌<◌, ◌≤◌, ◌∙◌, sym, ap, subst, List, [], ◌∷◌, length, arith, true, false, if◌then◌else◌}
+use Rattle.std.proofs.Common.{◌≡◌, ℕ, ◌+◌, ◌*◌, ◌<◌, ◌≤◌, ◌∙◌, sym, ap, subst, List, [], ◌∷◌, length, arith, true}
 use Rattle.pdp_words.specs.Words.{SameOutside}
 use Rattle.vol_layout.specs.Edition.{constants, number}
 use Rattle.vol_layout.specs.Geometry.{in_zone}
-use Rattle.vol_layout.specs.Inode.{inode_place, address_at, address_count, address_bytes, address_place, is_large, kind_of}
-use Rattle.vol_layout.specs.Places.{first_count, pointer_count, form_of, file_form, has_places}
+use Rattle.vol_layout.specs.Inode.{inode_place, address_at, address_bytes, address_place}
+use Rattle.vol_layout.specs.Places.{first_count, pointer_count}
 use Rattle.vol_layout.specs.Names.{mode_of, form_at, named}
-use Rattle.vol_layout.specs.declared.edition.Edition.{Edition}
-use Rattle.vol_layout.specs.declared.edition.Edition.TheVariants.{V6, V7}
 use Rattle.vol_layout.specs.declared.geometry.Geometry.{Geometry}
-use Rattle.vol_layout.specs.declared.places.Form.TheVariants.{Small, Large, Bare}
 use Rattle.vol_layout.proofs.CopyLaws.{number_room}
 use Rattle.vol_layout.proofs.BodyLaws.{zone_bounds}
 use Rattle.vol_layout.proofs.NameLaws.{named_stops, zero_out}
-use Rattle.vol_layout.proofs.FrameLaws.{pointers_of}
+use Rattle.vol_layout.proofs.FrameLaws.{addresses_few, pointers_of}
 use Rattle.vol_free.specs.Stack.{IsIn, IsFree}
 use Rattle.vol_free.proofs.Stacks.{IsFree_unique, zone_behind}
 use Rattle.vol_file.specs.Rules.{IsSoundWith}
 use Rattle.vol_file.specs.Steps.{Stores}
 use Rattle.vol_file.specs.Clears.{IsNamedAt}
-use Rattle.vol_file.proofs.Cells.{stores_entry, stores_address}
+use Rattle.vol_file.proofs.Cells.{entry_end, stores_entry, stores_address}
 
 -- what a place names is a data block
 pub named_zone : (geometry : Geometry) (image blocks : List ℕ) (i b : ℕ) (q : List ℕ) → IsSoundWith geometry image blocks
@@ -37,10 +34,6 @@ entry_above geometry image blocks i j a m b p sound block is = record {
       let zero : named geometry image i (a ∷ p) ≡ 0 = block ∙ none in
       is.some (sym is.names ∙ named_stops geometry image i j a p (ap (in_zone geometry) zero ∙ zero_out geometry image sound.fits));
 }
-
--- where an entry ends
-pub entry_end : (at size j : ℕ) → size * j + size ≤ 512 → at + size * (j + 1) ≤ at + 512
-entry_end at size j h = let more : size * (j + 1) ≡ size * j + size = grind arith in omega arith
 
 -- an entry lies within the image
 pub entry_room : (geometry : Geometry) (image blocks : List ℕ) (i j a m b : ℕ) (p : List ℕ) → IsSoundWith geometry image blocks
@@ -62,17 +55,6 @@ pub entry_stores : (geometry : Geometry) (old new blocks : List ℕ) (i j a m b 
 entry_stores geometry old new blocks i j a m b p sound block is same put =
     stores_entry geometry old new blocks i m j a 0 p sound is.place block
     (named_zone geometry old blocks i m (a ∷ p) sound (entry_above geometry old blocks i j a m b p sound block is)) same put
-
--- how many addresses a form of a file in its edition has
-addresses_in : (edition : Edition) (mode : ℕ) → first_count (file_form edition mode) ≤ address_count edition
-addresses_in V6 mode = elim (is_large V6 mode) as (λ t. first_count (if t then Large else Small) ≤ 8) [ true ↦ omega arith | false ↦ omega arith ]
-addresses_in V7 mode = omega arith
-
--- a file has no more addresses than its i-node
-pub addresses_few : (edition : Edition) (mode : ℕ) → first_count (form_of edition mode) ≤ address_count edition
-addresses_few edition mode =
-    elim (has_places (kind_of edition mode)) as (λ t. first_count (if t then file_form edition mode else Bare) ≤ address_count edition)
-    [ true ↦ addresses_in edition mode | false ↦ omega arith ]
 
 -- 0 put in an address
 pub address_stores : (geometry : Geometry) (old new blocks : List ℕ) (i k b : ℕ) → IsSoundWith geometry old blocks

@@ -6,6 +6,7 @@ use Rattle.std.specs.List.{count_by}
 use Rattle.std.specs.Str.{bytes_eq}
 use Rattle.std.proofs.lemmas.Bool.{cases_eq, ne_eqb}
 use Rattle.std.proofs.lemmas.List.Sums.{sum_by-cons}
+use Rattle.std.proofs.Math.Bool.{or-false}
 use Rattle.vol_layout.specs.Edition.{constants, number}
 use Rattle.vol_layout.specs.Geometry.{in_zone, Fits}
 use Rattle.vol_layout.specs.Places.{levels_below, last_place, places}
@@ -26,8 +27,9 @@ use Rattle.vol_file.specs.Steps.{StaysElsewhere, Stores, lacking, Extends}
 use Rattle.vol_file.specs.Laws.{IsAmong}
 use Rattle.vol_file.proofs.PlaceLists.{same_place, other_place, places_once, among_places}
 use Rattle.vol_file.proofs.Alone.{fits_len, elsewhere_then, elsewhere_names}
-use Rattle.vol_file.proofs.Naming.{cases_place, MayStand, stores_only, stores_sound, place_same}
+use Rattle.vol_file.proofs.Naming.{MayStand, stores_only, stores_sound, place_same}
 use Rattle.vol_file.proofs.Taking.{IsUnnamed, stays_block, stays_inode, zone_two, stays_named, stays_before, stays_elsewhere, first_unnamed, first_zoned, first_once, taken_sound}
+use Rattle.vol_file.proofs.Fronts.{same_or}
 
 -- a byte at the same place
 byte_at : (image : List ℕ) (a b : ℕ) → a ≡ b → get_or image b 0 ≡ 0 → get_or image a 0 ≡ 0
@@ -70,7 +72,7 @@ count_less f g q (p ∷ qs) n once here gone others =
     let split_f : count_by f (p ∷ qs) ≡ cond (f p) 1 0 + count_by f qs = sum_by-cons (λ x. cond (f x) 1 0) p qs in
     let split_g : count_by g (p ∷ qs) ≡ cond (g p) 1 0 + count_by g qs = sum_by-cons (λ x. cond (g x) 1 0) p qs in
     let split : count_by (bytes_eq q) (p ∷ qs) ≡ cond (bytes_eq q p) 1 0 + count_by (bytes_eq q) qs = sum_by-cons (λ x. cond (bytes_eq q x) 1 0) p qs in
-    elim (cases_place p q) [
+    elim (same_or p q) [
       | inl e ↦
           let one : ◌≡◌ {A = ℕ} (cond (bytes_eq q p) 1 0) 1 = ap (λ t. cond t 1 0) (same_place q p (sym e)) in
           let first : ◌≡◌ {A = ℕ} (cond (f p) 1 0) 1 = ap (λ t. cond t 1 0) (ap f e ∙ here) in
@@ -121,7 +123,7 @@ extends_bytes geometry old mid new i b q rest sound file place none popped after
     let leaf = last_leaf (form_at geometry old i) c p e in
     let place_p : IsPlaceOf geometry old i p = record { file = file; place = leaf.place } in
     let place_mid = place_same geometry old mid i p mode place_p in
-    elim (cases_place p q) [
+    elim (same_or p q) [
       | inl here ↦
           let now : named geometry new i p ≡ b = ap (named geometry new i) here ∙ stores.here in
           let was : named geometry old i p ≡ 0 = ap (named geometry old i) here ∙ none in
@@ -175,24 +177,19 @@ extends_covered geometry old new i b q rest sound file place none stays mode her
       )
     ]
 
--- what is added is nothing
-pub or_nothing : (x : Bool) → (x || false) ≡ x
-or_nothing true = refl
-or_nothing false = refl
-
 -- the names after one place was named
 extends_names : (geometry : Geometry) (old new : List ℕ) (i b : ℕ) (q : List ℕ) → named geometry old i q ≡ 0 → named geometry new i q ≡ b → b ≢ 0
     → ((p : List ℕ) → IsPlaceOf geometry old i p → p ≢ q → named geometry new i p ≡ named geometry old i p)
     → (p : List ℕ) → IsPlaceOf geometry old i p → is_named geometry new i p ≡ (is_named geometry old i p || bytes_eq p q)
 extends_names geometry old new i b q none here some only p place =
-    elim (cases_place p q) [
+    elim (same_or p q) [
       | inl e ↦
           let now : is_named geometry new i p ≡ true = named_true geometry new i p (λ z. some (sym here ∙ (sym (ap (named geometry new i) e) ∙ z))) in
           let was : is_named geometry old i p ≡ false = unnamed_false geometry old i p (ap (named geometry old i) e ∙ none) in
           now ∙ sym (ap (λ t. t || bytes_eq p q) was ∙ same_place p q e)
       | inr differ ↦
           let same : is_named geometry new i p ≡ is_named geometry old i p = ap (λ m. not (eqb m 0)) (only p place differ) in
-          same ∙ sym (ap (λ t. is_named geometry old i p || t) (other_place p q differ) ∙ or_nothing (is_named geometry old i p))
+          same ∙ sym (ap (λ t. is_named geometry old i p || t) (other_place p q differ) ∙ or-false (is_named geometry old i p))
     ]
 
 -- the block taken is put at a place that named nothing

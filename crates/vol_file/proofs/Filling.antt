@@ -1,10 +1,10 @@
 -- All places on the ways of the touched blocks named: how many blocks that takes, and the form that the file has then.
-use Rattle.std.proofs.Common.{◌≡◌, ◌≢◌, ℕ, zero, suc, ◌+◌, ◌-◌, ◌*◌, ◌/◌, ◌<◌, ◌≤◌, ◌∙◌, sym, ap, subst, List, [], ◌∷◌, ◌++◌, length, refl, arith, rules, inl, inr, true, false, Bool, cond, if◌then◌else◌, leb}
+use Rattle.std.proofs.Common.{◌≡◌, ℕ, zero, suc, ◌+◌, ◌*◌, ◌<◌, ◌≤◌, ◌∙◌, sym, ap, subst, List, ◌∷◌, ◌++◌, length, refl, arith, true, false, Bool, if◌then◌else◌, leb}
 use Rattle.std.specs.Prelude.{◌&&◌, ◌||◌, not}
-use Rattle.std.specs.List.{count_by, sum_by, list_any, range_with_len}
-use Rattle.std.proofs.lemmas.Bool.{cases_lt, lt-leb, le-leb}
+use Rattle.std.specs.List.{count_by, list_any, range_with_len}
+use Rattle.std.proofs.lemmas.Bool.{lt-leb, le-leb}
+use Rattle.std.proofs.lemmas.Bool.Decides.{nat_tests}
 use Rattle.std.proofs.lemmas.List.{length-append}
-use Rattle.std.proofs.lemmas.List.Sums.{sum_by-cons}
 use Rattle.vol_layout.specs.Edition.{constants}
 use Rattle.vol_layout.specs.Inode.{kind_of, is_large, with_large}
 use Rattle.vol_layout.specs.Places.{IsPlace, form_of, file_form, has_places, block_limit, places}
@@ -15,33 +15,15 @@ use Rattle.vol_layout.specs.declared.edition.Edition.TheVariants.{V6, V7}
 use Rattle.vol_layout.specs.declared.places.Form.{Form}
 use Rattle.vol_layout.specs.declared.places.Form.TheVariants.{Small, Large, Deep, Bare}
 use Rattle.vol_layout.proofs.InodeLaws.{form_same}
-use Rattle.vol_file.specs.Shape.{is_named, is_on_ways, grows_large, moved_down, fit_form, fit_names, filled}
+use Rattle.vol_file.specs.Shape.{is_named, is_on_ways, grows_large, moved_down}
 use Rattle.vol_file.specs.Need.{missing_count, need_of}
 use Rattle.vol_file.specs.Rules.{IsSoundWith}
-use Rattle.vol_file.specs.Changes.{mode_after}
-use Rattle.vol_file.specs.Laws.{IsAmong}
-use Rattle.vol_file.specs.Steps.{lacking, Extends, IsReady, WantsWays, NamesWays, Enlarges, Fills}
-use Rattle.vol_file.proofs.PlaceLists.{among_places}
+use Rattle.vol_file.specs.Steps.{lacking, WantsWays, NamesWays, Enlarges, Fills}
+use Rattle.vol_file.specs.Missing.{grows_at}
+use Rattle.vol_file.proofs.PlaceLists.{count_among, count_none, among_places}
 use Rattle.vol_file.proofs.Alone.{elsewhere_then}
-use Rattle.vol_file.proofs.Naming.{file_same, place_same}
+use Rattle.vol_file.proofs.Naming.{file_same}
 use Rattle.vol_file.proofs.Lasts.{or_true}
-
--- what is counted by the same test is the same
-count_same : (f g : List ℕ → Bool) (qs : List (List ℕ)) → ((p : List ℕ) → IsAmong p qs → f p ≡ g p) → count_by f qs ≡ count_by g qs
-count_same f g [] same = refl
-count_same f g (q ∷ qs) same =
-    let rest : count_by f qs ≡ count_by g qs = count_same f g qs (λ p among. same p (inr among)) in
-    let first : ◌≡◌ {A = ℕ} (cond (f q) 1 0) (cond (g q) 1 0) = ap (λ t. cond t 1 0) (same q (inl refl)) in
-    let split_f : count_by f (q ∷ qs) ≡ cond (f q) 1 0 + count_by f qs = sum_by-cons (λ x. cond (f x) 1 0) q qs in
-    let split_g : count_by g (q ∷ qs) ≡ cond (g q) 1 0 + count_by g qs = sum_by-cons (λ x. cond (g x) 1 0) q qs in
-    omega (arith, rest, first, split_f, split_g)
-
--- nothing is counted where no test holds
-count_none : (qs : List (List ℕ)) → count_by (λ p. false) qs ≡ 0
-count_none [] = refl
-count_none (q ∷ qs) =
-    let rest : count_by (λ p. false) qs ≡ 0 = count_none qs in
-    let split = sum_by-cons {X = List ℕ} (λ x. 0) q qs in omega (arith, rest, split)
 
 -- a test that holds of what is there
 and_gone : (x y : Bool) → (x && not (y || x)) ≡ false
@@ -56,11 +38,11 @@ lacking_none : (geometry : Geometry) (old new : List ℕ) (i : ℕ) (wanted : Li
     → lacking geometry new i wanted ≡ 0
 unfolding lacking
 lacking_none geometry old new i wanted file mode names =
-    count_same (λ p. wanted p && not (is_named geometry new i p)) (λ p. false) (places (form_at geometry new i))
+    count_among (λ p. wanted p && not (is_named geometry new i p)) (λ p. false) (places (form_at geometry new i))
     (λ p among.
     let place : IsPlace (form_at geometry old i) p = subst (λ f. IsPlace f p) (form_same geometry old new i mode) (among_places (form_at geometry new i) p among) in
     ap (λ t. wanted p && not t) (names p (record { file = file; place = place })) ∙ and_gone (wanted p) (is_named geometry old i p))
-    ∙ count_none (places (form_at geometry new i))
+    ∙ count_none (λ p. false) (places (form_at geometry new i)) (λ p. refl)
 
 -- what is lacking on some ways is what is missing there
 lacking_missing : (geometry : Geometry) (image : List ℕ) (i : ℕ) (form : Form) (names : List ℕ → Bool) (touches : List ℕ)
@@ -69,8 +51,22 @@ lacking_missing : (geometry : Geometry) (image : List ℕ) (i : ℕ) (form : For
 unfolding lacking missing_count
 lacking_missing geometry image i form names touches is same =
     ap (λ f. count_by (λ p. is_on_ways form touches p && not (is_named geometry image i p)) (places f)) is
-    ∙ count_same (λ p. is_on_ways form touches p && not (is_named geometry image i p)) (λ p. is_on_ways form touches p && not (names p)) (places form)
+    ∙ count_among (λ p. is_on_ways form touches p && not (is_named geometry image i p)) (λ p. is_on_ways form touches p && not (names p)) (places form)
     (λ p among. ap (λ t. is_on_ways form touches p && not t) (same p (among_places form p among)))
+
+-- a file that becomes large is a small one, and its ninth block or a later one is touched
+pub grows_small : (form : Form) (last : ℕ) → grows_at form last ≡ true → (form ≡ Small) × (8 ≤ last)
+grows_small Small last e = (refl, grind (arith, nat_tests))
+grows_small Large last e = absurd (cc)
+grows_small Deep last e = absurd (cc)
+grows_small Bare last e = absurd (cc)
+
+-- of a small file that doesn't become large one of the first eight blocks is touched
+pub grows_few : (form : Form) (last : ℕ) → grows_at form last ≡ false → form ≡ Small → last < 8
+grows_few Small last e small = grind (arith, nat_tests)
+grows_few Large last e small = absurd (cc)
+grows_few Deep last e small = absurd (cc)
+grows_few Bare last e small = absurd (cc)
 
 -- the need where the file keeps its form
 need_plain : (form : Form) (names : List ℕ → Bool) (touches : List ℕ) → grows_large form touches ≡ false

@@ -1,5 +1,5 @@
 -- Laws of the places that lie on the way to others.
-use Rattle.std.proofs.Common.{◌≡◌, ℕ, ◌+◌, ◌<◌, ◌≤◌, ◌⊎◌, ◌∙◌, sym, ap, subst, List, [], ◌∷◌, refl, arith, inl, inr}
+use Rattle.std.proofs.Common.{◌≡◌, ℕ, ◌+◌, ◌<◌, ◌≤◌, ◌⊎◌, ◌∙◌, sym, ap, subst, List, [], ◌∷◌, length, refl, arith, inl, inr}
 use Rattle.std.proofs.lemmas.Bool.{cases_lt, cases_eq}
 use Rattle.vol_layout.specs.Geometry.{in_zone, Fits}
 use Rattle.vol_layout.specs.Laws.{IsFront}
@@ -8,7 +8,16 @@ use Rattle.vol_layout.specs.declared.geometry.Geometry.{Geometry}
 use Rattle.vol_layout.proofs.NameLaws.{zero_out, named_past}
 use Rattle.vol_layout.proofs.PlaceLaws.{front_above}
 use Rattle.vol_file.specs.Clears.{IsUnder}
-use Rattle.vol_file.proofs.Cells.{front_longer}
+
+-- a front is at most as long
+pub front_length : (p q : List ℕ) → IsFront q p → length q ≤ length p
+front_length [] q front = absurd front
+front_length (h ∷ p) q (inl e) = rw e (omega arith)
+front_length (h ∷ p) q (inr front) = let less : length q ≤ length p = front_length p q front in omega arith
+
+-- no place is a front of its own front
+pub front_longer : (j : ℕ) (p : List ℕ) → IsFront (j ∷ p) p → ⊥
+front_longer j p front = let less : length (j ∷ p) ≤ length p = front_length p (j ∷ p) front in omega arith
 
 -- two lists are the same or not
 pub same_or : (p q : List ℕ) → (p ≡ q) ⊎ (p ≡ q → ⊥)

@@ -1,18 +1,18 @@
 -- The last place of each logical block, where its range is known, and the places on the way to it.
-use Rattle.std.proofs.Common.{◌≡◌, ℕ, ◌+◌, ◌-◌, ◌*◌, ◌/◌, ◌%◌, ◌<◌, ◌≤◌, ◌∙◌, sym, ap, subst, List, [], ◌∷◌, refl, arith, inl, inr, true, false, Bool, Option, Some, None, if◌then◌else◌, ltb}
+use Rattle.std.proofs.Common.{◌≡◌, ℕ, ◌-◌, ◌/◌, ◌%◌, ◌<◌, ◌≤◌, ◌∙◌, sym, ap, subst, List, [], ◌∷◌, refl, arith, inl, inr, true, false, Bool, Some}
 use Rattle.std.specs.Prelude.{◌||◌}
 use Rattle.std.specs.Option.{option_map_or}
 use Rattle.std.specs.List.{list_any}
 use Rattle.std.specs.Str.{bytes_eq}
 use Rattle.std.proofs.lemmas.Bool.{lt-ltb, le-ltb}
-use Rattle.vol_layout.specs.Places.{IsPlace, block_limit, last_place, fronts, way}
+use Rattle.vol_layout.specs.Places.{block_limit, last_place, fronts, way}
 use Rattle.vol_layout.specs.Laws.{IsFront}
-use Rattle.vol_layout.specs.Names.{form_at, IsPlaceOf}
+use Rattle.vol_layout.specs.Names.{form_at}
 use Rattle.vol_layout.specs.declared.geometry.Geometry.{Geometry}
 use Rattle.vol_layout.specs.declared.places.Form.{Form}
 use Rattle.vol_layout.specs.declared.places.Form.TheVariants.{Small, Large, Deep, Bare}
 use Rattle.vol_layout.proofs.PlaceLaws.{place_front, last_leaf}
-use Rattle.vol_file.specs.Steps.{Extends, Reaches, IsWanted, MayName, IsNext, MayNameEntry, WantsWay, NamesWay, is_front}
+use Rattle.vol_file.specs.Steps.{Reaches, IsWanted, MayName, IsNext, MayNameEntry, WantsWay, NamesWay, is_front}
 use Rattle.vol_file.proofs.PlaceLists.{same_place}
 use Rattle.vol_file.proofs.Reaching.{extends_as}
 

@@ -7,16 +7,19 @@ use Rattle.std.proofs.lemmas.Bool.{cases_lt}
 use Rattle.std.proofs.lemmas.Bool.Decides.{nat_tests, same_from_decides, Decides-like, Decides-eqb}
 use Rattle.std.proofs.lemmas.List.Sums.{sum_by-cons}
 use Rattle.std.proofs.lemmas.Slice.Eq.{bytes_eq-Decides}
+use Rattle.std.specs.Prelude.{nat_le}
+use Rattle.std.proofs.Math.Bool.{or-false, or_assoc}
 use Rattle.vol_layout.specs.Places.{pointer_count, levels, levels_below, IsPlace, block_limit, last_place, fronts, way, places}
 use Rattle.vol_layout.specs.Laws.{IsFront}
 use Rattle.vol_layout.specs.declared.places.Form.{Form}
 use Rattle.vol_layout.specs.declared.places.Form.TheVariants.{Small, Large, Deep, Bare}
 use Rattle.vol_layout.proofs.PlaceLaws.{last_leaf, has_no_way}
-use Rattle.std.specs.Prelude.{nat_le}
 use Rattle.vol_file.specs.Shape.{touched, is_on_ways, grows_large}
 use Rattle.vol_file.specs.Need.{missing_count, need_of}
 use Rattle.vol_file.specs.Missing.{missing_to, missing_at, missing_from, grown_form, grown_names, grows_at}
-use Rattle.vol_file.proofs.PlaceLists.{same_place, first_or_later, front_length, places_once}
+use Rattle.vol_file.proofs.PlaceLists.{same_place, place_is, first_or_later, count_same, count_none, places_once}
+use Rattle.vol_file.proofs.Fronts.{front_length}
+use Rattle.vol_file.proofs.Lasts.{last_small, last_large, last_huge, last_direct, last_single, last_double, last_triple}
 
 -- Counts
 
@@ -27,22 +30,6 @@ one_if t = cond t 1 0
 -- the count of a longer list
 counted_step : (t : List ℕ → Bool) (q : List ℕ) (qs : List (List ℕ)) → count_by t (q ∷ qs) ≡ one_if (t q) + count_by t qs
 counted_step t q qs = sum_by-cons (λ x. cond (t x) 1 0) q qs
-
--- tests with the same answers count the same
-count_same : (s t : List ℕ → Bool) (qs : List (List ℕ)) → ((q : List ℕ) → s q ≡ t q) → count_by s qs ≡ count_by t qs
-count_same s t [] h = refl
-count_same s t (q ∷ qs) h =
-    let here : one_if (s q) ≡ one_if (t q) = ap one_if (h q) in
-    let rest : count_by s qs ≡ count_by t qs = count_same s t qs h in
-    counted_step s q qs ∙ (omega (arith, here, rest) ∙ sym (counted_step t q qs))
-
--- a test that nothing passes counts nothing
-count_none : (t : List ℕ → Bool) (qs : List (List ℕ)) → ((q : List ℕ) → t q ≡ false) → count_by t qs ≡ 0
-count_none t [] h = refl
-count_none t (q ∷ qs) h =
-    let here : one_if (t q) ≡ 0 = ap one_if (h q) in
-    let rest : count_by t qs ≡ 0 = count_none t qs h in
-    counted_step t q qs ∙ omega (arith, here, rest)
 
 -- 1 for what passes one of two tests, where nothing passes both
 ones : (x y : Bool) → (x ≡ true → y ≡ false) → one_if (x || y) ≡ one_if x + one_if y
@@ -67,10 +54,6 @@ bytes_eq_sym : (p q : List ℕ) → bytes_eq p q ≡ bytes_eq q p
 bytes_eq_sym p q =
     same_from_decides (bytes_eq p q) (bytes_eq q p) (bytes_eq-Decides p q)
     (Decides-like (bytes_eq q p) (λ (e : q ≡ p). sym e) (λ (e : p ≡ q). sym e) (bytes_eq-Decides q p))
-
--- places that are told to be the same are
-same_from : (p q : List ℕ) → bytes_eq p q ≡ true → p ≡ q
-same_from p q e = (bytes_eq-Decides p q).0 e
 
 -- one of two answers is yes
 either : (x y : Bool) → (x || y) ≡ true → (x ≡ true) ⊎ ((x ≡ false) × (y ≡ true))
@@ -100,11 +83,6 @@ yes_after : (x y : Bool) → y ≡ true → (x || y) ≡ true
 yes_after true y e = refl
 yes_after false y e = e
 
--- a second answer of no
-or_no : (x : Bool) → (x || false) ≡ x
-or_no true = refl
-or_no false = refl
-
 -- an answer that isn't yes is no
 no_from : (x : Bool) → (x ≡ true → ⊥) → x ≡ false
 no_from true h = absurd (h refl)
@@ -121,10 +99,10 @@ is_new whole (j ∷ (a ∷ p)) q = bytes_eq q (j ∷ (a ∷ p)) || ((whole || j 
 -- what counts is a front
 new_front : (whole : Bool) (p q : List ℕ) → is_new whole p q ≡ true → IsFront q p
 new_front whole [] q e = absurd (cc)
-new_front whole (k ∷ []) q e = inl (same_from q (k ∷ []) e)
+new_front whole (k ∷ []) q e = inl (place_is q (k ∷ []) e)
 new_front whole (j ∷ (a ∷ p)) q e =
     elim (either (bytes_eq q (j ∷ (a ∷ p))) ((whole || j == 0) && is_new whole (a ∷ p) q) e) [
-      | inl here ↦ inl (same_from q (j ∷ (a ∷ p)) here)
+      | inl here ↦ inl (place_is q (j ∷ (a ∷ p)) here)
       | inr (other, above) ↦ inr (new_front whole (a ∷ p) q (both (whole || j == 0) (is_new whole (a ∷ p) q) above).1)
     ]
 
@@ -141,7 +119,7 @@ front_new (j ∷ (a ∷ p)) q (inr deeper) =
 -- the fronts of a place are those that count where the whole way does
 fronts_new : (p q : List ℕ) → list_any (bytes_eq q) (fronts p) ≡ is_new true p q
 fronts_new [] q = refl
-fronts_new (k ∷ []) q = or_no (bytes_eq q (k ∷ []))
+fronts_new (k ∷ []) q = or-false (bytes_eq q (k ∷ []))
 fronts_new (j ∷ (a ∷ p)) q = ap (λ x. bytes_eq q (j ∷ (a ∷ p)) || x) (fronts_new (a ∷ p) q)
 
 -- one place that may name something, counted in a list where it comes once
@@ -151,11 +129,11 @@ count_at names p qs once =
     elim (names p) as (λ t. names p ≡ t → count_by (λ q. bytes_eq q p && not (names q)) qs ≡ (if t then 0 else 1)) [
       | true ↦ λ e. count_none (λ q. bytes_eq q p && not (names q)) qs (λ q. no_from (bytes_eq q p && not (names q)) (λ passes.
           let parts : (bytes_eq q p ≡ true) × (not (names q) ≡ true) = both (bytes_eq q p) (not (names q)) passes in
-          let no : not (names q) ≡ false = ap (λ x. not (names x)) (same_from q p parts.0) ∙ ap not e in
+          let no : not (names q) ≡ false = ap (λ x. not (names x)) (place_is q p parts.0) ∙ ap not e in
           let clash : true ≡ false = sym parts.1 ∙ no in cc))
       | false ↦ λ e. count_same (λ q. bytes_eq q p && not (names q)) (bytes_eq p) qs (λ q.
           elim (bytes_eq q p) as (λ t. bytes_eq q p ≡ t → (t && not (names q)) ≡ bytes_eq p q) [
-            | true ↦ λ same. ap (λ x. not (names x)) (same_from q p same) ∙ (ap not e ∙ (sym same ∙ bytes_eq_sym q p))
+            | true ↦ λ same. ap (λ x. not (names x)) (place_is q p same) ∙ (ap not e ∙ (sym same ∙ bytes_eq_sym q p))
             | false ↦ λ other. sym other ∙ bytes_eq_sym q p
           ] refl) ∙ once
     ] refl
@@ -181,10 +159,10 @@ count_new form names whole (j ∷ (a ∷ p)) place =
     count_same (λ q. is_new whole (j ∷ (a ∷ p)) q && not (names q)) (λ q. here q || above q) (places form)
     (λ q. or_and (bytes_eq q (j ∷ (a ∷ p))) ((whole || j == 0) && is_new whole (a ∷ p) q) (not (names q)))
     ∙ (count_apart here above (places form) (λ q passes. no_from (above q) (λ higher.
-    let same : q ≡ j ∷ (a ∷ p) = same_from q (j ∷ (a ∷ p)) (both (bytes_eq q (j ∷ (a ∷ p))) (not (names q)) passes).0 in
+    let same : q ≡ j ∷ (a ∷ p) = place_is q (j ∷ (a ∷ p)) (both (bytes_eq q (j ∷ (a ∷ p))) (not (names q)) passes).0 in
     let new : is_new whole (a ∷ p) q ≡ true =
     (both (whole || j == 0) (is_new whole (a ∷ p) q) (both ((whole || j == 0) && is_new whole (a ∷ p) q) (not (names q)) higher).0).1 in
-    let short : length q ≤ length (a ∷ p) = front_length q (a ∷ p) (new_front whole (a ∷ p) q new) in
+    let short : length q ≤ length (a ∷ p) = front_length (a ∷ p) q (new_front whole (a ∷ p) q new) in
     let len : length q ≡ length (j ∷ (a ∷ p)) = ap length same in
     omega (arith, short, len)))
     ∙ omega (arith, one, rest))
@@ -222,10 +200,10 @@ first_front form (j ∷ (a ∷ p)) q (inr deeper) =
 -- a front that no earlier way has begins with the place
 first_new : (form : Form) (p q : List ℕ) → is_new false p q ≡ true → first_through form q ≡ first_through form p
 first_new form [] q e = absurd (cc)
-first_new form (k ∷ []) q e = ap (first_through form) (same_from q (k ∷ []) e)
+first_new form (k ∷ []) q e = ap (first_through form) (place_is q (k ∷ []) e)
 first_new form (j ∷ (a ∷ p)) q e =
     elim (either (bytes_eq q (j ∷ (a ∷ p))) ((false || j == 0) && is_new false (a ∷ p) q) e) [
-      | inl here ↦ ap (first_through form) (same_from q (j ∷ (a ∷ p)) here)
+      | inl here ↦ ap (first_through form) (place_is q (j ∷ (a ∷ p)) here)
       | inr (other, above) ↦
           let parts : (j == 0 ≡ true) × (is_new false (a ∷ p) q ≡ true) = both (j == 0) (is_new false (a ∷ p) q) above in
           let none : j ≡ 0 = (Decides-eqb j 0).0 parts.0 in
@@ -272,42 +250,6 @@ IsOnWay form b q = (p : List ℕ) × (last_place form b ≡ Some p) × IsFront q
 record IsLastOf (form : Form) (b : ℕ) (p : List ℕ) : Type 0 where
   starts : first_through form p ≡ b
   shares : (q : List ℕ) → IsFront q (above p) → (1 ≤ b) × IsOnWay form (b - 1) q
-
--- the last places of small files
-pub last_small : (b : ℕ) → b < 8 → last_place Small b ≡ Some (b ∷ [])
-unfolding last_place
-last_small b h = grind (arith, nat_tests)
-
--- the last places of large files, below an indirect block
-pub last_large : (b : ℕ) → b < 1792 → last_place Large b ≡ Some ((b % 256) ∷ ((b / 256) ∷ []))
-unfolding last_place
-last_large b h = grind (arith, nat_tests)
-
--- the same, below the doubly indirect block
-pub last_huge : (b : ℕ) → 1792 ≤ b → b < 32768 → last_place Large b ≡ Some ((b % 256) ∷ ((b / 256 - 7) ∷ (7 ∷ [])))
-unfolding last_place
-last_huge b l h = grind (arith, nat_tests)
-
--- the last places of the seventh edition, without pointer blocks
-pub last_direct : (b : ℕ) → b < 10 → last_place Deep b ≡ Some (b ∷ [])
-unfolding last_place
-last_direct b h = grind (arith, nat_tests)
-
--- the same, below the indirect block
-pub last_single : (b : ℕ) → 10 ≤ b → b < 138 → last_place Deep b ≡ Some ((b - 10) ∷ (10 ∷ []))
-unfolding last_place
-last_single b l h = grind (arith, nat_tests)
-
--- the same, below the doubly indirect block
-pub last_double : (b : ℕ) → 138 ≤ b → b < 16522 → last_place Deep b ≡ Some (((b - 138) % 128) ∷ (((b - 138) / 128) ∷ (11 ∷ [])))
-unfolding last_place
-last_double b l h = grind (arith, nat_tests)
-
--- the same, below the triply indirect block
-pub last_triple : (b : ℕ) → 16522 ≤ b → b < 2113674
-    → last_place Deep b ≡ Some (((b - 16522) % 128) ∷ (((b - 16522) / 128 % 128) ∷ (((b - 16522) / 16384) ∷ (12 ∷ []))))
-unfolding last_place
-last_triple b l h = grind (arith, nat_tests)
 
 -- below an indirect block of a large file
 of_large : (b : ℕ) → b < 1792 → IsLastOf Large b ((b % 256) ∷ ((b / 256) ∷ []))
@@ -506,18 +448,13 @@ any_at t a (suc n) j low high e =
       | inr later ↦ yes_after (t a) (list_any t (range_with_len (a + 1) n)) (any_at t (a + 1) n j later (omega arith) e)
     ]
 
--- three answers, the first two together or the last two
-or_assoc : (x y z : Bool) → (x || (y || z)) ≡ ((x || y) || z)
-or_assoc true y z = refl
-or_assoc false y z = refl
-
 -- a range with one number more
 pub any_more : (t : ℕ → Bool) (a n : ℕ) → list_any t (range_with_len a (suc n)) ≡ (list_any t (range_with_len a n) || t (a + n))
-any_more t a zero = let same : a ≡ a + 0 = omega arith in or_no (t a) ∙ ap t same
+any_more t a zero = let same : a ≡ a + 0 = omega arith in or-false (t a) ∙ ap t same
 any_more t a (suc n) =
     let same : a + 1 + n ≡ a + suc n = omega arith in
     ap (λ x. t a || x) (any_more t (a + 1) n)
-    ∙ (or_assoc (t a) (list_any t (range_with_len (a + 1) n)) (t (a + 1 + n)) ∙ ap (λ m. list_any t (range_with_len a (suc n)) || t m) same)
+    ∙ (sym (or_assoc (t a) (list_any t (range_with_len (a + 1) n)) (t (a + 1 + n))) ∙ ap (λ m. list_any t (range_with_len a (suc n)) || t m) same)
 
 -- a new front of a way is on no earlier way
 new_is_new : (form : Form) (p q : List ℕ) (first n : ℕ) → last_place form (first + n) ≡ Some p → is_new false p q ≡ true
@@ -613,7 +550,7 @@ count_next form names first n sofar =
           count_same (λ q. (is_on_ways form (range_with_len first n) q || is_on_way form q (first + n)) && not (names q))
           (λ q. is_on_ways form (range_with_len first n) q && not (names q)) (places form)
           (λ q. ap (λ x. (is_on_ways form (range_with_len first n) q || x) && not (names q)) (way_none form q (first + n) e)
-          ∙ ap (λ x. x && not (names q)) (or_no (is_on_ways form (range_with_len first n) q)))
+          ∙ ap (λ x. x && not (names q)) (or-false (is_on_ways form (range_with_len first n) q)))
           ∙ omega (arith, sofar, at)
     ] refl
 
@@ -686,7 +623,7 @@ later m a b h = grind (arith, nat_tests)
 
 -- one of the numbers of a range is as large as m where the last one is
 any_large : (m a n : ℕ) → list_any (λ b. nat_le m b) (range_with_len a (suc n)) ≡ nat_le m (a + n)
-any_large m a zero = let same : a ≡ a + 0 = omega arith in or_no (nat_le m a) ∙ ap (nat_le m) same
+any_large m a zero = let same : a ≡ a + 0 = omega arith in or-false (nat_le m a) ∙ ap (nat_le m) same
 any_large m a (suc n) =
     let same : a + 1 + n ≡ a + suc n = omega arith in
     ap (λ x. nat_le m a || x) (any_large m (a + 1) n ∙ ap (nat_le m) same) ∙ later m a (a + suc n) (omega arith)

@@ -1,11 +1,7 @@
 -- What names and soundness are after a number was stored at a place of a file.
-use Rattle.std.proofs.Common.{◌≡◌, ◌≢◌, ℕ, ◌+◌, ◌<◌, ◌≤◌, ◌⊎◌, ◌∙◌, sym, ap, subst, List, [], ◌∷◌, get_or, refl, arith, inl, inr, true, false}
+use Rattle.std.proofs.Common.{◌≡◌, ◌≢◌, ℕ, ◌+◌, ◌<◌, ◌≤◌, ◌∙◌, sym, ap, subst, List, [], ◌∷◌, get_or, refl, arith, inl, inr, true}
 use Rattle.std.proofs.lemmas.Bool.{cases_eq}
 use Rattle.std.proofs.lemmas.Bool.Decides.{nat_tests}
-use Rattle.vol_file.specs.Changes.{is_kept_byte}
-use Rattle.vol_layout.proofs.FrameLaws.{pointers_of}
-use Rattle.std.proofs.lemmas.Slice.Eq.{bytes_eq-Decides}
-use Rattle.std.specs.Str.{bytes_eq}
 use Rattle.vol_layout.specs.Edition.{constants}
 use Rattle.vol_layout.specs.Geometry.{in_zone, Fits}
 use Rattle.vol_layout.specs.Inode.{inode_place, inode_at, inode_of, kind_of}
@@ -15,22 +11,19 @@ use Rattle.vol_layout.specs.Names.{mode_of, form_at, IsFile, IsPlaceOf, named, e
 use Rattle.vol_layout.specs.declared.edition.Edition.{Edition}
 use Rattle.vol_layout.specs.declared.edition.Edition.TheVariants.{V6, V7}
 use Rattle.vol_layout.specs.declared.geometry.Geometry.{Geometry}
+use Rattle.vol_layout.proofs.FrameLaws.{pointers_of}
 use Rattle.vol_layout.proofs.InodeLaws.{mode_kept, size_kept, inode_of_kept, inode_v6, inode_v7, form_same}
 use Rattle.vol_layout.proofs.NameLaws.{zero_out, named_stops}
 use Rattle.vol_free.specs.Stack.{IsIn}
 use Rattle.vol_free.proofs.Frames.{free_from}
+use Rattle.vol_file.specs.Changes.{is_kept_byte}
 use Rattle.vol_file.specs.Rules.{size_of, kind_at, HasKinds, HasSizes, IsSoundWith}
 use Rattle.vol_file.specs.Steps.{StaysElsewhere, Stores}
 use Rattle.vol_file.proofs.Alone.{fits_len, elsewhere_inode, elsewhere_before, elsewhere_named}
-
--- two places are the same or differ
-pub cases_place : (p q : List ℕ) → (p ≡ q) ⊎ (p ≢ q)
-cases_place p q =
-    elim (bytes_eq p q) as (λ t. bytes_eq p q ≡ t → (p ≡ q) ⊎ (p ≢ q))
-    [ true ↦ λ e. inl ((bytes_eq-Decides p q).0 e) | false ↦ λ e. inr (λ same. let is : bytes_eq p q ≡ true = (bytes_eq-Decides p q).1 same in cc) ] refl
+use Rattle.vol_file.proofs.Fronts.{same_or, front_or}
 
 -- the root isn't i-number 0
-root_first : (edition : Edition) → 1 ≤ (constants edition).root
+pub root_first : (edition : Edition) → 1 ≤ (constants edition).root
 root_first V6 = omega arith
 root_first V7 = omega arith
 
@@ -57,7 +50,7 @@ the_third : (at : ℕ) → at + 2 + 1 ≡ at + 3
 the_third at = omega arith
 
 -- the links in an i-node
-links_same : (edition : Edition) (old new : List ℕ) (at : ℕ)
+pub links_same : (edition : Edition) (old new : List ℕ) (at : ℕ)
     → ((r : ℕ) → 2 ≤ r → r < 4 → get_or new (at + r) 0 ≡ get_or old (at + r) 0)
     → (inode_at edition new at).links ≡ (inode_at edition old at).links
 links_same V6 old new at same = (inode_v6 new at).0 ∙ (same 2 (omega arith) (omega arith) ∙ sym (inode_v6 old at).0)
@@ -68,7 +61,7 @@ links_same V7 old new at same =
     (inode_v7 new at).0 ∙ (omega (arith, two, three) ∙ sym (inode_v7 old at).0)
 
 -- the bytes of the links are kept
-links_kept_byte : (edition : Edition) (r : ℕ) → 2 ≤ r → r < 4 → is_kept_byte edition r ≡ true
+pub links_kept_byte : (edition : Edition) (r : ℕ) → 2 ≤ r → r < 4 → is_kept_byte edition r ≡ true
 links_kept_byte V6 r h l = grind (arith, nat_tests)
 links_kept_byte V7 r h l = grind (arith, nat_tests)
 
@@ -152,18 +145,6 @@ below_none geometry image i v q fits is none (h ∷ p) x place (inr front) =
     below_none geometry image i v q fits is none p h (record { file = place.file; place = place.place.2 }) front in
     named_stops geometry image i x h p (ap (in_zone geometry) zero ∙ zero_out geometry image fits)
 
--- a list of indexes is a front of another or not
-pub is_front_or_not : (q p : List ℕ) → IsFront q p ⊎ (IsFront q p → ⊥)
-is_front_or_not q [] = inr (λ front. front)
-is_front_or_not q (j ∷ p) =
-    elim (cases_place q (j ∷ p)) [
-      | inl e ↦ inl (inl e)
-      | inr differ ↦ elim (is_front_or_not q p) [
-        | inl front ↦ inl (inr front)
-        | inr apart ↦ inr (λ front. elim front [ inl e ↦ differ e | inr deeper ↦ apart deeper ])
-      ]
-    ]
-
 -- where nothing was named below the place, and what is stored there has no entries, the other places of the file name what they did
 pub stores_only : (geometry : Geometry) (old new blocks : List ℕ) (i v : ℕ) (q : List ℕ) → Fits geometry old → Stores geometry old new i q v blocks
     → ((x : ℕ) → x < (constants geometry.edition).pointers → entry_of geometry new v x ≡ 0)
@@ -171,7 +152,7 @@ pub stores_only : (geometry : Geometry) (old new blocks : List ℕ) (i v : ℕ) 
     → (p : List ℕ) → IsPlaceOf geometry old i p → p ≢ q → named geometry new i p ≡ named geometry old i p
 stores_only geometry old new blocks i v q fits stores none lower [] place differ = refl
 stores_only geometry old new blocks i v q fits stores none lower (x ∷ p) place differ =
-    elim (is_front_or_not q p) [
+    elim (front_or q p) [
       | inl front ↦
           below_none geometry new i v q (fits_len geometry old new stores.alone.len fits) stores.here none p x
           (place_same geometry old new i (x ∷ p) stores.mode place) front ∙ sym (lower x p place front)
@@ -198,7 +179,7 @@ named_after geometry old new blocks i v q fits one stores only j p place =
       | inl e ↦
           let place_i : IsPlaceOf geometry new i p = subst (λ x. IsPlaceOf geometry new x p) e place in
           let before : IsPlaceOf geometry old i p = place_same geometry new old i p (sym stores.mode) place_i in
-          elim (cases_place p q) [
+          elim (same_or p q) [
             | inl same ↦ NamedAfter.there e same (ap (λ x. named geometry new x p) e ∙ (ap (named geometry new i) same ∙ stores.here))
             | inr differ ↦ NamedAfter.elsewhere (subst (λ x. IsPlaceOf geometry old x p) (sym e) before)
                 (subst (λ x. named geometry new x p ≡ named geometry old x p) (sym e) (only p before differ))

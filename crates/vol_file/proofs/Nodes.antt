@@ -1,40 +1,33 @@
 -- Clearing the entries of a pointer block, and the addresses of an i-node, one after another.
-use Rattle.std.proofs.Common.{◌≡◌, ◌≢◌, ℕ, zero, suc, ◌+◌, ◌-◌, ◌*◌, ◌<◌, ◌≤◌, ◌∙◌, sym, ap, subst, List, [], ◌∷◌, ◌++◌, length, refl, arith, true, false, if◌then◌else◌}
+use Rattle.std.proofs.Common.{◌≡◌, ◌≢◌, ℕ, zero, suc, ◌+◌, ◌-◌, ◌*◌, ◌<◌, ◌≤◌, ◌∙◌, sym, ap, subst, List, [], ◌∷◌, ◌++◌, length, refl, arith}
 use Rattle.vol_layout.specs.Edition.{constants, number}
 use Rattle.vol_layout.specs.Geometry.{Fits}
-use Rattle.vol_layout.specs.Inode.{inode_place, address_at, is_large}
-use Rattle.vol_layout.specs.Places.{places, levels, levels_below, first_count, pointer_count, file_form}
+use Rattle.vol_layout.specs.Inode.{inode_place, address_at}
+use Rattle.vol_layout.specs.Places.{places, levels, levels_below, first_count, pointer_count}
 use Rattle.vol_layout.specs.Laws.{IsFront}
 use Rattle.vol_layout.specs.Names.{mode_of, form_at, IsFile, IsPlaceOf, named}
-use Rattle.vol_layout.specs.declared.edition.Edition.{Edition}
-use Rattle.vol_layout.specs.declared.edition.Edition.TheVariants.{V6, V7}
 use Rattle.vol_layout.specs.declared.geometry.Geometry.{Geometry}
-use Rattle.vol_layout.specs.declared.places.Form.TheVariants.{Small, Large, Bare}
 use Rattle.vol_layout.proofs.CopyLaws.{number_room}
 use Rattle.vol_layout.proofs.InodeLaws.{form_same}
 use Rattle.vol_layout.proofs.BodyLaws.{zone_bounds}
+use Rattle.vol_layout.proofs.PlaceLaws.{place_front}
+use Rattle.vol_layout.proofs.FrameLaws.{pointers_in}
+use Rattle.vol_layout.proofs.KindLaws.{form_file}
 use Rattle.vol_file.specs.Rules.{IsSoundWith}
 use Rattle.vol_file.specs.Changes.{blocks_of}
 use Rattle.vol_file.specs.Clears.{IsUnder, blocks_at, places_among, places_below, IsNamedAt, Clears, Drops, HasNode, HasEntry, HasAddress, ClearsBelow}
-use Rattle.vol_layout.proofs.PlaceLaws.{place_front}
 use Rattle.vol_file.proofs.BlockLists.{at_nil}
-use Rattle.vol_file.proofs.Cells.{front_longer}
-use Rattle.vol_file.proofs.Fronts.{under_front}
+use Rattle.vol_file.proofs.Fronts.{front_longer, under_front}
 use Rattle.vol_file.proofs.Clearing.{ClearsFrom, clears_none, from_start, from_none_on, from_some_on, from_above, entry_place, entry_named, below_after}
-use Rattle.vol_file.proofs.Dropping.{place_same}
-use Rattle.vol_file.proofs.Entries.{named_zone, entry_end}
-
--- a pointer block of a form of its edition holds as many numbers as one of the edition
-pointers_in : (edition : Edition) (mode : ℕ) → pointer_count (file_form edition mode) ≡ (constants edition).pointers
-pointers_in V6 mode = elim (is_large V6 mode) as (λ t. pointer_count (if t then Large else Small) ≡ 256) [ true ↦ refl | false ↦ refl ]
-pointers_in V7 mode = refl
+use Rattle.vol_file.proofs.Entries.{named_zone}
+use Rattle.vol_file.proofs.Cells.{entry_end}
+use Rattle.vol_file.proofs.Naming.{place_same}
 
 -- a pointer block of a file holds as many numbers as one of its edition
 pub pointers_file : (geometry : Geometry) (image : List ℕ) (i : ℕ) → IsFile geometry image i
     → pointer_count (form_at geometry image i) ≡ (constants geometry.edition).pointers
 pointers_file geometry image i file =
-    ap (λ t. pointer_count (if t then file_form geometry.edition (mode_of geometry image i) else Bare)) file.kind
-    ∙ pointers_in geometry.edition (mode_of geometry image i)
+    ap pointer_count (form_file geometry.edition (mode_of geometry image i) file.kind) ∙ pointers_in geometry.edition (mode_of geometry image i)
 
 -- an entry or address that names a block is cleared by clearing what lies below it, and then it
 one_cleared : (geometry : Geometry) (old mid low new : List ℕ) (i b : ℕ) (level : ℕ → ℕ) (p : List ℕ) (count j k : ℕ) (blocks : List ℕ)

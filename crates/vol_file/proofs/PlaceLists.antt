@@ -9,6 +9,7 @@ use Rattle.vol_layout.specs.Laws.{IsFront}
 use Rattle.vol_layout.specs.declared.places.Form.{Form}
 use Rattle.vol_layout.proofs.PlaceLaws.{place_front, front_above}
 use Rattle.vol_file.specs.Laws.{IsAmong}
+use Rattle.vol_file.proofs.Fronts.{front_length, fronts_same}
 
 -- a list of indexes equals itself
 pub same_place : (p q : List ℕ) → p ≡ q → bytes_eq p q ≡ true
@@ -19,6 +20,10 @@ pub other_place : (p q : List ℕ) → p ≢ q → bytes_eq p q ≡ false
 other_place p q ne =
     elim (bytes_eq p q) as (λ t. bytes_eq p q ≡ t → t ≡ false)
     [ false ↦ λ e. refl | true ↦ λ e. absurd (ne ((bytes_eq-Decides p q).0 e)) ] refl
+
+-- places that are told to be the same are
+pub place_is : (p q : List ℕ) → bytes_eq p q ≡ true → p ≡ q
+place_is p q e = (bytes_eq-Decides p q).0 e
 
 -- 1 where q is p, else 0
 abbrev pub comes : List ℕ → List ℕ → ℕ
@@ -35,6 +40,29 @@ comes_other p q ne = ap (λ t. cond t 1 0) (other_place p q ne)
 -- how often a place comes in a longer list
 pub counted_more : (p q : List ℕ) (qs : List (List ℕ)) → count_by (bytes_eq p) (q ∷ qs) ≡ comes p q + count_by (bytes_eq p) qs
 counted_more p q qs = sum_by-cons (comes p) q qs
+
+-- two tests that agree on the places of a list count the same there
+pub count_among : (f g : List ℕ → Bool) (qs : List (List ℕ)) → ((p : List ℕ) → IsAmong p qs → f p ≡ g p) → count_by f qs ≡ count_by g qs
+count_among f g [] same = refl
+count_among f g (q ∷ qs) same =
+    let rest : count_by f qs ≡ count_by g qs = count_among f g qs (λ p among. same p (inr among)) in
+    let first : ◌≡◌ {A = ℕ} (cond (f q) 1 0) (cond (g q) 1 0) = ap (λ t. cond t 1 0) (same q (inl refl)) in
+    let split_f : count_by f (q ∷ qs) ≡ cond (f q) 1 0 + count_by f qs = sum_by-cons (λ x. cond (f x) 1 0) q qs in
+    let split_g : count_by g (q ∷ qs) ≡ cond (g q) 1 0 + count_by g qs = sum_by-cons (λ x. cond (g x) 1 0) q qs in
+    omega (arith, rest, first, split_f, split_g)
+
+-- two tests that agree count the same
+pub count_same : (s t : List ℕ → Bool) (qs : List (List ℕ)) → ((q : List ℕ) → s q ≡ t q) → count_by s qs ≡ count_by t qs
+count_same s t qs h = count_among s t qs (λ q among. h q)
+
+-- where a test holds of nothing, nothing is counted
+pub count_none : (t : List ℕ → Bool) (qs : List (List ℕ)) → ((q : List ℕ) → t q ≡ false) → count_by t qs ≡ 0
+count_none t [] h = refl
+count_none t (q ∷ qs) h =
+    let here : ◌≡◌ {A = ℕ} (cond (t q) 1 0) 0 = ap (λ x. cond x 1 0) (h q) in
+    let rest : count_by t qs ≡ 0 = count_none t qs h in
+    let split : count_by t (q ∷ qs) ≡ cond (t q) 1 0 + count_by t qs = sum_by-cons (λ x. cond (t x) 1 0) q qs in
+    omega (arith, here, rest, split)
 
 -- a place is one of the two lists joined if it is one of either
 pub among_append : (p : List ℕ) (qs rs : List (List ℕ)) → IsAmong p (qs ++ rs) → IsAmong p qs ⊎ IsAmong p rs
@@ -107,27 +135,6 @@ sum_one f a (suc n) j low high one none =
           step ∙ omega (arith, now, rest)
     ]
 
--- a front is no longer than the place
-pub front_length : (q p : List ℕ) → IsFront q p → length q ≤ length p
-front_length q [] front = absurd front
-front_length q (j ∷ p) front =
-    elim front [
-      | inl e ↦ let same : length q ≡ length (j ∷ p) = ap length e in omega (arith, same)
-      | inr deeper ↦ let more : length q ≤ length p = front_length q p deeper in omega (arith, more)
-    ]
-
--- of the places one index below a place, one is a front at most
-pub front_once : (p q : List ℕ) (j k : ℕ) → IsFront (j ∷ p) q → IsFront (k ∷ p) q → j ≡ k
-front_once p [] j k one other = absurd one
-front_once p (h ∷ q) j k (inl e) (inl f) = let same : j ∷ p ≡ k ∷ p = e ∙ sym f in cc
-front_once p (h ∷ q) j k (inl e) (inr f) =
-    let tail : p ≡ q = cc in let more : length (k ∷ p) ≤ length q = front_length (k ∷ p) q f in
-    let len : length p ≡ length q = ap length tail in absurd (omega (arith, more, len))
-front_once p (h ∷ q) j k (inr e) (inl f) =
-    let tail : p ≡ q = cc in let more : length (j ∷ p) ≤ length q = front_length (j ∷ p) q e in
-    let len : length p ≡ length q = ap length tail in absurd (omega (arith, more, len))
-front_once p (h ∷ q) j k (inr e) (inr f) = front_once p q j k e f
-
 -- a front is the place itself, or the place goes on from it with an index
 pub front_next : (p q : List ℕ) → IsFront p q → (q ≡ p) ⊎ ((j : ℕ) × IsFront (j ∷ p) q)
 front_next p [] front = absurd front
@@ -181,18 +188,18 @@ from_once form j p (suc d) q place front deep =
           let rest : sum_by (λ k. count_by (bytes_eq q) (f k)) (range_with_len 0 n) ≡ 0 =
           sum_none (λ k. count_by (bytes_eq q) (f k)) 0 n
           (λ k low high. counted_none q (f k) (λ among.
-          let longer : length (k ∷ (j ∷ p)) ≤ length q = front_length (k ∷ (j ∷ p)) q (from_front n k (j ∷ p) d q among) in
+          let longer : length (k ∷ (j ∷ p)) ≤ length q = front_length q (k ∷ (j ∷ p)) (from_front n k (j ∷ p) d q among) in
           omega (arith, longer, len))) in
           step ∙ omega (arith, now, parts, rest)
       | inr (k, lower) ↦
           let above : IsPlace form (k ∷ (j ∷ p)) = place_front form q (k ∷ (j ∷ p)) place lower in
-          let longer : length (k ∷ (j ∷ p)) ≤ length q = front_length (k ∷ (j ∷ p)) q lower in
+          let longer : length (k ∷ (j ∷ p)) ≤ length q = front_length q (k ∷ (j ∷ p)) lower in
           let now : comes q (j ∷ p) ≡ 0 =
           comes_other q (j ∷ p) (λ e. let len : length q ≡ length (j ∷ p) = ap length e in omega (arith, longer, len)) in
           let one : sum_by (λ k. count_by (bytes_eq q) (f k)) (range_with_len 0 n) ≡ 1 =
           sum_one (λ k. count_by (bytes_eq q) (f k)) 0 n k (omega arith) (omega (arith, above.0))
           (from_once form k (j ∷ p) d q place lower (omega (arith, deep)))
-          (λ m other. counted_none q (f m) (λ among. other (front_once (j ∷ p) q m k (from_front n m (j ∷ p) d q among) lower))) in
+          (λ m other. counted_none q (f m) (λ among. other (fronts_same (j ∷ p) q m k (from_front n m (j ∷ p) d q among) lower))) in
           step ∙ omega (arith, now, parts, one)
     ]
 
@@ -212,7 +219,7 @@ places_once form p place =
     ∙ sum_one (λ k. count_by (bytes_eq p) (f k)) 0 (first_count form) first.0 (omega arith) (omega (arith, first.1))
     (from_once form first.0 [] (levels form first.0) p place first.2 refl)
     (λ m other. counted_none p (f m) (λ among.
-    other (front_once [] p m first.0 (from_front (pointer_count form) m [] (levels form m) p among) first.2)))
+    other (fronts_same [] p m first.0 (from_front (pointer_count form) m [] (levels form m) p among) first.2)))
 
 -- a place of a form is in the list of its places
 pub places_among : (form : Form) (p : List ℕ) → IsPlace form p → IsAmong p (places form)

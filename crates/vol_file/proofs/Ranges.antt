@@ -1,25 +1,25 @@
 -- The places on the ways of a run of logical blocks.
-use Rattle.std.proofs.Common.{◌≡◌, ℕ, zero, suc, ◌+◌, ◌-◌, ◌*◌, ◌<◌, ◌≤◌, ◌∙◌, sym, ap, subst, List, [], ◌∷◌, length, refl, arith, rules, inl, inr, true, false, Bool}
+use Rattle.std.proofs.Common.{◌≡◌, ℕ, zero, suc, ◌+◌, ◌<◌, ◌∙◌, sym, ap, subst, List, arith, rules, true, Bool}
 use Rattle.std.specs.Prelude.{◌||◌}
 use Rattle.std.specs.List.{list_any, range_with_len}
 use Rattle.std.specs.Str.{bytes_eq}
+use Rattle.std.proofs.Math.Bool.{or-false, or_assoc}
 use Rattle.vol_layout.specs.Places.{block_limit, way}
 use Rattle.vol_layout.specs.Names.{form_at}
 use Rattle.vol_layout.specs.declared.geometry.Geometry.{Geometry}
 use Rattle.vol_layout.specs.declared.places.Form.{Form}
 use Rattle.vol_layout.proofs.InodeLaws.{form_same}
 use Rattle.vol_file.specs.Shape.{is_on_ways}
-use Rattle.vol_file.specs.Steps.{Extends, WantsWay, MayNameWay, NamesWay, WantsWays, NamesWays}
-use Rattle.vol_file.proofs.Extending.{or_nothing}
+use Rattle.vol_file.specs.Steps.{WantsWay, NamesWay, WantsWays, NamesWays}
 use Rattle.vol_file.proofs.Lasts.{or_true}
-use Rattle.vol_file.proofs.Reaching.{or_assoc, extends_as, extends_then, extends_none, ready_after}
+use Rattle.vol_file.proofs.Reaching.{extends_as, extends_then, extends_none, ready_after}
 
 -- a run with one logical block more
 is_on_suc : (form : Form) (p : List ℕ) (a d : ℕ)
     → is_on_ways form (range_with_len a (suc d)) p ≡ (is_on_ways form (range_with_len a d) p || list_any (bytes_eq p) (way form (a + d)))
 is_on_suc form p a zero =
     let same : a ≡ a + 0 = omega arith in
-    or_nothing (list_any (bytes_eq p) (way form a)) ∙ ap (λ b. list_any (bytes_eq p) (way form b)) same
+    or-false (list_any (bytes_eq p) (way form a)) ∙ ap (λ b. list_any (bytes_eq p) (way form b)) same
 is_on_suc form p a (suc d) =
     let same : a + 1 + d ≡ a + suc d = omega arith in
     ap (λ t. list_any (bytes_eq p) (way form a) || t)

@@ -1,34 +1,31 @@
 -- One place of a way more that names something, and the way so far.
-use Rattle.std.proofs.Common.{◌≡◌, ◌≢◌, ℕ, ◌+◌, ◌*◌, ◌<◌, ◌≤◌, ◌∙◌, sym, ap, subst, List, [], ◌∷◌, ◌++◌, length, refl, arith, rules, true, false, Bool, None, Some, if◌then◌else◌}
+use Rattle.std.proofs.Common.{◌≡◌, ◌≢◌, ℕ, ◌+◌, ◌*◌, ◌<◌, ◌≤◌, ◌∙◌, sym, ap, subst, List, [], ◌∷◌, ◌++◌, length, refl, arith, rules, true, false, Bool, None, Some}
 use Rattle.std.specs.Prelude.{◌&&◌, ◌||◌, not}
 use Rattle.std.specs.Str.{bytes_eq}
 use Rattle.std.proofs.lemmas.List.{append_assoc}
+use Rattle.std.proofs.Math.Bool.{or-false, or_assoc}
 use Rattle.pdp_words.specs.Words.{SameOutside}
 use Rattle.vol_layout.specs.Edition.{constants, number}
 use Rattle.vol_layout.specs.Geometry.{in_zone, Fits}
-use Rattle.vol_layout.specs.Inode.{inode_place, address_at, address_count, address_bytes, address_place, is_large, kind_of}
-use Rattle.vol_layout.specs.Places.{form_of, file_form, has_places, first_count, pointer_count, places}
+use Rattle.vol_layout.specs.Inode.{inode_place, address_at, address_bytes, address_place}
+use Rattle.vol_layout.specs.Places.{first_count, pointer_count, places}
 use Rattle.vol_layout.specs.Names.{mode_of, form_at, IsPlaceOf, named, entry_of}
+use Rattle.vol_layout.specs.declared.geometry.Geometry.{Geometry}
 use Rattle.vol_layout.proofs.BodyLaws.{zone_bounds, zone_room}
 use Rattle.vol_layout.proofs.CopyLaws.{number_room}
-use Rattle.vol_layout.proofs.FrameLaws.{pointers_of}
-use Rattle.vol_layout.specs.declared.geometry.Geometry.{Geometry}
-use Rattle.vol_layout.specs.declared.edition.Edition.{Edition}
-use Rattle.vol_layout.specs.declared.edition.Edition.TheVariants.{V6, V7}
-use Rattle.vol_layout.specs.declared.places.Form.TheVariants.{Small, Large, Bare}
+use Rattle.vol_layout.proofs.FrameLaws.{pointers_of, addresses_few}
 use Rattle.vol_layout.proofs.NameLaws.{entry_in, zone_some}
-use Rattle.std.proofs.lemmas.Slice.Eq.{bytes_eq-Decides}
 use Rattle.vol_layout.proofs.InodeLaws.{mode_kept}
 use Rattle.vol_free.specs.Stack.{Popped, Pops}
 use Rattle.vol_file.specs.Shape.{is_named}
 use Rattle.vol_file.specs.Rules.{IsSoundWith}
 use Rattle.vol_file.specs.Steps.{lacking, Extends, Reaches, IsReady, IsWanted, IsNext, Stores, is_front}
-use Rattle.vol_file.proofs.PlaceLists.{same_place, other_place, places_once}
+use Rattle.vol_file.proofs.PlaceLists.{same_place, other_place, place_is, places_once}
 use Rattle.vol_file.proofs.Alone.{elsewhere_self, elsewhere_then}
 use Rattle.vol_file.proofs.Cells.{stores_address, stores_entry, entry_end}
 use Rattle.vol_file.proofs.Naming.{place_same, file_same}
 use Rattle.vol_file.proofs.Taking.{stays_inode, stays_named, first_unnamed, first_zoned, taken_sound}
-use Rattle.vol_file.proofs.Extending.{count_less, unnamed_false, named_true, or_nothing, extends_one}
+use Rattle.vol_file.proofs.Extending.{count_less, unnamed_false, named_true, extends_one}
 
 -- one step: place q names block k now
 pub record Steps (geometry : Geometry) (old new : List ℕ) (i : ℕ) (wanted : List ℕ → Bool) (q blocks : List ℕ) (k : ℕ) : Type 0 where
@@ -36,11 +33,6 @@ pub record Steps (geometry : Geometry) (old new : List ℕ) (i : ℕ) (wanted : 
   pub extends : Extends geometry old new i wanted (λ p. bytes_eq p q) blocks rest
   pub is : named geometry new i q ≡ k
   pub some : k ≢ 0
-
--- what is put behind a choice
-pub or_assoc : (x y z : Bool) → ((x || y) || z) ≡ (x || (y || z))
-or_assoc true y z = refl
-or_assoc false y z = refl
 
 -- the order of a choice doesn't matter
 or_comm : (x y : Bool) → (x || y) ≡ (y || x)
@@ -155,21 +147,6 @@ pops_some geometry old new (c ∷ rest) b pops =
     let e : b ≡ c = some_same b c pops.0 in
     record { rest = rest; is = ap (λ x. x ∷ rest) (sym e); popped = subst (λ x. Popped geometry old new x rest) (sym e) pops.1 }
 
--- the same in an edition's form
-firsts_in : (edition : Edition) (mode : ℕ) → first_count (file_form edition mode) ≤ address_count edition
-firsts_in V6 mode = elim (is_large V6 mode) as (λ t. first_count (if t then Large else Small) ≤ 8) [ true ↦ omega arith | false ↦ omega arith ]
-firsts_in V7 mode = omega arith
-
--- a file has no more places without an index below than its i-node has addresses
-pub firsts_of : (edition : Edition) (mode : ℕ) → first_count (form_of edition mode) ≤ address_count edition
-firsts_of edition mode =
-    elim (has_places (kind_of edition mode)) as (λ t. first_count (if t then file_form edition mode else Bare) ≤ address_count edition)
-    [ true ↦ firsts_in edition mode | false ↦ omega arith ]
-
--- places that are told to be the same are
-place_is : (p q : List ℕ) → bytes_eq p q ≡ true → p ≡ q
-place_is p q e = (bytes_eq-Decides p q).0 e
-
 -- a place that names something needs no step
 pub steps_named : (geometry : Geometry) (image : List ℕ) (i : ℕ) (wanted : List ℕ → Bool) (q blocks : List ℕ) (k : ℕ)
     → IsWanted geometry image i wanted q blocks → named geometry image i q ≡ k → k ≢ 0 → Steps geometry image image i wanted q blocks k
@@ -217,7 +194,7 @@ pub steps_address : (geometry : Geometry) (old mid new : List ℕ) (i : ℕ) (wa
 steps_address geometry old mid new i wanted k blocks b want none pops same put =
     steps_taken geometry old mid new i wanted (k ∷ []) blocks b want none pops
     (λ rest sound mode names. stores_address geometry mid new rest i k b sound (file_same geometry old mid i mode want.place.file)
-    (let few = firsts_of geometry.edition (mode_of geometry old i) in let index : k < first_count (form_at geometry old i) = want.place.place in omega (arith, index, few))
+    (let few = addresses_few geometry.edition (mode_of geometry old i) in let index : k < first_count (form_at geometry old i) = want.place.place in omega (arith, index, few))
     same put)
 
 -- a block is taken for an entry that names nothing, and put there
@@ -237,7 +214,7 @@ pub reaches_first : (geometry : Geometry) (old new : List ℕ) (i : ℕ) (wanted
 reaches_first geometry old new i wanted k blocks b steps = record {
   rest = steps.rest;
   extends = extends_as geometry old new i wanted (λ p. bytes_eq p (k ∷ [])) (is_front (k ∷ [])) blocks steps.rest
-      (λ p. sym (or_nothing (bytes_eq p (k ∷ [])))) steps.extends;
+      (λ p. sym (or-false (bytes_eq p (k ∷ [])))) steps.extends;
   is = steps.is;
   some = steps.some;
 }

@@ -1,12 +1,11 @@
 -- Putting the size of a file, after its bytes.
-use Rattle.std.proofs.Common.{◌≡◌, ◌≢◌, ℕ, ◌+◌, ◌-◌, ◌*◌, ◌<◌, ◌≤◌, ◌⊎◌, ◌∙◌, sym, ap, subst, List, [], ◌∷◌, length, get_or, max, min, refl, arith, inl, inr, true}
+use Rattle.std.proofs.Common.{◌≡◌, ℕ, ◌+◌, ◌*◌, ◌<◌, ◌≤◌, ◌⊎◌, ◌∙◌, sym, ap, subst, List, ◌∷◌, length, max, min, arith, inl, inr, true}
 use Rattle.std.proofs.lemmas.Bool.{cases_lt, cases_eq}
 use Rattle.std.proofs.lemmas.Bool.Decides.{nat_tests}
 use Rattle.pdp_words.specs.Words.{SameOutside}
 use Rattle.vol_layout.specs.Edition.{constants}
-use Rattle.vol_layout.specs.Geometry.{in_zone, Fits}
-use Rattle.vol_layout.specs.Super.{free_head}
-use Rattle.vol_layout.specs.Inode.{inode_place, size_at, size_bytes, size_place, address_offset, kind_of}
+use Rattle.vol_layout.specs.Geometry.{in_zone}
+use Rattle.vol_layout.specs.Inode.{inode_place, size_bytes, size_place, kind_of}
 use Rattle.vol_layout.specs.Names.{mode_of, form_at, IsFile, IsPlaceOf, named}
 use Rattle.vol_layout.specs.Body.{body_byte, zone_byte}
 use Rattle.vol_layout.specs.declared.edition.Edition.{Edition}
@@ -31,11 +30,11 @@ use Rattle.vol_file.proofs.Extending.{body_same}
 use Rattle.vol_file.proofs.Bytes.{same_names, same_covered}
 
 -- a byte of an i-node that is kept stands apart from the size
-kept_apart : (edition : Edition) (i r : ℕ) → is_kept_byte edition r ≡ true
+pub size_apart : (edition : Edition) (i r : ℕ) → is_kept_byte edition r ≡ true
     → (inode_place edition i + r < size_place edition i) ⊎ (size_place edition i + size_bytes edition ≤ inode_place edition i + r)
-kept_apart V6 i r kept =
+size_apart V6 i r kept =
     elim (cases_lt r 5) [ inl less ↦ inl (omega arith) | inr more ↦ let high : 24 ≤ r = grind (arith, nat_tests) in inr (omega arith) ]
-kept_apart V7 i r kept =
+size_apart V7 i r kept =
     elim (cases_lt r 8) [ inl less ↦ inl (omega arith) | inr more ↦ let high : 51 ≤ r = grind (arith, nat_tests) in inr (omega arith) ]
 
 -- a write of the size leaves all but file i
@@ -52,7 +51,7 @@ size_elsewhere geometry old new blocks i sound file same =
       super_block = λ x b l. same.below x (omega (arith, within.0, from, l));
       lower_inodes = λ x b l. same.below x (omega (arith, within.0, l));
       higher_inodes = λ x b l. same.above x (omega (arith, within.1, within.2, b));
-      inode = λ r kept. elim (kept_apart geometry.edition i r kept) [
+      inode = λ r kept. elim (size_apart geometry.edition i r kept) [
         | inl less ↦ same.below (inode_place geometry.edition i + r) less
         | inr more ↦ same.above (inode_place geometry.edition i + r) more
       ];

@@ -1,40 +1,20 @@
 -- The rules after a change of one file that names no more than before.
-use Rattle.std.proofs.Common.{◌≡◌, ◌≢◌, ℕ, ◌+◌, ◌<◌, ◌≤◌, ◌∙◌, sym, ap, subst, List, get_or, refl, arith, inl, inr, true}
+use Rattle.std.proofs.Common.{◌≡◌, ◌≢◌, ℕ, ◌≤◌, ◌∙◌, sym, ap, subst, List, inl, inr}
 use Rattle.std.proofs.lemmas.Bool.{cases_eq}
-use Rattle.pdp_words.specs.Words.{word}
 use Rattle.vol_layout.specs.Edition.{constants}
 use Rattle.vol_layout.specs.Geometry.{in_zone, Fits}
-use Rattle.vol_layout.specs.Inode.{inode_place, inode_at, inode_of, kind_of}
+use Rattle.vol_layout.specs.Inode.{inode_place, inode_of, kind_of}
 use Rattle.vol_layout.specs.Places.{has_places}
 use Rattle.vol_layout.specs.Names.{form_at, IsFile, IsPlaceOf, named}
-use Rattle.vol_layout.specs.declared.edition.Edition.{Edition}
-use Rattle.vol_layout.specs.declared.edition.Edition.TheVariants.{V6, V7}
 use Rattle.vol_layout.specs.declared.geometry.Geometry.{Geometry}
 use Rattle.vol_layout.specs.declared.mode.Kind.TheVariants as kinds
 use Rattle.vol_layout.specs.declared.places.Form.TheVariants.{Small}
-use Rattle.vol_layout.proofs.InodeLaws.{inode_v6, inode_v7, inode_of_kept, mode_kept, size_kept, form_kept}
+use Rattle.vol_layout.proofs.InodeLaws.{inode_of_kept, mode_kept, size_kept, form_kept}
 use Rattle.vol_free.specs.Stack.{IsIn, IsFree}
 use Rattle.vol_file.specs.Rules.{size_of, kind_at, HasKinds, HasSizes, IsSoundWith}
-use Rattle.vol_file.specs.Changes.{is_kept_byte}
 use Rattle.vol_file.specs.Steps.{StaysElsewhere}
 use Rattle.vol_file.proofs.Alone.{fits_len, elsewhere_inode, elsewhere_before, elsewhere_named}
-
--- the i-number of the root is 1 at least
-root_from : (edition : Edition) → 1 ≤ (constants edition).root
-root_from V6 = omega arith
-root_from V7 = omega arith
-
--- the kept bytes of an i-node hold its link count
-links_in : (edition : Edition) (old new : List ℕ) (at : ℕ)
-    → ((r : ℕ) → is_kept_byte edition r ≡ true → get_or new (at + r) 0 ≡ get_or old (at + r) 0)
-    → (inode_at edition new at).links ≡ (inode_at edition old at).links
-links_in V6 old new at kept = (inode_v6 new at).0 ∙ (kept 2 refl ∙ sym (inode_v6 old at).0)
-links_in V7 old new at kept =
-    let low : get_or new (at + 2) 0 ≡ get_or old (at + 2) 0 = kept 2 refl in
-    let high : get_or new (at + 3) 0 ≡ get_or old (at + 3) 0 = kept 3 refl in
-    let next : at + 2 + 1 ≡ at + 3 = omega arith in
-    let same : word new (at + 2) ≡ word old (at + 2) = rw (next, low, high) in
-    (inode_v7 new at).0 ∙ (same ∙ sym (inode_v7 old at).0)
+use Rattle.vol_file.proofs.Naming.{kinds_kept, links_same, links_kept_byte}
 
 -- what changes of file i: it keeps its kind, its size is within the limits, and each of its places names what it did, or nothing
 pub record Lessens (geometry : Geometry) (old new : List ℕ) (i : ℕ) : Type 0 where
@@ -81,14 +61,7 @@ named_before geometry old new i j p fits file less place some =
 kinds_after : (geometry : Geometry) (old new : List ℕ) (i : ℕ) → Fits geometry old → IsFile geometry old i → Lessens geometry old new i
     → HasKinds geometry old → HasKinds geometry new
 kinds_after geometry old new i fits file less has =
-    let root : 1 ≤ (constants geometry.edition).root = root_from geometry.edition in
-    let second : (constants geometry.edition).root < geometry.last_inode = fits.root in
-    let one = kind_after geometry old new i 1 fits file less (omega arith) (omega arith) in
-    record {
-      known = λ j first last odd. has.known j first last (sym (kind_after geometry old new i j fits file less first last) ∙ odd);
-      root = kind_after geometry old new i (constants geometry.edition).root fits file less root (omega arith) ∙ has.root;
-      bad_blocks = λ e. elim (has.bad_blocks e) [ inl free ↦ inl (one ∙ free) | inr regular ↦ inr (one ∙ regular) ];
-    }
+    kinds_kept geometry old new fits (λ j first last. kind_after geometry old new i j fits file less first last) has
 
 -- the sizes and link counts keep their rules
 sizes_after : (geometry : Geometry) (old new : List ℕ) (i : ℕ) → Fits geometry old → IsFile geometry old i → Lessens geometry old new i
@@ -113,7 +86,8 @@ sizes_after geometry old new i fits file less has = record {
       let before : kind_at geometry old j ≢ kinds.Free = λ free. some (kind_after geometry old new i j fits file less first last ∙ free) in
       let same : (inode_of geometry.edition new j).links ≡ (inode_of geometry.edition old j).links = elim (cases_eq j i) [
         | inl e ↦ subst (λ x. (inode_of geometry.edition new x).links ≡ (inode_of geometry.edition old x).links) (sym e)
-            (links_in geometry.edition old new (inode_place geometry.edition i) less.alone.inode)
+            (links_same geometry.edition old new (inode_place geometry.edition i)
+            (λ r low high. less.alone.inode r (links_kept_byte geometry.edition r low high)))
         | inr other ↦ ap (λ node. node.links) (inode_of_kept geometry old new j (elsewhere_inode geometry old new i j fits less.alone file.first first last other))
       ] in
       subst (λ n. n ≤ (constants geometry.edition).link_limit) (sym same) (has.links j first last before);

@@ -1,16 +1,10 @@
 -- The body of a file after bytes were put in it.
-use Rattle.std.proofs.Common.{◌≡◌, ◌≢◌, ℕ, ◌+◌, ◌-◌, ◌*◌, ◌/◌, ◌<◌, ◌≤◌, ◌∙◌, sym, ap, subst, List, [], ◌∷◌, ◌++◌, length, get_or, take, drop, max, min, refl, arith, inl, inr}
+use Rattle.std.proofs.Common.{◌≡◌, ℕ, ◌+◌, ◌-◌, ◌<◌, ◌≤◌, ◌∙◌, sym, ap, List, ◌++◌, length, get_or, take, drop, max, refl, arith, inl, inr}
 use Rattle.std.specs.Prelude.{replicate}
 use Rattle.std.proofs.lemmas.Bool.{cases_lt}
 use Rattle.std.proofs.lemmas.List.{length-append, length-take, length-drop, length-replicate, get_or_append_left, get_or-append_right, get_or-take, get_or-drop, get_or-replicate}
 use Rattle.std.proofs.lemmas.Grind.{same_number_lists}
-use Rattle.vol_layout.specs.Edition.{constants}
-use Rattle.vol_layout.specs.Names.{IsFile}
-use Rattle.vol_layout.specs.Body.{body_byte, body_size, body}
-use Rattle.vol_layout.specs.declared.geometry.Geometry.{Geometry}
-use Rattle.vol_layout.proofs.BodyLaws.{length-body, get_or-body}
 use Rattle.vol_file.specs.Changes.{spliced}
-use Rattle.vol_file.specs.Rules.{size_of}
 
 -- how many bytes there are with others put at an offset
 pub length-spliced : (bytes : List ℕ) (offset : ℕ) (text : List ℕ) → length (spliced bytes offset text) ≡ max (length bytes) (offset + length text)

@@ -1,11 +1,12 @@
 -- What taking a block from the free list leaves, and putting it at a place of a file.
 use Rattle.std.proofs.Common.{◌≡◌, ◌≢◌, ℕ, ◌+◌, ◌*◌, ◌≤◌, ◌∙◌, sym, ap, subst, List, ◌∷◌, refl, arith, inl, inr, true}
+use Rattle.pdp_words.specs.Words.{word}
 use Rattle.vol_layout.specs.Edition.{constants}
 use Rattle.vol_layout.specs.Geometry.{in_zone, Fits}
 use Rattle.vol_layout.specs.Super.{free_head}
 use Rattle.vol_layout.specs.Inode.{inode_place, kind_of}
 use Rattle.vol_layout.specs.Places.{IsPlace}
-use Rattle.vol_layout.specs.Names.{mode_of, form_at, IsFile, IsPlaceOf, named}
+use Rattle.vol_layout.specs.Names.{mode_of, form_at, IsFile, IsPlaceOf, named, Names}
 use Rattle.vol_layout.specs.declared.geometry.Geometry.{Geometry}
 use Rattle.vol_layout.proofs.CopyLaws.{IsCopy}
 use Rattle.vol_layout.proofs.InodeLaws.{KeepsInode, place_from, place_room, mode_kept, size_kept, form_kept, inode_of_kept}
@@ -13,7 +14,6 @@ use Rattle.vol_layout.proofs.PlaceLaws.{place_front}
 use Rattle.vol_layout.proofs.BodyLaws.{zone_bounds}
 use Rattle.vol_layout.proofs.NameLaws.{holds_named}
 use Rattle.vol_layout.proofs.FrameLaws.{named_frame, places_kept}
-use Rattle.pdp_words.specs.Words.{word}
 use Rattle.vol_free.specs.Stack.{IsIn, Once, IsFree, StaysBut, Popped}
 use Rattle.vol_free.proofs.Stacks.{head_end, stack_zoned}
 use Rattle.vol_free.proofs.Frames.{apart_blocks}
@@ -68,28 +68,35 @@ stays_before geometry old new b size j p fits stays zone place =
     let kept = stays_inode geometry old new b size j fits stays zone place.file.first place.file.last in
     place_kept geometry new old j p (copy_back old new (inode_place geometry.edition j) (constants geometry.edition).inode_bytes kept) place
 
--- where the head of the free list and a data block that no place names are written, all files stay
-pub stays_elsewhere : (geometry : Geometry) (old new blocks : List ℕ) (b size i : ℕ) → IsSoundWith geometry old blocks → IsFile geometry old i
+-- where the head of the free list and a data block that no place names are written, all but the free list stays, with
+-- regard to any file
+pub stays_around : (geometry : Geometry) (old new : List ℕ) (b size i : ℕ) → Fits geometry old
+    → ((j : ℕ) (p : List ℕ) (k : ℕ) → j ≢ i → Names geometry old j p k → in_zone geometry k ≡ true) → 1 ≤ i → i ≤ geometry.last_inode
     → StaysBut geometry old new b size → size ≤ 512 → in_zone geometry b ≡ true → IsUnnamed geometry old b → StaysElsewhere geometry old new i
-stays_elsewhere geometry old new blocks b size i sound file stays small zone unnamed =
+stays_around geometry old new b size i fits zoned first last stays small zone unnamed =
     let head = head_end geometry.edition in
     let bounds = zone_bounds geometry b zone in
     let from = place_from geometry.edition i in
-    let kept = stays_inode geometry old new b size i sound.fits stays zone file.first file.last in
+    let kept = stays_inode geometry old new b size i fits stays zone first last in
     record {
       len = stays.len;
       before = stays.below;
-      super_block = λ k h l. stays.between k h (omega (arith, bounds.0, sound.fits.i_list));
-      lower_inodes = λ k h l. stays.between k (omega (arith, head))
-          (omega (arith, bounds.0, l, place_room geometry old i sound.fits file.first file.last));
+      super_block = λ k h l. stays.between k h (omega (arith, bounds.0, fits.i_list));
+      lower_inodes = λ k h l. stays.between k (omega (arith, head)) (omega (arith, bounds.0, l, place_room geometry old i fits first last));
       higher_inodes = λ k h l. stays.between k (omega (arith, head, from)) (omega (arith, bounds.0));
       inode = λ r h. kept.bytes r (kept_within geometry.edition r h);
       blocks = λ j p k r other names h.
           let held = holds_named geometry old j p k names.holds in
-          let two = zone_two geometry old k sound.fits (names_zoned geometry old blocks j p k sound names) in
+          let two = zone_two geometry old k fits (zoned j p k other names) in
           (stays_block geometry old new b size k stays small two (λ e. unnamed j p names.place (held.0 ∙ e))).bytes r h;
       behind = λ k h. stays.above k (omega (arith, bounds.1));
     }
+
+-- the same where the rules hold
+pub stays_elsewhere : (geometry : Geometry) (old new blocks : List ℕ) (b size i : ℕ) → IsSoundWith geometry old blocks → IsFile geometry old i
+    → StaysBut geometry old new b size → size ≤ 512 → in_zone geometry b ≡ true → IsUnnamed geometry old b → StaysElsewhere geometry old new i
+stays_elsewhere geometry old new blocks b size i sound file =
+    stays_around geometry old new b size i sound.fits (λ j p k other names. names_zoned geometry old blocks j p k sound names) file.first file.last
 
 -- the rules hold with the other free blocks where the head of the free list and a data block that no place names are written
 pub stays_sound : (geometry : Geometry) (old new blocks rest : List ℕ) (b size : ℕ) → IsSoundWith geometry old blocks

@@ -1,80 +1,58 @@
 -- The end of a truncation: the size and the mode of a file that names nothing any more.
-use Rattle.std.proofs.Common.{◌≡◌, ℕ, ◌+◌, ◌*◌, ◌<◌, ◌≤◌, ◌∙◌, sym, ap, subst, List, [], ◌∷◌, ◌++◌, length, get_or, refl, arith, inl, inr, true, false, if◌then◌else◌}
-use Rattle.std.proofs.lemmas.Bool.{cases_lt, cases_eq}
+use Rattle.std.proofs.Common.{◌≡◌, ℕ, ◌+◌, ◌*◌, ◌<◌, ◌≤◌, ◌∙◌, sym, ap, subst, List, [], ◌∷◌, ◌++◌, length, get_or, refl, arith, inl, inr, true, false}
+use Rattle.std.proofs.lemmas.Bool.{cases_eq}
 use Rattle.std.proofs.lemmas.Bool.Decides.{nat_tests}
 use Rattle.pdp_words.specs.Words.{SameOutside}
 use Rattle.pdp_words.proofs.Outside.{join, widen}
 use Rattle.vol_layout.specs.Edition.{constants}
 use Rattle.vol_layout.specs.Geometry.{Fits}
-use Rattle.vol_layout.specs.Inode.{inode_place, address_count, address_offset, size_place, size_bytes, size_at, is_large, with_large, kind_of}
-use Rattle.vol_layout.specs.Places.{IsPlace, has_places, first_count, file_form}
-use Rattle.vol_layout.specs.Laws.{IsFront}
+use Rattle.vol_layout.specs.Inode.{inode_place, address_count, address_offset, size_place, size_bytes, size_at, with_large, kind_of}
+use Rattle.vol_layout.specs.Places.{has_places, first_count}
 use Rattle.vol_layout.specs.Names.{mode_of, form_at, IsFile, IsPlaceOf, named}
 use Rattle.vol_layout.specs.Body.{body, body_size}
 use Rattle.vol_layout.specs.declared.edition.Edition.{Edition}
 use Rattle.vol_layout.specs.declared.edition.Edition.TheVariants.{V6, V7}
 use Rattle.vol_layout.specs.declared.geometry.Geometry.{Geometry}
-use Rattle.vol_layout.specs.declared.places.Form.{Form}
-use Rattle.vol_layout.specs.declared.places.Form.TheVariants.{Small, Large, Bare}
 use Rattle.vol_layout.proofs.AddressLaws.{addresses_before, size_within, mode_within, mode_behind, size_above}
 use Rattle.vol_layout.proofs.InodeLaws.{place_from, place_room}
 use Rattle.vol_layout.proofs.BodyLaws.{zone_bounds, length-body}
 use Rattle.vol_layout.proofs.NameLaws.{zone_some, holds_named}
+use Rattle.vol_layout.proofs.FrameLaws.{addresses_in}
+use Rattle.vol_layout.proofs.KindLaws.{file_allocated, form_file}
 use Rattle.vol_free.specs.Stack.{IsIn, IsFree}
 use Rattle.vol_free.proofs.Stacks.{head_end}
-use Rattle.vol_free.proofs.Frames.{IsFree-before_zone}
+use Rattle.vol_free.proofs.Frames.{IsFree-before_zone, free_zone}
 use Rattle.vol_file.specs.Rules.{size_of, kind_at, IsSoundWith}
 use Rattle.vol_file.specs.Changes.{is_kept_byte, blocks_of, truncated_mode, Truncates}
 use Rattle.vol_file.specs.Steps.{StaysElsewhere}
 use Rattle.vol_file.specs.Clears.{IsUnder, Clears}
 use Rattle.vol_file.proofs.Alone.{fits_len, elsewhere_names, elsewhere_then, elsewhere_changes}
 use Rattle.vol_file.proofs.Cells.{names_zoned}
-use Rattle.vol_file.proofs.Dropping.{place_same, free_zoned}
 use Rattle.vol_file.proofs.Fronts.{front_zero}
 use Rattle.vol_file.proofs.Soundness.{Lessens, named_before, sound_after}
-
--- a form of its edition has as many addresses as the i-node
-addresses_in : (edition : Edition) (mode : ℕ) → first_count (file_form edition mode) ≡ address_count edition
-addresses_in V6 mode = elim (is_large V6 mode) as (λ t. first_count (if t then Large else Small) ≡ 8) [ true ↦ refl | false ↦ refl ]
-addresses_in V7 mode = refl
+use Rattle.vol_file.proofs.PlaceLists.{front_first}
+use Rattle.vol_file.proofs.Naming.{place_same}
+use Rattle.vol_file.proofs.Sizing.{size_apart}
 
 -- each address of a file's i-node is a place
 pub addresses_file : (geometry : Geometry) (image : List ℕ) (i : ℕ) → IsFile geometry image i
     → first_count (form_at geometry image i) ≡ address_count geometry.edition
 addresses_file geometry image i file =
-    ap (λ t. first_count (if t then file_form geometry.edition (mode_of geometry image i) else Bare)) file.kind
-    ∙ addresses_in geometry.edition (mode_of geometry image i)
-
--- a place begins with an address
-pub place_base : (form : Form) (p : List ℕ) → IsPlace form p → (k : ℕ) × (k < first_count form) × IsFront (k ∷ []) p
-place_base form [] place = absurd place
-place_base form (k ∷ []) place = (k, place, inl refl)
-place_base form (j ∷ (a ∷ p)) place =
-    let base = place_base form (a ∷ p) place.2 in (base.0, base.1, inr base.2)
+    ap first_count (form_file geometry.edition (mode_of geometry image i) file.kind) ∙ addresses_in geometry.edition (mode_of geometry image i)
 
 -- the kept bytes of an i-node are none of its size
 kept_size : (edition : Edition) (old new : List ℕ) (i r : ℕ) → SameOutside old new (size_place edition i) (size_place edition i + size_bytes edition)
     → is_kept_byte edition r ≡ true → get_or new (inode_place edition i + r) 0 ≡ get_or old (inode_place edition i + r) 0
-kept_size V6 old new i r same kept =
-    elim (cases_lt r 5) [
-      | inl less ↦ same.below (inode_place V6 i + r) (omega arith)
-      | inr more ↦ let high : 24 ≤ r = grind (arith, nat_tests) in same.above (inode_place V6 i + r) (omega arith)
-    ]
-kept_size V7 old new i r same kept =
-    elim (cases_lt r 8) [
-      | inl less ↦ same.below (inode_place V7 i + r) (omega arith)
-      | inr more ↦ let high : 51 ≤ r = grind (arith, nat_tests) in same.above (inode_place V7 i + r) (omega arith)
+kept_size edition old new i r same kept =
+    elim (size_apart edition i r kept) [
+      | inl less ↦ same.below (inode_place edition i + r) less
+      | inr more ↦ same.above (inode_place edition i + r) more
     ]
 
 -- the kept bytes of an i-node of the sixth edition are none of its mode
 kept_mode : (old new : List ℕ) (i r : ℕ) → SameOutside old new (inode_place V6 i) (inode_place V6 i + 2)
     → is_kept_byte V6 r ≡ true → get_or new (inode_place V6 i + r) 0 ≡ get_or old (inode_place V6 i + r) 0
 kept_mode old new i r same kept = let high : 2 ≤ r = grind (arith, nat_tests) in same.above (inode_place V6 i + r) (omega arith)
-
--- the mode of a file of the sixth edition has the bit by which i-nodes are marked as allocated
-pub allocated : (mode : ℕ) → has_places (kind_of V6 mode) ≡ true → 32768 ≤ mode
-unfolding kind_of
-allocated mode file = grind (arith, nat_tests)
 
 -- what is written in the head of an i-node leaves all else
 head_elsewhere : (geometry : Geometry) (old new blocks : List ℕ) (i : ℕ) → IsSoundWith geometry old blocks → IsFile geometry old i
@@ -110,16 +88,12 @@ pub record Ends (geometry : Geometry) (old low new : List ℕ) (i : ℕ) : Type 
   pub mode : mode_of geometry new i ≡ truncated_mode geometry.edition (mode_of geometry old i)
   pub kind : kind_at geometry new i ≡ kind_at geometry old i
 
--- a file is still one
-ends_file : (geometry : Geometry) (old low new : List ℕ) (i : ℕ) → IsFile geometry old i → Ends geometry old low new i → IsFile geometry new i
-ends_file geometry old low new i file end = record { first = file.first; last = file.last; kind = ap has_places end.kind ∙ file.kind }
-
 -- its places name nothing
 ends_named : (geometry : Geometry) (old low new blocks : List ℕ) (i : ℕ) (p : List ℕ) → IsFile geometry old i
     → Clears geometry old low i (IsUnder [] 0) (blocks_of geometry old i) blocks → Ends geometry old low new i
     → IsPlaceOf geometry new i p → named geometry new i p ≡ 0
 ends_named geometry old low new blocks i p file clear end place =
-    let base = place_base (form_at geometry new i) p place.place in
+    let base = front_first (form_at geometry new i) p place.place in
     let few : first_count (form_at geometry old i) ≡ address_count geometry.edition = addresses_file geometry old i file in
     let many : first_count (form_at geometry new i) ≡ address_count geometry.edition = addresses_file geometry new i place.file in
     let low_k : base.0 < first_count (form_at geometry old i) = omega (arith, base.1, few, many) in
@@ -172,7 +146,7 @@ truncated geometry old low new blocks i fits file clear end =
     record {
       sound = sound_after geometry low new after after i clear.sound is less free
           (λ j p place inside.
-          let zone = free_zoned geometry new after (named geometry new j p) free inside in
+          let zone = free_zone free (named geometry new j p) inside in
           let some = zone_some geometry new (named geometry new j p) (fits_len geometry low new end.same.len clear.sound.fits) zone in
           let before = named_before geometry low new i j p clear.sound.fits is less place some in
           clear.sound.outside j p before.0 (subst (λ k. IsIn k after) before.1 inside));
@@ -183,7 +157,7 @@ truncated geometry old low new blocks i fits file clear end =
               let held = holds_named geometry low j p k names.holds in
               let place : IsPlaceOf geometry low i p = subst (λ x. IsPlaceOf geometry low x p) same names.place in
               let before : IsPlaceOf geometry old i p = place_same geometry low old i p (sym clear.mode) place in
-              let base = place_base (form_at geometry old i) p before.place in
+              let base = front_first (form_at geometry old i) p before.place in
               let none : named geometry low i p ≡ 0 = clear.gone p before (record { index = base.0; from = omega arith; front = base.2 }) in
               absurd (held.1 (sym held.0 ∙ (ap (λ x. named geometry low x p) same ∙ none)))
           | inr other ↦ inr (j, p, elsewhere_names geometry low new i j p k clear.sound.fits less.alone file.first other names)
@@ -208,7 +182,7 @@ ends_v6 geometry old low mid new i was bits e file first size second put same_mo
     let behind = mode_within geometry.edition i in
     let is_kind : kind_of V6 bits ≡ kind_of V6 (mode_of geometry old i) =
     let high : 32768 ≤ mode_of geometry old i =
-    allocated (mode_of geometry old i) (subst (λ x. has_places (kind_of x (mode_of geometry old i)) ≡ true) e file.kind) in
+    file_allocated (mode_of geometry old i) (subst (λ x. has_places (kind_of x (mode_of geometry old i)) ≡ true) e file.kind) in
     kind (omega arith) ∙ ap (kind_of V6) same_mode in
     record {
       same = join first second (omega (arith, within.0)) (omega arith) (omega (arith, within.1)) (omega (arith, behind.0));

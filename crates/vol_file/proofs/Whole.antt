@@ -1,24 +1,21 @@
 -- A whole write: the places named, then the bytes.
-use Rattle.std.proofs.Common.{◌≡◌, ◌≢◌, ℕ, zero, suc, ◌+◌, ◌-◌, ◌*◌, ◌/◌, ◌<◌, ◌≤◌, ◌∙◌, sym, ap, subst, List, [], ◌∷◌, ◌++◌, length, get_or, max, min, refl, arith, inl, inr, true, false, Bool, Some, None, eqb}
+use Rattle.std.proofs.Common.{◌≡◌, ◌≢◌, ℕ, zero, suc, ◌+◌, ◌-◌, ◌/◌, ◌<◌, ◌≤◌, ◌∙◌, sym, ap, subst, List, length, max, min, arith, true, false, eqb}
 use Rattle.std.specs.Prelude.{◌||◌, not}
 use Rattle.std.specs.List.{list_any, range_with_len}
 use Rattle.std.specs.Str.{bytes_eq}
-use Rattle.std.proofs.lemmas.Bool.{cases_lt, cases_eq}
 use Rattle.vol_layout.specs.Edition.{constants}
-use Rattle.vol_layout.specs.Geometry.{in_zone, Fits}
-use Rattle.vol_layout.specs.Places.{IsPlace, block_limit, last_place, way}
-use Rattle.vol_layout.specs.Names.{mode_of, form_at, IsFile, IsPlaceOf, named, stored}
+use Rattle.vol_layout.specs.Geometry.{in_zone}
+use Rattle.vol_layout.specs.Places.{IsPlace, block_limit, way}
+use Rattle.vol_layout.specs.Names.{form_at, IsFile, named, stored}
 use Rattle.vol_layout.specs.Body.{body_byte, body_size, body}
 use Rattle.vol_layout.specs.declared.geometry.Geometry.{Geometry}
-use Rattle.vol_layout.specs.declared.places.Form.{Form}
-use Rattle.vol_layout.specs.declared.places.Form.TheVariants.{Small}
 use Rattle.vol_layout.proofs.InodeLaws.{form_same}
 use Rattle.vol_layout.proofs.PlaceLaws.{last_leaf, has_way, front_self}
 use Rattle.vol_layout.proofs.NameLaws.{stored_is}
 use Rattle.vol_layout.proofs.BodyLaws.{length-body, get_or-body}
-use Rattle.vol_file.specs.Shape.{is_named, touched, is_on_ways, fit_form, fit_names, filled}
+use Rattle.vol_file.specs.Shape.{is_named, touched, is_on_ways, fit_names, filled}
 use Rattle.vol_file.specs.Need.{need_of, need}
-use Rattle.vol_file.specs.Rules.{size_of, IsSoundWith, HasSoundFiles, IsCovered}
+use Rattle.vol_file.specs.Rules.{size_of, IsSoundWith}
 use Rattle.vol_file.specs.Changes.{Writes, mode_after, spliced}
 use Rattle.vol_file.specs.Steps.{Fills, Puts, HasRoom}
 use Rattle.vol_file.proofs.Alone.{elsewhere_then, elsewhere_changes}

@@ -1,14 +1,15 @@
 //! Volumes on which the tests begin.
-ghost use Rattle.std.specs.Prelude.{◌≡◌, ℕ, ◌*◌, ◌<◌, ◌≤◌, List, [], length, slice_index, IfOk};
+ghost use Rattle.std.specs.Prelude.{◌≡◌, ℕ, ◌+◌, ◌*◌, ◌<◌, ◌≤◌, List, [], length, slice_index, IfOk};
 ghost use Rattle.vol_layout.specs.Edition.{constants};
 ghost use Rattle.vol_layout.specs.Geometry.{Fits};
 ghost use Rattle.vol_layout.specs.Names.{IsFile};
 ghost use Rattle.vol_free.specs.Stack.{IsFree, HasStack};
 ghost use Rattle.vol_file.specs.Rules.{HasSoundFiles};
 
+use crate::{need, write};
 use pdp_words::{BLOCK, Image};
 use std::alloc::{AllocError, Global};
-use vol_free::give;
+use vol_free::{free_count, give};
 use vol_layout::{Edition, Geometry, Mode, put_mode};
 
 /// A sixth edition volume of 20 blocks, with i-nodes 1 to 32.
@@ -44,6 +45,24 @@ pub fn volume(alloc: Global, geometry: &Geometry, i: u16) -> Result<Image, Alloc
     give_down(&mut image, geometry);
     put_modes(&mut image, geometry, i);
     Ok(image)
+}
+
+/// Writes, if there are blocks enough; answers how many are needed.
+pub fn put(image: &mut Image, geometry: &Geometry, i: u16, offset: u32, text: &[u8]) -> u32
+    requires file { IsFile geometry.now image.old i }
+    requires sound { HasSoundFiles geometry.now image.old }
+    requires fits { Fits geometry.now image.old }
+    requires greatest { offset + length text.now ≤ (constants geometry.now.edition).greatest }
+    ensures file { IsFile geometry.now image.new i }
+    ensures sound { HasSoundFiles geometry.now image.new }
+    ensures fits { Fits geometry.now image.new }
+{
+    let needed = need(image, geometry, i, offset, text.len() as u32);
+    if needed > free_count(image, geometry) {
+        return needed;
+    }
+    write(image, geometry, i, offset, text);
+    needed
 }
 
 /// Gives the blocks of a volume of zeros from the last one down to 5.

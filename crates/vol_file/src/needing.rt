@@ -39,7 +39,7 @@ pub fn need(image: &Image, geometry: &Geometry, i: u16, offset: u32, len: u32) -
 }
 
 /// Whether a file of some form becomes large when `last` is the last block touched.
-fn grows_large(form: Form, last: u32) -> bool
+pub(crate) fn grows_large(form: Form, last: u32) -> bool
     ensures { result ≡ grows_at form last }
 {
     match form {

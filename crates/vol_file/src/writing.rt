@@ -1,5 +1,5 @@
 //! Writing the bytes of a file, where it is made longer if it must be.
-ghost use Rattle.std.specs.Prelude.{◌≡◌, ℕ, ◌+◌, ◌-◌, ◌*◌, ◌/◌, ◌<◌, ◌≤◌, true, false, List, length};
+ghost use Rattle.std.specs.Prelude.{◌≡◌, ℕ, ◌+◌, ◌-◌, ◌*◌, ◌/◌, ◌<◌, ◌≤◌, true, List, length};
 ghost use Rattle.std.specs.List.{range_with_len};
 ghost use Rattle.vol_layout.specs.Edition.{constants};
 ghost use Rattle.vol_layout.specs.Places.{block_limit};
@@ -10,6 +10,7 @@ ghost use Rattle.vol_file.specs.Changes.{Writes};
 ghost use Rattle.vol_file.specs.Rules.{IsSoundWith, HasSoundFiles};
 ghost use Rattle.vol_file.specs.Steps.{MayEnlarge, Enlarges, HasRoom, MayFill, Fills, Puts};
 
+use crate::needing::grows_large;
 use crate::pieces::{clear_between, put_text};
 use crate::ways::name_ways;
 use pdp_words::{BLOCK, Image};
@@ -50,23 +51,11 @@ fn name_blocks(image: &mut Image, geometry: &Geometry, i: u16, from: u32, to: u3
     ensures limit { to ≤ block_limit (form_at geometry.now image.new i) }
 {
     let form = Form::of(geometry.edition, mode(image, geometry, i));
-    if becomes_large(form, to) {
+    if grows_large(form, to - 1) {
         make_large(image, geometry, i);
         name_ways(image, geometry, i, Form::Large, from, to);
     } else {
         name_ways(image, geometry, i, form, from, to);
-    }
-}
-
-/// Whether a file with `to` logical blocks has to become large: a small file has eight.
-fn becomes_large(form: Form, to: u32) -> bool
-    ensures small { result ≡ true → form ≡ Form.Small }
-    ensures past { result ≡ true → 8 < to }
-    ensures not { result ≡ false → form ≡ Form.Small → to ≤ 8 }
-{
-    match form {
-        Form::Small => 8 < to,
-        Form::Large | Form::Deep | Form::Bare => false,
     }
 }
 

@@ -5,7 +5,7 @@ use Rattle.std.specs.Option.{option_map_or}
 use Rattle.pdp_words.specs.Words.{SameOutside}
 use Rattle.vol_layout.specs.Edition.{constants, number}
 use Rattle.vol_layout.specs.Geometry.{in_zone, Fits}
-use Rattle.vol_layout.specs.Inode.{inode_place, address_at, is_large, kind_of}
+use Rattle.vol_layout.specs.Inode.{inode_place, address_at, address_count, is_large, kind_of}
 use Rattle.vol_layout.specs.Places.{form_of, file_form, has_places, first_count, pointer_count, levels_below, IsPlace, last_place}
 use Rattle.vol_layout.specs.Names.{mode_of, form_at, entry_of, named, stored}
 use Rattle.vol_layout.specs.Body.{zone_byte, body_byte, body_size, body}
@@ -22,7 +22,7 @@ use Rattle.vol_layout.proofs.BodyLaws.{zone_bounds, same_body, zone_byte_in, bod
 use Rattle.vol_layout.proofs.NameLaws.{stored_apart_from}
 
 -- a pointer block of a file in its edition's form holds as many numbers as one of the edition
-pointers_in : (edition : Edition) (mode : ℕ) → pointer_count (file_form edition mode) ≡ (constants edition).pointers
+pub pointers_in : (edition : Edition) (mode : ℕ) → pointer_count (file_form edition mode) ≡ (constants edition).pointers
 pointers_in V6 mode = elim (is_large V6 mode) as (λ t. pointer_count (if t then Large else Small) ≡ 256) [ true ↦ refl | false ↦ refl ]
 pointers_in V7 mode = refl
 
@@ -34,16 +34,23 @@ pointers_of edition mode =
       | false ↦ omega arith
     ]
 
--- a file in its edition's form has at most 13 addresses
-addresses_in : (edition : Edition) (mode : ℕ) → first_count (file_form edition mode) ≤ 13
-addresses_in V6 mode = elim (is_large V6 mode) as (λ t. first_count (if t then Large else Small) ≤ 13) [ true ↦ omega arith | false ↦ omega arith ]
-addresses_in V7 mode = omega arith
+-- a file in its edition's form has as many addresses as its i-node
+pub addresses_in : (edition : Edition) (mode : ℕ) → first_count (file_form edition mode) ≡ address_count edition
+addresses_in V6 mode = elim (is_large V6 mode) as (λ t. first_count (if t then Large else Small) ≡ 8) [ true ↦ refl | false ↦ refl ]
+addresses_in V7 mode = refl
+
+-- a file has no more addresses than its i-node
+pub addresses_few : (edition : Edition) (mode : ℕ) → first_count (form_of edition mode) ≤ address_count edition
+addresses_few edition mode =
+    elim (has_places (kind_of edition mode)) as (λ t. first_count (if t then file_form edition mode else Bare) ≤ address_count edition) [
+      | true ↦ let same : first_count (file_form edition mode) ≡ address_count edition = addresses_in edition mode in omega arith
+      | false ↦ omega arith
+    ]
 
 -- a file has at most 13 addresses
 pub addresses_of : (edition : Edition) (mode : ℕ) → first_count (form_of edition mode) ≤ 13
-addresses_of edition mode =
-    elim (has_places (kind_of edition mode)) as (λ t. first_count (if t then file_form edition mode else Bare) ≤ 13)
-    [ true ↦ addresses_in edition mode | false ↦ omega arith ]
+addresses_of V6 mode = let few : first_count (form_of V6 mode) ≤ 8 = addresses_few V6 mode in omega arith
+addresses_of V7 mode = addresses_few V7 mode
 
 -- a write of a data block keeps the i-nodes
 pub block_keeps_inode : (geometry : Geometry) (old new : List ℕ) (k i : ℕ) → Fits geometry old → SameOutside old new (512 * k) (512 * k + 512)

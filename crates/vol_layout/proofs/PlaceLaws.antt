@@ -155,7 +155,7 @@ front_self form [] place = absurd place
 front_self form (j ∷ p) place = inl refl
 
 -- a small file has no level below any place
-small_levels : (p : List ℕ) → levels_below Small p ≡ 0
+pub small_levels : (p : List ℕ) → levels_below Small p ≡ 0
 small_levels [] = refl
 small_levels (k ∷ []) = refl
 small_levels (j ∷ (a ∷ p)) = let above : levels_below Small (a ∷ p) ≡ 0 = small_levels (a ∷ p) in omega arith

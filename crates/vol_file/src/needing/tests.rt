@@ -2,25 +2,9 @@
 ghost use Rattle.std.specs.Prelude.{◌≡◌, ◌<◌, length};
 
 use super::need;
+use crate::fixtures::{SEVENTH, SIXTH};
 use pdp_words::Image;
 use std::test::Fail;
-use vol_layout::{Edition, Geometry};
-
-// A sixth edition volume of 20 blocks, with i-nodes 1 to 32.
-const SIXTH: Geometry = Geometry {
-    edition: Edition::V6,
-    zone_start: 4,
-    zone_end: 20,
-    last_inode: 32,
-};
-
-// A seventh edition volume of 100 blocks, with i-nodes 1 to 16.
-const SEVENTH: Geometry = Geometry {
-    edition: Edition::V7,
-    zone_start: 4,
-    zone_end: 100,
-    last_inode: 16,
-};
 
 // The i-number of the file.
 const FILE: u16 = 3;

@@ -1,16 +1,13 @@
 // Worked values: which blocks a write takes and where they are named, and the zeros behind the old end.
-ghost use Rattle.std.specs.Prelude.{◌≡◌, ◌+◌, ◌≤◌, length};
-ghost use Rattle.vol_layout.specs.Edition.{constants};
+ghost use Rattle.std.specs.Prelude.{◌≡◌, ◌≤◌};
 ghost use Rattle.vol_layout.specs.Geometry.{Fits};
 ghost use Rattle.vol_layout.specs.Names.{IsFile};
 ghost use Rattle.vol_file.specs.Rules.{HasSoundFiles};
 
-use super::write;
-use crate::fixtures::{SEVENTH, SIXTH, volume};
-use crate::{need, read};
+use crate::fixtures::{SEVENTH, SIXTH, put, volume};
+use crate::read;
 use pdp_words::Image;
 use std::test::Fail;
-use vol_free::free_count;
 use vol_layout::i_list::{address, mode, size};
 use vol_layout::{Geometry, put_size};
 
@@ -74,24 +71,6 @@ fn what_lay_past_the_size_reads_as_zeros(rt: HostRuntime) -> Result<(), Fail> {
     expected[101] = 9;
     assert_eq!(rt; bytes.as_slice(), expected.as_slice());
     Ok(())
-}
-
-/// Writes, if there are blocks enough; answers how many are needed.
-fn put(image: &mut Image, geometry: &Geometry, i: u16, offset: u32, text: &[u8]) -> u32
-    requires file { IsFile geometry.now image.old i }
-    requires sound { HasSoundFiles geometry.now image.old }
-    requires fits { Fits geometry.now image.old }
-    requires greatest { offset + length text.now ≤ (constants geometry.now.edition).greatest }
-    ensures file { IsFile geometry.now image.new i }
-    ensures sound { HasSoundFiles geometry.now image.new }
-    ensures fits { Fits geometry.now image.new }
-{
-    let needed = need(image, geometry, i, offset, text.len() as u32);
-    if needed > free_count(image, geometry) {
-        return needed;
-    }
-    write(image, geometry, i, offset, text);
-    needed
 }
 
 /// Makes the file end sooner, without a change of its blocks.

@@ -1,5 +1,4 @@
-use Rattle.std.proofs.Common.{◌≡◌, ℕ, ◌+◌, ◌-◌, ◌<◌, ◌≤◌, List, ap, sym, subst, ◌∙◌, arith}
-use Rattle.vol_file.specs.Rules.{IsSoundWith}
+use Rattle.std.proofs.Common.{◌≡◌, ◌+◌, subst, arith}
 use Rattle.vol_file.specs.Steps.{Rewrites, zeros_at}
 use Rattle.vol_file.proofs.Bytes.{rewrites_then}
 use Rattle.vol_file.proofs.pieces.clear_between.Goals as goal

@@ -1,4 +1,4 @@
-use Rattle.std.proofs.Common.{◌≡◌, ℕ, ◌+◌, ◌-◌, ◌≤◌, List}
+use Rattle.std.proofs.Common.{ℕ, ◌-◌, ◌≤◌, List}
 use Rattle.vol_file.specs.Rules.{IsSoundWith}
 use Rattle.vol_file.specs.Steps.{Rewrites, zeros_at}
 use Rattle.vol_file.proofs.pieces.clear_between.Given as goal

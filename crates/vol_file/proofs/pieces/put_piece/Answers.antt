@@ -1,9 +1,7 @@
-use Rattle.std.proofs.Common.{◌≡◌, ℕ, ◌+◌, ◌*◌, ◌/◌, ◌%◌, ◌<◌, ◌≤◌, true, List, length, get_or, ap, sym, subst, ◌∙◌, arith}
-use Rattle.std.specs.Prelude.{slice_range}
+use Rattle.std.proofs.Common.{◌≡◌, ◌+◌, ◌*◌, ◌/◌, ◌%◌, true, length, get_or, ap, sym, ◌∙◌}
 use Rattle.vol_layout.specs.Geometry.{in_zone}
 use Rattle.vol_layout.specs.Names.{form_at, stored}
 use Rattle.vol_layout.proofs.BodyLaws.{get_or-slice_range}
-use Rattle.vol_file.specs.Steps.{Rewrites}
 use Rattle.vol_file.proofs.Bytes.{rewrites_stored}
 use Rattle.vol_file.proofs.pieces.put_piece.Goals as goal
 

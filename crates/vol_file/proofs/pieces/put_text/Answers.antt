@@ -1,8 +1,6 @@
-use Rattle.std.proofs.Common.{◌≡◌, ℕ, ◌+◌, ◌-◌, ◌/◌, ◌<◌, ◌≤◌, true, List, length, get_or, take, drop, ap, sym, subst, ◌∙◌, arith, length-take, length-drop}
+use Rattle.std.proofs.Common.{◌≡◌, ℕ, ◌+◌, ◌-◌, ◌/◌, ◌<◌, ◌≤◌, List, length, get_or, take, drop, ap, subst, ◌∙◌, arith, length-take, length-drop}
 use Rattle.std.proofs.lemmas.List.{get_or-take, get_or-drop}
 use Rattle.vol_layout.specs.Geometry.{in_zone}
-use Rattle.vol_layout.specs.Names.{stored}
-use Rattle.vol_file.specs.Rules.{IsSoundWith}
 use Rattle.vol_file.specs.Steps.{Rewrites, text_at}
 use Rattle.vol_file.proofs.Bytes.{rewrites_then, stored_same}
 use Rattle.vol_file.proofs.pieces.put_text.Goals as goal

@@ -1,4 +1,4 @@
-use Rattle.std.proofs.Common.{◌≡◌, ℕ, ◌+◌, ◌-◌, ◌≤◌, List, length}
+use Rattle.std.proofs.Common.{ℕ, ◌+◌, ◌-◌, ◌≤◌, List, length}
 use Rattle.vol_file.specs.Rules.{IsSoundWith}
 use Rattle.vol_file.specs.Steps.{Rewrites, text_at}
 use Rattle.vol_file.proofs.pieces.put_text.Given as goal

@@ -1,8 +1,6 @@
-use Rattle.std.proofs.Common.{◌≡◌, ℕ, ◌+◌, ◌-◌, ◌*◌, ◌/◌, ◌%◌, ◌<◌, ◌≤◌, Bool, true, List, [], ◌∷◌, Some, inl, inr, refl, sym, ◌∙◌, arith}
-use Rattle.vol_layout.specs.Places.{block_limit, last_place}
+use Rattle.std.proofs.Common.{◌-◌, [], ◌∷◌, inl, inr, refl}
 use Rattle.vol_layout.specs.Names.{form_at}
-use Rattle.vol_file.specs.Steps.{WantsWay, NamesWay}
-use Rattle.vol_file.proofs.Lasts.{way_wanted, way_named, way_next, may_first, may_next, path_small, path_large, path_huge, path_direct, path_single, path_double, path_triple, path_none}
+use Rattle.vol_file.proofs.Lasts.{way_wanted, way_named, way_next, may_first, may_next, path_direct, path_single}
 use Rattle.vol_file.proofs.ways.name_short_way.Goals as goal
 
 pub name_address-requires : goal.name_address-requires

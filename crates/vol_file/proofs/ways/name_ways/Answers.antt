@@ -1,7 +1,6 @@
-use Rattle.std.proofs.Common.{◌≡◌, ℕ, ◌+◌, ◌-◌, ◌<◌, ◌≤◌, Bool, List, subst, sym, ◌∙◌, arith}
-use Rattle.vol_layout.specs.Names.{form_at}
+use Rattle.std.proofs.Common.{◌≡◌, ◌+◌, ◌-◌, subst, sym, ◌∙◌, arith}
 use Rattle.vol_layout.proofs.InodeLaws.{form_same}
-use Rattle.vol_file.specs.Steps.{WantsWay, MayNameWay, WantsWays, NamesWays}
+use Rattle.vol_file.specs.Steps.{NamesWays}
 use Rattle.vol_file.proofs.Ranges.{ways_none, ways_next, ways_more}
 use Rattle.vol_file.proofs.ways.name_ways.Goals as goal
 

@@ -1,5 +1,4 @@
-use Rattle.std.proofs.Common.{◌≡◌, ℕ, ◌-◌, List, Bool}
-use Rattle.vol_layout.specs.Names.{form_at}
+use Rattle.std.proofs.Common.{ℕ, ◌-◌, List, Bool}
 use Rattle.vol_file.specs.Steps.{WantsWays, NamesWays}
 use Rattle.vol_file.proofs.ways.name_ways.Given as goal
 

@@ -1,14 +1,13 @@
-use Rattle.std.proofs.Common.{◌≡◌, ℕ, ◌+◌, ◌*◌, ◌<◌, ◌≤◌, true, List, ◌∷◌, length, ap, sym, subst, ◌∙◌, arith}
-use Rattle.vol_layout.specs.Edition.{constants}
+use Rattle.std.proofs.Common.{◌≡◌, ◌≤◌, true, ◌∷◌, ap, sym, subst, ◌∙◌, arith}
 use Rattle.vol_layout.specs.Inode.{kind_of, is_large, with_large}
 use Rattle.vol_layout.specs.Names.{mode_of}
 use Rattle.vol_layout.specs.declared.edition.Edition.TheVariants.{V6}
 use Rattle.vol_layout.proofs.BodyLaws.{zone_room}
 use Rattle.vol_file.specs.Rules.{IsSoundWith}
 use Rattle.vol_file.specs.Steps.{Enlarges}
-use Rattle.vol_file.proofs.Reaching.{IsFirst, pops_some, taken_zoned, zone_limit}
+use Rattle.vol_file.proofs.Reaching.{pops_some, taken_zoned, zone_limit}
 use Rattle.vol_file.proofs.Converting.{enlarges}
-use Rattle.vol_file.proofs.Enlarging.{IsMoved, moves, large_kind}
+use Rattle.vol_file.proofs.Enlarging.{moves, large_kind}
 use Rattle.vol_file.proofs.writing.make_large.Goals as goal
 
 pub copy_addresses-requires-clause-room : goal.copy_addresses-requires-clause-room

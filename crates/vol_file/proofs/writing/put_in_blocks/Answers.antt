@@ -1,12 +1,12 @@
-use Rattle.std.proofs.Common.{◌≡◌, ℕ, ◌+◌, ◌/◌, ◌<◌, ◌≤◌, true, List, length, max, min, ap, sym, subst, ◌∙◌, arith}
+use Rattle.std.proofs.Common.{◌≡◌, ◌+◌, ◌/◌, ◌≤◌, length, max, ap, sym, ◌∙◌, arith}
 use Rattle.vol_layout.specs.Edition.{constants}
 use Rattle.vol_layout.specs.Geometry.{in_zone}
 use Rattle.vol_layout.specs.Places.{form_of}
 use Rattle.vol_layout.specs.Names.{form_at, stored}
 use Rattle.vol_layout.specs.declared.places.Form.TheVariants.{Small}
 use Rattle.vol_layout.proofs.InodeLaws.{form_same}
-use Rattle.vol_file.specs.Rules.{size_of, IsSoundWith}
-use Rattle.vol_file.specs.Steps.{Puts, zeros_at, text_at}
+use Rattle.vol_file.specs.Rules.{size_of}
+use Rattle.vol_file.specs.Steps.{zeros_at}
 use Rattle.vol_file.proofs.Bytes.{stored_same}
 use Rattle.vol_file.proofs.Naming.{file_same}
 use Rattle.vol_file.proofs.Sizing.{resized, puts}

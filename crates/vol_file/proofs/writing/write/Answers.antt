@@ -1,13 +1,7 @@
-use Rattle.std.proofs.Common.{◌≡◌, ℕ, ◌+◌, ◌-◌, ◌*◌, ◌/◌, ◌<◌, ◌≤◌, true, List, length, ap, sym, subst, ◌∙◌, arith}
+use Rattle.std.proofs.Common.{◌+◌, ◌-◌, ◌/◌, ◌≤◌, length, sym, subst, ◌∙◌, arith}
 use Rattle.std.specs.List.{range_with_len}
-use Rattle.vol_layout.specs.Edition.{constants}
-use Rattle.vol_layout.specs.Geometry.{in_zone, Fits}
 use Rattle.vol_layout.specs.Places.{block_limit}
-use Rattle.vol_layout.specs.Names.{form_at, IsFile, stored}
 use Rattle.vol_layout.specs.declared.places.Form.TheVariants.{Small}
-use Rattle.vol_file.specs.Rules.{IsSoundWith, HasSoundFiles}
-use Rattle.vol_file.specs.Changes.{Writes}
-use Rattle.vol_file.specs.Steps.{Fills, Puts, MayFill, HasRoom}
 use Rattle.vol_file.proofs.Naming.{file_same}
 use Rattle.vol_file.proofs.Whole.{touched_run, run_room, fills_zone, writes, some_length}
 use Rattle.vol_file.proofs.writing.write.Goals as goal

@@ -1,14 +1,15 @@
-# What can be done with this repository. It needs the Rattle toolchain (its command `rt`) and nothing else.
+# What can be done with this repository. It needs the Rattle toolchain (its command `rt`); `make bench` also needs rustc.
 
 RT ?= rt
 PREFIX ?= /usr/local
 
 .DEFAULT_GOAL := help
-.PHONY: help run build test install
+.PHONY: help run build test bench install
 
 help:
 	@echo 'make run                    proves and builds the program, then prints the file in samples/hello.v6'
 	@echo 'make test                   the whole gate: the built program from the shell, then every proof and test from nothing'
+	@echo 'make bench                  times the program against one in plain Rust that does the same; needs rustc, and some minutes'
 	@echo 'make build                  proves and builds the program, and leaves it as ./unixvol'
 	@echo 'make install PREFIX=FOLDER  builds the program and copies it to FOLDER/bin (to /usr/local/bin without PREFIX)'
 
@@ -23,6 +24,9 @@ run: build
 test: build
 	tests/program.sh ./unixvol
 	$(RT) ci
+
+bench: build
+	bench/run.sh ./unixvol
 
 install: build
 	install -d $(DESTDIR)$(PREFIX)/bin

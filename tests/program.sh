@@ -3,6 +3,7 @@
 # Usage: tests/program.sh PROGRAM. It prints a line for each row that fails, and ends with 'N passed, N failed'.
 set -uo pipefail
 program=$(realpath "${1:?usage: tests/program.sh PROGRAM}")
+samples=$(realpath "$(dirname "$0")/../samples")
 folder=$(mktemp -d)
 trap 'rm -rf "$folder"' EXIT
 cd "$folder" || exit 1
@@ -106,8 +107,8 @@ changed six edited 1030 '08 02' # 520 bytes: more than a block, and no second bl
 prints long_hello cat 6 edited 1
 changed six edited 1032 '09' # a block outside the zone
 prints zeros cat 6 edited 1
-changed six edited 1025 '91' # the large flag
-refuses 1 'unixvol: 106 NotYet' cat 6 edited 1
+changed six edited 1025 '91' # the large flag: block 3 then holds numbers, and the first is none of the zone's
+prints zeros cat 6 edited 1
 changed six edited 512 '03' # no data block is left
 refuses 1 'unixvol: unsound, rule 2' cat 6 edited 1
 changed six edited 514 '06' # six blocks, of which five are there
@@ -139,14 +140,97 @@ refuses 1 'unixvol: unsound, rule 1' cat 7 edited 2
 changed seven edited 1096 '00 00 00 14' # 5,120 bytes: ten blocks
 { cat hello; head -c 5115 /dev/zero; } > ten_blocks
 prints ten_blocks cat 7 edited 2
-changed seven edited 1096 '00 00 01 14' # 5,121 bytes
-refuses 1 'unixvol: 106 NotYet' cat 7 edited 2
+changed seven edited 1096 '00 00 01 14' # 5,121 bytes, and no indirect block
+{ cat ten_blocks; head -c 1 /dev/zero; } > eleven_blocks
+prints eleven_blocks cat 7 edited 2
 changed seven edited 1088 'ED 41' # a directory
 prints hello cat 7 edited 2
 changed seven edited 1088 'A4 21' # a character special file
 refuses 1 'unixvol: 102 NotRegular' cat 7 edited 2
 changed seven edited 1088 'A4 11' # none of the edition's types
 refuses 1 'unixvol: 102 NotRegular' cat 7 edited 2
+
+# Files of every form. In both volumes the data blocks hold one letter each, and the block behind the volume names the
+# first of them all through, as does the rest of the i-list: whoever follows a number outside the zone prints its letters.
+
+# word N, long N, address N: a number below 65536 as hexadecimal bytes: two, four, or the three of an i-node
+word() { printf '%02x%02x' $(($1 % 256)) $(($1 / 256)); }
+long() { printf '%02x%02x' $(($1 / 65536 % 256)) $(($1 / 16777216)) && word $(($1 % 65536)); }
+address() { printf '00' && word "$1"; }
+
+# repeated COUNT HEX: the bytes so many times
+repeated() { printf "${2// /}%.0s" $(seq "$1"); }
+
+# letter FILE BLOCK LETTER: block BLOCK of FILE holds this letter 512 times
+letter() { head -c 512 /dev/zero | tr '\0' "$3" | dd of="$1" bs=512 seek="$2" conv=notrunc status=none; }
+
+# body FILE BYTES: a file of so many zeros, of which none takes room on the disk
+body() { rm -f "$1" && truncate -s "$2" "$1"; }
+
+# gives FILE WORD..: as `prints`, for a body of which nothing is kept
+gives() {
+    local file=$1
+    shift
+    { "$program" "$@" 2> error < /dev/null; echo $? > status; } | cmp - "$file" > output 2>&1
+    wants "$*" 0 none none
+}
+
+# The sixth edition: blocks 3 to 11 are the zone. I-node 1 is a large file of the greatest size, 2 a small file, and 3 a
+# large file whose addresses lie outside the zone.
+image six_forms $((13 * 512))
+put six_forms 512 "$(word 1)$(word 12)"
+put six_forms 1024 "$(repeated 256 "$(word 8)")"
+put six_forms 1024 "A4 91 01 00 00 FF $(word 65535) $(word 3)$(word 0)$(word 12)$(word 2)$(word 65535)$(word 0)$(word 4)$(word 5)"
+put six_forms 1056 "A4 81 01 00 00 00 $(word 4096) $(word 8)$(word 0)$(word 12)$(word 2)$(word 65535)$(word 0)$(word 0)$(word 11)"
+put six_forms 1088 "A4 91 01 00 00 0E $(word 512) $(word 12)$(word 2)$(word 12)$(word 2)$(word 12)$(word 2)$(word 12)$(word 12)"
+put six_forms $((3 * 512)) "$(word 8)$(word 0)$(word 12)$(word 2)$(word 65535)" # logical blocks 0 to 255
+put six_forms $((4 * 512 + 2 * 255)) "$(word 9)"                                # and 1536 to 1791
+put six_forms $((5 * 512)) "$(word 6)$(word 0)$(word 12)$(word 2)$(word 65535)" # the double indirect block
+put six_forms $((5 * 512 + 2 * 120)) "$(word 7)"
+put six_forms $((6 * 512)) "$(word 10)$(word 0)$(word 12)$(word 2)$(word 65535)" # from 1792 on
+put six_forms $((7 * 512 + 2 * 255)) "$(word 11)"                                # up to 32767
+put six_forms $((12 * 512)) "$(repeated 256 "$(word 8)")"
+for block in 8:A 9:B 10:C 11:D; do letter six_forms "${block%:*}" "${block#*:}"; done
+body wanted 16777215
+for block in 0:A 1791:B 1792:C 32767:D; do letter wanted "${block%:*}" "${block#*:}"; done
+truncate -s 16777215 wanted
+gives wanted cat 6 six_forms 1
+body wanted 4096
+for block in 0:A 7:D; do letter wanted "${block%:*}" "${block#*:}"; done
+gives wanted cat 6 six_forms 2
+body wanted $((14 * 65536 + 512)) # one block more than single indirect blocks name
+gives wanted cat 6 six_forms 3
+
+# The seventh edition: blocks 3 to 19 are the zone. I-node 2 is a file of the greatest size, and 3 one whose addresses
+# lie outside the zone.
+image seven_forms $((21 * 512))
+put seven_forms 512 "$(word 3)$(long 20)"
+put seven_forms 1024 "$(repeated 128 "$(long 12)")"
+put seven_forms 1088 "A4 81 $(word 1)$(word 0)$(word 0)$(long 1082201088)"
+put seven_forms 1100 "$(address 12)$(address 0)$(address 20)$(address 2)$(address 65535)$(repeated 4 "$(address 0)")$(address 13)"
+put seven_forms 1130 "$(address 3)$(address 4)$(address 7)"
+put seven_forms 1152 "A4 81 $(word 1)$(word 0)$(word 0)$(long $((16523 * 512)))"
+put seven_forms 1164 "$(repeated 5 "$(address 2)$(address 20)")$(address 20)$(address 2)$(address 20)"
+outside="$(long 0)$(long 20)$(long 2)$(long 65535)$(long 16777216)"
+put seven_forms $((3 * 512)) "$(long 14)$outside" # logical blocks 10 to 137
+put seven_forms $((3 * 512 + 4 * 127)) "$(long 15)"
+put seven_forms $((4 * 512)) "$(long 5)$outside" # the double indirect block
+put seven_forms $((4 * 512 + 4 * 127)) "$(long 6)"
+put seven_forms $((5 * 512)) "$(long 16)$outside"   # from 138 on
+put seven_forms $((6 * 512 + 4 * 127)) "$(long 17)" # up to 16521
+put seven_forms $((7 * 512)) "$(long 8)$outside"    # the triple indirect block
+put seven_forms $((7 * 512 + 4 * 127)) "$(long 9)"
+put seven_forms $((8 * 512)) "$(long 10)$outside"
+put seven_forms $((9 * 512 + 4 * 127)) "$(long 11)"
+put seven_forms $((10 * 512)) "$(long 18)$outside"   # from 16522 on
+put seven_forms $((11 * 512 + 4 * 127)) "$(long 19)" # up to 2113673
+put seven_forms $((20 * 512)) "$(repeated 128 "$(long 12)")"
+for block in 12:A 13:B 14:C 15:D 16:E 17:F 18:G 19:H; do letter seven_forms "${block%:*}" "${block#*:}"; done
+body wanted 1082201088
+for block in 0:A 9:B 10:C 137:D 138:E 16521:F 16522:G 2113673:H; do letter wanted "${block%:*}" "${block#*:}"; done
+gives wanted cat 7 seven_forms 2
+body wanted $((16523 * 512)) # one block more than double indirect blocks name
+gives wanted cat 7 seven_forms 3
 
 # Files that can't be read or written.
 refuses 3 'unixvol: cannot read missing' cat 6 missing 1
@@ -324,6 +408,24 @@ done
 misread 'error: the following required arguments were not provided' mkfs 6 volumes/kept 20 2 0 0
 misread 'error: unexpected argument' mkfs 6 volumes/kept 20 2 0 0 0 0
 saves 'a file whose command line was misread' volumes/kept hello
+
+# The examples of README.md and of the help; where a word is `disk.img`, it is a volume in which the example has a file.
+prints hello cat 6 "$samples/hello.v6" 1
+prints none mkfs 6 disk.img 4000 100 0 0 173750400
+has 'the size of a volume of 4,000 blocks' 2048000 "$(wc -c < disk.img)"
+put root 0 '01'
+put root 16 '01'
+prints root cat 6 disk.img 1
+od -c < root > dumped
+{ "$program" cat 6 disk.img 1 2> error; echo $? > status; } | od -c > output
+wants 'cat of a root directory, dumped' 0 dumped none
+prints none mkfs 7 disk.img 100 2 0 0 0
+put root 0 '02'
+put root 16 '02'
+prints root cat 7 disk.img 2
+put disk.img 1536 'A4 81 01 00 00 00 00 00 00 00 05 00 00 05 00' # i-node 9, whose block is block 5
+put disk.img 2560 '68 65 6C 6C 6F'
+prints hello cat 7 disk.img 9
 
 # What the program says of itself.
 echo 'unixvol 0.1.0' > version

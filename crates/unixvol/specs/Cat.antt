@@ -1,13 +1,12 @@
 -- What `cat` answers and writes.
-use Rattle.std.specs.Prelude.{◌≡◌, ℕ, ◌==◌, ◌||◌, Bool, nat_lt, if◌then◌else◌, List, Option, Result, Ok, Err}
+use Rattle.std.specs.Prelude.{◌≡◌, ℕ, ◌==◌, ◌||◌, nat_lt, if◌then◌else◌, List, Option, Result, Ok, Err}
 use Rattle.std.specs.Io.KnownBytes.{Appends, Keeps}
 use Rattle.pdp_words.specs.Devices.{IsReadWhole, AppendsFront}
 use Rattle.vol_layout.specs.Geometry.{geometry_read}
-use Rattle.vol_layout.specs.Inode.{kind_of, is_large, inode_place, size_at}
+use Rattle.vol_layout.specs.Inode.{kind_of}
 use Rattle.vol_layout.specs.Names.{mode_of}
 use Rattle.vol_layout.specs.Body.{body}
 use Rattle.vol_layout.specs.declared.edition.Edition.{Edition}
-use Rattle.vol_layout.specs.declared.edition.Edition.TheVariants.{V6, V7}
 use Rattle.vol_layout.specs.declared.geometry.Geometry.{Geometry}
 use Rattle.vol_layout.specs.declared.geometry.GeometryFault.{GeometryFault}
 use Rattle.vol_layout.specs.declared.mode.Kind.{Kind}
@@ -23,7 +22,6 @@ status_of faults.NoMemory = 4
 status_of (faults.Unsound fault) = 1
 status_of faults.NoEntry = 1
 status_of faults.NotRegular = 1
-status_of faults.NotYet = 1
 
 -- a fault that an image which was read gives rise to (this project)
 abbrev pub IsOfImage : CatFault → Type 0
@@ -33,30 +31,20 @@ IsOfImage (faults.Writer written) = ⊥
 IsOfImage (faults.Unsound fault) = Unit {0}
 IsOfImage faults.NoEntry = Unit {0}
 IsOfImage faults.NotRegular = Unit {0}
-IsOfImage faults.NotYet = Unit {0}
-
--- whether this release can't print a file with some mode and size yet (this release)
-abbrev pub is_not_yet_in : Edition → ℕ → ℕ → Bool
-is_not_yet_in V6 mode size = is_large V6 mode
-is_not_yet_in V7 mode size = nat_lt 5120 size
-
--- whether this release can't print a file yet: one with the large flag, or one of the seventh edition past its ten direct blocks (this release)
-abbrev pub is_not_yet : Geometry → List ℕ → ℕ → Bool
-is_not_yet geometry image i = is_not_yet_in geometry.edition (mode_of geometry image i) (size_at geometry.edition image (inode_place geometry.edition i))
 
 -- the geometry of an image in which i-node i, of some kind, can be printed, or the first refusal that applies (this project)
-abbrev pub printable : Geometry → Bool → Kind → Result Geometry CatFault
-printable geometry later kinds.Regular = if later then Err faults.NotYet else Ok geometry
-printable geometry later kinds.Directory = if later then Err faults.NotYet else Ok geometry
-printable geometry later kinds.Free = Err faults.NoEntry
-printable geometry later kinds.Special = Err faults.NotRegular
-printable geometry later kinds.Odd = Err faults.NotRegular
+abbrev pub printable : Geometry → Kind → Result Geometry CatFault
+printable geometry kinds.Regular = Ok geometry
+printable geometry kinds.Directory = Ok geometry
+printable geometry kinds.Free = Err faults.NoEntry
+printable geometry kinds.Special = Err faults.NotRegular
+printable geometry kinds.Odd = Err faults.NotRegular
 
 -- the same by the i-number, which may be none of the volume's (this project)
 abbrev pub file_in : Geometry → List ℕ → ℕ → Result Geometry CatFault
 file_in geometry image i =
     if (i == 0) || nat_lt geometry.last_inode i then Err faults.NoEntry
-    else printable geometry (is_not_yet geometry image i) (kind_of geometry.edition (mode_of geometry image i))
+    else printable geometry (kind_of geometry.edition (mode_of geometry image i))
 
 -- the same by the geometry that was read (this project)
 abbrev pub file_by : Result Geometry GeometryFault → List ℕ → ℕ → Result Geometry CatFault

@@ -4,13 +4,13 @@ ghost use Rattle.std.specs.Io.KnownBytes.{Appends};
 ghost use Rattle.pdp_words.specs.Devices.{AppendsFront};
 ghost use Rattle.vol_layout.specs.Geometry.{Fits};
 ghost use Rattle.vol_layout.specs.Body.{body};
-ghost use Rattle.unixvol.specs.Cat.{file_of, Cats, status_of, is_not_yet, IsOfImage};
+ghost use Rattle.unixvol.specs.Cat.{file_of, Cats, status_of, IsOfImage};
 
 use pdp_words::{Image, LoadFault, Sink, Source, load, write_all};
 use std::alloc::Global;
 use thiserror::Error;
 use vol_file::read;
-use vol_layout::i_list::{mode, size};
+use vol_layout::i_list::mode;
 use vol_layout::{Edition, Geometry, GeometryFault, Kind};
 
 /// Why `cat` didn't print a file. Its text is the line that the program prints.
@@ -31,9 +31,6 @@ pub enum CatFault {
     /// The i-node is a special file, or its mode is none of the edition's.
     #[error("unixvol: 102 NotRegular")]
     NotRegular,
-    /// The file's blocks are found by indirect blocks, which this release doesn't follow yet.
-    #[error("unixvol: 106 NotYet")]
-    NotYet,
     /// The output failed after so many bytes.
     #[error("unixvol: cannot write -")]
     Writer(u64),
@@ -47,7 +44,7 @@ impl CatFault {
         match self {
             CatFault::Device | CatFault::Writer(_) => 3,
             CatFault::NoMemory => 4,
-            CatFault::Unsound(_) | CatFault::NoEntry | CatFault::NotRegular | CatFault::NotYet => 1,
+            CatFault::Unsound(_) | CatFault::NoEntry | CatFault::NotRegular => 1,
         }
     }
 }
@@ -104,26 +101,7 @@ fn open(edition: Edition, image: &Image, ino: u16) -> Result<Geometry, CatFault>
     match mode(image, &geometry, ino).kind(geometry.edition) {
         Kind::Free => Err(CatFault::NoEntry),
         Kind::Special | Kind::Odd => Err(CatFault::NotRegular),
-        Kind::Regular | Kind::Directory => {
-            if needs_indirect_blocks(image, &geometry, ino) {
-                Err(CatFault::NotYet)
-            } else {
-                Ok(geometry)
-            }
-        }
-    }
-}
-
-/// Whether the blocks of file `ino` are found by indirect blocks.
-fn needs_indirect_blocks(image: &Image, geometry: &Geometry, ino: u16) -> bool
-    requires fits { Fits geometry.now image.now }
-    requires first { 1 ≤ ino }
-    requires last { ino ≤ geometry.now.last_inode }
-    ensures { result ≡ is_not_yet geometry.now image.now ino }
-{
-    match geometry.edition {
-        Edition::V6 => mode(image, geometry, ino).is_large(geometry.edition),
-        Edition::V7 => size(image, geometry, ino) > 5120,
+        Kind::Regular | Kind::Directory => Ok(geometry),
     }
 }
 

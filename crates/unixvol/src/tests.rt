@@ -32,6 +32,45 @@ static SEVENTH: [Edit; 3] = [
     (1536, b"hello"),
 ];
 
+/// A volume of the sixth edition of ten blocks: i-node 1 is a large file of 1793 blocks. Block 3 names the
+/// blocks from logical block 0 on, block 4 those up to 1791, and block 5 is the double indirect block. Beside
+/// them stand numbers outside the zone.
+static SIXTH_LARGE: [Edit; 9] = [
+    (512, b"\x01\x00\x0A\x00"),
+    (
+        1024,
+        b"\xA4\x91\x01\x00\x00\x0E\x00\x02\x03\x00\x00\x00\x0A\x00\x02\x00\x00\x00\x00\x00\x04\x00\x05\x00",
+    ),
+    (1536, b"\x07\x00\x00\x00\x0A\x00\x02\x00"),
+    (2558, b"\x08\x00"),
+    (2560, b"\x06\x00"),
+    (3072, b"\x09\x00"),
+    (3584, b"first"),
+    (4096, b"single"),
+    (4608, b"double"),
+];
+
+/// Where the texts stand in its body.
+static SIXTH_TEXTS: [Edit; 3] = [(0, b"first"), (916_992, b"single"), (917_504, b"double")];
+
+/// A volume of the seventh edition of ten blocks: i-node 2 is a file of 139 blocks. Block 3 is the indirect
+/// block, and block 4 the double indirect one. Beside them stand numbers outside the zone.
+static SEVENTH_LARGE: [Edit; 10] = [
+    (512, b"\x03\x00\x00\x00\x0A\x00"),
+    (1088, b"\xA4\x81\x01\x00\x00\x00\x00\x00\x01\x00\x00\x16"),
+    (1127, b"\x00\x09\x00\x00\x03\x00\x00\x04\x00"),
+    (1536, b"\x00\x00\x06\x00\x00\x00\x0A\x00\x00\x00\x02\x00"),
+    (2044, b"\x00\x00\x07\x00"),
+    (2048, b"\x00\x00\x05\x00\x00\x00\x0A\x00"),
+    (2560, b"\x00\x00\x08\x00"),
+    (3072, b"first"),
+    (3584, b"single"),
+    (4096, b"double"),
+];
+
+/// Where the texts stand in its body.
+static SEVENTH_TEXTS: [Edit; 3] = [(5120, b"first"), (70_144, b"single"), (70_656, b"double")];
+
 /// What `cat` is to do.
 #[derive(Clone, Copy, Debug)]
 enum Wanted {
@@ -44,8 +83,6 @@ enum Wanted {
 const NO_ENTRY: Wanted = Wanted::Line("unixvol: 2 NoEntry", 1);
 
 const NOT_REGULAR: Wanted = Wanted::Line("unixvol: 102 NotRegular", 1);
-
-const NOT_YET: Wanted = Wanted::Line("unixvol: 106 NotYet", 1);
 
 const RULE_1: Wanted = Wanted::Line("unixvol: unsound, rule 1", 1);
 
@@ -63,8 +100,8 @@ static SIXTH_ROWS: [(u16, Edit, Wanted); 20] = [
     (1, (1030, b"\x08\x02"), Wanted::Bytes("hello", 520)),
     (1, (1032, b"\x09"), Wanted::Bytes("", 5)),
     (1, (1030, b"\x00\x00"), Wanted::Bytes("", 0)),
-    (1, (1025, b"\x91"), NOT_YET),
-    (1, (1025, b"\xD1"), NOT_YET),
+    (1, (1025, b"\x91"), Wanted::Bytes("", 5)),
+    (1, (1025, b"\xD1"), Wanted::Bytes("", 5)),
     (1, (1025, b"\xC1"), HELLO),
     (1, (1025, b"\xA1"), NOT_REGULAR),
     (1, (1025, b"\xE1"), NOT_REGULAR),
@@ -86,7 +123,7 @@ static SEVENTH_ROWS: [(u16, Edit, Wanted); 14] = [
     (2, (512, b"\x02"), RULE_2),
     (2, (516, b"\x06"), RULE_1),
     (2, (1096, b"\x00\x00\x00\x14"), Wanted::Bytes("hello", 5120)),
-    (2, (1096, b"\x00\x00\x01\x14"), NOT_YET),
+    (2, (1096, b"\x00\x00\x01\x14"), Wanted::Bytes("hello", 5121)),
     (2, (1089, b"\x41"), HELLO),
     (2, (1089, b"\x21"), NOT_REGULAR),
     (2, (1089, b"\x61"), NOT_REGULAR),
@@ -139,6 +176,34 @@ fn check(
         }
     }
     Ok(())
+}
+
+#[test]
+fn cat_follows_indirect_blocks(rt: HostRuntime) -> Result<(), Fail> {
+    let alloc = rt.alloc();
+    let volume = edited(alloc, 5120, &SIXTH_LARGE)?;
+    let body = edited(alloc, 918_016, &SIXTH_TEXTS)?;
+    check_body(&rt, alloc, Edition::V6, 1, &volume, &body);
+    let volume = edited(alloc, 5120, &SEVENTH_LARGE)?;
+    let body = edited(alloc, 71_168, &SEVENTH_TEXTS)?;
+    check_body(&rt, alloc, Edition::V7, 2, &volume, &body);
+    Ok(())
+}
+
+/// Runs `cat` on an image, and compares what it writes with a file's body.
+fn check_body(
+    rt: &impl Abort,
+    alloc: Global,
+    edition: Edition,
+    ino: u16,
+    image: &[u8],
+    body: &[u8],
+) {
+    let mut source = FromRead::new(ScriptedReader::new(image, 65_536));
+    let mut sink = IntoWrite::new(ScriptedWriter::new(alloc, 65_536));
+    let result = cat(alloc, edition, ino, &mut source, &mut sink);
+    assert_eq!(rt; result, Ok(()), "{edition:?}");
+    assert_eq!(rt; sink.into_inner().taken.as_slice(), body, "{edition:?}");
 }
 
 #[test]
@@ -239,7 +304,6 @@ fn faults_have_their_line_and_status(rt: HostRuntime) -> Result<(), Fail> {
         ),
         (CatFault::NoEntry, "unixvol: 2 NoEntry", 1),
         (CatFault::NotRegular, "unixvol: 102 NotRegular", 1),
-        (CatFault::NotYet, "unixvol: 106 NotYet", 1),
         (CatFault::Writer(7), "unixvol: cannot write -", 3),
     ] {
         let text = format!(in rt.alloc(); "{fault}")?;
@@ -280,12 +344,18 @@ fn words_of_the_command_line_are_read(rt: HostRuntime) -> Result<(), Fail> {
 
 /// The bytes of a volume of five blocks with an edit.
 fn image(alloc: Global, volume: &[Edit], edit: Edit) -> Result<Vec<u8>, AllocError> {
-    let mut bytes = vec![in alloc; 0; 2560]?;
-    for (at, new) in volume {
-        put(&mut bytes, *at, new);
-    }
+    let mut bytes = edited(alloc, 2560, volume)?;
     let (at, new) = edit;
     put(&mut bytes, at, new);
+    Ok(bytes)
+}
+
+/// Zeros with edits.
+fn edited(alloc: Global, len: usize, edits: &[Edit]) -> Result<Vec<u8>, AllocError> {
+    let mut bytes = vec![in alloc; 0; len]?;
+    for (at, new) in edits {
+        put(&mut bytes, *at, new);
+    }
     Ok(bytes)
 }
 

@@ -23,7 +23,6 @@ Status:
      `unixvol: unsound, rule 2`: the super-block's sizes don't fit one another
      `unixvol: 2 NoEntry`: there is no such i-node, or it is free
      `unixvol: 102 NotRegular`: it is a special file, or its mode is none of the edition's
-     `unixvol: 106 NotYet`: its blocks are found by indirect blocks, which aren't followed yet
   2  the command line can't be read
   3  `unixvol: cannot read IMAGE`, or `unixvol: cannot write -`: standard output failed
   4  `unixvol: 12 NoMemory`";

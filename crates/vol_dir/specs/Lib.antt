@@ -1,0 +1,5 @@
+pub mod Access
+pub mod Entries
+pub mod Names
+pub mod Tree
+pub mod Walk

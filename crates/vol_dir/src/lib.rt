@@ -1,0 +1,8 @@
+//! The directories of a volume: their entries, and the walk of a path over them.
+#![tactic(auto)]
+
+pub mod cred;
+pub mod refusal;
+
+pub use cred::Cred;
+pub use refusal::Refusal;

@@ -1,5 +1,6 @@
 pub mod Access
 pub mod Entries
 pub mod Names
+pub mod Refusals
 pub mod Tree
 pub mod Walk

@@ -1,8 +1,10 @@
 //! The directories of a volume: their entries, and the walk of a path over them.
 #![tactic(auto)]
 
+pub mod access;
 pub mod cred;
 pub mod refusal;
 
+pub use access::{Access, grants};
 pub use cred::Cred;
 pub use refusal::Refusal;

@@ -1,4 +1,6 @@
 //! Why a call is refused.
+ghost use Rattle.std.specs.Prelude.{◌≡◌};
+
 use thiserror::Error;
 
 /// Why a call or a query is refused. Its text is its number and name. The numbers up to 31 are those of
@@ -47,4 +49,30 @@ pub enum Refusal {
     /// The user or group number is above the edition's highest.
     #[error("104 BadId")]
     BadId,
+}
+
+impl Refusal {
+    ghost use Rattle.vol_dir.specs.Refusals.{number_of};
+
+    /// The number by which it is known.
+    pub fn number(self) -> u8
+        ensures { result ≡ number_of self }
+    {
+        match self {
+            Refusal::NoEntry => 2,
+            Refusal::NoMemory => 12,
+            Refusal::Access => 13,
+            Refusal::Exists => 17,
+            Refusal::NotDirectory => 20,
+            Refusal::IsDirectory => 21,
+            Refusal::Invalid => 22,
+            Refusal::TooBig => 27,
+            Refusal::NoSpace => 28,
+            Refusal::TooManyLinks => 31,
+            Refusal::NotEmpty => 101,
+            Refusal::NotRegular => 102,
+            Refusal::NoInode => 103,
+            Refusal::BadId => 104,
+        }
+    }
 }

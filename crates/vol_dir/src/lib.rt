@@ -3,8 +3,10 @@
 
 pub mod access;
 pub mod cred;
+pub mod paths;
 pub mod refusal;
 
 pub use access::{Access, grants};
 pub use cred::Cred;
+pub use paths::split_component;
 pub use refusal::Refusal;

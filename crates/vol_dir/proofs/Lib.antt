@@ -1,1 +1,2 @@
 mod Components
+mod WalkLaws

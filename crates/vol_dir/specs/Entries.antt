@@ -45,3 +45,9 @@ pub record HasEntries (geometry : Geometry) (image : List ℕ) : Type 0 where
   pub allocated : (d s i : ℕ) (name : List ℕ) → HasEntry geometry image d s name i
       → ((constants geometry.edition).root ≤ i) × (i ≤ geometry.last_inode) × (kind_at geometry image i ≢ kinds.Free)
   pub once : (d s t i j : ℕ) (name : List ℕ) → HasEntry geometry image d s name i → HasEntry geometry image d t name j → s ≡ t
+
+-- i is an i-number from the root's to the last, whose i-node is allocated (manual section 5, file system)
+pub record IsInUse (geometry : Geometry) (image : List ℕ) (i : ℕ) : Type 0 where
+  pub first : (constants geometry.edition).root ≤ i
+  pub last : i ≤ geometry.last_inode
+  pub allocated : kind_at geometry image i ≢ kinds.Free

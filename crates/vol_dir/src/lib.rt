@@ -3,10 +3,14 @@
 
 pub mod access;
 pub mod cred;
+pub mod entries;
 pub mod paths;
 pub mod refusal;
+pub mod walking;
 
 pub use access::{Access, grants};
 pub use cred::Cred;
+pub use entries::find;
 pub use paths::split_component;
 pub use refusal::Refusal;
+pub use walking::walk;

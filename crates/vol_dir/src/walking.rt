@@ -1,0 +1,89 @@
+//! Looking up paths.
+ghost use Rattle.std.specs.Prelude.{◌≡◌, ◌≤◌, Ok, Err, MatchResult, IfOk, IfSome};
+ghost use Rattle.std.specs.Option.{option_map};
+ghost use Rattle.vol_layout.specs.Geometry.{Fits};
+ghost use Rattle.vol_file.specs.Rules.{kind_at, HasSoundFiles};
+ghost use Rattle.vol_dir.specs.Tree.{tree};
+ghost use Rattle.vol_dir.specs.Names.{names_of};
+ghost use Rattle.vol_dir.specs.Entries.{slots, IsDirectory, HasEntries, IsInUse};
+ghost use Rattle.vol_dir.specs.Walk.{search, find_in, walk, walk_parent};
+
+use crate::access::{Access, grants};
+use crate::cred::Cred;
+use crate::entries::find;
+use crate::paths::split_component;
+use crate::refusal::Refusal;
+use pdp_words::Image;
+use vol_layout::i_list::mode;
+use vol_layout::{Geometry, Kind};
+
+/// The i-number that a path leads to, as a user walks it from the root: the empty path leads to the
+/// root. For each component, in this order: NotDirectory where the i-node at hand is no directory,
+/// Access where it doesn't grant execute, NoEntry where it doesn't have the name (Lions on namei).
+///
+/// Costs for each component what [`find`] costs.
+pub fn walk(
+    image: &Image,
+    geometry: &Geometry,
+    cred: Cred,
+    path: &[u8],
+) -> Result<u16, Refusal>
+    requires sound { HasSoundFiles geometry.now image.now }
+    requires entries { HasEntries geometry.now image.now }
+    ensures exact { result ≡ walk (tree geometry.now image.now) cred path.now }
+    ensures used { IfOk result (λ i. IsInUse geometry.now image.now i) }
+{
+    let mut i = geometry.edition.constants().root;
+    let mut rest = path;
+    while let Some((name, after)) = split_component(rest) {
+        i = step(image, geometry, cred, i, name)?;
+        rest = after;
+    }
+    Ok(i)
+}
+
+/// The i-number to which one name leads from i-node `i`.
+fn step(
+    image: &Image,
+    geometry: &Geometry,
+    cred: Cred,
+    i: u16,
+    name: &[u8],
+) -> Result<u16, Refusal>
+    requires fits { Fits geometry.now image.now }
+    requires entries { HasEntries geometry.now image.now }
+    requires first { 1 ≤ i }
+    requires last { i ≤ geometry.now.last_inode }
+    ensures exact { result ≡ find_in (tree geometry.now image.now) cred i name.now }
+    ensures used { IfOk result (λ j. IsInUse geometry.now image.now j) }
+{
+    search(image, geometry, cred, i)?;
+    find(image, geometry, i, name).ok_or(Refusal::NoEntry)
+}
+
+/// Whether i-node `i` is a directory that may be searched; else why not.
+fn search(image: &Image, geometry: &Geometry, cred: Cred, i: u16) -> Result<(), Refusal>
+    requires fits { Fits geometry.now image.now }
+    requires first { 1 ≤ i }
+    requires last { i ≤ geometry.now.last_inode }
+    ensures exact { MatchResult result
+        (λ _. search (tree geometry.now image.now) cred i ≡ Ok (names_of (slots geometry.now image.now i)))
+        (λ refusal. search (tree geometry.now image.now) cred i ≡ Err refusal) }
+    ensures directory { IfOk result (λ _. IsDirectory geometry.now image.now i) }
+{
+    match kind(image, geometry, i) {
+        Kind::Directory if grants(image, geometry, i, Access::Execute, cred) => Ok(()),
+        Kind::Directory => Err(Refusal::Access),
+        _ => Err(Refusal::NotDirectory),
+    }
+}
+
+/// What i-node `i` is.
+fn kind(image: &Image, geometry: &Geometry, i: u16) -> Kind
+    requires fits { Fits geometry.now image.now }
+    requires first { 1 ≤ i }
+    requires last { i ≤ geometry.now.last_inode }
+    ensures { result ≡ kind_at geometry.now image.now i }
+{
+    mode(image, geometry, i).kind(geometry.edition)
+}

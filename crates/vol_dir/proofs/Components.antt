@@ -1,13 +1,13 @@
 -- Lemmas on the components of a path.
-use Rattle.std.proofs.Common.{◌≡◌, ℕ, ◌+◌, ◌<◌, Bool, true, false, cond, eqb, List, [], ◌∷◌, map, take, drop, length, min, refl, suc, zero, ap, sym, ◌∙◌, subst, arith}
-use Rattle.std.specs.Prelude.{not, filter}
-use Rattle.std.specs.List.{position_or_len}
+use Rattle.std.proofs.Common.{◌≡◌, ℕ, ◌+◌, ◌<◌, ◌≤◌, Bool, true, false, cond, eqb, List, [], ◌∷◌, map, take, drop, length, min, refl, suc, zero, ap, sym, ◌∙◌, subst, arith}
+use Rattle.std.specs.Prelude.{not, ◌||◌, filter}
+use Rattle.std.specs.List.{position_or_len, list_any}
 use Rattle.std.proofs.Math.Nat.{min_comm}
-use Rattle.std.proofs.lemmas.List.{take_min, nil_from_length}
-use Rattle.vol_dir.specs.Walk.{onto_first, pieces, is_nil, components}
+use Rattle.std.proofs.lemmas.List.{take_min, nil_from_length, length-take}
+use Rattle.vol_dir.specs.Walk.{onto_first, pieces, is_nil, components, has_zero, IsComponent}
 
 -- the pieces that have a byte
-abbrev kept : List (List ℕ) → List (List ℕ)
+abbrev pub kept : List (List ℕ) → List (List ℕ)
 kept = filter (λ piece. not (is_nil piece))
 
 -- the kept pieces of a path whose first byte is or isn't a slash
@@ -29,12 +29,12 @@ components-slashes (c ∷ path) =
     ] refl
 
 -- a path's pieces begin with the bytes before its first slash; the others are those of the rest, whose first is empty
-record HasFirst (path : List ℕ) (n : ℕ) : Type 0 where
-  others : List (List ℕ)
-  first : pieces path ≡ take n path ∷ others
-  rest : kept (pieces (drop n path)) ≡ kept others
+pub record HasFirst (path : List ℕ) (n : ℕ) : Type 0 where
+  pub others : List (List ℕ)
+  pub first : pieces path ≡ take n path ∷ others
+  pub rest : kept (pieces (drop n path)) ≡ kept others
 
-has_first : (path : List ℕ) → HasFirst path (position_or_len (λ c. eqb c 47) path)
+pub has_first : (path : List ℕ) → HasFirst path (position_or_len (λ c. eqb c 47) path)
 has_first [] = record { others = []; first = refl; rest = refl }
 has_first (c ∷ path) =
     let n = position_or_len (λ c. eqb c 47) path in
@@ -81,7 +81,7 @@ components-first path some full =
     ∙ ap (λ ps. take 14 (take n path) ∷ map (take 14) ps) (sym h.rest))
 
 -- no bytes have no component
-components-nil : components [] ≡ []
+pub components-nil : components [] ≡ []
 unfolding components
 components-nil = refl
 
@@ -117,3 +117,48 @@ components-split path named front rest k n m at is full stop before after cut =
     ap (λ xs. take 14 xs ∷ components (drop n named)) (sym before)
     ∙ (ap (λ xs. xs ∷ components (drop n named)) (sym short) ∙ ap (λ xs. take m front ∷ components xs) (sym after)) in
     same ∙ (split ∙ parts)
+
+or_false : (a b : Bool) → (a || b) ≡ false → (a ≡ false) × (b ≡ false)
+or_false false b e = (refl, e)
+or_false true b e = cc
+
+list_any-take : (p : ℕ → Bool) (n : ℕ) (xs : List ℕ) → list_any p xs ≡ false → list_any p (take n xs) ≡ false
+list_any-take p zero xs e = refl
+list_any-take p (suc n) [] e = refl
+list_any-take p (suc n) (x ∷ xs) e =
+    let h = or_false (p x) (list_any p xs) e in ap (λ b. b || list_any p (take n xs)) h.0 ∙ list_any-take p n xs h.1
+
+list_any-drop : (p : ℕ → Bool) (n : ℕ) (xs : List ℕ) → list_any p xs ≡ false → list_any p (drop n xs) ≡ false
+list_any-drop p zero xs e = e
+list_any-drop p (suc n) [] e = refl
+list_any-drop p (suc n) (x ∷ xs) e = list_any-drop p n xs (or_false (p x) (list_any p xs) e).1
+
+-- no byte before the first slash is a slash
+list_any-first : (xs : List ℕ) → list_any (λ c. eqb c 47) (take (position_or_len (λ c. eqb c 47) xs) xs) ≡ false
+list_any-first [] = refl
+list_any-first (c ∷ xs) =
+    let n = position_or_len (λ c. eqb c 47) xs in
+    elim (eqb c 47) as (λ b. eqb c 47 ≡ b → list_any (λ c. eqb c 47) (take (cond (not b) (1 + n) 0) (c ∷ xs)) ≡ false) [
+      | true ↦ λ e. refl
+      | false ↦ λ e. subst (λ k. list_any (λ c. eqb c 47) (take k (c ∷ xs)) ≡ false) (sym (one_more n)) (ap (λ b. b || list_any (λ c. eqb c 47) (take n xs)) e ∙ list_any-first xs)
+    ] refl
+
+-- the first component is one
+pub IsComponent-split : (path named front : List ℕ) (k n m : ℕ) → k ≡ position_or_len (λ c. not (eqb c 47)) path
+    → named ≡ drop k path → 0 < length named → n ≡ position_or_len (λ c. eqb c 47) named
+    → front ≡ take n named → m ≡ min (length front) 14 → IsComponent (take m front)
+IsComponent-split path named front k n m at is full stop before cut =
+    let some : 0 < n = name_begins path named k n at is full stop in
+    let count : length front ≡ min n (length named) = ap length before ∙ length-take n named in
+    let short : length (take m front) ≡ min m (length front) = length-take m front in
+    let plain : list_any (λ c. eqb c 47) front ≡ false =
+    ap (list_any (λ c. eqb c 47)) (before ∙ ap (λ j. take j named) stop) ∙ list_any-first named in
+    record { some = omega arith; short = omega arith; plain = list_any-take (λ c. eqb c 47) m front plain }
+
+-- a path without zero byte has none in its first component, nor in the rest
+pub nonzero-split : (path named front rest : List ℕ) (k n m : ℕ) → named ≡ drop k path → front ≡ take n named → rest ≡ drop n named
+    → has_zero path ≡ false → (has_zero (take m front) ≡ false) × (has_zero rest ≡ false)
+nonzero-split path named front rest k n m is before after e =
+    let behind : has_zero named ≡ false = ap has_zero is ∙ list_any-drop (λ c. eqb c 0) k path e in
+    (list_any-take (λ c. eqb c 0) m front (ap has_zero before ∙ list_any-take (λ c. eqb c 0) n named behind),
+    ap has_zero after ∙ list_any-drop (λ c. eqb c 0) n named behind)

@@ -1,2 +1,4 @@
 mod Components
 mod WalkLaws
+mod ParentLaws
+mod PathJoins

@@ -1,6 +1,7 @@
 pub mod Access
 pub mod Entries
 pub mod Names
+pub mod PathLaws
 pub mod Refusals
 pub mod Tree
 pub mod Walk

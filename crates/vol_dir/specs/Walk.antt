@@ -1,5 +1,6 @@
 -- Looking up paths. (Lions on namei.)
-use Rattle.std.specs.Prelude.{ℕ, ◌==◌, Bool, true, false, not, if◌then◌else◌, List, [], ◌∷◌, map, filter, take, Option, None, Some, Result, Ok, Err}
+use Rattle.std.specs.Prelude.{◌≡◌, ℕ, ◌≤◌, ◌==◌, Bool, true, false, not, if◌then◌else◌, List, [], ◌∷◌, length, map, filter, take, Option, None, Some, Result, Ok, Err}
+use Rattle.std.specs.List.{list_any}
 use Rattle.std.specs.Option.{option_map, option_map_or, ok_or, is_some}
 use Rattle.vol_layout.specs.Edition.{constants}
 use Rattle.vol_dir.specs.Access.{grants, may_execute}
@@ -31,6 +32,16 @@ is_nil (x ∷ xs) = false
 -- the components of a path: its pieces but for the empty ones, each cut to 14 bytes (Lions on namei)
 unfoldable pub components : List ℕ → List (List ℕ)
 components path = map (take 14) (filter (λ piece. not (is_nil piece)) (pieces path))
+
+-- whether a path or a name has a zero byte
+abbrev pub has_zero : List ℕ → Bool
+has_zero bytes = list_any (λ c. c == 0) bytes
+
+-- what a component is: 1 to 14 bytes, none of them a slash (Lions on namei)
+pub record IsComponent (name : List ℕ) : Type 0 where
+  pub some : 1 ≤ length name
+  pub short : length name ≤ 14
+  pub plain : list_any (λ c. c == 47) name ≡ false
 
 -- the map of a directory; what is no directory has none (manual section 5, directories)
 abbrev pub map_of : Content → Option Names
@@ -80,6 +91,10 @@ abbrev pub parent_from : Tree → Cred → List (List ℕ) × List ℕ → Resul
 parent_from tree cred names =
     and_then (walk_from tree cred (root tree) names.0) (λ i. and_then (search tree cred i) (λ _. Ok (i, names.1)))
 
+-- the parent to which names lead, and the last of them; None where there are none (Lions on namei)
+abbrev pub parent_over : Tree → Cred → List (List ℕ) → Option (Result (ℕ × List ℕ) Refusal)
+parent_over tree cred names = option_map (parent_from tree cred) (split_last names)
+
 -- the parent that a path leads to, and its last name; None for a path without component (Lions on namei)
 unfoldable pub walk_parent : Tree → Cred → List ℕ → Option (Result (ℕ × List ℕ) Refusal)
-walk_parent tree cred path = option_map (parent_from tree cred) (split_last (components path))
+walk_parent tree cred path = parent_over tree cred (components path)

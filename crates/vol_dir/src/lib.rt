@@ -4,6 +4,7 @@
 pub mod access;
 pub mod cred;
 pub mod entries;
+pub mod laws;
 pub mod paths;
 pub mod refusal;
 pub mod walking;
@@ -13,4 +14,4 @@ pub use cred::Cred;
 pub use entries::find;
 pub use paths::split_component;
 pub use refusal::Refusal;
-pub use walking::walk;
+pub use walking::{walk, walk_parent};

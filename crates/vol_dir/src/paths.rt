@@ -1,7 +1,7 @@
 //! The components of a path.
-ghost use Rattle.std.specs.Prelude.{◌≡◌, ◌<◌, ◌≤◌, ◌∷◌, ◌==◌, [], not, length, MatchOption, IfSome};
+ghost use Rattle.std.specs.Prelude.{◌≡◌, ◌<◌, ◌≤◌, ◌∷◌, ◌==◌, [], false, not, length, MatchOption, IfSome};
 ghost use Rattle.std.specs.List.{position_or_len};
-ghost use Rattle.vol_dir.specs.Walk.{components};
+ghost use Rattle.vol_dir.specs.Walk.{components, has_zero, IsComponent};
 
 use vol_layout::slot::NAME;
 
@@ -11,6 +11,9 @@ use vol_layout::slot::NAME;
 pub fn split_component(path: &[u8]) -> Option<(&[u8], &[u8])>
     ensures parts { MatchOption result (components path.now ≡ [])
         (λ parts. components path.now ≡ parts.0.now ∷ components parts.1.now) }
+    ensures component { IfSome result (λ parts. IsComponent parts.0.now) }
+    ensures nonzero { has_zero path.now ≡ false
+        → IfSome result (λ parts. (has_zero parts.0.now ≡ false) × (has_zero parts.1.now ≡ false)) }
     ensures shorter { IfSome result (λ parts. length parts.1.now < length path.now) }
 {
     let (_, path) = path.split_at(leading_slashes(path));

@@ -1,12 +1,11 @@
 //! Looking up paths.
-ghost use Rattle.std.specs.Prelude.{◌≡◌, ◌≤◌, Ok, Err, MatchResult, IfOk, IfSome};
-ghost use Rattle.std.specs.Option.{option_map};
+ghost use Rattle.std.specs.Prelude.{◌≡◌, ◌≤◌, ◌∷◌, false, None, Some, Ok, Err, MatchOption, MatchResult, IfOk, IfSome};
 ghost use Rattle.vol_layout.specs.Geometry.{Fits};
 ghost use Rattle.vol_file.specs.Rules.{kind_at, HasSoundFiles};
 ghost use Rattle.vol_dir.specs.Tree.{tree};
 ghost use Rattle.vol_dir.specs.Names.{names_of};
 ghost use Rattle.vol_dir.specs.Entries.{slots, IsDirectory, HasEntries, IsInUse};
-ghost use Rattle.vol_dir.specs.Walk.{search, find_in, walk, walk_parent};
+ghost use Rattle.vol_dir.specs.Walk.{components, has_zero, IsComponent, search, find_in, walk, parent_over, walk_parent};
 
 use crate::access::{Access, grants};
 use crate::cred::Cred;
@@ -40,6 +39,63 @@ pub fn walk(
         rest = after;
     }
     Ok(i)
+}
+
+/// The parent directory that a path leads to, and the path's last component, cut to 14 bytes; None for
+/// a path without component. The walk goes over all components but the last, and is refused as that of
+/// [`walk`]; then NotDirectory where the parent is no directory, and Access where it doesn't grant
+/// execute (Lions on namei).
+///
+/// Costs for each component but the last what [`find`] costs.
+pub fn walk_parent<'a>(
+    image: &Image,
+    geometry: &Geometry,
+    cred: Cred,
+    path: &'a [u8],
+) -> Option<Result<(u16, &'a [u8]), Refusal>>
+    requires sound { HasSoundFiles geometry.now image.now }
+    requires entries { HasEntries geometry.now image.now }
+    ensures exact { let walked = walk_parent (tree geometry.now image.now) cred path.now in
+        MatchOption result (walked ≡ None) (λ parent. MatchResult parent
+        (λ found. walked ≡ Some (Ok (found.0, found.1.now))) (λ refusal. walked ≡ Some (Err refusal))) }
+    ensures directory { IfSome result (λ parent. IfOk parent (λ found. IsDirectory geometry.now image.now found.0)) }
+    ensures component { IfSome result (λ parent. IfOk parent (λ found. IsComponent found.1.now)) }
+    ensures nonzero { has_zero path.now ≡ false
+        → IfSome result (λ parent. IfOk parent (λ found. has_zero found.1.now ≡ false)) }
+{
+    let (first, rest) = split_component(path)?;
+    Some(parent_from(image, geometry, cred, first, rest))
+}
+
+/// The parent to which component `first`, and then those of `rest`, lead from the root, and the last
+/// of them.
+fn parent_from<'a>(
+    image: &Image,
+    geometry: &Geometry,
+    cred: Cred,
+    first: &'a [u8],
+    rest: &'a [u8],
+) -> Result<(u16, &'a [u8]), Refusal>
+    requires sound { HasSoundFiles geometry.now image.now }
+    requires entries { HasEntries geometry.now image.now }
+    requires component { IsComponent first.now }
+    ensures exact { let walked = parent_over (tree geometry.now image.now) cred (first.now ∷ components rest.now) in
+        MatchResult result (λ found. walked ≡ Some (Ok (found.0, found.1.now))) (λ refusal. walked ≡ Some (Err refusal)) }
+    ensures directory { IfOk result (λ found. IsDirectory geometry.now image.now found.0) }
+    ensures component { IfOk result (λ found. IsComponent found.1.now) }
+    ensures nonzero { has_zero first.now ≡ false → has_zero rest.now ≡ false
+        → IfOk result (λ found. has_zero found.1.now ≡ false) }
+{
+    let mut i = geometry.edition.constants().root;
+    let mut name = first;
+    let mut rest = rest;
+    while let Some((next, after)) = split_component(rest) {
+        i = step(image, geometry, cred, i, name)?;
+        name = next;
+        rest = after;
+    }
+    search(image, geometry, cred, i)?;
+    Ok((i, name))
 }
 
 /// The i-number to which one name leads from i-node `i`.

@@ -1,6 +1,6 @@
 use Rattle.std.proofs.Common.{◌≡◌, ◌<◌, length, arith}
 use Rattle.std.proofs.lemmas.Bool.Decides.{nat_tests}
-use Rattle.vol_dir.proofs.Components.{components-none, name_begins, components-split}
+use Rattle.vol_dir.proofs.Components.{components-none, name_begins, components-split, IsComponent-split, nonzero-split}
 use Rattle.vol_dir.proofs.paths.split_component.Goals as goal
 
 pub returns-then-is_empty-clause-parts : goal.returns-then-is_empty-clause-parts
@@ -22,3 +22,15 @@ returns-clause-shorter c =
     let some : 0 < c.first_slash.result = name_begins c.args.path.now c.split_at.result.1.now c.leading_slashes.result
     c.first_slash.result c.leading_slashes.ensures.place c.split_at.ensures.back full c.first_slash.ensures.place in
     omega arith
+
+pub returns-clause-component : goal.returns-clause-component
+returns-clause-component c =
+    let full : 0 < length c.split_at.result.1.now = grind (arith, nat_tests) in
+    IsComponent-split c.args.path.now c.split_at.result.1.now c.split_at-2.result.0.now c.leading_slashes.result
+    c.first_slash.result c.min.result c.leading_slashes.ensures.place c.split_at.ensures.back full
+    c.first_slash.ensures.place c.split_at-2.ensures.front c.min.ensures
+
+pub returns-clause-nonzero : goal.returns-clause-nonzero
+returns-clause-nonzero c =
+    nonzero-split c.args.path.now c.split_at.result.1.now c.split_at-2.result.0.now c.split_at-2.result.1.now
+    c.leading_slashes.result c.first_slash.result c.min.result c.split_at.ensures.back c.split_at-2.ensures.front c.split_at-2.ensures.back

@@ -76,15 +76,21 @@ node-at geometry image i low high =
     let number : is_number geometry i ≡ true = grind (arith, nat_tests) in
     ap (λ b. cond b (node_of geometry image i) None) number
 
+-- what a search of a node, if there is one, gives
+abbrev searched : Cred → Option Node → Result Names Refusal
+searched cred node = option_map_or (search_node cred) node (Err refusals.NotDirectory)
+
+-- another number stands for nothing, and isn't searched
+pub search-outside : (geometry : Geometry) (image : List ℕ) (cred : Cred) (i : ℕ) → is_number geometry i ≡ false
+    → search (tree geometry image) cred i ≡ Err refusals.NotDirectory
+unfolding tree
+search-outside geometry image cred i number = ap (λ b. searched cred (cond b (node_of geometry image i) None)) number
+
 -- what an i-node of a kind reads as
 node-of-kind : (geometry : Geometry) (image : List ℕ) (i : ℕ) (kind : Kind) → kind_at geometry image i ≡ kind
     → node_of geometry image i ≡ option_map (node_with (inode_of geometry.edition image i)) (content_of geometry image i kind)
 unfolding node_of
 node-of-kind geometry image i kind e = ap (λ k. option_map (node_with (inode_of geometry.edition image i)) (content_of geometry image i k)) e
-
--- what a search of a node, if there is one, gives
-abbrev searched : Cred → Option Node → Result Names Refusal
-searched cred node = option_map_or (search_node cred) node (Err refusals.NotDirectory)
 
 -- a directory is searched where it grants execute
 pub search-directory : (geometry : Geometry) (image : List ℕ) (cred : Cred) (i : ℕ) (b : Bool) → IsDirectory geometry image i

@@ -27,10 +27,10 @@ pub fn walk(
     cred: Cred,
     path: &[u8],
 ) -> Result<u16, Refusal>
-    requires sound { HasSoundFiles geometry.now image.now }
-    requires entries { HasEntries geometry.now image.now }
+    requires { Fits geometry.now image.now }
     ensures exact { result ≡ walk (tree geometry.now image.now) cred path.now }
-    ensures used { IfOk result (λ i. IsInUse geometry.now image.now i) }
+    ensures used { HasSoundFiles geometry.now image.now → HasEntries geometry.now image.now
+        → IfOk result (λ i. IsInUse geometry.now image.now i) }
 {
     let mut i = geometry.edition.constants().root;
     let mut rest = path;
@@ -53,8 +53,7 @@ pub fn walk_parent<'a>(
     cred: Cred,
     path: &'a [u8],
 ) -> Option<Result<(u16, &'a [u8]), Refusal>>
-    requires sound { HasSoundFiles geometry.now image.now }
-    requires entries { HasEntries geometry.now image.now }
+    requires { Fits geometry.now image.now }
     ensures exact { let walked = walk_parent (tree geometry.now image.now) cred path.now in
         MatchOption result (walked ≡ None) (λ parent. MatchResult parent
         (λ found. walked ≡ Some (Ok (found.0, found.1.now))) (λ refusal. walked ≡ Some (Err refusal))) }
@@ -76,8 +75,7 @@ fn parent_from<'a>(
     first: &'a [u8],
     rest: &'a [u8],
 ) -> Result<(u16, &'a [u8]), Refusal>
-    requires sound { HasSoundFiles geometry.now image.now }
-    requires entries { HasEntries geometry.now image.now }
+    requires fits { Fits geometry.now image.now }
     requires component { IsComponent first.now }
     ensures exact { let walked = parent_over (tree geometry.now image.now) cred (first.now ∷ components rest.now) in
         MatchResult result (λ found. walked ≡ Some (Ok (found.0, found.1.now))) (λ refusal. walked ≡ Some (Err refusal)) }
@@ -106,27 +104,25 @@ fn step(
     i: u16,
     name: &[u8],
 ) -> Result<u16, Refusal>
-    requires fits { Fits geometry.now image.now }
-    requires entries { HasEntries geometry.now image.now }
-    requires first { 1 ≤ i }
-    requires last { i ≤ geometry.now.last_inode }
+    requires { Fits geometry.now image.now }
     ensures exact { result ≡ find_in (tree geometry.now image.now) cred i name.now }
-    ensures used { IfOk result (λ j. IsInUse geometry.now image.now j) }
+    ensures used { HasEntries geometry.now image.now → IfOk result (λ j. IsInUse geometry.now image.now j) }
 {
     search(image, geometry, cred, i)?;
     find(image, geometry, i, name).ok_or(Refusal::NoEntry)
 }
 
-/// Whether i-node `i` is a directory that may be searched; else why not.
+/// Whether i-number `i` is that of a directory that may be searched; else why not.
 fn search(image: &Image, geometry: &Geometry, cred: Cred, i: u16) -> Result<(), Refusal>
-    requires fits { Fits geometry.now image.now }
-    requires first { 1 ≤ i }
-    requires last { i ≤ geometry.now.last_inode }
+    requires { Fits geometry.now image.now }
     ensures exact { MatchResult result
         (λ _. search (tree geometry.now image.now) cred i ≡ Ok (names_of (slots geometry.now image.now i)))
         (λ refusal. search (tree geometry.now image.now) cred i ≡ Err refusal) }
     ensures directory { IfOk result (λ _. IsDirectory geometry.now image.now i) }
 {
+    if i == 0 || geometry.last_inode < i {
+        return Err(Refusal::NotDirectory);
+    }
     match kind(image, geometry, i) {
         Kind::Directory if grants(image, geometry, i, Access::Execute, cred) => Ok(()),
         Kind::Directory => Err(Refusal::Access),

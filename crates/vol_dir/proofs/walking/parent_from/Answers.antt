@@ -1,5 +1,4 @@
 use Rattle.vol_dir.specs.Walk.{components}
-use Rattle.vol_dir.proofs.WalkLaws.{IsInUse-root}
 use Rattle.vol_dir.proofs.ParentLaws.{parent-begins}
 use Rattle.vol_dir.proofs.walking.parent_from.Goals as goal
 
@@ -10,7 +9,6 @@ loop-next-init c =
     rw c.constants-i.ensures
     (record {
       whole = parent-begins geometry image c.args.cred c.args.first.now (components c.args.rest.now);
-      used = IsInUse-root geometry image c.requires.sound;
       component = c.requires.component;
       nonzero = λ first rest. (first, rest);
     })

@@ -1,7 +1,6 @@
 use Rattle.std.proofs.Common.{◌≡◌, false, length}
 use Rattle.std.specs.Prelude.{◌∷◌, Some}
 use Rattle.vol_dir.specs.Tree.{tree}
-use Rattle.vol_dir.specs.Entries.{IsInUse}
 use Rattle.vol_dir.specs.Walk.{components, has_zero, IsComponent, parent_over}
 use Rattle.vol_dir.proofs.ParentLaws.{parent_walk}
 use Rattle.vol_dir.proofs.walking.parent_from.Given as goal
@@ -10,7 +9,6 @@ use Rattle.vol_dir.proofs.walking.parent_from.Given as goal
 abbrev pub invariant-loop-next : goal.invariant-loop-next
 invariant-loop-next l = record {
   whole : parent_over (tree l.fn.geometry l.fn.image) l.fn.cred (l.fn.first ∷ components l.fn.rest) ≡ Some (parent_walk (tree l.geometry l.image) l.cred l.i l.name (components l.rest));
-  used : IsInUse l.geometry l.image l.i;
   component : IsComponent l.name;
   nonzero : has_zero l.fn.first ≡ false → has_zero l.fn.rest ≡ false → (has_zero l.name ≡ false) × (has_zero l.rest ≡ false);
 }

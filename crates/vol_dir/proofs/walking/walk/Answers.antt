@@ -7,4 +7,4 @@ loop-name-init c =
     let geometry = c.args.geometry.now in
     let image = c.args.image.now in
     rw c.constants-i.ensures
-    (record { whole = walk-begins geometry image c.args.cred c.args.path.now; used = IsInUse-root geometry image c.requires.sound })
+    (record { whole = walk-begins geometry image c.args.cred c.args.path.now; used = λ sound entries. IsInUse-root geometry image sound })

@@ -1,6 +1,7 @@
 use Rattle.std.proofs.Common.{◌≡◌, length}
+use Rattle.vol_file.specs.Rules.{HasSoundFiles}
 use Rattle.vol_dir.specs.Tree.{tree}
-use Rattle.vol_dir.specs.Entries.{IsInUse}
+use Rattle.vol_dir.specs.Entries.{HasEntries, IsInUse}
 use Rattle.vol_dir.specs.Walk.{components, walk_from, walk}
 use Rattle.vol_dir.proofs.walking.walk.Given as goal
 
@@ -8,7 +9,7 @@ use Rattle.vol_dir.proofs.walking.walk.Given as goal
 abbrev pub invariant-loop-name : goal.invariant-loop-name
 invariant-loop-name l = record {
   whole : walk_from (tree l.geometry l.image) l.cred l.i (components l.rest) ≡ walk (tree l.geometry l.image) l.cred l.path;
-  used : IsInUse l.geometry l.image l.i;
+  used : HasSoundFiles l.geometry l.image → HasEntries l.geometry l.image → IsInUse l.geometry l.image l.i;
 }
 
 abbrev pub decreases-loop-name : goal.decreases-loop-name

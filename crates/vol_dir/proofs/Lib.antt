@@ -1,0 +1,2 @@
+pub mod NameMaps
+pub mod SlotReading

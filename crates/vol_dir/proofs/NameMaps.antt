@@ -1,19 +1,17 @@
 -- Laws of the map of a directory's names: what it answers, and what a new or removed entry makes of it.
-use Rattle.std.proofs.Common.{◌≡◌, ◌∙◌, sym, ap, subst, refl, ℕ, zero, suc, ◌+◌, ◌<◌, ◌≤◌, Bool, true, false, cond, not, ◌||◌, List, [], ◌∷◌, ◌++◌, map, length, take, drop, get_or, None, Some, arith}
+use Rattle.std.proofs.Common.{◌≡◌, ◌∙◌, sym, ap, subst, refl, ℕ, zero, suc, ◌<◌, Bool, true, false, cond, not, ◌||◌, List, [], ◌∷◌, length, get_or, None, Some, arith}
 use Rattle.std.specs.Prelude.{Option, T}
-use Rattle.std.specs.List.{list_any, filter_map}
+use Rattle.std.specs.List.{list_any}
 use Rattle.std.specs.Option.{option_map}
 use Rattle.std.specs.Str.{bytes_eq}
-use Rattle.std.specs.Ordering.{nat_cmp, eq_by_cmp}
-use Rattle.std.specs.declared.cmp.Ordering.{Ordering}
+use Rattle.std.specs.Ordering.{nat_cmp}
 use Rattle.std.specs.declared.cmp.Ordering.TheVariants.{Less, Equal, Greater}
 use Rattle.std.specs.Cmp.Lexicographic.{slice_cmp}
-use Rattle.std.specs.FinMap.Entries.{by_order, put, find, where_key, is_sorted, find-put, is_sorted-put, find-where_key, is_sorted-where_key, same_entries}
+use Rattle.std.specs.FinMap.Entries.{by_order, put, is_sorted, find-put, is_sorted-put}
 use Rattle.std.proofs.lemmas.Cmp.{nat_list_cmp_total}
-use Rattle.std.proofs.lemmas.Bool.{or_parts}
 use Rattle.std.proofs.lemmas.Map.Lookups.{exact_bytes}
 use Rattle.std.proofs.lemmas.Map.Text.{is_eq-slice_cmp}
-use Rattle.vol_dir.specs.Names.{Names, get, insert, remove, names_of}
+use Rattle.vol_dir.specs.Names.{Names, get, insert, names_of}
 use Rattle.vol_dir.specs.Searching.{is_dots, holds, holds_other}
 
 -- a name that is put in a map is found there, and every other name as before
@@ -69,6 +67,7 @@ any_put test name i (e ∷ es) =
     same_or : (a b c : Bool) → a ≡ b → (b || c) ≡ (a || (b || c))
     same_or true b c e = ap (λ x. x || c) (sym e)
     same_or false b c e = refl
+
     or_turned : (a b c : Bool) → (a || (b || c)) ≡ (b || (a || c))
     or_turned true true c = refl
     or_turned true false c = refl

@@ -1,20 +1,21 @@
 -- Laws of the slots of a directory: what they are, read from the body or from a block.
-use Rattle.std.proofs.Common.{◌≡◌, ℕ, ◌+◌, ◌-◌, ◌*◌, ◌/◌, ◌<◌, ◌≤◌, ◌∙◌, sym, ap, refl, List, length, get_or, true, false, if◌then◌else◌, eqb, ltb, None, Some, arith}
-use Rattle.std.specs.Prelude.{Option}
+use Rattle.std.proofs.Common.{◌≡◌, ℕ, ◌+◌, ◌-◌, ◌*◌, ◌<◌, ◌≤◌, ◌∙◌, sym, ap, subst, refl, inl, inr, take, List, length, get_or, true, false, if◌then◌else◌, eqb, None, Some, arith}
+use Rattle.std.specs.Prelude.{Option, min, slice_range}
 use Rattle.std.specs.Option.{unwrap_or, is_some}
-use Rattle.std.proofs.lemmas.Bool.{lt-ltb, le-ltb, eqb-true, true≢false, false_from_ne_true}
+use Rattle.std.proofs.lemmas.Bool.{cases_lt, lt-ltb, le-ltb, eqb-true, true≢false, false_from_ne_true}
+use Rattle.std.proofs.lemmas.List.{get_or-take, get_or_past}
+use Rattle.std.proofs.lemmas.List.FromFn.{length-map-range_with_len, get_or-map-range_with_len}
 use Rattle.pdp_words.specs.Words.{word}
 use Rattle.vol_layout.specs.Geometry.{in_zone, Fits}
-use Rattle.vol_layout.specs.Names.{form_at, stored, block_named}
+use Rattle.vol_layout.specs.Names.{form_at, stored}
 use Rattle.vol_layout.specs.Body.{zone_byte, body_byte, body_size, body}
 use Rattle.vol_layout.specs.Slot.{slot_at, name_of}
-use Rattle.vol_layout.proofs.BodyLaws.{length-body, get_or-body, body_byte_at, zone_byte_in, zone_byte_out, zone_bounds, zone_room}
-use Rattle.vol_layout.proofs.CopyLaws.{IsCopy}
+use Rattle.vol_layout.proofs.BodyLaws.{length-body, get_or-slice_range, get_or-body, body_byte_at, zone_byte_in, zone_byte_out, zone_bounds, zone_room}
 use Rattle.vol_layout.proofs.SlotLaws.{slot_copied}
 use Rattle.vol_layout.specs.declared.geometry.Geometry.{Geometry}
 use Rattle.vol_layout.specs.declared.slot.Slot.{Slot}
 use Rattle.vol_dir.specs.declared.entries.Sought.{Sought}
-use Rattle.vol_dir.specs.Entries.{entry_in, slot_count, entry_at}
+use Rattle.vol_dir.specs.Entries.{entry_in, slot_count, entry_at, slots}
 use Rattle.vol_dir.specs.Searching.{is_sought, Searches, IsNumberOf}
 
 -- the entry in a slot of the directory
@@ -98,3 +99,38 @@ searches_same sought f g n (Some s) same search = record {
   found = ap (is_sought sought) (same s search.within) ∙ search.found;
   before = λ t h. ap (is_sought sought) (same t (omega (arith, search.within))) ∙ search.before t h;
 }
+
+-- the number of an entry, from the bytes of its slot that were read
+pub number_read : (geometry : Geometry) (image buffer : List ℕ) (d s n : ℕ) → s < slot_count geometry image d
+    → n ≡ min 16 (body_size geometry image d - 16 * s) → take n buffer ≡ slice_range (body geometry image d) (16 * s) (16 * s + n)
+    → IsNumberOf (entry_at geometry image d s) (word buffer 0)
+number_read geometry image buffer d s n within is read =
+    let all : n ≡ 16 = omega arith in
+    let byte : (r m : ℕ) → r < 16 → 16 * s + r ≡ m → get_or buffer r 0 ≡ get_or (body geometry image d) m 0 =
+    λ r m h e. sym (get_or-take n buffer r 0 (omega arith))
+    ∙ (ap (λ xs. get_or xs r 0) read ∙ (get_or-slice_range (body geometry image d) (16 * s) n r (omega arith) ∙ ap (λ x. get_or (body geometry image d) x 0) e)) in
+    let low : get_or buffer 0 0 ≡ get_or (body geometry image d) (16 * s) 0 = byte 0 (16 * s) (omega arith) (omega arith) in
+    let high : get_or buffer 1 0 ≡ get_or (body geometry image d) (16 * s + 1) 0 = byte 1 (16 * s + 1) (omega arith) (omega arith) in
+    let same : word buffer 0 ≡ word (body geometry image d) (16 * s) = omega (arith, low, high) in
+    subst (IsNumberOf (entry_at geometry image d s)) (sym same)
+    (subst (λ e. IsNumberOf e (word (body geometry image d) (16 * s))) (sym (entry_at_in geometry image d s within))
+    (number_of_slot (slot_at (body geometry image d) (16 * s))))
+
+-- there are as many entries in the list as there are slots
+pub length-slots : (geometry : Geometry) (image : List ℕ) (d : ℕ) → length (slots geometry image d) ≡ slot_count geometry image d
+unfolding slots
+length-slots geometry image d = length-map-range_with_len (entry_at geometry image d) 0 (slot_count geometry image d)
+
+-- entry s of the list
+pub get_or-slots : (geometry : Geometry) (image : List ℕ) (d s : ℕ) → s < slot_count geometry image d
+    → get_or (slots geometry image d) s None ≡ entry_at geometry image d s
+unfolding slots
+get_or-slots geometry image d s h =
+    get_or-map-range_with_len (entry_at geometry image d) 0 (slot_count geometry image d) s s None h (omega arith)
+
+-- entry s of the list, also past its end
+pub slot_is : (geometry : Geometry) (image : List ℕ) (d s : ℕ) → get_or (slots geometry image d) s None ≡ entry_at geometry image d s
+slot_is geometry image d s = elim (cases_lt s (slot_count geometry image d)) [
+  | inl h ↦ get_or-slots geometry image d s h
+  | inr h ↦ get_or_past (slots geometry image d) s None (let len = length-slots geometry image d in omega arith) ∙ sym (entry_at_past geometry image d s h)
+]

@@ -167,8 +167,7 @@ pub fn place_for(image: &Image, geometry: &Geometry, dir: u16) -> u32
     requires last { dir ≤ geometry.now.last_inode }
     ensures { result ≡ 16 * new_slot (names_in (slots geometry.now image.now dir)) }
 {
-    16 * first_slot(image, geometry, dir, Sought::Empty)
-        .unwrap_or(slot_count(image, geometry, dir))
+    16 * first_slot(image, geometry, dir, Sought::Empty).unwrap_or(slot_count(image, geometry, dir))
 }
 
 /// Whether directory `dir` has no entries but `.` and `..`.

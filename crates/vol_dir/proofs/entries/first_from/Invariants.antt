@@ -1,4 +1,4 @@
-use Rattle.std.proofs.Common.{ℕ, ◌+◌, ◌*◌}
+use Rattle.std.proofs.Common.{◌+◌, ◌*◌}
 use Rattle.vol_layout.specs.Slot.{slot_at}
 use Rattle.vol_dir.specs.Entries.{entry_in}
 use Rattle.vol_dir.specs.Searching.{IsMissing}

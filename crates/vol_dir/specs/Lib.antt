@@ -3,5 +3,6 @@ pub mod Entries
 pub mod Names
 pub mod PathLaws
 pub mod Refusals
+pub mod Searching
 pub mod Tree
 pub mod Walk

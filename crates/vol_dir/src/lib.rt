@@ -11,7 +11,7 @@ pub mod walking;
 
 pub use access::{Access, grants};
 pub use cred::Cred;
-pub use entries::find;
+pub use entries::{find, is_empty_dir, place_for};
 pub use paths::split_component;
 pub use refusal::Refusal;
 pub use walking::{walk, walk_parent};

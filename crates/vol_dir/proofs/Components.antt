@@ -1,5 +1,5 @@
 -- Lemmas on the components of a path.
-use Rattle.std.proofs.Common.{◌≡◌, ℕ, ◌+◌, ◌<◌, ◌≤◌, Bool, true, false, cond, eqb, List, [], ◌∷◌, map, take, drop, length, min, refl, suc, zero, ap, sym, ◌∙◌, subst, arith}
+use Rattle.std.proofs.Common.{◌≡◌, ℕ, ◌+◌, ◌<◌, Bool, true, false, cond, eqb, List, [], ◌∷◌, map, take, drop, length, min, refl, suc, zero, ap, sym, ◌∙◌, subst, arith}
 use Rattle.std.specs.Prelude.{not, ◌||◌, filter}
 use Rattle.std.specs.List.{position_or_len, list_any}
 use Rattle.std.proofs.Math.Nat.{min_comm}
@@ -159,6 +159,7 @@ IsComponent-split path named front k n m at is full stop before cut =
 pub nonzero-split : (path named front rest : List ℕ) (k n m : ℕ) → named ≡ drop k path → front ≡ take n named → rest ≡ drop n named
     → has_zero path ≡ false → (has_zero (take m front) ≡ false) × (has_zero rest ≡ false)
 nonzero-split path named front rest k n m is before after e =
-    let behind : has_zero named ≡ false = ap has_zero is ∙ list_any-drop (λ c. eqb c 0) k path e in
-    (list_any-take (λ c. eqb c 0) m front (ap has_zero before ∙ list_any-take (λ c. eqb c 0) n named behind),
-    ap has_zero after ∙ list_any-drop (λ c. eqb c 0) n named behind)
+    let behind : has_zero named ≡ false = ap has_zero is ∙ list_any-drop (λ c. eqb c 0) k path e in (
+      list_any-take (λ c. eqb c 0) m front (ap has_zero before ∙ list_any-take (λ c. eqb c 0) n named behind),
+      ap has_zero after ∙ list_any-drop (λ c. eqb c 0) n named behind,
+    )

@@ -1,11 +1,10 @@
 -- Lemmas on walks to the parent.
-use Rattle.std.proofs.Common.{◌≡◌, ℕ, List, [], ◌∷◌, Option, None, Some, Result, Ok, Err, refl, ap, sym, ◌∙◌}
+use Rattle.std.proofs.Common.{◌≡◌, ℕ, List, [], ◌∷◌, Some, Result, Ok, Err, refl, ap}
 use Rattle.std.specs.Option.{option_map}
-use Rattle.std.proofs.lemmas.Option.{same_Some}
 use Rattle.vol_layout.specs.Edition.{constants}
 use Rattle.vol_layout.specs.declared.geometry.Geometry.{Geometry}
 use Rattle.vol_dir.specs.Tree.{Tree, tree}
-use Rattle.vol_dir.specs.Walk.{root, components, search, and_then, find_in, walk_from, split_last, parent_over, walk_parent}
+use Rattle.vol_dir.specs.Walk.{components, search, and_then, find_in, walk_from, split_last, parent_over, walk_parent}
 use Rattle.vol_dir.specs.declared.cred.Cred.{Cred}
 use Rattle.vol_dir.specs.declared.refusal.Refusal.{Refusal}
 

@@ -1,18 +1,16 @@
 -- Lemmas on walks.
-use Rattle.std.proofs.Common.{◌≡◌, ◌≢◌, ℕ, ◌≤◌, Bool, true, false, cond, leb, List, [], ◌∷◌, map, Option, None, Some, Result, Ok, Err, refl, ap, sym, subst, ◌∙◌, arith}
-use Rattle.std.specs.Prelude.{IfOk, ◌&&◌, nat_le, if◌then◌else◌}
+use Rattle.std.proofs.Common.{◌≡◌, ◌≢◌, ℕ, ◌≤◌, Bool, true, false, cond, List, [], ◌∷◌, map, Option, None, Some, Result, Ok, Err, refl, ap, sym, subst, ◌∙◌, arith}
+use Rattle.std.specs.Prelude.{IfOk, if◌then◌else◌}
 use Rattle.std.specs.Option.{ok_or, option_map, option_map_or}
 use Rattle.std.proofs.lemmas.Bool.Decides.{nat_tests}
 use Rattle.std.specs.FinMap.Entries.{find-put}
 use Rattle.std.specs.Cmp.Lexicographic.{slice_cmp}
 use Rattle.std.specs.Ordering.{nat_cmp, eq_by_cmp}
 use Rattle.std.proofs.lemmas.Cmp.{nat_list_cmp_total}
-use Rattle.std.proofs.lemmas.Bool.{le-leb}
 use Rattle.vol_layout.specs.Edition.{constants}
-use Rattle.vol_layout.specs.Inode.{inode_of, kind_of}
-use Rattle.vol_layout.specs.Names.{mode_of}
+use Rattle.vol_layout.specs.Inode.{inode_of}
 use Rattle.vol_file.specs.Rules.{kind_at, HasSoundFiles}
-use Rattle.vol_dir.specs.Entries.{entry_at, slot_count, slots, IsDirectory, HasEntry, HasEntries, IsInUse}
+use Rattle.vol_dir.specs.Entries.{entry_at, slots, IsDirectory, HasEntries, IsInUse}
 use Rattle.vol_dir.specs.Names.{Names, get, names_of}
 use Rattle.vol_dir.specs.Tree.{is_number, node_of, node_with, content_of, tree, Node, Tree}
 use Rattle.vol_dir.specs.Access.{may_execute, grants_at}

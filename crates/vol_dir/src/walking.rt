@@ -21,12 +21,7 @@ use vol_layout::{Geometry, Kind};
 /// Access where it doesn't grant execute, NoEntry where it doesn't have the name (Lions on namei).
 ///
 /// Costs for each component what [`find`] costs.
-pub fn walk(
-    image: &Image,
-    geometry: &Geometry,
-    cred: Cred,
-    path: &[u8],
-) -> Result<u16, Refusal>
+pub fn walk(image: &Image, geometry: &Geometry, cred: Cred, path: &[u8]) -> Result<u16, Refusal>
     requires { Fits geometry.now image.now }
     ensures exact { result ≡ walk (tree geometry.now image.now) cred path.now }
     ensures used { HasSoundFiles geometry.now image.now → HasEntries geometry.now image.now
@@ -97,13 +92,7 @@ fn parent_from<'a>(
 }
 
 /// The i-number to which one name leads from i-node `i`.
-fn step(
-    image: &Image,
-    geometry: &Geometry,
-    cred: Cred,
-    i: u16,
-    name: &[u8],
-) -> Result<u16, Refusal>
+fn step(image: &Image, geometry: &Geometry, cred: Cred, i: u16, name: &[u8]) -> Result<u16, Refusal>
     requires { Fits geometry.now image.now }
     ensures exact { result ≡ find_in (tree geometry.now image.now) cred i name.now }
     ensures used { HasEntries geometry.now image.now → IfOk result (λ j. IsInUse geometry.now image.now j) }
@@ -112,7 +101,7 @@ fn step(
     find(image, geometry, i, name).ok_or(Refusal::NoEntry)
 }
 
-/// Whether i-number `i` is that of a directory that may be searched; else why not.
+/// Whether `i` is the i-number of a directory that may be searched; else why not.
 fn search(image: &Image, geometry: &Geometry, cred: Cred, i: u16) -> Result<(), Refusal>
     requires { Fits geometry.now image.now }
     ensures exact { MatchResult result
@@ -120,9 +109,23 @@ fn search(image: &Image, geometry: &Geometry, cred: Cred, i: u16) -> Result<(), 
         (λ refusal. search (tree geometry.now image.now) cred i ≡ Err refusal) }
     ensures directory { IfOk result (λ _. IsDirectory geometry.now image.now i) }
 {
-    if i == 0 || geometry.last_inode < i {
-        return Err(Refusal::NotDirectory);
+    if 1 <= i && i <= geometry.last_inode {
+        search_node(image, geometry, cred, i)
+    } else {
+        Err(Refusal::NotDirectory)
     }
+}
+
+/// Whether i-node `i` is a directory that may be searched; else why not.
+fn search_node(image: &Image, geometry: &Geometry, cred: Cred, i: u16) -> Result<(), Refusal>
+    requires fits { Fits geometry.now image.now }
+    requires first { 1 ≤ i }
+    requires last { i ≤ geometry.now.last_inode }
+    ensures exact { MatchResult result
+        (λ _. search (tree geometry.now image.now) cred i ≡ Ok (names_of (slots geometry.now image.now i)))
+        (λ refusal. search (tree geometry.now image.now) cred i ≡ Err refusal) }
+    ensures directory { IfOk result (λ _. IsDirectory geometry.now image.now i) }
+{
     match kind(image, geometry, i) {
         Kind::Directory if grants(image, geometry, i, Access::Execute, cred) => Ok(()),
         Kind::Directory => Err(Refusal::Access),

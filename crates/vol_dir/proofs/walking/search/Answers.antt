@@ -1,27 +1,14 @@
-use Rattle.std.proofs.Common.{◌≡◌, sym, ◌∙◌, true, false, arith}
+use Rattle.std.proofs.Common.{◌≡◌, false, arith}
+use Rattle.std.proofs.lemmas.Bool.Decides.{nat_tests}
 use Rattle.vol_dir.specs.Tree.{is_number}
-use Rattle.vol_dir.specs.Entries.{IsDirectory}
-use Rattle.vol_dir.proofs.WalkLaws.{search-outside, search-directory, search-other}
+use Rattle.vol_dir.proofs.WalkLaws.{search-outside}
 use Rattle.vol_dir.proofs.walking.search.Goals as goal
+use Rattle.vol_dir.proofs.walking.search.Goals.{else-i-ge1-via-then-i-ge1+else-i-geometry, else-i-ge1-via-else-i-ge1}
 
-pub returns-in-Directory-clause-exact : goal.returns-in-Directory-clause-exact
-returns-in-Directory-clause-exact c =
-    let directory : IsDirectory c.args.geometry.now c.args.image.now c.args.i =
-    record { first = omega arith; last = omega arith; kind = sym c.in-Directory.ensures } in
-    search-directory c.args.geometry.now c.args.image.now c.args.cred c.args.i true directory (sym c.grants.ensures.stored ∙ c.if-grants.true)
-
-pub returns-in-Directory-2-clause-exact : goal.returns-in-Directory-2-clause-exact
-returns-in-Directory-2-clause-exact c =
-    let directory : IsDirectory c.args.geometry.now c.args.image.now c.args.i =
-    record { first = omega arith; last = omega arith; kind = sym c.in-Directory.ensures } in
-    search-directory c.args.geometry.now c.args.image.now c.args.cred c.args.i false directory (sym c.grants.ensures.stored ∙ c.if-grants.false)
-
-pub returns-in_default-clause-exact : goal.returns-in_default-clause-exact
-returns-in_default-clause-exact c =
-    search-other c.args.geometry.now c.args.image.now c.args.cred c.args.i (omega arith) (omega arith)
-    (λ e. c.in_default.not-Directory (c.kind.ensures ∙ e))
-
-pub returns-then-i-eq0-clause-exact : goal.returns-then-i-eq0-clause-exact
-returns-then-i-eq0-clause-exact c =
-    let number : is_number c.args.geometry.now c.args.i ≡ false = ? in
+pub returns-else-i-ge1-clause-exact : goal.returns-else-i-ge1-clause-exact
+returns-else-i-ge1-clause-exact c =
+    let number : is_number c.args.geometry.now c.args.i ≡ false = elim c.else-i-ge1.branch [
+      | else-i-ge1-via-then-i-ge1+else-i-geometry w ↦ grind (arith, nat_tests)
+      | else-i-ge1-via-else-i-ge1 w ↦ grind (arith, nat_tests)
+    ] in
     search-outside c.args.geometry.now c.args.image.now c.args.cred c.args.i number

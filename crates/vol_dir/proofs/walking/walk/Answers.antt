@@ -1,4 +1,3 @@
-use Rattle.std.proofs.Common.{sym, ap, subst}
 use Rattle.vol_dir.proofs.WalkLaws.{IsInUse-root, walk-begins}
 use Rattle.vol_dir.proofs.walking.walk.Goals as goal
 

@@ -51,3 +51,6 @@ fn first_slash(path: &[u8]) -> usize
     }
     path.len()
 }
+
+#[cfg(test)]
+mod tests;

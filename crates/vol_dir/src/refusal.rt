@@ -76,3 +76,6 @@ impl Refusal {
         }
     }
 }
+
+#[cfg(test)]
+mod tests;

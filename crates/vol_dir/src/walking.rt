@@ -79,16 +79,16 @@ fn parent_from<'a>(
     ensures nonzero { has_zero first.now ≡ false → has_zero rest.now ≡ false
         → IfOk result (λ found. has_zero found.1.now ≡ false) }
 {
-    let mut i = geometry.edition.constants().root;
+    let mut dir = geometry.edition.constants().root;
     let mut name = first;
     let mut rest = rest;
     while let Some((next, after)) = split_component(rest) {
-        i = step(image, geometry, cred, i, name)?;
+        dir = step(image, geometry, cred, dir, name)?;
         name = next;
         rest = after;
     }
-    search(image, geometry, cred, i)?;
-    Ok((i, name))
+    search(image, geometry, cred, dir)?;
+    Ok((dir, name))
 }
 
 /// The i-number to which one name leads from i-node `i`.

@@ -6,7 +6,7 @@ pub loop-next-init : goal.loop-next-init
 loop-next-init c =
     let geometry = c.args.geometry.now in
     let image = c.args.image.now in
-    rw c.constants-i.ensures
+    rw c.constants-dir.ensures
     (record {
       whole = parent-begins geometry image c.args.cred c.args.first.now (components c.args.rest.now);
       component = c.requires.component;

@@ -8,7 +8,7 @@ use Rattle.vol_dir.proofs.walking.parent_from.Given as goal
 -- a walk over the name at hand and the rest from here is the whole walk
 abbrev pub invariant-loop-next : goal.invariant-loop-next
 invariant-loop-next l = record {
-  whole : parent_over (tree l.fn.geometry l.fn.image) l.fn.cred (l.fn.first ∷ components l.fn.rest) ≡ Some (parent_walk (tree l.geometry l.image) l.cred l.i l.name (components l.rest));
+  whole : parent_over (tree l.fn.geometry l.fn.image) l.fn.cred (l.fn.first ∷ components l.fn.rest) ≡ Some (parent_walk (tree l.geometry l.image) l.cred l.dir l.name (components l.rest));
   component : IsComponent l.name;
   nonzero : has_zero l.fn.first ≡ false → has_zero l.fn.rest ≡ false → (has_zero l.name ≡ false) × (has_zero l.rest ≡ false);
 }

@@ -1,0 +1,165 @@
+-- Lemmas on the components of a path.
+use Rattle.std.proofs.Common.{◌≡◌, ℕ, ◌+◌, ◌<◌, Bool, true, false, cond, eqb, List, [], ◌∷◌, map, take, drop, length, min, refl, suc, zero, ap, sym, ◌∙◌, subst, arith}
+use Rattle.std.specs.Prelude.{not, ◌||◌, filter}
+use Rattle.std.specs.List.{position_or_len, list_any}
+use Rattle.std.proofs.Math.Nat.{min_comm}
+use Rattle.std.proofs.lemmas.List.{take_min, nil_from_length, length-take}
+use Rattle.vol_dir.specs.Walk.{onto_first, pieces, is_nil, components, has_zero, IsComponent}
+
+-- the pieces that have a byte
+abbrev pub kept : List (List ℕ) → List (List ℕ)
+kept = filter (λ piece. not (is_nil piece))
+
+-- the kept pieces of a path whose first byte is or isn't a slash
+abbrev kept_at : ℕ → List ℕ → Bool → List (List ℕ)
+kept_at c path b = kept (cond b ([] ∷ pieces path) (onto_first c (pieces path)))
+
+one_more : (n : ℕ) → 1 + n ≡ suc n
+one_more n = omega arith
+
+-- slashes before a path make no component
+pub components-slashes : (path : List ℕ) → components (drop (position_or_len (λ c. not (eqb c 47)) path) path) ≡ components path
+unfolding components
+components-slashes [] = refl
+components-slashes (c ∷ path) =
+    let n = position_or_len (λ c. not (eqb c 47)) path in
+    elim (eqb c 47) as (λ b. eqb c 47 ≡ b → components (drop (cond (not (not b)) (1 + n) 0) (c ∷ path)) ≡ map (take 14) (kept_at c path b)) [
+      | true ↦ λ e. ap (λ k. components (drop k (c ∷ path))) (one_more n) ∙ components-slashes path
+      | false ↦ λ e. ap (λ b. map (take 14) (kept_at c path b)) e
+    ] refl
+
+-- a path's pieces begin with the bytes before its first slash; the others are those of the rest, whose first is empty
+pub record HasFirst (path : List ℕ) (n : ℕ) : Type 0 where
+  pub others : List (List ℕ)
+  pub first : pieces path ≡ take n path ∷ others
+  pub rest : kept (pieces (drop n path)) ≡ kept others
+
+pub has_first : (path : List ℕ) → HasFirst path (position_or_len (λ c. eqb c 47) path)
+has_first [] = record { others = []; first = refl; rest = refl }
+has_first (c ∷ path) =
+    let n = position_or_len (λ c. eqb c 47) path in
+    let h = has_first path in
+    elim (eqb c 47) as (λ b. eqb c 47 ≡ b → HasFirst (c ∷ path) (cond (not b) (1 + n) 0)) [
+      | true ↦ λ e. record {
+        others = pieces path;
+        first = ap (λ b. cond b ([] ∷ pieces path) (onto_first c (pieces path))) e;
+        rest = ap (kept_at c path) e;
+      }
+      | false ↦ λ e. subst (HasFirst (c ∷ path)) (sym (one_more n)) (record {
+        others = h.others;
+        first = ap (λ b. cond b ([] ∷ pieces path) (onto_first c (pieces path))) e ∙ ap (onto_first c) h.first;
+        rest = h.rest;
+      })
+    ] refl
+
+-- what stands behind the slashes before a path begins with no slash
+name_follows : (path : List ℕ) → let rest = drop (position_or_len (λ c. not (eqb c 47)) path) path in
+    0 < length rest → 0 < position_or_len (λ c. eqb c 47) rest
+name_follows [] = λ h. h
+name_follows (c ∷ path) =
+    let n = position_or_len (λ c. not (eqb c 47)) path in
+    elim (eqb c 47) as (λ b. eqb c 47 ≡ b → let rest = drop (cond (not (not b)) (1 + n) 0) (c ∷ path) in
+    0 < length rest → 0 < position_or_len (λ c. eqb c 47) rest) [
+      | true ↦ λ e. subst (λ k. 0 < length (drop k (c ∷ path)) → 0 < position_or_len (λ c. eqb c 47) (drop k (c ∷ path))) (sym (one_more n)) (name_follows path)
+      | false ↦ λ e h. subst (λ b. 0 < cond (not b) (1 + position_or_len (λ c. eqb c 47) path) 0) (sym e) (omega arith)
+    ] refl
+
+has_item : (n : ℕ) (path : List ℕ) → 0 < n → 0 < length path → is_nil (take n path) ≡ false
+has_item zero path h k = absurd (omega arith)
+has_item (suc n) [] h k = absurd (omega arith)
+has_item (suc n) (c ∷ path) h k = refl
+
+-- a path that begins with no slash has the bytes before its first slash, cut, as first component, and then those of the rest
+components-first : (path : List ℕ) → let n = position_or_len (λ c. eqb c 47) path in 0 < n → 0 < length path
+    → components path ≡ take 14 (take n path) ∷ components (drop n path)
+unfolding components
+components-first path some full =
+    let n = position_or_len (λ c. eqb c 47) path in
+    let h = has_first path in
+    ap (λ ps. map (take 14) (kept ps)) h.first
+    ∙ (ap (λ b. map (take 14) (cond (not b) (take n path ∷ kept h.others) (kept h.others))) (has_item n path some full)
+    ∙ ap (λ ps. take 14 (take n path) ∷ map (take 14) ps) (sym h.rest))
+
+-- no bytes have no component
+pub components-nil : components [] ≡ []
+unfolding components
+components-nil = refl
+
+-- a path that has nothing behind its slashes has no component
+pub components-none : (path named : List ℕ) (k : ℕ) → k ≡ position_or_len (λ c. not (eqb c 47)) path → named ≡ drop k path
+    → length named ≡ 0 → components path ≡ []
+components-none path named k at is none =
+    sym (components-slashes path) ∙ (ap (λ j. components (drop j path)) (sym at) ∙ (ap components (sym is)
+    ∙ (ap components (nil_from_length named none) ∙ components-nil)))
+
+-- what stands behind the slashes before a path, if anything does, begins with a byte before the next slash
+pub name_begins : (path named : List ℕ) (k n : ℕ) → k ≡ position_or_len (λ c. not (eqb c 47)) path → named ≡ drop k path
+    → 0 < length named → n ≡ position_or_len (λ c. eqb c 47) named → 0 < n
+name_begins path named k n at is full stop =
+    let behind : named ≡ drop (position_or_len (λ c. not (eqb c 47)) path) path = is ∙ ap (λ j. drop j path) at in
+    subst (λ j. 0 < j) (sym stop)
+    (subst (λ xs. 0 < length xs → 0 < position_or_len (λ c. eqb c 47) xs) (sym behind) (name_follows path) full)
+
+-- a path's first component is what stands behind its slashes before the next one, cut
+pub components-split : (path named front rest : List ℕ) (k n m : ℕ) → k ≡ position_or_len (λ c. not (eqb c 47)) path
+    → named ≡ drop k path → 0 < length named → n ≡ position_or_len (λ c. eqb c 47) named
+    → front ≡ take n named → rest ≡ drop n named → m ≡ min (length front) 14
+    → components path ≡ take m front ∷ components rest
+components-split path named front rest k n m at is full stop before after cut =
+    let behind : named ≡ drop (position_or_len (λ c. not (eqb c 47)) path) path = is ∙ ap (λ j. drop j path) at in
+    let some : 0 < position_or_len (λ c. eqb c 47) named =
+    name_begins path named k (position_or_len (λ c. eqb c 47) named) at is full refl in
+    let short : take m front ≡ take 14 front = ap (λ j. take j front) (cut ∙ min_comm (length front) 14) ∙ take_min 14 front in
+    let split : components named ≡ take 14 (take n named) ∷ components (drop n named) =
+    components-first named some full ∙ ap (λ j. take 14 (take j named) ∷ components (drop j named)) (sym stop) in
+    let same : components path ≡ components named = sym (components-slashes path) ∙ ap components (sym behind) in
+    let parts : take 14 (take n named) ∷ components (drop n named) ≡ take m front ∷ components rest =
+    ap (λ xs. take 14 xs ∷ components (drop n named)) (sym before)
+    ∙ (ap (λ xs. xs ∷ components (drop n named)) (sym short) ∙ ap (λ xs. take m front ∷ components xs) (sym after)) in
+    same ∙ (split ∙ parts)
+
+or_false : (a b : Bool) → (a || b) ≡ false → (a ≡ false) × (b ≡ false)
+or_false false b e = (refl, e)
+or_false true b e = cc
+
+list_any-take : (p : ℕ → Bool) (n : ℕ) (xs : List ℕ) → list_any p xs ≡ false → list_any p (take n xs) ≡ false
+list_any-take p zero xs e = refl
+list_any-take p (suc n) [] e = refl
+list_any-take p (suc n) (x ∷ xs) e =
+    let h = or_false (p x) (list_any p xs) e in ap (λ b. b || list_any p (take n xs)) h.0 ∙ list_any-take p n xs h.1
+
+list_any-drop : (p : ℕ → Bool) (n : ℕ) (xs : List ℕ) → list_any p xs ≡ false → list_any p (drop n xs) ≡ false
+list_any-drop p zero xs e = e
+list_any-drop p (suc n) [] e = refl
+list_any-drop p (suc n) (x ∷ xs) e = list_any-drop p n xs (or_false (p x) (list_any p xs) e).1
+
+-- no byte before the first slash is a slash
+list_any-first : (xs : List ℕ) → list_any (λ c. eqb c 47) (take (position_or_len (λ c. eqb c 47) xs) xs) ≡ false
+list_any-first [] = refl
+list_any-first (c ∷ xs) =
+    let n = position_or_len (λ c. eqb c 47) xs in
+    elim (eqb c 47) as (λ b. eqb c 47 ≡ b → list_any (λ c. eqb c 47) (take (cond (not b) (1 + n) 0) (c ∷ xs)) ≡ false) [
+      | true ↦ λ e. refl
+      | false ↦ λ e. subst (λ k. list_any (λ c. eqb c 47) (take k (c ∷ xs)) ≡ false) (sym (one_more n)) (ap (λ b. b || list_any (λ c. eqb c 47) (take n xs)) e ∙ list_any-first xs)
+    ] refl
+
+-- the first component is one
+pub IsComponent-split : (path named front : List ℕ) (k n m : ℕ) → k ≡ position_or_len (λ c. not (eqb c 47)) path
+    → named ≡ drop k path → 0 < length named → n ≡ position_or_len (λ c. eqb c 47) named
+    → front ≡ take n named → m ≡ min (length front) 14 → IsComponent (take m front)
+IsComponent-split path named front k n m at is full stop before cut =
+    let some : 0 < n = name_begins path named k n at is full stop in
+    let count : length front ≡ min n (length named) = ap length before ∙ length-take n named in
+    let short : length (take m front) ≡ min m (length front) = length-take m front in
+    let plain : list_any (λ c. eqb c 47) front ≡ false =
+    ap (list_any (λ c. eqb c 47)) (before ∙ ap (λ j. take j named) stop) ∙ list_any-first named in
+    record { some = omega arith; short = omega arith; plain = list_any-take (λ c. eqb c 47) m front plain }
+
+-- a path without zero byte has none in its first component, nor in the rest
+pub nonzero-split : (path named front rest : List ℕ) (k n m : ℕ) → named ≡ drop k path → front ≡ take n named → rest ≡ drop n named
+    → has_zero path ≡ false → (has_zero (take m front) ≡ false) × (has_zero rest ≡ false)
+nonzero-split path named front rest k n m is before after e =
+    let behind : has_zero named ≡ false = ap has_zero is ∙ list_any-drop (λ c. eqb c 0) k path e in (
+      list_any-take (λ c. eqb c 0) m front (ap has_zero before ∙ list_any-take (λ c. eqb c 0) n named behind),
+      ap has_zero after ∙ list_any-drop (λ c. eqb c 0) n named behind,
+    )

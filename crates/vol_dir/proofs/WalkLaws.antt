@@ -1,0 +1,126 @@
+-- Lemmas on walks.
+use Rattle.std.proofs.Common.{◌≡◌, ◌≢◌, ℕ, ◌≤◌, Bool, true, false, cond, List, [], ◌∷◌, map, Option, None, Some, Result, Ok, Err, refl, ap, sym, subst, ◌∙◌, arith}
+use Rattle.std.specs.Prelude.{IfOk, if◌then◌else◌}
+use Rattle.std.specs.Option.{ok_or, option_map, option_map_or}
+use Rattle.std.proofs.lemmas.Bool.Decides.{nat_tests}
+use Rattle.std.specs.FinMap.Entries.{find-put}
+use Rattle.std.specs.Cmp.Lexicographic.{slice_cmp}
+use Rattle.std.specs.Ordering.{nat_cmp, eq_by_cmp}
+use Rattle.std.proofs.lemmas.Cmp.{nat_list_cmp_total}
+use Rattle.vol_layout.specs.Edition.{constants}
+use Rattle.vol_layout.specs.Inode.{inode_of}
+use Rattle.vol_file.specs.Rules.{kind_at, HasSoundFiles}
+use Rattle.vol_dir.specs.Entries.{entry_at, slots, IsDirectory, HasEntries, IsInUse}
+use Rattle.vol_dir.specs.Names.{Names, get, names_of}
+use Rattle.vol_dir.specs.Tree.{is_number, node_of, node_with, content_of, tree, Node, Tree}
+use Rattle.vol_dir.specs.Access.{may_execute, grants_at}
+use Rattle.vol_dir.specs.Walk.{search, search_node, and_then, find_in, components, walk_from, walk}
+use Rattle.vol_layout.specs.declared.geometry.Geometry.{Geometry}
+use Rattle.vol_layout.specs.declared.mode.Kind.{Kind}
+use Rattle.vol_layout.specs.declared.mode.Kind.TheVariants as kinds
+use Rattle.vol_dir.specs.declared.cred.Cred.{Cred}
+use Rattle.vol_dir.specs.declared.refusal.Refusal.{Refusal}
+use Rattle.vol_dir.specs.declared.refusal.Refusal.TheVariants as refusals
+
+-- where a search finds a name, one of the slots has it
+named_from : (f : ℕ → Option (List ℕ × ℕ)) (xs : List ℕ) (name : List ℕ) (j : ℕ)
+    → get (names_of (map f xs)) name ≡ Some j → (s : ℕ) × (other : List ℕ) × (f s ≡ Some (other, j))
+named_from f [] name j e = cc
+named_from f (x ∷ xs) name j e =
+    elim (f x) as (λ o. f x ≡ o → get (names_of (o ∷ map f xs)) name ≡ Some j → (s : ℕ) × (other : List ℕ) × (f s ≡ Some (other, j))) [
+      | None ↦ λ q h. named_from f xs name j h
+      | Some entry ↦ λ q h. elim (eq_by_cmp (slice_cmp nat_cmp) name entry.0) as (λ b. cond b (Some entry.1) (get (names_of (map f xs)) name) ≡ Some j → (s : ℕ) × (other : List ℕ) × (f s ≡ Some (other, j))) [
+        | true ↦ λ k. (x, entry.0, cc)
+        | false ↦ λ k. named_from f xs name j k
+      ] (sym (find-put (slice_cmp nat_cmp) nat_list_cmp_total name entry.0 entry.1 (names_of (map f xs))) ∙ h)
+    ] refl e
+
+-- what a name of a directory leads to is in use
+pub IsInUse-found : (geometry : Geometry) (image : List ℕ) (d : ℕ) (name : List ℕ) (j : ℕ) → HasEntries geometry image
+    → IsDirectory geometry image d → get (names_of (slots geometry image d)) name ≡ Some j → IsInUse geometry image j
+unfolding slots
+IsInUse-found geometry image d name j h directory e =
+    let p = named_from (entry_at geometry image d) _ name j e in
+    let r = h.allocated d p.0 j p.1 (record { directory = directory; entry = p.2 }) in
+    record { first = r.0; last = r.1; allocated = r.2 }
+
+-- the same, of what is answered where the name isn't there
+pub IfOk-found : (geometry : Geometry) (image : List ℕ) (d : ℕ) (name : List ℕ) (found : Option ℕ) (r : Result ℕ Refusal)
+    → HasEntries geometry image → IsDirectory geometry image d → found ≡ get (names_of (slots geometry image d)) name
+    → r ≡ ok_or found refusals.NoEntry → IfOk r (λ j. IsInUse geometry image j)
+IfOk-found geometry image d name None r h directory e is = subst (λ r. IfOk r (λ j. IsInUse geometry image j)) (sym is) tt
+IfOk-found geometry image d name (Some j) r h directory e is =
+    subst (λ r. IfOk r (λ j. IsInUse geometry image j)) (sym is) (IsInUse-found geometry image d name j h directory (sym e))
+
+-- the root is in use
+pub IsInUse-root : (geometry : Geometry) (image : List ℕ) → HasSoundFiles geometry image
+    → IsInUse geometry image (constants geometry.edition).root
+IsInUse-root geometry image h = record {
+  first = omega arith;
+  last = let fits = h.sound.fits.root in omega arith;
+  allocated = λ e. let directory = h.sound.kinds.root in let free : kinds.Directory ≡ kinds.Free = sym directory ∙ e in cc;
+}
+
+-- a walk begins at the root
+pub walk-begins : (geometry : Geometry) (image : List ℕ) (cred : Cred) (path : List ℕ)
+    → walk_from (tree geometry image) cred (constants geometry.edition).root (components path) ≡ walk (tree geometry image) cred path
+unfolding tree walk
+walk-begins geometry image cred path = refl
+
+-- an i-number of the volume stands for what its i-node reads as
+node-at : (geometry : Geometry) (image : List ℕ) (i : ℕ) → 1 ≤ i → i ≤ geometry.last_inode → (tree geometry image).nodes i ≡ node_of geometry image i
+unfolding tree
+node-at geometry image i low high =
+    let number : is_number geometry i ≡ true = grind (arith, nat_tests) in
+    ap (λ b. cond b (node_of geometry image i) None) number
+
+-- what a search of a node, if there is one, gives
+abbrev searched : Cred → Option Node → Result Names Refusal
+searched cred node = option_map_or (search_node cred) node (Err refusals.NotDirectory)
+
+-- another number stands for nothing, and isn't searched
+pub search-outside : (geometry : Geometry) (image : List ℕ) (cred : Cred) (i : ℕ) → is_number geometry i ≡ false
+    → search (tree geometry image) cred i ≡ Err refusals.NotDirectory
+unfolding tree
+search-outside geometry image cred i number = ap (λ b. searched cred (cond b (node_of geometry image i) None)) number
+
+-- what an i-node of a kind reads as
+node-of-kind : (geometry : Geometry) (image : List ℕ) (i : ℕ) (kind : Kind) → kind_at geometry image i ≡ kind
+    → node_of geometry image i ≡ option_map (node_with (inode_of geometry.edition image i)) (content_of geometry image i kind)
+unfolding node_of
+node-of-kind geometry image i kind e = ap (λ k. option_map (node_with (inode_of geometry.edition image i)) (content_of geometry image i k)) e
+
+-- a directory is searched where it grants execute
+pub search-directory : (geometry : Geometry) (image : List ℕ) (cred : Cred) (i : ℕ) (b : Bool) → IsDirectory geometry image i
+    → grants_at geometry image i may_execute cred ≡ b
+    → search (tree geometry image) cred i ≡ (if b then Ok (names_of (slots geometry image i)) else Err refusals.Access)
+search-directory geometry image cred i b h e =
+    ap (searched cred) (node-at geometry image i h.first h.last ∙ node-of-kind geometry image i kinds.Directory h.kind)
+    ∙ ap (λ granted. if◌then◌else◌ {A = Result Names Refusal} granted (Ok (names_of (slots geometry image i))) (Err refusals.Access)) e
+
+searched_other : (geometry : Geometry) (image : List ℕ) (cred : Cred) (i : ℕ) (kind : Kind) → kind ≢ kinds.Directory
+    → searched cred (option_map (node_with (inode_of geometry.edition image i)) (content_of geometry image i kind)) ≡ Err refusals.NotDirectory
+searched_other geometry image cred i kinds.Free h = refl
+searched_other geometry image cred i kinds.Regular h = refl
+searched_other geometry image cred i kinds.Directory h = absurd (h refl)
+searched_other geometry image cred i kinds.Special h = refl
+searched_other geometry image cred i kinds.Odd h = refl
+
+-- what is no directory isn't searched
+pub search-other : (geometry : Geometry) (image : List ℕ) (cred : Cred) (i : ℕ) → 1 ≤ i → i ≤ geometry.last_inode
+    → kind_at geometry image i ≢ kinds.Directory → search (tree geometry image) cred i ≡ Err refusals.NotDirectory
+search-other geometry image cred i low high h =
+    ap (searched cred) (node-at geometry image i low high ∙ node-of-kind geometry image i (kind_at geometry image i) refl)
+    ∙ searched_other geometry image cred i (kind_at geometry image i) h
+
+-- a walk goes on from what its first name leads to
+pub walk-more : (tree : Tree) (cred : Cred) (i j : ℕ) (name : List ℕ) (names rest : List (List ℕ)) → rest ≡ name ∷ names
+    → find_in tree cred i name ≡ Ok j → walk_from tree cred i rest ≡ walk_from tree cred j names
+walk-more tree cred i j name names rest e h =
+    ap (walk_from tree cred i) e ∙ ap (λ r. and_then r (λ next. walk_from tree cred next names)) h
+
+-- a walk ends where its first name is refused
+pub walk-refused : (tree : Tree) (cred : Cred) (i : ℕ) (refusal : Refusal) (name : List ℕ) (names rest : List (List ℕ)) → rest ≡ name ∷ names
+    → find_in tree cred i name ≡ Err refusal → walk_from tree cred i rest ≡ Err refusal
+walk-refused tree cred i refusal name names rest e h =
+    ap (walk_from tree cred i) e ∙ ap (λ r. and_then r (λ next. walk_from tree cred next names)) h

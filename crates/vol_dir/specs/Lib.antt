@@ -1,0 +1,8 @@
+pub mod Access
+pub mod Entries
+pub mod Names
+pub mod PathLaws
+pub mod Refusals
+pub mod Searching
+pub mod Tree
+pub mod Walk

@@ -1,0 +1,148 @@
+-- A volume as its users see it: a tree of nodes, and the shape of each file.
+use Rattle.std.specs.Prelude.{ℕ, ◌-◌, ◌/◌, ◌%◌, ◌&&◌, Bool, false, nat_lt, nat_le, if◌then◌else◌, List, [], ◌∷◌, Option, None, Some}
+use Rattle.std.specs.List.{range_with_len, count_by, sum_by}
+use Rattle.std.specs.Option.{option_map}
+use Rattle.pdp_words.specs.Words.{long}
+use Rattle.vol_layout.specs.Inode.{inode_of, kind_of, is_large}
+use Rattle.vol_layout.specs.Names.{mode_of, form_at}
+use Rattle.vol_layout.specs.Body.{body}
+use Rattle.vol_layout.specs.Places.{first_count, pointer_count, levels_below, places}
+use Rattle.vol_layout.specs.Super.{time_place}
+use Rattle.vol_file.specs.Shape.{is_named}
+use Rattle.vol_dir.specs.Entries.{slots}
+use Rattle.vol_dir.specs.Names.{Names, names_of, names_in}
+use Rattle.vol_layout.specs.declared.edition.Edition.{Edition}
+use Rattle.vol_layout.specs.declared.edition.Edition.TheVariants.{V6, V7}
+use Rattle.vol_layout.specs.declared.geometry.Geometry.{Geometry}
+use Rattle.vol_layout.specs.declared.i_node.Inode.{Inode}
+use Rattle.vol_layout.specs.declared.mode.Kind.{Kind}
+use Rattle.vol_layout.specs.declared.mode.Kind.TheVariants as kinds
+use Rattle.vol_layout.specs.declared.places.Form.{Form}
+use Rattle.vol_layout.specs.declared.places.Form.TheVariants.{Small, Large, Deep}
+
+-- what a node holds: a regular file its bytes, a directory its map, a special file the type bits of its mode and its
+-- addresses, which nobody interprets (manual section 5, file system)
+pub data Content : Type 0 where
+  Body : List ℕ → Content
+  Directory : Names → Content
+  Device : ℕ → List ℕ → Content
+
+-- a node of the tree (manual section 5, file system)
+pub record Node : Type 0 where
+  pub content : Content
+  pub permissions : ℕ
+  pub links : ℕ
+  pub uid : ℕ
+  pub gid : ℕ
+  pub size : ℕ
+  pub accessed : ℕ
+  pub modified : ℕ
+  pub changed : Option ℕ
+
+-- the nodes by i-number, with the sizes of the volume and the time of its super-block (manual section 5, file system)
+pub record Tree : Type 0 where
+  pub geometry : Geometry
+  pub time : ℕ
+  pub nodes : ℕ → Option Node
+
+-- what a file's blocks are beside their bytes: which places name something, whether a file of the sixth edition is large,
+-- and for a directory which name, if any, each slot holds (this project)
+pub record Shape : Type 0 where
+  pub names : List ℕ → Bool
+  pub large : Bool
+  pub slots : List (Option (List ℕ))
+
+-- the shape of what has no places (this project)
+abbrev pub no_shape : Shape
+no_shape = record { names = λ p. false; large = false; slots = [] }
+
+-- a tree, with the shape of each of its files and directories (this project)
+pub record State : Type 0 where
+  pub tree : Tree
+  pub shapes : ℕ → Shape
+
+-- the form of a file, large or not (manual section 5, file system)
+abbrev pub form_in : Edition → Bool → Form
+form_in V6 large = if large then Large else Small
+form_in V7 large = Deep
+
+-- whether a list of indexes is a place of the form (Lions on bmap; ino.h)
+abbrev pub is_place : Form → List ℕ → Bool
+is_place form [] = false
+is_place form (k ∷ []) = nat_lt k (first_count form)
+is_place form (j ∷ (a ∷ p)) = nat_lt j (pointer_count form) && (nat_le 1 (levels_below form (a ∷ p)) && is_place form (a ∷ p))
+
+-- whether one of the places of i-node i names something (icheck)
+abbrev pub is_named_place : Geometry → List ℕ → ℕ → List ℕ → Bool
+is_named_place geometry image i p = is_place (form_at geometry image i) p && is_named geometry image i p
+
+-- how many places of a file of some shape name something (icheck)
+unfoldable pub place_count : Edition → Shape → ℕ
+place_count edition shape = count_by shape.names (places (form_in edition shape.large))
+
+-- how many data blocks no place names (icheck)
+unfoldable pub free_count : Geometry → (ℕ → Shape) → ℕ
+free_count geometry shapes =
+    geometry.zone_end - geometry.zone_start
+    - sum_by (λ i. place_count geometry.edition (shapes i)) (range_with_len 1 geometry.last_inode)
+
+-- whether an i-number is one of the volume (manual section 5, file system)
+abbrev pub is_number : Geometry → ℕ → Bool
+is_number geometry i = nat_le 1 i && nat_le i geometry.last_inode
+
+-- what i-node i holds, by its kind, if it stands for something (manual section 5, file system)
+abbrev pub content_of : Geometry → List ℕ → ℕ → Kind → Option Content
+content_of geometry image i kinds.Free = None
+content_of geometry image i kinds.Odd = None
+content_of geometry image i kinds.Regular = Some (Body (body geometry image i))
+content_of geometry image i kinds.Directory = Some (Directory (names_of (slots geometry image i)))
+content_of geometry image i kinds.Special =
+    Some (Device (mode_of geometry image i / 4096) (inode_of geometry.edition image i).addresses)
+
+-- the node of an i-node with some content (manual section 5, file system)
+abbrev pub node_with : Inode → Content → Node
+node_with node content = record {
+  content = content;
+  permissions = node.mode.bits % 4096;
+  links = node.links;
+  uid = node.uid;
+  gid = node.gid;
+  size = node.size;
+  accessed = node.accessed;
+  modified = node.modified;
+  changed = node.changed;
+}
+
+-- the node that i-node i reads as (manual section 5, file system)
+unfoldable pub node_of : Geometry → List ℕ → ℕ → Option Node
+node_of geometry image i =
+    option_map (node_with (inode_of geometry.edition image i)) (content_of geometry image i (kind_of geometry.edition (mode_of geometry image i)))
+
+-- the tree that an image reads as (manual section 5, file system)
+unfoldable pub tree : Geometry → List ℕ → Tree
+tree geometry image = record {
+  geometry = geometry;
+  time = long image (time_place geometry.edition);
+  nodes = λ i. if is_number geometry i then node_of geometry image i else None;
+}
+
+-- the shape of i-node i, by its kind (this project)
+abbrev pub shape_of : Geometry → List ℕ → ℕ → Kind → Shape
+shape_of geometry image i kinds.Regular =
+    record { names = is_named_place geometry image i; large = is_large geometry.edition (mode_of geometry image i); slots = [] }
+shape_of geometry image i kinds.Directory =
+    record {
+      names = is_named_place geometry image i;
+      large = is_large geometry.edition (mode_of geometry image i);
+      slots = names_in (slots geometry image i);
+    }
+shape_of geometry image i _ = no_shape
+
+-- the shapes that an image reads as (this project)
+unfoldable pub shapes : Geometry → List ℕ → ℕ → Shape
+shapes geometry image i =
+    if is_number geometry i then shape_of geometry image i (kind_of geometry.edition (mode_of geometry image i)) else no_shape
+
+-- what an image reads as (this project)
+abbrev pub state : Geometry → List ℕ → State
+state geometry image = record { tree = tree geometry image; shapes = shapes geometry image }

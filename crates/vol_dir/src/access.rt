@@ -1,0 +1,68 @@
+//! Who may do what with an i-node.
+ghost use Rattle.std.specs.Prelude.{◌≡◌, ℕ, ◌*◌, ◌<◌, ◌≤◌, Some};
+ghost use Rattle.vol_layout.specs.Geometry.{Fits};
+ghost use Rattle.vol_dir.specs.Tree.{Node, node_of};
+ghost use Rattle.vol_dir.specs.Access.{bit_of, has_bit, grants, grants_at};
+
+use crate::cred::Cred;
+use pdp_words::Image;
+use vol_layout::{Geometry, inode};
+
+/// What a user asks to do with a file or directory.
+#[derive(Clone, Copy, Debug, PartialEq, Eq)]
+pub enum Access {
+    /// To read a file, or to list a directory.
+    Read,
+    /// To write a file, or to change a directory's entries.
+    Write,
+    /// To run a file, or to look a name up in a directory.
+    Execute,
+}
+
+impl Access {
+    /// Its bit in a triple of permissions.
+    fn bit(self) -> u16
+        ensures bit { result ≡ bit_of self }
+        ensures low { 1 ≤ result }
+        ensures high { result ≤ 4 }
+    {
+        match self {
+            Access::Read => 4,
+            Access::Write => 2,
+            Access::Execute => 1,
+        }
+    }
+}
+
+/// Whether i-node `i`, from 1 to the last, grants an access: to user 0 always, to the owner by the
+/// owner's triple of permissions, else to the group by the group's, else by the others' (Lions on
+/// access).
+#[tactic(auto, unfolding(crate::specs::Tree::node_of))]
+pub fn grants(image: &Image, geometry: &Geometry, i: u16, access: Access, cred: Cred) -> bool
+    requires fits { Fits geometry.now image.now }
+    requires first { 1 ≤ i }
+    requires last { i ≤ geometry.now.last_inode }
+    ensures stored { result ≡ grants_at geometry.now image.now i (bit_of access) cred }
+    ensures node { (node : Node) → node_of geometry.now image.now i ≡ Some node → result ≡ grants (bit_of access) cred node }
+{
+    let node = inode(image, geometry, i);
+    let permissions = node.mode.permissions();
+    let bit = access.bit();
+    if cred.uid == 0 {
+        true
+    } else if cred.uid == node.uid {
+        has_bit(permissions, 64 * bit)
+    } else if cred.gid == node.gid {
+        has_bit(permissions, 8 * bit)
+    } else {
+        has_bit(permissions, bit)
+    }
+}
+
+/// Whether permissions have a bit, which is given by its value.
+fn has_bit(permissions: u16, value: u16) -> bool
+    requires { 1 ≤ value }
+    ensures { result ≡ has_bit permissions value }
+{
+    permissions / value % 2 == 1
+}

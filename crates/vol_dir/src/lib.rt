@@ -1,0 +1,17 @@
+//! The directories of a volume: their entries, and the walk of a path over them.
+#![tactic(auto)]
+
+pub mod access;
+pub mod cred;
+pub mod entries;
+pub mod laws;
+pub mod paths;
+pub mod refusal;
+pub mod walking;
+
+pub use access::{Access, grants};
+pub use cred::Cred;
+pub use entries::{find, is_empty_dir, place_for};
+pub use paths::split_component;
+pub use refusal::Refusal;
+pub use walking::{walk, walk_parent};

@@ -1,3 +1,6 @@
 pub mod Finding
+pub mod GoneEntries
 pub mod NameMaps
+pub mod NewEntries
+pub mod Replacing
 pub mod SlotReading

@@ -1,16 +1,15 @@
 -- What is left of a directory when an entry goes.
-use Rattle.std.proofs.Common.{◌≡◌, ◌≢◌, ◌∙◌, sym, ap, subst, refl, ℕ, zero, suc, ◌+◌, ◌-◌, ◌*◌, ◌/◌, ◌%◌, ◌<◌, ◌≤◌, max, Bool, true, false, true≢false, not, ◌||◌, List, [], ◌∷◌, map, length, get_or, None, Some, inl, inr, arith, ◌==◌, if◌then◌else◌}
-use Rattle.std.specs.Prelude.{Option, nat_le}
-use Rattle.std.specs.List.{position_or_len}
+use Rattle.std.proofs.Common.{◌≡◌, ◌≢◌, ◌∙◌, sym, ap, refl, ℕ, zero, suc, ◌+◌, ◌-◌, ◌*◌, ◌/◌, ◌%◌, ◌<◌, ◌≤◌, Bool, true, false, cond, ◌&&◌, true≢false, not, ◌||◌, List, [], ◌∷◌, map, length, get_or, None, Some, inl, inr, arith, ◌==◌, if◌then◌else◌}
+use Rattle.std.specs.Prelude.{Option}
+use Rattle.std.specs.List.{list_any, range_with_len, count_by}
+use Rattle.std.specs.Str.{bytes_eq}
 use Rattle.std.specs.Option.{is_some, option_map_or}
-use Rattle.std.proofs.lemmas.Bool.{cases_lt, cases_eq, ne_eqb, lt-leb, true_from_ne_false, false_from_ne_true}
+use Rattle.std.proofs.lemmas.Bool.{cases_lt, cases_eq, ne_eqb, lt-leb, or_cases, true_from_ne_false, false_from_ne_true}
 use Rattle.std.proofs.lemmas.List.{same_lists, get_or-map, length-map}
-use Rattle.std.proofs.lemmas.List.Sums.{position_or_len_is}
-use Rattle.pdp_words.specs.Words.{word}
-use Rattle.vol_layout.specs.Edition.{constants}
+use Rattle.std.proofs.lemmas.List.Sums.{position_or_len_is, sum_by-cons}
 use Rattle.vol_layout.specs.Geometry.{in_zone, Fits}
 use Rattle.vol_layout.specs.Names.{form_at, stored, named, IsFile}
-use Rattle.vol_layout.specs.Places.{last_place}
+use Rattle.vol_layout.specs.Places.{last_place, fronts, way, places}
 use Rattle.vol_layout.specs.Body.{body}
 use Rattle.vol_layout.specs.Slot.{slot_at}
 use Rattle.vol_layout.proofs.BodyLaws.{length-body}
@@ -20,56 +19,80 @@ use Rattle.vol_layout.specs.declared.geometry.Geometry.{Geometry}
 use Rattle.vol_layout.specs.declared.places.Form.{Form}
 use Rattle.vol_layout.specs.declared.places.Form.TheVariants.{Small, Large, Deep, Bare}
 use Rattle.vol_file.specs.Changes.{spliced, Writes}
-use Rattle.vol_file.specs.Missing.{missing_to, missing_at, missing_from, grows_at, grown_form, grown_names}
-use Rattle.vol_file.specs.Need.{need, need_of}
+use Rattle.vol_file.specs.Need.{missing_count, need, need_of}
 use Rattle.vol_file.specs.Rules.{size_of, IsSoundWith}
-use Rattle.vol_file.specs.Shape.{is_named, touched}
-use Rattle.vol_file.proofs.MissingLaws.{missing_start, missing_more, need_some}
+use Rattle.vol_file.specs.Shape.{is_named, touched, is_on_ways, grows_large, moved_down}
 use Rattle.vol_dir.specs.Editing.{with_item, HasNamesOnce}
-use Rattle.vol_dir.specs.Entries.{entry_in, slot_count, entry_at, slots}
+use Rattle.vol_dir.specs.Entries.{slot_count, entry_at, slots}
 use Rattle.vol_dir.specs.Searching.{holds, slot_named}
-use Rattle.vol_dir.proofs.NameMaps.{cleared}
-use Rattle.vol_dir.proofs.Replacing.{Replaces, PutsInSlot, replaces, spliced_inside, length-with_item, with_item_here, with_item_else}
-use Rattle.vol_dir.proofs.SlotReading.{length-slots, slot_from, slot_is, entry_at_past, entry_in_hole, empty_slot}
+use Rattle.vol_dir.proofs.NameMaps.{same_bytes, cleared}
+use Rattle.vol_dir.proofs.Replacing.{Replaces, replaces, spliced_inside, length-with_item, with_item_here, with_item_else}
+use Rattle.vol_dir.proofs.SlotReading.{length-slots, slot_from, slot_is, entry_in_hole, empty_slot}
 
--- no front of a place that names something is missing
-none_missing : (geometry : Geometry) (image : List ℕ) (i : ℕ) (whole : Bool) (p : List ℕ) → Fits geometry image → named geometry image i p ≢ 0
-    → missing_to (is_named geometry image i) whole p ≡ 0
-none_missing geometry image i whole [] fits some = refl
-none_missing geometry image i whole (k ∷ []) fits some = ap (λ b. if not b then 0 else 1) (ne_eqb (named geometry image i (k ∷ [])) 0 some)
-none_missing geometry image i whole (j ∷ (a ∷ p)) fits some =
-    let above = none_missing geometry image i whole (a ∷ p) fits
-    (λ e. some (named_stops geometry image i j a p (ap (in_zone geometry) e ∙ zero_out geometry image fits))) in
-    ap (λ b. (if not b then 0 else 1) + (if whole || j == 0 then missing_to (is_named geometry image i) whole (a ∷ p) else 0))
-    (ne_eqb (named geometry image i (j ∷ (a ∷ p))) 0 some)
-    ∙ (ap (λ n. if whole || j == 0 then n else 0) above ∙ elim (whole || j == 0) as (λ b. (if b then 0 else 0) ≡ 0) [ true ↦ refl | false ↦ refl ])
+-- each front of a place that names something names something
+fronts_named : (geometry : Geometry) (image : List ℕ) (i : ℕ) (p q : List ℕ) → Fits geometry image → named geometry image i q ≢ 0
+    → list_any (bytes_eq p) (fronts q) ≡ true → named geometry image i p ≢ 0
+fronts_named geometry image i p [] fits some on = absurd (true≢false (sym on))
+fronts_named geometry image i p (j ∷ []) fits some on = elim (or_cases (bytes_eq p (j ∷ [])) false on) [
+  | inl here ↦ λ e. some (ap (named geometry image i) (sym (same_bytes p (j ∷ []) here)) ∙ e)
+  | inr none ↦ absurd (true≢false (sym none))
+]
+fronts_named geometry image i p (j ∷ (a ∷ q)) fits some on = elim (or_cases (bytes_eq p (j ∷ (a ∷ q))) (list_any (bytes_eq p) (fronts (a ∷ q))) on) [
+  | inl here ↦ λ e. some (ap (named geometry image i) (sym (same_bytes p (j ∷ (a ∷ q)) here)) ∙ e)
+  | inr above ↦
+      fronts_named geometry image i p (a ∷ q) fits
+      (λ e. some (named_stops geometry image i j a q (ap (in_zone geometry) e ∙ zero_out geometry image fits))) above
+]
 
 -- a file doesn't become large at a block that has a way
-grows_not : (form : Form) (b : ℕ) (p : List ℕ) → last_place form b ≡ Some p → grows_at form b ≡ false
-grows_not Small b p e = elim (cases_lt b 8) [ inl low ↦ lt-leb 8 b low | inr high ↦ absurd (true≢false (ap is_some (sym e ∙ has_no_way Small b high))) ]
+grows_not : (form : Form) (b : ℕ) (p : List ℕ) → last_place form b ≡ Some p → grows_large form (b ∷ []) ≡ false
+grows_not Small b p e = elim (cases_lt b 8) [
+  | inl low ↦ ap (λ t. t || false) (lt-leb 8 b low)
+  | inr high ↦ absurd (true≢false (ap is_some (sym e ∙ has_no_way Small b high)))
+]
 grows_not Large b p e = refl
 grows_not Deep b p e = refl
 grows_not Bare b p e = refl
 
+-- a test that no item passes counts none
+count_none : {X : Type 0} (test : X → Bool) (xs : List X) → ((x : X) → test x ≡ false) → count_by test xs ≡ 0
+count_none test [] none = refl
+count_none {X} test (x ∷ xs) none =
+    let rest = count_none test xs none in
+    let first : ◌≡◌ {A = ℕ} (cond (test x) 1 0) 0 = ap (λ b. cond b 1 0) (none x) in
+    let split = sum_by-cons {X = X} (λ y. cond (test y) 1 0) x xs in omega (arith, rest, split, first)
+
+-- what is on the way and names something isn't missing
+passes_not : (on : Bool) (k : ℕ) → (on ≡ true → k ≢ 0) → ((on || false) && not (not (k == 0))) ≡ false
+passes_not true k some = ap (λ b. not (not b)) (ne_eqb k 0 (some refl))
+passes_not false k some = refl
+
+-- nothing is missing on the way of a block whose last place names something
+none_missing : (geometry : Geometry) (image : List ℕ) (i b : ℕ) (form : Form) (q : List ℕ) → Fits geometry image → last_place form b ≡ Some q
+    → named geometry image i q ≢ 0 → missing_count form (is_named geometry image i) (b ∷ []) ≡ 0
+unfolding missing_count
+none_missing geometry image i b form q fits e some =
+    let ways : way form b ≡ fronts q = ap (λ o. option_map_or fronts o []) e in
+    count_none (λ p. is_on_ways form (b ∷ []) p && not (is_named geometry image i p)) (places form)
+    (λ p. passes_not (list_any (bytes_eq p) (way form b)) (named geometry image i p)
+    (λ on. fronts_named geometry image i p q fits some (ap (list_any (bytes_eq p)) (sym ways) ∙ on)))
+
 -- two bytes of a block that is stored need no block
 pub needs_none : (geometry : Geometry) (image : List ℕ) (i b offset : ℕ) → Fits geometry image → offset / 512 ≡ b → (offset + 1) / 512 ≡ b
     → in_zone geometry (stored geometry image i (form_at geometry image i) b) ≡ true → need geometry image i offset 2 ≡ 0
+unfolding need_of
 needs_none geometry image i b offset fits first last zone =
     let form = form_at geometry image i in
     let names = is_named geometry image i in
     let some = zone_some geometry image (stored geometry image i form b) fits zone in
+    let count : (offset + 1) / 512 - offset / 512 + 1 ≡ 1 = omega arith in
+    let blocks : touched offset 2 ≡ b ∷ [] = ap (range_with_len (offset / 512)) count ∙ ap (λ n. range_with_len n 1) first in
     elim (last_place form b) as (λ o. last_place form b ≡ o → need geometry image i offset 2 ≡ 0) [
       | None ↦ λ e. absurd (some (stored_none geometry image i form b e))
       | Some p ↦ λ e.
-          let grows = grows_not form b p e in
-          let missing : missing_at form names (b == b) b ≡ 0 =
-          ap (λ o. option_map_or (missing_to names (b == b)) o 0) e
-          ∙ none_missing geometry image i (b == b) p fits (λ z. some (stored_is geometry image i form b p e ∙ z)) in
-          let start = missing_start form names b in
-          let more = missing_more form names b b (omega arith) in
-          need_some form names offset 2 b (omega arith) (sym last)
-          ∙ (ap (λ t. missing_from (grown_form form t) (grown_names names t) (offset / 512) (b + 1 - offset / 512) + (if t then 1 else 0)) grows
-          ∙ (ap (λ n. missing_from form names n (b + 1 - n) + 0) first ∙ omega (arith, more, start, missing)))
+          ap (need_of form names) blocks
+          ∙ (ap (λ t. missing_count (if t then Large else form) (if t then moved_down names else names) (b ∷ []) + (if t then 1 else 0)) (grows_not form b p e)
+          ∙ ap (λ n. n + 0) (none_missing geometry image i b form p fits e (λ z. some (stored_is geometry image i form b p e ∙ z))))
     ] refl
 
 -- the block of a slot with an entry is stored
@@ -83,6 +106,17 @@ held_zone geometry image name d s within held =
     let empty = entry_in_hole geometry image d (s / 32) (s % 32) at (omega arith) (omega arith) refl hole in
     true≢false (sym held ∙ ap (holds name) (ap (entry_at geometry image d) (sym place) ∙ empty)))
 
+-- two zeros
+zero_at : (r : ℕ) → r < 2 → ◌≡◌ {A = ℕ} (get_or (0 ∷ (0 ∷ [])) r 0) 0
+zero_at zero h = refl
+zero_at (suc zero) h = refl
+zero_at (suc (suc r)) h = absurd (omega arith)
+
+-- where two zeros were put, bytes are zero
+zeros_put : (whole bytes : List ℕ) (at r : ℕ) → at ≤ length bytes → r < 2 → whole ≡ spliced bytes at (0 ∷ (0 ∷ [])) → get_or whole (at + r) 0 ≡ 0
+zeros_put whole bytes at r start h is =
+    ap (λ xs. get_or xs (at + r) 0) is ∙ (spliced_inside bytes at (0 ∷ (0 ∷ [])) r start h ∙ zero_at r h)
+
 -- zeros in place of its number empty a slot
 pub removes : (geometry : Geometry) (old new blocks : List ℕ) (d s : ℕ) → IsFile geometry old d → IsSoundWith geometry old blocks
     → size_of geometry old d % 16 ≡ 0 → s < slot_count geometry old d → Writes geometry old new d (16 * s) (0 ∷ (0 ∷ [])) blocks
@@ -92,11 +126,11 @@ removes geometry old new blocks d s file sound whole within writes =
     let size = writes.size in
     let len_old = length-body geometry old d in
     let start : 16 * s ≤ length (body geometry old d) = omega (arith, len_old, limit, within) in
-    let byte : (r : ℕ) → r < 2 → get_or (0 ∷ (0 ∷ [])) r 0 ≡ 0 → get_or (body geometry new d) (16 * s + r) 0 ≡ 0 =
-    λ r h e. ap (λ xs. get_or xs (16 * s + r) 0) writes.body ∙ (spliced_inside (body geometry old d) (16 * s) (0 ∷ (0 ∷ [])) r start h ∙ e) in
     let place : 16 * s + 0 ≡ 16 * s = omega arith in
-    let low : get_or (body geometry new d) (16 * s) 0 ≡ 0 = ap (λ n. get_or (body geometry new d) n 0) (sym place) ∙ byte 0 (omega arith) refl in
-    let high : get_or (body geometry new d) (16 * s + 1) 0 ≡ 0 = byte 1 (omega arith) refl in
+    let low : get_or (body geometry new d) (16 * s) 0 ≡ 0 =
+    ap (λ n. get_or (body geometry new d) n 0) (sym place) ∙ zeros_put (body geometry new d) (body geometry old d) (16 * s) 0 start (omega arith) writes.body in
+    let high : get_or (body geometry new d) (16 * s + 1) 0 ≡ 0 =
+    zeros_put (body geometry new d) (body geometry old d) (16 * s) 1 start (omega arith) writes.body in
     replaces geometry old new d s (0 ∷ (0 ∷ [])) None (record {
       limit = limit;
       whole = whole;
@@ -121,12 +155,10 @@ slot_named_is geometry image name d s within held before =
 
 -- a slot that doesn't hold the name stays
 stays : (name : List ℕ) (slot : Option (List ℕ × ℕ)) → holds name slot ≡ false → slot ≡ cleared name slot
-unfolding cleared
 stays name slot e = rw e
 
 -- a slot that holds the name is emptied
 goes : (name : List ℕ) (slot : Option (List ℕ × ℕ)) → holds name slot ≡ true → None ≡ cleared name slot
-unfolding cleared
 goes name slot e = rw e
 
 -- the name's slot is the only one that is emptied
@@ -135,7 +167,7 @@ pub slots_cleared : (geometry : Geometry) (image name : List ℕ) (d s : ℕ) �
 slots_cleared geometry image name d s within names held =
     let len = length-slots geometry image d in
     let with = length-with_item (slots geometry image d) s None (omega arith) in
-    let mapped = length-map (cleared name) (slots geometry image d) in
+    let mapped = length-map (slots geometry image d) (cleared name) in
     same_lists (with_item (slots geometry image d) s None) (map (cleared name) (slots geometry image d)) (omega arith)
     (λ k e h.
     let low : k < slot_count geometry image d = omega arith in

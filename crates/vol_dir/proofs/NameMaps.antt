@@ -157,7 +157,7 @@ names_in_with (first ∷ slots) (suc s) slot =
     ∙ sym (with_item_next (option_map (λ (entry : List ℕ × ℕ). entry.0) first) (option_map (λ (entry : List ℕ × ℕ). entry.0) slot) (names_in slots) s))
 
 -- a slot once a name is removed
-pub cleared : List ℕ → Option (List ℕ × ℕ) → Option (List ℕ × ℕ)
+abbrev pub cleared : List ℕ → Option (List ℕ × ℕ) → Option (List ℕ × ℕ)
 cleared name slot = cond (holds name slot) None slot
 
 -- what the map answers once a name is removed
@@ -174,7 +174,6 @@ get_remove names name q =
 -- what the map answers once a name is cleared out of its slots
 get_cleared : (slots : List (Option (List ℕ × ℕ))) (name q : List ℕ)
     → get (names_of (map (cleared name) slots)) q ≡ cond (bytes_eq name q) None (get (names_of slots) q)
-unfolding cleared
 get_cleared [] name q = elim (bytes_eq name q) as (λ b. get [] q ≡ cond b None (get [] q)) [ true ↦ refl | false ↦ refl ]
 get_cleared (None ∷ slots) name q = get_cleared slots name q
 get_cleared (Some entry ∷ slots) name q =
@@ -206,7 +205,6 @@ names_cleared slots name =
 
 -- a name cleared out of its slots leaves those slots without a name
 pub names_in_cleared : (slots : List (Option (List ℕ × ℕ))) (name : List ℕ) → names_in (map (cleared name) slots) ≡ map (emptied name) (names_in slots)
-unfolding cleared
 names_in_cleared [] name = refl
 names_in_cleared (None ∷ slots) name = ap (λ names. None ∷ names) (names_in_cleared slots name)
 names_in_cleared (Some entry ∷ slots) name =

@@ -1,33 +1,29 @@
 -- What a new entry makes of a directory.
-use Rattle.std.proofs.Common.{◌≡◌, ◌≢◌, ◌∙◌, sym, ap, not, subst, refl, ℕ, ◌+◌, ◌-◌, ◌*◌, ◌/◌, ◌%◌, ◌<◌, ◌≤◌, Bool, true, false, true≢false, List, [], ◌∷◌, ◌++◌, length, take, drop, get_or, None, Some, inl, inr, arith, ◌==◌, if◌then◌else◌}
-use Rattle.std.specs.Prelude.{Option, replicate, slice_range}
-use Rattle.std.specs.List.{list_any, position_or_len, before_first}
+use Rattle.std.proofs.Common.{◌≡◌, ◌≢◌, ◌∙◌, sym, ap, not, subst, refl, ℕ, ◌+◌, ◌-◌, ◌*◌, ◌/◌, ◌%◌, ◌<◌, ◌≤◌, true, true≢false, List, length, take, get_or, None, Some, inl, inr, arith, ◌==◌, if◌then◌else◌}
+use Rattle.std.specs.Prelude.{Option, replicate}
+use Rattle.std.specs.List.{position_or_len}
 use Rattle.std.specs.Option.{is_none, option_map}
-use Rattle.std.specs.Str.{bytes_eq}
-use Rattle.std.proofs.lemmas.Bool.{cases_lt, ne_eqb, cases_eq, false_from_ne_true}
+use Rattle.std.proofs.lemmas.Bool.{cases_lt, ne_eqb, cases_eq}
 use Rattle.std.proofs.lemmas.List.{take_all, get_or_past, get_or_append_left, get_or-append_right, get_or-replicate, get_or-map, length-append, length-replicate}
 use Rattle.std.proofs.lemmas.List.Folds.{list_any_at}
 use Rattle.std.proofs.lemmas.List.Sums.{passes_at_first, position_or_len_is, prefix_len-le-length}
 use Rattle.std.proofs.Math.Seq.{take-append_seam}
-use Rattle.pdp_words.specs.Words.{word}
 use Rattle.vol_layout.specs.Edition.{constants}
 use Rattle.vol_layout.specs.Names.{IsFile}
 use Rattle.vol_layout.specs.Body.{body}
 use Rattle.vol_layout.specs.Slot.{slot_at, name_of, padded_name}
 use Rattle.vol_layout.proofs.BodyLaws.{length-body}
-use Rattle.vol_layout.proofs.CopyLaws.{IsCopy}
 use Rattle.vol_layout.proofs.SlotLaws.{slot_copied}
 use Rattle.vol_layout.specs.declared.geometry.Geometry.{Geometry}
-use Rattle.vol_layout.specs.declared.slot.Slot.{Slot}
 use Rattle.vol_file.specs.Changes.{spliced, Writes}
 use Rattle.vol_file.specs.Rules.{size_of, IsSoundWith}
-use Rattle.vol_dir.specs.Editing.{slot_bytes, with_item, HasNamesOnce}
+use Rattle.vol_dir.specs.Editing.{slot_bytes, HasNamesOnce}
 use Rattle.vol_dir.specs.Entries.{entry_in, slot_count, entry_at, slots}
-use Rattle.vol_dir.specs.Names.{get, insert, names_of, names_in}
+use Rattle.vol_dir.specs.Names.{get, names_of, names_in}
 use Rattle.vol_dir.specs.Searching.{holds, new_slot}
 use Rattle.vol_dir.proofs.Finding.{length-names_in}
-use Rattle.vol_dir.proofs.NameMaps.{same_bytes, none_held, names_with, names_in_with}
-use Rattle.vol_dir.proofs.Replacing.{Replaces, PutsInSlot, replaces, slots_with, spliced_inside}
+use Rattle.vol_dir.proofs.NameMaps.{same_bytes, none_held}
+use Rattle.vol_dir.proofs.Replacing.{Replaces, replaces, spliced_inside}
 use Rattle.vol_dir.proofs.SlotReading.{length-slots, slot_is}
 
 -- zeros stand behind a name

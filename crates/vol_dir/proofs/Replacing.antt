@@ -1,5 +1,5 @@
 -- What becomes of the slots of a directory where bytes are put in one of them.
-use Rattle.std.proofs.Common.{suc, ◌≡◌, ◌≢◌, ◌∙◌, sym, ap, subst, refl, ℕ, ◌+◌, ◌-◌, ◌*◌, ◌/◌, ◌%◌, ◌<◌, ◌≤◌, max, min, List, [], ◌∷◌, ◌++◌, map, length, take, drop, get_or, None, Some, inl, inr, arith, ltb, if◌then◌else◌}
+use Rattle.std.proofs.Common.{suc, ◌≡◌, ◌≢◌, ◌∙◌, sym, ap, refl, ℕ, ◌+◌, ◌-◌, ◌*◌, ◌/◌, ◌%◌, ◌<◌, ◌≤◌, max, List, ◌∷◌, ◌++◌, map, length, take, drop, get_or, None, inl, inr, arith, ltb, if◌then◌else◌}
 use Rattle.std.specs.Prelude.{Option, replicate, ◌⊎◌}
 use Rattle.std.specs.List.{range_with_len}
 use Rattle.std.proofs.lemmas.Bool.{cases_lt, cases_eq}
@@ -8,7 +8,6 @@ use Rattle.vol_layout.specs.Body.{body_size, body}
 use Rattle.vol_layout.specs.Slot.{slot_at}
 use Rattle.vol_layout.specs.Edition.{constants}
 use Rattle.vol_layout.proofs.BodyLaws.{length-body}
-use Rattle.vol_layout.proofs.CopyLaws.{IsCopy}
 use Rattle.vol_layout.proofs.SlotLaws.{slot_copied}
 use Rattle.vol_layout.specs.declared.geometry.Geometry.{Geometry}
 use Rattle.vol_file.specs.Changes.{spliced}

@@ -1,8 +1,8 @@
-use Rattle.std.proofs.Common.{◌≡◌, ◌≤◌, ◌∙◌, sym, subst, ap, length, None, Some, ◌*◌, List, ℕ, ◌+◌, ◌%◌, max, arith}
+use Rattle.std.proofs.Common.{◌≤◌, ◌∙◌, ap, length, Some, ◌*◌, List, ℕ, arith}
 use Rattle.vol_file.specs.Changes.{Writes}
-use Rattle.vol_file.specs.Rules.{size_of, IsSoundWith}
+use Rattle.vol_file.specs.Rules.{IsSoundWith}
 use Rattle.vol_dir.specs.Editing.{slot_bytes}
-use Rattle.vol_dir.specs.Entries.{slots, slot_count}
+use Rattle.vol_dir.specs.Entries.{slots}
 use Rattle.vol_dir.specs.Names.{names_of, names_in}
 use Rattle.vol_dir.specs.Searching.{new_slot}
 use Rattle.vol_dir.proofs.NameMaps.{none_held, names_with, names_in_with}

@@ -1,4 +1,4 @@
-use Rattle.std.proofs.Common.{◌∙◌, ap, ◌∷◌, ◌++◌, [], ◌%◌, ◌/◌}
+use Rattle.std.proofs.Common.{◌∙◌, ap, ◌∷◌, ◌%◌, ◌/◌}
 use Rattle.std.proofs.lemmas.List.{append-nil}
 use Rattle.vol_dir.proofs.adding.slot_bytes.Goals as goal
 

@@ -12,3 +12,6 @@ pub use cred::Cred;
 pub use entries::{find, is_empty_dir, place_for};
 pub use refusal::Refusal;
 pub use removing::remove;
+
+#[cfg(test)]
+mod volumes;

@@ -3,5 +3,8 @@ mod WalkLaws
 mod ParentLaws
 mod PathJoins
 pub mod Finding
+pub mod GoneEntries
 pub mod NameMaps
+pub mod NewEntries
+pub mod Replacing
 pub mod SlotReading

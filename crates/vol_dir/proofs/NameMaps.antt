@@ -1,18 +1,21 @@
 -- Laws of the map of a directory's names: what it answers, and what a new or removed entry makes of it.
-use Rattle.std.proofs.Common.{◌≡◌, ◌∙◌, sym, ap, subst, refl, ℕ, zero, suc, ◌<◌, Bool, true, false, cond, not, ◌||◌, List, [], ◌∷◌, length, get_or, None, Some, arith}
+use Rattle.std.proofs.Common.{◌≡◌, ◌∙◌, sym, ap, subst, refl, ℕ, zero, suc, ◌+◌, ◌<◌, ◌≤◌, Bool, true, false, cond, not, ◌||◌, List, [], ◌∷◌, ◌++◌, take, drop, map, length, get_or, None, Some, arith}
 use Rattle.std.specs.Prelude.{Option, T}
 use Rattle.std.specs.List.{list_any}
-use Rattle.std.specs.Option.{option_map}
+use Rattle.std.specs.Option.{option_map, is_some}
 use Rattle.std.specs.Str.{bytes_eq}
-use Rattle.std.specs.Ordering.{nat_cmp}
+use Rattle.std.specs.Ordering.{nat_cmp, eq_by_cmp}
 use Rattle.std.specs.declared.cmp.Ordering.TheVariants.{Less, Equal, Greater}
 use Rattle.std.specs.Cmp.Lexicographic.{slice_cmp}
-use Rattle.std.specs.FinMap.Entries.{by_order, put, is_sorted, find-put, is_sorted-put}
+use Rattle.std.specs.FinMap.Entries.{by_order, put, is_sorted, find-put, is_sorted-put, find-where_key, is_sorted-where_key, same_entries}
 use Rattle.std.proofs.lemmas.Cmp.{nat_list_cmp_total}
+use Rattle.std.proofs.lemmas.Bool.{or_parts, true≢false, false_from_ne_true}
 use Rattle.std.proofs.lemmas.Map.Lookups.{exact_bytes}
 use Rattle.std.proofs.lemmas.Map.Text.{is_eq-slice_cmp}
-use Rattle.vol_dir.specs.Names.{Names, get, insert, names_of}
-use Rattle.vol_dir.specs.Searching.{is_dots, holds, holds_other}
+use Rattle.std.proofs.lemmas.Slice.Eq.{bytes_eq-Decides}
+use Rattle.vol_dir.specs.Editing.{with_item}
+use Rattle.vol_dir.specs.Names.{Names, get, insert, remove, names_of, names_in}
+use Rattle.vol_dir.specs.Searching.{is_dots, holds, holds_other, emptied}
 
 -- a name that is put in a map is found there, and every other name as before
 get_insert : (names : Names) (name q : List ℕ) (i : ℕ) → get (insert names name i) q ≡ cond (bytes_eq q name) (Some i) (get names q)
@@ -80,3 +83,133 @@ any_other [] = refl
 any_other (None ∷ slots) = any_other slots
 any_other (Some entry ∷ slots) =
     any_put (λ name. not (is_dots name)) entry.0 entry.1 (names_of slots) ∙ ap (λ b. not (is_dots entry.0) || b) (any_other slots)
+
+-- where a name isn't found, no slot holds it
+pub none_held : (slots : List (Option (List ℕ × ℕ))) (name : List ℕ) → get (names_of slots) name ≡ None → list_any (holds name) slots ≡ false
+none_held [] name none = refl
+none_held (None ∷ slots) name none = none_held slots name none
+none_held (Some entry ∷ slots) name none =
+    elim (bytes_eq name entry.0) as (λ b. cond b (Some entry.1) (get (names_of slots) name) ≡ None → (b || list_any (holds name) slots) ≡ false) [
+      | true ↦ λ e. absurd (true≢false (ap is_some e))
+      | false ↦ λ e. none_held slots name e
+    ] (sym (get_insert (names_of slots) entry.0 name entry.1) ∙ none)
+
+-- two tests that don't both pass may be asked in either order
+turned : {X : Type 0} (a b : Bool) (x y z : X) → (a ≡ true → b ≡ true → ⊥) → cond a x (cond b y z) ≡ cond b y (cond a x z)
+turned true true x y z apart = absurd (apart refl refl)
+turned true false x y z apart = refl
+turned false b x y z apart = refl
+
+-- names with equal bytes are equal
+pub same_bytes : (xs ys : List ℕ) → bytes_eq xs ys ≡ true → xs ≡ ys
+same_bytes xs ys e = (bytes_eq-Decides xs ys).0 e
+
+-- and the other way round
+pub bytes_same : (xs ys : List ℕ) → xs ≡ ys → bytes_eq xs ys ≡ true
+bytes_same xs ys e = (bytes_eq-Decides xs ys).1 e
+
+-- another item behind the first
+with_item_next : {X : Type 0} (first x : X) (xs : List X) (s : ℕ) → with_item (first ∷ xs) (suc s) x ≡ first ∷ with_item xs s x
+with_item_next first x xs s = let next : suc s + 1 ≡ suc (s + 1) = omega arith in ap (λ n. first ∷ (take s xs ++ x ∷ drop n (first ∷ xs))) next
+
+-- an item past the end of a list of none
+with_item_none : {X : Type 0} (x : X) (s : ℕ) → with_item [] (suc s) x ≡ x ∷ []
+with_item_none x s = let next : suc s + 1 ≡ suc (s + 1) = omega arith in ap (λ n. x ∷ drop n []) next
+
+-- what the map answers once a name is put in an empty slot, or behind the last
+get_with : (slots : List (Option (List ℕ × ℕ))) (s i : ℕ) (name q : List ℕ) → s ≤ length slots → get_or slots s None ≡ None
+    → list_any (holds name) slots ≡ false
+    → get (names_of (with_item slots s (Some (name, i)))) q ≡ cond (bytes_eq q name) (Some i) (get (names_of slots) q)
+get_with [] zero i name q h empty none = get_insert [] name q i
+get_with [] (suc s) i name q h empty none = absurd (omega arith)
+get_with (None ∷ slots) zero i name q h empty none = get_insert (names_of slots) name q i
+get_with (None ∷ slots) (suc s) i name q h empty none =
+    ap (λ xs. get (names_of xs) q) (with_item_next None (Some (name, i)) slots s) ∙ get_with slots s i name q (omega arith) empty none
+get_with (Some entry ∷ slots) zero i name q h empty none = absurd (true≢false (ap is_some empty))
+get_with (Some entry ∷ slots) (suc s) i name q h empty none =
+    let parts = or_parts (bytes_eq name entry.0) (list_any (holds name) slots) none in
+    ap (λ xs. get (names_of xs) q) (with_item_next (Some entry) (Some (name, i)) slots s)
+    ∙ (get_insert (names_of (with_item slots s (Some (name, i)))) entry.0 q entry.1
+    ∙ (ap (cond (bytes_eq q entry.0) (Some entry.1)) (get_with slots s i name q (omega arith) empty parts.1)
+    ∙ (turned (bytes_eq q entry.0) (bytes_eq q name) (Some entry.1) (Some i) (get (names_of slots) q)
+    (λ a b. true≢false (sym (bytes_same name entry.0 (sym (same_bytes q name b) ∙ same_bytes q entry.0 a)) ∙ parts.0))
+    ∙ ap (cond (bytes_eq q name) (Some i)) (sym (get_insert (names_of slots) entry.0 q entry.1)))))
+
+-- a name put in an empty slot, or behind the last, is put in the map
+pub names_with : (slots : List (Option (List ℕ × ℕ))) (s i : ℕ) (name : List ℕ) → s ≤ length slots → get_or slots s None ≡ None
+    → list_any (holds name) slots ≡ false → names_of (with_item slots s (Some (name, i))) ≡ insert (names_of slots) name i
+names_with slots s i name h empty none =
+    same_entries (slice_cmp nat_cmp) nat_list_cmp_total exact_bytes (names_of (with_item slots s (Some (name, i)))) (insert (names_of slots) name i)
+    (sorted (with_item slots s (Some (name, i))))
+    (is_sorted-put (slice_cmp nat_cmp) nat_list_cmp_total name i (names_of slots) (sorted slots))
+    (λ q. get_with slots s i name q h empty none ∙ sym (get_insert (names_of slots) name q i))
+
+-- the names in slots of which one is another
+pub names_in_with : (slots : List (Option (List ℕ × ℕ))) (s : ℕ) (slot : Option (List ℕ × ℕ))
+    → names_in (with_item slots s slot) ≡ with_item (names_in slots) s (option_map (λ (entry : List ℕ × ℕ). entry.0) slot)
+names_in_with [] zero slot = refl
+names_in_with [] (suc s) slot =
+    ap names_in (with_item_none slot s) ∙ sym (with_item_none (option_map (λ (entry : List ℕ × ℕ). entry.0) slot) s)
+names_in_with (first ∷ slots) zero slot = refl
+names_in_with (first ∷ slots) (suc s) slot =
+    ap names_in (with_item_next first slot slots s)
+    ∙ (ap (λ names. option_map (λ (entry : List ℕ × ℕ). entry.0) first ∷ names) (names_in_with slots s slot)
+    ∙ sym (with_item_next (option_map (λ (entry : List ℕ × ℕ). entry.0) first) (option_map (λ (entry : List ℕ × ℕ). entry.0) slot) (names_in slots) s))
+
+-- a slot once a name is removed
+abbrev pub cleared : List ℕ → Option (List ℕ × ℕ) → Option (List ℕ × ℕ)
+cleared name slot = cond (holds name slot) None slot
+
+-- what the map answers once a name is removed
+get_remove : (names : Names) (name q : List ℕ) → get (remove names name) q ≡ cond (bytes_eq name q) None (get names q)
+get_remove names name q =
+    find-where_key (slice_cmp nat_cmp) (λ other. not (eq_by_cmp (slice_cmp nat_cmp) name other)) q
+    (λ x e. ap (λ other. not (eq_by_cmp (slice_cmp nat_cmp) name other)) (sym (exact_bytes q x e))) names
+    ∙ (ap (λ b. cond (not b) (get names q) None) (is_eq-slice_cmp name q) ∙ not_cond (bytes_eq name q) (get names q) None)
+  where
+    not_cond : {X : Type 0} (b : Bool) (x y : X) → cond (not b) x y ≡ cond b y x
+    not_cond true x y = refl
+    not_cond false x y = refl
+
+-- what the map answers once a name is cleared out of its slots
+get_cleared : (slots : List (Option (List ℕ × ℕ))) (name q : List ℕ)
+    → get (names_of (map (cleared name) slots)) q ≡ cond (bytes_eq name q) None (get (names_of slots) q)
+get_cleared [] name q = elim (bytes_eq name q) as (λ b. get [] q ≡ cond b None (get [] q)) [ true ↦ refl | false ↦ refl ]
+get_cleared (None ∷ slots) name q = get_cleared slots name q
+get_cleared (Some entry ∷ slots) name q =
+    elim (bytes_eq name entry.0) as (λ b. bytes_eq name entry.0 ≡ b
+    → get (names_of (cond b None (Some entry) ∷ map (cleared name) slots)) q ≡ cond (bytes_eq name q) None (get (insert (names_of slots) entry.0 entry.1) q)) [
+      | true ↦ λ e. get_cleared slots name q
+          ∙ elim (bytes_eq name q) as (λ b. bytes_eq name q ≡ b
+          → cond b None (get (names_of slots) q) ≡ cond b None (get (insert (names_of slots) entry.0 entry.1) q)) [
+            | true ↦ λ f. refl
+            | false ↦ λ f. sym (get_insert (names_of slots) entry.0 q entry.1
+                ∙ ap (λ b. cond b (Some entry.1) (get (names_of slots) q))
+                (false_from_ne_true (bytes_eq q entry.0)
+                (λ g. true≢false (sym (bytes_same name q (same_bytes name entry.0 e ∙ sym (same_bytes q entry.0 g))) ∙ f))))
+          ] refl
+      | false ↦ λ e. get_insert (names_of (map (cleared name) slots)) entry.0 q entry.1
+          ∙ (ap (cond (bytes_eq q entry.0) (Some entry.1)) (get_cleared slots name q)
+          ∙ (turned (bytes_eq q entry.0) (bytes_eq name q) (Some entry.1) None (get (names_of slots) q)
+          (λ a b. true≢false (sym (bytes_same name entry.0 (same_bytes name q b ∙ same_bytes q entry.0 a)) ∙ e))
+          ∙ ap (cond (bytes_eq name q) None) (sym (get_insert (names_of slots) entry.0 q entry.1))))
+    ] refl
+
+-- a name cleared out of its slots is removed from the map
+pub names_cleared : (slots : List (Option (List ℕ × ℕ))) (name : List ℕ) → names_of (map (cleared name) slots) ≡ remove (names_of slots) name
+names_cleared slots name =
+    same_entries (slice_cmp nat_cmp) nat_list_cmp_total exact_bytes (names_of (map (cleared name) slots)) (remove (names_of slots) name)
+    (sorted (map (cleared name) slots))
+    (is_sorted-where_key (slice_cmp nat_cmp) (λ other. not (eq_by_cmp (slice_cmp nat_cmp) name other)) (names_of slots) (sorted slots))
+    (λ q. get_cleared slots name q ∙ sym (get_remove (names_of slots) name q))
+
+-- a name cleared out of its slots leaves those slots without a name
+pub names_in_cleared : (slots : List (Option (List ℕ × ℕ))) (name : List ℕ) → names_in (map (cleared name) slots) ≡ map (emptied name) (names_in slots)
+names_in_cleared [] name = refl
+names_in_cleared (None ∷ slots) name = ap (λ names. None ∷ names) (names_in_cleared slots name)
+names_in_cleared (Some entry ∷ slots) name =
+    elim (bytes_eq name entry.0) as (λ b. names_in (cond b None (Some entry) ∷ map (cleared name) slots)
+    ≡ cond b None (Some entry.0) ∷ map (emptied name) (names_in slots)) [
+      | true ↦ ap (λ names. None ∷ names) (names_in_cleared slots name)
+      | false ↦ ap (λ names. Some entry.0 ∷ names) (names_in_cleared slots name)
+    ]

@@ -60,7 +60,7 @@ entry_in_block geometry image d b t k fits few within is zone =
     }) (omega arith) (omega arith))
 
 -- a slot whose number is 0 is empty
-empty_slot : (slot : Slot) → slot.inode ≡ 0 → entry_in slot ≡ None
+pub empty_slot : (slot : Slot) → slot.inode ≡ 0 → entry_in slot ≡ None
 empty_slot slot e = rw e
 
 -- slot t of logical block b, where what is stored for it is no data block
@@ -121,12 +121,17 @@ pub length-slots : (geometry : Geometry) (image : List ℕ) (d : ℕ) → length
 unfolding slots
 length-slots geometry image d = length-map-range_with_len (entry_at geometry image d) 0 (slot_count geometry image d)
 
+-- entry s of the list, whatever is told for a place past its end
+pub slot_from : (geometry : Geometry) (image : List ℕ) (d s : ℕ) (other : Option (List ℕ × ℕ)) → s < slot_count geometry image d
+    → get_or (slots geometry image d) s other ≡ entry_at geometry image d s
+unfolding slots
+slot_from geometry image d s other h =
+    get_or-map-range_with_len (entry_at geometry image d) 0 (slot_count geometry image d) s s other h (omega arith)
+
 -- entry s of the list
 pub get_or-slots : (geometry : Geometry) (image : List ℕ) (d s : ℕ) → s < slot_count geometry image d
     → get_or (slots geometry image d) s None ≡ entry_at geometry image d s
-unfolding slots
-get_or-slots geometry image d s h =
-    get_or-map-range_with_len (entry_at geometry image d) 0 (slot_count geometry image d) s s None h (omega arith)
+get_or-slots geometry image d s h = slot_from geometry image d s None h
 
 -- entry s of the list, also past its end
 pub slot_is : (geometry : Geometry) (image : List ℕ) (d s : ℕ) → get_or (slots geometry image d) s None ≡ entry_at geometry image d s

@@ -1,4 +1,5 @@
 pub mod Access
+pub mod Editing
 pub mod Entries
 pub mod Names
 pub mod PathLaws

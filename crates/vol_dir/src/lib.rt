@@ -2,16 +2,20 @@
 #![tactic(auto)]
 
 pub mod access;
+pub mod adding;
 pub mod cred;
 pub mod entries;
 pub mod laws;
 pub mod paths;
 pub mod refusal;
+pub mod removing;
 pub mod walking;
 
 pub use access::{Access, grants};
+pub use adding::add;
 pub use cred::Cred;
-pub use entries::{find, is_empty_dir, place_for};
+pub use entries::{find, is_empty_dir, next_entry, place_for};
 pub use paths::split_component;
 pub use refusal::Refusal;
+pub use removing::remove;
 pub use walking::{walk, walk_parent};

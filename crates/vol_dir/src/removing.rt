@@ -1,0 +1,44 @@
+//! An entry of a directory that goes.
+ghost use Rattle.std.specs.Prelude.{◌≡◌, ◌≢◌, ℕ, ◌+◌, ◌*◌, ◌%◌, ◌<◌, ◌≤◌, List, [], ◌∷◌, map, length, IsSome};
+ghost use Rattle.vol_layout.specs.Geometry.{Fits};
+ghost use Rattle.vol_layout.specs.Names.{IsFile};
+ghost use Rattle.vol_file.specs.Changes.{Writes};
+ghost use Rattle.vol_file.specs.Need.{need};
+ghost use Rattle.vol_file.specs.Rules.{size_of, IsSoundWith, HasSoundFiles};
+ghost use Rattle.vol_dir.specs.Editing.{HasNamesOnce};
+ghost use Rattle.vol_dir.specs.Entries.{slots};
+ghost use Rattle.vol_dir.specs.Names.{get, remove, names_of, names_in};
+ghost use Rattle.vol_dir.specs.Searching.{slot_named, emptied};
+
+use crate::entries::{Sought, first_slot};
+use pdp_words::Image;
+use vol_file::write;
+use vol_layout::Geometry;
+
+/// Takes `name`, which is there, out of directory `dir`: the i-number of its slot becomes 0, and the
+/// name's bytes stay. The size of the directory stays, and no block is taken or given back.
+///
+/// Costs as much as [`find`](crate::find) of the name.
+pub fn remove(image: &mut Image, geometry: &Geometry, dir: u16, name: &[u8])
+    requires file { IsFile geometry.now image.old dir }
+    requires sound { HasSoundFiles geometry.now image.old }
+    requires whole { size_of geometry.now image.old dir % 16 ≡ 0 }
+    requires once { HasNamesOnce geometry.now image.old dir }
+    requires there { IsSome (get (names_of (slots geometry.now image.old dir)) name.now) }
+    ensures written { (blocks : List ℕ) → IsSoundWith geometry.now image.old blocks
+        → Writes geometry.now image.old image.new dir (16 * slot_named name.now (slots geometry.now image.old dir)) (0 ∷ 0 ∷ []) blocks }
+    ensures none { need geometry.now image.old dir (16 * slot_named name.now (slots geometry.now image.old dir)) 2 ≡ 0 }
+    ensures names { names_of (slots geometry.now image.new dir) ≡ remove (names_of (slots geometry.now image.old dir)) name.now }
+    ensures slots { names_in (slots geometry.now image.new dir) ≡ map (emptied name.now) (names_in (slots geometry.now image.old dir)) }
+    ensures others { (d : ℕ) → d ≢ dir → IsFile geometry.now image.old d → slots geometry.now image.new d ≡ slots geometry.now image.old d }
+    ensures once { HasNamesOnce geometry.now image.new dir }
+    ensures size { size_of geometry.now image.new dir ≡ size_of geometry.now image.old dir }
+    ensures sound { HasSoundFiles geometry.now image.new }
+    ensures fits { Fits geometry.now image.new }
+    ensures file { IsFile geometry.now image.new dir }
+{
+    match first_slot(image, geometry, dir, Sought::Named(name)) {
+        None => {}
+        Some(s) => write(image, geometry, dir, 16 * s, &[0, 0]),
+    }
+}

@@ -1,8 +1,9 @@
 mod Components
-mod WalkLaws
 mod ParentLaws
 mod PathJoins
+mod WalkLaws
 pub mod Finding
+pub mod GoingOn
 pub mod GoneEntries
 pub mod NameMaps
 pub mod NewEntries

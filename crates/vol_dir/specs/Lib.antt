@@ -4,6 +4,7 @@ pub mod Entries
 pub mod Names
 pub mod PathLaws
 pub mod Refusals
+pub mod Scanning
 pub mod Searching
 pub mod Tree
 pub mod Walk

@@ -14,7 +14,7 @@ use vol_layout::slot::SLOT;
 use vol_layout::{Geometry, Slot};
 
 /// Slots in a block.
-const SLOTS: u32 = 32;
+pub(crate) const SLOTS: u32 = 32;
 
 /// What a search over the slots of a directory looks for.
 #[derive(Clone, Copy, Debug)]

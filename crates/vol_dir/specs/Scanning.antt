@@ -1,0 +1,17 @@
+-- Going over the entries of a directory, slot after slot.
+use Rattle.std.specs.Prelude.{◌≡◌, ◌≢◌, ℕ, ◌<◌, ◌≤◌, List, Option, None, MatchOption}
+use Rattle.vol_dir.specs.Entries.{entry_in}
+use Rattle.vol_layout.specs.declared.slot.Slot.{Slot}
+
+-- slot s is the first from slot `from` on, of so many, that has an entry, and this is what it holds (manual section 5, directories)
+pub record IsNextEntry (entry : ℕ → Option (List ℕ × ℕ)) (from count s : ℕ) (slot : Slot) : Type 0 where
+  pub reached : from ≤ s
+  pub within : s < count
+  pub some : slot.inode ≢ 0
+  pub holds : entry s ≡ entry_in slot
+  pub none : (t : ℕ) → from ≤ t → t < s → entry t ≡ None
+
+-- what going on from slot `from` to the next entry answers: None where no slot from there on has one (manual section 5, directories)
+abbrev pub GoesOn : (ℕ → Option (List ℕ × ℕ)) → ℕ → ℕ → Option (ℕ × Slot) → Type 0
+GoesOn entry from count result =
+    MatchOption result ((t : ℕ) → from ≤ t → t < count → entry t ≡ None) (λ found. IsNextEntry entry from count found.0 found.1)

@@ -1,9 +1,12 @@
 -- The slots of a directory, and the entries in them.
-use Rattle.std.specs.Prelude.{ℕ, ◌*◌, ◌/◌, ◌==◌, nat_lt, if◌then◌else◌, List, map, Option, None, Some}
-use Rattle.std.specs.List.{range_with_len}
+use Rattle.std.specs.Prelude.{◌≡◌, ◌≢◌, ℕ, ◌*◌, ◌/◌, ◌%◌, ◌≤◌, ◌==◌, false, nat_lt, if◌then◌else◌, List, [], map, Option, None, Some}
+use Rattle.std.specs.List.{range_with_len, list_any}
+use Rattle.vol_layout.specs.Edition.{constants}
 use Rattle.vol_layout.specs.Slot.{slot_at, name_of}
 use Rattle.vol_layout.specs.Body.{body, body_size}
+use Rattle.vol_file.specs.Rules.{size_of, kind_at}
 use Rattle.vol_layout.specs.declared.geometry.Geometry.{Geometry}
+use Rattle.vol_layout.specs.declared.mode.Kind.TheVariants as kinds
 use Rattle.vol_layout.specs.declared.slot.Slot.{Slot}
 
 -- the entry in a slot, a name and the i-number that it names; where the i-number is 0 the slot is empty (manual section 5, directories)
@@ -22,3 +25,23 @@ entry_at geometry image d s =
 -- the entries of all slots of directory d, in the order of the slots (manual section 5, directories)
 unfoldable pub slots : Geometry → List ℕ → ℕ → List (Option (List ℕ × ℕ))
 slots geometry image d = map (entry_at geometry image d) (range_with_len 0 (slot_count geometry image d))
+
+-- d is the i-number of a directory of the volume (manual section 5, directories)
+pub record IsDirectory (geometry : Geometry) (image : List ℕ) (d : ℕ) : Type 0 where
+  pub first : 1 ≤ d
+  pub last : d ≤ geometry.last_inode
+  pub kind : kind_at geometry image d ≡ kinds.Directory
+
+-- slot s of directory d has an entry, which gives a name to i-number i (manual section 5, directories)
+pub record HasEntry (geometry : Geometry) (image : List ℕ) (d s : ℕ) (name : List ℕ) (i : ℕ) : Type 0 where
+  pub directory : IsDirectory geometry image d
+  pub entry : entry_at geometry image d s ≡ Some (name, i)
+
+-- rule 9: each directory is whole slots; each entry has a name, without a slash, for an allocated i-number from the root's
+-- to the last; and no name comes twice in a directory
+pub record HasEntries (geometry : Geometry) (image : List ℕ) : Type 0 where
+  pub whole : (d : ℕ) → IsDirectory geometry image d → size_of geometry image d % 16 ≡ 0
+  pub named : (d s i : ℕ) (name : List ℕ) → HasEntry geometry image d s name i → (name ≢ []) × (list_any (λ c. c == 47) name ≡ false)
+  pub allocated : (d s i : ℕ) (name : List ℕ) → HasEntry geometry image d s name i
+      → ((constants geometry.edition).root ≤ i) × (i ≤ geometry.last_inode) × (kind_at geometry image i ≢ kinds.Free)
+  pub once : (d s t i j : ℕ) (name : List ℕ) → HasEntry geometry image d s name i → HasEntry geometry image d t name j → s ≡ t

@@ -1,9 +1,10 @@
 -- The map of a directory, from names to i-numbers: its entries, with names ascending by bytes.
-use Rattle.std.specs.Prelude.{ℕ, Bool, not, List, [], ◌∷◌, map, Option, None, Some}
+use Rattle.std.specs.Prelude.{ℕ, ◌||◌, Bool, not, List, [], ◌∷◌, map, Option, None, Some}
 use Rattle.std.specs.Cmp.Lexicographic.{slice_cmp}
 use Rattle.std.specs.FinMap.Entries.{find, put, where_key, is_sorted}
 use Rattle.std.specs.Ordering.{nat_cmp, eq_by_cmp}
 use Rattle.std.specs.Option.{option_map}
+use Rattle.std.specs.Str.{bytes_eq}
 
 -- a map from names to i-numbers (manual section 5, directories)
 abbrev pub Names : Type 0
@@ -30,3 +31,15 @@ names_of (Some entry ∷ slots) = insert (names_of slots) entry.0 entry.1
 -- which name, if any, each slot holds (manual section 5, directories)
 abbrev pub names_in : List (Option (List ℕ × ℕ)) → List (Option (List ℕ))
 names_in slots = map (option_map (λ (entry : List ℕ × ℕ). entry.0)) slots
+
+-- the name `.` (manual section 5, directories)
+abbrev pub dot : List ℕ
+dot = 46 ∷ []
+
+-- the name `..` (manual section 5, directories)
+abbrev pub dot_dot : List ℕ
+dot_dot = 46 ∷ 46 ∷ []
+
+-- whether a name is one of these (manual section 5, directories)
+abbrev pub is_dots : List ℕ → Bool
+is_dots name = bytes_eq name dot || bytes_eq name dot_dot

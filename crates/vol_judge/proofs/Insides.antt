@@ -1,11 +1,11 @@
 -- Laws of numbers below which all that is found is inside the data zone.
-use Rattle.std.proofs.Common.{◌↔◌, IsTrue, ◌≡◌, ◌≢◌, ℕ, zero, suc, ◌+◌, ◌-◌, ◌*◌, ◌<◌, ◌≤◌, ◌∙◌, sym, ap, subst, List, ◌∷◌, length, get_or, set, true, false, refl, arith, inl, inr, ◌⊎◌, get_or-set_same, get_or-set_other}
+use Rattle.std.proofs.Common.{◌↔◌, IsTrue, ◌≡◌, ◌≢◌, ℕ, zero, suc, ◌-◌, ◌<◌, ◌≤◌, ◌∙◌, sym, ap, subst, List, length, get_or, set, true, false, refl, arith, inl, inr, get_or-set_same, get_or-set_other}
 use Rattle.std.proofs.lemmas.Bool.{cases_eq, false≢true}
-use Rattle.vol_layout.specs.Edition.{constants, number}
+use Rattle.vol_layout.specs.Edition.{constants}
 use Rattle.vol_layout.specs.Geometry.{in_zone, Fits}
 use Rattle.vol_layout.specs.Names.{entry_of}
 use Rattle.vol_layout.specs.declared.geometry.Geometry.{Geometry}
-use Rattle.vol_layout.proofs.NameLaws.{entry_in, entry_out, zero_out}
+use Rattle.vol_layout.proofs.NameLaws.{entry_out, zero_out}
 use Rattle.vol_judge.specs.Marks.{IsInside, KnowsInside}
 
 -- a number with levels below it is one more than one less

@@ -1,3 +1,4 @@
+pub mod AllBlocks
 pub mod BlocksFrom
 pub mod FileBlocks
 pub mod Insides

@@ -1,25 +1,15 @@
 -- Rule 7 by the list of all blocks that places name.
-use Rattle.std.proofs.Common.{◌≡◌, ◌≢◌, ℕ, zero, suc, ◌+◌, ◌<◌, ◌≤◌, ◌⊎◌, ◌∙◌, sym, ap, subst, List, [], ◌∷◌, ◌++◌, true, false, length, get_or, refl, arith, inl, inr}
+use Rattle.std.proofs.Common.{◌≡◌, ◌≢◌, ℕ, zero, suc, ◌+◌, ◌<◌, ◌≤◌, ◌⊎◌, ◌∙◌, sym, ap, subst, List, [], ◌∷◌, ◌++◌, refl, arith, inl, inr}
 use Rattle.std.proofs.lemmas.Bool.{cases_eq}
 use Rattle.std.specs.List.{count_by, flat_map, range_with_len}
 use Rattle.std.specs.Str.{bytes_eq}
-use Rattle.vol_layout.specs.Geometry.{in_zone, Fits}
-use Rattle.vol_layout.specs.Places.{IsPlace, places}
-use Rattle.vol_layout.specs.Names.{form_at, IsPlaceOf, named, Names}
+use Rattle.vol_layout.specs.Names.{named}
 use Rattle.vol_layout.specs.declared.geometry.Geometry.{Geometry}
-use Rattle.vol_layout.proofs.BodyLaws.{zone_bounds}
-use Rattle.vol_layout.proofs.NameLaws.{holds_named, named_holds}
 use Rattle.vol_free.specs.Stack.{IsIn, Once}
-use Rattle.vol_file.specs.Rules.{IsZoned, IsApart}
-use Rattle.vol_file.specs.Changes.{blocks_of}
 use Rattle.vol_file.specs.Clears.{blocks_at}
 use Rattle.vol_file.specs.Laws.{IsAmong}
 use Rattle.vol_file.proofs.BlockLists.{at_nil, at_zero, at_some}
-use Rattle.vol_file.proofs.PlaceLists.{comes, comes_same, counted_more, front_first, places_once, places_among, among_places, first_or_later}
-use Rattle.vol_judge.specs.Marks.{marked, all_blocks, MarksNamed}
-use Rattle.vol_judge.proofs.FileBlocks.{blocks_at_all}
-use Rattle.vol_judge.proofs.MarkLists.{marked_marks, marked_refused}
-use Rattle.vol_judge.proofs.ZonedFiles.{file_counted}
+use Rattle.vol_file.proofs.PlaceLists.{comes_same, counted_more, first_or_later}
 
 -- what is in two lists joined is in either
 in_append : (b : ℕ) (xs ys : List ℕ) → IsIn b (xs ++ ys) → IsIn b xs ⊎ IsIn b ys
@@ -65,7 +55,7 @@ once_append (x ∷ xs) ys left right apart = (
 )
 
 -- what is in the lists of a range of numbers is in the list of one of them
-in_flat : (f : ℕ → List ℕ) (b a n : ℕ) → IsIn b (flat_map f (range_with_len a n)) → (j : ℕ) × (a ≤ j) × (j < a + n) × IsIn b (f j)
+pub in_flat : (f : ℕ → List ℕ) (b a n : ℕ) → IsIn b (flat_map f (range_with_len a n)) → (j : ℕ) × (a ≤ j) × (j < a + n) × IsIn b (f j)
 unfolding IsIn
 in_flat f b a zero among = absurd among
 in_flat f b a (suc n) among =
@@ -77,7 +67,7 @@ in_flat f b a (suc n) among =
     ]
 
 -- what is in the list of one number of a range is in the lists of all
-flat_in : (f : ℕ → List ℕ) (b a n j : ℕ) → a ≤ j → j < a + n → IsIn b (f j) → IsIn b (flat_map f (range_with_len a n))
+pub flat_in : (f : ℕ → List ℕ) (b a n j : ℕ) → a ≤ j → j < a + n → IsIn b (f j) → IsIn b (flat_map f (range_with_len a n))
 flat_in f b a zero j low high among = absurd (omega arith)
 flat_in f b a (suc n) j low high among =
     elim (first_or_later a j low) [
@@ -86,7 +76,7 @@ flat_in f b a (suc n) j low high among =
     ]
 
 -- where the lists of a range have nothing twice, each list has nothing twice
-once_each : (f : ℕ → List ℕ) (a n j : ℕ) → a ≤ j → j < a + n → Once (flat_map f (range_with_len a n)) → Once (f j)
+pub once_each : (f : ℕ → List ℕ) (a n j : ℕ) → a ≤ j → j < a + n → Once (flat_map f (range_with_len a n)) → Once (f j)
 once_each f a zero j low high once = absurd (omega arith)
 once_each f a (suc n) j low high once =
     let parts = once_parts (f a) (flat_map f (range_with_len (a + 1) n)) once in
@@ -96,7 +86,7 @@ once_each f a (suc n) j low high once =
     ]
 
 -- and two of them have nothing in common
-once_same : (f : ℕ → List ℕ) (b a n j k : ℕ) → a ≤ j → j < a + n → a ≤ k → k < a + n → Once (flat_map f (range_with_len a n))
+pub once_same : (f : ℕ → List ℕ) (b a n j k : ℕ) → a ≤ j → j < a + n → a ≤ k → k < a + n → Once (flat_map f (range_with_len a n))
     → IsIn b (f j) → IsIn b (f k) → j ≡ k
 once_same f b a zero j k low high low' high' once here there = absurd (omega arith)
 once_same f b a (suc n) j k low high low' high' once here there =
@@ -114,7 +104,7 @@ once_same f b a (suc n) j k low high low' high' once here there =
     ]
 
 -- lists of a range with nothing twice, of which no two have something in common
-once_flat : (f : ℕ → List ℕ) (a n : ℕ) → ((j : ℕ) → a ≤ j → j < a + n → Once (f j))
+pub once_flat : (f : ℕ → List ℕ) (a n : ℕ) → ((j : ℕ) → a ≤ j → j < a + n → Once (f j))
     → ((b j k : ℕ) → a ≤ j → j < a + n → a ≤ k → k < a + n → IsIn b (f j) → IsIn b (f k) → j ≡ k)
     → Once (flat_map f (range_with_len a n))
 unfolding Once
@@ -164,7 +154,7 @@ at_in geometry image i p (q ∷ ps) (inr later) some =
     ]
 
 -- where the blocks that some places name have none twice, no two of the places name the same
-at_same_place : (geometry : Geometry) (image : List ℕ) (i : ℕ) (p q : List ℕ) (ps : List (List ℕ)) → Once (blocks_at geometry image i ps)
+pub at_same_place : (geometry : Geometry) (image : List ℕ) (i : ℕ) (p q : List ℕ) (ps : List (List ℕ)) → Once (blocks_at geometry image i ps)
     → IsAmong p ps → IsAmong q ps → named geometry image i p ≢ 0 → named geometry image i p ≡ named geometry image i q → p ≡ q
 unfolding Once
 at_same_place geometry image i p q [] once here there some same = absurd here
@@ -202,7 +192,7 @@ counted_among p (q ∷ qs) (inl e) = omega (arith, counted_more p q qs, comes_sa
 counted_among p (q ∷ qs) (inr later) = omega (arith, counted_more p q qs, counted_among p qs later)
 
 -- where no two of some places, each listed once, name the same, the blocks that they name have none twice
-once_at : (geometry : Geometry) (image : List ℕ) (i : ℕ) (ps : List (List ℕ)) → ((p : List ℕ) → IsAmong p ps → count_by (bytes_eq p) ps ≤ 1)
+pub once_at : (geometry : Geometry) (image : List ℕ) (i : ℕ) (ps : List (List ℕ)) → ((p : List ℕ) → IsAmong p ps → count_by (bytes_eq p) ps ≤ 1)
     → ((p q : List ℕ) → IsAmong p ps → IsAmong q ps → named geometry image i p ≢ 0 → named geometry image i p ≡ named geometry image i q → p ≡ q)
     → Once (blocks_at geometry image i ps)
 unfolding Once

@@ -1,15 +1,13 @@
 -- Rule 5 by the addresses of each file.
-use Rattle.std.proofs.Common.{◌≡◌, ◌≢◌, ℕ, zero, suc, ◌+◌, ◌-◌, ◌*◌, ◌<◌, ◌≤◌, ◌∙◌, sym, ap, subst, List, [], ◌∷◌, true, false, Bool, if◌then◌else◌, refl, arith}
+use Rattle.std.proofs.Common.{◌≡◌, ℕ, zero, suc, ◌<◌, ◌≤◌, ◌∙◌, ap, List, [], ◌∷◌, true, false, if◌then◌else◌, refl, arith}
 use Rattle.vol_layout.specs.Edition.{constants}
-use Rattle.vol_layout.specs.Geometry.{in_zone, Fits}
 use Rattle.vol_layout.specs.Inode.{inode_place, address_at, is_large, kind_of}
 use Rattle.vol_layout.specs.Places.{has_places, file_form, form_of, first_count, pointer_count, levels, levels_below, IsPlace}
-use Rattle.vol_layout.specs.Names.{mode_of, form_at, IsFile, IsPlaceOf, named, entry_of}
+use Rattle.vol_layout.specs.Names.{mode_of, form_at, IsFile, named}
 use Rattle.vol_layout.specs.declared.edition.Edition.{Edition}
 use Rattle.vol_layout.specs.declared.edition.Edition.TheVariants.{V6, V7}
 use Rattle.vol_layout.specs.declared.geometry.Geometry.{Geometry}
 use Rattle.vol_layout.specs.declared.places.Form.TheVariants.{Small, Large, Bare}
-use Rattle.vol_file.specs.Rules.{IsZoned}
 use Rattle.vol_judge.specs.Marks.{IsInside, IsFileZoned}
 use Rattle.vol_judge.proofs.Insides.{inside_here, inside_entry}
 

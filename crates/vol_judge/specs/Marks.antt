@@ -3,9 +3,7 @@ use Rattle.std.specs.Prelude.{◌≡◌, ◌≢◌, ℕ, zero, suc, ◌<◌, ◌
 use Rattle.std.specs.List.{flat_map, range_with_len}
 use Rattle.vol_layout.specs.Edition.{constants}
 use Rattle.vol_layout.specs.Geometry.{in_zone}
-use Rattle.vol_layout.specs.Inode.{inode_place, address_at}
-use Rattle.vol_layout.specs.Places.{first_count, levels}
-use Rattle.vol_layout.specs.Names.{form_at, IsPlaceOf, named, entry_of, Names}
+use Rattle.vol_layout.specs.Names.{IsPlaceOf, named, entry_of, Names}
 use Rattle.vol_file.specs.Rules.{IsZoned, IsApart}
 use Rattle.vol_file.specs.Changes.{blocks_of}
 use Rattle.vol_layout.specs.declared.geometry.Geometry.{Geometry}

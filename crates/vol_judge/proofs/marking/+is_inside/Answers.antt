@@ -1,11 +1,11 @@
-use Rattle.std.proofs.Common.{◌≡◌, ◌≢◌, ℕ, ◌+◌, ◌-◌, ◌*◌, ◌<◌, ◌≤◌, length, sym, ap, subst, arith, ◌∙◌, true, false, get_or}
+use Rattle.std.proofs.Common.{◌≡◌, ◌-◌, ◌<◌, ◌≤◌, length, sym, ap, subst, arith, ◌∙◌, true, false, get_or}
 use Rattle.std.proofs.Common.{below_more}
-use Rattle.vol_layout.specs.Edition.{constants, number}
+use Rattle.vol_layout.specs.Edition.{constants}
 use Rattle.vol_layout.specs.Geometry.{in_zone}
 use Rattle.vol_layout.specs.Names.{entry_of}
 use Rattle.vol_layout.proofs.BodyLaws.{zone_bounds}
 use Rattle.vol_layout.proofs.NameLaws.{entry_in}
-use Rattle.vol_judge.specs.Marks.{IsInside, KnowsInside}
+use Rattle.vol_judge.specs.Marks.{IsInside}
 use Rattle.vol_judge.proofs.Insides.{inside_zero, outside, inside_less, inside_entry, inside_all, knows_more, says_yes, says_no}
 use Rattle.vol_judge.proofs.marking.+is_inside.Goals as goal
 

@@ -1,7 +1,6 @@
-use Rattle.std.proofs.Common.{◌≡◌, ◌≢◌, ℕ, ◌+◌, ◌-◌, ◌*◌, ◌<◌, ◌≤◌, length, sym, ap, subst, refl, arith, ◌∙◌, true, false, Some, None, set, get_or}
+use Rattle.std.proofs.Common.{◌≡◌, ℕ, ◌+◌, ◌-◌, sym, ap, subst, refl, arith, ◌∙◌, Some, None, set}
 use Rattle.std.proofs.lemmas.List.{length-set}
-use Rattle.vol_layout.specs.Edition.{constants, number}
-use Rattle.vol_layout.specs.Geometry.{in_zone}
+use Rattle.vol_layout.specs.Edition.{constants}
 use Rattle.vol_layout.specs.Names.{entry_of}
 use Rattle.vol_layout.proofs.BodyLaws.{zone_bounds}
 use Rattle.vol_layout.proofs.CopyLaws.{number_room}

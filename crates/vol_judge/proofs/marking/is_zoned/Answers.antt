@@ -1,7 +1,5 @@
-use Rattle.std.proofs.Common.{◌≡◌, ◌<◌, ◌≤◌, sym, ap, subst, arith, ◌∙◌, true, false}
-use Rattle.vol_file.specs.Rules.{IsZoned}
-use Rattle.vol_judge.specs.Marks.{IsFileZoned}
-use Rattle.vol_judge.proofs.Insides.{knows_nothing, says_yes, says_no}
+use Rattle.std.proofs.Common.{arith}
+use Rattle.vol_judge.proofs.Insides.{knows_nothing}
 use Rattle.vol_judge.proofs.marking.is_zoned.Goals as goal
 
 pub loop-i-init : goal.loop-i-init

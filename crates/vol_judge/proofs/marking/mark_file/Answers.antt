@@ -1,4 +1,4 @@
-use Rattle.std.proofs.Common.{◌≡◌, ◌<◌, ◌+◌, sym, ap, subst, refl, arith, ◌∙◌, true, false, Some, None}
+use Rattle.std.proofs.Common.{◌≡◌, ◌<◌, ◌+◌, sym, ap, subst, refl, arith, ◌∙◌, Some, None}
 use Rattle.vol_layout.specs.Inode.{inode_place, address_at}
 use Rattle.vol_layout.specs.Names.{form_at}
 use Rattle.vol_layout.specs.Places.{form_of, first_count, levels}

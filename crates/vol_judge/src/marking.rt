@@ -1,8 +1,6 @@
 //! Which blocks the places of all files name: whether each is a data block, and none is named twice.
 ghost use Rattle.std.specs.Prelude.{◌≡◌, ℕ, ◌≤◌, ◌↔◌, length, slice_index, IsTrue, true, false, Some, None};
-ghost use Rattle.vol_layout.specs.Edition.{constants};
 ghost use Rattle.vol_layout.specs.Geometry.{Fits};
-ghost use Rattle.vol_layout.specs.Names.{IsFile};
 ghost use Rattle.vol_layout.specs.Places.{first_count, levels};
 ghost use Rattle.vol_file.specs.Rules.{IsZoned, IsApart};
 ghost use Rattle.vol_file.specs.Changes.{blocks_of};
@@ -210,3 +208,6 @@ fn mark_from(image: &Image, geometry: &Geometry, b: u32, level: u8, marks: &mut 
     }
     true
 }
+
+#[cfg(test)]
+mod tests;

@@ -148,18 +148,18 @@ fn walk(
     requires { (image : List ℕ) → length image ≡ 512 * geometry.now.zone_end → Fits geometry.now image }
 {
     let mut bytes = vec![in alloc; 0; BLOCK * geometry.zone_end as usize]?;
-    for (at, value) in words {
-        put(&mut bytes, *at, *value);
-    }
+    put_words(&mut bytes, words);
     let image = Image::from_bytes(bytes);
     let mut marks = vec![in alloc; 7; geometry.zone_end as usize]?;
     let places = mark_places(&image, geometry, &mut marks);
     Ok((places, marks))
 }
 
-/// Puts a word at byte `at`, where there is one.
-fn put(bytes: &mut [u8], at: usize, value: u16) {
-    if at < bytes.len() && bytes.len() - at >= 2 {
-        put_word(bytes, at, value);
+/// Puts words, each at its byte, where there is room.
+fn put_words(bytes: &mut [u8], words: &[(usize, u16)]) {
+    for (at, value) in words {
+        if *at < bytes.len() && bytes.len() - *at >= 2 {
+            put_word(bytes, *at, *value);
+        }
     }
 }

@@ -1,0 +1,3 @@
+pub mod Directories
+pub mod Marks
+pub mod Sound

@@ -1,0 +1,2 @@
+pub mod FreeWalks
+pub mod Limiting

@@ -1,2 +1,4 @@
 pub mod Directories
 pub mod Sound
+pub mod Limits
+pub mod FreeWalk

@@ -9,8 +9,9 @@ use Rattle.vol_layout.specs.Edition.{constants, number}
 use Rattle.vol_layout.specs.Geometry.{in_zone, Fits}
 use Rattle.vol_layout.specs.Super.{free_head}
 use Rattle.vol_layout.specs.declared.geometry.Geometry.{Geometry}
+use Rattle.vol_layout.proofs.NameLaws.{zone_some}
 use Rattle.vol_free.specs.Stack.{IsIn, Once, IsStack, HasStack}
-use Rattle.vol_free.proofs.Stacks.{zone_from, zone_below, zone_behind, stack_none}
+use Rattle.vol_free.proofs.Stacks.{zone_below, zone_behind, stack_none}
 use Rattle.vol_judge.specs.declared.free_marks.Rest.{Rest}
 use Rattle.vol_judge.specs.FreeWalk.{AreFreeMarks, IsRest, IsReadable, IsBefore, IsEnd, IsMet, joined, IsWalked}
 
@@ -48,10 +49,6 @@ chained geometry image at n b (c ∷ later) one is some (e, z, inl (more, s)) = 
 chained geometry image at n b (c ∷ later) one is some (e, z, inr (e1, few, s)) =
     let same : c ≡ b = sym (is ∙ e) in (later, ap (λ (d : ℕ). d ∷ later) same, rw (← same) few, rw (← same) s)
 
--- a data block isn't block 0
-zone_some : {geometry : Geometry} {image : List ℕ} → Fits geometry image → (b : ℕ) → in_zone geometry b ≡ true → b ≡ 0 → ⊥
-zone_some {geometry = geometry} fits b zone zero = omega (arith, zone_from geometry b zone, zone_behind fits)
-
 -- the last number left, and the stack that its block begins with
 pub behind_one : {geometry : Geometry} {image : List ℕ} {rest : Rest} {b : ℕ} → Fits geometry image → rest.count ≡ 1
     → b ≡ number geometry.edition image (rest.head + 2) (rest.count - 1) → in_zone geometry b ≡ true
@@ -61,7 +58,7 @@ unfolding IsStack
 behind_one {geometry = geometry} {image = image} {rest = rest} {b = b} fits one is zone count same few = rw same (record {
   readable = record { few = omega arith; room = omega (arith, zone_below geometry b zone, fits.blocks) };
   onto = λ blocks s. (sym is, zone, inr (one, omega arith, s));
-  from = λ blocks s. let next = chained geometry image rest.head rest.count b blocks one is (zone_some fits b zone) s in (next.0, next.1, next.3);
+  from = λ blocks s. let next = chained geometry image rest.head rest.count b blocks one is (zone_some geometry image b fits zone) s in (next.0, next.1, next.3);
 })
 
 -- where the block of the last number left has too large a count, there is no stack
@@ -69,7 +66,7 @@ pub behind_none : {geometry : Geometry} {image : List ℕ} (rest : Rest) (b : �
     → b ≡ number geometry.edition image (rest.head + 2) (rest.count - 1) → in_zone geometry b ≡ true
     → (constants geometry.edition).free_slots < word image (512 * b) → (blocks : List ℕ) → IsRest geometry image rest blocks → ⊥
 behind_none {geometry = geometry} {image = image} rest b fits one is zone many blocks s =
-    let next = chained geometry image rest.head rest.count b blocks one is (zone_some fits b zone) s in omega (arith, next.2)
+    let next = chained geometry image rest.head rest.count b blocks one is (zone_some geometry image b fits zone) s in omega (arith, next.2)
 
 -- where no number is left, the stack is empty
 pub end_none : {geometry : Geometry} {image : List ℕ} {rest : Rest} → Fits geometry image → rest.count ≡ 0 → IsEnd geometry image rest

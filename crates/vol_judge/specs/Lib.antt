@@ -1,4 +1,6 @@
 pub mod Directories
-pub mod Sound
-pub mod Limits
 pub mod FreeWalk
+pub mod Judging
+pub mod Limits
+pub mod Marks
+pub mod Sound

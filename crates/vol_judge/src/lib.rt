@@ -2,5 +2,10 @@
 #![tactic(auto)]
 
 mod blocks;
+mod directories;
 mod free_marks;
 mod i_nodes;
+mod judging;
+mod marking;
+
+pub use judging::judge;

@@ -14,37 +14,37 @@ use Rattle.vol_judge.specs.Sound.{Rule, IsSound}
 use Rattle.vol_judge.proofs.Numbering.{judged}
 
 -- an image that is sound is whole
-pub sound_whole : {edition : Edition} {image : List ℕ} → IsSound edition image → is_whole edition image ≡ true
+pub sound_whole : (edition : Edition) (image : List ℕ) → IsSound edition image → is_whole edition image ≡ true
 unfolding Rule
-sound_whole sound = sound 1
+sound_whole edition image sound = sound 1
 
 -- the sizes of a sound image are within bounds
-pub sound_bounded : {edition : Edition} {image : List ℕ} → IsSound edition image → is_bounded edition image ≡ true
+pub sound_bounded : (edition : Edition) (image : List ℕ) → IsSound edition image → is_bounded edition image ≡ true
 unfolding Rule
-sound_bounded sound = sound 2
+sound_bounded edition image sound = sound 2
 
 -- the geometry of a sound image fits it, if its blocks are no more than the edition's numbers
 pub sound_fits : (edition : Edition) (image : List ℕ) → IsSound edition image → block_count edition image ≤ (constants edition).number_limit
     → Fits (geometry_of edition image) image
 sound_fits V6 image sound limit =
-    let whole : is_whole V6 image ≡ true = sound_whole sound in
-    let bounded : is_bounded V6 image ≡ true = sound_bounded sound in
+    let whole : is_whole V6 image ≡ true = sound_whole V6 image sound in
+    let bounded : is_bounded V6 image ≡ true = sound_bounded V6 image sound in
     record { blocks = grind (arith, nat_tests); i_list = grind (arith, nat_tests); zone = grind (arith, nat_tests); root = grind (arith, nat_tests); limit = limit }
 sound_fits V7 image sound limit =
-    let whole : is_whole V7 image ≡ true = sound_whole sound in
-    let bounded : is_bounded V7 image ≡ true = sound_bounded sound in
+    let whole : is_whole V7 image ≡ true = sound_whole V7 image sound in
+    let bounded : is_bounded V7 image ≡ true = sound_bounded V7 image sound in
     record { blocks = grind (arith, nat_tests); i_list = grind (arith, nat_tests); zone = grind (arith, nat_tests); root = grind (arith, nat_tests); limit = limit }
 
 -- a sound image has a free stack
-pub sound_stack : {edition : Edition} {image : List ℕ} → IsSound edition image → HasStack (geometry_of edition image) image
+pub sound_stack : (edition : Edition) (image : List ℕ) → IsSound edition image → HasStack (geometry_of edition image) image
 unfolding Rule
-sound_stack sound = sound 6
+sound_stack edition image sound = sound 6
 
 -- rules 1 to 7 of a sound image, with its free blocks
-pub sound_with : {edition : Edition} {image blocks : List ℕ} → Fits (geometry_of edition image) image → IsSound edition image
+pub sound_with : (edition : Edition) (image blocks : List ℕ) → Fits (geometry_of edition image) image → IsSound edition image
     → IsFree (geometry_of edition image) image blocks → IsSoundWith (geometry_of edition image) image blocks
 unfolding Rule
-sound_with {blocks = blocks} fits sound free = record {
+sound_with edition image blocks fits sound free = record {
   fits = fits;
   kinds = sound 3;
   sizes = sound 4;
@@ -55,43 +55,43 @@ sound_with {blocks = blocks} fits sound free = record {
 }
 
 -- the files of a sound image are sound
-pub sound_files : {edition : Edition} {image : List ℕ} → Fits (geometry_of edition image) image → IsSound edition image
+pub sound_files : (edition : Edition) (image : List ℕ) → Fits (geometry_of edition image) image → IsSound edition image
     → HasSoundFiles (geometry_of edition image) image
-sound_files fits sound =
-    let stack = sound_stack sound in record { blocks = stack.blocks; sound = sound_with fits sound stack.free }
+sound_files edition image fits sound =
+    let stack = sound_stack edition image sound in record { blocks = stack.blocks; sound = sound_with edition image stack.blocks fits sound stack.free }
 
 -- each data block of a sound image is free, or named by a place
-pub sound_covered : {edition : Edition} {image blocks : List ℕ} → IsSound edition image → IsFree (geometry_of edition image) image blocks
+pub sound_covered : (edition : Edition) (image blocks : List ℕ) → IsSound edition image → IsFree (geometry_of edition image) image blocks
     → IsCovered (geometry_of edition image) image blocks
 unfolding Rule
-sound_covered {blocks = blocks} sound free = sound 8 blocks free
+sound_covered edition image blocks sound free = sound 8 blocks free
 
 -- the entries of a sound image
-pub sound_entries : {edition : Edition} {image : List ℕ} → IsSound edition image → HasEntries (geometry_of edition image) image
+pub sound_entries : (edition : Edition) (image : List ℕ) → IsSound edition image → HasEntries (geometry_of edition image) image
 unfolding Rule
-sound_entries sound = sound 9
+sound_entries edition image sound = sound 9
 
 -- the entries `.` and `..` of a sound image
-pub sound_dots : {edition : Edition} {image : List ℕ} → IsSound edition image → HasDots (geometry_of edition image) image
+pub sound_dots : (edition : Edition) (image : List ℕ) → IsSound edition image → HasDots (geometry_of edition image) image
 unfolding Rule
-sound_dots sound = sound 10
+sound_dots edition image sound = sound 10
 
 -- the directories of a sound image are a tree
-pub sound_tree : {edition : Edition} {image : List ℕ} → IsSound edition image → IsTree (geometry_of edition image) image
+pub sound_tree : (edition : Edition) (image : List ℕ) → IsSound edition image → IsTree (geometry_of edition image) image
 unfolding Rule
-sound_tree sound = sound 11
+sound_tree edition image sound = sound 11
 
 -- the link counts of a sound image
-pub sound_links : {edition : Edition} {image : List ℕ} → IsSound edition image → HasLinks (geometry_of edition image) image
+pub sound_links : (edition : Edition) (image : List ℕ) → IsSound edition image → HasLinks (geometry_of edition image) image
 unfolding Rule
-sound_links sound = sound 12
+sound_links edition image sound = sound 12
 
 -- an image is sound where rules 1 to 7 hold with some free blocks, each data block is free or named, and rules 9 to 12 hold
-pub sound_of : {edition : Edition} {image blocks : List ℕ} → is_whole edition image ≡ true → is_bounded edition image ≡ true
+pub sound_of : (edition : Edition) (image blocks : List ℕ) → is_whole edition image ≡ true → is_bounded edition image ≡ true
     → IsSoundWith (geometry_of edition image) image blocks → IsCovered (geometry_of edition image) image blocks
     → HasEntries (geometry_of edition image) image → HasDots (geometry_of edition image) image → IsTree (geometry_of edition image) image
     → HasLinks (geometry_of edition image) image → IsSound edition image
-sound_of {edition = edition} {image = image} {blocks = blocks} whole bounded files covered entries dots tree links =
+sound_of edition image blocks whole bounded files covered entries dots tree links =
     let same : (others : List ℕ) → IsFree (geometry_of edition image) image others → others ≡ blocks = λ others free.
         IsFree_unique (omega (arith, zone_behind files.fits)) free files.free in
     judged true edition image None
@@ -99,4 +99,4 @@ sound_of {edition = edition} {image = image} {blocks = blocks} whole bounded fil
     inr (record { blocks = blocks; free = files.free },
     inr ((files.apart, λ others free. rw (same others free) files.outside),
     inr (λ others free. rw (same others free) covered,
-    inr (entries, inr (dots, inr (tree, inr (links, refl)))))))))))))
+    inr (entries, inr (dots, inr (tree, inr (links, refl))))))))))))))

@@ -9,6 +9,7 @@ use Rattle.vol_layout.proofs.NameLaws.{holds_named, named_holds, zone_some}
 use Rattle.vol_free.specs.Stack.{IsIn, IsFree}
 use Rattle.vol_free.proofs.Stacks.{IsFree_unique, zone_from, zone_below, zone_behind}
 use Rattle.vol_free.proofs.Frames.{free_zone}
+use Rattle.vol_file.specs.Rules.{IsZoned}
 use Rattle.vol_judge.specs.FreeWalk.{AreFreeMarks}
 use Rattle.vol_judge.specs.Marks.{MarksNamed, IsMarked, Finds}
 use Rattle.vol_judge.specs.declared.marking.Places.{Places}
@@ -75,3 +76,10 @@ pub found_once : {geometry : Geometry} {image marks : List ℕ} (places : Places
 found_once OutOfZone zoned once found = absurd (zoned refl)
 found_once Twice zoned once found = absurd (once refl)
 found_once Once zoned once found = found
+
+-- where a walk over the places left the data zone nowhere, each number is that of a data block
+pub found_zoned : {geometry : Geometry} {image : List ℕ} (marks : List ℕ) (places : Places) → places ≢ OutOfZone → Finds geometry image marks places
+    → IsZoned geometry image
+found_zoned marks OutOfZone zoned found = absurd (zoned refl)
+found_zoned marks Twice zoned found = found.0
+found_zoned marks Once zoned found = found.zoned

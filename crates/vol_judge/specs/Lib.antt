@@ -4,3 +4,4 @@ pub mod Judging
 pub mod Limits
 pub mod Marks
 pub mod Sound
+pub mod Verdicts

@@ -1,8 +1,8 @@
 //! Stand-in.
 ghost use Rattle.std.specs.Prelude.{IfOk};
 ghost use Rattle.vol_layout.specs.Geometry.{Fits};
-ghost use Rattle.vol_file.specs.Rules.{HasKinds, HasSizes, IsZoned};
-ghost use Rattle.vol_judge.specs.Judging.{IsFirstBroken, directory_rules};
+ghost use Rattle.vol_file.specs.Rules.{HasKinds};
+ghost use Rattle.vol_judge.specs.Verdicts.{JudgesDirectories};
 
 use pdp_words::Image;
 use std::alloc::{AllocError, Global};
@@ -12,9 +12,7 @@ use vol_layout::Geometry;
 pub fn judge_directories(alloc: Global, image: &Image, geometry: &Geometry) -> Result<Option<u8>, AllocError>
     requires fits { Fits geometry.now image.now }
     requires kinds { HasKinds geometry.now image.now }
-    requires sizes { HasSizes geometry.now image.now }
-    requires zoned { IsZoned geometry.now image.now }
-    ensures { IfOk result (λ least. IsFirstBroken 9 (directory_rules geometry.now image.now) least) }
+    ensures { IfOk result (λ least. JudgesDirectories geometry.now image.now least) }
 {
     let _ = alloc;
     let _ = image.len();

@@ -101,3 +101,6 @@ fn judge_marks(image: &Image, geometry: &Geometry, places: Places, named: &[u8],
     }
     None
 }
+
+#[cfg(test)]
+mod tests;

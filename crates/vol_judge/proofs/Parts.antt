@@ -93,10 +93,33 @@ pub sound_of : (edition : Edition) (image blocks : List ℕ) → is_whole editio
     → HasLinks (geometry_of edition image) image → IsSound edition image
 sound_of edition image blocks whole bounded files covered entries dots tree links =
     let same : (others : List ℕ) → IsFree (geometry_of edition image) image others → others ≡ blocks = λ others free.
-        IsFree_unique (omega (arith, zone_behind files.fits)) free files.free in
+    IsFree_unique (omega (arith, zone_behind files.fits)) free files.free in
     judged true edition image None
-    (inr (tt, inr (whole, inr (bounded, inr (files.kinds, inr (files.sizes, inr (files.zoned,
-    inr (record { blocks = blocks; free = files.free },
-    inr ((files.apart, λ others free. rw (same others free) files.outside),
-    inr (λ others free. rw (same others free) covered,
-    inr (entries, inr (dots, inr (tree, inr (links, refl))))))))))))))
+    (inr (
+      tt,
+      inr (
+        whole,
+        inr (
+          bounded,
+          inr (
+            files.kinds,
+            inr (
+              files.sizes,
+              inr (
+                files.zoned,
+                inr (
+                  record { blocks = blocks; free = files.free },
+                  inr (
+                    (files.apart, λ others free. rw (same others free) files.outside),
+                    inr (
+                      λ others free. rw (same others free) covered,
+                      inr (entries, inr (dots, inr (tree, inr (links, refl)))),
+                    ),
+                  ),
+                ),
+              ),
+            ),
+          ),
+        ),
+      ),
+    ))

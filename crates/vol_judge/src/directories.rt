@@ -9,7 +9,11 @@ use std::alloc::{AllocError, Global};
 use vol_layout::Geometry;
 
 /// Stand-in.
-pub fn judge_directories(alloc: Global, image: &Image, geometry: &Geometry) -> Result<Option<u8>, AllocError>
+pub fn judge_directories(
+    alloc: Global,
+    image: &Image,
+    geometry: &Geometry,
+) -> Result<Option<u8>, AllocError>
     requires fits { Fits geometry.now image.now }
     requires kinds { HasKinds geometry.now image.now }
     ensures { IfOk result (λ least. JudgesDirectories geometry.now image.now least) }

@@ -21,7 +21,12 @@ use vol_layout::{Edition, Geometry, GeometryFault};
 ///
 /// The time grows with the image's blocks and the slots of its directories, whatever they hold, and the
 /// memory with its blocks and i-numbers: a few bytes for each. An error only where memory is refused.
-pub fn judge(alloc: Global, edition: Edition, image: &Image, free: bool) -> Result<Option<u8>, AllocError>
+pub fn judge(
+    alloc: Global,
+    edition: Edition,
+    image: &Image,
+    free: bool,
+) -> Result<Option<u8>, AllocError>
     ensures { IfOk result (λ least. IsJudged free edition image.now least) }
 {
     match Geometry::read(edition, image) {
@@ -32,7 +37,12 @@ pub fn judge(alloc: Global, edition: Edition, image: &Image, free: bool) -> Resu
 }
 
 /// The least of rules 3 to 12 that fails.
-fn judge_volume(alloc: Global, image: &Image, geometry: &Geometry, free: bool) -> Result<Option<u8>, AllocError>
+fn judge_volume(
+    alloc: Global,
+    image: &Image,
+    geometry: &Geometry,
+    free: bool,
+) -> Result<Option<u8>, AllocError>
     requires { Fits geometry.now image.now }
     ensures { IfOk result (λ least. IsFirstBroken 3 (volume_rules free geometry.now image.now) least) }
 {
@@ -49,7 +59,12 @@ fn judge_volume(alloc: Global, image: &Image, geometry: &Geometry, free: bool) -
 }
 
 /// The least of rules 5 to 8 that fails. Takes a byte for each block, and with the free list two.
-fn judge_blocks(alloc: Global, image: &Image, geometry: &Geometry, free: bool) -> Result<Option<u8>, AllocError>
+fn judge_blocks(
+    alloc: Global,
+    image: &Image,
+    geometry: &Geometry,
+    free: bool,
+) -> Result<Option<u8>, AllocError>
     requires { Fits geometry.now image.now }
     ensures { IfOk result (λ least. IsFirstBroken 5 (block_rules free geometry.now image.now) least) }
 {
@@ -81,7 +96,13 @@ fn judge_free(
 }
 
 /// The same, with the marks of the free blocks, of which none is set before.
-fn judge_marks(image: &Image, geometry: &Geometry, places: Places, named: &[u8], free: &mut [bool]) -> Option<u8>
+fn judge_marks(
+    image: &Image,
+    geometry: &Geometry,
+    places: Places,
+    named: &[u8],
+    free: &mut [bool],
+) -> Option<u8>
     requires fits { Fits geometry.now image.now }
     requires room { length named.now ≡ geometry.now.zone_end }
     requires free_room { length free.old ≡ geometry.now.zone_end }

@@ -43,7 +43,11 @@ fn the_free_list_is_not_always_asked(rt: HostRuntime) -> Result<(), Fail> {
     for (at, value) in [(516, 101), (522, 3), (516, 2)] {
         let mut image = sixth(rt.alloc())?;
         image.put_word(at, value);
-        assert_eq!(rt; judge(rt.alloc(), Edition::V6, &image, false)?, None, "at {at}");
+        assert_eq!(rt;
+            judge(rt.alloc(), Edition::V6, &image, false)?,
+            None,
+            "at {at}"
+        );
     }
     let mut image = sixth(rt.alloc())?;
     image.put_word(1034, 3);
@@ -116,6 +120,10 @@ fn check_sixth<A: Abort>(
 {
     let mut image = sixth(alloc)?;
     image.put_word(at, value);
-    assert_eq!(rt; judge(alloc, Edition::V6, &image, true)?, least, "word {at}");
+    assert_eq!(rt;
+        judge(alloc, Edition::V6, &image, true)?,
+        least,
+        "word {at}"
+    );
     Ok(())
 }

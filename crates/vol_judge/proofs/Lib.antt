@@ -5,3 +5,8 @@ pub mod Insides
 pub mod MarkLists
 pub mod NamedOnce
 pub mod ZonedFiles
+pub mod FreeWalks
+pub mod Limiting
+pub mod Comparing
+pub mod Numbering
+pub mod Parts

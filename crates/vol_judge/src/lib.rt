@@ -1,6 +1,11 @@
 //! Whether a volume is sound: the least of twelve rules that an image breaks.
 #![tactic(auto)]
 
-pub mod marking;
+mod blocks;
+mod directories;
+mod free_marks;
+mod i_nodes;
+mod judging;
+mod marking;
 
-pub use marking::{Places, mark_places};
+pub use judging::judge;

@@ -1,0 +1,106 @@
+//! The rules that speak of i-nodes one by one: their kinds, their sizes and their link counts.
+ghost use Rattle.std.specs.Prelude.{◌≡◌, ℕ, ◌≤◌, ◌⊎◌, IsTrue, ◌↔◌};
+ghost use Rattle.vol_layout.specs.Edition.{constants};
+ghost use Rattle.vol_layout.specs.Geometry.{Fits};
+ghost use Rattle.vol_layout.specs.Inode.{inode_of};
+ghost use Rattle.vol_file.specs.Rules.{HasKinds, HasSizes, kind_at};
+ghost use Rattle.vol_judge.specs.Limits.{IsSized, IsLinked};
+
+use pdp_words::Image;
+use vol_layout::i_list::{mode, size};
+use vol_layout::{Edition, Form, Geometry, Kind, inode};
+
+/// The greatest size of a small file: eight blocks.
+const SMALL_BYTES: u32 = 4096;
+
+/// Whether rule 3 holds. Reads the mode of each i-node. Takes no memory.
+pub fn has_kinds(image: &Image, geometry: &Geometry) -> bool
+    requires { Fits geometry.now image.now }
+    ensures { IsTrue result ↔ HasKinds geometry.now image.now }
+{
+    for i in 1..=last_number(geometry) {
+        if matches!(kind(image, geometry, i), Kind::Odd) {
+            return false;
+        }
+    }
+    has_root(image, geometry) && has_bad_blocks(image, geometry)
+}
+
+/// Whether rule 4 holds. Reads each i-node. Takes no memory.
+pub fn has_sizes(image: &Image, geometry: &Geometry) -> bool
+    requires { Fits geometry.now image.now }
+    ensures { IsTrue result ↔ HasSizes geometry.now image.now }
+{
+    for i in 1..=last_number(geometry) {
+        if !is_sized(image, geometry, i) || !is_linked(image, geometry, i) {
+            return false;
+        }
+    }
+    true
+}
+
+/// What i-node `i` is.
+fn kind(image: &Image, geometry: &Geometry, i: u16) -> Kind
+    requires fits { Fits geometry.now image.now }
+    requires first { 1 ≤ i }
+    requires last { i ≤ geometry.now.last_inode }
+    ensures { result ≡ kind_at geometry.now image.now i }
+{
+    mode(image, geometry, i).kind(geometry.edition)
+}
+
+/// Whether the root is a directory.
+fn has_root(image: &Image, geometry: &Geometry) -> bool
+    requires { Fits geometry.now image.now }
+    ensures { IsTrue result ↔ (kind_at geometry.now image.now (constants geometry.now.edition).root ≡ Kind.Directory) }
+{
+    let root = geometry.edition.constants().root;
+    matches!(kind(image, geometry, root), Kind::Directory)
+}
+
+/// Whether i-number 1 is free or a regular file in the seventh edition, which keeps it for bad blocks.
+fn has_bad_blocks(image: &Image, geometry: &Geometry) -> bool
+    requires { Fits geometry.now image.now }
+    ensures { IsTrue result ↔ (geometry.now.edition ≡ Edition.V7
+        → (kind_at geometry.now image.now 1 ≡ Kind.Free) ⊎ (kind_at geometry.now image.now 1 ≡ Kind.Regular)) }
+{
+    match geometry.edition {
+        Edition::V6 => true,
+        Edition::V7 => matches!(kind(image, geometry, 1), Kind::Free | Kind::Regular),
+    }
+}
+
+/// Whether i-node `i` isn't too large for its form.
+fn is_sized(image: &Image, geometry: &Geometry, i: u16) -> bool
+    requires fits { Fits geometry.now image.now }
+    requires first { 1 ≤ i }
+    requires last { i ≤ geometry.now.last_inode }
+    ensures { IsTrue result ↔ IsSized geometry.now image.now i }
+{
+    let size = size(image, geometry, i);
+    match Form::of(geometry.edition, mode(image, geometry, i)) {
+        Form::Small => size <= SMALL_BYTES,
+        Form::Large | Form::Deep => size <= geometry.edition.constants().greatest,
+        Form::Bare => true,
+    }
+}
+
+/// Whether the link count of i-node `i`, if it is allocated, isn't above the limit.
+fn is_linked(image: &Image, geometry: &Geometry, i: u16) -> bool
+    requires fits { Fits geometry.now image.now }
+    requires first { 1 ≤ i }
+    requires last { i ≤ geometry.now.last_inode }
+    ensures { IsTrue result ↔ IsLinked geometry.now image.now i }
+{
+    match kind(image, geometry, i) {
+        Kind::Free => true,
+        _ => inode(image, geometry, i).links <= geometry.edition.constants().link_limit,
+    }
+}
+
+/// The last i-number of the volume.
+fn last_number(geometry: &Geometry) -> u16
+    ensures value { result ≡ geometry.now.last_inode }
+{
+    geometry.last_inode
+}

@@ -1,2 +1,4 @@
 pub mod Directories
+pub mod Naming
 pub mod Sound
+pub mod Stepping

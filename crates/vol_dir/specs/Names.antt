@@ -1,7 +1,7 @@
 -- The map of a directory, from names to i-numbers: its entries, with names ascending by bytes.
 use Rattle.std.specs.Prelude.{ℕ, ◌||◌, Bool, not, List, [], ◌∷◌, map, Option, None, Some}
 use Rattle.std.specs.Cmp.Lexicographic.{slice_cmp}
-use Rattle.std.specs.FinMap.Entries.{find, put, where_key, is_sorted}
+use Rattle.std.specs.FinMap.Entries.{find, put, where_key}
 use Rattle.std.specs.Ordering.{nat_cmp, eq_by_cmp}
 use Rattle.std.specs.Option.{option_map}
 use Rattle.std.specs.Str.{bytes_eq}

@@ -3,7 +3,6 @@ use Rattle.std.specs.Prelude.{ℕ, ◌-◌, ◌/◌, ◌%◌, ◌&&◌, Bool, fa
 use Rattle.std.specs.List.{range_with_len, count_by, sum_by}
 use Rattle.std.specs.Option.{option_map}
 use Rattle.pdp_words.specs.Words.{long}
-use Rattle.vol_layout.specs.Edition.{constants}
 use Rattle.vol_layout.specs.Inode.{inode_of, kind_of, is_large}
 use Rattle.vol_layout.specs.Names.{mode_of, form_at}
 use Rattle.vol_layout.specs.Body.{body}

@@ -2,7 +2,9 @@
 #![tactic(auto)]
 
 pub mod cred;
+pub mod entries;
 pub mod refusal;
 
 pub use cred::Cred;
+pub use entries::{find, is_empty_dir, place_for};
 pub use refusal::Refusal;

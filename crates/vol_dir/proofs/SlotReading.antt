@@ -1,0 +1,136 @@
+-- Laws of the slots of a directory: what they are, read from the body or from a block.
+use Rattle.std.proofs.Common.{◌≡◌, ℕ, ◌+◌, ◌-◌, ◌*◌, ◌<◌, ◌≤◌, ◌∙◌, sym, ap, subst, refl, inl, inr, take, List, length, get_or, true, false, if◌then◌else◌, eqb, None, Some, arith}
+use Rattle.std.specs.Prelude.{Option, min, slice_range}
+use Rattle.std.specs.Option.{unwrap_or, is_some}
+use Rattle.std.proofs.lemmas.Bool.{cases_lt, lt-ltb, le-ltb, eqb-true, true≢false, false_from_ne_true}
+use Rattle.std.proofs.lemmas.List.{get_or-take, get_or_past}
+use Rattle.std.proofs.lemmas.List.FromFn.{length-map-range_with_len, get_or-map-range_with_len}
+use Rattle.pdp_words.specs.Words.{word}
+use Rattle.vol_layout.specs.Geometry.{in_zone, Fits}
+use Rattle.vol_layout.specs.Names.{form_at, stored}
+use Rattle.vol_layout.specs.Body.{zone_byte, body_byte, body_size, body}
+use Rattle.vol_layout.specs.Slot.{slot_at, name_of}
+use Rattle.vol_layout.proofs.BodyLaws.{length-body, get_or-slice_range, get_or-body, body_byte_at, zone_byte_in, zone_byte_out, zone_bounds, zone_room}
+use Rattle.vol_layout.proofs.SlotLaws.{slot_copied}
+use Rattle.vol_layout.specs.declared.geometry.Geometry.{Geometry}
+use Rattle.vol_layout.specs.declared.slot.Slot.{Slot}
+use Rattle.vol_dir.specs.declared.entries.Sought.{Sought}
+use Rattle.vol_dir.specs.Entries.{entry_in, slot_count, entry_at, slots}
+use Rattle.vol_dir.specs.Searching.{is_sought, Searches, IsNumberOf}
+
+-- the entry in a slot of the directory
+pub entry_at_in : (geometry : Geometry) (image : List ℕ) (d s : ℕ) → s < slot_count geometry image d
+    → entry_at geometry image d s ≡ entry_in (slot_at (body geometry image d) (16 * s))
+unfolding entry_at
+entry_at_in geometry image d s h = rw (lt-ltb s (slot_count geometry image d) h)
+
+-- there are no entries past the last slot
+pub entry_at_past : (geometry : Geometry) (image : List ℕ) (d s : ℕ) → slot_count geometry image d ≤ s → entry_at geometry image d s ≡ None
+unfolding entry_at
+entry_at_past geometry image d s h =
+    rw (le-ltb s (slot_count geometry image d) h)
+
+-- the number of an entry is that of its slot
+pub number_of_slot : (slot : Slot) → IsNumberOf (entry_in slot) slot.inode
+number_of_slot slot = elim (eqb slot.inode 0) as (λ z. IsNumberOf (if z then None else Some (name_of slot.name, slot.inode)) slot.inode) [ true ↦ tt | false ↦ refl ]
+
+-- byte r of slot t of logical block b
+slot_byte : (geometry : Geometry) (image : List ℕ) (d b t r : ℕ) → t < 32 → 32 * b + t < slot_count geometry image d → r < 16
+    → get_or (body geometry image d) (16 * (32 * b + t) + r) 0
+    ≡ zone_byte geometry image (stored geometry image d (form_at geometry image d) b) (16 * t + r)
+slot_byte geometry image d b t r few within h =
+    let place : 16 * (32 * b + t) + r ≡ 512 * b + (16 * t + r) = omega arith in
+    get_or-body geometry image d (16 * (32 * b + t) + r) (omega arith)
+    ∙ (ap (body_byte geometry image d) place ∙ body_byte_at geometry image d b (16 * t + r) (omega arith))
+
+-- slot t of logical block b, where data block k is stored for it
+pub entry_in_block : (geometry : Geometry) (image : List ℕ) (d b t k : ℕ) → Fits geometry image → t < 32 → 32 * b + t < slot_count geometry image d
+    → stored geometry image d (form_at geometry image d) b ≡ k → in_zone geometry k ≡ true
+    → entry_at geometry image d (32 * b + t) ≡ entry_in (slot_at image (512 * k + 16 * t))
+entry_in_block geometry image d b t k fits few within is zone =
+    let room : 512 * k + 512 ≤ length image = zone_room geometry image k fits zone in
+    let len : length (body geometry image d) ≡ body_size geometry image d = length-body geometry image d in
+    entry_at_in geometry image d (32 * b + t) within
+    ∙ ap entry_in (slot_copied image (body geometry image d) (512 * k + 16 * t) (16 * (32 * b + t)) (record {
+      bytes = λ r h.
+          let place : 512 * k + (16 * t + r) ≡ 512 * k + 16 * t + r = omega arith in
+          slot_byte geometry image d b t r few within h
+          ∙ (ap (λ m. zone_byte geometry image m (16 * t + r)) is
+          ∙ (zone_byte_in geometry image k (16 * t + r) zone ∙ ap (λ x. get_or image x 0) place));
+    }) (omega arith) (omega arith))
+
+-- a slot whose number is 0 is empty
+empty_slot : (slot : Slot) → slot.inode ≡ 0 → entry_in slot ≡ None
+empty_slot slot e = rw e
+
+-- slot t of logical block b, where what is stored for it is no data block
+pub entry_in_hole : (geometry : Geometry) (image : List ℕ) (d b t k : ℕ) → t < 32 → 32 * b + t < slot_count geometry image d
+    → stored geometry image d (form_at geometry image d) b ≡ k → in_zone geometry k ≡ false
+    → entry_at geometry image d (32 * b + t) ≡ None
+entry_in_hole geometry image d b t k few within is zone =
+    let byte : (r n : ℕ) → r < 16 → 16 * (32 * b + t) + r ≡ n → get_or (body geometry image d) n 0 ≡ 0 =
+    λ r n h e. ap (λ m. get_or (body geometry image d) m 0) (sym e)
+    ∙ (slot_byte geometry image d b t r few within h
+    ∙ (ap (λ m. zone_byte geometry image m (16 * t + r)) is ∙ zone_byte_out geometry image k (16 * t + r) zone)) in
+    let first : get_or (body geometry image d) (16 * (32 * b + t)) 0 ≡ 0 = byte 0 (16 * (32 * b + t)) (omega arith) (omega arith) in
+    let second : get_or (body geometry image d) (16 * (32 * b + t) + 1) 0 ≡ 0 = byte 1 (16 * (32 * b + t) + 1) (omega arith) (omega arith) in
+    entry_at_in geometry image d (32 * b + t) within
+    ∙ empty_slot (slot_at (body geometry image d) (16 * (32 * b + t))) (omega (arith, first, second))
+
+-- the number of a block that is named
+pub number_named : (k m : ℕ) → (if eqb k 0 then None else Some k) ≡ Some m → k ≡ m
+number_named k m = elim (eqb k 0) as (λ z. (if z then None else Some k) ≡ Some m → k ≡ m) [ true ↦ λ e. absurd (true≢false (ap is_some (sym e))) | false ↦ λ e. ap (λ o. unwrap_or o 0) e ]
+
+-- where no block is named, 0 is stored
+pub number_missing : (k : ℕ) → (if eqb k 0 then None else Some k) ≡ None → k ≡ 0
+number_missing k = elim (eqb k 0) as (λ z. eqb k 0 ≡ z → (if z then None else Some k) ≡ None → k ≡ 0) [ true ↦ λ z e. eqb-true k 0 z | false ↦ λ z e. absurd (true≢false (ap is_some e)) ] refl
+
+-- no data block has the number 0
+pub zero_is_outside : (geometry : Geometry) (image : List ℕ) → Fits geometry image → in_zone geometry 0 ≡ false
+zero_is_outside geometry image fits =
+    false_from_ne_true (in_zone geometry 0) (λ z. let bounds = zone_bounds geometry 0 z in let list = fits.i_list in absurd (omega (arith, bounds.0, list)))
+
+-- a search answers for slots that are the same
+pub searches_same : (sought : Sought) (f g : ℕ → Option (List ℕ × ℕ)) (n : ℕ) (r : Option ℕ) → ((t : ℕ) → t < n → g t ≡ f t)
+    → Searches sought f n r → Searches sought g n r
+searches_same sought f g n None same search = λ t h. ap (is_sought sought) (same t h) ∙ search t h
+searches_same sought f g n (Some s) same search = record {
+  within = search.within;
+  found = ap (is_sought sought) (same s search.within) ∙ search.found;
+  before = λ t h. ap (is_sought sought) (same t (omega (arith, search.within))) ∙ search.before t h;
+}
+
+-- the number of an entry, from the bytes of its slot that were read
+pub number_read : (geometry : Geometry) (image buffer : List ℕ) (d s n : ℕ) → s < slot_count geometry image d
+    → n ≡ min 16 (body_size geometry image d - 16 * s) → take n buffer ≡ slice_range (body geometry image d) (16 * s) (16 * s + n)
+    → IsNumberOf (entry_at geometry image d s) (word buffer 0)
+number_read geometry image buffer d s n within is read =
+    let all : n ≡ 16 = omega arith in
+    let byte : (r m : ℕ) → r < 16 → 16 * s + r ≡ m → get_or buffer r 0 ≡ get_or (body geometry image d) m 0 =
+    λ r m h e. sym (get_or-take n buffer r 0 (omega arith))
+    ∙ (ap (λ xs. get_or xs r 0) read ∙ (get_or-slice_range (body geometry image d) (16 * s) n r (omega arith) ∙ ap (λ x. get_or (body geometry image d) x 0) e)) in
+    let low : get_or buffer 0 0 ≡ get_or (body geometry image d) (16 * s) 0 = byte 0 (16 * s) (omega arith) (omega arith) in
+    let high : get_or buffer 1 0 ≡ get_or (body geometry image d) (16 * s + 1) 0 = byte 1 (16 * s + 1) (omega arith) (omega arith) in
+    let same : word buffer 0 ≡ word (body geometry image d) (16 * s) = omega (arith, low, high) in
+    subst (IsNumberOf (entry_at geometry image d s)) (sym same)
+    (subst (λ e. IsNumberOf e (word (body geometry image d) (16 * s))) (sym (entry_at_in geometry image d s within))
+    (number_of_slot (slot_at (body geometry image d) (16 * s))))
+
+-- there are as many entries in the list as there are slots
+pub length-slots : (geometry : Geometry) (image : List ℕ) (d : ℕ) → length (slots geometry image d) ≡ slot_count geometry image d
+unfolding slots
+length-slots geometry image d = length-map-range_with_len (entry_at geometry image d) 0 (slot_count geometry image d)
+
+-- entry s of the list
+pub get_or-slots : (geometry : Geometry) (image : List ℕ) (d s : ℕ) → s < slot_count geometry image d
+    → get_or (slots geometry image d) s None ≡ entry_at geometry image d s
+unfolding slots
+get_or-slots geometry image d s h =
+    get_or-map-range_with_len (entry_at geometry image d) 0 (slot_count geometry image d) s s None h (omega arith)
+
+-- entry s of the list, also past its end
+pub slot_is : (geometry : Geometry) (image : List ℕ) (d s : ℕ) → get_or (slots geometry image d) s None ≡ entry_at geometry image d s
+slot_is geometry image d s = elim (cases_lt s (slot_count geometry image d)) [
+  | inl h ↦ get_or-slots geometry image d s h
+  | inr h ↦ get_or_past (slots geometry image d) s None (let len = length-slots geometry image d in omega arith) ∙ sym (entry_at_past geometry image d s h)
+]

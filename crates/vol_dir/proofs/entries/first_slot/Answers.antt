@@ -1,0 +1,31 @@
+use Rattle.std.proofs.Common.{◌≡◌, ◌∙◌, ◌+◌, ◌-◌, ◌*◌, ap, arith, inl, inr}
+use Rattle.std.proofs.lemmas.Bool.{cases_lt}
+use Rattle.vol_dir.specs.Entries.{entry_at, slot_count}
+use Rattle.vol_dir.specs.Searching.{is_sought}
+use Rattle.vol_dir.proofs.entries.first_slot.Goals as goal
+
+pub returns-in-Some : goal.returns-in-Some
+returns-in-Some c =
+    let geometry = c.args.geometry.now in
+    let image = c.args.image.now in
+    let first = c.in-Some.ensures in
+    let count : c.slot_count-count.result ≡ slot_count geometry image c.args.dir = c.slot_count-count.ensures in
+    record {
+      within = omega (arith, first.within, c.min-few.ensures, c.loop-b-test.true, count);
+      found = first.found;
+      before = λ t h. elim (cases_lt t (32 * c.loop-b.b)) [
+        | inl low ↦ c.loop-b.invariant t low (omega (arith, first.within, c.min-few.ensures))
+        | inr high ↦
+            let place : t ≡ 32 * c.loop-b.b + (t - 32 * c.loop-b.b) = omega (arith, high) in
+            ap (λ n. is_sought c.args.sought (entry_at geometry image c.args.dir n)) place ∙ first.before (t - 32 * c.loop-b.b) (omega (arith, h, high))
+      ];
+    }
+
+pub loop-b-preserved : goal.loop-b-preserved
+loop-b-preserved c = λ t h within. elim (cases_lt t (32 * c.loop-b.b)) [
+  | inl low ↦ c.loop-b.invariant t low within
+  | inr high ↦
+      let place : t ≡ 32 * c.loop-b.b + (t - 32 * c.loop-b.b) = omega (arith, high) in
+      ap (λ n. is_sought c.args.sought (entry_at c.args.geometry.now c.args.image.now c.args.dir n)) place
+      ∙ c.in_default.ensures (t - 32 * c.loop-b.b) (omega (arith, h, high, within, c.min-few.ensures))
+]

@@ -1,0 +1,58 @@
+-- Searching the slots of a directory.
+use Rattle.std.specs.Prelude.{◌≡◌, ℕ, ◌<◌, ◌||◌, Bool, true, false, not, if◌then◌else◌, List, [], ◌∷◌, Option, None, Some, MatchOption}
+use Rattle.std.specs.List.{position_or_len}
+use Rattle.std.specs.Option.{is_none, option_map_or}
+use Rattle.std.specs.Str.{bytes_eq}
+use Rattle.vol_dir.specs.declared.entries.Sought.{Sought}
+use Rattle.vol_dir.specs.declared.entries.Sought.TheVariants.{Named, Empty, Other}
+
+-- whether a name is `.` or `..` (manual section 5, directories)
+abbrev pub is_dots : List ℕ → Bool
+is_dots name = bytes_eq name (46 ∷ []) || bytes_eq name (46 ∷ 46 ∷ [])
+
+-- whether a slot holds an entry with this name (manual section 5, directories)
+abbrev pub holds : List ℕ → Option (List ℕ × ℕ) → Bool
+holds name None = false
+holds name (Some entry) = bytes_eq name entry.0
+
+-- whether a slot holds an entry other than `.` and `..` (manual section 5, directories)
+abbrev pub holds_other : Option (List ℕ × ℕ) → Bool
+holds_other None = false
+holds_other (Some entry) = not (is_dots entry.0)
+
+-- whether a search ends at a slot (Lions on namei)
+abbrev pub is_sought : Sought → Option (List ℕ × ℕ) → Bool
+is_sought (Named name) entry = holds name.now entry
+is_sought Empty entry = is_none entry
+is_sought Other entry = holds_other entry
+
+-- none of the first n slots is sought
+abbrev pub IsMissing : Sought → (ℕ → Option (List ℕ × ℕ)) → ℕ → Type 0
+IsMissing sought entry n = (t : ℕ) → t < n → is_sought sought (entry t) ≡ false
+
+-- slot s is sought, and is the first such among n
+pub record IsFirst (sought : Sought) (entry : ℕ → Option (List ℕ × ℕ)) (n s : ℕ) : Type 0 where
+  pub within : s < n
+  pub found : is_sought sought (entry s) ≡ true
+  pub before : IsMissing sought entry s
+
+-- what a search over n slots answers: the first that is sought, if one is (Lions on namei)
+abbrev pub Searches : Sought → (ℕ → Option (List ℕ × ℕ)) → ℕ → Option ℕ → Type 0
+Searches sought entry n result = MatchOption result (IsMissing sought entry n) (IsFirst sought entry n)
+
+-- the slot where a new entry goes: the first empty one, else one after the last (Lions on wdir)
+abbrev pub new_slot : List (Option (List ℕ)) → ℕ
+new_slot slots = position_or_len (λ slot. is_none slot) slots
+
+-- the slot that holds a name; the number of the slots where none does (Lions on namei)
+abbrev pub slot_named : List ℕ → List (Option (List ℕ × ℕ)) → ℕ
+slot_named name slots = position_or_len (holds name) slots
+
+-- i is the i-number in a slot that isn't empty (manual section 5, directories)
+abbrev pub IsNumberOf : Option (List ℕ × ℕ) → ℕ → Type 0
+IsNumberOf None i = Unit {0}
+IsNumberOf (Some entry) i = i ≡ entry.1
+
+-- a slot once a name is removed: empty where it held that name (manual section 5, directories)
+abbrev pub emptied : List ℕ → Option (List ℕ) → Option (List ℕ)
+emptied name slot = if option_map_or (bytes_eq name) slot false then None else slot

@@ -66,7 +66,7 @@ pub name_of-padded : (xs : List ℕ) → name_of (padded_name (name_of xs)) ≡ 
 name_of-padded xs = stops (14 - length (name_of xs)) xs
 
 -- slots are counted in 32 bits
-count_low : (edition : Edition) (size : ℕ) → min size (constants edition).greatest / 16 < 67637569
+pub count_low : (edition : Edition) (size : ℕ) → min size (constants edition).greatest / 16 < 67637569
 count_low V6 size = omega arith
 count_low V7 size = omega arith
 

@@ -1,2 +1,5 @@
 pub mod Collecting
 pub mod Deciding
+pub mod EachDirectory
+pub mod Parents
+pub mod Passing

@@ -1,0 +1,28 @@
+//! Rules 9 to 12: what directories make.
+ghost use Rattle.std.specs.Prelude.{IfOk};
+ghost use Rattle.vol_layout.specs.Geometry.{Fits};
+ghost use Rattle.vol_file.specs.Rules.{HasKinds};
+ghost use Rattle.vol_judge.specs.Verdicts.{JudgesDirectories};
+
+mod dots;
+
+use crate::entries::has_entries;
+use dots::has_dots;
+use pdp_words::Image;
+use std::alloc::{AllocError, Global};
+use vol_layout::Geometry;
+
+/// The least of rules 9 to 12 that a volume breaks on which the rules before hold.
+pub fn judge_directories(alloc: Global, image: &Image, geometry: &Geometry) -> Result<Option<u8>, AllocError>
+    requires fits { Fits geometry.now image.now }
+    requires kinds { HasKinds geometry.now image.now }
+    ensures { IfOk result (λ least. JudgesDirectories geometry.now image.now least) }
+{
+    if !has_entries(alloc, image, geometry)? {
+        return Ok(Some(9));
+    }
+    if !has_dots(alloc, image, geometry)? {
+        return Ok(Some(10));
+    }
+    Ok(None)
+}

@@ -180,13 +180,18 @@ dots_marked {geometry = geometry} ups marks rule d is =
           marks.all parent.1 parent.2 d enters (omega (arith, entry_low enters.1, enters.1.directory.last)) ((ups.named d is).all parent.0 parent.1 parent.3)
     ]
 
+-- the root's i-number isn't 0
+pub root_first : (edition : Edition) → 1 ≤ (constants edition).root
+root_first V6 = omega arith
+root_first V7 = omega arith
+
 -- the root is a directory
 pub root_is : {geometry : Geometry} {image : List ℕ} → Fits geometry image → HasKinds geometry image → IsDirectory geometry image (root_of geometry)
-root_is {geometry = geometry} fits kinds = record {
-  first = root_first geometry.edition;
-  last = omega (arith, fits.root);
-  kind = kinds.root;
-} where
-    root_first : (edition : Edition) → 1 ≤ (constants edition).root
-    root_first V6 = omega arith
-    root_first V7 = omega arith
+root_is {geometry = geometry} fits kinds = record { first = root_first geometry.edition; last = omega (arith, fits.root); kind = kinds.root }
+
+-- an entry is for an i-number of the volume
+pub number_within : {geometry : Geometry} {image : List ℕ} {d s i : ℕ} {name : List ℕ} → HasEntries geometry image → HasEntry geometry image d s name i
+    → (1 ≤ i) × (i ≤ geometry.last_inode)
+number_within {geometry = geometry} {d = d} {s = s} {i = i} {name = name} rule has =
+    let number = rule.allocated d s i name has in
+    (omega (arith, number.0, root_first geometry.edition), number.1)

@@ -15,7 +15,7 @@ unfolding entry_at
 past_last geometry image d s past = grind (arith, past)
 
 -- the slot of an entry is one of the directory
-entry_within : (geometry : Geometry) (image : List ℕ) (d s : ℕ) (entry : List ℕ × ℕ) → entry_at geometry image d s ≡ Some entry → s < slot_count geometry image d
+pub entry_within : (geometry : Geometry) (image : List ℕ) (d s : ℕ) (entry : List ℕ × ℕ) → entry_at geometry image d s ≡ Some entry → s < slot_count geometry image d
 entry_within geometry image d s entry is =
     elim (cases_lt s (slot_count geometry image d)) [
       | inl low ↦ low

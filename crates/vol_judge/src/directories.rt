@@ -5,11 +5,15 @@ ghost use Rattle.vol_file.specs.Rules.{HasKinds};
 ghost use Rattle.vol_judge.specs.Verdicts.{JudgesDirectories};
 
 mod dots;
+mod links;
+mod tree;
 
 use crate::entries::has_entries;
 use dots::has_dots;
+use links::has_links;
 use pdp_words::Image;
 use std::alloc::{AllocError, Global};
+use tree::is_tree;
 use vol_layout::Geometry;
 
 /// The least of rules 9 to 12 that a volume breaks on which the rules before hold.
@@ -23,6 +27,12 @@ pub fn judge_directories(alloc: Global, image: &Image, geometry: &Geometry) -> R
     }
     if !has_dots(alloc, image, geometry)? {
         return Ok(Some(10));
+    }
+    if !is_tree(alloc, image, geometry)? {
+        return Ok(Some(11));
+    }
+    if !has_links(alloc, image, geometry)? {
+        return Ok(Some(12));
     }
     Ok(None)
 }

@@ -10,3 +10,12 @@ pub mod Limiting
 pub mod Comparing
 pub mod Numbering
 pub mod Parts
+pub mod Collecting
+pub mod Counts
+pub mod Deciding
+pub mod EachDirectory
+pub mod Once
+pub mod Parents
+pub mod Passing
+pub mod Reaches
+mod NextEntries

@@ -1,7 +1,12 @@
+pub mod Counting
 pub mod Directories
 pub mod FreeWalk
+pub mod InodeMarks
 pub mod Judging
 pub mod Limits
 pub mod Marks
+pub mod Naming
+pub mod Reaching
 pub mod Sound
+pub mod Stepping
 pub mod Verdicts

@@ -1,25 +1,38 @@
-//! Stand-in.
+//! Rules 9 to 12: what directories make.
 ghost use Rattle.std.specs.Prelude.{IfOk};
 ghost use Rattle.vol_layout.specs.Geometry.{Fits};
 ghost use Rattle.vol_file.specs.Rules.{HasKinds};
 ghost use Rattle.vol_judge.specs.Verdicts.{JudgesDirectories};
 
+mod dots;
+mod links;
+mod tree;
+
+use crate::entries::has_entries;
+use dots::has_dots;
+use links::has_links;
 use pdp_words::Image;
 use std::alloc::{AllocError, Global};
+use tree::is_tree;
 use vol_layout::Geometry;
 
-/// Stand-in.
-pub fn judge_directories(
-    alloc: Global,
-    image: &Image,
-    geometry: &Geometry,
-) -> Result<Option<u8>, AllocError>
+/// The least of rules 9 to 12 that a volume breaks on which the rules before hold.
+pub fn judge_directories(alloc: Global, image: &Image, geometry: &Geometry) -> Result<Option<u8>, AllocError>
     requires fits { Fits geometry.now image.now }
     requires kinds { HasKinds geometry.now image.now }
     ensures { IfOk result (λ least. JudgesDirectories geometry.now image.now least) }
 {
-    let _ = alloc;
-    let _ = image.len();
-    let _ = geometry.zone_end;
+    if !has_entries(alloc, image, geometry)? {
+        return Ok(Some(9));
+    }
+    if !has_dots(alloc, image, geometry)? {
+        return Ok(Some(10));
+    }
+    if !is_tree(alloc, image, geometry)? {
+        return Ok(Some(11));
+    }
+    if !has_links(alloc, image, geometry)? {
+        return Ok(Some(12));
+    }
     Ok(None)
 }

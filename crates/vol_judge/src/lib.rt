@@ -3,9 +3,12 @@
 
 mod blocks;
 mod directories;
+mod entries;
 mod free_marks;
 mod i_nodes;
+mod inode_marks;
 mod judging;
 mod marking;
+mod reading;
 
 pub use judging::judge;

@@ -1,0 +1,197 @@
+-- What directories name by `.` and `..`, and where they are entered.
+use Rattle.std.proofs.Common.{◌≡◌, ◌≢◌, ℕ, ◌+◌, ◌<◌, ◌≤◌, ◌⊎◌, inl, inr, Bool, true, false, List, Option, None, Some, length, get_or, refl, sym, ap, ◌∙◌, arith, get_or-set_other, get_or-set_same}
+use Rattle.std.proofs.Math.ListN.{set, length-set}
+use Rattle.std.proofs.lemmas.Bool.{cases_lt, cases_eq}
+use Rattle.vol_layout.specs.Edition.{constants}
+use Rattle.vol_layout.specs.Geometry.{Fits}
+use Rattle.vol_layout.specs.Slot.{name_of}
+use Rattle.vol_layout.specs.declared.edition.Edition.{Edition}
+use Rattle.vol_layout.specs.declared.edition.Edition.TheVariants.{V6, V7}
+use Rattle.vol_layout.specs.declared.geometry.Geometry.{Geometry}
+use Rattle.vol_layout.specs.declared.slot.Slot.{Slot}
+use Rattle.vol_file.specs.Rules.{HasKinds}
+use Rattle.vol_dir.specs.Entries.{entry_at, IsDirectory, HasEntry, HasEntries}
+use Rattle.vol_dir.specs.Names.{dot, dot_dot, is_dots}
+use Rattle.vol_judge.specs.Directories.{root_of, Enters, HasDots}
+use Rattle.vol_judge.specs.InodeMarks.{is_marked, HasRoot, IsNamed, HasUpsBelow, HasUps, IsChild, MarksChildren}
+use Rattle.vol_judge.specs.Stepping.{rank, IsNextIn, IsNext, IsEnd}
+use Rattle.vol_judge.proofs.Collecting.{same_entry, none_some}
+use Rattle.vol_judge.proofs.EachDirectory.{directories_more, directories_all}
+use Rattle.vol_judge.proofs.Passing.{entry_low, split}
+
+-- the first entry of a name is the only one
+pub named_here : {geometry : Geometry} {image : List ℕ} {d from s : ℕ} {slot : Slot} (name : List ℕ) → HasEntries geometry image → IsDirectory geometry image d
+    → IsNextIn geometry image d from s slot → name_of slot.name ≡ name → IsNamed geometry image d name (Some slot.inode)
+named_here {geometry = geometry} {image = image} {d = d} {s = s} {slot = slot} name rule is next same =
+    let has : HasEntry geometry image d s name slot.inode = record { directory = is; entry = rw (sym same) next.entry } in
+    record {
+      all = λ t i other.
+      let slots : s ≡ t = rule.once d s t slot.inode i name has other in
+      let here = rw (sym slots) at other.entry in
+      ap Some (same_entry (entry_at geometry image d s) name name slot.inode i has.entry here).1;
+      only = λ i number.
+      let same_number : slot.inode ≡ i = cc in
+      (s, rw (sym same_number) has);
+    }
+
+-- an entry of another name is passed
+pub named_later : {geometry : Geometry} {image : List ℕ} {d from s : ℕ} {slot : Slot} (name : List ℕ) → IsNextIn geometry image d from s slot
+    → name_of slot.name ≢ name → ((t i : ℕ) → t < from → HasEntry geometry image d t name i → ⊥)
+    → (t i : ℕ) → t < s + 1 → HasEntry geometry image d t name i → ⊥
+named_later {geometry = geometry} {image = image} {d = d} {from = from} {s = s} {slot = slot} name next other none t i low has =
+    elim (cases_lt t from) [
+      | inl before ↦ none t i before has
+      | inr above ↦ elim (cases_eq t s) [
+        | inl same ↦
+            let here = rw same at has.entry in
+            other (same_entry (entry_at geometry image d s) (name_of slot.name) name slot.inode i next.entry here).0
+        | inr apart ↦ none_some (entry_at geometry image d t) (name, i) has.entry (next.none t above (omega arith))
+      ]
+    ]
+
+-- where no slot is left, the directory doesn't have the name
+pub named_none : {geometry : Geometry} {image : List ℕ} {d from : ℕ} (name : List ℕ) → ((t : ℕ) → from ≤ t → entry_at geometry image d t ≡ None)
+    → ((t i : ℕ) → t < from → HasEntry geometry image d t name i → ⊥) → IsNamed geometry image d name None
+named_none {geometry = geometry} {image = image} {d = d} {from = from} name end none = record {
+  all = λ t i has. absurd (elim (cases_lt t from) [
+    | inl before ↦ none t i before has
+    | inr above ↦ none_some (entry_at geometry image d t) (name, i) has.entry (end t above)
+  ]);
+  only = λ i number. absurd (cc);
+}
+
+-- before the first place the root's mark alone is asked
+pub children_first : {geometry : Geometry} {image : List ℕ} {marks : List Bool} (ups : List (Option ℕ)) (place : ℕ) → HasRoot geometry marks
+    → place ≤ rank 1 0 → MarksChildren geometry image ups place marks
+children_first ups place marks low = record {
+  room = marks.room;
+  root = marks.root;
+  all = λ e t i enters before up. absurd (omega (arith, enters.1.directory.first));
+  only = λ i marked. inl (marks.only i marked);
+}
+
+-- an entry in the directory that it names by `..` is marked
+pub children_marked : {geometry : Geometry} {image : List ℕ} {marks : List Bool} {ups : List (Option ℕ)} {place d s : ℕ} {slot : Slot}
+    → MarksChildren geometry image ups place marks → IsNext geometry image place d s slot → slot.inode < length marks
+    → is_dots (name_of slot.name) ≡ false → get_or ups slot.inode None ≡ Some d
+    → MarksChildren geometry image ups (rank d (s + 1)) (set marks slot.inode true)
+children_marked {geometry = geometry} {image = image} {marks = marks} {ups = ups} {place = place} {d = d} {s = s} {slot = slot} is next room other up =
+    let kept : (i : ℕ) → is_marked marks i ≡ true → is_marked (set marks slot.inode true) i ≡ true = λ i marked.
+    elim (cases_eq i slot.inode) [
+      | inl same ↦ rw same (rw get_or-set_same refl)
+      | inr apart ↦ rw get_or-set_other marked
+    ] in
+    record {
+      room = simp length-set is.room;
+      root = kept (root_of geometry) is.root;
+      all = λ e t i enters before named.
+      elim (split e t i enters.0 next enters.1 before) [
+        | inl early ↦ kept i (is.all e t i enters early named)
+        | inr here ↦ let number : i ≡ slot.inode = here.3 in rw number (rw get_or-set_same refl)
+      ];
+      only = λ i marked.
+      elim (cases_eq i slot.inode) [
+        | inl same ↦ inr (rw same (record { directory = d; slot = s; enters = (name_of slot.name, next.entry, other); up = up }))
+        | inr apart ↦ is.only i (rw get_or-set_other at marked)
+      ];
+    }
+
+-- an entry elsewhere is passed
+pub children_passed : {geometry : Geometry} {image : List ℕ} {marks : List Bool} {ups : List (Option ℕ)} {place d s : ℕ} {slot : Slot}
+    → MarksChildren geometry image ups place marks → IsNext geometry image place d s slot
+    → (is_dots (name_of slot.name) ≡ false → get_or ups slot.inode None ≡ Some d → ⊥)
+    → MarksChildren geometry image ups (rank d (s + 1)) marks
+children_passed is next other = record {
+  room = is.room;
+  root = is.root;
+  all = λ e t i enters before named.
+  elim (split e t i enters.0 next enters.1 before) [
+    | inl early ↦ is.all e t i enters early named
+    | inr here ↦ absurd (other (ap is_dots (sym here.2) ∙ enters.2) (rw (sym here.3, sym here.0) named))
+  ];
+  only = is.only;
+}
+
+-- where no entry is left, all are gone over
+pub children_all : {geometry : Geometry} {image : List ℕ} {marks : List Bool} {ups : List (Option ℕ)} {place : ℕ} (end : ℕ)
+    → MarksChildren geometry image ups place marks → IsEnd geometry image place → MarksChildren geometry image ups end marks
+children_all end is none = record {
+  room = is.room;
+  root = is.root;
+  all = λ e t i enters before named. is.all e t i enters (none e t i enters.0 enters.1) named;
+  only = is.only;
+}
+
+-- what directory d names is kept beside
+pub ups_named : {geometry : Geometry} {image : List ℕ} {d : ℕ} {ups : List (Option ℕ)} {number : Option ℕ} → HasUpsBelow geometry image d ups
+    → IsNamed geometry image d dot_dot number → d < length ups → HasUpsBelow geometry image (d + 1) (set ups d number)
+ups_named {geometry = geometry} {image = image} {d = d} {ups = ups} {number = number} below here room = record {
+  room = simp length-set below.room;
+  named = λ e low is.
+  elim (cases_eq e d) [
+    | inl same ↦ rw same (rw get_or-set_same here)
+    | inr apart ↦ rw get_or-set_other (below.named e (omega arith) is)
+  ];
+}
+
+-- what is no directory names nothing
+pub ups_other : {geometry : Geometry} {image : List ℕ} {d : ℕ} {ups : List (Option ℕ)} → HasUpsBelow geometry image d ups
+    → (IsDirectory geometry image d → ⊥) → HasUpsBelow geometry image (d + 1) ups
+ups_other {geometry = geometry} {image = image} {d = d} {ups = ups} below other = record {
+  room = below.room;
+  named = directories_more (λ e. IsNamed geometry image e dot_dot (get_or ups e None)) d below.named (λ is. absurd (other is));
+}
+
+-- past the last directory it is what all name
+pub ups_all : {geometry : Geometry} {image : List ℕ} {d : ℕ} {ups : List (Option ℕ)} → HasUpsBelow geometry image d ups → geometry.last_inode < d
+    → HasUps geometry image ups
+ups_all {geometry = geometry} {image = image} {d = d} {ups = ups} below last = record {
+  room = below.room;
+  named = directories_all (λ e. IsNamed geometry image e dot_dot (get_or ups e None)) d below.named last;
+}
+
+-- rule 10 holds where each directory names itself, the root names itself its parent, and each directory is entered where it says
+pub dots_hold : {geometry : Geometry} {image : List ℕ} {ups : List (Option ℕ)} {marks : List Bool} {end : ℕ}
+    → ((d : ℕ) → IsDirectory geometry image d → (s : ℕ) × HasEntry geometry image d s dot d)
+    → IsNamed geometry image (root_of geometry) dot_dot (Some (root_of geometry)) → HasUps geometry image ups
+    → MarksChildren geometry image ups end marks → ((d : ℕ) → IsDirectory geometry image d → is_marked marks d ≡ true) → HasDots geometry image
+dots_hold {geometry = geometry} itself root ups marks all = record {
+  itself = itself;
+  root = root.only (root_of geometry) refl;
+  parent = λ d is other.
+  elim (marks.only d (all d is)) [
+    | inl same ↦ absurd (other same)
+    | inr child ↦
+        let up = (ups.named d is).only child.directory child.up in
+        (up.0, child.directory, child.slot, up.1, child.enters)
+  ];
+}
+
+-- where rule 10 holds, each directory is marked
+pub dots_marked : {geometry : Geometry} {image : List ℕ} {ups : List (Option ℕ)} {marks : List Bool} → HasUps geometry image ups
+    → MarksChildren geometry image ups (rank (geometry.last_inode + 1) 0) marks → HasDots geometry image
+    → (d : ℕ) → IsDirectory geometry image d → is_marked marks d ≡ true
+dots_marked {geometry = geometry} ups marks rule d is =
+    elim (cases_eq d (root_of geometry)) [
+      | inl same ↦ rw same marks.root
+      | inr other ↦
+          let parent = rule.parent d is other in
+          let enters = parent.4 in
+          marks.all parent.1 parent.2 d enters (omega (arith, entry_low enters.1, enters.1.directory.last)) ((ups.named d is).all parent.0 parent.1 parent.3)
+    ]
+
+-- the root's i-number isn't 0
+pub root_first : (edition : Edition) → 1 ≤ (constants edition).root
+root_first V6 = omega arith
+root_first V7 = omega arith
+
+-- the root is a directory
+pub root_is : {geometry : Geometry} {image : List ℕ} → Fits geometry image → HasKinds geometry image → IsDirectory geometry image (root_of geometry)
+root_is {geometry = geometry} fits kinds = record { first = root_first geometry.edition; last = omega (arith, fits.root); kind = kinds.root }
+
+-- an entry is for an i-number of the volume
+pub number_within : {geometry : Geometry} {image : List ℕ} {d s i : ℕ} {name : List ℕ} → HasEntries geometry image → HasEntry geometry image d s name i
+    → (1 ≤ i) × (i ≤ geometry.last_inode)
+number_within {geometry = geometry} {d = d} {s = s} {i = i} {name = name} rule has =
+    let number = rule.allocated d s i name has in
+    (omega (arith, number.0, root_first geometry.edition), number.1)

@@ -1,0 +1,49 @@
+-- The entries of one directory, as rule 9 asks for them.
+use Rattle.std.specs.Prelude.{◌≡◌, ◌≢◌, ℕ, ◌%◌, ◌<◌, ◌≤◌, ◌==◌, Bool, true, false, List, [], Some}
+use Rattle.std.specs.List.{list_any}
+use Rattle.std.specs.BTreeSet.{BTreeSet, contains}
+use Rattle.std.specs.Cmp.Lexicographic.{slice_cmp}
+use Rattle.std.specs.Ordering.{nat_cmp}
+use Rattle.vol_layout.specs.Edition.{constants}
+use Rattle.vol_layout.specs.Slot.{name_of, padded_name}
+use Rattle.vol_file.specs.Rules.{size_of, kind_at}
+use Rattle.vol_dir.specs.Entries.{entry_at}
+use Rattle.vol_layout.specs.declared.geometry.Geometry.{Geometry}
+use Rattle.vol_layout.specs.declared.mode.Kind.TheVariants as kinds
+
+-- an entry has a name, without a slash, for an allocated i-number from the root's to the last (rule 9)
+pub record IsEntry (geometry : Geometry) (image name : List ℕ) (i : ℕ) : Type 0 where
+  pub some : name ≢ []
+  pub no_slash : list_any (λ c. c == 47) name ≡ false
+  pub first : (constants geometry.edition).root ≤ i
+  pub last : i ≤ geometry.last_inode
+  pub allocated : kind_at geometry image i ≢ kinds.Free
+
+-- rule 9 holds of the slots of directory d below slot n
+pub record HasEntriesBelow (geometry : Geometry) (image : List ℕ) (d n : ℕ) : Type 0 where
+  pub entries : (t i : ℕ) (name : List ℕ) → t < n → entry_at geometry image d t ≡ Some (name, i) → IsEntry geometry image name i
+  pub once : (s t i j : ℕ) (name : List ℕ) → s < n → t < n → entry_at geometry image d s ≡ Some (name, i)
+      → entry_at geometry image d t ≡ Some (name, j) → s ≡ t
+
+-- rule 9 holds of directory d
+pub record HasEntriesIn (geometry : Geometry) (image : List ℕ) (d : ℕ) : Type 0 where
+  pub whole : size_of geometry image d % 16 ≡ 0
+  pub entries : (t i : ℕ) (name : List ℕ) → entry_at geometry image d t ≡ Some (name, i) → IsEntry geometry image name i
+  pub once : (s t i j : ℕ) (name : List ℕ) → entry_at geometry image d s ≡ Some (name, i)
+      → entry_at geometry image d t ≡ Some (name, j) → s ≡ t
+
+-- directory d has an entry with this name below slot n
+pub record IsNamedBelow (geometry : Geometry) (image : List ℕ) (d n : ℕ) (name : List ℕ) : Type 0 where
+  pub slot : ℕ
+  pub inode : ℕ
+  pub below : slot < n
+  pub entry : entry_at geometry image d slot ≡ Some (name, inode)
+
+-- whether a set of names, as slots store them, has a name
+abbrev pub is_in : BTreeSet (List ℕ) → List ℕ → Bool
+is_in names name = contains (slice_cmp nat_cmp) names name
+
+-- the names, as slots store them, are those of the entries of directory d below slot n
+pub record HoldsNames (geometry : Geometry) (image : List ℕ) (d n : ℕ) (names : BTreeSet (List ℕ)) : Type 0 where
+  pub all : (t i : ℕ) (name : List ℕ) → t < n → entry_at geometry image d t ≡ Some (name, i) → is_in names (padded_name name) ≡ true
+  pub only : (name : List ℕ) → is_in names name ≡ true → IsNamedBelow geometry image d n (name_of name)

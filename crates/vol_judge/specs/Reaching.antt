@@ -1,0 +1,41 @@
+-- Reaching the directories from the root: marks of those found, and the work that is left.
+use Rattle.std.specs.Prelude.{◌≡◌, ℕ, ◌+◌, ◌*◌, ◌≤◌, ◌⊎◌, Bool, true, if◌then◌else◌, List, length}
+use Rattle.std.specs.List.{sum_by, Contains}
+use Rattle.vol_dir.specs.Entries.{IsDirectory}
+use Rattle.vol_layout.specs.declared.geometry.Geometry.{Geometry}
+use Rattle.vol_judge.specs.Directories.{root_of, Enters, IsReached}
+use Rattle.vol_judge.specs.InodeMarks.{is_marked}
+
+-- the root is marked, what is marked is reached, and what a marked directory enters is marked (ncheck)
+pub record MarksReached (geometry : Geometry) (image : List ℕ) (marks : List Bool) : Type 0 where
+  pub room : length marks ≡ geometry.last_inode + 1
+  pub root : is_marked marks (root_of geometry) ≡ true
+  pub reached : (i : ℕ) → is_marked marks i ≡ true → IsReached geometry image i
+  pub closed : (e t i : ℕ) → is_marked marks e ≡ true → Enters geometry image e t i → IsDirectory geometry image i → is_marked marks i ≡ true
+
+-- the same, but for what the directories yet to be entered enter
+pub record Explores (geometry : Geometry) (image : List ℕ) (marks : List Bool) (work : List ℕ) : Type 0 where
+  pub room : length marks ≡ geometry.last_inode + 1
+  pub root : is_marked marks (root_of geometry) ≡ true
+  pub reached : (i : ℕ) → is_marked marks i ≡ true → IsReached geometry image i
+  pub waiting : (e : ℕ) → Contains work e → IsDirectory geometry image e × (is_marked marks e ≡ true)
+  pub closed : (e t i : ℕ) → is_marked marks e ≡ true → Enters geometry image e t i → IsDirectory geometry image i
+      → (is_marked marks i ≡ true) ⊎ Contains work e
+
+-- the same, while directory d is entered, from one slot on
+pub record ExploresBelow (geometry : Geometry) (image : List ℕ) (d from : ℕ) (marks : List Bool) (work : List ℕ) : Type 0 where
+  pub room : length marks ≡ geometry.last_inode + 1
+  pub root : is_marked marks (root_of geometry) ≡ true
+  pub current : is_marked marks d ≡ true
+  pub reached : (i : ℕ) → is_marked marks i ≡ true → IsReached geometry image i
+  pub waiting : (e : ℕ) → Contains work e → IsDirectory geometry image e × (is_marked marks e ≡ true)
+  pub closed : (e t i : ℕ) → is_marked marks e ≡ true → Enters geometry image e t i → IsDirectory geometry image i
+      → (is_marked marks i ≡ true) ⊎ (Contains work e ⊎ ((e ≡ d) × (from ≤ t)))
+
+-- how many i-numbers aren't marked
+abbrev pub unmarked : List Bool → ℕ
+unmarked marks = sum_by (λ mark. if mark then 0 else 1) marks
+
+-- the work that is left at most: each i-number yet to be marked, and then entered
+abbrev pub load : List Bool → List ℕ → ℕ
+load marks work = 2 * unmarked marks + length work

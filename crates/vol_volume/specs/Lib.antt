@@ -1,1 +1,3 @@
 pub mod Mkfs
+pub mod Shapes
+pub mod Verdict

@@ -1,9 +1,15 @@
-//! Volumes: made, and from a later release on mounted and changed.
+//! Volumes: made, mounted, and what may be asked of them.
 #![tactic(auto)]
 
+pub mod bytes;
+pub mod calls;
 pub mod making;
+pub mod queries;
 
+pub use bytes::Bytes;
+pub use calls::{Call, Done, Record};
 pub use making::{MkfsFault, mkfs};
+pub use queries::{Listing, Query, Reply, Stat};
 
 #[cfg(test)]
 mod tests;

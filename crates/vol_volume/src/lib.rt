@@ -3,13 +3,16 @@
 
 pub mod bytes;
 pub mod calls;
+mod judging;
 pub mod making;
 pub mod queries;
+pub mod volume;
 
 pub use bytes::Bytes;
 pub use calls::{Call, Done, Record};
 pub use making::{MkfsFault, mkfs};
 pub use queries::{Listing, Query, Reply, Stat};
+pub use volume::{MountFault, Volume};
 
 #[cfg(test)]
 mod tests;

@@ -1,2 +1,3 @@
 pub mod NewSizes
 pub mod NewVolumes
+mod SoundSizes

@@ -137,6 +137,7 @@ impl Volume {
 }
 
 /// The geometry of a sound image.
+#[tactic(auto, using(crate::proofs::SoundSizes::sound_read))]
 fn sound_geometry(edition: Edition, image: &Image) -> Geometry
     requires { IsSound edition image.now }
     ensures { result ≡ geometry_of edition image.now }

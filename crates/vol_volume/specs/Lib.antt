@@ -1,6 +1,7 @@
 pub mod Answer
 pub mod Faults
 pub mod Journal
+pub mod Laws
 pub mod Mkfs
 pub mod Shapes
 pub mod Step

@@ -4,6 +4,7 @@
 pub mod bytes;
 pub mod calls;
 mod judging;
+pub mod laws;
 pub mod making;
 pub mod queries;
 pub mod volume;

@@ -147,3 +147,6 @@ fn sound_geometry(edition: Edition, image: &Image) -> Geometry
         Err(_) => unreachable!(),
     }
 }
+
+#[cfg(test)]
+mod tests;

@@ -1,2 +1,5 @@
+pub mod Journals
 pub mod NewSizes
 pub mod NewVolumes
+mod Refusals
+mod SoundSizes

@@ -1,9 +1,19 @@
-//! Volumes: made, and from a later release on mounted and changed.
+//! Volumes: made, mounted, and what may be asked of them.
 #![tactic(auto)]
 
+pub mod bytes;
+pub mod calls;
+mod judging;
+pub mod laws;
 pub mod making;
+pub mod queries;
+pub mod volume;
 
+pub use bytes::Bytes;
+pub use calls::{Call, Done, Record};
 pub use making::{MkfsFault, mkfs};
+pub use queries::{Listing, Query, Reply, Stat};
+pub use volume::{MountFault, Volume};
 
 #[cfg(test)]
 mod tests;

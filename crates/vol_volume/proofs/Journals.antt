@@ -1,0 +1,66 @@
+-- Journals in parts, and what an accepted call keeps.
+use Rattle.std.proofs.Common.{◌≡◌, ◌↔◌, ℕ, List, [], ◌∷◌, ◌++◌, refl, ap, sym, ◌∙◌, subst, Result, Ok, Err}
+use Rattle.vol_dir.specs.Tree.{State}
+use Rattle.vol_volume.specs.Step.{step, on_node, after_write}
+use Rattle.vol_volume.specs.Journal.{after, MayFollow, IsLegal}
+use Rattle.vol_volume.specs.Volume.{Mounted, reads_as, IsConsistent, Performs, Accepts}
+use Rattle.vol_dir.specs.declared.refusal.Refusal.{Refusal}
+use Rattle.vol_volume.specs.declared.calls.Call.{Call}
+use Rattle.vol_volume.specs.declared.calls.Done.{Done}
+use Rattle.vol_volume.specs.declared.calls.Record.{Record}
+
+-- a write of no bytes leaves the state, wherever its walk leads
+pub write_nothing : (state : State) (now offset : ℕ) (walked : Result ℕ Refusal) → on_node state walked (after_write state now offset []) ≡ state
+write_nothing state now offset (Ok i) = refl
+write_nothing state now offset (Err refusal) = refl
+
+-- the second part leads on from where the first led
+pub after-append : (state : State) (front rest : List Record) → after state (front ++ rest) ≡ after (after state front) rest
+after-append state [] rest = refl
+after-append state (entry ∷ front) rest = after-append (step state entry.call entry.done) front rest
+
+-- two legal parts are a legal journal
+pub legal-append : (state : State) (front rest : List Record) → IsLegal state front → IsLegal (after state front) rest → IsLegal state (front ++ rest)
+legal-append state [] rest first second = second
+legal-append state (entry ∷ front) rest first second =
+    (first.0, legal-append (step state entry.call entry.done) front rest first.1 second)
+
+-- both parts of a legal journal are legal
+pub legal-parts : (state : State) (front rest : List Record) → IsLegal state (front ++ rest) → IsLegal state front × IsLegal (after state front) rest
+legal-parts state [] rest legal = (tt, legal)
+legal-parts state (entry ∷ front) rest legal =
+    let parts : IsLegal (step state entry.call entry.done) front × IsLegal (after (step state entry.call entry.done) front) rest =
+    legal-parts (step state entry.call entry.done) front rest legal.1
+    in ((legal.0, parts.0), parts.1)
+
+-- the journal is legal if and only if both parts are
+pub legal-in-parts : (state : State) (front rest : List Record)
+    → IsLegal state (front ++ rest) ↔ (IsLegal state front × IsLegal (after state front) rest)
+legal-in-parts state front rest = (legal-parts state front rest, λ both. legal-append state front rest both.0 both.1)
+
+-- an accepted call keeps a volume consistent; `now` is what the journal made before
+keep_same : (now : State) (old : Mounted) (new : List ℕ) (call : Call) (done : Done) → IsConsistent old
+    → now ≡ reads_as old.edition old.image
+    → MayFollow now (record { call = call; done = done })
+    → now ≡ after (reads_as old.edition old.base) old.journal
+    → Performs old.edition old.image new call done
+    → IsConsistent (record { edition = old.edition; image = new; base = old.base; journal = old.journal ++ record { call = call; done = done } ∷ [] })
+keep_same now old new call done was reads follows made performed = record {
+  image_sound = performed.sound;
+  base_sound = was.base_sound;
+  legal = legal-append _ old.journal (record { call = call; done = done } ∷ []) was.legal
+      (subst (λ at. IsLegal at (record { call = call; done = done } ∷ [])) made (follows, tt));
+  reads = performed.makes ∙ ap (λ at. step at call done) (sym reads ∙ made)
+      ∙ sym (after-append (reads_as old.edition old.base) old.journal (record { call = call; done = done } ∷ []));
+}
+
+-- what every volume keeps is kept
+pub kept_consistent : (old new : Mounted) (call : Call) (done : Done) → IsConsistent old → Accepts old new call done → IsConsistent new
+kept_consistent old new call done was accepts =
+    let same : IsConsistent (record { edition = old.edition; image = new.image; base = old.base; journal = old.journal ++ record { call = call; done = done } ∷ [] }) =
+    keep_same (reads_as old.edition old.image) old new.image call done was refl
+    (record { accepted = accepts.accepted; answered = accepts.performed.answered }) was.reads accepts.performed
+    in
+    let fields : new ≡ record { edition = old.edition; image = new.image; base = old.base; journal = old.journal ++ record { call = call; done = done } ∷ [] } =
+    λ j. record { edition = accepts.edition j; image = new.image; base = accepts.base j; journal = accepts.journal j }
+    in subst IsConsistent (sym fields) same

@@ -1,0 +1,89 @@
+-- What a query is answered.
+use Rattle.std.specs.Prelude.{◌≡◌, ℕ, Bool, true, false, not, List, [], ◌∷◌, take, drop, Option, None, Some, Result, Ok, Err}
+use Rattle.vol_dir.specs.Access.{grants, may_read}
+use Rattle.vol_dir.specs.Tree.{Content, Body, Directory, Device, Node, Tree}
+use Rattle.vol_dir.specs.Walk.{is_directory, walk}
+use Rattle.vol_volume.specs.Verdict.{first_of, node_at, names_at, then_others, of_node, body_tests}
+use Rattle.vol_volume.specs.Step.{body_of}
+use Rattle.vol_dir.specs.declared.cred.Cred.{Cred}
+use Rattle.vol_dir.specs.declared.refusal.Refusal.{Refusal}
+use Rattle.vol_dir.specs.declared.refusal.Refusal.TheVariants as refusals
+use Rattle.vol_layout.specs.declared.mode.Kind.{Kind}
+use Rattle.vol_layout.specs.declared.mode.Kind.TheVariants as kinds
+use Rattle.vol_volume.specs.declared.queries.Query.{Query}
+use Rattle.vol_volume.specs.declared.queries.Query.TheVariants as queries
+use Rattle.vol_volume.specs.declared.queries.Reply.{Reply}
+use Rattle.vol_volume.specs.declared.queries.Reply.TheVariants as replies
+use Rattle.vol_volume.specs.declared.queries.Stat.{Stat}
+
+-- what a node with some content is (manual section 5, file system)
+abbrev pub kind_in : Content → Kind
+kind_in (Body bytes) = kinds.Regular
+kind_in (Directory names) = kinds.Directory
+kind_in (Device type addresses) = kinds.Special
+
+-- what is told of node i (stat)
+abbrev pub stat_of : ℕ → Node → Stat
+stat_of i node = record {
+  number = i;
+  kind = kind_in node.content;
+  permissions = node.permissions;
+  links = node.links;
+  uid = node.uid;
+  gid = node.gid;
+  size = node.size;
+  accessed = node.accessed;
+  modified = node.modified;
+  changed = node.changed;
+}
+
+-- what is asked of a node whose names are to be listed (Lions on access)
+abbrev pub list_tests : Tree → Cred → ℕ → List (Bool × Refusal)
+list_tests tree cred i =
+    (not (is_directory (node_at tree i)), refusals.NotDirectory)
+    ∷ (not (grants may_read cred (node_at tree i)), refusals.Access)
+    ∷ []
+
+-- the refusal of a query: the first that applies, of those beside want of memory (this project)
+unfoldable pub query_refusal : Tree → Query → Option Refusal
+query_refusal tree (queries.Stat cred path) = then_others tree cred (path ∷ []) (of_node (walk tree cred path) (λ i. None))
+query_refusal tree (queries.Read cred path offset len) =
+    then_others tree cred (path ∷ []) (of_node (walk tree cred path) (λ i. first_of (body_tests tree may_read cred i)))
+query_refusal tree (queries.List cred path) =
+    then_others tree cred (path ∷ []) (of_node (walk tree cred path) (λ i. first_of (list_tests tree cred i)))
+
+-- the reply of the node that a walk leads to
+abbrev pub reply_at : Result ℕ Refusal → (ℕ → Reply) → Result Reply Refusal
+reply_at (Err refusal) reply = Err refusal
+reply_at (Ok i) reply = Ok (reply i)
+
+-- the bytes of a body from an offset on, at most so many; none at or past its end (Lions on readi)
+abbrev pub read_bytes : List ℕ → ℕ → ℕ → List ℕ
+read_bytes body offset len = take len (drop offset body)
+
+-- the reply to a query that is not refused (stat, read; names in ascending order of their bytes are this project's)
+unfoldable pub reply_of : Tree → Query → Result Reply Refusal
+reply_of tree (queries.Stat cred path) = reply_at (walk tree cred path) (λ i. replies.Stat (stat_of i (node_at tree i)))
+reply_of tree (queries.Read cred path offset len) =
+    reply_at (walk tree cred path) (λ i. replies.Bytes (read_bytes (body_of (node_at tree i).content) offset len))
+reply_of tree (queries.List cred path) = reply_at (walk tree cred path) (λ i. replies.Names (names_at tree i))
+
+-- a refusal, or else a reply
+abbrev pub refused_or : Option Refusal → Result Reply Refusal → Result Reply Refusal
+refused_or (Some refusal) reply = Err refusal
+refused_or None reply = reply
+
+-- the answer to a query (this project)
+abbrev pub answer : Tree → Query → Result Reply Refusal
+answer tree query = refused_or (query_refusal tree query) (reply_of tree query)
+
+-- whether the reply to a query takes memory
+abbrev pub takes_memory : Query → Bool
+takes_memory (queries.Stat cred path) = false
+takes_memory (queries.Read cred path offset len) = true
+takes_memory (queries.List cred path) = true
+
+-- a query comes out as its answer, or, where the reply takes memory and there is no other refusal, as want of memory (this project)
+abbrev pub Answers : Tree → Query → Result Reply Refusal → Type 0
+Answers tree query (Err refusals.NoMemory) = (takes_memory query ≡ true) × (query_refusal tree query ≡ None)
+Answers tree query result = result ≡ answer tree query

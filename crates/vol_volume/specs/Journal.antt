@@ -1,0 +1,43 @@
+-- The journal of accepted calls: which records may follow one another, and what they make of a volume.
+use Rattle.std.specs.Prelude.{◌≡◌, ℕ, true, List, [], ◌∷◌, length, None, Some}
+use Rattle.vol_dir.specs.Tree.{State}
+use Rattle.vol_volume.specs.Verdict.{verdict, is_free_number}
+use Rattle.vol_volume.specs.Step.{step}
+use Rattle.vol_dir.specs.declared.refusal.Refusal.{Refusal}
+use Rattle.vol_dir.specs.declared.refusal.Refusal.TheVariants as refusals
+use Rattle.vol_volume.specs.declared.calls.Call.{Call}
+use Rattle.vol_volume.specs.declared.calls.Call.TheVariants.{Create, Mkdir, Link, Unlink, Rmdir, Write, Truncate}
+use Rattle.vol_volume.specs.declared.calls.Done.{Done}
+use Rattle.vol_volume.specs.declared.calls.Done.TheVariants.{Made, Wrote, Plain}
+use Rattle.vol_volume.specs.declared.calls.Record.{Record}
+
+-- what an accepted call may answer: the number of what it made is any that can be taken, and a write writes all bytes (this project)
+abbrev pub MayAnswer : State → Call → Done → Type 0
+MayAnswer state (Create cred now path perm) (Made i) = is_free_number state.tree i ≡ true
+MayAnswer state (Mkdir cred now path perm) (Made i) = is_free_number state.tree i ≡ true
+MayAnswer state (Write cred now path offset bytes) (Wrote n) = n ≡ length bytes
+MayAnswer state (Link cred now source target) Plain = Unit {0}
+MayAnswer state (Unlink cred now path) Plain = Unit {0}
+MayAnswer state (Rmdir cred now path) Plain = Unit {0}
+MayAnswer state (Truncate cred now path) Plain = Unit {0}
+MayAnswer state _ _ = ⊥
+
+-- a record may come next: its call isn't refused, and may answer so (this project)
+pub record MayFollow (state : State) (entry : Record) : Type 0 where
+  pub accepted : verdict state entry.call ≡ None
+  pub answered : MayAnswer state entry.call entry.done
+
+-- the state that records lead to (this project)
+abbrev pub after : State → List Record → State
+after state [] = state
+after state (entry ∷ entries) = after (step state entry.call entry.done) entries
+
+-- each record in turn may come next (this project)
+abbrev pub IsLegal : State → List Record → Type 0
+IsLegal state [] = Unit {0}
+IsLegal state (entry ∷ entries) = MayFollow state entry × IsLegal (step state entry.call entry.done) entries
+
+-- a call may be refused so: for want of memory where there is no other refusal, else by the first that applies (this project)
+abbrev pub Refuses : State → Call → Refusal → Type 0
+Refuses state call refusals.NoMemory = verdict state call ≡ None
+Refuses state call refusal = verdict state call ≡ Some refusal

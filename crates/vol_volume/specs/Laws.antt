@@ -1,0 +1,46 @@
+-- Statements of the laws of calls and journals.
+use Rattle.std.specs.Prelude.{◌≡◌, ◌≢◌, ◌↔◌, ℕ, List, [], ◌∷◌, ◌++◌, Some, Ok}
+use Rattle.vol_dir.specs.Tree.{Tree, State}
+use Rattle.vol_dir.specs.Walk.{root, walk}
+use Rattle.vol_volume.specs.Verdict.{verdict}
+use Rattle.vol_volume.specs.Step.{step, at_time}
+use Rattle.vol_volume.specs.Answer.{query_refusal}
+use Rattle.vol_volume.specs.Journal.{after, IsLegal}
+use Rattle.vol_volume.specs.Volume.{Mounted, IsConsistent, Accepts}
+use Rattle.vol_dir.specs.declared.cred.Cred.{Cred}
+use Rattle.vol_dir.specs.declared.refusal.Refusal.TheVariants as refusals
+use Rattle.vol_volume.specs.declared.calls.Call.{Call}
+use Rattle.vol_volume.specs.declared.calls.Call.TheVariants.{Write}
+use Rattle.vol_volume.specs.declared.calls.Done.{Done}
+use Rattle.vol_volume.specs.declared.calls.Record.{Record}
+use Rattle.vol_volume.specs.declared.queries.Query.{Query}
+
+-- a volume that is consistent is so after each accepted call
+abbrev pub KeepsConsistent : Type 0
+KeepsConsistent = (old new : Mounted) (call : Call) (done : Done) → IsConsistent old → Accepts old new call done → IsConsistent new
+
+-- a journal leads where its second part leads from where its first part led
+abbrev pub LeadsInParts : Type 0
+LeadsInParts = (state : State) (front rest : List Record) → after state (front ++ rest) ≡ after (after state front) rest
+
+-- and it is legal where both parts are
+abbrev pub IsLegalInParts : Type 0
+IsLegalInParts = (state : State) (front rest : List Record)
+    → IsLegal state (front ++ rest) ↔ (IsLegal state front × IsLegal (after state front) rest)
+
+-- no tree is a reason for want of memory in a call
+abbrev pub HasMemory : Type 0
+HasMemory = (state : State) (call : Call) → verdict state call ≢ Some refusals.NoMemory
+
+-- nor for a query
+abbrev pub HasMemoryForQueries : Type 0
+HasMemoryForQueries = (tree : Tree) (query : Query) → query_refusal tree query ≢ Some refusals.NoMemory
+
+-- a write of no bytes changes nothing but the super-block's time
+abbrev pub WritesNothing : Type 0
+WritesNothing = (state : State) (cred : Cred) (now offset : ℕ) (path : List ℕ) (done : Done)
+    → step state (Write cred now path offset []) done ≡ at_time now state
+
+-- the empty path leads to the root, and so does one of slashes alone
+abbrev pub LeadsToRoot : Type 0
+LeadsToRoot = (tree : Tree) (cred : Cred) → (walk tree cred [] ≡ Ok (root tree)) × (walk tree cred (47 ∷ []) ≡ Ok (root tree))

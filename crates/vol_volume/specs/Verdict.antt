@@ -1,0 +1,200 @@
+-- Which refusal a call meets, if any. The refusals are asked in a fixed order, and the first that applies is the answer.
+use Rattle.std.specs.Prelude.{ℕ, ◌+◌, ◌*◌, ◌==◌, ◌&&◌, Bool, true, false, not, max, nat_lt, nat_le, if◌then◌else◌, List, [], ◌∷◌, ◌++◌, length, Option, None, Some, is_none, is_some, Result, Ok, Err}
+use Rattle.std.specs.Option.{unwrap_or}
+use Rattle.std.specs.List.{list_any, range_with_len}
+use Rattle.vol_layout.specs.Edition.{constants}
+use Rattle.vol_file.specs.Shape.{touched}
+use Rattle.vol_dir.specs.Access.{grants, may_write}
+use Rattle.vol_dir.specs.Names.{Names, get, is_dots}
+use Rattle.vol_dir.specs.Tree.{Content, Body, Directory, Device, Node, Tree, State, free_count}
+use Rattle.vol_dir.specs.Walk.{root, map_of, is_directory, walk, walk_parent}
+use Rattle.vol_volume.specs.Mkfs.{is_bad_id}
+use Rattle.vol_volume.specs.Shapes.{need_in, new_slot, entry_blocks}
+use Rattle.vol_dir.specs.declared.cred.Cred.{Cred}
+use Rattle.vol_dir.specs.declared.refusal.Refusal.{Refusal}
+use Rattle.vol_dir.specs.declared.refusal.Refusal.TheVariants as refusals
+use Rattle.vol_volume.specs.declared.calls.Call.{Call}
+use Rattle.vol_volume.specs.declared.calls.Call.TheVariants.{Create, Mkdir, Link, Unlink, Rmdir, Write, Truncate}
+
+-- the first refusal whose test holds, in a list of tests with their refusals
+abbrev pub first_of : List (Bool × Refusal) → Option Refusal
+first_of [] = None
+first_of (test ∷ tests) = if test.0 then Some test.1 else first_of tests
+
+-- what stands for a node where there is none; no walk ends there
+abbrev pub no_node : Node
+no_node = record { content = Body []; permissions = 0; links = 0; uid = 0; gid = 0; size = 0; accessed = 0; modified = 0; changed = None }
+
+-- the node of an i-number (manual section 5, file system)
+abbrev pub node_at : Tree → ℕ → Node
+node_at tree i = unwrap_or (tree.nodes i) no_node
+
+-- the map of a directory (manual section 5, directories)
+abbrev pub names_at : Tree → ℕ → Names
+names_at tree i = unwrap_or (map_of (node_at tree i).content) []
+
+-- whether a directory has a name (Lions on namei)
+abbrev pub has_name : Tree → ℕ → List ℕ → Bool
+has_name tree d name = is_some (get (names_at tree d) name)
+
+-- the i-number that a directory has for a name (Lions on namei)
+abbrev pub entry_of : Tree → ℕ → List ℕ → ℕ
+entry_of tree d name = unwrap_or (get (names_at tree d) name) 0
+
+-- whether a directory has entries other than `.` and `..` (rmdir)
+abbrev pub has_others : Tree → ℕ → Bool
+has_others tree d = list_any (λ (entry : List ℕ × ℕ). not (is_dots entry.0)) (names_at tree d)
+
+-- whether what a node holds is that of a special file (manual section 5, file system)
+abbrev pub is_device : Content → Bool
+is_device (Device type addresses) = true
+is_device (Body bytes) = false
+is_device (Directory names) = false
+
+-- whether an i-number can be taken: it is above the root's, up to the last, and free (Lions on ialloc)
+abbrev pub is_free_number : Tree → ℕ → Bool
+is_free_number tree i = nat_lt (root tree) i && (nat_le i tree.geometry.last_inode && is_none (tree.nodes i))
+
+-- whether any i-number can be taken (Lions on ialloc)
+abbrev pub has_free_number : Tree → Bool
+has_free_number tree = list_any (is_free_number tree) (range_with_len 1 tree.geometry.last_inode)
+
+-- whether a size is past the greatest of a file (manual section 5, file system)
+abbrev pub is_too_great : Tree → ℕ → Bool
+is_too_great tree size = nat_lt (constants tree.geometry.edition).greatest size
+
+-- whether a node's link count is at the limit (this project)
+abbrev pub is_full : Tree → Node → Bool
+is_full tree node = nat_le (constants tree.geometry.edition).link_limit node.links
+
+-- a directory's size with one more entry: the first empty slot lies within it, or at its end (Lions on wdir)
+abbrev pub size_with_entry : State → ℕ → ℕ
+size_with_entry state d = max (node_at state.tree d).size (16 * new_slot (state.shapes d) + 16)
+
+-- how many blocks one more entry in directory d needs (Lions on bmap)
+abbrev pub entry_need : State → ℕ → ℕ
+entry_need state d = need_in state.tree.geometry.edition (state.shapes d) (entry_blocks (state.shapes d))
+
+-- how many blocks a write of some bytes from an offset on into file i needs (Lions on bmap)
+abbrev pub write_need : State → ℕ → ℕ → ℕ → ℕ
+write_need state i offset len = need_in state.tree.geometry.edition (state.shapes i) (touched offset len)
+
+-- whether more blocks are needed than are free (Lions on alloc)
+abbrev pub is_above_free : State → ℕ → Bool
+is_above_free state needed = nat_lt (free_count state.tree.geometry state.shapes) needed
+
+-- whether a path holds a zero byte (this project)
+abbrev pub has_zero : List ℕ → Bool
+has_zero path = list_any (λ c. c == 0) path
+
+-- what every call and query is asked first, and then others: the numbers of the user and group, and zero bytes in its paths (this project)
+abbrev pub then_others : Tree → Cred → List (List ℕ) → Option Refusal → Option Refusal
+then_others tree cred paths others =
+    if is_bad_id tree.geometry.edition cred.uid cred.gid then Some refusals.BadId
+    else if list_any has_zero paths then Some refusals.Invalid else others
+
+-- the refusal of a walk, or else what is asked of the node that it leads to (Lions on namei)
+abbrev pub of_node : Result ℕ Refusal → (ℕ → Option Refusal) → Option Refusal
+of_node (Err refusal) others = Some refusal
+of_node (Ok i) others = others i
+
+-- the refusal of a path without component, or else that of the walk to its parent, or else what is asked of the parent and the last name (Lions on namei)
+abbrev pub of_parent : Option (Result (ℕ × List ℕ) Refusal) → Refusal → (ℕ → List ℕ → List (Bool × Refusal)) → Option Refusal
+of_parent None bare tests = Some bare
+of_parent (Some (Err refusal)) bare tests = Some refusal
+of_parent (Some (Ok found)) bare tests = first_of (tests found.0 found.1)
+
+-- what is asked of the parent d and the name of a new file (Lions on creat)
+abbrev pub create_tests : State → Cred → ℕ → List ℕ → List (Bool × Refusal)
+create_tests state cred d name =
+    (has_name state.tree d name, refusals.Exists)
+    ∷ (not (grants may_write cred (node_at state.tree d)), refusals.Access)
+    ∷ (is_too_great state.tree (size_with_entry state d), refusals.TooBig)
+    ∷ (not (has_free_number state.tree), refusals.NoInode)
+    ∷ (is_above_free state (entry_need state d), refusals.NoSpace)
+    ∷ []
+
+-- and of a new directory, which is a link more to its parent, and needs a block of its own (mkdir)
+abbrev pub mkdir_tests : State → Cred → ℕ → List ℕ → List (Bool × Refusal)
+mkdir_tests state cred d name =
+    (has_name state.tree d name, refusals.Exists)
+    ∷ (not (grants may_write cred (node_at state.tree d)), refusals.Access)
+    ∷ (is_full state.tree (node_at state.tree d), refusals.TooManyLinks)
+    ∷ (is_too_great state.tree (size_with_entry state d), refusals.TooBig)
+    ∷ (not (has_free_number state.tree), refusals.NoInode)
+    ∷ (is_above_free state (entry_need state d + 1), refusals.NoSpace)
+    ∷ []
+
+-- and of a further name of node i (Lions on link)
+abbrev pub link_tests : State → Cred → ℕ → ℕ → List ℕ → List (Bool × Refusal)
+link_tests state cred i d name =
+    (has_name state.tree d name, refusals.Exists)
+    ∷ (not (grants may_write cred (node_at state.tree d)), refusals.Access)
+    ∷ (is_full state.tree (node_at state.tree i), refusals.TooManyLinks)
+    ∷ (is_too_great state.tree (size_with_entry state d), refusals.TooBig)
+    ∷ (is_above_free state (entry_need state d), refusals.NoSpace)
+    ∷ []
+
+-- and of a name that goes (Lions on unlink)
+abbrev pub unlink_tests : State → Cred → ℕ → List ℕ → List (Bool × Refusal)
+unlink_tests state cred d name =
+    (not (has_name state.tree d name), refusals.NoEntry)
+    ∷ (not (grants may_write cred (node_at state.tree d)), refusals.Access)
+    ∷ (is_directory (node_at state.tree (entry_of state.tree d name)), refusals.IsDirectory)
+    ∷ []
+
+-- and of a directory that goes (rmdir)
+abbrev pub rmdir_tests : State → Cred → ℕ → List ℕ → List (Bool × Refusal)
+rmdir_tests state cred d name =
+    (is_dots name, refusals.Invalid)
+    ∷ (not (has_name state.tree d name), refusals.NoEntry)
+    ∷ (not (grants may_write cred (node_at state.tree d)), refusals.Access)
+    ∷ (not (is_directory (node_at state.tree (entry_of state.tree d name))), refusals.NotDirectory)
+    ∷ (has_others state.tree (entry_of state.tree d name), refusals.NotEmpty)
+    ∷ []
+
+-- what is asked of a node whose bytes are used, by a right to them: whether it is a regular file that grants it (Lions on access)
+abbrev pub body_tests : Tree → ℕ → Cred → ℕ → List (Bool × Refusal)
+body_tests tree right cred i =
+    (is_directory (node_at tree i), refusals.IsDirectory)
+    ∷ (is_device (node_at tree i).content, refusals.NotRegular)
+    ∷ (not (grants right cred (node_at tree i)), refusals.Access)
+    ∷ []
+
+-- what is asked of a file that some bytes are written to from an offset on (Lions on writei)
+abbrev pub write_tests : State → Cred → ℕ → ℕ → ℕ → List (Bool × Refusal)
+write_tests state cred offset len i =
+    body_tests state.tree may_write cred i
+    ++ (is_too_great state.tree (offset + len), refusals.TooBig)
+    ∷ (is_above_free state (write_need state i offset len), refusals.NoSpace)
+    ∷ []
+
+-- what is asked of a call for a further name, once its source is found: whether that is a directory, and then the parent of the new name (Lions on link)
+abbrev pub link_refusal : State → Cred → List ℕ → ℕ → Option Refusal
+link_refusal state cred target i =
+    if is_directory (node_at state.tree i) then Some refusals.IsDirectory
+    else of_parent (walk_parent state.tree cred target) refusals.Exists (link_tests state cred i)
+
+-- the refusal of a call: the first that applies, of those beside want of memory (this project)
+unfoldable pub verdict : State → Call → Option Refusal
+verdict state (Create cred now path perm) =
+    then_others state.tree cred (path ∷ [])
+    (of_parent (walk_parent state.tree cred path) refusals.Exists (create_tests state cred))
+verdict state (Mkdir cred now path perm) =
+    then_others state.tree cred (path ∷ [])
+    (of_parent (walk_parent state.tree cred path) refusals.Exists (mkdir_tests state cred))
+verdict state (Link cred now source target) =
+    then_others state.tree cred (source ∷ target ∷ [])
+    (of_node (walk state.tree cred source) (link_refusal state cred target))
+verdict state (Unlink cred now path) =
+    then_others state.tree cred (path ∷ [])
+    (of_parent (walk_parent state.tree cred path) refusals.IsDirectory (unlink_tests state cred))
+verdict state (Rmdir cred now path) =
+    then_others state.tree cred (path ∷ [])
+    (of_parent (walk_parent state.tree cred path) refusals.Invalid (rmdir_tests state cred))
+verdict state (Write cred now path offset bytes) =
+    then_others state.tree cred (path ∷ [])
+    (of_node (walk state.tree cred path) (λ i. first_of (write_tests state cred offset (length bytes) i)))
+verdict state (Truncate cred now path) =
+    then_others state.tree cred (path ∷ [])
+    (of_node (walk state.tree cred path) (λ i. first_of (body_tests state.tree may_write cred i)))

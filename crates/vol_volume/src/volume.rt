@@ -1,0 +1,152 @@
+//! Mounted volumes.
+ghost use Rattle.std.specs.Prelude.{◌≡◌, IfOk, IfErr, List, ℕ};
+ghost use Rattle.vol_layout.specs.Geometry.{geometry_of};
+ghost use Rattle.vol_judge.specs.Sound.{IsSound};
+ghost use Rattle.vol_volume.specs.Faults.{IsFaultOf};
+ghost use Rattle.vol_volume.specs.Volume.{IsConsistent, mounted};
+
+use crate::calls::Record;
+use crate::judging::judge;
+use pdp_words::Image;
+use std::alloc::Global;
+use std::marker::Model;
+use thiserror::Error;
+use vol_layout::{Edition, Geometry};
+
+/// Why a volume wasn't mounted.
+#[derive(Clone, Copy, Debug, PartialEq, Eq, Error)]
+pub enum MountFault {
+    /// The image isn't sound. The least of the twelve rules that it breaks.
+    #[error("unsound, rule {0}")]
+    Unsound(u8),
+    /// An allocation was refused.
+    #[error("12 NoMemory")]
+    NoMemory,
+}
+
+/// A mounted volume: a sound image, the bytes that were mounted, and the journal of the calls accepted
+/// since. The image always reads as exactly the tree that the journal makes of the one mounted.
+#[derive(Debug, Drop)]
+pub struct Volume {
+    geometry: Geometry,
+    current: Image,
+    mounted: Vec<u8>,
+    records: Vec<Record>,
+}
+
+impl Model for Volume {
+    ghost use Rattle.std.specs.Prelude.{◌≡◌};
+    ghost use Rattle.vol_layout.specs.Geometry.{geometry_of};
+    ghost use Rattle.vol_volume.specs.Volume.{Mounted, IsConsistent};
+
+    ghost Value = { Mounted };
+
+    ghost view = { λ v. record { edition = v.geometry.edition; image = v.current; base = v.mounted.items; journal = v.records.items } };
+
+    ghost invariant = { λ v. (v.geometry ≡ geometry_of v.geometry.edition v.current)
+        × IsConsistent (record { edition = v.geometry.edition; image = v.current; base = v.mounted.items; journal = v.records.items }) };
+}
+
+impl Volume {
+    /// Mounts the bytes of a volume, with an empty journal. Whatever stands past the volume's last block
+    /// is kept. An unsound image isn't mounted; on each fault the same bytes come back.
+    ///
+    /// Takes memory to judge the image, and for a copy of its bytes.
+    pub fn mount(
+        alloc: Global,
+        edition: Edition,
+        bytes: Vec<u8>,
+    ) -> Result<Volume, (MountFault, Vec<u8>)>
+        ensures mounted { IfOk result (λ volume. volume ≡ mounted edition bytes.items) }
+        ensures sound { IfOk result (λ volume. IsSound edition bytes.items) }
+        ensures fault { IfErr result (λ (fault, same). IsFaultOf edition bytes.items fault) }
+        ensures handed_back { IfErr result (λ (fault, same). same.items ≡ bytes.items) }
+    {
+        let image = Image::from_bytes(bytes);
+        match judge(alloc, edition, &image, true) {
+            Ok(None) => Volume::mount_sound(alloc, edition, image),
+            Ok(Some(rule)) => Err((MountFault::Unsound(rule), image.into_bytes())),
+            Err(_) => Err((MountFault::NoMemory, image.into_bytes())),
+        }
+    }
+
+    /// Mounts a sound image.
+    fn mount_sound(
+        alloc: Global,
+        edition: Edition,
+        image: Image,
+    ) -> Result<Volume, (MountFault, Vec<u8>)>
+        requires { IsSound edition image }
+        ensures mounted { IfOk result (λ volume. volume ≡ mounted edition image) }
+        ensures fault { IfErr result (λ (fault, same). fault ≡ MountFault.NoMemory) }
+        ensures handed_back { IfErr result (λ (fault, same). same.items ≡ image) }
+    {
+        let geometry = sound_geometry(edition, &image);
+        let Ok(mounted) = Vec::from_slice(alloc, image.as_bytes()) else {
+            return Err((MountFault::NoMemory, image.into_bytes()));
+        };
+        Ok(Volume {
+            geometry,
+            current: image,
+            mounted,
+            records: Vec::new(alloc),
+        })
+    }
+
+    /// The edition whose layout the volume has.
+    pub fn edition(&self) -> Edition
+        ensures { result ≡ self.now.edition }
+    {
+        self.geometry.edition
+    }
+
+    /// The bytes that were mounted.
+    pub fn base(&self) -> &[u8]
+        ensures { result.now ≡ self.now.base }
+    {
+        &self.mounted
+    }
+
+    /// The image as the calls have left it.
+    pub fn image(&self) -> &Image
+        ensures { result.now ≡ self.now.image }
+    {
+        &self.current
+    }
+
+    /// The calls that were accepted since, in their order.
+    pub fn journal(&self) -> &[Record]
+        ensures { result.now ≡ self.now.journal }
+    {
+        &self.records
+    }
+
+    /// Gives the image's bytes back. The journal goes. Takes no memory.
+    pub fn unmount(self) -> Vec<u8>
+        ensures { result.items ≡ self.image }
+    {
+        self.current.into_bytes()
+    }
+
+    /// Does nothing: what every volume keeps is in the contract.
+    pub fn check(&self)
+        ensures { IsConsistent self.now }
+    {
+        let _ = &self.geometry;
+    }
+}
+
+/// The geometry of a sound image.
+#[tactic(auto, using(crate::proofs::SoundSizes::sound_read))]
+fn sound_geometry(edition: Edition, image: &Image) -> Geometry
+    requires { IsSound edition image.now }
+    ensures { result ≡ geometry_of edition image.now }
+{
+    match Geometry::read(edition, image) {
+        Ok(geometry) => geometry,
+        Err(_) => unreachable!(),
+    }
+}
+
+#[cfg(test)]
+mod tests;

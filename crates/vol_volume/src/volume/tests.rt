@@ -1,0 +1,130 @@
+// Worked volumes that are mounted, and those that aren't, by the least rule that they break.
+use super::{MountFault, Volume};
+use crate::mkfs;
+use std::alloc::Global;
+use std::test::Fail;
+use vol_layout::Edition;
+
+/// The moment of the worked volumes.
+const NOW: u32 = 0x0A0B_0C0D;
+
+#[test]
+fn a_new_volume_is_mounted_and_comes_back(rt: HostRuntime) -> Result<(), Fail> {
+    let alloc = rt.alloc();
+    for (edition, blocks) in [(Edition::V6, 20), (Edition::V7, 100)] {
+        let bytes = mkfs(alloc, edition, blocks, 2, 0, 0, NOW)?;
+        let same = Vec::from_slice(alloc, &bytes)?;
+        let Ok(volume) = Volume::mount(alloc, edition, bytes) else {
+            return Err(Fail::from("a new volume is sound"));
+        };
+        volume.check();
+        assert_eq!(rt; volume.edition(), edition);
+        assert_eq!(rt; volume.base(), same.as_slice());
+        assert_eq!(rt; volume.image().as_bytes(), same.as_slice());
+        assert_eq!(rt; volume.journal().len(), 0);
+        assert_eq!(rt; volume.unmount(), same);
+    }
+    Ok(())
+}
+
+#[test]
+fn bytes_past_the_volume_are_kept(rt: HostRuntime) -> Result<(), Fail> {
+    let alloc = rt.alloc();
+    let mut bytes = mkfs(alloc, Edition::V6, 20, 2, 0, 0, NOW)?;
+    bytes.extend_from_slice(&[1, 2, 3])?;
+    let same = Vec::from_slice(alloc, &bytes)?;
+    let Ok(volume) = Volume::mount(alloc, Edition::V6, bytes) else {
+        return Err(Fail::from("the volume is sound"));
+    };
+    assert_eq!(rt; volume.unmount(), same);
+    Ok(())
+}
+
+#[test]
+fn the_least_rule_that_fails_is_named(rt: HostRuntime) -> Result<(), Fail> {
+    let alloc = rt.alloc();
+    for (edition, blocks, at, byte, wanted) in [
+        // The root has five links.
+        (Edition::V6, 20, 1026, 5, Some(12)),
+        // The chain block names itself.
+        (Edition::V7, 100, 25_604, 50, Some(6)),
+        // I-number 1, for bad blocks, is a regular file without entry or link.
+        (Edition::V7, 100, 1025, 0x80, None),
+        // I-number 3 is one.
+        (Edition::V7, 100, 1153, 0x80, Some(12)),
+        // The super-block has no i-list.
+        (Edition::V6, 20, 512, 0, Some(2)),
+        // The super-block tells of a block more.
+        (Edition::V6, 20, 514, 21, Some(1)),
+        // The root is a special file.
+        (Edition::V6, 20, 1025, 0xA1, Some(3)),
+        // The root has 128 links.
+        (Edition::V6, 20, 1026, 128, Some(4)),
+        // The root names the super-block.
+        (Edition::V6, 20, 1032, 1, Some(5)),
+        // The root names a free block.
+        (Edition::V6, 20, 1032, 5, Some(7)),
+        // A free block is lost: the array's top number is left out.
+        (Edition::V6, 20, 516, 15, Some(8)),
+        // The root's `.` names a free i-node.
+        (Edition::V6, 20, 2048, 2, Some(9)),
+        // The root has no `.`.
+        (Edition::V6, 20, 2050, 0x61, Some(10)),
+    ] {
+        let bytes = changed(alloc, edition, blocks, at, byte)?;
+        let same = Vec::from_slice(alloc, &bytes)?;
+        match Volume::mount(alloc, edition, bytes) {
+            Ok(volume) => {
+                assert_eq!(rt; wanted, None, "byte {at}");
+                assert_eq!(rt; volume.unmount(), same);
+            }
+            Err((fault, bytes)) => {
+                assert_eq!(rt; Some(fault), wanted.map(MountFault::Unsound), "byte {at}");
+                assert_eq!(rt; bytes, same);
+            }
+        }
+    }
+    Ok(())
+}
+
+/// A new volume in which one byte is another.
+fn changed(
+    alloc: Global,
+    edition: Edition,
+    blocks: u32,
+    at: usize,
+    byte: u8,
+) -> Result<Vec<u8>, Fail> {
+    let mut bytes = mkfs(alloc, edition, blocks, 2, 0, 0, NOW)?;
+    match bytes.get_mut(at) {
+        Some(place) => *place = byte,
+        None => return Err(Fail::from("the byte is within the volume")),
+    }
+    Ok(bytes)
+}
+
+#[test]
+fn short_bytes_are_no_volume(rt: HostRuntime) -> Result<(), Fail> {
+    let alloc = rt.alloc();
+    for (len, wanted) in [(0, 1), (511, 1), (1023, 1), (1024, 2)] {
+        let bytes = vec![in alloc; 0; len]?;
+        let Err((fault, bytes)) = Volume::mount(alloc, Edition::V6, bytes) else {
+            return Err(Fail::from("zeros are no volume"));
+        };
+        assert_eq!(rt; fault, MountFault::Unsound(wanted), "{len} bytes");
+        assert_eq!(rt; bytes.len(), len);
+    }
+    Ok(())
+}
+
+#[test]
+fn faults_have_their_words(rt: HostRuntime) -> Result<(), Fail> {
+    for (fault, words) in [
+        (MountFault::Unsound(12), "unsound, rule 12"),
+        (MountFault::NoMemory, "12 NoMemory"),
+    ] {
+        let text = format!(in rt.alloc(); "{fault}")?;
+        assert_eq!(rt; text.as_str(), words);
+    }
+    Ok(())
+}

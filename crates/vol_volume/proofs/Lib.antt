@@ -1,4 +1,7 @@
 pub mod Journals
+pub mod NewDirectories
+pub mod NewFiles
+pub mod NewRules
 pub mod NewSizes
 pub mod NewVolumes
 mod Refusals

@@ -3,7 +3,6 @@
 
 pub mod bytes;
 pub mod calls;
-mod judging;
 pub mod laws;
 pub mod making;
 pub mod queries;
@@ -13,6 +12,7 @@ pub use bytes::Bytes;
 pub use calls::{Call, Done, Record};
 pub use making::{MkfsFault, mkfs};
 pub use queries::{Listing, Query, Reply, Stat};
+pub use vol_judge::judge;
 pub use volume::{MountFault, Volume};
 
 #[cfg(test)]

@@ -8,6 +8,7 @@ ghost use Rattle.vol_layout.specs.Inode.{inode_place, inode_of};
 ghost use Rattle.vol_layout.specs.Slot.{padded_name, slot_at};
 ghost use Rattle.vol_layout.specs.Super.{free_head, time_place};
 ghost use Rattle.vol_free.specs.Stack.{IsFree};
+ghost use Rattle.vol_judge.specs.Sound.{IsSound};
 ghost use Rattle.vol_volume.specs.Mkfs.{is_size, is_bad_id, volume_of, root_inode, IsMakeable, IsNewVolume, KeepsFirstBlocks};
 
 use pdp_words::{BLOCK, Image};
@@ -47,6 +48,7 @@ pub fn mkfs(
     now: u32,
 ) -> Result<Vec<u8>, MkfsFault>
     ensures made { IfOk result (λ bytes. IsNewVolume (volume_of edition blocks list_blocks) uid gid now bytes.items) }
+    ensures sound { IfOk result (λ bytes. IsSound edition bytes.items) }
     ensures size { OnOk result (is_size edition blocks list_blocks ≡ true) }
     ensures id { OnOk result (is_bad_id edition uid gid ≡ false) }
     ensures bounds { IsErrOf result MkfsFault.Bounds ↔ (is_size edition blocks list_blocks ≡ false) }

@@ -6,11 +6,11 @@ ghost use Rattle.vol_volume.specs.Faults.{IsFaultOf};
 ghost use Rattle.vol_volume.specs.Volume.{IsConsistent, mounted};
 
 use crate::calls::Record;
-use crate::judging::judge;
 use pdp_words::Image;
 use std::alloc::Global;
 use std::marker::Model;
 use thiserror::Error;
+use vol_judge::judge;
 use vol_layout::{Edition, Geometry};
 
 /// Why a volume wasn't mounted.

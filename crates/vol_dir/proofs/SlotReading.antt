@@ -85,11 +85,6 @@ number_named k m = elim (eqb k 0) as (λ z. (if z then None else Some k) ≡ Som
 pub number_missing : (k : ℕ) → (if eqb k 0 then None else Some k) ≡ None → k ≡ 0
 number_missing k = elim (eqb k 0) as (λ z. eqb k 0 ≡ z → (if z then None else Some k) ≡ None → k ≡ 0) [ true ↦ λ z e. eqb-true k 0 z | false ↦ λ z e. absurd (true≢false (ap is_some e)) ] refl
 
--- no data block has the number 0
-pub zero_is_outside : (geometry : Geometry) (image : List ℕ) → Fits geometry image → in_zone geometry 0 ≡ false
-zero_is_outside geometry image fits =
-    false_from_ne_true (in_zone geometry 0) (λ z. let bounds = zone_bounds geometry 0 z in let list = fits.i_list in absurd (omega (arith, bounds.0, list)))
-
 -- a search answers for slots that are the same
 pub searches_same : (sought : Sought) (f g : ℕ → Option (List ℕ × ℕ)) (n : ℕ) (r : Option ℕ) → ((t : ℕ) → t < n → g t ≡ f t)
     → Searches sought f n r → Searches sought g n r

@@ -2,7 +2,7 @@
 use Rattle.std.proofs.Common.{◌≡◌, ℕ, ◌+◌, ◌-◌, ◌*◌, ◌<◌, ◌≤◌, ◌∙◌, sym, ap, subst, refl, inl, inr, take, List, length, get_or, true, false, if◌then◌else◌, eqb, None, Some, arith}
 use Rattle.std.specs.Prelude.{Option, min, slice_range}
 use Rattle.std.specs.Option.{unwrap_or, is_some}
-use Rattle.std.proofs.lemmas.Bool.{cases_lt, lt-ltb, le-ltb, eqb-true, true≢false, false_from_ne_true}
+use Rattle.std.proofs.lemmas.Bool.{cases_lt, lt-ltb, le-ltb, eqb-true, true≢false}
 use Rattle.std.proofs.lemmas.List.{get_or-take, get_or_past}
 use Rattle.std.proofs.lemmas.List.FromFn.{length-map-range_with_len, get_or-map-range_with_len}
 use Rattle.pdp_words.specs.Words.{word}
@@ -10,7 +10,7 @@ use Rattle.vol_layout.specs.Geometry.{in_zone, Fits}
 use Rattle.vol_layout.specs.Names.{form_at, stored}
 use Rattle.vol_layout.specs.Body.{zone_byte, body_byte, body_size, body}
 use Rattle.vol_layout.specs.Slot.{slot_at, name_of}
-use Rattle.vol_layout.proofs.BodyLaws.{length-body, get_or-slice_range, get_or-body, body_byte_at, zone_byte_in, zone_byte_out, zone_bounds, zone_room}
+use Rattle.vol_layout.proofs.BodyLaws.{length-body, get_or-slice_range, get_or-body, body_byte_at, zone_byte_in, zone_byte_out, zone_room}
 use Rattle.vol_layout.proofs.SlotLaws.{slot_copied}
 use Rattle.vol_layout.specs.declared.geometry.Geometry.{Geometry}
 use Rattle.vol_layout.specs.declared.slot.Slot.{Slot}

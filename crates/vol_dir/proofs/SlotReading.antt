@@ -2,7 +2,7 @@
 use Rattle.std.proofs.Common.{◌≡◌, ℕ, ◌+◌, ◌-◌, ◌*◌, ◌<◌, ◌≤◌, ◌∙◌, sym, ap, subst, refl, inl, inr, take, List, length, get_or, true, false, if◌then◌else◌, eqb, None, Some, arith}
 use Rattle.std.specs.Prelude.{Option, min, slice_range}
 use Rattle.std.specs.Option.{unwrap_or, is_some}
-use Rattle.std.proofs.lemmas.Bool.{cases_lt, lt-ltb, le-ltb, eqb-true, true≢false, false_from_ne_true}
+use Rattle.std.proofs.lemmas.Bool.{cases_lt, lt-ltb, le-ltb, eqb-true, true≢false}
 use Rattle.std.proofs.lemmas.List.{get_or-take, get_or_past}
 use Rattle.std.proofs.lemmas.List.FromFn.{length-map-range_with_len, get_or-map-range_with_len}
 use Rattle.pdp_words.specs.Words.{word}
@@ -10,7 +10,7 @@ use Rattle.vol_layout.specs.Geometry.{in_zone, Fits}
 use Rattle.vol_layout.specs.Names.{form_at, stored}
 use Rattle.vol_layout.specs.Body.{zone_byte, body_byte, body_size, body}
 use Rattle.vol_layout.specs.Slot.{slot_at, name_of}
-use Rattle.vol_layout.proofs.BodyLaws.{length-body, get_or-slice_range, get_or-body, body_byte_at, zone_byte_in, zone_byte_out, zone_bounds, zone_room}
+use Rattle.vol_layout.proofs.BodyLaws.{length-body, get_or-slice_range, get_or-body, body_byte_at, zone_byte_in, zone_byte_out, zone_room}
 use Rattle.vol_layout.proofs.SlotLaws.{slot_copied}
 use Rattle.vol_layout.specs.declared.geometry.Geometry.{Geometry}
 use Rattle.vol_layout.specs.declared.slot.Slot.{Slot}
@@ -84,11 +84,6 @@ number_named k m = elim (eqb k 0) as (λ z. (if z then None else Some k) ≡ Som
 -- where no block is named, 0 is stored
 pub number_missing : (k : ℕ) → (if eqb k 0 then None else Some k) ≡ None → k ≡ 0
 number_missing k = elim (eqb k 0) as (λ z. eqb k 0 ≡ z → (if z then None else Some k) ≡ None → k ≡ 0) [ true ↦ λ z e. eqb-true k 0 z | false ↦ λ z e. absurd (true≢false (ap is_some e)) ] refl
-
--- no data block has the number 0
-pub zero_is_outside : (geometry : Geometry) (image : List ℕ) → Fits geometry image → in_zone geometry 0 ≡ false
-zero_is_outside geometry image fits =
-    false_from_ne_true (in_zone geometry 0) (λ z. let bounds = zone_bounds geometry 0 z in let list = fits.i_list in absurd (omega (arith, bounds.0, list)))
 
 -- a search answers for slots that are the same
 pub searches_same : (sought : Sought) (f g : ℕ → Option (List ℕ × ℕ)) (n : ℕ) (r : Option ℕ) → ((t : ℕ) → t < n → g t ≡ f t)

@@ -26,11 +26,11 @@ is_sought (Named name) entry = holds name.now entry
 is_sought Empty entry = is_none entry
 is_sought Other entry = holds_other entry
 
--- none of the first n slots is sought
+-- none of the first n slots is sought (Lions on namei)
 abbrev pub IsMissing : Sought → (ℕ → Option (List ℕ × ℕ)) → ℕ → Type 0
 IsMissing sought entry n = (t : ℕ) → t < n → is_sought sought (entry t) ≡ false
 
--- slot s is sought, and is the first such among n
+-- slot s is sought, and is the first such among n (Lions on namei)
 pub record IsFirst (sought : Sought) (entry : ℕ → Option (List ℕ × ℕ)) (n s : ℕ) : Type 0 where
   pub within : s < n
   pub found : is_sought sought (entry s) ≡ true

@@ -12,9 +12,9 @@ use Rattle.vol_layout.specs.Inode.{inode_of}
 use Rattle.vol_file.specs.Rules.{kind_at, HasSoundFiles}
 use Rattle.vol_dir.specs.Entries.{entry_at, slots, IsDirectory, HasEntries, IsInUse}
 use Rattle.vol_dir.specs.Names.{Names, get, names_of}
-use Rattle.vol_dir.specs.Tree.{is_number, node_of, node_with, content_of, tree, Node, Tree}
+use Rattle.vol_dir.specs.Tree.{is_number, node_of, node_with, content_of, tree, Node}
 use Rattle.vol_dir.specs.Access.{may_execute, grants_at}
-use Rattle.vol_dir.specs.Walk.{search, search_node, and_then, find_in, components, walk_from, walk}
+use Rattle.vol_dir.specs.Walk.{search, search_node, components, walk_from, walk}
 use Rattle.vol_layout.specs.declared.geometry.Geometry.{Geometry}
 use Rattle.vol_layout.specs.declared.mode.Kind.{Kind}
 use Rattle.vol_layout.specs.declared.mode.Kind.TheVariants as kinds
@@ -112,15 +112,3 @@ pub search-other : (geometry : Geometry) (image : List ℕ) (cred : Cred) (i : �
 search-other geometry image cred i low high h =
     ap (searched cred) (node-at geometry image i low high ∙ node-of-kind geometry image i (kind_at geometry image i) refl)
     ∙ searched_other geometry image cred i (kind_at geometry image i) h
-
--- a walk goes on from what its first name leads to
-pub walk-more : (tree : Tree) (cred : Cred) (i j : ℕ) (name : List ℕ) (names rest : List (List ℕ)) → rest ≡ name ∷ names
-    → find_in tree cred i name ≡ Ok j → walk_from tree cred i rest ≡ walk_from tree cred j names
-walk-more tree cred i j name names rest e h =
-    ap (walk_from tree cred i) e ∙ ap (λ r. and_then r (λ next. walk_from tree cred next names)) h
-
--- a walk ends where its first name is refused
-pub walk-refused : (tree : Tree) (cred : Cred) (i : ℕ) (refusal : Refusal) (name : List ℕ) (names rest : List (List ℕ)) → rest ≡ name ∷ names
-    → find_in tree cred i name ≡ Err refusal → walk_from tree cred i rest ≡ Err refusal
-walk-refused tree cred i refusal name names rest e h =
-    ap (walk_from tree cred i) e ∙ ap (λ r. and_then r (λ next. walk_from tree cred next names)) h

@@ -18,7 +18,8 @@ use vol_layout::{Geometry, Kind};
 
 /// The i-number that a path leads to, as a user walks it from the root: the empty path leads to the
 /// root. For each component, in this order: NotDirectory where the i-node at hand is no directory,
-/// Access where it doesn't grant execute, NoEntry where it doesn't have the name (Lions on namei).
+/// Access where it doesn't grant execute, NoEntry where it doesn't have the name (Lions on namei). A
+/// number that is none of the volume's, which an entry of an unsound image may hold, is no directory's.
 ///
 /// Costs for each component what [`find`] costs.
 pub fn walk(image: &Image, geometry: &Geometry, cred: Cred, path: &[u8]) -> Result<u16, Refusal>

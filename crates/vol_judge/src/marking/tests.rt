@@ -25,6 +25,14 @@ const SEVENTH: Geometry = Geometry {
     last_inode: 16,
 };
 
+/// A seventh edition volume of 1010 blocks, with i-nodes 1 to 8000.
+const WIDE: Geometry = Geometry {
+    edition: Edition::V7,
+    zone_start: 1002,
+    zone_end: 1010,
+    last_inode: 8000,
+};
+
 /// Where i-nodes 1, 2 and 32 of the sixth edition begin.
 const FIRST: usize = 1024;
 
@@ -139,6 +147,18 @@ fn a_block_is_followed_in_more_levels_the_second_time(rt: HostRuntime) -> Result
     Ok(())
 }
 
+#[test]
+fn many_ways_to_a_pointer_block_cost_no_more_than_one_for_each_level(
+    rt: HostRuntime,
+) -> Result<(), Fail> {
+    let mut bytes = vec![in rt.alloc(); 0; BLOCK * 1010]?;
+    put_many_ways(&mut bytes);
+    let image = Image::from_bytes(bytes);
+    let mut marks = vec![in rt.alloc(); 0; 1010]?;
+    assert_eq!(rt; mark_places(&image, &WIDE, &mut marks), Places::Twice);
+    Ok(())
+}
+
 /// What the places of a volume name that has some words, each at its byte, and else zeros.
 fn walk(
     alloc: Global,
@@ -153,6 +173,22 @@ fn walk(
     let mut marks = vec![in alloc; 7; geometry.zone_end as usize]?;
     let places = mark_places(&image, geometry, &mut marks);
     Ok((places, marks))
+}
+
+/// Lets 8000 files each name a triply indirect block whose entries, and theirs, all name one block:
+/// there are some 17 thousand million places.
+fn put_many_ways(bytes: &mut [u8]) {
+    for i in 0..8000 {
+        put_words(
+            bytes,
+            &[(1024 + 64 * i, 0o100644), (1024 + 64 * i + 49, 1002)],
+        );
+    }
+    for j in 0..128 {
+        put_words(bytes, &[(BLOCK * 1002 + 4 * j + 2, 1003)]);
+        put_words(bytes, &[(BLOCK * 1003 + 4 * j + 2, 1004)]);
+        put_words(bytes, &[(BLOCK * 1004 + 4 * j + 2, 1005)]);
+    }
 }
 
 /// Puts words, each at its byte, where there is room.

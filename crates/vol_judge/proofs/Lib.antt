@@ -1,5 +1,12 @@
-pub mod FreeWalks
-pub mod Limiting
+pub mod AllBlocks
+pub mod BlocksFrom
 pub mod Comparing
+pub mod FileBlocks
+pub mod FreeWalks
+pub mod Insides
+pub mod Limiting
+pub mod MarkLists
+pub mod NamedOnce
 pub mod Numbering
 pub mod Parts
+pub mod ZonedFiles

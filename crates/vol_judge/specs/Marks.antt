@@ -1,10 +1,45 @@
 -- What a walk over all places of all files finds: rules 5 and 7.
-use Rattle.std.specs.Prelude.{◌≢◌, ℕ, ◌↔◌, List, slice_index}
-use Rattle.vol_layout.specs.Names.{Names}
+use Rattle.std.specs.Prelude.{◌≡◌, ◌≢◌, ℕ, zero, suc, ◌<◌, ◌==◌, ◌↔◌, true, if◌then◌else◌, List, [], ◌∷◌, slice_index, slice_set, Option, None, Some}
+use Rattle.std.specs.List.{flat_map, range_with_len}
+use Rattle.vol_layout.specs.Edition.{constants}
+use Rattle.vol_layout.specs.Geometry.{in_zone}
+use Rattle.vol_layout.specs.Names.{IsPlaceOf, named, entry_of, Names}
 use Rattle.vol_file.specs.Rules.{IsZoned, IsApart}
+use Rattle.vol_file.specs.Changes.{blocks_of}
 use Rattle.vol_layout.specs.declared.geometry.Geometry.{Geometry}
 use Rattle.vol_judge.specs.declared.marking.Places.{Places}
 use Rattle.vol_judge.specs.declared.marking.Places.TheVariants.{OutOfZone, Twice, Once}
+
+-- number b, if not 0, is that of a data block, and so is each that is found below it in d levels of pointer blocks (icheck)
+unfoldable pub IsInside : Geometry → List ℕ → ℕ → ℕ → Type 0
+IsInside geometry image zero b = b ≢ 0 → in_zone geometry b ≡ true
+IsInside geometry image (suc d) b =
+    (b ≢ 0 → in_zone geometry b ≡ true)
+    × ((j : ℕ) → j < (constants geometry.edition).pointers → IsInside geometry image d (entry_of geometry image b j))
+
+-- the number of levels in which all that is found below each data block is known to be inside the data zone (this project)
+abbrev pub KnowsInside : Geometry → List ℕ → List ℕ → Type 0
+KnowsInside geometry image known = (b : ℕ) → in_zone geometry b ≡ true → IsInside geometry image (slice_index known b) b
+
+-- rule 5 for the places of i-node i
+abbrev pub IsFileZoned : Geometry → List ℕ → ℕ → Type 0
+IsFileZoned geometry image i = (p : List ℕ) → IsPlaceOf geometry image i p → named geometry image i p ≢ 0
+    → in_zone geometry (named geometry image i p) ≡ true
+
+-- number b and those found below it in d levels, in the order of the places, without those that are 0 (icheck)
+unfoldable pub blocks_from : Geometry → List ℕ → ℕ → ℕ → List ℕ
+blocks_from geometry image zero b = if b == 0 then [] else b ∷ []
+blocks_from geometry image (suc d) b = if b == 0 then [] else
+    b ∷ flat_map (λ j. blocks_from geometry image d (entry_of geometry image b j)) (range_with_len 0 (constants geometry.edition).pointers)
+
+-- the marks once some blocks are marked one after another; nothing where one of them is marked already (icheck)
+unfoldable pub marked : List ℕ → List ℕ → Option (List ℕ)
+marked marks [] = Some marks
+marked marks (b ∷ blocks) = if slice_index marks b == 0 then marked (slice_set marks b 1) blocks else None
+
+-- the blocks that the places of all files name, by i-number and in the order of the places
+abbrev pub all_blocks : Geometry → List ℕ → List ℕ
+all_blocks geometry image = flat_map (blocks_of geometry image) (range_with_len 1 geometry.last_inode)
 
 -- the blocks with a mark that isn't 0 are those that a place names
 abbrev pub MarksNamed : Geometry → List ℕ → List ℕ → Type 0

@@ -1,0 +1,79 @@
+-- Rule 5 by the addresses of each file.
+use Rattle.std.proofs.Common.{◌≡◌, ℕ, zero, suc, ◌<◌, ◌≤◌, ◌∙◌, ap, List, [], ◌∷◌, true, false, if◌then◌else◌, refl, arith}
+use Rattle.vol_layout.specs.Edition.{constants}
+use Rattle.vol_layout.specs.Inode.{inode_place, address_at, is_large, kind_of}
+use Rattle.vol_layout.specs.Places.{has_places, file_form, form_of, first_count, pointer_count, levels, levels_below, IsPlace}
+use Rattle.vol_layout.specs.Names.{mode_of, form_at, IsFile, named}
+use Rattle.vol_layout.specs.declared.edition.Edition.{Edition}
+use Rattle.vol_layout.specs.declared.edition.Edition.TheVariants.{V6, V7}
+use Rattle.vol_layout.specs.declared.geometry.Geometry.{Geometry}
+use Rattle.vol_layout.specs.declared.places.Form.TheVariants.{Small, Large, Bare}
+use Rattle.vol_judge.specs.Marks.{IsInside, IsFileZoned}
+use Rattle.vol_judge.proofs.Insides.{inside_here, inside_entry}
+
+-- a file's pointer blocks hold as many numbers as those of its edition
+form_pointers : (edition : Edition) (mode : ℕ) → pointer_count (file_form edition mode) ≡ (constants edition).pointers
+form_pointers V6 mode = elim (is_large V6 mode) as (λ t. pointer_count (if t then Large else Small) ≡ 256) [ true ↦ refl | false ↦ refl ]
+form_pointers V7 mode = refl
+
+-- the same of a mode of a kind with places
+mode_pointers : (edition : Edition) (mode : ℕ) → has_places (kind_of edition mode) ≡ true → pointer_count (form_of edition mode) ≡ (constants edition).pointers
+mode_pointers edition mode kind = ap (λ t. pointer_count (if t then file_form edition mode else Bare)) kind ∙ form_pointers edition mode
+
+-- the same of a file
+pub file_pointers : (geometry : Geometry) (image : List ℕ) (i : ℕ) → IsFile geometry image i
+    → pointer_count (form_at geometry image i) ≡ (constants geometry.edition).pointers
+file_pointers geometry image i file = mode_pointers geometry.edition (mode_of geometry image i) file.kind
+
+-- a mode whose form has an address is of a kind with places
+kind_counted : (edition : Edition) (mode k : ℕ) → k < first_count (form_of edition mode) → has_places (kind_of edition mode) ≡ true
+kind_counted edition mode k h =
+    elim (has_places (kind_of edition mode)) as (λ t. k < first_count (if t then file_form edition mode else Bare) → t ≡ true)
+    [ true ↦ λ h. refl | false ↦ λ h. absurd (omega arith) ] h
+
+-- an i-node with an address is a file
+pub file_counted : (geometry : Geometry) (image : List ℕ) (i k : ℕ) → 1 ≤ i → i ≤ geometry.last_inode
+    → k < first_count (form_at geometry image i) → IsFile geometry image i
+file_counted geometry image i k first last h =
+    record { first = first; last = last; kind = kind_counted geometry.edition (mode_of geometry image i) k h }
+
+-- where a file's numbers are data blocks', so is all that is found below one of its places
+pub place_inside : (geometry : Geometry) (image : List ℕ) (i : ℕ) → IsFile geometry image i → IsFileZoned geometry image i → (d a : ℕ) (p : List ℕ)
+    → IsPlace (form_at geometry image i) (a ∷ p) → d ≤ levels_below (form_at geometry image i) (a ∷ p)
+    → IsInside geometry image d (named geometry image i (a ∷ p))
+unfolding IsInside
+place_inside geometry image i file zoned zero a p place deep = λ some. zoned (a ∷ p) (record { file = file; place = place }) some
+place_inside geometry image i file zoned (suc d) a p place deep = (
+  λ some. zoned (a ∷ p) (record { file = file; place = place }) some,
+  λ j h.
+      let many : pointer_count (form_at geometry image i) ≡ (constants geometry.edition).pointers = file_pointers geometry image i file in
+      place_inside geometry image i file zoned d j (a ∷ p) (omega (arith, h, many), omega (arith, deep), place) (omega (arith, deep)),
+)
+
+-- so is all that is found below one of its addresses
+pub address_inside : (geometry : Geometry) (image : List ℕ) (i k : ℕ) → 1 ≤ i → i ≤ geometry.last_inode
+    → k < first_count (form_at geometry image i) → IsFileZoned geometry image i
+    → IsInside geometry image (levels (form_at geometry image i) k) (address_at geometry.edition image (inode_place geometry.edition i) k)
+address_inside geometry image i k first last h zoned =
+    place_inside geometry image i (file_counted geometry image i k first last h) zoned (levels (form_at geometry image i) k) k [] h (omega arith)
+
+-- all addresses of i-node i, and what is found below them, are inside the data zone
+abbrev pub HasInside : Geometry → List ℕ → ℕ → Type 0
+HasInside geometry image i = (k : ℕ) → k < first_count (form_at geometry image i)
+    → IsInside geometry image (levels (form_at geometry image i) k) (address_at geometry.edition image (inode_place geometry.edition i) k)
+
+-- then so is what is found below each of its places
+inside_place : (geometry : Geometry) (image : List ℕ) (i : ℕ) → IsFile geometry image i → HasInside geometry image i → (p : List ℕ)
+    → IsPlace (form_at geometry image i) p → IsInside geometry image (levels_below (form_at geometry image i) p) (named geometry image i p)
+inside_place geometry image i file inside [] place = absurd place
+inside_place geometry image i file inside (k ∷ []) place = inside k place
+inside_place geometry image i file inside (j ∷ (a ∷ p)) place =
+    let many : pointer_count (form_at geometry image i) ≡ (constants geometry.edition).pointers = file_pointers geometry image i file in
+    inside_entry geometry image (levels_below (form_at geometry image i) (a ∷ p)) (named geometry image i (a ∷ p)) j place.1
+    (omega (arith, place.0, many)) (inside_place geometry image i file inside (a ∷ p) place.2)
+
+-- and the file's numbers are data blocks'
+pub file_zoned : (geometry : Geometry) (image : List ℕ) (i : ℕ) → HasInside geometry image i → IsFileZoned geometry image i
+file_zoned geometry image i inside p place some =
+    inside_here geometry image (levels_below (form_at geometry image i) p) (named geometry image i p)
+    (inside_place geometry image i place.file inside p place.place) some

@@ -1,0 +1,13 @@
+use Rattle.std.proofs.Common.{◌≡◌, ◌-◌, Some, set}
+use Rattle.vol_judge.specs.Marks.{marked}
+use Rattle.vol_judge.proofs.BlocksFrom.{entries_from}
+use Rattle.vol_judge.proofs.marking.+mark_from.Given as goal
+
+-- each level is below the one before
+abbrev pub decreases-mark_from : goal.decreases-mark_from
+decreases-mark_from l = l.level
+
+-- the block and what is found from the entries before j on is marked
+abbrev pub invariant-loop-j : goal.invariant-loop-j
+invariant-loop-j l =
+    marked (set l.fn.marks l.b 1) (entries_from l.geometry l.image (l.level - 1) l.b l.j) ≡ Some l.marks

@@ -119,21 +119,21 @@ pub below_next : {geometry : Geometry} {image : List ℕ} {d from s : ℕ} {slot
     → is_in names (padded_name (name_of slot.name)) ≡ false → HasEntriesBelow geometry image d (s + 1)
 below_next {geometry = geometry} {image = image} {slot = slot} {names = names} below held next good new = record {
   entries = λ t i name low entry.
-  elim (entry_split t i name next low entry) [
-    | inl before ↦ below.entries t i name before entry
-    | inr here ↦ rw (here.1, here.2) good
-  ];
+      elim (entry_split t i name next low entry) [
+        | inl before ↦ below.entries t i name before entry
+        | inr here ↦ rw (here.1, here.2) good
+      ];
   once = λ u t i j name low low' entry entry'.
-  elim (entry_split u i name next low entry) [
-    | inl before ↦ elim (entry_split t j name next low' entry') [
-      | inl before' ↦ below.once u t i j name before before' entry entry'
-      | inr here ↦ absurd (below_in name (name_of slot.name) held before entry here.1 new)
-    ]
-    | inr here ↦ elim (entry_split t j name next low' entry') [
-      | inl before' ↦ absurd (below_in name (name_of slot.name) held before' entry' here.1 new)
-      | inr here' ↦ here.0 ∙ sym here'.0
-    ]
-  ];
+      elim (entry_split u i name next low entry) [
+        | inl before ↦ elim (entry_split t j name next low' entry') [
+          | inl before' ↦ below.once u t i j name before before' entry entry'
+          | inr here ↦ absurd (below_in name (name_of slot.name) held before entry here.1 new)
+        ]
+        | inr here ↦ elim (entry_split t j name next low' entry') [
+          | inl before' ↦ absurd (below_in name (name_of slot.name) held before' entry' here.1 new)
+          | inr here' ↦ here.0 ∙ sym here'.0
+        ]
+      ];
 }
 
 -- once its name is in the set
@@ -144,30 +144,30 @@ names_next {geometry = geometry} {image = image} {d = d} {from = from} {s = s} {
     let key = padded_name (name_of slot.name) in
     record {
       all = λ t i name low entry.
-      elim (entry_split t i name next low entry) [
-        | inl before ↦
-            let there : is_in names (padded_name name) ≡ true = held.all t i name before entry in
-            let now : is_in after (padded_name name) ≡ cond (eq_by_cmp (slice_cmp nat_cmp) key (padded_name name)) true (is_in names (padded_name name)) = updates.0 (padded_name name) in
-            now ∙ rw there (elim (eq_by_cmp (slice_cmp nat_cmp) key (padded_name name)) as (λ t. cond t true true ≡ true) [ true ↦ refl | false ↦ refl ])
-        | inr here ↦ ap (λ n. is_in after (padded_name n)) here.1 ∙ updates.1
-      ];
+          elim (entry_split t i name next low entry) [
+            | inl before ↦
+                let there : is_in names (padded_name name) ≡ true = held.all t i name before entry in
+                let now : is_in after (padded_name name) ≡ cond (eq_by_cmp (slice_cmp nat_cmp) key (padded_name name)) true (is_in names (padded_name name)) = updates.0 (padded_name name) in
+                now ∙ rw there (elim (eq_by_cmp (slice_cmp nat_cmp) key (padded_name name)) as (λ t. cond t true true ≡ true) [ true ↦ refl | false ↦ refl ])
+            | inr here ↦ ap (λ n. is_in after (padded_name n)) here.1 ∙ updates.1
+          ];
       only = λ name there.
-      let now : is_in after name ≡ cond (eq_by_cmp (slice_cmp nat_cmp) key name) true (is_in names name) = updates.0 name in
-      elim (cases_Bool (eq_by_cmp (slice_cmp nat_cmp) key name)) [
-        | inl same ↦
-            let is : key ≡ name = tells_apart exact_bytes key name same in
-            let read : name_of name ≡ name_of slot.name = ap name_of (sym is) ∙ name_of-padded slot.name in
-            record {
-              slot = s;
-              inode = slot.inode;
-              below = omega arith;
-              entry = next.entry ∙ ap (λ n. Some (n, slot.inode)) (sym read);
-            }
-        | inr apart ↦
-            let before : is_in names name ≡ true = sym (now ∙ rw apart refl) ∙ there in
-            let had = held.only name before in
-            record { slot = had.slot; inode = had.inode; below = omega (arith, had.below, next.reached); entry = had.entry }
-      ];
+          let now : is_in after name ≡ cond (eq_by_cmp (slice_cmp nat_cmp) key name) true (is_in names name) = updates.0 name in
+          elim (cases_Bool (eq_by_cmp (slice_cmp nat_cmp) key name)) [
+            | inl same ↦
+                let is : key ≡ name = tells_apart exact_bytes key name same in
+                let read : name_of name ≡ name_of slot.name = ap name_of (sym is) ∙ name_of-padded slot.name in
+                record {
+                  slot = s;
+                  inode = slot.inode;
+                  below = omega arith;
+                  entry = next.entry ∙ ap (λ n. Some (n, slot.inode)) (sym read);
+                }
+            | inr apart ↦
+                let before : is_in names name ≡ true = sym (now ∙ rw apart refl) ∙ there in
+                let had = held.only name before in
+                record { slot = had.slot; inode = had.inode; below = omega (arith, had.below, next.reached); entry = had.entry }
+          ];
     }
 
 -- a name that is in the set comes twice
@@ -215,12 +215,12 @@ each_holds d below last =
 pub fails_in : {geometry : Geometry} {image : List ℕ} {d : ℕ} → IsDirectory geometry image d → (HasEntriesIn geometry image d → ⊥) → HasEntries geometry image → ⊥
 fails_in {geometry = geometry} {image = image} {d = d} is broken rule =
     let here : HasEntriesIn geometry image d = record {
-  whole = rule.whole d is;
-  entries = λ t i name entry.
-  let has : HasEntry geometry image d t name i = record { directory = is; entry = entry } in
-  let names = rule.named d t i name has in
-  let number = rule.allocated d t i name has in
-  record { some = names.0; no_slash = names.1; first = number.0; last = number.1; allocated = number.2 };
-  once = λ s t i j name entry entry'.
-  rule.once d s t i j name (record { directory = is; entry = entry }) (record { directory = is; entry = entry' });
-} in broken here
+      whole = rule.whole d is;
+      entries = λ t i name entry.
+          let has : HasEntry geometry image d t name i = record { directory = is; entry = entry } in
+          let names = rule.named d t i name has in
+          let number = rule.allocated d t i name has in
+          record { some = names.0; no_slash = names.1; first = number.0; last = number.1; allocated = number.2 };
+      once = λ s t i j name entry entry'.
+          rule.once d s t i j name (record { directory = is; entry = entry }) (record { directory = is; entry = entry' });
+    } in broken here

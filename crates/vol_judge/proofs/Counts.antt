@@ -243,17 +243,17 @@ counts_next {geometry = geometry} {image = image} {counts = counts} {place = pla
     record {
       room = simp length-set is.room;
       few = λ i.
-      elim (cases_eq i slot.inode) [
-        | inl same ↦ rw same (rw get_or-set_same (omega (arith, is.few slot.inode, next.reached)))
-        | inr apart ↦ rw get_or-set_other (omega (arith, is.few i, next.reached))
-      ];
+          elim (cases_eq i slot.inode) [
+            | inl same ↦ rw same (rw get_or-set_same (omega (arith, is.few slot.inode, next.reached)))
+            | inr apart ↦ rw get_or-set_other (omega (arith, is.few i, next.reached))
+          ];
       count = λ i last.
-      elim (cases_eq i slot.inode) [
-        | inl same ↦
-            let last' : slot.inode ≤ geometry.last_inode = rw (sym same) last in
-            rw same (rw get_or-set_same (ap (λ n. n + 1) (is.count slot.inode last') ∙ sym (count_here next)))
-        | inr apart ↦ rw get_or-set_other (is.count i last ∙ count_other i next apart)
-      ];
+          elim (cases_eq i slot.inode) [
+            | inl same ↦
+                let last' : slot.inode ≤ geometry.last_inode = rw (sym same) last in
+                rw same (rw get_or-set_same (ap (λ n. n + 1) (is.count slot.inode last') ∙ sym (count_here next)))
+            | inr apart ↦ rw get_or-set_other (is.count i last ∙ count_other i next apart)
+          ];
     }
 
 -- where no entry is left, the counts are whole

@@ -6,3 +6,4 @@ pub mod Once
 pub mod Parents
 pub mod Passing
 pub mod Reaches
+pub mod SlotRuns

@@ -63,12 +63,12 @@ once_passed {geometry = geometry} {image = image} {place = place} {d = d} {s = s
       root = is.root;
       all = λ e t i directory enters before. is.all e t i directory enters (early e t i directory enters before);
       only = λ i marked.
-      elim (is.only i marked) [
-        | inl same ↦ inl same
-        | inr had ↦ inr (entered_later (rank d (s + 1)) (omega (arith, next.reached)) had)
-      ];
+          elim (is.only i marked) [
+            | inl same ↦ inl same
+            | inr had ↦ inr (entered_later (rank d (s + 1)) (omega (arith, next.reached)) had)
+          ];
       once = λ e u f t i directory enters enters' before before'.
-      is.once e u f t i directory enters enters' (early e u i directory enters before) (early f t i directory enters' before');
+          is.once e u f t i directory enters enters' (early e u i directory enters before) (early f t i directory enters' before');
       root_none = λ e t enters before. is.root_none e t enters (early e t (root_of geometry) root enters before);
     }
 
@@ -86,36 +86,36 @@ once_marked {geometry = geometry} {image = image} {marks = marks} {place = place
       room = simp length-set is.room;
       root = mark_kept marks slot.inode (root_of geometry) room is.root;
       all = λ e t i directory enters before.
-      elim (split e t i enters.0 next enters.1 before) [
-        | inl early ↦ mark_kept marks slot.inode i room (is.all e t i directory enters early)
-        | inr here ↦ let number : i ≡ slot.inode = here.3 in rw number (mark_here marks slot.inode room)
-      ];
+          elim (split e t i enters.0 next enters.1 before) [
+            | inl early ↦ mark_kept marks slot.inode i room (is.all e t i directory enters early)
+            | inr here ↦ let number : i ≡ slot.inode = here.3 in rw number (mark_here marks slot.inode room)
+          ];
       only = λ i marked.
-      elim (cases_eq i slot.inode) [
-        | inl same ↦ inr (rw same (record { directory = d; slot = s; enters = (name_of slot.name, next.entry, other); before = omega arith }))
-        | inr apart ↦ elim (is.only i (mark_before marks slot.inode i apart marked)) [
-          | inl same ↦ inl same
-          | inr had ↦ inr (entered_later (rank d (s + 1)) (omega (arith, next.reached)) had)
-        ]
-      ];
+          elim (cases_eq i slot.inode) [
+            | inl same ↦ inr (rw same (record { directory = d; slot = s; enters = (name_of slot.name, next.entry, other); before = omega arith }))
+            | inr apart ↦ elim (is.only i (mark_before marks slot.inode i apart marked)) [
+              | inl same ↦ inl same
+              | inr had ↦ inr (entered_later (rank d (s + 1)) (omega (arith, next.reached)) had)
+            ]
+          ];
       once = λ e u f t i directory enters enters' before before'.
-      elim (split e u i enters.0 next enters.1 before) [
-        | inl early ↦ elim (split f t i enters'.0 next enters'.1 before') [
-          | inl early' ↦ is.once e u f t i directory enters enters' early early'
-          | inr here' ↦ absurd (seen e u i directory enters early here'.3)
-        ]
-        | inr here ↦ elim (split f t i enters'.0 next enters'.1 before') [
-          | inl early' ↦ absurd (seen f t i directory enters' early' here.3)
-          | inr here' ↦ (here.0 ∙ sym here'.0, here.1 ∙ sym here'.1)
-        ]
-      ];
+          elim (split e u i enters.0 next enters.1 before) [
+            | inl early ↦ elim (split f t i enters'.0 next enters'.1 before') [
+              | inl early' ↦ is.once e u f t i directory enters enters' early early'
+              | inr here' ↦ absurd (seen e u i directory enters early here'.3)
+            ]
+            | inr here ↦ elim (split f t i enters'.0 next enters'.1 before') [
+              | inl early' ↦ absurd (seen f t i directory enters' early' here.3)
+              | inr here' ↦ (here.0 ∙ sym here'.0, here.1 ∙ sym here'.1)
+            ]
+          ];
       root_none = λ e t enters before.
-      elim (split e t (root_of geometry) enters.0 next enters.1 before) [
-        | inl early ↦ is.root_none e t enters early
-        | inr here ↦
-            let old = rw here.3 at is.root in
-            cc
-      ];
+          elim (split e t (root_of geometry) enters.0 next enters.1 before) [
+            | inl early ↦ is.root_none e t enters early
+            | inr here ↦
+                let old = rw here.3 at is.root in
+                cc
+          ];
     }
 
 -- an entry for a directory that is marked is one too many
@@ -136,6 +136,6 @@ pub once_all : {geometry : Geometry} {image : List ℕ} {marks : List Bool} {pla
     → IsOnce geometry image
 once_all is none = record {
   one = λ i e s f t directory enters enters'.
-  is.once e s f t i directory enters enters' (none e s i enters.0 enters.1) (none f t i enters'.0 enters'.1);
+      is.once e s f t i directory enters enters' (none e s i enters.0 enters.1) (none f t i enters'.0 enters'.1);
   root_none = λ e s enters. is.root_none e s enters (none e s _ enters.0 enters.1);
 }

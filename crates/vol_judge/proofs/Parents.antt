@@ -26,12 +26,12 @@ named_here {geometry = geometry} {image = image} {d = d} {s = s} {slot = slot} n
     let has : HasEntry geometry image d s name slot.inode = record { directory = is; entry = rw (sym same) next.entry } in
     record {
       all = λ t i other.
-      let slots : s ≡ t = rule.once d s t slot.inode i name has other in
-      let here = rw (sym slots) at other.entry in
-      ap Some (same_entry (entry_at geometry image d s) name name slot.inode i has.entry here).1;
+          let slots : s ≡ t = rule.once d s t slot.inode i name has other in
+          let here = rw (sym slots) at other.entry in
+          ap Some (same_entry (entry_at geometry image d s) name name slot.inode i has.entry here).1;
       only = λ i number.
-      let same_number : slot.inode ≡ i = cc in
-      (s, rw (sym same_number) has);
+          let same_number : slot.inode ≡ i = cc in
+          (s, rw (sym same_number) has);
     }
 
 -- an entry of another name is passed
@@ -85,15 +85,15 @@ children_marked {geometry = geometry} {image = image} {marks = marks} {ups = ups
       room = simp length-set is.room;
       root = kept (root_of geometry) is.root;
       all = λ e t i enters before named.
-      elim (split e t i enters.0 next enters.1 before) [
-        | inl early ↦ kept i (is.all e t i enters early named)
-        | inr here ↦ let number : i ≡ slot.inode = here.3 in rw number (rw get_or-set_same refl)
-      ];
+          elim (split e t i enters.0 next enters.1 before) [
+            | inl early ↦ kept i (is.all e t i enters early named)
+            | inr here ↦ let number : i ≡ slot.inode = here.3 in rw number (rw get_or-set_same refl)
+          ];
       only = λ i marked.
-      elim (cases_eq i slot.inode) [
-        | inl same ↦ inr (rw same (record { directory = d; slot = s; enters = (name_of slot.name, next.entry, other); up = up }))
-        | inr apart ↦ is.only i (rw get_or-set_other at marked)
-      ];
+          elim (cases_eq i slot.inode) [
+            | inl same ↦ inr (rw same (record { directory = d; slot = s; enters = (name_of slot.name, next.entry, other); up = up }))
+            | inr apart ↦ is.only i (rw get_or-set_other at marked)
+          ];
     }
 
 -- an entry elsewhere is passed
@@ -105,10 +105,10 @@ children_passed is next other = record {
   room = is.room;
   root = is.root;
   all = λ e t i enters before named.
-  elim (split e t i enters.0 next enters.1 before) [
-    | inl early ↦ is.all e t i enters early named
-    | inr here ↦ absurd (other (ap is_dots (sym here.2) ∙ enters.2) (rw (sym here.3, sym here.0) named))
-  ];
+      elim (split e t i enters.0 next enters.1 before) [
+        | inl early ↦ is.all e t i enters early named
+        | inr here ↦ absurd (other (ap is_dots (sym here.2) ∙ enters.2) (rw (sym here.3, sym here.0) named))
+      ];
   only = is.only;
 }
 
@@ -128,10 +128,10 @@ pub ups_named : {geometry : Geometry} {image : List ℕ} {d : ℕ} {ups : List (
 ups_named {geometry = geometry} {image = image} {d = d} {ups = ups} {number = number} below here room = record {
   room = simp length-set below.room;
   named = λ e low is.
-  elim (cases_eq e d) [
-    | inl same ↦ rw same (rw get_or-set_same here)
-    | inr apart ↦ rw get_or-set_other (below.named e (omega arith) is)
-  ];
+      elim (cases_eq e d) [
+        | inl same ↦ rw same (rw get_or-set_same here)
+        | inr apart ↦ rw get_or-set_other (below.named e (omega arith) is)
+      ];
 }
 
 -- what is no directory names nothing
@@ -159,12 +159,12 @@ dots_hold {geometry = geometry} itself root ups marks all = record {
   itself = itself;
   root = root.only (root_of geometry) refl;
   parent = λ d is other.
-  elim (marks.only d (all d is)) [
-    | inl same ↦ absurd (other same)
-    | inr child ↦
-        let up = (ups.named d is).only child.directory child.up in
-        (up.0, child.directory, child.slot, up.1, child.enters)
-  ];
+      elim (marks.only d (all d is)) [
+        | inl same ↦ absurd (other same)
+        | inr child ↦
+            let up = (ups.named d is).only child.directory child.up in
+            (up.0, child.directory, child.slot, up.1, child.enters)
+      ];
 }
 
 -- where rule 10 holds, each directory is marked

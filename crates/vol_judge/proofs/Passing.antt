@@ -10,7 +10,7 @@ use Rattle.vol_judge.specs.Stepping.{rank, IsNextIn, IsNext, IsEnd}
 use Rattle.vol_judge.proofs.Collecting.{count_low, next_low, same_entry, none_some}
 
 -- past the last slot there is no entry
-past_last : (geometry : Geometry) (image : List ℕ) (d s : ℕ) → slot_count geometry image d ≤ s → entry_at geometry image d s ≡ None
+pub past_last : (geometry : Geometry) (image : List ℕ) (d s : ℕ) → slot_count geometry image d ≤ s → entry_at geometry image d s ≡ None
 unfolding entry_at
 past_last geometry image d s past = grind (arith, past)
 
@@ -68,17 +68,17 @@ next_of {geometry = geometry} {image = image} {from = from} {d = d} {start = sta
   low = next_low next;
   entry = record { directory = is; entry = next.entry };
   before = λ e t i name has before.
-  let low : t < 67637568 = entry_low has in
-  let low' : s < 67637568 = next_low next in
-  elim (cases_lt (rank e t) (rank d start)) [
-    | inl early ↦ passed e t i name has early
-    | inr past ↦
-        let same : e ≡ d = omega arith in
-        let has' = rw same at has in
-        let above : start ≤ t = omega (arith, same) in
-        let under : t < s = omega (arith, same) in
-        absurd (none_some (entry_at geometry image d t) (name, i) has'.entry (next.none t above under))
-  ];
+      let low : t < 67637568 = entry_low has in
+      let low' : s < 67637568 = next_low next in
+      elim (cases_lt (rank e t) (rank d start)) [
+        | inl early ↦ passed e t i name has early
+        | inr past ↦
+            let same : e ≡ d = omega arith in
+            let has' = rw same at has in
+            let above : start ≤ t = omega (arith, same) in
+            let under : t < s = omega (arith, same) in
+            absurd (none_some (entry_at geometry image d t) (name, i) has'.entry (next.none t above under))
+      ];
 }
 
 -- an entry before the place after the next one stands before the place where the search began, or is the next one

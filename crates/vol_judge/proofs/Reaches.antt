@@ -36,19 +36,18 @@ explores_first {geometry = geometry} {image = image} {marks = marks} work is dir
   root = is.root;
   reached = λ i marked. rw (is.only i marked) at_root;
   waiting = λ e has.
-  let has' = rw alone at has in
-  let same = one_of (root_of geometry) e has' in
-  rw same (directory, is.root);
+      let has' = rw alone at has in
+      let same = one_of (root_of geometry) e has' in
+      rw same (directory, is.root);
   closed = λ e t i marked enters number.
-  inr (rw (alone, is.only e marked) (one_in (root_of geometry)));
+      inr (rw (alone, is.only e marked) (one_in (root_of geometry)));
 }
 
 -- a directory is taken out of the work, to be entered
 pub explores_taken : {geometry : Geometry} {image : List ℕ} {marks : List Bool} {work : List ℕ} (rest : List ℕ) (d : ℕ)
     → Explores geometry image marks work → work ≡ rest ++ d ∷ [] → IsDirectory geometry image d × ExploresBelow geometry image d 0 marks rest
 explores_taken {geometry = geometry} {image = image} {marks = marks} {work = work} rest d is taken =
-    let last : Contains work d = rw taken (Contains-append_right rest (d ∷ []) d (one_in d)) in
-    (
+    let last : Contains work d = rw taken (Contains-append_right rest (d ∷ []) d (one_in d)) in (
       (is.waiting d last).0,
       record {
         room = is.room;
@@ -57,15 +56,15 @@ explores_taken {geometry = geometry} {image = image} {marks = marks} {work = wor
         reached = is.reached;
         waiting = λ e has. is.waiting e (rw taken (Contains-append_left rest (d ∷ []) e has));
         closed = λ e t i marked enters number.
-        elim (is.closed e t i marked enters number) [
-          | inl known ↦ inl known
-          | inr has ↦
-              let has' = rw taken at has in
-              elim (Contains-append_cases rest (d ∷ []) e has') [
-                | inl left ↦ inr (inl left)
-                | inr right ↦ inr (inr (one_of d e right, omega arith))
-              ]
-        ];
+            elim (is.closed e t i marked enters number) [
+              | inl known ↦ inl known
+              | inr has ↦
+                  let has' = rw taken at has in
+                  elim (Contains-append_cases rest (d ∷ []) e has') [
+                    | inl left ↦ inr (inl left)
+                    | inr right ↦ inr (inr (one_of d e right, omega arith))
+                  ]
+            ];
       },
     )
 
@@ -96,32 +95,32 @@ explores_marked {geometry = geometry} {image = image} {marks = marks} {work = wo
       root = mark_kept marks slot.inode (root_of geometry) room is.root;
       current = mark_kept marks slot.inode d room is.current;
       reached = λ i marked.
-      elim (cases_eq i slot.inode) [
-        | inl same ↦ rw same (below d s slot.inode (is.reached d is.current)
-            (name_of slot.name, record { directory = directory; entry = next.entry }, enters.0))
-        | inr apart ↦ is.reached i (mark_before marks slot.inode i apart marked)
-      ];
+          elim (cases_eq i slot.inode) [
+            | inl same ↦ rw same (below d s slot.inode (is.reached d is.current)
+                (name_of slot.name, record { directory = directory; entry = next.entry }, enters.0))
+            | inr apart ↦ is.reached i (mark_before marks slot.inode i apart marked)
+          ];
       waiting = λ e has.
-      elim (Contains-append_cases work one e has) [
-        | inl left ↦ let had = is.waiting e left in (had.0, mark_kept marks slot.inode e room had.1)
-        | inr right ↦ let same = one_of slot.inode e right in rw same (enters.1, mark_here marks slot.inode room)
-      ];
+          elim (Contains-append_cases work one e has) [
+            | inl left ↦ let had = is.waiting e left in (had.0, mark_kept marks slot.inode e room had.1)
+            | inr right ↦ let same = one_of slot.inode e right in rw same (enters.1, mark_here marks slot.inode room)
+          ];
       closed = λ e t i marked entered number.
-      elim (cases_eq e slot.inode) [
-        | inl same ↦ inr (inl (rw same (Contains-append_right work one slot.inode (one_in slot.inode))))
-        | inr apart ↦ elim (is.closed e t i (mark_before marks slot.inode e apart marked) entered number) [
-          | inl known ↦ inl (mark_kept marks slot.inode i room known)
-          | inr other ↦ elim other [
-            | inl has ↦ inr (inl (Contains-append_left work one e has))
-            | inr left ↦
-                let entered' = rw left.0 at entered in
-                elim (later t i next entered' left.1) [
-                  | inl here ↦ inl (rw here.0 (mark_here marks slot.inode room))
-                  | inr high ↦ inr (inr (left.0, high))
-                ]
-          ]
-        ]
-      ];
+          elim (cases_eq e slot.inode) [
+            | inl same ↦ inr (inl (rw same (Contains-append_right work one slot.inode (one_in slot.inode))))
+            | inr apart ↦ elim (is.closed e t i (mark_before marks slot.inode e apart marked) entered number) [
+              | inl known ↦ inl (mark_kept marks slot.inode i room known)
+              | inr other ↦ elim other [
+                | inl has ↦ inr (inl (Contains-append_left work one e has))
+                | inr left ↦
+                    let entered' = rw left.0 at entered in
+                    elim (later t i next entered' left.1) [
+                      | inl here ↦ inl (rw here.0 (mark_here marks slot.inode room))
+                      | inr high ↦ inr (inr (left.0, high))
+                    ]
+              ]
+            ]
+          ];
     }
 
 -- an entry for what is no directory or is marked, or of `.` or `..`, is passed
@@ -136,20 +135,20 @@ explores_passed {geometry = geometry} {image = image} {marks = marks} {slot = sl
   reached = is.reached;
   waiting = is.waiting;
   closed = λ e t i marked entered number.
-  elim (is.closed e t i marked entered number) [
-    | inl old ↦ inl old
-    | inr other ↦ elim other [
-      | inl has ↦ inr (inl has)
-      | inr left ↦
-          let entered' = rw left.0 at entered in
-          elim (later t i next entered' left.1) [
-            | inl here ↦
-                let number' = rw here.0 at number in
-                inl (rw here.0 (known (here.1, number')))
-            | inr high ↦ inr (inr (left.0, high))
-          ]
-    ]
-  ];
+      elim (is.closed e t i marked entered number) [
+        | inl old ↦ inl old
+        | inr other ↦ elim other [
+          | inl has ↦ inr (inl has)
+          | inr left ↦
+              let entered' = rw left.0 at entered in
+              elim (later t i next entered' left.1) [
+                | inl here ↦
+                    let number' = rw here.0 at number in
+                    inl (rw here.0 (known (here.1, number')))
+                | inr high ↦ inr (inr (left.0, high))
+              ]
+        ]
+      ];
 }
 
 -- where no slot is left, the directory is entered
@@ -161,15 +160,15 @@ explores_entered {geometry = geometry} {image = image} {d = d} is none = record 
   reached = is.reached;
   waiting = is.waiting;
   closed = λ e t i marked entered number.
-  elim (is.closed e t i marked entered number) [
-    | inl old ↦ inl old
-    | inr other ↦ elim other [
-      | inl has ↦ inr has
-      | inr left ↦
-          let entered' = rw left.0 at entered in
-          absurd (none_some (entry_at geometry image d t) (entered'.0, i) entered'.1.entry (none t left.1))
-    ]
-  ];
+      elim (is.closed e t i marked entered number) [
+        | inl old ↦ inl old
+        | inr other ↦ elim other [
+          | inl has ↦ inr has
+          | inr left ↦
+              let entered' = rw left.0 at entered in
+              absurd (none_some (entry_at geometry image d t) (entered'.0, i) entered'.1.entry (none t left.1))
+        ]
+      ];
 }
 
 -- a list from which nothing is taken is empty
@@ -188,10 +187,10 @@ explores_all is empty = record {
   root = is.root;
   reached = is.reached;
   closed = λ e t i marked entered number.
-  elim (is.closed e t i marked entered number) [
-    | inl old ↦ old
-    | inr has ↦ absurd (omega (arith, has.1))
-  ];
+      elim (is.closed e t i marked entered number) [
+        | inl old ↦ old
+        | inr has ↦ absurd (omega (arith, has.1))
+      ];
 }
 
 -- a new mark and a directory more to be entered lessen the load

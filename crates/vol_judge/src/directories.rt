@@ -17,7 +17,11 @@ use tree::is_tree;
 use vol_layout::Geometry;
 
 /// The least of rules 9 to 12 that a volume breaks on which the rules before hold.
-pub fn judge_directories(alloc: Global, image: &Image, geometry: &Geometry) -> Result<Option<u8>, AllocError>
+pub fn judge_directories(
+    alloc: Global,
+    image: &Image,
+    geometry: &Geometry,
+) -> Result<Option<u8>, AllocError>
     requires fits { Fits geometry.now image.now }
     requires kinds { HasKinds geometry.now image.now }
     ensures { IfOk result (λ least. JudgesDirectories geometry.now image.now least) }

@@ -19,7 +19,11 @@ const SLOT: u32 = 16;
 ///
 /// Costs a look at each slot of each directory, and for each directory as much as sorting its names.
 /// Memory is taken for the names of one directory at a time.
-pub(crate) fn has_entries(alloc: Global, image: &Image, geometry: &Geometry) -> Result<bool, AllocError>
+pub(crate) fn has_entries(
+    alloc: Global,
+    image: &Image,
+    geometry: &Geometry,
+) -> Result<bool, AllocError>
     requires { Fits geometry.now image.now }
     ensures { IfOk result (λ holds. IsTrue holds ↔ HasEntries geometry.now image.now) }
 {
@@ -32,7 +36,12 @@ pub(crate) fn has_entries(alloc: Global, image: &Image, geometry: &Geometry) -> 
 }
 
 /// Whether rule 9 holds of directory `d`.
-fn has_entries_in(alloc: Global, image: &Image, geometry: &Geometry, d: u16) -> Result<bool, AllocError>
+fn has_entries_in(
+    alloc: Global,
+    image: &Image,
+    geometry: &Geometry,
+    d: u16,
+) -> Result<bool, AllocError>
     requires fits { Fits geometry.now image.now }
     requires directory { IsDirectory geometry.now image.now d }
     ensures { IfOk result (λ holds. IsTrue holds ↔ HasEntriesIn geometry.now image.now d) }

@@ -17,14 +17,20 @@ use vol_layout::Geometry;
 /// Whether rule 10 holds of a volume on which rules 3 and 9 hold.
 ///
 /// Costs three looks at each slot of each directory. Memory is taken for five bytes an i-number.
-pub(crate) fn has_dots(alloc: Global, image: &Image, geometry: &Geometry) -> Result<bool, AllocError>
+pub(crate) fn has_dots(
+    alloc: Global,
+    image: &Image,
+    geometry: &Geometry,
+) -> Result<bool, AllocError>
     requires fits { Fits geometry.now image.now }
     requires kinds { HasKinds geometry.now image.now }
     requires entries { HasEntries geometry.now image.now }
     ensures { IfOk result (λ holds. IsTrue holds ↔ HasDots geometry.now image.now) }
 {
     let root = geometry.edition.constants().root;
-    if !name_themselves(image, geometry) || named_in(image, geometry, root, b"..".as_slice()) != Some(root) {
+    if !name_themselves(image, geometry)
+        || named_in(image, geometry, root, b"..".as_slice()) != Some(root)
+    {
         return Ok(false);
     }
     let ups = ups(alloc, image, geometry)?;
@@ -40,7 +46,9 @@ fn name_themselves(image: &Image, geometry: &Geometry) -> bool
         → (s : ℕ) × HasEntry geometry.now image.now d s dot d) }
 {
     for d in 1..=last_number(geometry) {
-        if is_directory(image, geometry, d) && named_in(image, geometry, d, b".".as_slice()) != Some(d) {
+        if is_directory(image, geometry, d)
+            && named_in(image, geometry, d, b".".as_slice()) != Some(d)
+        {
             return false;
         }
     }
@@ -80,7 +88,12 @@ fn ups(alloc: Global, image: &Image, geometry: &Geometry) -> Result<Vec<Option<u
 }
 
 /// Marks of the root, and of what has an entry in the directory that it names by `..`.
-fn children(alloc: Global, image: &Image, geometry: &Geometry, ups: &[Option<u16>]) -> Result<Vec<bool>, AllocError>
+fn children(
+    alloc: Global,
+    image: &Image,
+    geometry: &Geometry,
+    ups: &[Option<u16>],
+) -> Result<Vec<bool>, AllocError>
     requires fits { Fits geometry.now image.now }
     requires entries { HasEntries geometry.now image.now }
     requires room { length ups.now ≡ geometry.now.last_inode + 1 }

@@ -14,7 +14,11 @@ use vol_layout::{Geometry, Kind};
 /// Whether rule 12 holds of a volume on which rule 9 holds.
 ///
 /// Costs a look at each slot of each directory. Memory is taken for eight bytes an i-number.
-pub(crate) fn has_links(alloc: Global, image: &Image, geometry: &Geometry) -> Result<bool, AllocError>
+pub(crate) fn has_links(
+    alloc: Global,
+    image: &Image,
+    geometry: &Geometry,
+) -> Result<bool, AllocError>
     requires fits { Fits geometry.now image.now }
     requires entries { HasEntries geometry.now image.now }
     ensures { IfOk result (λ holds. IsTrue holds ↔ HasLinks geometry.now image.now) }

@@ -20,6 +20,6 @@ returns c =
       | then-loop-d-test+else-d-d-end w ↦ rw w.ups-is (elim w.if-is_directory.branch [
         | then-is_directory v ↦ rw v.ups-is (ups_all (ups_named c.loop-d.invariant (rw v.as_slice.ensures at v.named_in.ensures) (omega arith)) (omega arith))
         | else-is_directory v ↦ rw v.ups-is (ups_all (ups_other c.loop-d.invariant
-          (fails w.is_directory.result w.is_directory.ensures v.if-is_directory.false)) (omega arith))
+            (fails w.is_directory.result w.is_directory.ensures v.if-is_directory.false)) (omega arith))
       ])
     ]

@@ -34,12 +34,12 @@ loop-number-preserved c =
             fewer = rw (w.marks-is, w.work-is, items) (omega (arith, less, c.loop-number.invariant.fewer));
           }
       | else-enters_directory w ↦ record {
-          explores = rw (w.marks-is, w.work-is) (explores_passed explores next (λ enters. elim w.else-enters_directory.branch [
-            | else-enters_directory-via-then-enters_directory+else-not-marks-slot v ↦ v.if-not-marks-slot.false
-            | else-enters_directory-via-else-enters_directory v ↦ absurd (fails c.enters_directory.result c.enters_directory.ensures v.if-enters_directory.false enters)
-          ]));
-          fewer = rw (w.marks-is, w.work-is) c.loop-number.invariant.fewer;
-        }
+        explores = rw (w.marks-is, w.work-is) (explores_passed explores next (λ enters. elim w.else-enters_directory.branch [
+          | else-enters_directory-via-then-enters_directory+else-not-marks-slot v ↦ v.if-not-marks-slot.false
+          | else-enters_directory-via-else-enters_directory v ↦ absurd (fails c.enters_directory.result c.enters_directory.ensures v.if-enters_directory.false enters)
+        ]));
+        fewer = rw (w.marks-is, w.work-is) c.loop-number.invariant.fewer;
+      }
     ]
 
 pub returns-clause-explores : goal.returns-clause-explores

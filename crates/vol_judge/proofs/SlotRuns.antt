@@ -1,6 +1,6 @@
 -- The slots of one logical block of a directory.
-use Rattle.std.proofs.Common.{◌≡◌, ◌≢◌, ℕ, ◌+◌, ◌*◌, ◌/◌, ◌%◌, ◌<◌, ◌≤◌, ◌⊎◌, inl, inr, true, false, eqb, List, Option, None, Some, refl, sym, ap, ◌∙◌, arith}
-use Rattle.std.proofs.lemmas.Bool.{cases_lt, cases_eq, ne_eqb}
+use Rattle.std.proofs.Common.{◌≡◌, ◌≢◌, ℕ, ◌+◌, ◌*◌, ◌/◌, ◌%◌, ◌<◌, inl, inr, true, false, List, None, Some, refl, sym, ap, ◌∙◌, arith}
+use Rattle.std.proofs.lemmas.Bool.{cases_eq, ne_eqb}
 use Rattle.vol_layout.specs.Geometry.{in_zone, Fits}
 use Rattle.vol_layout.specs.Names.{form_at, stored, block_named}
 use Rattle.vol_layout.specs.Slot.{slot_at, name_of}
@@ -8,7 +8,7 @@ use Rattle.vol_layout.specs.declared.geometry.Geometry.{Geometry}
 use Rattle.vol_layout.specs.declared.slot.Slot.{Slot}
 use Rattle.vol_dir.specs.Entries.{entry_in, entry_at, slot_count}
 use Rattle.vol_dir.proofs.SlotReading.{entry_in_block, entry_in_hole, number_named, number_missing, zero_is_outside}
-use Rattle.vol_judge.specs.Stepping.{IsEmptyRun, IsNextIn}
+use Rattle.vol_judge.specs.Stepping.{IsEmptyRun}
 
 -- what a slot of the block that is named holds
 pub slot_here : (geometry : Geometry) (image : List ℕ) (d s b k : ℕ) → Fits geometry image → s < slot_count geometry image d → s / 32 ≡ b

@@ -1,5 +1,5 @@
 -- The rules of soundness that speak of the tree which directories make: 10 to 12.
-use Rattle.std.specs.Prelude.{◌≡◌, ◌≢◌, ℕ, ◌≤◌, ◌==◌, Bool, false, nat_lt, List, Option, None, Some}
+use Rattle.std.specs.Prelude.{◌≡◌, ◌≢◌, ℕ, ◌≤◌, ◌==◌, Bool, false, List, Option}
 use Rattle.std.specs.List.{count_by, sum_by, range_with_len}
 use Rattle.std.specs.Option.{option_map_or}
 use Rattle.vol_layout.specs.Edition.{constants}

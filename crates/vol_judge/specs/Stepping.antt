@@ -1,7 +1,7 @@
 -- Going over the entries of directories, one after the other.
 use Rattle.std.specs.Prelude.{◌≡◌, ℕ, ◌+◌, ◌*◌, ◌<◌, ◌≤◌, List, None, Some}
 use Rattle.vol_layout.specs.Slot.{name_of}
-use Rattle.vol_dir.specs.Entries.{entry_at, slot_count, IsDirectory, HasEntry}
+use Rattle.vol_dir.specs.Entries.{entry_at, slot_count, HasEntry}
 use Rattle.vol_layout.specs.declared.geometry.Geometry.{Geometry}
 use Rattle.vol_layout.specs.declared.slot.Slot.{Slot}
 

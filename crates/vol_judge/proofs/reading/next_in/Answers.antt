@@ -1,4 +1,4 @@
-use Rattle.std.proofs.Common.{◌<◌, inl, inr, arith}
+use Rattle.std.proofs.Common.{inl, inr, arith}
 use Rattle.std.proofs.lemmas.Bool.{cases_lt}
 use Rattle.vol_judge.proofs.Passing.{past_last}
 use Rattle.vol_judge.proofs.reading.next_in.Goals as goal

@@ -1,6 +1,6 @@
-use Rattle.std.proofs.Common.{◌≡◌, ◌+◌, ◌*◌, ◌/◌, ◌%◌, ◌<◌, None, Some, sym, ap, ◌∙◌, arith}
-use Rattle.vol_layout.specs.Slot.{slot_at, name_of}
-use Rattle.vol_dir.specs.Entries.{entry_in, entry_at, slot_count}
+use Rattle.std.proofs.Common.{◌≡◌, ◌+◌, ◌*◌, ◌/◌, ◌%◌, ◌<◌, sym, ap, ◌∙◌, arith}
+use Rattle.vol_layout.specs.Slot.{slot_at}
+use Rattle.vol_dir.specs.Entries.{entry_in, slot_count}
 use Rattle.vol_judge.proofs.SlotRuns.{slot_here, slot_outside, slot_unnamed, used_slot, unused_slot, run_more}
 use Rattle.vol_judge.proofs.reading.next_in_block.Goals as goal
 

@@ -7,3 +7,6 @@ mod marking;
 mod reading;
 
 pub use directories::judge_directories;
+
+#[cfg(test)]
+mod tests;

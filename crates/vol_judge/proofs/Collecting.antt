@@ -1,15 +1,13 @@
 -- Collecting the names of one directory.
-use Rattle.std.specs.Prelude.{MatchOption}
-use Rattle.std.proofs.Common.{◌≡◌, ◌≢◌, ℕ, zero, suc, ◌+◌, ◌-◌, ◌/◌, ◌%◌, ◌<◌, ◌≤◌, min, ◌==◌, eqb, ◌⊎◌, inl, inr, Bool, true, false, cond, List, [], ◌∷◌, ◌++◌, Option, None, Some, length, take, replicate, refl, sym, ap, ◌∙◌, arith}
+use Rattle.std.proofs.Common.{◌≡◌, ℕ, zero, suc, ◌+◌, ◌-◌, ◌/◌, ◌%◌, ◌<◌, ◌≤◌, min, ◌==◌, ◌⊎◌, inl, inr, true, false, cond, List, [], ◌∷◌, ◌++◌, Option, None, Some, length, take, replicate, refl, sym, ap, ◌∙◌, arith}
 use Rattle.std.specs.List.{position_or_len}
-use Rattle.std.specs.BTreeSet.{BTreeSet, contains, Updates}
+use Rattle.std.specs.BTreeSet.{BTreeSet, Updates}
 use Rattle.std.specs.Cmp.Lexicographic.{slice_cmp}
 use Rattle.std.specs.Ordering.{nat_cmp, eq_by_cmp}
 use borrow.Author.Count.{below_more}
 use Rattle.std.proofs.lemmas.Bool.{cases_lt, cases_eq, cases_Bool}
 use Rattle.std.proofs.lemmas.Map.Views.{tells_apart}
 use Rattle.std.proofs.lemmas.Map.Lookups.{exact_bytes}
-use Rattle.std.proofs.lemmas.Grind.{common_steps}
 use Rattle.vol_layout.specs.Edition.{constants}
 use Rattle.vol_layout.specs.Slot.{name_of, padded_name}
 use Rattle.vol_layout.specs.declared.edition.Edition.{Edition}
@@ -17,9 +15,9 @@ use Rattle.vol_layout.specs.declared.edition.Edition.TheVariants.{V6, V7}
 use Rattle.vol_layout.specs.declared.geometry.Geometry.{Geometry}
 use Rattle.vol_layout.specs.declared.slot.Slot.{Slot}
 use Rattle.vol_file.specs.Rules.{size_of}
-use Rattle.vol_dir.specs.Entries.{entry_at, slot_count, IsDirectory, HasEntry, HasEntries}
+use Rattle.vol_dir.specs.Entries.{entry_at, IsDirectory, HasEntry, HasEntries}
 use Rattle.vol_judge.specs.Stepping.{IsNextIn}
-use Rattle.vol_judge.specs.Naming.{IsEntry, HasEntriesBelow, HasEntriesIn, IsNamedBelow, is_in, HoldsNames}
+use Rattle.vol_judge.specs.Naming.{IsEntry, HasEntriesBelow, HasEntriesIn, is_in, HoldsNames}
 
 -- zero bytes are no name
 zeros : (k : ℕ) → name_of (replicate k 0) ≡ []

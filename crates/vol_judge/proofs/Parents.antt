@@ -1,5 +1,5 @@
 -- What directories name by `.` and `..`, and where they are entered.
-use Rattle.std.proofs.Common.{◌≡◌, ◌≢◌, ℕ, ◌+◌, ◌<◌, ◌≤◌, ◌⊎◌, inl, inr, Bool, true, false, List, Option, None, Some, length, get_or, refl, sym, ap, ◌∙◌, arith, get_or-set_other, get_or-set_same}
+use Rattle.std.proofs.Common.{◌≡◌, ◌≢◌, ℕ, ◌+◌, ◌<◌, ◌≤◌, inl, inr, Bool, true, false, List, Option, None, Some, length, get_or, refl, sym, ap, ◌∙◌, arith, get_or-set_other, get_or-set_same}
 use Rattle.std.proofs.Math.ListN.{set, length-set}
 use Rattle.std.proofs.lemmas.Bool.{cases_lt, cases_eq}
 use Rattle.vol_layout.specs.Edition.{constants}
@@ -12,8 +12,8 @@ use Rattle.vol_layout.specs.declared.slot.Slot.{Slot}
 use Rattle.vol_file.specs.Rules.{HasKinds}
 use Rattle.vol_dir.specs.Entries.{entry_at, IsDirectory, HasEntry, HasEntries}
 use Rattle.vol_dir.specs.Names.{dot, dot_dot, is_dots}
-use Rattle.vol_judge.specs.Directories.{root_of, Enters, HasDots}
-use Rattle.vol_judge.specs.InodeMarks.{is_marked, HasRoot, IsNamed, HasUpsBelow, HasUps, IsChild, MarksChildren}
+use Rattle.vol_judge.specs.Directories.{root_of, HasDots}
+use Rattle.vol_judge.specs.InodeMarks.{is_marked, HasRoot, IsNamed, HasUpsBelow, HasUps, MarksChildren}
 use Rattle.vol_judge.specs.Stepping.{rank, IsNextIn, IsNext, IsEnd}
 use Rattle.vol_judge.proofs.Collecting.{same_entry, none_some}
 use Rattle.vol_judge.proofs.EachDirectory.{directories_more, directories_all}

@@ -1,6 +1,6 @@
 -- Passing the entries of all directories, one after the other.
-use Rattle.std.proofs.Common.{◌≡◌, ℕ, ◌+◌, ◌*◌, ◌<◌, ◌≤◌, ◌⊎◌, inl, inr, List, Option, None, Some, refl, sym, ap, ◌∙◌, arith}
-use Rattle.std.proofs.lemmas.Bool.{cases_lt, cases_eq}
+use Rattle.std.proofs.Common.{◌≡◌, ℕ, ◌+◌, ◌<◌, ◌≤◌, ◌⊎◌, inl, inr, List, None, Some, arith}
+use Rattle.std.proofs.lemmas.Bool.{cases_lt}
 use Rattle.vol_layout.specs.Slot.{name_of}
 use Rattle.vol_layout.specs.declared.geometry.Geometry.{Geometry}
 use Rattle.vol_layout.specs.declared.slot.Slot.{Slot}
@@ -10,7 +10,7 @@ use Rattle.vol_judge.specs.Stepping.{rank, IsNextIn, IsNext, IsEnd}
 use Rattle.vol_judge.proofs.Collecting.{count_low, next_low, same_entry, none_some}
 
 -- past the last slot there is no entry
-past_last : (geometry : Geometry) (image : List ℕ) (d s : ℕ) → slot_count geometry image d ≤ s → entry_at geometry image d s ≡ None
+pub past_last : (geometry : Geometry) (image : List ℕ) (d s : ℕ) → slot_count geometry image d ≤ s → entry_at geometry image d s ≡ None
 unfolding entry_at
 past_last geometry image d s past = grind (arith, past)
 

@@ -1,18 +1,18 @@
 -- Reaching the directories from the root.
-use Rattle.std.proofs.Common.{◌≡◌, ℕ, ◌+◌, ◌-◌, ◌*◌, ◌<◌, ◌≤◌, ◌⊎◌, inl, inr, Bool, true, false, if◌then◌else◌, List, [], ◌∷◌, ◌++◌, None, Some, length, take, get_or, refl, sym, ap, ◌∙◌, arith, length-append}
+use Rattle.std.proofs.Common.{◌≡◌, ℕ, ◌+◌, ◌-◌, ◌<◌, ◌≤◌, ◌⊎◌, inl, inr, Bool, true, false, if◌then◌else◌, List, [], ◌∷◌, ◌++◌, None, length, take, refl, sym, ap, ◌∙◌, arith, length-append}
 use Rattle.std.proofs.Math.ListN.{set, length-set}
-use Rattle.std.specs.List.{Contains, sum_by}
+use Rattle.std.specs.List.{Contains}
 use Rattle.std.proofs.lemmas.Bool.{cases_lt, cases_eq}
 use Rattle.std.proofs.lemmas.List.Elements.{Contains-append_left, Contains-append_right, Contains-append_cases}
 use Rattle.std.proofs.lemmas.List.Sums.{sum_by-set}
 use Rattle.vol_layout.specs.Slot.{name_of}
 use Rattle.vol_layout.specs.declared.geometry.Geometry.{Geometry}
 use Rattle.vol_layout.specs.declared.slot.Slot.{Slot}
-use Rattle.vol_dir.specs.Entries.{entry_at, IsDirectory, HasEntry}
+use Rattle.vol_dir.specs.Entries.{entry_at, IsDirectory}
 use Rattle.vol_dir.specs.Names.{is_dots}
 use Rattle.vol_judge.specs.Directories.{root_of, Enters, IsReached, at_root, below, IsTree}
 use Rattle.vol_judge.specs.InodeMarks.{is_marked, HasRoot, IsOnce}
-use Rattle.vol_judge.specs.Reaching.{MarksReached, Explores, ExploresBelow, unmarked, load}
+use Rattle.vol_judge.specs.Reaching.{MarksReached, Explores, ExploresBelow, load}
 use Rattle.vol_judge.specs.Stepping.{IsNextIn}
 use Rattle.vol_judge.proofs.Collecting.{same_entry, none_some}
 use Rattle.vol_judge.proofs.Once.{mark_kept, mark_here, mark_before}

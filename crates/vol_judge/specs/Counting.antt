@@ -1,5 +1,5 @@
 -- Counting the entries for each i-number, while the entries of a volume are gone over.
-use Rattle.std.specs.Prelude.{◌≡◌, ◌≢◌, ℕ, ◌+◌, ◌≤◌, ◌<◌, ◌&&◌, Bool, nat_lt, List, length, slice_index}
+use Rattle.std.specs.Prelude.{◌≡◌, ◌≢◌, ℕ, ◌+◌, ◌≤◌, ◌&&◌, Bool, nat_lt, List, length, slice_index}
 use Rattle.std.specs.List.{count_by, sum_by, range_with_len}
 use Rattle.vol_layout.specs.Inode.{inode_of}
 use Rattle.vol_file.specs.Rules.{kind_at}

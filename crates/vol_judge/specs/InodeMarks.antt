@@ -3,7 +3,7 @@ use Rattle.std.specs.Prelude.{◌≡◌, ℕ, ◌+◌, ◌<◌, ◌⊎◌, Bool,
 use Rattle.vol_dir.specs.Entries.{IsDirectory, HasEntry}
 use Rattle.vol_dir.specs.Names.{dot_dot}
 use Rattle.vol_layout.specs.declared.geometry.Geometry.{Geometry}
-use Rattle.vol_judge.specs.Directories.{root_of, Enters, IsReached}
+use Rattle.vol_judge.specs.Directories.{root_of, Enters}
 use Rattle.vol_judge.specs.Stepping.{rank}
 
 -- whether i-number i is marked

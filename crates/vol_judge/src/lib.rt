@@ -12,3 +12,6 @@ mod marking;
 mod reading;
 
 pub use judging::judge;
+
+#[cfg(test)]
+mod tests;

@@ -1,4 +1,4 @@
-use Rattle.std.proofs.Common.{◌≡◌, ◌<◌, ◌+◌, ◌∙◌, arith}
+use Rattle.std.proofs.Common.{◌<◌, ◌+◌, arith}
 use Rattle.vol_dir.specs.Entries.{IsDirectory}
 use Rattle.vol_judge.specs.Naming.{HasEntriesIn}
 use Rattle.vol_judge.proofs.Deciding.{refuted, shown, holds, fails}

@@ -1,6 +1,6 @@
-use Rattle.std.proofs.Common.{◌≡◌, ap, sym, ◌∙◌, arith}
+use Rattle.std.proofs.Common.{◌≡◌}
 use Rattle.vol_layout.specs.Slot.{name_of, padded_name}
-use Rattle.vol_judge.specs.Naming.{is_in, HasEntriesIn, IsEntry}
+use Rattle.vol_judge.specs.Naming.{is_in}
 use Rattle.vol_judge.proofs.Deciding.{refuted, shown, holds, fails, not_true, not_false}
 use Rattle.vol_judge.proofs.Collecting.{below_next, names_next, twice, all_below}
 use Rattle.vol_judge.proofs.entries.has_entries_in.Goals as goal

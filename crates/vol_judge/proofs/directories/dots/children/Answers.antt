@@ -1,9 +1,9 @@
-use Rattle.std.proofs.Common.{◌≡◌, ◌+◌, ◌<◌, true, None, get_or, sym, arith}
+use Rattle.std.proofs.Common.{◌≡◌, ◌+◌, true, None, get_or, sym, arith}
 use Rattle.vol_layout.specs.Slot.{name_of}
 use Rattle.vol_dir.specs.Names.{is_dots}
 use Rattle.vol_judge.specs.Stepping.{rank}
 use Rattle.vol_judge.proofs.Deciding.{same_option, other_option}
-use Rattle.vol_judge.proofs.Parents.{children_first, children_marked, children_passed, children_all}
+use Rattle.vol_judge.proofs.Parents.{children_marked, children_passed, children_all}
 use Rattle.vol_judge.proofs.directories.dots.children.Goals as goal
 use Rattle.vol_judge.proofs.directories.dots.children.Goals.{then-not-is_dots+then-eq, else-not-is_dots, else-not-is_dots-via-then-not-is_dots+else-eq, else-not-is_dots-via-else-not-is_dots}
 

@@ -1,6 +1,6 @@
-use Rattle.std.proofs.Common.{◌≡◌, ℕ, ◌+◌, ◌<◌, get_or, length, replicate, refl, sym, ap, ◌∙◌, arith, rules}
+use Rattle.std.proofs.Common.{◌≡◌, ◌<◌, get_or, length, refl, arith, rules}
 use Rattle.std.proofs.lemmas.Grind.{common_steps}
-use Rattle.std.proofs.lemmas.List.{get_or-replicate, get_or_read_under}
+use Rattle.std.proofs.lemmas.List.{get_or_read_under}
 use Rattle.vol_judge.proofs.Parents.{number_within}
 use Rattle.vol_judge.proofs.Counts.{last_low, counts_first, counts_next, counts_all}
 use Rattle.vol_judge.proofs.directories.links.counts.Goals as goal

@@ -1,4 +1,4 @@
-use Rattle.std.proofs.Common.{◌≡◌, ◌+◌, ◌<◌, ◌≤◌, length, arith}
+use Rattle.std.proofs.Common.{◌<◌, length, arith}
 use Rattle.vol_dir.specs.Entries.{HasEntry}
 use Rattle.vol_layout.specs.Slot.{name_of}
 use Rattle.vol_judge.proofs.Deciding.{holds, fails}

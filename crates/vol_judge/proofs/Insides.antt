@@ -8,10 +8,6 @@ use Rattle.vol_layout.specs.declared.geometry.Geometry.{Geometry}
 use Rattle.vol_layout.proofs.NameLaws.{entry_out, zero_out}
 use Rattle.vol_judge.specs.Marks.{IsInside, KnowsInside}
 
--- a number with levels below it is one more than one less
-pub one_less : (d : ℕ) → 1 ≤ d → d ≡ suc (d - 1)
-one_less d h = omega arith
-
 -- nothing is found below 0
 pub inside_zero : (geometry : Geometry) (image : List ℕ) (d : ℕ) → Fits geometry image → IsInside geometry image d 0
 unfolding IsInside

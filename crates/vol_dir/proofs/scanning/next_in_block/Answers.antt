@@ -2,8 +2,9 @@ use Rattle.std.proofs.Common.{◌≡◌, ◌∙◌, sym, ◌+◌, ◌*◌, ap, a
 use Rattle.vol_layout.specs.Geometry.{in_zone}
 use Rattle.vol_layout.specs.Names.{form_at, stored}
 use Rattle.vol_layout.specs.Slot.{slot_at}
+use Rattle.vol_layout.proofs.NameLaws.{zero_out}
 use Rattle.vol_dir.specs.Entries.{entry_in, entry_at}
-use Rattle.vol_dir.proofs.SlotReading.{entry_in_block, entry_in_hole, number_named, number_missing, zero_is_outside}
+use Rattle.vol_dir.proofs.SlotReading.{entry_in_block, entry_in_hole, number_named, number_missing}
 use Rattle.vol_dir.proofs.GoingOn.{goes_on_same}
 use Rattle.vol_dir.proofs.scanning.next_in_block.Goals as goal
 
@@ -32,5 +33,5 @@ returns-in_default-2 c =
     let geometry = c.args.geometry.now in
     let image = c.args.image.now in
     let at = stored geometry image c.args.dir (form_at geometry image c.args.dir) c.args.b in
-    let outside : in_zone geometry at ≡ false = ap (in_zone geometry) (number_missing at (sym c.in_default.ensures)) ∙ zero_is_outside geometry image c.requires.fits in
+    let outside : in_zone geometry at ≡ false = ap (in_zone geometry) (number_missing at (sym c.in_default.ensures)) ∙ zero_out geometry image c.requires.fits in
     λ t low h. entry_in_hole geometry image c.args.dir c.args.b t at (omega (arith, h, c.requires.few)) (omega (arith, h, c.requires.within)) refl outside

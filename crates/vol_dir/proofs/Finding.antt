@@ -11,7 +11,8 @@ use Rattle.vol_layout.specs.declared.geometry.Geometry.{Geometry}
 use Rattle.vol_dir.specs.declared.entries.Sought.TheVariants.{Empty, Other}
 use Rattle.vol_dir.specs.Entries.{slot_count, entry_at, slots}
 use Rattle.vol_dir.specs.Names.{get, names_of, names_in}
-use Rattle.vol_dir.specs.Searching.{holds, holds_other, is_dots, Searches, new_slot, IsNumberOf}
+use Rattle.vol_dir.specs.Names.{is_dots}
+use Rattle.vol_dir.specs.Searching.{holds, holds_other, Searches, new_slot, IsNumberOf}
 use Rattle.vol_dir.proofs.NameMaps.{get_first, get_none, any_other}
 use Rattle.vol_dir.proofs.SlotReading.{length-slots, get_or-slots}
 

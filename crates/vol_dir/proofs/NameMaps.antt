@@ -15,7 +15,8 @@ use Rattle.std.proofs.lemmas.Map.Text.{is_eq-slice_cmp}
 use Rattle.std.proofs.lemmas.Slice.Eq.{bytes_eq-Decides}
 use Rattle.vol_dir.specs.Editing.{with_item}
 use Rattle.vol_dir.specs.Names.{Names, get, insert, remove, names_of, names_in}
-use Rattle.vol_dir.specs.Searching.{is_dots, holds, holds_other, emptied}
+use Rattle.vol_dir.specs.Names.{is_dots}
+use Rattle.vol_dir.specs.Searching.{holds, holds_other, emptied}
 
 -- a name that is put in a map is found there, and every other name as before
 get_insert : (names : Names) (name q : List ℕ) (i : ℕ) → get (insert names name i) q ≡ cond (bytes_eq q name) (Some i) (get names q)

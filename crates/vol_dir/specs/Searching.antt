@@ -1,14 +1,11 @@
 -- Searching the slots of a directory.
-use Rattle.std.specs.Prelude.{◌≡◌, ℕ, ◌<◌, ◌||◌, Bool, true, false, not, if◌then◌else◌, List, [], ◌∷◌, Option, None, Some, MatchOption}
+use Rattle.std.specs.Prelude.{◌≡◌, ℕ, ◌<◌, Bool, true, false, not, if◌then◌else◌, List, Option, None, Some, MatchOption}
 use Rattle.std.specs.List.{position_or_len}
 use Rattle.std.specs.Option.{is_none, option_map_or}
 use Rattle.std.specs.Str.{bytes_eq}
+use Rattle.vol_dir.specs.Names.{is_dots}
 use Rattle.vol_dir.specs.declared.entries.Sought.{Sought}
 use Rattle.vol_dir.specs.declared.entries.Sought.TheVariants.{Named, Empty, Other}
-
--- whether a name is `.` or `..` (manual section 5, directories)
-abbrev pub is_dots : List ℕ → Bool
-is_dots name = bytes_eq name (46 ∷ []) || bytes_eq name (46 ∷ 46 ∷ [])
 
 -- whether a slot holds an entry with this name (manual section 5, directories)
 abbrev pub holds : List ℕ → Option (List ℕ × ℕ) → Bool

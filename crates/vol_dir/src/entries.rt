@@ -5,7 +5,8 @@ ghost use Rattle.vol_layout.specs.Geometry.{Fits};
 ghost use Rattle.vol_layout.specs.Slot.{slot_at};
 ghost use Rattle.vol_dir.specs.Entries.{entry_in, slot_count, entry_at, slots};
 ghost use Rattle.vol_dir.specs.Names.{get, names_of, names_in};
-ghost use Rattle.vol_dir.specs.Searching.{is_dots, is_sought, Searches, new_slot, IsNumberOf};
+ghost use Rattle.vol_dir.specs.Names.{is_dots};
+ghost use Rattle.vol_dir.specs.Searching.{is_sought, Searches, new_slot, IsNumberOf};
 
 use pdp_words::{BLOCK, Image};
 use vol_file::{block_at, read};

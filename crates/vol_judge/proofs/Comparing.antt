@@ -1,12 +1,12 @@
 -- What the marks of the blocks that files name and of the free ones say together.
-use Rattle.std.proofs.Common.{◌≡◌, ◌≢◌, ℕ, ◌<◌, ◌≤◌, inl, inr, Bool, true, false, List, get_or, length, sym, refl, ◌∙◌, arith}
+use Rattle.std.proofs.Common.{◌≡◌, ◌≢◌, ℕ, ◌<◌, ◌≤◌, inl, inr, Bool, true, false, List, get_or, length, refl, arith}
 use Rattle.std.proofs.lemmas.Bool.{cases_eq}
 use Rattle.std.proofs.lemmas.Bool.Decides.{nat_tests}
 use Rattle.vol_layout.specs.Geometry.{in_zone, Fits}
-use Rattle.vol_layout.specs.Names.{named, Names}
+use Rattle.vol_layout.specs.Names.{named}
 use Rattle.vol_layout.specs.declared.geometry.Geometry.{Geometry}
 use Rattle.vol_layout.proofs.NameLaws.{holds_named, named_holds, zone_some}
-use Rattle.vol_free.specs.Stack.{IsIn, IsFree}
+use Rattle.vol_free.specs.Stack.{IsFree}
 use Rattle.vol_free.proofs.Stacks.{IsFree_unique, zone_from, zone_below, zone_behind}
 use Rattle.vol_free.proofs.Frames.{free_zone}
 use Rattle.vol_file.specs.Rules.{IsZoned}

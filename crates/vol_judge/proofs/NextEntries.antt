@@ -1,6 +1,6 @@
 -- Laws of the next entry of a directory.
 use Rattle.std.specs.Prelude.{Option, MatchOption}
-use Rattle.std.proofs.Common.{◌≡◌, ◌≢◌, ℕ, ◌≤◌, ◌==◌, ◌∙◌, List, None, Some, inl, inr, false, if◌then◌else◌, arith}
+use Rattle.std.proofs.Common.{◌≡◌, ◌≢◌, ℕ, ◌≤◌, ◌==◌, ◌∙◌, List, None, Some, inl, inr, false, arith}
 use Rattle.std.proofs.lemmas.Bool.{cases_lt}
 use Rattle.std.proofs.lemmas.Bool.Decides.{nat_tests}
 use Rattle.vol_layout.specs.Slot.{name_of}

@@ -1,15 +1,14 @@
 -- Rules by their numbers.
-use Rattle.std.proofs.Common.{◌≡◌, ℕ, zero, suc, ◌+◌, ◌<◌, ◌⊎◌, inl, inr, Bool, true, false, List, [], ◌∷◌, ◌++◌, length, Option, None, Some, Result, Ok, Err, refl, sym, ap, ◌∙◌, arith}
+use Rattle.std.proofs.Common.{◌≡◌, ℕ, zero, suc, ◌+◌, ◌<◌, ◌⊎◌, inl, inr, Bool, true, false, List, [], ◌∷◌, Option, None, Some, Result, Ok, Err, refl, ap, ◌∙◌, arith}
 use Rattle.std.proofs.Common.{IfOk, if◌then◌else◌}
 use Rattle.std.specs.declared.alloc.AllocError.{AllocError}
 use Rattle.vol_layout.specs.Geometry.{geometry_of, geometry_read, is_whole, is_bounded}
 use Rattle.vol_layout.specs.declared.edition.Edition.{Edition}
 use Rattle.vol_layout.specs.declared.geometry.Geometry.{Geometry}
-use Rattle.vol_layout.specs.declared.geometry.GeometryFault.{GeometryFault}
 use Rattle.vol_layout.specs.declared.geometry.GeometryFault.TheVariants.{Short, Bounds}
 use Rattle.vol_file.specs.Rules.{IsZoned}
 use Rattle.vol_judge.specs.Judging.{IsFirstBroken, free_rules, block_rules, volume_rules}
-use Rattle.vol_judge.specs.Sound.{nth_fact, rules, Rule, IsJudged, IsLeastBroken, KeepsRules}
+use Rattle.vol_judge.specs.Sound.{nth_fact, rules, Rule, IsJudged}
 
 -- where a fact holds, and each of some others, each of them all holds
 each_fact : (fact : Type 0) (facts : List (Type 0)) → fact → ((m : ℕ) → nth_fact facts m) → (m : ℕ) → nth_fact (fact ∷ facts) m

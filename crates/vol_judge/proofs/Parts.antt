@@ -1,5 +1,5 @@
 -- What an image is that keeps all rules, and what makes an image keep them all.
-use Rattle.std.proofs.Common.{◌≡◌, ℕ, ◌*◌, ◌≤◌, inr, true, List, Option, None, refl, arith}
+use Rattle.std.proofs.Common.{◌≡◌, ℕ, ◌≤◌, inr, true, List, None, refl, arith}
 use Rattle.std.proofs.lemmas.Bool.Decides.{nat_tests}
 use Rattle.vol_layout.specs.Edition.{constants}
 use Rattle.vol_layout.specs.Geometry.{Fits, block_count, geometry_of, is_whole, is_bounded}
@@ -7,7 +7,7 @@ use Rattle.vol_layout.specs.declared.edition.Edition.{Edition}
 use Rattle.vol_layout.specs.declared.edition.Edition.TheVariants.{V6, V7}
 use Rattle.vol_free.specs.Stack.{IsFree, HasStack}
 use Rattle.vol_free.proofs.Stacks.{IsFree_unique, zone_behind}
-use Rattle.vol_file.specs.Rules.{IsOutside, IsCovered, IsSoundWith, HasSoundFiles}
+use Rattle.vol_file.specs.Rules.{IsCovered, IsSoundWith, HasSoundFiles}
 use Rattle.vol_dir.specs.Entries.{HasEntries}
 use Rattle.vol_judge.specs.Directories.{HasDots, IsTree, HasLinks}
 use Rattle.vol_judge.specs.Sound.{Rule, IsSound}

@@ -1,6 +1,8 @@
 pub mod Counting
 pub mod Directories
 pub mod FreeWalk
+pub mod Graph
+pub mod GraphEdits
 pub mod InodeMarks
 pub mod Judging
 pub mod Limits

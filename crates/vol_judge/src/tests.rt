@@ -1,16 +1,9 @@
 // Volumes by hand that keep the rules on directories, or break one of them.
-ghost use Rattle.std.specs.Prelude.{◌≡◌, ℕ, ◌≤◌, ◌≢◌, IsTrue};
-ghost use Rattle.vol_layout.specs.Geometry.{Fits};
-ghost use Rattle.vol_layout.specs.declared.mode.Kind.TheVariants as kinds;
-ghost use Rattle.vol_file.specs.Rules.{HasKinds, kind_at};
-
-use crate::judge_directories;
+use crate::judge;
 use pdp_words::Image;
 use std::alloc::{AllocError, Global};
-use std::process::Abort;
 use std::test::Fail;
-use vol_layout::i_list::mode;
-use vol_layout::{Edition, Geometry, Kind};
+use vol_layout::Edition;
 
 /// Bytes that stand at a place.
 type Piece = (usize, &'static [u8]);
@@ -40,41 +33,12 @@ fn put_pieces(bytes: &mut [u8], pieces: &[Piece]) {
     }
 }
 
-/// Whether no i-node of a volume is odd.
-fn has_known_kinds(image: &Image, geometry: &Geometry) -> bool
-    requires { Fits geometry.now image.now }
-    ensures { IsTrue result → (i : ℕ) → 1 ≤ i → i ≤ geometry.now.last_inode → kind_at geometry.now image.now i ≢ kinds.Odd }
-{
-    for i in 1..=geometry.last_inode {
-        if mode(image, geometry, i).kind(geometry.edition) == Kind::Odd {
-            return false;
-        }
-    }
-    true
-}
-
-/// Whether rule 3 holds of a sixth edition volume.
-fn has_kinds(image: &Image, geometry: &Geometry) -> bool
-    requires { Fits geometry.now image.now }
-    ensures { IsTrue result → HasKinds geometry.now image.now }
-{
-    geometry.edition == Edition::V6
-        && has_known_kinds(image, geometry)
-        && mode(image, geometry, 1).kind(geometry.edition) == Kind::Directory
-}
-
-/// What is answered of the volume once bytes are changed; 3 where rule 3 or one before it fails.
+/// What is answered of the volume once bytes are changed, where the free list isn't asked.
 fn judged(alloc: Global, change: &[Piece]) -> Result<Option<u8>, AllocError> {
     let mut bytes = vec![in alloc; 0; 10_240]?;
     put_pieces(&mut bytes, &VOLUME);
     put_pieces(&mut bytes, change);
-    let image = Image::from_bytes(bytes);
-    match Geometry::read(Edition::V6, &image) {
-        Ok(geometry) if has_kinds(&image, &geometry) => {
-            judge_directories(alloc, &image, &geometry)
-        }
-        _ => Ok(Some(3)),
-    }
+    judge(alloc, Edition::V6, &Image::from_bytes(bytes), false)
 }
 
 #[test]

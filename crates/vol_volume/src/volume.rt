@@ -149,4 +149,6 @@ fn sound_geometry(edition: Edition, image: &Image) -> Geometry
 }
 
 #[cfg(test)]
+mod rules_tests;
+#[cfg(test)]
 mod tests;

@@ -40,18 +40,10 @@ fn each_rule_is_asked_of_the_sixth_edition(rt: HostRuntime) -> Result<(), Fail> 
 
 #[test]
 fn the_free_list_is_not_always_asked(rt: HostRuntime) -> Result<(), Fail> {
-    for (at, value) in [(516, 101), (522, 3), (516, 2)] {
-        let mut image = sixth(rt.alloc())?;
-        image.put_word(at, value);
-        assert_eq!(rt;
-            judge(rt.alloc(), Edition::V6, &image, false)?,
-            None,
-            "at {at}"
-        );
-    }
-    let mut image = sixth(rt.alloc())?;
-    image.put_word(1034, 3);
-    assert_eq!(rt; judge(rt.alloc(), Edition::V6, &image, false)?, Some(7));
+    check_unasked(&rt, rt.alloc(), 516, 101, None)?;
+    check_unasked(&rt, rt.alloc(), 522, 3, None)?;
+    check_unasked(&rt, rt.alloc(), 516, 2, None)?;
+    check_unasked(&rt, rt.alloc(), 1034, 3, Some(7))?;
     Ok(())
 }
 
@@ -122,6 +114,26 @@ fn check_sixth<A: Abort>(
     image.put_word(at, value);
     assert_eq!(rt;
         judge(alloc, Edition::V6, &image, true)?,
+        least,
+        "word {at}"
+    );
+    Ok(())
+}
+
+// The same, and the free list isn't asked.
+fn check_unasked<A: Abort>(
+    rt: &A,
+    alloc: Global,
+    at: usize,
+    value: u16,
+    least: Option<u8>,
+) -> Result<(), AllocError>
+    requires { at + 2 ≤ 3072 }
+{
+    let mut image = sixth(alloc)?;
+    image.put_word(at, value);
+    assert_eq!(rt;
+        judge(alloc, Edition::V6, &image, false)?,
         least,
         "word {at}"
     );

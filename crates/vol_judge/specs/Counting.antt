@@ -27,7 +27,7 @@ unfoldable pub count_before : Geometry → List ℕ → ℕ → ℕ → ℕ
 count_before geometry image place i =
     sum_by (λ d. count_before_in geometry image place i d (kind_at geometry image d)) (range_with_len 1 geometry.last_inode)
 
--- the entries before a place are counted; there are no more of them than slots
+-- the entries before a place are counted; there are no more of them than slots (this project)
 pub record CountsBefore (geometry : Geometry) (image : List ℕ) (place : ℕ) (counts : List ℕ) : Type 0 where
   pub room : length counts ≡ geometry.last_inode + 1
   pub few : (i : ℕ) → slice_index counts i ≤ place

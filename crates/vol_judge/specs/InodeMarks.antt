@@ -6,11 +6,11 @@ use Rattle.vol_layout.specs.declared.geometry.Geometry.{Geometry}
 use Rattle.vol_judge.specs.Directories.{root_of, Enters}
 use Rattle.vol_judge.specs.Stepping.{rank}
 
--- whether i-number i is marked
+-- whether i-number i is marked (this project)
 abbrev pub is_marked : List Bool → ℕ → Bool
 is_marked marks i = slice_index_or marks i false
 
--- of the i-numbers from 0 to the last the root's alone is marked
+-- of the i-numbers from 0 to the last the root's alone is marked (this project)
 pub record HasRoot (geometry : Geometry) (marks : List Bool) : Type 0 where
   pub room : length marks ≡ geometry.last_inode + 1
   pub root : is_marked marks (root_of geometry) ≡ true
@@ -38,21 +38,21 @@ pub record IsChild (geometry : Geometry) (image : List ℕ) (ups : List (Option 
   pub enters : Enters geometry image directory slot i
   pub up : slice_index_or ups i None ≡ Some directory
 
--- the root is marked, and what has an entry before a place in the directory that it names by `..`
+-- the root is marked, and what has an entry before a place in the directory that it names by `..` (rule 10)
 pub record MarksChildren (geometry : Geometry) (image : List ℕ) (ups : List (Option ℕ)) (place : ℕ) (marks : List Bool) : Type 0 where
   pub room : length marks ≡ geometry.last_inode + 1
   pub root : is_marked marks (root_of geometry) ≡ true
   pub all : (e t i : ℕ) → Enters geometry image e t i → rank e t < place → slice_index_or ups i None ≡ Some e → is_marked marks i ≡ true
   pub only : (i : ℕ) → is_marked marks i ≡ true → (i ≡ root_of geometry) ⊎ IsChild geometry image ups i
 
--- an entry for i-number i, other than `.` and `..`, stands before a place
+-- an entry for i-number i, other than `.` and `..`, stands before a place (this project)
 pub record IsEnteredBefore (geometry : Geometry) (image : List ℕ) (place i : ℕ) : Type 0 where
   pub directory : ℕ
   pub slot : ℕ
   pub enters : Enters geometry image directory slot i
   pub before : rank directory slot < place
 
--- the root is marked, and the directories that have an entry before a place other than `.` and `..`; each has one there, and the root none
+-- the root is marked, and the directories that have an entry before a place other than `.` and `..`; each has one there, and the root none (rule 11)
 pub record MarksOnce (geometry : Geometry) (image : List ℕ) (place : ℕ) (marks : List Bool) : Type 0 where
   pub room : length marks ≡ geometry.last_inode + 1
   pub root : is_marked marks (root_of geometry) ≡ true
@@ -62,7 +62,7 @@ pub record MarksOnce (geometry : Geometry) (image : List ℕ) (place : ℕ) (mar
       → rank e s < place → rank f t < place → (e ≡ f) × (s ≡ t)
   pub root_none : (e s : ℕ) → Enters geometry image e s (root_of geometry) → rank e s < place → ⊥
 
--- each directory has at most one entry other than `.` and `..`, and the root none
+-- each directory has at most one entry other than `.` and `..`, and the root none (rule 11)
 pub record IsOnce (geometry : Geometry) (image : List ℕ) : Type 0 where
   pub one : (d e s f t : ℕ) → IsDirectory geometry image d → Enters geometry image e s d → Enters geometry image f t d → (e ≡ f) × (s ≡ t)
   pub root_none : (e s : ℕ) → Enters geometry image e s (root_of geometry) → ⊥

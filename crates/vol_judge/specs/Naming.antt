@@ -19,31 +19,31 @@ pub record IsEntry (geometry : Geometry) (image name : List ℕ) (i : ℕ) : Typ
   pub last : i ≤ geometry.last_inode
   pub allocated : kind_at geometry image i ≢ kinds.Free
 
--- rule 9 holds of the slots of directory d below slot n
+-- rule 9 holds of the slots of directory d below slot n (this project)
 pub record HasEntriesBelow (geometry : Geometry) (image : List ℕ) (d n : ℕ) : Type 0 where
   pub entries : (t i : ℕ) (name : List ℕ) → t < n → entry_at geometry image d t ≡ Some (name, i) → IsEntry geometry image name i
   pub once : (s t i j : ℕ) (name : List ℕ) → s < n → t < n → entry_at geometry image d s ≡ Some (name, i)
       → entry_at geometry image d t ≡ Some (name, j) → s ≡ t
 
--- rule 9 holds of directory d
+-- rule 9 holds of directory d (this project)
 pub record HasEntriesIn (geometry : Geometry) (image : List ℕ) (d : ℕ) : Type 0 where
   pub whole : size_of geometry image d % 16 ≡ 0
   pub entries : (t i : ℕ) (name : List ℕ) → entry_at geometry image d t ≡ Some (name, i) → IsEntry geometry image name i
   pub once : (s t i j : ℕ) (name : List ℕ) → entry_at geometry image d s ≡ Some (name, i)
       → entry_at geometry image d t ≡ Some (name, j) → s ≡ t
 
--- directory d has an entry with this name below slot n
+-- directory d has an entry with this name below slot n (manual section 5, directories)
 pub record IsNamedBelow (geometry : Geometry) (image : List ℕ) (d n : ℕ) (name : List ℕ) : Type 0 where
   pub slot : ℕ
   pub inode : ℕ
   pub below : slot < n
   pub entry : entry_at geometry image d slot ≡ Some (name, inode)
 
--- whether a set of names, as slots store them, has a name
+-- whether a set of names, as slots store them, has a name (this project)
 abbrev pub is_in : BTreeSet (List ℕ) → List ℕ → Bool
 is_in names name = contains (slice_cmp nat_cmp) names name
 
--- the names, as slots store them, are those of the entries of directory d below slot n
+-- the names, as slots store them, are those of the entries of directory d below slot n (this project)
 pub record HoldsNames (geometry : Geometry) (image : List ℕ) (d n : ℕ) (names : BTreeSet (List ℕ)) : Type 0 where
   pub all : (t i : ℕ) (name : List ℕ) → t < n → entry_at geometry image d t ≡ Some (name, i) → is_in names (padded_name name) ≡ true
   pub only : (name : List ℕ) → is_in names name ≡ true → IsNamedBelow geometry image d n (name_of name)

@@ -13,7 +13,7 @@ pub record MarksReached (geometry : Geometry) (image : List ℕ) (marks : List B
   pub reached : (i : ℕ) → is_marked marks i ≡ true → IsReached geometry image i
   pub closed : (e t i : ℕ) → is_marked marks e ≡ true → Enters geometry image e t i → IsDirectory geometry image i → is_marked marks i ≡ true
 
--- the same, but for what the directories yet to be entered enter
+-- the same, but for what the directories yet to be entered enter (this project)
 pub record Explores (geometry : Geometry) (image : List ℕ) (marks : List Bool) (work : List ℕ) : Type 0 where
   pub room : length marks ≡ geometry.last_inode + 1
   pub root : is_marked marks (root_of geometry) ≡ true
@@ -22,7 +22,7 @@ pub record Explores (geometry : Geometry) (image : List ℕ) (marks : List Bool)
   pub closed : (e t i : ℕ) → is_marked marks e ≡ true → Enters geometry image e t i → IsDirectory geometry image i
       → (is_marked marks i ≡ true) ⊎ Contains work e
 
--- the same, while directory d is entered, from one slot on
+-- the same, while directory d is entered, from one slot on (this project)
 pub record ExploresBelow (geometry : Geometry) (image : List ℕ) (d from : ℕ) (marks : List Bool) (work : List ℕ) : Type 0 where
   pub room : length marks ≡ geometry.last_inode + 1
   pub root : is_marked marks (root_of geometry) ≡ true
@@ -32,10 +32,10 @@ pub record ExploresBelow (geometry : Geometry) (image : List ℕ) (d from : ℕ)
   pub closed : (e t i : ℕ) → is_marked marks e ≡ true → Enters geometry image e t i → IsDirectory geometry image i
       → (is_marked marks i ≡ true) ⊎ (Contains work e ⊎ ((e ≡ d) × (from ≤ t)))
 
--- how many i-numbers aren't marked
+-- how many i-numbers aren't marked (this project)
 abbrev pub unmarked : List Bool → ℕ
 unmarked marks = sum_by (λ mark. if mark then 0 else 1) marks
 
--- the work that is left at most: each i-number yet to be marked, and then entered
+-- the work that is left at most: each i-number yet to be marked, and then entered (this project)
 abbrev pub load : List Bool → List ℕ → ℕ
 load marks work = 2 * unmarked marks + length work

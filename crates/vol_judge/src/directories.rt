@@ -16,7 +16,12 @@ use std::alloc::{AllocError, Global};
 use tree::is_tree;
 use vol_layout::Geometry;
 
-/// The least of rules 9 to 12 that a volume breaks on which the rules before hold.
+/// The least of rules 9 to 12 that a volume breaks, on which rules 1 to 3 hold; None where it breaks none
+/// of them. It fails only where memory is refused.
+///
+/// Costs some looks at each i-node and at each slot of each directory, and for each directory as much as
+/// sorting its names. Memory is taken for a few bytes an i-number, and for the names of one directory at
+/// a time.
 pub fn judge_directories(
     alloc: Global,
     image: &Image,

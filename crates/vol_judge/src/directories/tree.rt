@@ -17,7 +17,8 @@ use vol_layout::Geometry;
 
 /// Whether rule 11 holds of a volume on which rules 3 and 9 hold.
 ///
-/// Costs two looks at each slot of each directory. Memory is taken for four bytes an i-number at most.
+/// Costs two looks at each slot of each directory. Memory is taken for a mark an i-number, and for the
+/// directories that are found and not yet entered.
 pub(crate) fn is_tree(alloc: Global, image: &Image, geometry: &Geometry) -> Result<bool, AllocError>
     requires fits { Fits geometry.now image.now }
     requires kinds { HasKinds geometry.now image.now }

@@ -26,8 +26,9 @@ const PIECE: usize = 64 * 1024;
 /// so far.
 ///
 /// Takes memory for the image alone. Its vector doubles as it grows, so that it has room for at most
-/// twice the image's bytes; where the allocator has to move it for that, the vector that it grew out
-/// of, half as long, stands beside it meanwhile. A piece of 64 KiB is on the stack.
+/// twice the image's bytes, of which those that were read are resident; where the allocator has to move
+/// it for that, the vector that it grew out of stands beside it meanwhile, so that at most twice the
+/// image is resident. A piece of 64 KiB is on the stack.
 pub fn load<S: Source>(alloc: Global, source: &mut S) -> Result<Image, LoadFault>
     requires { S.failed source.old ≡ false }
     ensures ok { IfOk result (λ image. IsReadWhole (S.remaining source.old) (S.remaining source.new) image) }

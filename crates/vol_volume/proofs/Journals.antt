@@ -1,7 +1,8 @@
 -- Journals in parts, and what an accepted call keeps.
 use Rattle.std.proofs.Common.{◌≡◌, ◌↔◌, ℕ, List, [], ◌∷◌, ◌++◌, refl, ap, sym, ◌∙◌, subst, Result, Ok, Err}
 use Rattle.vol_dir.specs.Tree.{State}
-use Rattle.vol_volume.specs.Step.{step, on_node, after_write}
+use Rattle.vol_node.specs.Edits.{after_write}
+use Rattle.vol_volume.specs.Step.{step, on_node}
 use Rattle.vol_volume.specs.Journal.{after, MayFollow, IsLegal}
 use Rattle.vol_volume.specs.Volume.{Mounted, reads_as, IsConsistent, Performs, Accepts}
 use Rattle.vol_dir.specs.declared.refusal.Refusal.{Refusal}

@@ -1,8 +1,16 @@
+mod AnsweredQueries
 pub mod Journals
+mod ListedNames
 pub mod NewDirectories
 pub mod NewFiles
 pub mod NewRules
 pub mod NewSizes
 pub mod NewVolumes
+pub mod FoundNames
+pub mod FreeNumbers
+pub mod NeedReadings
+pub mod NodeReadings
+mod QueriedNodes
 mod Refusals
 mod SoundSizes
+pub mod StandingImages

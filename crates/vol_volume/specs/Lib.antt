@@ -1,9 +1,10 @@
 pub mod Answer
+pub mod Answering
 pub mod Faults
 pub mod Journal
 pub mod Laws
 pub mod Mkfs
-pub mod Shapes
+pub mod Standing
 pub mod Step
 pub mod Verdict
 pub mod Volume

@@ -8,6 +8,7 @@ use Rattle.vol_layout.specs.Inode.{inode_place, inode_of}
 use Rattle.vol_layout.specs.Super.{free_head, time_place}
 use Rattle.vol_layout.specs.Slot.{padded_name, slot_at}
 use Rattle.vol_free.specs.Stack.{IsFree}
+use Rattle.vol_node.specs.Edits.{first_change}
 use Rattle.vol_layout.specs.declared.edition.Edition.{Edition}
 use Rattle.vol_layout.specs.declared.edition.Edition.TheVariants.{V6, V7}
 use Rattle.vol_layout.specs.declared.geometry.Geometry.{Geometry}
@@ -37,11 +38,6 @@ volume_of edition blocks list_blocks = record {
 abbrev pub root_mode : Edition → ℕ
 root_mode V6 = 0xC1FF
 root_mode V7 = 0x41FF
-
--- the time of the last change of an i-node, which the sixth edition lacks (ino.h)
-abbrev pub first_change : Edition → ℕ → Option ℕ
-first_change V6 now = None
-first_change V7 now = Some now
 
 -- the root's i-node: a directory with two links and two slots, whose body is in one block (mkfs)
 abbrev pub root_inode : Edition → ℕ → ℕ → ℕ → ℕ → Inode

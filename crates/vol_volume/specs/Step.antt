@@ -5,9 +5,9 @@ use Rattle.vol_file.specs.Shape.{touched}
 use Rattle.vol_dir.specs.Names.{Names, insert, remove, dot, dot_dot}
 use Rattle.vol_dir.specs.Tree.{Content, Body, Directory, Device, Node, Tree, Shape, State, no_shape}
 use Rattle.vol_dir.specs.Walk.{walk, walk_parent}
-use Rattle.vol_volume.specs.Mkfs.{first_change}
-use Rattle.vol_volume.specs.Shapes.{stored_shape, shape_with_entry, shape_without_entry, new_directory_shape}
-use Rattle.vol_volume.specs.Verdict.{node_at, entry_of, size_with_entry}
+use Rattle.vol_node.specs.Nodes.{node_at, entry_of, size_with_entry}
+use Rattle.vol_node.specs.Edits.{put_node, put_shape, remove_node, at_time, new_node, add_entry, remove_entry, add_link, drop_link, release, new_directory, after_write, after_truncate}
+use Rattle.vol_node.specs.Shapes.{new_directory_shape}
 use Rattle.vol_layout.specs.declared.edition.Edition.{Edition}
 use Rattle.vol_dir.specs.declared.cred.Cred.{Cred}
 use Rattle.vol_dir.specs.declared.refusal.Refusal.{Refusal}
@@ -16,107 +16,12 @@ use Rattle.vol_volume.specs.declared.calls.Call.TheVariants.{Create, Mkdir, Link
 use Rattle.vol_volume.specs.declared.calls.Done.{Done}
 use Rattle.vol_volume.specs.declared.calls.Done.TheVariants.{Made, Wrote, Plain}
 
--- values by i-number, with another one at i
-abbrev pub set_at : {X : Type 0} → (ℕ → X) → ℕ → X → ℕ → X
-set_at values i value j = if j == i then value else values j
-
--- the state with another node at i, or with none
-abbrev pub put_node : ℕ → Option Node → State → State
-put_node i node state = record state { tree = record state.tree { nodes = set_at state.tree.nodes i node } }
-
--- the state with node i changed
-abbrev pub change_node : ℕ → (Node → Node) → State → State
-change_node i change state = put_node i (option_map change (state.tree.nodes i)) state
-
--- the state with another shape at i
-abbrev pub put_shape : ℕ → Shape → State → State
-put_shape i shape state = record state { shapes = set_at state.shapes i shape }
-
--- the state without node i and without its places (Lions on iput)
-abbrev pub remove_node : ℕ → State → State
-remove_node i state = put_shape i no_shape (put_node i None state)
-
--- the state with the super-block's time set to that of the call (filsys.h)
-abbrev pub at_time : ℕ → State → State
-at_time now state = record state { tree = record state.tree { time = now } }
-
--- a node whose i-node was changed: the seventh edition keeps the time of that (ino.h)
-abbrev pub stamped : ℕ → Node → Node
-stamped now node = record node { changed = option_map (λ _. now) node.changed }
-
--- a node whose bytes or entries were changed too (manual section 5, file system)
-abbrev pub modified : ℕ → Node → Node
-modified now node = record (stamped now node) { modified = now }
-
--- a new node of the caller, with all its times those of the call (Lions on maknode)
-abbrev pub new_node : Edition → Cred → ℕ → ℕ → Content → ℕ → ℕ → Node
-new_node edition cred now perm content links size = record {
-  content = content;
-  permissions = perm % 4096;
-  links = links;
-  uid = cred.uid;
-  gid = cred.gid;
-  size = size;
-  accessed = now;
-  modified = now;
-  changed = first_change edition now;
-}
-
--- what a directory holds, with its map changed (manual section 5, directories)
-abbrev pub change_names : (Names → Names) → Content → Content
-change_names change (Directory names) = Directory (change names)
-change_names change (Body bytes) = Body bytes
-change_names change (Device type addresses) = Device type addresses
-
--- directory d gets an entry, a name for i: the map, the size, the slot, and the block of the slot where it is missing (Lions on wdir)
-abbrev pub add_entry : ℕ → ℕ → List ℕ → ℕ → State → State
-add_entry now d name i state =
-    put_shape d (shape_with_entry state.tree.geometry.edition (state.shapes d) name)
-    (change_node d (λ node. record (modified now node) {
-      content = change_names (λ names. insert names name i) node.content;
-      size = size_with_entry state d;
-    }) state)
-
--- an entry of directory d goes, and its slot becomes empty; the size stays (Lions on unlink)
-abbrev pub remove_entry : ℕ → ℕ → List ℕ → State → State
-remove_entry now d name state =
-    put_shape d (shape_without_entry (state.shapes d) name)
-    (change_node d (λ node. record (modified now node) {
-      content = change_names (λ names. remove names name) node.content;
-    }) state)
-
--- node i gets one link more (Lions on link)
-abbrev pub add_link : ℕ → ℕ → State → State
-add_link now i state = change_node i (λ node. record (stamped now node) { links = node.links + 1 }) state
-
--- node i gets one link less (Lions on unlink)
-abbrev pub drop_link : ℕ → ℕ → State → State
-drop_link now i state = change_node i (λ node. record (stamped now node) { links = node.links - 1 }) state
-
--- node i gets one link less, and with the last one it goes (Lions on iput)
-abbrev pub release : ℕ → ℕ → State → State
-release now i state = if nat_le (node_at state.tree i).links 1 then remove_node i state else drop_link now i state
-
--- bytes with others written over them from an offset on, and zeros between (Lions on writei)
-unfoldable pub written : List ℕ → ℕ → List ℕ → List ℕ
-written old offset bytes = take offset (old ++ replicate (offset - length old) 0) ++ bytes ++ drop (offset + length bytes) old
-
--- the bytes of a regular file; what is none has none (manual section 5, file system)
-abbrev pub body_of : Content → List ℕ
-body_of (Body bytes) = bytes
-body_of (Directory names) = []
-body_of (Device type addresses) = []
-
 -- a regular file without bytes, of number `made`, with a name in d (Lions on maknode)
 abbrev pub after_create : State → Cred → ℕ → ℕ → ℕ → ℕ → List ℕ → State
 after_create state cred now perm made d name =
     add_entry now d name made
     (put_shape made no_shape
     (put_node made (Some (new_node state.tree.geometry.edition cred now perm (Body []) 1 0)) state))
-
--- what a new directory holds: `.` for itself and `..` for its parent (mkdir)
-abbrev pub new_directory : ℕ → ℕ → Content
-new_directory made d = Directory (insert (insert [] dot made) dot_dot d)
 
 -- a directory of number `made`, with a name in d, to which its `..` is a link more (mkdir)
 abbrev pub after_mkdir : State → Cred → ℕ → ℕ → ℕ → ℕ → List ℕ → State
@@ -137,21 +42,6 @@ after_unlink state now d name = release now (entry_of state.tree d name) (remove
 abbrev pub after_rmdir : State → ℕ → ℕ → List ℕ → State
 after_rmdir state now d name =
     remove_node (entry_of state.tree d name) (drop_link now d (remove_entry now d name state))
-
--- bytes are written into file i from an offset on; no bytes change nothing (Lions on writei)
-abbrev pub after_write : State → ℕ → ℕ → List ℕ → ℕ → State
-after_write state now offset [] i = state
-after_write state now offset (byte ∷ bytes) i =
-    put_shape i (stored_shape state.tree.geometry.edition (state.shapes i) (touched offset (length (byte ∷ bytes))))
-    (change_node i (λ node. record (modified now node) {
-      content = Body (written (body_of node.content) offset (byte ∷ bytes));
-      size = max node.size (offset + length (byte ∷ bytes));
-    }) state)
-
--- file i loses its bytes and all its places (Lions on itrunc)
-abbrev pub after_truncate : State → ℕ → ℕ → State
-after_truncate state now i =
-    put_shape i no_shape (change_node i (λ node. record (modified now node) { content = Body []; size = 0 }) state)
 
 -- the state changed at the node that a walk leads to; where it leads nowhere, the state as it is
 abbrev pub on_node : State → Result ℕ Refusal → (ℕ → State) → State

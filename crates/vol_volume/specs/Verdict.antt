@@ -9,7 +9,8 @@ use Rattle.vol_dir.specs.Names.{Names, get, is_dots}
 use Rattle.vol_dir.specs.Tree.{Content, Body, Directory, Device, Node, Tree, State, free_count}
 use Rattle.vol_dir.specs.Walk.{root, map_of, is_directory, walk, walk_parent}
 use Rattle.vol_volume.specs.Mkfs.{is_bad_id}
-use Rattle.vol_volume.specs.Shapes.{need_in, new_slot, entry_blocks}
+use Rattle.vol_node.specs.Nodes.{node_at, names_at, entry_of, size_with_entry}
+use Rattle.vol_node.specs.Shapes.{need_in, entry_blocks}
 use Rattle.vol_dir.specs.declared.cred.Cred.{Cred}
 use Rattle.vol_dir.specs.declared.refusal.Refusal.{Refusal}
 use Rattle.vol_dir.specs.declared.refusal.Refusal.TheVariants as refusals
@@ -21,25 +22,9 @@ abbrev pub first_of : List (Bool × Refusal) → Option Refusal
 first_of [] = None
 first_of (test ∷ tests) = if test.0 then Some test.1 else first_of tests
 
--- what stands for a node where there is none; no walk ends there
-abbrev pub no_node : Node
-no_node = record { content = Body []; permissions = 0; links = 0; uid = 0; gid = 0; size = 0; accessed = 0; modified = 0; changed = None }
-
--- the node of an i-number (manual section 5, file system)
-abbrev pub node_at : Tree → ℕ → Node
-node_at tree i = unwrap_or (tree.nodes i) no_node
-
--- the map of a directory (manual section 5, directories)
-abbrev pub names_at : Tree → ℕ → Names
-names_at tree i = unwrap_or (map_of (node_at tree i).content) []
-
 -- whether a directory has a name (Lions on namei)
 abbrev pub has_name : Tree → ℕ → List ℕ → Bool
 has_name tree d name = is_some (get (names_at tree d) name)
-
--- the i-number that a directory has for a name (Lions on namei)
-abbrev pub entry_of : Tree → ℕ → List ℕ → ℕ
-entry_of tree d name = unwrap_or (get (names_at tree d) name) 0
 
 -- whether a directory has entries other than `.` and `..` (rmdir)
 abbrev pub has_others : Tree → ℕ → Bool
@@ -66,10 +51,6 @@ is_too_great tree size = nat_lt (constants tree.geometry.edition).greatest size
 -- whether a node's link count is at the limit (this project)
 abbrev pub is_full : Tree → Node → Bool
 is_full tree node = nat_le (constants tree.geometry.edition).link_limit node.links
-
--- a directory's size with one more entry: the first empty slot lies within it, or at its end (Lions on wdir)
-abbrev pub size_with_entry : State → ℕ → ℕ
-size_with_entry state d = max (node_at state.tree d).size (16 * new_slot (state.shapes d) + 16)
 
 -- how many blocks one more entry in directory d needs (Lions on bmap)
 abbrev pub entry_need : State → ℕ → ℕ

@@ -1,11 +1,13 @@
 //! Volumes: made, mounted, and what may be asked of them.
 #![tactic(auto)]
 
+mod answering;
 pub mod bytes;
 pub mod calls;
 pub mod laws;
 pub mod making;
 pub mod queries;
+mod verdicts;
 pub mod volume;
 
 pub use bytes::Bytes;

@@ -110,7 +110,7 @@ fn is_size(edition: Edition, blocks: u32, list_blocks: u16) -> bool
 }
 
 /// Whether the user or group number is above the edition's highest.
-fn is_bad_id(edition: Edition, uid: u16, gid: u16) -> bool
+pub(crate) fn is_bad_id(edition: Edition, uid: u16, gid: u16) -> bool
     ensures { result ≡ is_bad_id edition uid gid }
 {
     let limit = edition.constants().id_limit;

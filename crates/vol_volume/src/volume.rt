@@ -3,13 +3,17 @@ ghost use Rattle.std.specs.Prelude.{◌≡◌, IfOk, IfErr, List, ℕ};
 ghost use Rattle.vol_layout.specs.Geometry.{geometry_of};
 ghost use Rattle.vol_judge.specs.Sound.{IsSound};
 ghost use Rattle.vol_volume.specs.Faults.{IsFaultOf};
-ghost use Rattle.vol_volume.specs.Volume.{IsConsistent, mounted};
+ghost use Rattle.vol_volume.specs.Answer.{Answers};
+ghost use Rattle.vol_volume.specs.Volume.{IsConsistent, mounted, reads_as};
 
+use crate::answering::answer;
 use crate::calls::Record;
+use crate::queries::{Query, Reply};
 use pdp_words::Image;
 use std::alloc::Global;
 use std::marker::Model;
 use thiserror::Error;
+use vol_dir::Refusal;
 use vol_judge::judge;
 use vol_layout::{Edition, Geometry};
 
@@ -119,6 +123,21 @@ impl Volume {
         ensures { result.now ≡ self.now.journal }
     {
         &self.records
+    }
+
+    /// The answer to a query: that of the tree which the image reads as, and no other. BadId comes first,
+    /// then Invalid for a path with a zero byte, then what the walk of the path meets: NotDirectory,
+    /// Access, NoEntry. Stat asks nothing more. Read asks that the node is a regular file (IsDirectory,
+    /// NotRegular) that grants read (Access); List that it is a directory (NotDirectory) that grants read
+    /// (Access). NoMemory is only for Read and List, and comes last.
+    ///
+    /// Stat takes no memory, Read one buffer of just the bytes that it replies with, List some for each
+    /// name. Costs the walk of the path, and then: for Read as much as [`vol_file::read`], for List a look
+    /// at each slot and as much as sorting the names.
+    pub fn ask(&self, alloc: Global, query: &Query) -> Result<Reply, Refusal>
+        ensures { Answers (reads_as self.now.edition self.now.image).tree query.now result }
+    {
+        answer(alloc, &self.current, &self.geometry, query)
     }
 
     /// Gives the image's bytes back. The journal goes. Takes no memory.

@@ -106,7 +106,7 @@ all_within a (suc n) xs all =
     omega (arith, less, rest)
 
 -- a place passes the test for places
-place_test : (form : Form) (p : List ℕ) → IsPlace form p → is_place form p ≡ true
+pub place_test : (form : Form) (p : List ℕ) → IsPlace form p → is_place form p ≡ true
 place_test form [] place = absurd place
 place_test form (k ∷ []) place = grind (arith, nat_tests)
 place_test form (j ∷ (a ∷ p)) place =
@@ -224,7 +224,7 @@ test_places form names =
     let place : is_place form p ≡ true = place_test form p (among_places form p among) in ap (λ t. t && names p) place)
 
 -- the form of a file is that of its shape
-form_shape : (edition : Edition) (mode : ℕ) → has_places (kind_of edition mode) ≡ true → form_in edition (is_large edition mode) ≡ form_of edition mode
+pub form_shape : (edition : Edition) (mode : ℕ) → has_places (kind_of edition mode) ≡ true → form_in edition (is_large edition mode) ≡ form_of edition mode
 form_shape V6 mode file = sym (ap (λ t. if t then file_form V6 mode else Bare) file)
 form_shape V7 mode file = sym (ap (λ t. if t then file_form V7 mode else Bare) file)
 

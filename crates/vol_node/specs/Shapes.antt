@@ -1,11 +1,10 @@
 -- How the shapes of files change, and how many blocks that takes.
-use Rattle.std.specs.Prelude.{ℕ, ◌+◌, ◌/◌, ◌||◌, Bool, false, if◌then◌else◌, List, [], ◌∷◌, ◌++◌, map, take, drop, Option, None, Some, is_none}
-use Rattle.std.specs.Option.{option_map_or}
-use Rattle.std.specs.List.{position_or_len}
-use Rattle.std.specs.Str.{bytes_eq}
+use Rattle.std.specs.Prelude.{ℕ, ◌/◌, ◌||◌, List, [], ◌∷◌, map, Some}
 use Rattle.vol_file.specs.Shape.{filled, grows_large}
 use Rattle.vol_file.specs.Need.{need_of}
+use Rattle.vol_dir.specs.Editing.{with_item}
 use Rattle.vol_dir.specs.Names.{dot, dot_dot}
+use Rattle.vol_dir.specs.Searching.{new_slot, emptied}
 use Rattle.vol_dir.specs.Tree.{Shape, no_shape, form_in}
 use Rattle.vol_layout.specs.declared.edition.Edition.{Edition}
 
@@ -21,23 +20,15 @@ stored_shape edition shape blocks = record {
   slots = shape.slots;
 }
 
--- the slot of a new entry: the first that is empty, else the one at the end (Lions on namei)
-abbrev pub new_slot : Shape → ℕ
-new_slot shape = position_or_len is_none shape.slots
-
 -- the logical block in which the slot of a new entry stands (manual section 5, directories)
 abbrev pub entry_blocks : Shape → List ℕ
-entry_blocks shape = (new_slot shape / 32) ∷ []
+entry_blocks shape = (new_slot shape.slots / 32) ∷ []
 
 -- the shape of a directory with an entry of this name more (Lions on wdir)
 abbrev pub shape_with_entry : Edition → Shape → List ℕ → Shape
 shape_with_entry edition shape name = record (stored_shape edition shape (entry_blocks shape)) {
-  slots = take (new_slot shape) shape.slots ++ Some name ∷ drop (new_slot shape + 1) shape.slots;
+  slots = with_item shape.slots (new_slot shape.slots) (Some name);
 }
-
--- a slot, which is empty if it held this name (Lions on unlink)
-abbrev pub emptied : List ℕ → Option (List ℕ) → Option (List ℕ)
-emptied name slot = if option_map_or (bytes_eq name) slot false then None else slot
 
 -- the shape of a directory without the entry of this name (Lions on unlink)
 abbrev pub shape_without_entry : Shape → List ℕ → Shape

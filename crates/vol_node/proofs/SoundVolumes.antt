@@ -1,0 +1,46 @@
+-- What the rules of a sound volume give the changes of its nodes.
+use Rattle.std.proofs.Common.{◌≡◌, List, ℕ, true, false, Bool, if◌then◌else◌}
+use Rattle.std.specs.Prelude.{Ok, Err}
+use Rattle.vol_layout.specs.Geometry.{Fits, geometry_of, geometry_read, is_whole, is_bounded}
+use Rattle.vol_layout.specs.declared.edition.Edition.{Edition}
+use Rattle.vol_layout.specs.declared.geometry.Geometry.{Geometry}
+use Rattle.vol_layout.specs.declared.geometry.GeometryFault.TheVariants.{Short, Bounds}
+use Rattle.vol_dir.specs.Entries.{HasEntries}
+use Rattle.vol_judge.specs.Sound.{Rule, IsSound}
+use Rattle.vol_node.specs.Whole.{IsWhole}
+
+-- in a sound volume rules 1 to 8 hold
+pub sound_whole : (edition : Edition) (image : List ℕ) → Fits (geometry_of edition image) image → IsSound edition image
+    → IsWhole (geometry_of edition image) image
+unfolding Rule
+sound_whole edition image fits sound =
+    let stack = sound 6 in
+    record {
+      blocks = stack.blocks;
+      sound = record {
+        fits = fits;
+        kinds = sound 3;
+        sizes = sound 4;
+        zoned = sound 5;
+        free = stack.free;
+        apart = (sound 7).0;
+        outside = (sound 7).1 stack.blocks stack.free;
+      };
+      covered = sound 8 stack.blocks stack.free;
+    }
+
+-- and rule 9
+pub sound_entries : (edition : Edition) (image : List ℕ) → IsSound edition image → HasEntries (geometry_of edition image) image
+unfolding Rule
+sound_entries edition image sound = sound 9
+
+-- what is read as the geometry is what the super-block states
+read_by : (whole bounded : Bool) (geometry other : Geometry)
+    → (if whole then (if bounded then Ok geometry else Err Bounds) else Err Short) ≡ Ok other → geometry ≡ other
+read_by true true geometry other e = cc
+read_by true false geometry other e = absurd (cc)
+read_by false bounded geometry other e = absurd (cc)
+
+pub geometry_is : (edition : Edition) (image : List ℕ) (geometry : Geometry) → geometry_read edition image ≡ Ok geometry → geometry_of edition image ≡ geometry
+unfolding geometry_read
+geometry_is edition image geometry e = read_by (is_whole edition image) (is_bounded edition image) (geometry_of edition image) geometry e

@@ -1,0 +1,12 @@
+use Rattle.vol_node.proofs.FreedNodes.{truncated_whole, truncated_only}
+use Rattle.vol_node.proofs.freeing.free_blocks.Goals as goal
+
+-- src/freeing.rt:38:1
+pub returns-in-Regular-clause-whole : goal.returns-in-Regular-clause-whole
+returns-in-Regular-clause-whole c =
+    truncated_whole c.args.geometry.now c.args.image.now c.truncate.new.image c.args.i c.requires.whole c.truncate.ensures.truncated
+
+-- src/freeing.rt:38:1
+pub returns-in-Regular-clause-only : goal.returns-in-Regular-clause-only
+returns-in-Regular-clause-only c =
+    truncated_only c.args.geometry.now c.args.image.now c.truncate.new.image c.args.i c.requires.whole c.requires.first c.truncate.ensures.truncated

@@ -1,0 +1,47 @@
+use Rattle.std.proofs.Common.{◌≡◌, ◌∙◌, ap, subst, refl, ℕ, ◌≤◌, List, [], Some, slice_index, arith}
+use Rattle.vol_layout.specs.Inode.{kind_of}
+use Rattle.vol_layout.specs.Places.{has_places}
+use Rattle.vol_layout.specs.declared.mode.Kind.TheVariants as kinds
+use Rattle.vol_dir.specs.Tree.{Directory, no_shape, state}
+use Rattle.vol_node.specs.Edits.{put_node, put_shape}
+use Rattle.vol_judge.specs.Graph.{graph_of}
+use Rattle.vol_node.specs.NodeGraphs.{AddsNode}
+use Rattle.vol_node.proofs.MadeNodes.{MakesInode, made_keeps, directory_makes, made_graph}
+use Rattle.vol_node.proofs.NewInodes.{storable_new, reads_new, makes_new, unused_zero}
+use Rattle.vol_node.proofs.making.make_directory.Goals as goal
+use Rattle.vol_node.proofs.making.make_directory.Goals.{After-put_inode}
+
+pub put_inode-requires-clause-storable : goal.put_inode-requires-clause-storable
+put_inode-requires-clause-storable c =
+    storable_new c.args.geometry.now.edition c.directory-mode.result 2 c.args.owner c.args.now c.new_inode-node.result c.new_inode-node.ensures (omega arith)
+    c.requires.user c.requires.group
+
+-- what the put leaves
+makes : (c : After-put_inode) → MakesInode c.args.geometry.now c.args.image.now c.put_inode.new.image c.args.i c.new_inode-node.result
+makes c =
+    makes_new c.args.geometry.now c.args.image.now c.clear_inode.new.image c.put_inode.new.image c.args.i c.directory-mode.result 2 c.args.owner c.args.now
+    c.new_inode-node.result c.new_inode-node.ensures (omega arith) c.requires.free (ap has_places c.directory-mode.ensures.kind) c.directory-mode.ensures.small c.clear_inode.ensures.others
+    c.put_inode.ensures.others c.put_inode.ensures.put
+
+-- its kind
+kind : (c : After-put_inode) → kind_of c.args.geometry.now.edition c.new_inode-node.result.mode.bits ≡ kinds.Directory
+kind c = ap (λ m. kind_of c.args.geometry.now.edition m.bits) (c.new_inode-node.ensures.mode) ∙ c.directory-mode.ensures.kind
+
+pub returns-clause-keeps : goal.returns-clause-keeps
+returns-clause-keeps c = made_keeps c.args.geometry.now c.args.image.now c.put_inode.new.image c.args.i c.new_inode-node.result c.requires.whole (makes c)
+
+pub returns-clause-makes : goal.returns-clause-makes
+returns-clause-makes c =
+    directory_makes c.args.geometry.now c.args.image.now c.put_inode.new.image c.args.i c.new_inode-node.result c.requires.whole (makes c) (kind c)
+    ∙ ap (λ node. put_shape c.args.i no_shape (put_node c.args.i (Some node) (state c.args.geometry.now c.args.image.now)))
+    (reads_new c.args.geometry.now.edition c.directory-mode.result 2 c.args.owner c.args.now c.new_inode-node.result c.new_inode-node.ensures c.args.permissions (Directory []) c.directory-mode.ensures.permissions)
+
+pub returns-clause-graph : goal.returns-clause-graph
+returns-clause-graph c =
+    subst (AddsNode (graph_of c.args.geometry.now c.args.image.now) (graph_of c.args.geometry.now c.put_inode.new.image) c.args.i kinds.Directory)
+    (c.new_inode-node.ensures.links)
+    (made_graph c.args.geometry.now c.args.image.now c.put_inode.new.image c.args.i c.new_inode-node.result c.requires.whole (makes c) kinds.Directory (kind c))
+
+pub returns-clause-unused : goal.returns-clause-unused
+returns-clause-unused c v7 =
+    unused_zero c.args.geometry.now.edition c.clear_inode.new.image c.put_inode.new.image c.args.i v7 c.clear_inode.ensures.zero (c.put_inode.ensures.unused v7)

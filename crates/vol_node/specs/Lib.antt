@@ -1,0 +1,9 @@
+pub mod Alone
+pub mod Beside
+pub mod Contents
+pub mod Edits
+pub mod Inodes
+pub mod NodeGraphs
+pub mod Nodes
+pub mod Shapes
+pub mod Whole

@@ -1,0 +1,25 @@
+-- What every change of a node keeps: the rules that speak of i-nodes, files and the free list, and the bytes that no call changes.
+use Rattle.std.specs.Prelude.{◌≡◌, ℕ, ◌+◌, ◌*◌, ◌<◌, ◌≤◌, List, length, slice_index}
+use Rattle.vol_layout.specs.Super.{free_head, time_place}
+use Rattle.vol_file.specs.Rules.{IsSoundWith, IsCovered}
+use Rattle.vol_layout.specs.declared.geometry.Geometry.{Geometry}
+
+-- rules 1 to 8 hold (icheck)
+pub record IsWhole (geometry : Geometry) (image : List ℕ) : Type 0 where
+  pub blocks : List ℕ
+  pub sound : IsSoundWith geometry image blocks
+  pub covered : IsCovered geometry image blocks
+
+-- the bytes that no call changes are as they were: block 0, the sizes and the flags of the super-block and what follows its
+-- time, and what lies behind the volume; the free list and the i-number cache, 202 bytes each, stand side by side (filsys.h)
+pub record StaysAround (geometry : Geometry) (old new : List ℕ) : Type 0 where
+  pub len : length new ≡ length old
+  pub before : (k : ℕ) → k < free_head geometry.edition → slice_index new k ≡ slice_index old k
+  pub flags : (k : ℕ) → free_head geometry.edition + 404 ≤ k → k < time_place geometry.edition → slice_index new k ≡ slice_index old k
+  pub rest : (k : ℕ) → time_place geometry.edition + 4 ≤ k → k < 1024 → slice_index new k ≡ slice_index old k
+  pub behind : (k : ℕ) → 512 * geometry.zone_end ≤ k → slice_index new k ≡ slice_index old k
+
+-- rules 1 to 8 hold, and the bytes that no call changes are as they were (this project)
+pub record Keeps (geometry : Geometry) (old new : List ℕ) : Type 0 where
+  pub whole : IsWhole geometry new
+  pub around : StaysAround geometry old new

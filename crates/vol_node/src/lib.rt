@@ -1,0 +1,19 @@
+//! The nodes of a volume's tree: each change of one of them, of which calls are made.
+#![tactic(auto)]
+
+pub mod bytes;
+pub mod entries;
+mod freeing;
+mod links;
+mod making;
+mod times;
+
+pub use bytes::{empty_file, write_bytes};
+pub use entries::{add_name, remove_name};
+pub use freeing::free_node;
+pub use links::{add_link, drop_link, put_links};
+pub use making::{make_directory, make_file, take_number};
+pub use times::{put_time, touch};
+
+#[cfg(test)]
+mod tests;

@@ -1,0 +1,168 @@
+-- Answers to queries: what is refused, what is replied, and where memory is wanted.
+use Rattle.std.proofs.Common.{◌≡◌, ℕ, ◌+◌, ◌-◌, min, true, false, List, [], ◌∷◌, ◌++◌, take, drop, length, Option, None, Some, Result, Ok, Err, refl, ap, sym, ◌∙◌, arith}
+use Rattle.std.specs.Prelude.{MatchResult, slice_range}
+use Rattle.std.proofs.lemmas.List.{take_all, drop_all, take_min, append-nil, length-drop}
+use Rattle.vol_dir.specs.Access.{may_read}
+use Rattle.vol_dir.specs.Tree.{Tree, tree}
+use Rattle.vol_dir.specs.Walk.{walk}
+use Rattle.vol_dir.specs.declared.cred.Cred.{Cred}
+use Rattle.vol_dir.specs.declared.refusal.Refusal.{Refusal}
+use Rattle.vol_dir.specs.declared.refusal.Refusal.TheVariants as refusals
+use Rattle.vol_layout.specs.declared.geometry.Geometry.{Geometry}
+use Rattle.vol_node.specs.Nodes.{node_at, names_at}
+use Rattle.vol_node.specs.Edits.{body_of}
+use Rattle.vol_volume.specs.Answer.{list_tests, query_refusal, read_bytes, reply_at, reply_of, refused_or, stat_of, Answers}
+use Rattle.vol_volume.specs.Answering.{IsRefused, LeadsTo}
+use Rattle.vol_volume.specs.Mkfs.{is_bad_id}
+use Rattle.vol_volume.specs.Verdict.{first_of, has_zero, body_tests, then_others, of_node}
+use Rattle.vol_volume.specs.declared.queries.Query.{Query}
+use Rattle.vol_volume.specs.declared.queries.Query.TheVariants as queries
+use Rattle.vol_volume.specs.declared.queries.Reply.{Reply}
+use Rattle.vol_volume.specs.declared.queries.Reply.TheVariants as replies
+use Rattle.vol_volume.specs.declared.queries.Stat.{Stat}
+use Rattle.vol_volume.proofs.Refusals.{query_other}
+
+-- a bad number of a user or group is refused first
+pub bad_id : (geometry : Geometry) (image : List ℕ) (cred : Cred) (path : List ℕ) → is_bad_id geometry.edition cred.uid cred.gid ≡ true
+    → IsRefused (tree geometry image) cred path refusals.BadId
+unfolding tree
+bad_id geometry image cred path bad = λ others. rw bad refl
+
+-- then a zero byte
+pub zero_byte : (geometry : Geometry) (image : List ℕ) (cred : Cred) (path : List ℕ) → is_bad_id geometry.edition cred.uid cred.gid ≡ false
+    → has_zero path ≡ true → IsRefused (tree geometry image) cred path refusals.Invalid
+unfolding tree
+zero_byte geometry image cred path good zero = λ others. rw (good, zero) refl
+
+-- what is asked after these
+asked : (geometry : Geometry) (image : List ℕ) (cred : Cred) (path : List ℕ) (others : Option Refusal)
+    → is_bad_id geometry.edition cred.uid cred.gid ≡ false → has_zero path ≡ false
+    → then_others (tree geometry image) cred (path ∷ []) others ≡ others
+unfolding tree
+asked geometry image cred path others good none = rw (good, none) refl
+
+-- then the path is walked
+pub walked : (geometry : Geometry) (image : List ℕ) (cred : Cred) (path : List ℕ) (result : Result ℕ Refusal)
+    → is_bad_id geometry.edition cred.uid cred.gid ≡ false → has_zero path ≡ false → result ≡ walk (tree geometry image) cred path
+    → MatchResult result (LeadsTo (tree geometry image) cred path) (IsRefused (tree geometry image) cred path)
+walked geometry image cred path (Ok i) good none is = record {
+  walked = sym is;
+  asked = λ others. asked geometry image cred path (of_node (walk (tree geometry image) cred path) others) good none ∙ ap (λ r. of_node r others) (sym is);
+}
+walked geometry image cred path (Err refusal) good none is =
+    λ others. asked geometry image cred path (of_node (walk (tree geometry image) cred path) others) good none ∙ ap (λ r. of_node r others) (sym is)
+
+-- a refusal is the answer
+refused : (tree : Tree) (query : Query) (refusal : Refusal) → query_refusal tree query ≡ Some refusal → Answers tree query (Err refusal)
+refused tree query refusals.NoMemory is = absurd (query_other tree query is)
+refused tree query refusals.NoEntry is = sym (ap (λ refusal. refused_or refusal (reply_of tree query)) is)
+refused tree query refusals.Access is = sym (ap (λ refusal. refused_or refusal (reply_of tree query)) is)
+refused tree query refusals.Exists is = sym (ap (λ refusal. refused_or refusal (reply_of tree query)) is)
+refused tree query refusals.NotDirectory is = sym (ap (λ refusal. refused_or refusal (reply_of tree query)) is)
+refused tree query refusals.IsDirectory is = sym (ap (λ refusal. refused_or refusal (reply_of tree query)) is)
+refused tree query refusals.Invalid is = sym (ap (λ refusal. refused_or refusal (reply_of tree query)) is)
+refused tree query refusals.TooBig is = sym (ap (λ refusal. refused_or refusal (reply_of tree query)) is)
+refused tree query refusals.NoSpace is = sym (ap (λ refusal. refused_or refusal (reply_of tree query)) is)
+refused tree query refusals.TooManyLinks is = sym (ap (λ refusal. refused_or refusal (reply_of tree query)) is)
+refused tree query refusals.NotEmpty is = sym (ap (λ refusal. refused_or refusal (reply_of tree query)) is)
+refused tree query refusals.NotRegular is = sym (ap (λ refusal. refused_or refusal (reply_of tree query)) is)
+refused tree query refusals.NoInode is = sym (ap (λ refusal. refused_or refusal (reply_of tree query)) is)
+refused tree query refusals.BadId is = sym (ap (λ refusal. refused_or refusal (reply_of tree query)) is)
+
+-- a reply is the answer where nothing is refused
+replied : (tree : Tree) (query : Query) (reply : Reply) → query_refusal tree query ≡ None → reply_of tree query ≡ Ok reply
+    → Answers tree query (Ok reply)
+replied tree query reply none is = sym (ap (λ refusal. refused_or refusal (reply_of tree query)) none ∙ is)
+
+-- Stat: a path that is refused
+pub stat_refused : (tree : Tree) (cred : Cred) (path : List ℕ) (refusal : Refusal) → IsRefused tree cred path refusal
+    → Answers tree (queries.Stat cred path) (Err refusal)
+unfolding query_refusal
+stat_refused tree cred path refusal denied = refused tree (queries.Stat cred path) refusal (denied (λ i. None))
+
+-- and one that leads to a node
+pub stat_replied : (tree : Tree) (cred : Cred) (path : List ℕ) (i : ℕ) (stat : Stat) → LeadsTo tree cred path i
+    → stat ≡ stat_of i (node_at tree i) → Answers tree (queries.Stat cred path) (Ok (replies.Stat stat))
+unfolding query_refusal reply_of
+stat_replied tree cred path i stat leads is =
+    replied tree (queries.Stat cred path) (replies.Stat stat) (leads.asked (λ i. None))
+    (ap (λ r. reply_at r (λ i. replies.Stat (stat_of i (node_at tree i)))) leads.walked ∙ ap (λ s. Ok (replies.Stat s)) (sym is))
+
+-- Read: a path that is refused
+pub read_refused : (tree : Tree) (cred : Cred) (path : List ℕ) (offset len : ℕ) (refusal : Refusal) → IsRefused tree cred path refusal
+    → Answers tree (queries.Read cred path offset len) (Err refusal)
+unfolding query_refusal
+read_refused tree cred path offset len refusal denied =
+    refused tree (queries.Read cred path offset len) refusal (denied (λ i. first_of (body_tests tree may_read cred i)))
+
+-- a node that is refused
+pub read_tested : (tree : Tree) (cred : Cred) (path : List ℕ) (offset len i : ℕ) (refusal : Refusal) → LeadsTo tree cred path i
+    → Some refusal ≡ first_of (body_tests tree may_read cred i) → Answers tree (queries.Read cred path offset len) (Err refusal)
+unfolding query_refusal
+read_tested tree cred path offset len i refusal leads denied =
+    refused tree (queries.Read cred path offset len) refusal (leads.asked (λ i. first_of (body_tests tree may_read cred i)) ∙ sym denied)
+
+-- want of memory
+pub read_unmade : (tree : Tree) (cred : Cred) (path : List ℕ) (offset len i : ℕ) → LeadsTo tree cred path i
+    → None ≡ first_of (body_tests tree may_read cred i) → Answers tree (queries.Read cred path offset len) (Err refusals.NoMemory)
+unfolding query_refusal
+read_unmade tree cred path offset len i leads none =
+    (refl, leads.asked (λ i. first_of (body_tests tree may_read cred i)) ∙ sym none)
+
+-- and the bytes
+pub read_replied : (tree : Tree) (cred : Cred) (path : List ℕ) (offset len i : ℕ) (bytes : List ℕ) → LeadsTo tree cred path i
+    → None ≡ first_of (body_tests tree may_read cred i) → bytes ≡ read_bytes (body_of (node_at tree i).content) offset len
+    → Answers tree (queries.Read cred path offset len) (Ok (replies.Bytes bytes))
+unfolding query_refusal reply_of
+read_replied tree cred path offset len i bytes leads none is =
+    replied tree (queries.Read cred path offset len) (replies.Bytes bytes)
+    (leads.asked (λ i. first_of (body_tests tree may_read cred i)) ∙ sym none)
+    (ap (λ r. reply_at r (λ i. replies.Bytes (read_bytes (body_of (node_at tree i).content) offset len))) leads.walked
+    ∙ ap (λ b. Ok (replies.Bytes b)) (sym is))
+
+-- List: a path that is refused
+pub list_refused : (tree : Tree) (cred : Cred) (path : List ℕ) (refusal : Refusal) → IsRefused tree cred path refusal
+    → Answers tree (queries.List cred path) (Err refusal)
+unfolding query_refusal
+list_refused tree cred path refusal denied = refused tree (queries.List cred path) refusal (denied (λ i. first_of (list_tests tree cred i)))
+
+-- a node that is refused
+pub list_tested : (tree : Tree) (cred : Cred) (path : List ℕ) (i : ℕ) (refusal : Refusal) → LeadsTo tree cred path i
+    → Some refusal ≡ first_of (list_tests tree cred i) → Answers tree (queries.List cred path) (Err refusal)
+unfolding query_refusal
+list_tested tree cred path i refusal leads denied =
+    refused tree (queries.List cred path) refusal (leads.asked (λ i. first_of (list_tests tree cred i)) ∙ sym denied)
+
+-- want of memory
+pub list_unmade : (tree : Tree) (cred : Cred) (path : List ℕ) (i : ℕ) → LeadsTo tree cred path i
+    → None ≡ first_of (list_tests tree cred i) → Answers tree (queries.List cred path) (Err refusals.NoMemory)
+unfolding query_refusal
+list_unmade tree cred path i leads none = (refl, leads.asked (λ i. first_of (list_tests tree cred i)) ∙ sym none)
+
+-- and the names
+pub list_replied : (tree : Tree) (cred : Cred) (path : List ℕ) (i : ℕ) (names : List (List ℕ × ℕ)) → LeadsTo tree cred path i
+    → None ≡ first_of (list_tests tree cred i) → names ≡ names_at tree i
+    → Answers tree (queries.List cred path) (Ok (replies.Names names))
+unfolding query_refusal reply_of
+list_replied tree cred path i names leads none is =
+    replied tree (queries.List cred path) (replies.Names names)
+    (leads.asked (λ i. first_of (list_tests tree cred i)) ∙ sym none)
+    (ap (λ r. reply_at r (λ i. replies.Names (names_at tree i))) leads.walked ∙ ap (λ n. Ok (replies.Names n)) (sym is))
+
+-- the bytes of a body that are read into a buffer of just their number
+pub bytes_read : (body items new : List ℕ) (offset len size count read : ℕ) → length body ≡ size → length items ≡ min len (size - offset)
+    → count ≡ length items → length new ≡ length items → read ≡ min (length items) (size - offset)
+    → take read new ≡ slice_range body offset (offset + read)
+    → take count (new ++ drop (length new) items) ≡ read_bytes body offset len
+bytes_read body items new offset len size count read body_len items_len count_is new_len read_is holds =
+    let rest : drop (length new) items ≡ [] = drop_all (length new) items (omega arith) in
+    let rest_len = length-drop offset body in
+    let all : read ≡ length new = omega arith in
+    let short : offset + read - offset ≡ min len (length (drop offset body)) = omega arith in
+    ap (λ xs. take count (new ++ xs)) rest
+    ∙ (ap (take count) (append-nil new)
+    ∙ (take_all count new (omega arith)
+    ∙ (sym (take_all read new (omega arith))
+    ∙ (holds
+    ∙ (ap (λ n. take n (drop offset body)) short
+    ∙ take_min len (drop offset body))))))

@@ -1,0 +1,142 @@
+-- Whether an i-number can be taken.
+use Rattle.std.proofs.Common.{◌≡◌, ◌≢◌, ℕ, ◌+◌, ◌/◌, ◌%◌, ◌<◌, ◌≤◌, ◌==◌, ◌&&◌, ◌||◌, ◌∙◌, ap, refl, sym, Bool, true, false, nat_lt, nat_le, if◌then◌else◌, List, zero, suc, inl, inr, arith}
+use Rattle.std.specs.Prelude.{IsTrue, ◌↔◌}
+use Rattle.std.specs.Option.{option_map, is_none}
+use Rattle.std.specs.List.{list_any, range_with_len}
+use Rattle.std.proofs.lemmas.Bool.{cases_eq, or_from}
+use Rattle.std.proofs.lemmas.Bool.Decides.{nat_tests}
+use Rattle.vol_layout.specs.Edition.{constants}
+use Rattle.vol_layout.specs.Inode.{inode_of, kind_of, kind_of_type_v6, kind_of_type_v7}
+use Rattle.vol_layout.specs.Names.{mode_of}
+use Rattle.vol_layout.specs.declared.edition.Edition.{Edition}
+use Rattle.vol_layout.specs.declared.edition.Edition.TheVariants.{V6, V7}
+use Rattle.vol_layout.specs.declared.geometry.Geometry.{Geometry}
+use Rattle.vol_layout.specs.declared.mode.Kind.{Kind}
+use Rattle.vol_layout.specs.declared.mode.Kind.TheVariants as kinds
+use Rattle.vol_layout.proofs.KindLaws.{kind_zero}
+use Rattle.vol_free.specs.Numbers.{IsFreeNumber}
+use Rattle.vol_file.specs.Rules.{kind_at, HasSoundFiles}
+use Rattle.vol_dir.specs.Tree.{node_with, content_of, tree}
+use Rattle.vol_volume.specs.Verdict.{is_free_number, has_free_number}
+use Rattle.vol_volume.proofs.NodeReadings.{node_from, node_of_kind}
+
+-- neither of two kinds is free
+neither : (b : Bool) (x y : Kind) → x ≢ kinds.Free → y ≢ kinds.Free → (if b then x else y) ≢ kinds.Free
+neither true x y first second = first
+neither false x y first second = second
+
+regular_used : kinds.Regular ≢ kinds.Free
+regular_used e = cc
+
+directory_used : kinds.Directory ≢ kinds.Free
+directory_used e = cc
+
+special_used : kinds.Special ≢ kinds.Free
+special_used e = cc
+
+odd_used : kinds.Odd ≢ kinds.Free
+odd_used e = cc
+
+type_v6_used : (type : ℕ) → kind_of_type_v6 type ≢ kinds.Free
+type_v6_used type = neither (type == 0) _ _ regular_used (neither (type == 2) _ _ directory_used special_used)
+
+type_v7_used : (type : ℕ) → kind_of_type_v7 type ≢ kinds.Free
+type_v7_used type =
+    neither (type == 8) _ _ regular_used (neither (type == 4) _ _ directory_used (neither (type == 2) _ _ special_used
+    (neither (type == 6) _ _ special_used (neither (type == 3) _ _ special_used (neither (type == 7) _ _ special_used odd_used)))))
+
+-- only mode 0 is that of a free i-node
+free_zero : (edition : Edition) (mode : ℕ) → kind_of edition mode ≡ kinds.Free → mode ≡ 0
+unfolding kind_of
+free_zero V6 mode free = elim (cases_eq mode 0) [
+  | inl e ↦ e
+  | inr other ↦
+      let some : (mode == 0) ≡ false = grind (arith, nat_tests) in
+      absurd (neither (nat_lt mode 32768) _ _ odd_used (type_v6_used (mode / 8192 % 4))
+      (sym (ap (λ b. if b then kinds.Free else if nat_lt mode 32768 then kinds.Odd else kind_of_type_v6 (mode / 8192 % 4)) some) ∙ free))
+]
+free_zero V7 mode free = elim (cases_eq mode 0) [
+  | inl e ↦ e
+  | inr other ↦
+      let some : (mode == 0) ≡ false = grind (arith, nat_tests) in
+      absurd (type_v7_used (mode / 4096) (sym (ap (λ b. if b then kinds.Free else kind_of_type_v7 (mode / 4096)) some) ∙ free))
+]
+
+-- a test that a number of a range passes
+any_passes : (test : ℕ → Bool) (a n i : ℕ) → a ≤ i → i < a + n → test i ≡ true → list_any test (range_with_len a n) ≡ true
+any_passes test a zero i from to passes = absurd (omega arith)
+any_passes test a (suc n) i from to passes = elim (cases_eq i a) [
+  | inl e ↦
+      let here : test a ≡ true = ap test (sym e) ∙ passes in
+      ap (λ b. b || list_any test (range_with_len (a + 1) n)) here
+  | inr other ↦
+      let later : list_any test (range_with_len (a + 1) n) ≡ true = any_passes test (a + 1) n i (omega (arith, other)) (omega arith) passes in
+      elim (test a) as (λ b. (b || list_any test (range_with_len (a + 1) n)) ≡ true) [ true ↦ refl | false ↦ later ]
+]
+
+-- and one that none passes
+none_passes : (test : ℕ → Bool) (a n : ℕ) → ((i : ℕ) → a ≤ i → i < a + n → test i ≡ false) → list_any test (range_with_len a n) ≡ false
+none_passes test a zero fails = refl
+none_passes test a (suc n) fails =
+    or_from (test a) (list_any test (range_with_len (a + 1) n)) (fails a (omega arith) (omega arith))
+    (none_passes test (a + 1) n (λ i from to. fails i (omega arith) (omega arith)))
+
+module _ (geometry : Geometry) (image : List ℕ) (files : HasSoundFiles geometry image) where
+  used_mode : (i : ℕ) (kind : Kind) → kind_at geometry image i ≡ kind → kind ≢ kinds.Free → (mode_of geometry image i == 0) ≡ false
+  used_mode i kind is used =
+      let some : mode_of geometry image i ≢ 0 = λ e. used (sym is ∙ (ap (kind_of geometry.edition) e ∙ kind_zero geometry.edition)) in grind (arith, nat_tests)
+
+  none_by : (i : ℕ) (kind : Kind) → kind_at geometry image i ≡ kind → kind ≢ kinds.Odd
+      → is_none (option_map (node_with (inode_of geometry.edition image i)) (content_of geometry image i kind)) ≡ (mode_of geometry image i == 0)
+  none_by i kinds.Free is known =
+      let zero_mode : mode_of geometry image i ≡ 0 = free_zero geometry.edition (mode_of geometry image i) is in sym (grind (arith, nat_tests))
+  none_by i kinds.Regular is known = sym (used_mode i kinds.Regular is regular_used)
+  none_by i kinds.Directory is known = sym (used_mode i kinds.Directory is directory_used)
+  none_by i kinds.Special is known = sym (used_mode i kinds.Special is special_used)
+  none_by i kinds.Odd is known = absurd (known refl)
+
+  -- an i-number of the volume has no node where its mode is 0
+  none_is : (i : ℕ) → 1 ≤ i → i ≤ geometry.last_inode → is_none ((tree geometry image).nodes i) ≡ (mode_of geometry image i == 0)
+  none_is i first last =
+      ap is_none (node_from geometry image i first last ∙ node_of_kind geometry image i (kind_at geometry image i) refl)
+      ∙ none_by i (kind_at geometry image i) refl (files.sound.kinds.known i first last)
+
+  -- an i-number can be taken where its i-node is free
+  number_is : (i : ℕ) → 1 ≤ i → i ≤ geometry.last_inode
+      → is_free_number (tree geometry image) i ≡ (nat_lt (constants geometry.edition).root i && (nat_le i geometry.last_inode && (mode_of geometry image i == 0)))
+  unfolding tree
+  number_is i first last =
+      ap (λ b. nat_lt (constants geometry.edition).root i && (nat_le i geometry.last_inode && b)) (none_is i first last)
+
+  number_free : (i : ℕ) → IsFreeNumber geometry image i → is_free_number (tree geometry image) i ≡ true
+  number_free i free =
+      let above : nat_lt (constants geometry.edition).root i ≡ true = grind (arith, nat_tests, free.above) in
+      let within : nat_le i geometry.last_inode ≡ true = grind (arith, nat_tests, free.within) in
+      let zero_mode : (mode_of geometry image i == 0) ≡ true = grind (arith, nat_tests, free.mode) in
+      number_is i (omega (arith, free.above)) free.within
+      ∙ (ap (λ b. b && (nat_le i geometry.last_inode && (mode_of geometry image i == 0))) above
+      ∙ (ap (λ b. b && (mode_of geometry image i == 0)) within ∙ zero_mode))
+
+  number_used : (i : ℕ) → 1 ≤ i → i ≤ geometry.last_inode → (IsFreeNumber geometry image i → ⊥) → is_free_number (tree geometry image) i ≡ false
+  number_used i first last used =
+      number_is i first last
+      ∙ elim (nat_lt (constants geometry.edition).root i) as (λ b. nat_lt (constants geometry.edition).root i ≡ b
+      → (b && (nat_le i geometry.last_inode && (mode_of geometry image i == 0))) ≡ false) [
+        | false ↦ λ low. refl
+        | true ↦ λ high.
+            elim (mode_of geometry image i == 0) as (λ b. (mode_of geometry image i == 0) ≡ b → (nat_le i geometry.last_inode && b) ≡ false) [
+              | false ↦ λ some. elim (nat_le i geometry.last_inode) as (λ b. (b && false) ≡ false) [ true ↦ refl | false ↦ refl ]
+              | true ↦ λ none. absurd (used (record { above = grind (arith, nat_tests); within = last; mode = grind (arith, nat_tests) }))
+            ] refl
+      ] refl
+
+  -- whether any can is whether an i-node above the root's is free
+  pub any_free : (found : Bool) → IsTrue found ↔ ((i : ℕ) × IsFreeNumber geometry image i) → found ≡ has_free_number (tree geometry image)
+  unfolding tree
+  any_free true is =
+      let free = is.0 refl in
+      sym (any_passes (is_free_number (tree geometry image)) 1 geometry.last_inode free.0 (omega (arith, free.1.above)) (omega (arith, free.1.within))
+      (number_free free.0 free.1))
+  any_free false is =
+      sym (none_passes (is_free_number (tree geometry image)) 1 geometry.last_inode (λ i from to.
+      number_used i from (omega arith) (λ free. let found : false ≡ true = is.1 (i, free) in cc)))

@@ -1,0 +1,127 @@
+-- What the tree of an image says of one i-node.
+use Rattle.std.proofs.Common.{◌≡◌, ◌≢◌, ℕ, ◌≤◌, ◌∙◌, ap, refl, sym, true, false, cond, List, [], None, Some, arith}
+use Rattle.std.specs.Option.{option_map, unwrap_or}
+use Rattle.std.proofs.lemmas.Bool.Decides.{nat_tests}
+use Rattle.vol_layout.specs.Edition.{constants}
+use Rattle.vol_layout.specs.Inode.{inode_place, inode_of}
+use Rattle.vol_layout.specs.declared.geometry.Geometry.{Geometry}
+use Rattle.vol_layout.specs.declared.mode.Kind.{Kind}
+use Rattle.vol_layout.specs.declared.mode.Kind.TheVariants as kinds
+use Rattle.vol_layout.proofs.InodeLaws.{inode_size}
+use Rattle.vol_file.specs.Rules.{size_of, kind_at, HasSoundFiles}
+use Rattle.vol_dir.specs.Entries.{slots, IsDirectory, IsInUse}
+use Rattle.vol_dir.specs.Names.{names_of}
+use Rattle.vol_dir.specs.Tree.{Content, Node, is_number, node_of, node_with, content_of, tree}
+use Rattle.vol_dir.specs.Walk.{map_of, is_directory}
+use Rattle.vol_node.specs.Nodes.{no_node, node_at, names_at}
+use Rattle.vol_volume.specs.Verdict.{is_device}
+
+-- the node of an i-number of the volume, by the kind of its i-node
+abbrev node_by : Geometry → List ℕ → ℕ → Kind → Node
+node_by geometry image i kind = unwrap_or (option_map (node_with (inode_of geometry.edition image i)) (content_of geometry image i kind)) no_node
+
+module _ (geometry : Geometry) (image : List ℕ) where
+  -- the sizes of the tree are those of the image
+  pub tree_geometry : (tree geometry image).geometry ≡ geometry
+  unfolding tree
+  tree_geometry = refl
+
+  -- an i-number of the volume stands for what its i-node reads as
+  pub node_from : (i : ℕ) → 1 ≤ i → i ≤ geometry.last_inode → (tree geometry image).nodes i ≡ node_of geometry image i
+  unfolding tree
+  node_from i first last =
+      let number : is_number geometry i ≡ true = grind (arith, nat_tests) in ap (λ b. cond b (node_of geometry image i) None) number
+
+  pub node_of_kind : (i : ℕ) (kind : Kind) → kind_at geometry image i ≡ kind
+      → node_of geometry image i ≡ option_map (node_with (inode_of geometry.edition image i)) (content_of geometry image i kind)
+  unfolding node_of
+  node_of_kind i kind is = ap (λ k. option_map (node_with (inode_of geometry.edition image i)) (content_of geometry image i k)) is
+
+  pub node_is : (i : ℕ) (kind : Kind) → 1 ≤ i → i ≤ geometry.last_inode → kind_at geometry image i ≡ kind → node_at (tree geometry image) i ≡ node_by geometry image i kind
+  node_is i kind first last is = ap (λ n. unwrap_or n no_node) (node_from i first last ∙ node_of_kind i kind is)
+
+  -- a node is a directory where its i-node is one
+  pub directory_is : (i : ℕ) → 1 ≤ i → i ≤ geometry.last_inode → kind_at geometry image i ≡ kinds.Directory → is_directory (node_at (tree geometry image) i) ≡ true
+  directory_is i first last is = ap is_directory (node_is i kinds.Directory first last is)
+
+  no_directory_by : (i : ℕ) (kind : Kind) → kind ≢ kinds.Directory → is_directory (node_by geometry image i kind) ≡ false
+  no_directory_by i kinds.Free other = refl
+  no_directory_by i kinds.Regular other = refl
+  no_directory_by i kinds.Directory other = absurd (other refl)
+  no_directory_by i kinds.Special other = refl
+  no_directory_by i kinds.Odd other = refl
+
+  pub directory_not : (i : ℕ) → 1 ≤ i → i ≤ geometry.last_inode → kind_at geometry image i ≢ kinds.Directory → is_directory (node_at (tree geometry image) i) ≡ false
+  directory_not i first last other =
+      ap is_directory (node_is i (kind_at geometry image i) first last refl) ∙ no_directory_by i (kind_at geometry image i) other
+
+  -- a node is that of a special file where its i-node is
+  pub device_is : (i : ℕ) → 1 ≤ i → i ≤ geometry.last_inode → kind_at geometry image i ≡ kinds.Special → is_device (node_at (tree geometry image) i).content ≡ true
+  device_is i first last is = ap (λ (n : Node). is_device n.content) (node_is i kinds.Special first last is)
+
+  no_device_by : (i : ℕ) (kind : Kind) → kind ≢ kinds.Special → is_device (node_by geometry image i kind).content ≡ false
+  no_device_by i kinds.Free other = refl
+  no_device_by i kinds.Regular other = refl
+  no_device_by i kinds.Directory other = refl
+  no_device_by i kinds.Special other = absurd (other refl)
+  no_device_by i kinds.Odd other = refl
+
+  pub device_not : (i : ℕ) → 1 ≤ i → i ≤ geometry.last_inode → kind_at geometry image i ≢ kinds.Special → is_device (node_at (tree geometry image) i).content ≡ false
+  device_not i first last other =
+      ap (λ (n : Node). is_device n.content) (node_is i (kind_at geometry image i) first last refl) ∙ no_device_by i (kind_at geometry image i) other
+
+  -- the names of a directory
+  pub names_are : (d : ℕ) → IsDirectory geometry image d → names_at (tree geometry image) d ≡ names_of (slots geometry image d)
+  names_are d directory = ap (λ (n : Node). unwrap_or (map_of n.content) []) (node_is d kinds.Directory directory.first directory.last directory.kind)
+
+  stored_by : (i : ℕ) (kind : Kind) → kind ≢ kinds.Free → kind ≢ kinds.Odd
+      → (content : Content) × (content_of geometry image i kind ≡ Some content)
+  stored_by i kinds.Free used known = absurd (used refl)
+  stored_by i kinds.Regular used known = (_, refl)
+  stored_by i kinds.Directory used known = (_, refl)
+  stored_by i kinds.Special used known = (_, refl)
+  stored_by i kinds.Odd used known = absurd (known refl)
+
+  -- an allocated i-node reads as its node
+  pub node_stored : (i : ℕ) → 1 ≤ i → HasSoundFiles geometry image → IsInUse geometry image i
+      → node_of geometry image i ≡ Some (node_at (tree geometry image) i)
+  node_stored i first files used =
+      let kind = kind_at geometry image i in
+      let stored = stored_by i kind used.allocated (files.sound.kinds.known i first used.last) in
+      let is : node_of geometry image i ≡ Some (node_with (inode_of geometry.edition image i) stored.0) =
+      node_of_kind i kind refl ∙ ap (option_map (node_with (inode_of geometry.edition image i))) stored.1 in
+      is ∙ sym (ap (λ n. Some (unwrap_or n no_node)) (node_from i first used.last ∙ is))
+
+  -- and its node has the links that it stores
+  pub links_are : (i : ℕ) → 1 ≤ i → HasSoundFiles geometry image → IsInUse geometry image i
+      → (node_at (tree geometry image) i).links ≡ (inode_of geometry.edition image i).links
+  links_are i first files used =
+      let kind = kind_at geometry image i in
+      let stored = stored_by i kind used.allocated (files.sound.kinds.known i first used.last) in
+      ap (λ (n : Node). n.links) (node_is i kind first used.last refl)
+      ∙ ap (λ c. (unwrap_or (option_map (node_with (inode_of geometry.edition image i)) c) no_node).links) stored.1
+
+  -- a directory is in use
+  pub in_use : (d : ℕ) → HasSoundFiles geometry image → IsDirectory geometry image d → (constants geometry.edition).root ≤ d → IsInUse geometry image d
+  in_use d files directory above =
+      record { first = above; last = directory.last; allocated = λ free. let e : kinds.Directory ≡ kinds.Free = sym directory.kind ∙ free in cc }
+
+  -- a directory's node has the size that its i-node stores
+  pub size_is : (d : ℕ) → IsDirectory geometry image d → (node_at (tree geometry image) d).size ≡ size_of geometry image d
+  size_is d directory =
+      ap (λ (n : Node). n.size) (node_is d kinds.Directory directory.first directory.last directory.kind)
+      ∙ inode_size geometry.edition image (inode_place geometry.edition d)
+
+  -- of the kinds of what is in use, a regular file is left
+  regular_by : (kind : Kind) → kind ≢ kinds.Free → kind ≢ kinds.Odd → kind ≢ kinds.Directory → kind ≢ kinds.Special → kind ≡ kinds.Regular
+  regular_by kinds.Free used known directory special = absurd (used refl)
+  regular_by kinds.Regular used known directory special = refl
+  regular_by kinds.Directory used known directory special = absurd (directory refl)
+  regular_by kinds.Special used known directory special = absurd (special refl)
+  regular_by kinds.Odd used known directory special = absurd (known refl)
+
+  -- what is in use, and neither directory nor special file, is a regular file
+  pub regular_left : (i : ℕ) → 1 ≤ i → HasSoundFiles geometry image → IsInUse geometry image i → kind_at geometry image i ≢ kinds.Directory
+      → kind_at geometry image i ≢ kinds.Special → kind_at geometry image i ≡ kinds.Regular
+  regular_left i first files used directory special =
+      regular_by (kind_at geometry image i) used.allocated (files.sound.kinds.known i first used.last) directory special

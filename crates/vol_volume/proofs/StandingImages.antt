@@ -1,0 +1,58 @@
+-- A sound image stands, with the number of its free blocks.
+use Rattle.std.proofs.Common.{◌≡◌, ℕ, ◌<◌, ◌≤◌, true, List, arith, length, sym, subst, ◌∙◌}
+use Rattle.std.proofs.lemmas.Bool.Decides.{nat_tests}
+use Rattle.pdp_words.specs.Words.{word}
+use Rattle.vol_layout.specs.Edition.{constants}
+use Rattle.vol_layout.specs.Geometry.{geometry_of, block_count, is_whole, is_bounded, Fits}
+use Rattle.vol_layout.specs.declared.edition.Edition.{Edition}
+use Rattle.vol_layout.specs.declared.edition.Edition.TheVariants.{V6, V7}
+use Rattle.vol_layout.specs.declared.geometry.Geometry.{Geometry}
+use Rattle.vol_free.specs.Stack.{IsFree}
+use Rattle.vol_dir.specs.Tree.{free_count, shapes}
+use Rattle.vol_judge.specs.Sound.{IsSound}
+use Rattle.vol_judge.proofs.Parts.{sound_whole, sound_bounded, sound_fits, sound_files, sound_covered, sound_entries}
+use Rattle.vol_node.proofs.FreeCounts.{free_blocks}
+use Rattle.vol_volume.specs.Standing.{Stands}
+
+-- a sound image has blocks 0 and 1
+pub sound_length : (edition : Edition) (image : List ℕ) → IsSound edition image → 1024 ≤ length image
+sound_length edition image sound = let whole : is_whole edition image ≡ true = sound_whole edition image sound in grind (arith, nat_tests)
+
+-- and no more blocks than the edition's numbers, where a word is below 65536
+block_limit_by : (edition : Edition) (image : List ℕ) → IsSound edition image → word image 514 < 65536
+    → block_count edition image ≤ (constants edition).number_limit
+block_limit_by V6 image sound low = omega arith
+block_limit_by V7 image sound low = let bounded : is_bounded V7 image ≡ true = sound_bounded V7 image sound in grind (arith, nat_tests)
+
+-- so its geometry fits it
+pub sound_geometry_fits : (geometry : Geometry) (image : List ℕ) → geometry ≡ geometry_of geometry.edition image → IsSound geometry.edition image
+    → word image 514 < 65536 → Fits geometry image
+sound_geometry_fits geometry image sizes sound low =
+    subst (λ g. Fits g image) (sym sizes) (sound_fits geometry.edition image sound (block_limit_by geometry.edition image sound low))
+
+sound_stands : (edition : Edition) (image : List ℕ) → Fits (geometry_of edition image) image → IsSound edition image → Stands (geometry_of edition image) image
+sound_stands edition image fits sound =
+    record { fits = fits; files = sound_files edition image fits sound; entries = sound_entries edition image sound }
+
+-- a sound image stands, with the geometry that is its own
+pub stands : (geometry : Geometry) (image : List ℕ) → geometry ≡ geometry_of geometry.edition image → Fits geometry image
+    → IsSound geometry.edition image → Stands geometry image
+stands geometry image sizes fits sound =
+    subst (λ g. Stands g image) (sym sizes) (sound_stands geometry.edition image (subst (λ g. Fits g image) sizes fits) sound)
+
+sound_count : (edition : Edition) (image : List ℕ) (count : ℕ) → Fits (geometry_of edition image) image → IsSound edition image
+    → ((blocks : List ℕ) → IsFree (geometry_of edition image) image blocks → count ≡ length blocks)
+    → count ≡ free_count (geometry_of edition image) (shapes (geometry_of edition image) image)
+sound_count edition image count fits sound counted =
+    let files = sound_files edition image fits sound in
+    counted files.blocks files.sound.free
+    ∙ free_blocks (geometry_of edition image) image files.blocks files.sound (sound_covered edition image files.blocks sound files.sound.free)
+
+-- and the number of its free blocks is what its shapes leave
+pub counts : (geometry : Geometry) (image : List ℕ) (count : ℕ) → geometry ≡ geometry_of geometry.edition image → Fits geometry image
+    → IsSound geometry.edition image → ((blocks : List ℕ) → IsFree geometry image blocks → count ≡ length blocks)
+    → count ≡ free_count geometry (shapes geometry image)
+counts geometry image count sizes fits sound counted =
+    subst (λ g. count ≡ free_count g (shapes g image)) (sym sizes)
+    (sound_count geometry.edition image count (subst (λ g. Fits g image) sizes fits) sound
+    (λ blocks free. counted blocks (subst (λ g. IsFree g image blocks) (sym sizes) free)))

@@ -1,0 +1,12 @@
+-- What is known of an image of which a verdict on a call is asked.
+use Rattle.std.specs.Prelude.{ℕ, List}
+use Rattle.vol_layout.specs.Geometry.{Fits}
+use Rattle.vol_file.specs.Rules.{HasSoundFiles}
+use Rattle.vol_dir.specs.Entries.{HasEntries}
+use Rattle.vol_layout.specs.declared.geometry.Geometry.{Geometry}
+
+-- the geometry fits the image, and its files and entries are sound (rules 1 to 7 and 9)
+pub record Stands (geometry : Geometry) (image : List ℕ) : Type 0 where
+  pub fits : Fits geometry image
+  pub files : HasSoundFiles geometry image
+  pub entries : HasEntries geometry image

@@ -1,0 +1,286 @@
+//! The answers to queries.
+ghost use Rattle.std.specs.Prelude.{◌≡◌, ◌≤◌, None, MatchResult, IfOk};
+ghost use Rattle.vol_layout.specs.Body.{body};
+ghost use Rattle.vol_layout.specs.Geometry.{Fits, geometry_of};
+ghost use Rattle.vol_layout.specs.Names.{IsFile};
+ghost use Rattle.vol_file.specs.Rules.{kind_at, HasSoundFiles};
+ghost use Rattle.vol_dir.specs.Access.{bit_of, may_read};
+ghost use Rattle.vol_dir.specs.Entries.{slots, slot_count, IsDirectory, HasEntries, IsInUse};
+ghost use Rattle.vol_dir.specs.Names.{names_of};
+ghost use Rattle.vol_dir.specs.Tree.{tree};
+ghost use Rattle.vol_judge.specs.Sound.{IsSound};
+ghost use Rattle.vol_node.specs.Nodes.{node_at};
+ghost use Rattle.vol_volume.specs.Answer.{stat_of, list_tests, read_bytes, Answers};
+ghost use Rattle.vol_volume.specs.Answering.{IsRefused, LeadsTo, HasCollected, named};
+ghost use Rattle.vol_volume.specs.Verdict.{first_of, body_tests};
+
+use crate::bytes::Bytes;
+use crate::making::is_bad_id;
+use crate::queries::{Listing, Query, Reply, Stat};
+use pdp_words::Image;
+use std::alloc::{AllocError, Global};
+use std::collections::BTreeMap;
+use vol_dir::{Access, Cred, Refusal, grants, next_entry, walk};
+use vol_layout::i_list::{mode, size};
+use vol_layout::{Geometry, Kind, inode};
+
+/// The answer to a query of a sound image with this geometry: that of the tree that it reads as, and
+/// NoMemory where the reply to Read or List finds no room.
+///
+/// Costs the walk of the path, and then: for Read as much as [`vol_file::read`], for List a look at each
+/// slot and as much as sorting the names.
+pub(crate) fn answer(
+    alloc: Global,
+    image: &Image,
+    geometry: &Geometry,
+    query: &Query,
+) -> Result<Reply, Refusal>
+    requires sound { IsSound geometry.now.edition image.now }
+    requires sizes { geometry.now ≡ geometry_of geometry.now.edition image.now }
+    ensures { Answers (tree geometry.now image.now) query.now result }
+{
+    ask_sound(image, geometry);
+    match query {
+        Query::Stat { cred, path } => answer_stat(image, geometry, *cred, path.as_slice()),
+        Query::Read {
+            cred,
+            path,
+            offset,
+            len,
+        } => answer_read(
+            alloc,
+            image,
+            geometry,
+            *cred,
+            path.as_slice(),
+            *offset,
+            *len,
+        ),
+        Query::List { cred, path } => answer_list(alloc, image, geometry, *cred, path.as_slice()),
+    }
+}
+
+/// Does nothing: what a sound image keeps that has this geometry is in the contract.
+fn ask_sound(image: &Image, geometry: &Geometry)
+    requires sound { IsSound geometry.now.edition image.now }
+    requires sizes { geometry.now ≡ geometry_of geometry.now.edition image.now }
+    ensures fits { Fits geometry.now image.now }
+    ensures files { HasSoundFiles geometry.now image.now }
+    ensures entries { HasEntries geometry.now image.now }
+{
+    let _ = Geometry::read(geometry.edition, image);
+}
+
+/// The answer to Stat.
+fn answer_stat(
+    image: &Image,
+    geometry: &Geometry,
+    cred: Cred,
+    path: &[u8],
+) -> Result<Reply, Refusal>
+    requires fits { Fits geometry.now image.now }
+    requires files { HasSoundFiles geometry.now image.now }
+    requires entries { HasEntries geometry.now image.now }
+    ensures { Answers (tree geometry.now image.now) (Query.Stat cred path.now) result }
+{
+    let i = find_node(image, geometry, cred, path)?;
+    Ok(Reply::Stat(stat(image, geometry, i)))
+}
+
+/// The answer to Read.
+fn answer_read(
+    alloc: Global,
+    image: &Image,
+    geometry: &Geometry,
+    cred: Cred,
+    path: &[u8],
+    offset: u32,
+    len: u32,
+) -> Result<Reply, Refusal>
+    requires fits { Fits geometry.now image.now }
+    requires files { HasSoundFiles geometry.now image.now }
+    requires entries { HasEntries geometry.now image.now }
+    ensures { Answers (tree geometry.now image.now) (Query.Read cred path.now offset len) result }
+{
+    let i = find_node(image, geometry, cred, path)?;
+    if let Some(refusal) = body_refusal(image, geometry, cred, i, Access::Read) {
+        return Err(refusal);
+    }
+    match read(alloc, image, geometry, i, offset, len) {
+        Ok(bytes) => Ok(Reply::Bytes(Bytes::from_vec(bytes))),
+        Err(_) => Err(Refusal::NoMemory),
+    }
+}
+
+/// The answer to List.
+fn answer_list(
+    alloc: Global,
+    image: &Image,
+    geometry: &Geometry,
+    cred: Cred,
+    path: &[u8],
+) -> Result<Reply, Refusal>
+    requires fits { Fits geometry.now image.now }
+    requires files { HasSoundFiles geometry.now image.now }
+    requires entries { HasEntries geometry.now image.now }
+    ensures { Answers (tree geometry.now image.now) (Query.List cred path.now) result }
+{
+    let i = find_node(image, geometry, cred, path)?;
+    if let Some(refusal) = list_refusal(image, geometry, cred, i) {
+        return Err(refusal);
+    }
+    match list(alloc, image, geometry, i) {
+        Ok(names) => Ok(Reply::Names(Listing::from_vec(names))),
+        Err(_) => Err(Refusal::NoMemory),
+    }
+}
+
+/// The i-number to which a path leads, or why the query is refused before anything is asked of a node.
+fn find_node(image: &Image, geometry: &Geometry, cred: Cred, path: &[u8]) -> Result<u16, Refusal>
+    requires fits { Fits geometry.now image.now }
+    requires files { HasSoundFiles geometry.now image.now }
+    requires entries { HasEntries geometry.now image.now }
+    ensures found { MatchResult result (LeadsTo (tree geometry.now image.now) cred path.now)
+        (IsRefused (tree geometry.now image.now) cred path.now) }
+    ensures used { IfOk result (λ i. IsInUse geometry.now image.now i) }
+{
+    if is_bad_id(geometry.edition, cred.uid, cred.gid) {
+        return Err(Refusal::BadId);
+    }
+    if path.contains(&0) {
+        return Err(Refusal::Invalid);
+    }
+    walk(image, geometry, cred, path)
+}
+
+/// What is told of i-node `i`.
+fn stat(image: &Image, geometry: &Geometry, i: u16) -> Stat
+    requires fits { Fits geometry.now image.now }
+    requires files { HasSoundFiles geometry.now image.now }
+    requires used { IsInUse geometry.now image.now i }
+    ensures { result ≡ stat_of i (node_at (tree geometry.now image.now) i) }
+{
+    let node = inode(image, geometry, i);
+    Stat {
+        number: i,
+        kind: kind(image, geometry, i),
+        permissions: node.mode.permissions(),
+        links: node.links,
+        uid: node.uid,
+        gid: node.gid,
+        size: node.size,
+        accessed: node.accessed,
+        modified: node.modified,
+        changed: node.changed,
+    }
+}
+
+/// What i-node `i` is.
+fn kind(image: &Image, geometry: &Geometry, i: u16) -> Kind
+    requires fits { Fits geometry.now image.now }
+    requires first { 1 ≤ i }
+    requires last { i ≤ geometry.now.last_inode }
+    ensures { result ≡ kind_at geometry.now image.now i }
+{
+    mode(image, geometry, i).kind(geometry.edition)
+}
+
+/// Why i-node `i` isn't a regular file that grants an access, if it isn't.
+fn body_refusal(
+    image: &Image,
+    geometry: &Geometry,
+    cred: Cred,
+    i: u16,
+    access: Access,
+) -> Option<Refusal>
+    requires fits { Fits geometry.now image.now }
+    requires files { HasSoundFiles geometry.now image.now }
+    requires used { IsInUse geometry.now image.now i }
+    ensures first { result ≡ first_of (body_tests (tree geometry.now image.now) (bit_of access) cred i) }
+    ensures regular { result ≡ None → kind_at geometry.now image.now i ≡ Kind.Regular }
+{
+    match kind(image, geometry, i) {
+        Kind::Directory => Some(Refusal::IsDirectory),
+        Kind::Regular if grants(image, geometry, i, access, cred) => None,
+        Kind::Regular => Some(Refusal::Access),
+        _ => Some(Refusal::NotRegular),
+    }
+}
+
+/// Why i-node `i` isn't a directory that may be read, if it isn't.
+fn list_refusal(image: &Image, geometry: &Geometry, cred: Cred, i: u16) -> Option<Refusal>
+    requires fits { Fits geometry.now image.now }
+    requires files { HasSoundFiles geometry.now image.now }
+    requires used { IsInUse geometry.now image.now i }
+    ensures first { result ≡ first_of (list_tests (tree geometry.now image.now) cred i) }
+    ensures directory { result ≡ None → IsDirectory geometry.now image.now i }
+{
+    match kind(image, geometry, i) {
+        Kind::Directory if grants(image, geometry, i, Access::Read, cred) => None,
+        Kind::Directory => Some(Refusal::Access),
+        _ => Some(Refusal::NotDirectory),
+    }
+}
+
+/// The bytes of the regular file `i` from byte `offset` on, at most `len`.
+fn read(
+    alloc: Global,
+    image: &Image,
+    geometry: &Geometry,
+    i: u16,
+    offset: u32,
+    len: u32,
+) -> Result<Vec<u8>, AllocError>
+    requires fits { Fits geometry.now image.now }
+    requires files { HasSoundFiles geometry.now image.now }
+    requires file { IsFile geometry.now image.now i }
+    ensures { IfOk result (λ bytes. bytes.items ≡ read_bytes (body geometry.now image.now i) offset len) }
+{
+    let count = len.min(size(image, geometry, i).saturating_sub(offset));
+    let mut bytes = vec![in alloc; 0; count as usize]?;
+    vol_file::read(image, geometry, i, offset, &mut bytes);
+    Ok(bytes)
+}
+
+/// The names of directory `dir`, in ascending order of their bytes, with their i-numbers.
+fn list(
+    alloc: Global,
+    image: &Image,
+    geometry: &Geometry,
+    dir: u16,
+) -> Result<Vec<(Bytes, u16)>, AllocError>
+    requires fits { Fits geometry.now image.now }
+    requires entries { HasEntries geometry.now image.now }
+    requires directory { IsDirectory geometry.now image.now dir }
+    ensures { IfOk result (λ names. names.items ≡ names_of (slots geometry.now image.now dir)) }
+{
+    let names = collect_names(alloc, image, geometry, dir)?;
+    names
+        .into_iter()
+        .map(|(name, i)| (Bytes::from_vec(name), i))
+        .collect(alloc)
+}
+
+/// The names of directory `dir`, with their i-numbers.
+fn collect_names(
+    alloc: Global,
+    image: &Image,
+    geometry: &Geometry,
+    dir: u16,
+) -> Result<BTreeMap<Vec<u8>, u16>, AllocError>
+    requires fits { Fits geometry.now image.now }
+    requires entries { HasEntries geometry.now image.now }
+    requires directory { IsDirectory geometry.now image.now dir }
+    ensures { IfOk result (λ names. named names.entries ≡ names_of (slots geometry.now image.now dir)) }
+{
+    let mut names = BTreeMap::new(alloc);
+    let mut from = 0;
+    while let Some((s, slot)) = next_entry(image, geometry, dir, from) {
+        names.insert(Vec::from_slice(alloc, slot.name())?, slot.inode)?;
+        from = s + 1;
+    }
+    Ok(names)
+}
+
+#[cfg(test)]
+mod tests;

@@ -1,0 +1,91 @@
+//! Which refusal a call meets, if any.
+ghost use Rattle.std.specs.Prelude.{◌≡◌, ℕ, List, length};
+ghost use Rattle.vol_layout.specs.Geometry.{geometry_of, Fits};
+ghost use Rattle.vol_free.specs.Stack.{IsFree};
+ghost use Rattle.vol_dir.specs.Tree.{state, free_count, shapes};
+ghost use Rattle.vol_judge.specs.Sound.{IsSound};
+ghost use Rattle.vol_volume.specs.Standing.{Stands};
+ghost use Rattle.vol_volume.specs.Verdict.{verdict};
+
+mod asked;
+mod body;
+mod create;
+mod link;
+mod mkdir;
+mod rmdir;
+mod unlink;
+
+use crate::calls::Call;
+use body::{truncate, write};
+use create::create;
+use link::link;
+use mkdir::mkdir;
+use pdp_words::Image;
+use rmdir::rmdir;
+use unlink::unlink;
+use vol_dir::Refusal;
+use vol_layout::Geometry;
+
+/// The refusal that a call meets, if any: of those beside want of memory the first that applies, in the
+/// order of the definition. `free` is the number of free blocks.
+///
+/// Costs the walks of the call's paths, a search of the last directory, for what is made also of free
+/// i-numbers, and for a write one way for each logical block.
+pub(crate) fn verdict(image: &Image, geometry: &Geometry, free: u32, call: &Call) -> Option<Refusal>
+    requires sound { IsSound geometry.now.edition image.now }
+    requires sizes { geometry.now ≡ geometry_of geometry.now.edition image.now }
+    requires free { (blocks : List ℕ) → IsFree geometry.now image.now blocks → free ≡ length blocks }
+    ensures { result ≡ verdict (state geometry.now image.now) call.now }
+{
+    fits(image, geometry);
+    verdict_on(image, geometry, free, call)
+}
+
+/// What a call meets in an image that stands.
+#[tactic(auto, unfolding(crate::specs::Verdict::verdict))]
+fn verdict_on(image: &Image, geometry: &Geometry, free: u32, call: &Call) -> Option<Refusal>
+    requires stands { Stands geometry.now image.now }
+    requires count { free ≡ free_count geometry.now (shapes geometry.now image.now) }
+    ensures { result ≡ verdict (state geometry.now image.now) call.now }
+{
+    match call {
+        Call::Create { cred, path, .. } => create(image, geometry, free, *cred, path.as_slice()),
+        Call::Mkdir { cred, path, .. } => mkdir(image, geometry, free, *cred, path.as_slice()),
+        Call::Link {
+            cred,
+            source,
+            target,
+            ..
+        } => link(
+            image,
+            geometry,
+            free,
+            *cred,
+            source.as_slice(),
+            target.as_slice(),
+        ),
+        Call::Unlink { cred, path, .. } => unlink(image, geometry, *cred, path.as_slice()),
+        Call::Rmdir { cred, path, .. } => rmdir(image, geometry, *cred, path.as_slice()),
+        Call::Write {
+            cred,
+            path,
+            offset,
+            bytes,
+            ..
+        } => {
+            let path = path.as_slice();
+            let len = bytes.as_slice().len();
+            write(image, geometry, free, *cred, path, *offset, len)
+        }
+        Call::Truncate { cred, path, .. } => truncate(image, geometry, *cred, path.as_slice()),
+    }
+}
+
+/// Does nothing: the blocks of a sound image lie within it, and are no more than block numbers can say.
+fn fits(image: &Image, geometry: &Geometry)
+    requires sound { IsSound geometry.now.edition image.now }
+    requires sizes { geometry.now ≡ geometry_of geometry.now.edition image.now }
+    ensures { Fits geometry.now image.now }
+{
+    let _ = image.word(514);
+}

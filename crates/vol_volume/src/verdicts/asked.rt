@@ -1,0 +1,194 @@
+//! What is asked of calls one by one: facts of i-nodes, names and free blocks.
+ghost use Rattle.std.specs.Prelude.{◌≡◌, ◌≢◌, ℕ, ◌≤◌, if◌then◌else◌, Bool, true, false, List, None, Some, Ok, IfSome, IfOk, MatchResult};
+ghost use Rattle.vol_layout.specs.Geometry.{Fits};
+ghost use Rattle.vol_file.specs.Rules.{kind_at};
+ghost use Rattle.vol_dir.specs.Access.{bit_of, grants};
+ghost use Rattle.vol_dir.specs.Entries.{IsDirectory, IsInUse};
+ghost use Rattle.vol_dir.specs.Names.{get};
+ghost use Rattle.vol_dir.specs.Tree.{tree, state, free_count, shapes};
+ghost use Rattle.vol_dir.specs.Walk.{is_directory, walk_parent};
+ghost use Rattle.vol_node.specs.Nodes.{node_at, names_at, size_with_entry};
+ghost use Rattle.vol_volume.specs.Mkfs.{is_bad_id};
+ghost use Rattle.vol_volume.specs.Standing.{Stands};
+ghost use Rattle.vol_volume.specs.Verdict.{has_others, is_device, has_free_number, is_too_great, is_full, entry_need, is_above_free, has_zero, of_parent};
+
+use pdp_words::Image;
+use vol_dir::{Access, Cred, Refusal, find, grants, is_empty_dir, place_for, walk_parent};
+use vol_file::need;
+use vol_free::any_inode;
+use vol_layout::i_list::{mode, size};
+use vol_layout::slot::SLOT;
+use vol_layout::{Geometry, Kind, inode};
+
+/// What i-node `i` is.
+fn kind(image: &Image, geometry: &Geometry, i: u16) -> Kind
+    requires fits { Fits geometry.now image.now }
+    requires first { 1 ≤ i }
+    requires last { i ≤ geometry.now.last_inode }
+    ensures { result ≡ kind_at geometry.now image.now i }
+{
+    mode(image, geometry, i).kind(geometry.edition)
+}
+
+/// Whether i-node `i` is a directory.
+#[tactic(auto, using(crate::proofs::NodeReadings::directory_is, crate::proofs::NodeReadings::directory_not))]
+pub(crate) fn is_directory(image: &Image, geometry: &Geometry, i: u16) -> bool
+    requires fits { Fits geometry.now image.now }
+    requires first { 1 ≤ i }
+    requires last { i ≤ geometry.now.last_inode }
+    ensures node { result ≡ is_directory (node_at (tree geometry.now image.now) i) }
+    ensures directory { result ≡ true → IsDirectory geometry.now image.now i }
+    ensures other { result ≡ false → kind_at geometry.now image.now i ≢ Kind.Directory }
+{
+    kind(image, geometry, i) == Kind::Directory
+}
+
+/// Whether i-node `i` is a special file.
+#[tactic(auto, using(crate::proofs::NodeReadings::device_is, crate::proofs::NodeReadings::device_not))]
+pub(crate) fn is_device(image: &Image, geometry: &Geometry, i: u16) -> bool
+    requires fits { Fits geometry.now image.now }
+    requires first { 1 ≤ i }
+    requires last { i ≤ geometry.now.last_inode }
+    ensures node { result ≡ is_device (node_at (tree geometry.now image.now) i).content }
+    ensures other { result ≡ false → kind_at geometry.now image.now i ≢ Kind.Special }
+{
+    kind(image, geometry, i) == Kind::Special
+}
+
+/// Whether i-node `i`, which is in use, grants an access.
+#[tactic(auto, using(crate::proofs::NodeReadings::node_stored))]
+pub(crate) fn is_granted(
+    image: &Image,
+    geometry: &Geometry,
+    i: u16,
+    access: Access,
+    cred: Cred,
+) -> bool
+    requires stands { Stands geometry.now image.now }
+    requires used { IsInUse geometry.now image.now i }
+    ensures { result ≡ grants (bit_of access) cred (node_at (tree geometry.now image.now) i) }
+{
+    grants(image, geometry, i, access, cred)
+}
+
+/// Whether the link count of i-node `i`, which is in use, is at its limit.
+#[tactic(auto, using(crate::proofs::NodeReadings::links_are, crate::proofs::NodeReadings::tree_geometry))]
+pub(crate) fn is_full(image: &Image, geometry: &Geometry, i: u16) -> bool
+    requires stands { Stands geometry.now image.now }
+    requires used { IsInUse geometry.now image.now i }
+    ensures { result ≡ is_full (tree geometry.now image.now) (node_at (tree geometry.now image.now) i) }
+{
+    geometry.edition.constants().link_limit <= inode(image, geometry, i).links
+}
+
+/// The i-number that `name` has in directory `dir`.
+#[tactic(auto, using(crate::proofs::NodeReadings::names_are, crate::proofs::FoundNames::found_in_use))]
+pub(crate) fn entry(image: &Image, geometry: &Geometry, dir: u16, name: &[u8]) -> Option<u16>
+    requires stands { Stands geometry.now image.now }
+    requires directory { IsDirectory geometry.now image.now dir }
+    ensures value { result ≡ get (names_at (tree geometry.now image.now) dir) name.now }
+    ensures used { IfSome result (λ i. IsInUse geometry.now image.now i) }
+{
+    find(image, geometry, dir, name)
+}
+
+/// Whether directory `dir` has entries other than `.` and `..`.
+#[tactic(auto, using(crate::proofs::NodeReadings::names_are))]
+pub(crate) fn has_others(image: &Image, geometry: &Geometry, dir: u16) -> bool
+    requires fits { Fits geometry.now image.now }
+    requires directory { IsDirectory geometry.now image.now dir }
+    ensures { result ≡ has_others (tree geometry.now image.now) dir }
+{
+    !is_empty_dir(image, geometry, dir)
+}
+
+/// Whether an i-number can be taken.
+pub(crate) fn has_free_number(image: &Image, geometry: &Geometry) -> bool
+    requires { Stands geometry.now image.now }
+    ensures { result ≡ has_free_number (tree geometry.now image.now) }
+{
+    any_inode(image, geometry)
+}
+
+/// Whether directory `dir` would be greater than the greatest file with one more entry.
+#[tactic(auto, using(crate::proofs::NeedReadings::too_great_is))]
+pub(crate) fn is_too_great_with_entry(image: &Image, geometry: &Geometry, dir: u16) -> bool
+    requires fits { Fits geometry.now image.now }
+    requires directory { IsDirectory geometry.now image.now dir }
+    ensures { result ≡ is_too_great (tree geometry.now image.now) (size_with_entry (state geometry.now image.now) dir) }
+{
+    let end = u64::from(place_for(image, geometry, dir)) + SLOT as u64;
+    u64::from(geometry.edition.constants().greatest)
+        < u64::from(size(image, geometry, dir)).max(end)
+}
+
+/// How many blocks one more entry of directory `dir` needs.
+#[tactic(auto, using(crate::proofs::NeedReadings::entry_need_is))]
+pub(crate) fn entry_need(image: &Image, geometry: &Geometry, dir: u16) -> u32
+    requires fits { Fits geometry.now image.now }
+    requires directory { IsDirectory geometry.now image.now dir }
+    ensures { result ≡ entry_need (state geometry.now image.now) dir }
+{
+    need(
+        image,
+        geometry,
+        dir,
+        place_for(image, geometry, dir),
+        SLOT as u32,
+    )
+}
+
+/// Whether one more entry of directory `dir` needs more blocks than are free.
+#[tactic(auto, using(crate::proofs::NodeReadings::tree_geometry))]
+pub(crate) fn lacks_room(image: &Image, geometry: &Geometry, free: u32, dir: u16) -> bool
+    requires stands { Stands geometry.now image.now }
+    requires count { free ≡ free_count geometry.now (shapes geometry.now image.now) }
+    requires directory { IsDirectory geometry.now image.now dir }
+    ensures { result ≡ is_above_free (state geometry.now image.now) (entry_need (state geometry.now image.now) dir) }
+{
+    free < entry_need(image, geometry, dir)
+}
+
+/// Whether a path holds a zero byte.
+pub(crate) fn has_zero(path: &[u8]) -> bool
+    ensures { result ≡ has_zero path.now }
+{
+    path.contains(&0)
+}
+
+/// What every call and query is asked first: its user and group numbers, and zero bytes in its path.
+pub(crate) fn first_refusal(geometry: &Geometry, cred: Cred, path: &[u8]) -> Option<Refusal>
+    ensures { result ≡ (if is_bad_id geometry.now.edition cred.uid cred.gid then Some Refusal.BadId
+        else if has_zero path.now then Some Refusal.Invalid else None) }
+{
+    let limit = geometry.edition.constants().id_limit;
+    if limit < cred.uid || limit < cred.gid {
+        Some(Refusal::BadId)
+    } else if has_zero(path) {
+        Some(Refusal::Invalid)
+    } else {
+        None
+    }
+}
+
+/// The parent that a path leads to, and its last component. A path without component is refused as `bare`.
+pub(crate) fn parent<'a>(
+    image: &Image,
+    geometry: &Geometry,
+    cred: Cred,
+    path: &'a [u8],
+    bare: Refusal,
+) -> Result<(u16, &'a [u8]), Refusal>
+    requires { Fits geometry.now image.now }
+    ensures exact { MatchResult result
+        (λ found. walk_parent (tree geometry.now image.now) cred path.now ≡ Some (Ok (found.0, found.1.now)))
+        (λ refusal. (tests : ℕ → List ℕ → List (Bool × Refusal))
+        → of_parent (walk_parent (tree geometry.now image.now) cred path.now) bare tests ≡ Some refusal) }
+    ensures directory { IfOk result (λ found. IsDirectory geometry.now image.now found.0) }
+{
+    match walk_parent(image, geometry, cred, path) {
+        None => Err(bare),
+        Some(Err(refusal)) => Err(refusal),
+        Some(Ok(found)) => Ok(found),
+    }
+}

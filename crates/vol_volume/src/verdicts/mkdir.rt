@@ -1,0 +1,80 @@
+//! A call for a new directory.
+ghost use Rattle.std.specs.Prelude.{◌≡◌, ◌+◌, [], ◌∷◌};
+ghost use Rattle.vol_dir.specs.Entries.{IsDirectory};
+ghost use Rattle.vol_dir.specs.Tree.{tree, state, free_count, shapes};
+ghost use Rattle.vol_dir.specs.Walk.{walk_parent};
+ghost use Rattle.vol_volume.specs.Standing.{Stands};
+ghost use Rattle.vol_volume.specs.Verdict.{first_of, entry_need, is_above_free, then_others, of_parent, mkdir_tests};
+
+use crate::verdicts::asked::{
+    entry, entry_need, first_refusal, has_free_number, is_full, is_granted,
+    is_too_great_with_entry, parent,
+};
+use pdp_words::Image;
+use vol_dir::{Access, Cred, Refusal};
+use vol_layout::Geometry;
+
+/// Whether an entry for a new directory, which has a block of its own, needs more blocks than are free.
+#[tactic(auto, using(crate::proofs::NodeReadings::tree_geometry))]
+fn lacks_room_for_directory(image: &Image, geometry: &Geometry, free: u32, dir: u16) -> bool
+    requires stands { Stands geometry.now image.now }
+    requires count { free ≡ free_count geometry.now (shapes geometry.now image.now) }
+    requires directory { IsDirectory geometry.now image.now dir }
+    ensures { result ≡ is_above_free (state geometry.now image.now) (entry_need (state geometry.now image.now) dir + 1) }
+{
+    free <= entry_need(image, geometry, dir)
+}
+
+/// What is asked of the parent and the name of a new directory.
+fn mkdir_tests(
+    image: &Image,
+    geometry: &Geometry,
+    free: u32,
+    cred: Cred,
+    dir: u16,
+    name: &[u8],
+) -> Option<Refusal>
+    requires stands { Stands geometry.now image.now }
+    requires count { free ≡ free_count geometry.now (shapes geometry.now image.now) }
+    requires directory { IsDirectory geometry.now image.now dir }
+    ensures { result ≡ first_of (mkdir_tests (state geometry.now image.now) cred dir name.now) }
+{
+    if entry(image, geometry, dir, name).is_some() {
+        Some(Refusal::Exists)
+    } else if !is_granted(image, geometry, dir, Access::Write, cred) {
+        Some(Refusal::Access)
+    } else if is_full(image, geometry, dir) {
+        Some(Refusal::TooManyLinks)
+    } else if is_too_great_with_entry(image, geometry, dir) {
+        Some(Refusal::TooBig)
+    } else if !has_free_number(image, geometry) {
+        Some(Refusal::NoInode)
+    } else if lacks_room_for_directory(image, geometry, free, dir) {
+        Some(Refusal::NoSpace)
+    } else {
+        None
+    }
+}
+
+/// What a call for a new directory meets.
+#[tactic(auto, using(crate::proofs::NodeReadings::tree_geometry))]
+pub(crate) fn mkdir(
+    image: &Image,
+    geometry: &Geometry,
+    free: u32,
+    cred: Cred,
+    path: &[u8],
+) -> Option<Refusal>
+    requires stands { Stands geometry.now image.now }
+    requires count { free ≡ free_count geometry.now (shapes geometry.now image.now) }
+    ensures { result ≡ then_others (tree geometry.now image.now) cred (path.now ∷ [])
+        (of_parent (walk_parent (tree geometry.now image.now) cred path.now) Refusal.Exists (mkdir_tests (state geometry.now image.now) cred)) }
+{
+    if let Some(refusal) = first_refusal(geometry, cred, path) {
+        return Some(refusal);
+    }
+    match parent(image, geometry, cred, path, Refusal::Exists) {
+        Ok((dir, name)) => mkdir_tests(image, geometry, free, cred, dir, name),
+        Err(refusal) => Some(refusal),
+    }
+}

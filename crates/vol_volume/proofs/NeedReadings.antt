@@ -24,7 +24,8 @@ use Rattle.vol_dir.specs.Searching.{new_slot}
 use Rattle.vol_dir.specs.Tree.{form_in, is_place, is_named_place, is_number, no_shape, shape_of, shapes, tree, state}
 use Rattle.vol_node.specs.Nodes.{size_with_entry}
 use Rattle.vol_node.specs.Shapes.{need_in, entry_blocks}
-use Rattle.vol_volume.specs.Verdict.{entry_need, write_need, is_too_great}
+use Rattle.vol_change.specs.Ready.{entry_need}
+use Rattle.vol_volume.specs.Verdict.{write_need, is_too_great}
 use Rattle.vol_volume.proofs.NodeReadings.{tree_geometry, size_is}
 
 -- a place passes the test for places

@@ -1,47 +1,15 @@
 -- What an accepted call makes of a tree and of the shapes of its files.
-use Rattle.std.specs.Prelude.{ℕ, ◌+◌, ◌-◌, ◌%◌, ◌==◌, max, nat_le, if◌then◌else◌, List, [], ◌∷◌, ◌++◌, take, drop, length, replicate, Option, None, Some, Result, Ok, Err}
-use Rattle.std.specs.Option.{option_map}
-use Rattle.vol_file.specs.Shape.{touched}
-use Rattle.vol_dir.specs.Names.{Names, insert, remove, dot, dot_dot}
-use Rattle.vol_dir.specs.Tree.{Content, Body, Directory, Device, Node, Tree, Shape, State, no_shape}
+use Rattle.std.specs.Prelude.{ℕ, List, Option, None, Some, Result, Ok, Err}
+use Rattle.vol_dir.specs.Tree.{State}
 use Rattle.vol_dir.specs.Walk.{walk, walk_parent}
-use Rattle.vol_node.specs.Nodes.{node_at, entry_of, size_with_entry}
-use Rattle.vol_node.specs.Edits.{put_node, put_shape, remove_node, at_time, new_node, add_entry, remove_entry, add_link, drop_link, release, new_directory, after_write, after_truncate}
-use Rattle.vol_node.specs.Shapes.{new_directory_shape}
-use Rattle.vol_layout.specs.declared.edition.Edition.{Edition}
+use Rattle.vol_node.specs.Edits.{at_time, after_write, after_truncate}
+use Rattle.vol_change.specs.Effects.{after_create, after_mkdir, after_link, after_unlink, after_rmdir}
 use Rattle.vol_dir.specs.declared.cred.Cred.{Cred}
 use Rattle.vol_dir.specs.declared.refusal.Refusal.{Refusal}
 use Rattle.vol_volume.specs.declared.calls.Call.{Call}
 use Rattle.vol_volume.specs.declared.calls.Call.TheVariants.{Create, Mkdir, Link, Unlink, Rmdir, Write, Truncate}
 use Rattle.vol_volume.specs.declared.calls.Done.{Done}
 use Rattle.vol_volume.specs.declared.calls.Done.TheVariants.{Made, Wrote, Plain}
-
--- a regular file without bytes, of number `made`, with a name in d (Lions on maknode)
-abbrev pub after_create : State → Cred → ℕ → ℕ → ℕ → ℕ → List ℕ → State
-after_create state cred now perm made d name =
-    add_entry now d name made
-    (put_shape made no_shape
-    (put_node made (Some (new_node state.tree.geometry.edition cred now perm (Body []) 1 0)) state))
-
--- a directory of number `made`, with a name in d, to which its `..` is a link more (mkdir)
-abbrev pub after_mkdir : State → Cred → ℕ → ℕ → ℕ → ℕ → List ℕ → State
-after_mkdir state cred now perm made d name =
-    add_link now d (add_entry now d name made
-    (put_shape made (new_directory_shape state.tree.geometry.edition)
-    (put_node made (Some (new_node state.tree.geometry.edition cred now perm (new_directory made d) 2 32)) state)))
-
--- a further name, in d, of node i (Lions on link)
-abbrev pub after_link : State → ℕ → ℕ → ℕ → List ℕ → State
-after_link state now i d name = add_entry now d name i (add_link now i state)
-
--- a name in d goes, and with its last name the node (Lions on unlink)
-abbrev pub after_unlink : State → ℕ → ℕ → List ℕ → State
-after_unlink state now d name = release now (entry_of state.tree d name) (remove_entry now d name state)
-
--- a directory goes, with its name in d and the link that its `..` was (rmdir)
-abbrev pub after_rmdir : State → ℕ → ℕ → List ℕ → State
-after_rmdir state now d name =
-    remove_node (entry_of state.tree d name) (drop_link now d (remove_entry now d name state))
 
 -- the state changed at the node that a walk leads to; where it leads nowhere, the state as it is
 abbrev pub on_node : State → Result ℕ Refusal → (ℕ → State) → State

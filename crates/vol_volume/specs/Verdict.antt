@@ -10,7 +10,8 @@ use Rattle.vol_dir.specs.Tree.{Content, Body, Directory, Device, Node, Tree, Sta
 use Rattle.vol_dir.specs.Walk.{root, map_of, is_directory, walk, walk_parent}
 use Rattle.vol_volume.specs.Mkfs.{is_bad_id}
 use Rattle.vol_node.specs.Nodes.{node_at, names_at, entry_of, size_with_entry}
-use Rattle.vol_node.specs.Shapes.{need_in, entry_blocks}
+use Rattle.vol_node.specs.Shapes.{need_in}
+use Rattle.vol_change.specs.Ready.{entry_need}
 use Rattle.vol_dir.specs.declared.cred.Cred.{Cred}
 use Rattle.vol_dir.specs.declared.refusal.Refusal.{Refusal}
 use Rattle.vol_dir.specs.declared.refusal.Refusal.TheVariants as refusals
@@ -51,10 +52,6 @@ is_too_great tree size = nat_lt (constants tree.geometry.edition).greatest size
 -- whether a node's link count is at the limit (this project)
 abbrev pub is_full : Tree → Node → Bool
 is_full tree node = nat_le (constants tree.geometry.edition).link_limit node.links
-
--- how many blocks one more entry in directory d needs (Lions on bmap)
-abbrev pub entry_need : State → ℕ → ℕ
-entry_need state d = need_in state.tree.geometry.edition (state.shapes d) (entry_blocks (state.shapes d))
 
 -- how many blocks a write of some bytes from an offset on into file i needs (Lions on bmap)
 abbrev pub write_need : State → ℕ → ℕ → ℕ → ℕ

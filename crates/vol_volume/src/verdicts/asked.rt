@@ -10,7 +10,8 @@ ghost use Rattle.vol_dir.specs.Walk.{is_directory, walk_parent};
 ghost use Rattle.vol_node.specs.Nodes.{node_at, names_at, size_with_entry};
 ghost use Rattle.vol_volume.specs.Mkfs.{is_bad_id};
 ghost use Rattle.vol_volume.specs.Standing.{Stands};
-ghost use Rattle.vol_volume.specs.Verdict.{has_others, is_device, has_free_number, is_too_great, is_full, entry_need, is_above_free, has_zero, of_parent};
+ghost use Rattle.vol_volume.specs.Verdict.{has_others, is_device, has_free_number, is_too_great, is_full, is_above_free, has_zero, of_parent};
+ghost use Rattle.vol_change.specs.Ready.{entry_need};
 
 use pdp_words::Image;
 use vol_dir::{Access, Cred, Refusal, find, grants, is_empty_dir, place_for, walk_parent};

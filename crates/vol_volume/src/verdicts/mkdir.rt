@@ -4,7 +4,8 @@ ghost use Rattle.vol_dir.specs.Entries.{IsDirectory};
 ghost use Rattle.vol_dir.specs.Tree.{tree, state, free_count, shapes};
 ghost use Rattle.vol_dir.specs.Walk.{walk_parent};
 ghost use Rattle.vol_volume.specs.Standing.{Stands};
-ghost use Rattle.vol_volume.specs.Verdict.{first_of, entry_need, is_above_free, then_others, of_parent, mkdir_tests};
+ghost use Rattle.vol_volume.specs.Verdict.{first_of, is_above_free, then_others, of_parent, mkdir_tests};
+ghost use Rattle.vol_change.specs.Ready.{entry_need};
 
 use crate::verdicts::asked::{
     entry, entry_need, first_refusal, has_free_number, is_full, is_granted,

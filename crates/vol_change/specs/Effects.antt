@@ -1,0 +1,34 @@
+-- What each call makes of a state, once its paths are walked.
+use Rattle.std.specs.Prelude.{ℕ, List, [], Some}
+use Rattle.vol_dir.specs.Tree.{Body, State, no_shape}
+use Rattle.vol_node.specs.Edits.{put_node, put_shape, remove_node, new_node, add_entry, remove_entry, add_link, drop_link, release, new_directory}
+use Rattle.vol_node.specs.Nodes.{entry_of}
+use Rattle.vol_node.specs.Shapes.{new_directory_shape}
+use Rattle.vol_dir.specs.declared.cred.Cred.{Cred}
+
+-- a regular file without bytes, of number `made`, with a name in d (Lions on maknode)
+abbrev pub after_create : State → Cred → ℕ → ℕ → ℕ → ℕ → List ℕ → State
+after_create state cred now perm made d name =
+    add_entry now d name made
+    (put_shape made no_shape
+    (put_node made (Some (new_node state.tree.geometry.edition cred now perm (Body []) 1 0)) state))
+
+-- a directory of number `made`, with a name in d, to which its `..` is a link more (mkdir)
+abbrev pub after_mkdir : State → Cred → ℕ → ℕ → ℕ → ℕ → List ℕ → State
+after_mkdir state cred now perm made d name =
+    add_link now d (add_entry now d name made
+    (put_shape made (new_directory_shape state.tree.geometry.edition)
+    (put_node made (Some (new_node state.tree.geometry.edition cred now perm (new_directory made d) 2 32)) state)))
+
+-- a further name, in d, of node i (Lions on link)
+abbrev pub after_link : State → ℕ → ℕ → ℕ → List ℕ → State
+after_link state now i d name = add_entry now d name i (add_link now i state)
+
+-- a name in d goes, and with its last name the node (Lions on unlink)
+abbrev pub after_unlink : State → ℕ → ℕ → List ℕ → State
+after_unlink state now d name = release now (entry_of state.tree d name) (remove_entry now d name state)
+
+-- a directory goes, with its name in d and the link that its `..` was (rmdir)
+abbrev pub after_rmdir : State → ℕ → ℕ → List ℕ → State
+after_rmdir state now d name =
+    remove_node (entry_of state.tree d name) (drop_link now d (remove_entry now d name state))

@@ -1,0 +1,36 @@
+-- What is known of an image before a call is made on it, and after.
+use Rattle.std.specs.Prelude.{◌≡◌, ℕ, ◌≤◌, List, None}
+use Rattle.vol_layout.specs.Edition.{constants}
+use Rattle.vol_layout.specs.Geometry.{Fits, geometry_of}
+use Rattle.vol_dir.specs.Names.{get}
+use Rattle.vol_dir.specs.Tree.{State, state, free_count}
+use Rattle.vol_judge.specs.Sound.{IsSound}
+use Rattle.vol_node.specs.Nodes.{names_at, size_with_entry}
+use Rattle.vol_node.specs.Shapes.{need_in, entry_blocks}
+use Rattle.vol_node.specs.Whole.{StaysAround}
+use Rattle.vol_layout.specs.declared.geometry.Geometry.{Geometry}
+
+-- a sound image with its own geometry (icheck, dcheck)
+pub record IsReady (geometry : Geometry) (image : List ℕ) : Type 0 where
+  pub fits : Fits geometry image
+  pub sizes : geometry ≡ geometry_of geometry.edition image
+  pub sound : IsSound geometry.edition image
+
+-- directory d doesn't have the name yet, and isn't too great with one more entry (Lions on wdir)
+pub record TakesName (state : State) (d : ℕ) (name : List ℕ) : Type 0 where
+  pub fresh : get (names_at state.tree d) name ≡ None
+  pub greatest : size_with_entry state d ≤ (constants state.tree.geometry.edition).greatest
+
+-- how many blocks one more entry in directory d needs (Lions on bmap)
+abbrev pub entry_need : State → ℕ → ℕ
+entry_need state d = need_in state.tree.geometry.edition (state.shapes d) (entry_blocks (state.shapes d))
+
+-- how many blocks are free (icheck)
+abbrev pub free_in : State → ℕ
+free_in state = free_count state.tree.geometry state.shapes
+
+-- the image has become that of another state, it is sound as it was, and the bytes that no call changes stay (this project)
+pub record Changes (geometry : Geometry) (old new : List ℕ) (made : State) : Type 0 where
+  pub ready : IsReady geometry new
+  pub around : StaysAround geometry old new
+  pub makes : state geometry new ≡ made

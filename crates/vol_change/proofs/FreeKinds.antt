@@ -1,5 +1,5 @@
 -- What is free in the graph is an i-number that may be taken.
-use Rattle.std.proofs.Common.{◌≡◌, ◌≢◌, ◌∙◌, sym, ap, subst, ℕ, ◌/◌, ◌%◌, ◌==◌, Bool, true, false, nat_lt, if◌then◌else◌, List, inl, inr, arith, Option, None, Some, IfSome}
+use Rattle.std.proofs.Common.{◌≡◌, ◌≢◌, ◌∙◌, sym, ap, ℕ, ◌/◌, ◌%◌, ◌==◌, Bool, true, false, nat_lt, if◌then◌else◌, List, inl, inr, arith, Option, None, Some, IfSome}
 use Rattle.std.specs.Option.{unwrap_or}
 use Rattle.std.proofs.lemmas.Bool.{cases_eq}
 use Rattle.std.proofs.lemmas.Bool.Decides.{nat_tests}
@@ -12,7 +12,6 @@ use Rattle.vol_layout.specs.declared.mode.Kind.{Kind}
 use Rattle.vol_layout.specs.declared.mode.Kind.TheVariants as kinds
 use Rattle.vol_layout.proofs.KindLaws.{kind_zero}
 use Rattle.vol_free.specs.Numbers.{IsFreeNumber}
-use Rattle.vol_file.proofs.Naming.{root_first}
 use Rattle.vol_judge.specs.Graph.{graph_of}
 use Rattle.vol_judge.specs.GraphEdits.{IsSameGraph}
 use Rattle.vol_judge.proofs.ImageGraphs.{kind_inside}

@@ -1,11 +1,10 @@
 -- What a change of another node leaves of a directory that takes a name.
-use Rattle.std.proofs.Common.{◌≡◌, ◌≢◌, ◌∙◌, sym, ap, subst, refl, ℕ, ◌+◌, ◌*◌, ◌%◌, ◌≤◌, ◌==◌, max, if◌then◌else◌, List, [], Option, None, Some, inl, inr, eq-eqb, arith}
+use Rattle.std.proofs.Common.{◌≡◌, ◌≢◌, ◌∙◌, sym, ap, subst, ℕ, ◌+◌, ◌*◌, ◌%◌, ◌≤◌, max, if◌then◌else◌, List, [], Option, inl, inr, eq-eqb, arith}
 use Rattle.std.specs.Option.{unwrap_or}
 use Rattle.std.proofs.lemmas.Bool.{cases_eq, ne_eqb}
 use Rattle.vol_layout.specs.Edition.{constants}
 use Rattle.vol_layout.specs.Inode.{kind_of}
 use Rattle.vol_layout.specs.declared.geometry.Geometry.{Geometry}
-use Rattle.vol_layout.specs.declared.mode.Kind.TheVariants as kinds
 use Rattle.vol_layout.proofs.KindLaws.{kind_zero}
 use Rattle.vol_free.specs.Numbers.{IsFreeNumber}
 use Rattle.vol_file.specs.Rules.{size_of}

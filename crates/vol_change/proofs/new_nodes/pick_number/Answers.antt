@@ -1,4 +1,4 @@
-use Rattle.std.proofs.Common.{sym, subst, ℕ, IfSome}
+use Rattle.std.proofs.Common.{sym, subst}
 use Rattle.vol_free.specs.Numbers.{IsFreeNumber}
 use Rattle.vol_change.proofs.FreeKinds.{chosen_free}
 use Rattle.vol_change.proofs.new_nodes.pick_number.Goals as goal

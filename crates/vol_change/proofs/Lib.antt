@@ -1,1 +1,5 @@
 pub mod ReadyLaws
+pub mod FreeKinds
+pub mod NamedNodes
+pub mod NodeLinks
+pub mod SideStates

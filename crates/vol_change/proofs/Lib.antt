@@ -1,0 +1,4 @@
+pub mod CallSteps
+pub mod LeftGraphs
+pub mod NamedNodes
+pub mod ReadyLaws

@@ -1,4 +1,4 @@
 pub mod CallSteps
+pub mod EntryNodes
 pub mod LeftGraphs
-pub mod NamedNodes
 pub mod ReadyLaws

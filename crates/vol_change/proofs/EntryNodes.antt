@@ -22,7 +22,6 @@ use Rattle.vol_judge.specs.Graph.{graph_of}
 use Rattle.vol_judge.proofs.EditedGraphs.{only_dots}
 use Rattle.vol_judge.proofs.GraphParts.{not_free}
 use Rattle.vol_judge.proofs.ImageGraphs.{entry_to, used_from, directory_to}
-
 use Rattle.vol_node.specs.Nodes.{no_node, node_at, names_at}
 use Rattle.vol_node.specs.Whole.{IsWhole}
 use Rattle.vol_node.proofs.EntryStates.{names_is, named_slot}

@@ -1,4 +1,4 @@
-use Rattle.std.proofs.Common.{◌≡◌, sym, ap, subst, ◌≤◌, length, arith}
+use Rattle.std.proofs.Common.{◌≡◌, ap, ◌≤◌, length, arith}
 use Rattle.std.proofs.lemmas.Bool.Decides.{nat_tests}
 use Rattle.vol_layout.specs.Names.{IsFile}
 use Rattle.vol_layout.specs.Places.{has_places}

@@ -1,5 +1,9 @@
 pub mod CallSteps
 pub mod EntryNodes
+pub mod FreeKinds
 pub mod LeftGraphs
 pub mod LeftNodes
+pub mod NamedNodes
+pub mod NodeLinks
 pub mod ReadyLaws
+pub mod SideStates

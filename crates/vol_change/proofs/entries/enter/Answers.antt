@@ -24,7 +24,7 @@ add_name-requires-clause-greatest c =
     let at : IsKind c.args.geometry.now c.args.image.now c.args.dir kinds.Directory =
     record { first = c.requires.directory.first; last = c.requires.directory.last; kind = c.requires.directory.kind } in
     let same : 16 * new_slot (shapes c.args.geometry.now c.args.image.now c.args.dir).slots + 16
-        ≡ 16 * new_slot (names_in (slots c.args.geometry.now c.args.image.now c.args.dir)) + 16 =
+    ≡ 16 * new_slot (names_in (slots c.args.geometry.now c.args.image.now c.args.dir)) + 16 =
     ap (λ (shape : Shape). 16 * new_slot shape.slots + 16) (shape_is c.args.geometry.now c.args.image.now c.args.dir at) in
     omega (arith, c.requires.takes.greatest, same)
 

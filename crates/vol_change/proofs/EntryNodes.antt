@@ -1,35 +1,31 @@
 -- What a name in a directory of a sound image says of the node that it names.
-use Rattle.std.proofs.Common.{◌≡◌, ◌≢◌, ◌∙◌, sym, ap, ℕ, ◌<◌, ◌≤◌, not, true, false, true≢false, List, length, Option, None, Some, inl, inr, arith}
+use Rattle.std.proofs.Common.{◌≡◌, ◌≢◌, ◌∙◌, sym, ap, ℕ, ◌<◌, ◌≤◌, not, true, false, true≢false, List, length, None, Some, inl, inr, arith}
 use Rattle.std.specs.List.{list_any}
-use Rattle.std.specs.Option.{IsSome, is_some, option_map, unwrap_or}
+use Rattle.std.specs.Option.{IsSome, is_some, option_map}
 use Rattle.std.proofs.lemmas.Bool.{cases_lt, cases_eq, cases_Bool}
 use Rattle.std.proofs.lemmas.List.Folds.{list_any_at}
 use Rattle.vol_layout.specs.Edition.{constants}
 use Rattle.vol_layout.specs.Inode.{inode_of}
 use Rattle.vol_layout.specs.declared.geometry.Geometry.{Geometry}
-use Rattle.vol_layout.specs.declared.i_node.Inode.{Inode}
-use Rattle.vol_layout.specs.declared.mode.Kind.{Kind}
 use Rattle.vol_layout.specs.declared.mode.Kind.TheVariants as kinds
 use Rattle.vol_file.specs.Rules.{kind_at}
 use Rattle.vol_file.proofs.Naming.{root_first}
 use Rattle.vol_dir.specs.Entries.{IsDirectory, IsInUse, entry_at, slots}
 use Rattle.vol_dir.specs.Names.{get, names_of, is_dots, dot}
 use Rattle.vol_dir.specs.Searching.{holds_other, slot_named}
-use Rattle.vol_dir.specs.Tree.{Content, node_of, node_with, content_of, tree}
+use Rattle.vol_dir.specs.Tree.{tree}
 use Rattle.vol_dir.proofs.NameMaps.{any_other}
 use Rattle.vol_dir.proofs.SlotReading.{slot_is, length-slots, entry_at_past}
 use Rattle.vol_judge.specs.Graph.{graph_of}
 use Rattle.vol_judge.proofs.EditedGraphs.{only_dots}
 use Rattle.vol_judge.proofs.GraphParts.{not_free}
 use Rattle.vol_judge.proofs.ImageGraphs.{entry_to, used_from, directory_to}
-use Rattle.vol_node.specs.Nodes.{no_node, node_at, names_at}
-use Rattle.vol_node.specs.Whole.{IsWhole}
+use Rattle.vol_node.specs.Nodes.{names_at}
 use Rattle.vol_node.proofs.EntryStates.{names_is, named_slot}
-use Rattle.vol_node.proofs.FileStates.{node_inside}
 use Rattle.vol_change.specs.Ready.{IsReady}
 use Rattle.vol_change.proofs.ReadyLaws.{ready_whole, ready_graph}
 
--- the name that a node of the tree has is one of the directory's slots
+-- a name that the tree has in a directory is one of the names in its slots
 pub name_found : (geometry : Geometry) (image name : List ℕ) (d i : ℕ) → IsDirectory geometry image d
     → get (names_at (tree geometry image) d) name ≡ Some i → get (names_of (slots geometry image d)) name ≡ Some i
 name_found geometry image name d i is named =
@@ -115,27 +111,3 @@ dots_only geometry image word i t j is only some =
     let none : list_any holds_other (slots geometry image i) ≡ false =
     sym (any_other (slots geometry image i)) ∙ (ap (list_any (λ (entry : List ℕ × ℕ). not (is_dots entry.0))) (sym names) ∙ only) in
     only_dots geometry image word i t j (λ s. other_none geometry image i s none) some
-
--- the links of a node are those of its i-node, where it holds something
-links_by : (node : Inode) (content : Option Content) → is_some content ≡ true
-    → (unwrap_or (option_map (node_with node) content) no_node).links ≡ node.links
-links_by node None some = absurd (true≢false (sym some))
-links_by node (Some content) some = λ k. node.links
-
--- what is neither free nor odd holds something
-holds_some : (geometry : Geometry) (image : List ℕ) (i : ℕ) (kind : Kind) → kind ≢ kinds.Free → kind ≢ kinds.Odd
-    → is_some (content_of geometry image i kind) ≡ true
-holds_some geometry image i kinds.Free used known = absurd (used (λ k. kinds.Free))
-holds_some geometry image i kinds.Odd used known = absurd (known (λ k. kinds.Odd))
-holds_some geometry image i kinds.Regular used known = λ k. true
-holds_some geometry image i kinds.Directory used known = λ k. true
-holds_some geometry image i kinds.Special used known = λ k. true
-
--- the links of a node are those of its i-node
-pub node_links : (geometry : Geometry) (image : List ℕ) (i : ℕ) → IsWhole geometry image → 1 ≤ i → i ≤ geometry.last_inode
-    → kind_at geometry image i ≢ kinds.Free → (node_at (tree geometry image) i).links ≡ (inode_of geometry.edition image i).links
-unfolding node_of
-node_links geometry image i whole first last used =
-    ap (λ node. (unwrap_or node no_node).links) (node_inside geometry image i first last)
-    ∙ links_by (inode_of geometry.edition image i) (content_of geometry image i (kind_at geometry image i))
-    (holds_some geometry image i (kind_at geometry image i) used (whole.sound.kinds.known i first last))

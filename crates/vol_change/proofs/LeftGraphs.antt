@@ -1,5 +1,5 @@
 -- What the steps of a call that takes a name out of a directory make of the graph.
-use Rattle.std.proofs.Common.{◌≡◌, ◌≢◌, ◌∙◌, sym, ap, subst, ℕ, ◌+◌, ◌-◌, ◌%◌, ◌<◌, ◌≤◌, true≢false, false, true, List, None, Some, arith}
+use Rattle.std.proofs.Common.{◌≡◌, ◌≢◌, ◌∙◌, sym, ap, ℕ, ◌-◌, ◌%◌, ◌<◌, ◌≤◌, true≢false, false, true, List, None, Some, arith}
 use Rattle.vol_dir.specs.Names.{is_dots}
 use Rattle.vol_judge.specs.Graph.{Graph}
 use Rattle.vol_judge.specs.GraphEdits.{ChangesSlot, KeepsOthers, DropsName, DropsFile, DropsDirectory}
@@ -7,7 +7,7 @@ use Rattle.vol_layout.specs.declared.mode.Kind.TheVariants as kinds
 use Rattle.vol_node.specs.Beside.{StaysBeside}
 use Rattle.vol_node.specs.NodeGraphs.{SetsLinks, DropsNode}
 
--- what has no name but one in directory d leaves it: its entry in slot s
+-- the entry of a name, which i-number i has, goes from slot s of directory d
 pub record LeavesSlot (old mid : Graph) (i d s : ℕ) (name : List ℕ) : Type 0 where
   pub slot : ChangesSlot old mid d s (Some (name, i)) None
   pub beside : StaysBeside old mid d
@@ -36,7 +36,7 @@ others_linked old mid new i d s x count name leaves sets = record {
 still_used : (old mid : Graph) (d x : ℕ) → StaysBeside old mid d → old.kind x ≢ kinds.Free → mid.kind x ≢ kinds.Free
 still_used old mid d x beside used free = used (sym (beside.kind x) ∙ free)
 
--- with one link less, a name has gone
+-- with one link less, what isn't a directory has lost a name
 pub left_name : (old mid new : Graph) (i d s count : ℕ) (name : List ℕ) → LeavesSlot old mid i d s name → SetsLinks mid new i count
     → count ≡ mid.links i - 1 → old.kind i ≢ kinds.Free → old.kind i ≢ kinds.Directory → 1 < mid.links i → DropsName old new i d s name
 left_name old mid new i d s count name leaves sets less used other most =
@@ -51,7 +51,7 @@ left_name old mid new i d s count name leaves sets less used other most =
       kept = λ x away some. sets.kept x away (still_used old mid d x leaves.beside some) ∙ leaves.beside.links x some;
     }
 
--- and without the node, the file
+-- without its node, it has gone
 pub left_file : (old mid new : Graph) (i d s : ℕ) (name : List ℕ) → LeavesSlot old mid i d s name → DropsNode mid new i
     → old.kind i ≢ kinds.Free → old.kind i ≢ kinds.Directory → mid.links i ≤ 1 → DropsFile old new i d s name
 left_file old mid new i d s name leaves drops used other last =
@@ -82,7 +82,7 @@ pub other_directory : (old mid : Graph) (i d s : ℕ) (name : List ℕ) → Leav
 other_directory old mid i d s name leaves plain only same =
     true≢false (sym (only s i name (ap (λ y. old.entry y s) (sym same) ∙ leaves.slot.was)) ∙ plain)
 
--- without the node, and without the link that its `..` was, a directory has gone
+-- without its node, and without the link that its `..` was, a directory has gone
 pub left_directory : (old mid low new : Graph) (i d s count : ℕ) (name : List ℕ) → LeavesSlot old mid i d s name → SetsLinks mid low d count
     → DropsNode low new i → count ≡ mid.links d - 1 → 1 ≤ mid.links d → is_dots name ≡ false → old.kind i ≡ kinds.Directory
     → ((t j : ℕ) (word : List ℕ) → old.entry i t ≡ Some (word, j) → is_dots word ≡ true) → DropsDirectory old new i d s name

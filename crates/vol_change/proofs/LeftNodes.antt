@@ -1,5 +1,5 @@
 -- What a name that goes leaves of an image, with the node that it named.
-use Rattle.std.proofs.Common.{◌≡◌, ◌≢◌, ◌∙◌, sym, ap, subst, ℕ, ◌-◌, ◌<◌, ◌≤◌, nat_le, if◌then◌else◌, not, true, false, refl, List, Option, None, Some, arith}
+use Rattle.std.proofs.Common.{◌≡◌, ◌≢◌, ◌∙◌, sym, ap, subst, ℕ, ◌-◌, ◌<◌, ◌≤◌, nat_le, if◌then◌else◌, not, true, false, refl, List, None, Some, arith}
 use Rattle.std.specs.List.{list_any}
 use Rattle.std.specs.Option.{option_map, unwrap_or}
 use Rattle.std.proofs.lemmas.Bool.Decides.{nat_tests}
@@ -26,8 +26,9 @@ use Rattle.vol_node.proofs.WholeLaws.{keeps_then}
 use Rattle.vol_change.specs.Effects.{after_unlink, after_rmdir}
 use Rattle.vol_change.specs.Ready.{IsReady}
 use Rattle.vol_change.proofs.CallSteps.{HasMade}
-use Rattle.vol_change.proofs.EntryNodes.{name_found, named_used, used_first, node_links, dots_only, directory_linked}
+use Rattle.vol_change.proofs.EntryNodes.{name_found, named_used, used_first, dots_only, directory_linked}
 use Rattle.vol_change.proofs.LeftGraphs.{LeavesSlot, left_name, left_file, left_directory}
+use Rattle.vol_change.proofs.NodeLinks.{links_is}
 use Rattle.vol_change.proofs.ReadyLaws.{ready_graph}
 
 -- the entry of a name, which i-number i has, goes from directory d of a sound image
@@ -104,7 +105,7 @@ left_links : (geometry : Geometry) (old mid : List ℕ) (d i : ℕ) (name : List
     → (node_at (tree geometry mid) i).links ≡ (inode_of geometry.edition mid i).links
 left_links geometry old mid d i name now leaves =
     let used = named_used geometry old name d i leaves.ready leaves.directory leaves.named in
-    node_links geometry mid i leaves.keeps.whole (used_first geometry old i used) used.last (left_used geometry old mid d i name now leaves)
+    links_is geometry mid i leaves.keeps.whole.sound.kinds (used_first geometry old i used) used.last (left_used geometry old mid d i name now leaves)
 
 -- the node that is released is the one that is named
 released : (geometry : Geometry) (old mid : List ℕ) (d i : ℕ) (name : List ℕ) (now : ℕ) → LeavesEntry geometry old mid d i name now

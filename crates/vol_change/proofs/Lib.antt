@@ -1,0 +1,2 @@
+pub mod NodeEdits
+pub mod ReadyLaws

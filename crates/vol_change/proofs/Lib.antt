@@ -1,2 +1,6 @@
+pub mod DotGraphs
+pub mod DotImages
+pub mod DotRooms
+pub mod DotStates
 pub mod NodeEdits
 pub mod ReadyLaws

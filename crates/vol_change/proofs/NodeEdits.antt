@@ -86,7 +86,17 @@ with_entry name i shape node = record node {
 -- a directory with one more entry, and its times
 abbrev entered : ℕ → List ℕ → ℕ → Option Node → Shape → Option Node
 entered now name i node shape =
-    option_map (λ x. record (modified now x) { content = change_names (λ names. insert names name i) x.content; size = grown node shape }) node
+    option_map (λ (x : Node). record (modified now x) { content = change_names (λ names. insert names name i) x.content; size = grown node shape }) node
+
+-- a directory that gets a new entry
+pub entry_here : (state : State) (d i : ℕ) (name : List ℕ) (node : Node) → state.tree.nodes d ≡ Some node
+    → (put_entry d name i state).tree.nodes d ≡ Some (with_entry name i (state.shapes d) node)
+entry_here state d i name node is =
+    set_here state.tree.nodes d _
+    ∙ ap (λ (x : Option Node). option_map (λ (y : Node). record y {
+      content = change_names (λ names. insert names name i) y.content;
+      size = grown x (state.shapes d);
+    }) x) is
 
 -- a new entry of a node that was put
 pub entry_over : (state : State) (d i : ℕ) (name : List ℕ) (node : Node) (shape : Shape)
@@ -95,7 +105,7 @@ pub entry_over : (state : State) (d i : ℕ) (name : List ℕ) (node : Node) (sh
 entry_over state d i name node shape =
     let put = edit d (Some node) shape state in
     let edition = state.tree.geometry.edition in
-    ap (λ (x : Option Node). edit d (option_map (λ y. record y {
+    ap (λ (x : Option Node). edit d (option_map (λ (y : Node). record y {
       content = change_names (λ names. insert names name i) y.content;
       size = grown x (put.shapes d);
     }) x) (shape_with_entry edition (put.shapes d) name) put)

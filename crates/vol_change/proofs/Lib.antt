@@ -2,5 +2,9 @@ pub mod DotGraphs
 pub mod DotImages
 pub mod DotRooms
 pub mod DotStates
+pub mod FreeKinds
+pub mod NamedNodes
 pub mod NodeEdits
+pub mod NodeLinks
 pub mod ReadyLaws
+pub mod SideStates

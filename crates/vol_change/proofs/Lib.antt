@@ -3,6 +3,7 @@ pub mod DotImages
 pub mod DotRooms
 pub mod DotStates
 pub mod FreeKinds
+pub mod MadeDirectories
 pub mod NamedNodes
 pub mod NodeEdits
 pub mod NodeLinks

@@ -10,6 +10,7 @@ use Rattle.vol_node.specs.Contents.{put_entry}
 use Rattle.vol_node.specs.Edits.{set_at, put_node, put_shape, change_names, modified, add_entry}
 use Rattle.vol_node.specs.Nodes.{no_node}
 use Rattle.vol_node.specs.Shapes.{shape_with_entry}
+use Rattle.vol_change.proofs.SideStates.{set_beside}
 
 -- node i and its shape are put
 abbrev pub edit : ℕ → Option Node → Shape → State → State
@@ -19,10 +20,6 @@ edit i node shape state = put_shape i shape (put_node i node state)
 pub set_here : {X : Type 0} (values : ℕ → X) (i : ℕ) (value : X) → set_at values i value i ≡ value
 set_here values i value = ap (λ t. if t then value else values i) (eq-eqb i i refl)
 
--- the value at another number
-pub set_else : {X : Type 0} (values : ℕ → X) (i j : ℕ) (value : X) → j ≢ i → set_at values i value j ≡ values j
-set_else values i j value other = ap (λ t. if t then value else values j) (ne_eqb j i other)
-
 -- a value set twice
 set_over : {X : Type 0} (values : ℕ → X) (i j : ℕ) (first second : X)
     → set_at (set_at values i first) i second j ≡ set_at values i second j
@@ -31,7 +28,7 @@ set_over values i j first second = elim (cases_eq j i) [
       ap (set_at (set_at values i first) i second) here
       ∙ (set_here (set_at values i first) i second ∙ (sym (set_here values i second) ∙ ap (set_at values i second) (sym here)))
   | inr other ↦
-      set_else (set_at values i first) i j second other ∙ (set_else values i j first other ∙ sym (set_else values i j second other))
+      set_beside (set_at values i first) i second j other ∙ (set_beside values i first j other ∙ sym (set_beside values i second j other))
 ]
 
 -- values set at two numbers
@@ -42,10 +39,10 @@ set_swap values i j k at_i at_j apart = elim (cases_eq k i) [
       let other : k ≢ j = λ e. apart (sym here ∙ e) in
       ap (set_at (set_at values j at_j) i at_i) here
       ∙ (set_here (set_at values j at_j) i at_i
-      ∙ (sym (set_here values i at_i) ∙ (ap (set_at values i at_i) (sym here) ∙ sym (set_else (set_at values i at_i) j k at_j other))))
+      ∙ (sym (set_here values i at_i) ∙ (ap (set_at values i at_i) (sym here) ∙ sym (set_beside (set_at values i at_i) j at_j k other))))
   | inr away ↦
-      set_else (set_at values j at_j) i k at_i away
-      ∙ ap (λ value. if k == j then at_j else value) (sym (set_else values i k at_i away))
+      set_beside (set_at values j at_j) i at_i k away
+      ∙ ap (λ value. if k == j then at_j else value) (sym (set_beside values i at_i k away))
 ]
 
 -- a node put twice
@@ -121,8 +118,8 @@ entry_apart state now d i made name node shape apart =
     let edition = state.tree.geometry.edition in
     let away : d ≢ made = λ e. apart (sym e) in
     ap (λ (x : Option Node). edit d (entered now name i x (put.shapes d)) (shape_with_entry edition (put.shapes d) name) put)
-    (set_else state.tree.nodes made d node away)
+    (set_beside state.tree.nodes made node d away)
     ∙ (ap (λ (x : Shape). edit d (entered now name i (state.tree.nodes d) x) (shape_with_entry edition x name) put)
-    (set_else state.shapes made d shape away)
+    (set_beside state.shapes made shape d away)
     ∙ sym (edit_swap state made d node (entered now name i (state.tree.nodes d) (state.shapes d)) shape
     (shape_with_entry edition (state.shapes d) name) apart))

@@ -1,12 +1,17 @@
 //! A new directory.
-ghost use Rattle.std.specs.Prelude.{◌≡◌, ℕ, ◌+◌, ◌<◌, ◌≤◌, false, IfSome};
+ghost use Rattle.std.specs.Prelude.{◌≡◌, ℕ, ◌+◌, ◌<◌, ◌≤◌, false, [], IfSome};
 ghost use Rattle.vol_layout.specs.Edition.{constants};
 ghost use Rattle.vol_dir.specs.Entries.{IsDirectory};
-ghost use Rattle.vol_dir.specs.Tree.{state};
+ghost use Rattle.vol_dir.specs.Names.{dot, dot_dot};
+ghost use Rattle.vol_dir.specs.Tree.{no_shape, state};
 ghost use Rattle.vol_dir.specs.Walk.{IsComponent, has_zero};
 ghost use Rattle.vol_free.specs.Numbers.{IsFreeNumber};
+ghost use Rattle.vol_judge.specs.Graph.{graph_of};
+ghost use Rattle.vol_node.specs.Contents.{put_entry};
 ghost use Rattle.vol_node.specs.Edits.{at_time};
 ghost use Rattle.vol_node.specs.Nodes.{node_at};
+ghost use Rattle.vol_node.specs.Whole.{IsWhole, Keeps};
+ghost use Rattle.vol_change.specs.Dots.{HoldsNames, AddsDots};
 ghost use Rattle.vol_change.specs.Effects.{after_mkdir};
 ghost use Rattle.vol_change.specs.Ready.{IsReady, TakesName, Changes, entry_need, free_in};
 
@@ -53,9 +58,24 @@ pub fn mkdir(
     } = node;
     make_directory(image, geometry, made, owner, permissions, moment);
     enter(image, geometry, dir, name, made, moment);
-    add_name(image, geometry, made, b".", made);
-    add_name(image, geometry, made, b"..", dir);
+    add_dots(image, geometry, made, dir);
     add_link(image, geometry, dir, moment);
     put_time(image, geometry, moment);
     made
+}
+
+/// Gives directory `i`, which has no slots, its entries `.` and `..`, the latter for directory `dir`.
+/// The times of `i` stay, and so do the link counts. That takes one block.
+fn add_dots(image: &mut Image, geometry: &Geometry, i: u16, dir: u16)
+    requires whole { IsWhole geometry.now image.old }
+    requires directory { IsDirectory geometry.now image.old i }
+    requires empty { HoldsNames (state geometry.now image.old) i [] 0 no_shape }
+    requires parent { 1 ≤ dir }
+    requires room { 1 ≤ free_in (state geometry.now image.old) }
+    ensures keeps { Keeps geometry.now image.old image.new }
+    ensures makes { state geometry.now image.new ≡ put_entry i dot_dot dir (put_entry i dot i (state geometry.now image.old)) }
+    ensures graph { AddsDots (graph_of geometry.now image.old) (graph_of geometry.now image.new) i dir }
+{
+    add_name(image, geometry, i, b".", i);
+    add_name(image, geometry, i, b"..", dir);
 }

@@ -1,5 +1,5 @@
 -- The graph in which a directory is made.
-use Rattle.std.proofs.Common.{◌≡◌, ◌≢◌, ◌∙◌, sym, ap, subst, ℕ, ◌+◌, ◌%◌, ◌≤◌, List, None, Some, arith}
+use Rattle.std.proofs.Common.{◌≡◌, ◌≢◌, ◌∙◌, sym, ap, subst, ℕ, ◌+◌, ◌%◌, List, None, Some, arith}
 use Rattle.vol_dir.specs.Names.{dot, dot_dot}
 use Rattle.vol_judge.specs.Graph.{Graph}
 use Rattle.vol_judge.specs.GraphEdits.{ChangesSlot, AddsDirectory}
@@ -10,7 +10,7 @@ use Rattle.vol_node.specs.NodeGraphs.{AddsNode, SetsLinks}
 use Rattle.vol_change.specs.Dots.{AddsDots}
 
 -- what is beside a directory, one change after the other
-pub beside_then : (old mid new : Graph) (d : ℕ) → StaysBeside old mid d → StaysBeside mid new d → StaysBeside old new d
+beside_then : (old mid new : Graph) (d : ℕ) → StaysBeside old mid d → StaysBeside mid new d → StaysBeside old new d
 beside_then old mid new d a b = record {
   kind = λ x. b.kind x ∙ a.kind x;
   links = λ x used. b.links x (λ free. used (sym (a.kind x) ∙ free)) ∙ a.links x used;

@@ -1,5 +1,5 @@
 -- What is known of the image of a directory whose entries, size and places the state says.
-use Rattle.std.proofs.Common.{◌≡◌, ◌≢◌, ◌∙◌, sym, ap, subst, ℕ, ◌+◌, ◌*◌, ◌/◌, ◌%◌, ◌≤◌, true, false, true≢false, List, [], ◌∷◌, length, max, None, Some, arith}
+use Rattle.std.proofs.Common.{◌≡◌, ◌∙◌, sym, ap, subst, ℕ, ◌*◌, ◌≤◌, true≢false, List, [], ◌∷◌, length, None, arith}
 use Rattle.std.specs.Option.{unwrap_or}
 use Rattle.vol_layout.specs.Edition.{constants}
 use Rattle.vol_layout.specs.declared.edition.Edition.{Edition}
@@ -12,7 +12,7 @@ use Rattle.vol_dir.specs.Editing.{HasNamesOnce}
 use Rattle.vol_dir.specs.Entries.{IsDirectory, entry_at, slots}
 use Rattle.vol_dir.specs.Names.{Names, dot, dot_dot, insert, get, names_of, names_in}
 use Rattle.vol_dir.specs.Searching.{holds, new_slot}
-use Rattle.vol_dir.specs.Tree.{Node, Shape, no_shape, state, tree, shapes, free_count}
+use Rattle.vol_dir.specs.Tree.{Shape, no_shape, state, tree, shapes, free_count}
 use Rattle.vol_dir.specs.Walk.{map_of}
 use Rattle.vol_judge.specs.Graph.{graph_of, entry_by}
 use Rattle.vol_judge.proofs.ImageGraphs.{directory_to, graph_within}
@@ -30,7 +30,7 @@ use Rattle.vol_change.proofs.DotStates.{entry_held}
 use Rattle.vol_change.proofs.ReadyLaws.{directory_kept}
 
 -- a directory is of that kind
-pub is_kind : (geometry : Geometry) (image : List ℕ) (i : ℕ) → IsDirectory geometry image i → IsKind geometry image i kinds.Directory
+is_kind : (geometry : Geometry) (image : List ℕ) (i : ℕ) → IsDirectory geometry image i → IsKind geometry image i kinds.Directory
 is_kind geometry image i is = record { first = is.first; last = is.last; kind = is.kind }
 
 -- the map of its slots
@@ -47,7 +47,7 @@ size_held geometry image i size names shape is has =
     sym (size_is geometry image i (is_kind geometry image i is)) ∙ (ap (λ node. (unwrap_or node no_node).size) has.is ∙ has.size)
 
 -- the names in its slots
-pub slots_held : (geometry : Geometry) (image : List ℕ) (i size : ℕ) (names : Names) (shape : Shape) → IsDirectory geometry image i
+slots_held : (geometry : Geometry) (image : List ℕ) (i size : ℕ) (names : Names) (shape : Shape) → IsDirectory geometry image i
     → HoldsNames (state geometry image) i names size shape → names_in (slots geometry image i) ≡ shape.slots
 slots_held geometry image i size names shape is has =
     ap (λ (x : Shape). x.slots) (sym (shape_is geometry image i (is_kind geometry image i is)) ∙ has.shape)
@@ -58,9 +58,9 @@ pub first_slot : (geometry : Geometry) (image : List ℕ) (i : ℕ) → IsDirect
 first_slot geometry image i is has = ap new_slot (slots_held geometry image i 0 [] no_shape is has)
 
 -- where a directory has no bytes, it has no entries
-pub none_held : (geometry : Geometry) (image : List ℕ) (i s : ℕ) (shape : Shape) → IsDirectory geometry image i
+pub no_entry : (geometry : Geometry) (image : List ℕ) (i s : ℕ) (shape : Shape) → IsDirectory geometry image i
     → HoldsNames (state geometry image) i [] 0 shape → entry_at geometry image i s ≡ None
-none_held geometry image i s shape is has =
+no_entry geometry image i s shape is has =
     let size = size_held geometry image i 0 [] shape is has in
     sym (ap (λ k. entry_by k geometry image i s) (directory_to geometry image i is))
     ∙ (graph_within geometry image).slots i s (omega (arith, size))
@@ -70,7 +70,7 @@ pub none_twice : (geometry : Geometry) (image : List ℕ) (i : ℕ) (shape : Sha
     → HoldsNames (state geometry image) i [] 0 shape → HasNamesOnce geometry image i
 none_twice geometry image i shape is has = record {
   once = λ name s t first second.
-      absurd (true≢false (sym first ∙ ap (holds name) (none_held geometry image i s shape is has)));
+      absurd (true≢false (sym first ∙ ap (holds name) (no_entry geometry image i s shape is has)));
 }
 
 -- both entries are within the greatest file
@@ -100,7 +100,7 @@ dot_dot_room geometry image i names whole is has =
     entry_room geometry image i whole (is_kind geometry image i is) (omega (arith, blocks, none))
 
 -- a directory without entries gets `.`
-pub dot_held : (geometry : Geometry) (old new : List ℕ) (i : ℕ) → HoldsNames (state geometry old) i [] 0 no_shape
+dot_held : (geometry : Geometry) (old new : List ℕ) (i : ℕ) → HoldsNames (state geometry old) i [] 0 no_shape
     → state geometry new ≡ put_entry i dot i (state geometry old)
     → HoldsNames (state geometry new) i (insert [] dot i) 16 (shape_with_entry geometry.edition no_shape dot)
 unfolding tree
@@ -109,7 +109,7 @@ dot_held geometry old new i has makes =
     (entry_held (state geometry old) i i 0 dot [] no_shape has)
 
 -- and then `..`
-pub dot_dot_held : (geometry : Geometry) (old new : List ℕ) (i d : ℕ)
+dot_dot_held : (geometry : Geometry) (old new : List ℕ) (i d : ℕ)
     → HoldsNames (state geometry old) i (insert [] dot i) 16 (shape_with_entry geometry.edition no_shape dot)
     → state geometry new ≡ put_entry i dot_dot d (state geometry old)
     → HoldsNames (state geometry new) i (insert (insert [] dot i) dot_dot d) 32

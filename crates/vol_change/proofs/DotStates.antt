@@ -1,9 +1,8 @@
 -- The state of a new directory, as it gets `.` and `..`.
-use Rattle.std.proofs.Common.{◌≡◌, ◌≢◌, ◌∙◌, sym, ap, refl, ℕ, ◌+◌, ◌*◌, max, List, [], ◌∷◌, Bool, true, false, Option, None, Some}
+use Rattle.std.proofs.Common.{◌≡◌, ◌≢◌, ◌∙◌, sym, ap, refl, ℕ, ◌+◌, ◌*◌, max, List, [], ◌∷◌, Bool, true, false, Some}
 use Rattle.std.specs.Prelude.{◌||◌}
 use Rattle.vol_layout.specs.declared.edition.Edition.{Edition}
 use Rattle.vol_layout.specs.declared.edition.Edition.TheVariants.{V6, V7}
-use Rattle.vol_layout.specs.declared.places.Form.{Form}
 use Rattle.vol_layout.specs.declared.places.Form.TheVariants.{Small, Deep}
 use Rattle.vol_file.specs.Shape.{is_on_ways}
 use Rattle.vol_dir.specs.Names.{Names, dot, dot_dot, insert}
@@ -22,7 +21,7 @@ twice true = refl
 twice false = refl
 
 -- block 0 stored once, and once more
-pub dots_shape : (edition : Edition) → shape_with_entry edition (shape_with_entry edition no_shape dot) dot_dot ≡ new_directory_shape edition
+dots_shape : (edition : Edition) → shape_with_entry edition (shape_with_entry edition no_shape dot) dot_dot ≡ new_directory_shape edition
 dots_shape V6 = λ k. record {
   names = λ p. twice (is_on_ways Small (0 ∷ []) p) k;
   large = false;
@@ -39,7 +38,7 @@ abbrev pub bare_directory : Edition → Cred → ℕ → ℕ → Node
 bare_directory edition cred now perm = new_node edition cred now perm (Directory []) 2 0
 
 -- the entries of a directory that was put
-pub dots_put : (state : State) (cred : Cred) (now perm made d : ℕ)
+dots_put : (state : State) (cred : Cred) (now perm made d : ℕ)
     → put_entry made dot_dot d (put_entry made dot made (edit made (Some (bare_directory state.tree.geometry.edition cred now perm)) no_shape state))
     ≡ edit made (Some (new_node state.tree.geometry.edition cred now perm (new_directory made d) 2 32)) (new_directory_shape state.tree.geometry.edition) state
 dots_put state cred now perm made d =

@@ -1,8 +1,7 @@
 -- A state of which one node and its shape are put: what it has, and how changes of two nodes go together.
-use Rattle.std.proofs.Common.{◌≡◌, ◌≢◌, ◌∙◌, sym, ap, refl, ℕ, ◌*◌, ◌+◌, ◌==◌, if◌then◌else◌, max, List, [], ◌∷◌, eq-eqb, inl, inr, Option, None, Some}
+use Rattle.std.proofs.Common.{◌≡◌, ◌≢◌, ◌∙◌, sym, ap, refl, ℕ, ◌*◌, ◌+◌, ◌==◌, if◌then◌else◌, max, List, eq-eqb, inl, inr, Option, Some}
 use Rattle.std.specs.Option.{option_map, unwrap_or}
-use Rattle.std.proofs.lemmas.Bool.{cases_eq, ne_eqb}
-use Rattle.vol_layout.specs.declared.edition.Edition.{Edition}
+use Rattle.std.proofs.lemmas.Bool.{cases_eq}
 use Rattle.vol_dir.specs.Names.{insert}
 use Rattle.vol_dir.specs.Searching.{new_slot}
 use Rattle.vol_dir.specs.Tree.{Node, Shape, State}
@@ -46,7 +45,7 @@ set_swap values i j k at_i at_j apart = elim (cases_eq k i) [
 ]
 
 -- a node put twice
-pub edit_over : (state : State) (i : ℕ) (first second : Option Node) (was is : Shape)
+edit_over : (state : State) (i : ℕ) (first second : Option Node) (was is : Shape)
     → edit i second is (edit i first was state) ≡ edit i second is state
 edit_over state i first second was is = λ k. record {
   tree = record {
@@ -58,7 +57,7 @@ edit_over state i first second was is = λ k. record {
 }
 
 -- two nodes put
-pub edit_swap : (state : State) (i j : ℕ) (at_i at_j : Option Node) (shape_i shape_j : Shape) → i ≢ j
+edit_swap : (state : State) (i j : ℕ) (at_i at_j : Option Node) (shape_i shape_j : Shape) → i ≢ j
     → edit i at_i shape_i (edit j at_j shape_j state) ≡ edit j at_j shape_j (edit i at_i shape_i state)
 edit_swap state i j at_i at_j shape_i shape_j apart = λ k. record {
   tree = record {

@@ -1,4 +1,4 @@
-use Rattle.std.proofs.Common.{◌≡◌, ◌∙◌, ap, sym, ℕ, ◌+◌, ◌*◌, ◌%◌, ◌≤◌, [], ◌∷◌, arith}
+use Rattle.std.proofs.Common.{◌∙◌, ap, ◌%◌, [], arith}
 use Rattle.vol_dir.specs.Entries.{slots}
 use Rattle.vol_dir.specs.Names.{dot, dot_dot, get, names_in}
 use Rattle.vol_dir.specs.Searching.{new_slot}
@@ -8,7 +8,7 @@ use Rattle.vol_judge.proofs.ImageGraphs.{directory_to}
 use Rattle.vol_node.specs.Contents.{put_entry}
 use Rattle.vol_node.proofs.WholeLaws.{keeps_then}
 use Rattle.vol_change.proofs.DotGraphs.{dots_added}
-use Rattle.vol_change.proofs.DotImages.{names_held, size_held, first_slot, none_held, none_twice, dots_fit, dot_room, dot_there, second_slot, dot_dot_new, dot_dot_room, dots_size}
+use Rattle.vol_change.proofs.DotImages.{names_held, size_held, first_slot, no_entry, none_twice, dots_fit, dot_room, dot_there, second_slot, dot_dot_new, dot_dot_room, dots_size}
 use Rattle.vol_change.proofs.new_directories.add_dots.Goals as goal
 
 pub add_name-requires-clause-slots : goal.add_name-requires-clause-slots
@@ -69,4 +69,4 @@ returns-clause-graph c =
     (first_slot geometry old i c.requires.directory c.requires.empty) (second_slot geometry mid i dotted)
     (dots_size geometry mid new i c.args.dir dotted c.add_name-2.ensures.makes c.add_name-2.ensures.beside)
     (λ s. ap (λ k. entry_by k geometry old i s) (directory_to geometry old i c.requires.directory)
-    ∙ none_held geometry old i s no_shape c.requires.directory c.requires.empty)
+    ∙ no_entry geometry old i s no_shape c.requires.directory c.requires.empty)

@@ -1,15 +1,13 @@
-use Rattle.std.proofs.Common.{◌≡◌, ◌≢◌, ◌∙◌, sym, ap, subst, ℕ, ◌+◌, ◌≤◌, ◌<◌, List, [], Some, arith}
-use Rattle.vol_layout.specs.Edition.{constants}
+use Rattle.std.proofs.Common.{◌≢◌, ◌∙◌, sym, ap, subst, ◌+◌, ◌≤◌, Some, arith}
 use Rattle.vol_layout.specs.declared.mode.Kind.TheVariants as kinds
-use Rattle.vol_dir.specs.Entries.{IsDirectory, slots}
+use Rattle.vol_dir.specs.Entries.{slots}
 use Rattle.vol_dir.specs.Names.{names_in}
 use Rattle.vol_dir.specs.Searching.{new_slot}
-use Rattle.vol_dir.specs.Tree.{State, no_shape, state, tree}
+use Rattle.vol_dir.specs.Tree.{State, state, tree}
 use Rattle.vol_judge.specs.Graph.{graph_of}
 use Rattle.vol_judge.proofs.GraphParts.{not_free}
 use Rattle.vol_judge.proofs.ImageGraphs.{directory_to, directory_from}
-use Rattle.vol_node.specs.Edits.{add_entry, at_time, put_node}
-use Rattle.vol_node.specs.Nodes.{node_at}
+use Rattle.vol_node.specs.Edits.{at_time, put_node}
 use Rattle.vol_node.proofs.WholeLaws.{keeps_then}
 use Rattle.vol_change.specs.Effects.{after_mkdir}
 use Rattle.vol_change.specs.Ready.{TakesName, entry_need, free_in}

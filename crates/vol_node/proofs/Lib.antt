@@ -8,6 +8,7 @@ pub mod NewInodes
 pub mod NewRules
 pub mod OneLink
 pub mod OneNode
+pub mod PlaceCounts
 pub mod States
 pub mod WholeLaws
 pub mod EntryStates

@@ -46,7 +46,7 @@ count_either s t (p ∷ ps) =
     omega (arith, rest, all, first, second, here)
 
 -- a sum of two parts
-sum_split : (f : ℕ → ℕ) (a m n : ℕ)
+pub sum_split : (f : ℕ → ℕ) (a m n : ℕ)
     → sum_by f (range_with_len a (m + n)) ≡ sum_by f (range_with_len a m) + sum_by f (range_with_len (a + m) n)
 sum_split f a zero n =
     let len : 0 + n ≡ n = omega arith in
@@ -233,6 +233,16 @@ used_with geometry shapes i shape first last =
     sum_changed (λ j. place_count e (set_at shapes i shape j)) (λ j. place_count e (shapes j)) 1 geometry.last_inode i first (omega arith)
     (λ k other. ap (place_count e) (set_other shapes i shape k other)) in
     omega (arith, now, change)
+
+-- what the free blocks and those of one file become where it has another shape, for which there is room
+pub free_with : (geometry : Geometry) (shapes : ℕ → Shape) (i : ℕ) (shape : Shape) → 1 ≤ i → i ≤ geometry.last_inode
+    → used_count geometry shapes ≤ geometry.zone_end - geometry.zone_start
+    → place_count geometry.edition shape ≤ free_count geometry shapes + place_count geometry.edition (shapes i)
+    → free_count geometry (set_at shapes i shape) + place_count geometry.edition shape ≡ free_count geometry shapes + place_count geometry.edition (shapes i)
+unfolding free_count
+free_with geometry shapes i shape first last within room =
+    let used = used_with geometry shapes i shape first last in
+    omega (arith, used, within, room)
 
 -- a file that takes n blocks takes them from the free ones
 pub free_less : (geometry : Geometry) (shapes : ℕ → Shape) (i : ℕ) (shape : Shape) (n : ℕ) → 1 ≤ i → i ≤ geometry.last_inode

@@ -245,10 +245,10 @@ sum_changed f g a (suc n) i low high same =
     ]
 
 -- a value that was set, and the others
-set_same : (shapes : ℕ → Shape) (i : ℕ) (shape : Shape) → set_at shapes i shape i ≡ shape
+pub set_same : (shapes : ℕ → Shape) (i : ℕ) (shape : Shape) → set_at shapes i shape i ≡ shape
 set_same shapes i shape = let same : (i == i) ≡ true = grind (arith, nat_tests) in ap (λ t. if t then shape else shapes i) same
 
-set_other : (shapes : ℕ → Shape) (i : ℕ) (shape : Shape) (k : ℕ) → k ≢ i → set_at shapes i shape k ≡ shapes k
+pub set_other : (shapes : ℕ → Shape) (i : ℕ) (shape : Shape) (k : ℕ) → k ≢ i → set_at shapes i shape k ≡ shapes k
 set_other shapes i shape k other = let differ : (k == i) ≡ false = grind (arith, nat_tests) in ap (λ t. if t then shape else shapes k) differ
 
 -- how many blocks all files have, by their shapes

@@ -1,3 +1,4 @@
+pub mod FreeAfter
 pub mod ReadyLaws
 pub mod CallSteps
 pub mod DotGraphs

@@ -2,13 +2,10 @@
 use Rattle.std.proofs.Common.{◌≡◌, ◌≢◌, ◌∙◌, sym, ap, refl, ℕ, ◌+◌, ◌-◌, ◌≤◌, ◌==◌, Bool, true, false, if◌then◌else◌, List, [], ◌∷◌, length, Option, None, Some, arith, inl, inr}
 use Rattle.std.specs.Option.{option_map, unwrap_or}
 use Rattle.std.specs.Prelude.{nat_le}
-use Rattle.std.proofs.lemmas.Bool.{cases_Bool, cases_eq}
+use Rattle.std.proofs.lemmas.Bool.{cases_eq}
 use Rattle.std.proofs.lemmas.Bool.Decides.{nat_tests}
-use Rattle.vol_layout.specs.Edition.{constants}
 use Rattle.vol_layout.specs.Inode.{kind_of}
-use Rattle.vol_layout.specs.Names.{mode_of}
 use Rattle.vol_layout.specs.declared.geometry.Geometry.{Geometry}
-use Rattle.vol_layout.specs.declared.mode.Kind.{Kind}
 use Rattle.vol_layout.specs.declared.mode.Kind.TheVariants as kinds
 use Rattle.vol_layout.proofs.KindLaws.{kind_zero}
 use Rattle.vol_free.specs.Numbers.{IsFreeNumber}
@@ -17,12 +14,12 @@ use Rattle.vol_file.specs.Shape.{touched}
 use Rattle.vol_file.proofs.MissingLaws.{need_nothing}
 use Rattle.vol_dir.specs.Entries.{IsDirectory}
 use Rattle.vol_dir.specs.Names.{get, remove}
-use Rattle.vol_dir.specs.Tree.{Body, Node, Shape, State, no_shape, form_in, place_count, free_count, is_number, shape_of, shapes, tree, state}
+use Rattle.vol_dir.specs.Tree.{Node, Shape, State, no_shape, form_in, place_count, free_count, is_number, shape_of, shapes, tree, state}
 use Rattle.vol_dir.specs.declared.cred.Cred.{Cred}
-use Rattle.vol_node.specs.Edits.{set_at, put_node, put_shape, change_node, at_time, modified, change_names, add_entry, remove_entry, remove_node, drop_link, release, after_write, after_truncate}
+use Rattle.vol_node.specs.Edits.{set_at, at_time, modified, change_names, remove_entry, remove_node, drop_link, release, after_write, after_truncate}
 use Rattle.vol_node.specs.Nodes.{no_node, node_at, names_at, entry_of}
 use Rattle.vol_node.specs.Shapes.{need_in, stored_shape, entry_blocks, shape_with_entry, shape_without_entry, new_directory_shape}
-use Rattle.vol_node.proofs.PlaceCounts.{stored_count, entry_count, gone_count, none_count, new_directory_count, set_same, set_other, set_count, set_counts, free_less, free_same, free_gone}
+use Rattle.vol_node.proofs.PlaceCounts.{stored_count, entry_count, gone_count, none_count, new_directory_count, set_other, set_count, set_counts, free_less, free_same, free_gone}
 use Rattle.vol_change.specs.Effects.{after_create, after_mkdir, after_link, after_unlink, after_rmdir}
 use Rattle.vol_change.specs.Ready.{IsReady, entry_need, free_in}
 use Rattle.vol_change.proofs.ReadyLaws.{ready_whole}

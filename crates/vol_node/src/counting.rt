@@ -40,10 +40,10 @@ fn count_from(image: &Image, geometry: &Geometry, b: u32, level: u32) -> u32
     if b == 0 {
         return 0;
     }
-    let mut count = 1;
     if level == 0 {
-        return count;
+        return 1;
     }
+    let mut count = 1;
     for j in 0..geometry.edition.constants().pointers {
         let entry = number(image, geometry.edition, BLOCK * b as usize, j as usize);
         count += count_from(image, geometry, entry, level - 1);

@@ -2,6 +2,7 @@ pub mod DotGraphs
 pub mod DotImages
 pub mod DotRooms
 pub mod DotStates
+pub mod FreeAfter
 pub mod FreeKinds
 pub mod MadeDirectories
 pub mod NamedNodes

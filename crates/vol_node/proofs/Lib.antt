@@ -1,3 +1,4 @@
+pub mod BlockCounts
 pub mod ChangedInodes
 pub mod Contents
 pub mod FreeCounts

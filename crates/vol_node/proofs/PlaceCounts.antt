@@ -2,23 +2,27 @@
 use Rattle.std.proofs.Common.{◌≡◌, ◌≢◌, ◌∙◌, sym, ap, refl, ℕ, zero, suc, ◌+◌, ◌-◌, ◌<◌, ◌≤◌, ◌==◌, ◌&&◌, Bool, true, false, not, cond, if◌then◌else◌, nat_lt, List, [], ◌∷◌, arith, inl, inr}
 use Rattle.std.specs.Prelude.{◌||◌}
 use Rattle.std.specs.List.{count_by, sum_by, flat_map, range_with_len}
-use Rattle.std.proofs.lemmas.Bool.{cases_Bool, cases_eq}
+use Rattle.std.proofs.lemmas.Bool.{cases_Bool, cases_eq, and_parts, leb-true}
 use Rattle.std.proofs.lemmas.Bool.Decides.{nat_tests}
 use Rattle.std.proofs.lemmas.List.Sums.{sum_by-cons}
+use Rattle.vol_layout.specs.Inode.{kind_of}
 use Rattle.vol_layout.specs.Laws.{IsFront}
-use Rattle.vol_layout.specs.Places.{levels, places_from, places}
+use Rattle.vol_layout.specs.Names.{mode_of}
+use Rattle.vol_layout.specs.Places.{levels, last_place, places_from, places}
 use Rattle.vol_layout.specs.declared.edition.Edition.{Edition}
 use Rattle.vol_layout.specs.declared.edition.Edition.TheVariants.{V6, V7}
 use Rattle.vol_layout.specs.declared.geometry.Geometry.{Geometry}
 use Rattle.vol_layout.specs.declared.places.Form.{Form}
 use Rattle.vol_layout.specs.declared.places.Form.TheVariants.{Small, Large, Deep, Bare}
 use Rattle.vol_file.specs.Laws.{IsAmong}
+use Rattle.vol_file.specs.Missing.{missing_from}
 use Rattle.vol_file.specs.Need.{missing_count, need_of}
 use Rattle.vol_file.specs.Shape.{is_on_ways, grows_large, moved_down, fit_form, fit_names, filled}
+use Rattle.vol_file.proofs.MissingLaws.{need_some}
 use Rattle.vol_file.proofs.PlaceLists.{counted_flat, count_none, count_among, from_front, sum_none}
-use Rattle.vol_dir.specs.Tree.{Shape, no_shape, form_in, place_count, free_count, shapes}
+use Rattle.vol_dir.specs.Tree.{Shape, no_shape, form_in, place_count, free_count, is_number, shape_of, shapes}
 use Rattle.vol_node.specs.Edits.{set_at}
-use Rattle.vol_node.specs.Shapes.{need_in, stored_shape}
+use Rattle.vol_node.specs.Shapes.{need_in, stored_shape, entry_blocks, shape_with_entry, shape_without_entry, new_directory_shape}
 use Rattle.vol_node.specs.Whole.{IsWhole}
 use Rattle.vol_node.proofs.FreeCounts.{sum_same, used_within}
 
@@ -46,7 +50,7 @@ count_either s t (p ∷ ps) =
     omega (arith, rest, all, first, second, here)
 
 -- a sum of two parts
-sum_split : (f : ℕ → ℕ) (a m n : ℕ)
+pub sum_split : (f : ℕ → ℕ) (a m n : ℕ)
     → sum_by f (range_with_len a (m + n)) ≡ sum_by f (range_with_len a m) + sum_by f (range_with_len (a + m) n)
 sum_split f a zero n =
     let len : 0 + n ≡ n = omega arith in
@@ -182,10 +186,42 @@ stored_count edition shape blocks =
     ap (λ f. count_by (filled (form_in edition shape.large) shape.names blocks) (places f)) (form_stored edition shape.large blocks)
     ∙ count_filled (form_in edition shape.large) shape.names blocks
 
+-- a directory with one more entry takes the block of its slot, where that is missing
+pub entry_count : (edition : Edition) (shape : Shape) (name : List ℕ)
+    → place_count edition (shape_with_entry edition shape name) ≡ place_count edition shape + need_in edition shape (entry_blocks shape)
+unfolding place_count
+entry_count edition shape name = stored_count edition shape (entry_blocks shape)
+
+-- one without an entry keeps its blocks
+pub gone_count : (edition : Edition) (shape : Shape) (name : List ℕ) → place_count edition (shape_without_entry shape name) ≡ place_count edition shape
+unfolding place_count
+gone_count edition shape name = refl
+
+-- the first logical block of an empty file
+first_needed : (form : Form) → form ≢ Bare → form ≢ Large → need_of form (λ p. false) (0 ∷ []) ≡ 1
+unfolding missing_from last_place
+first_needed Small some small = need_some Small (λ p. false) 0 1 0 (omega arith) refl
+first_needed Deep some small = need_some Deep (λ p. false) 0 1 0 (omega arith) refl
+first_needed Large some small = absurd (small refl)
+first_needed Bare some small = absurd (some refl)
+
+-- the same of a file of an edition
+pub first_in : (edition : Edition) → need_in edition no_shape (0 ∷ []) ≡ 1
+first_in V6 = first_needed Small (λ e. cc) (λ e. cc)
+first_in V7 = first_needed Deep (λ e. cc) (λ e. cc)
+
 -- what has no places takes no blocks
 pub none_count : (edition : Edition) → place_count edition no_shape ≡ 0
 unfolding place_count
 none_count edition = count_none (λ p. false) (places (form_in edition false)) (λ p. refl)
+
+-- a new directory takes one block
+pub new_directory_count : (edition : Edition) → place_count edition (new_directory_shape edition) ≡ 1
+unfolding place_count
+new_directory_count edition =
+    let none : place_count edition no_shape ≡ 0 = none_count edition in
+    let one : need_in edition no_shape (0 ∷ []) ≡ 1 = first_in edition in
+    stored_count edition no_shape (0 ∷ []) ∙ omega (arith, none, one)
 
 -- sums that differ in one term
 sum_changed : (f g : ℕ → ℕ) (a n i : ℕ) → a ≤ i → i < a + n → ((k : ℕ) → k ≢ i → f k ≡ g k)
@@ -209,10 +245,10 @@ sum_changed f g a (suc n) i low high same =
     ]
 
 -- a value that was set, and the others
-set_same : (shapes : ℕ → Shape) (i : ℕ) (shape : Shape) → set_at shapes i shape i ≡ shape
+pub set_same : (shapes : ℕ → Shape) (i : ℕ) (shape : Shape) → set_at shapes i shape i ≡ shape
 set_same shapes i shape = let same : (i == i) ≡ true = grind (arith, nat_tests) in ap (λ t. if t then shape else shapes i) same
 
-set_other : (shapes : ℕ → Shape) (i : ℕ) (shape : Shape) (k : ℕ) → k ≢ i → set_at shapes i shape k ≡ shapes k
+pub set_other : (shapes : ℕ → Shape) (i : ℕ) (shape : Shape) (k : ℕ) → k ≢ i → set_at shapes i shape k ≡ shapes k
 set_other shapes i shape k other = let differ : (k == i) ≡ false = grind (arith, nat_tests) in ap (λ t. if t then shape else shapes k) differ
 
 -- how many blocks all files have, by their shapes
@@ -233,6 +269,16 @@ used_with geometry shapes i shape first last =
     sum_changed (λ j. place_count e (set_at shapes i shape j)) (λ j. place_count e (shapes j)) 1 geometry.last_inode i first (omega arith)
     (λ k other. ap (place_count e) (set_other shapes i shape k other)) in
     omega (arith, now, change)
+
+-- what the free blocks and those of one file become where it has another shape, for which there is room
+pub free_with : (geometry : Geometry) (shapes : ℕ → Shape) (i : ℕ) (shape : Shape) → 1 ≤ i → i ≤ geometry.last_inode
+    → used_count geometry shapes ≤ geometry.zone_end - geometry.zone_start
+    → place_count geometry.edition shape ≤ free_count geometry shapes + place_count geometry.edition (shapes i)
+    → free_count geometry (set_at shapes i shape) + place_count geometry.edition shape ≡ free_count geometry shapes + place_count geometry.edition (shapes i)
+unfolding free_count
+free_with geometry shapes i shape first last within room =
+    let used = used_with geometry shapes i shape first last in
+    omega (arith, used, within, room)
 
 -- a file that takes n blocks takes them from the free ones
 pub free_less : (geometry : Geometry) (shapes : ℕ → Shape) (i : ℕ) (shape : Shape) (n : ℕ) → 1 ≤ i → i ≤ geometry.last_inode
@@ -260,3 +306,58 @@ pub free_all : (geometry : Geometry) (shapes : ℕ → Shape) (i : ℕ) → 1 �
 free_all geometry shapes i first last within =
     let none : place_count geometry.edition no_shape ≡ 0 = none_count geometry.edition in
     free_more geometry shapes i no_shape (place_count geometry.edition (shapes i)) first last within (omega (arith, none))
+
+-- where each file has as many blocks, all have as many, and as many are free
+pub used_same : (geometry : Geometry) (f g : ℕ → Shape) → ((k : ℕ) → place_count geometry.edition (f k) ≡ place_count geometry.edition (g k))
+    → used_count geometry f ≡ used_count geometry g
+used_same geometry f g same =
+    sum_same (λ k. place_count geometry.edition (f k)) (λ k. place_count geometry.edition (g k)) 1 geometry.last_inode (λ k from to. same k)
+
+pub free_same : (geometry : Geometry) (f g : ℕ → Shape) → ((k : ℕ) → place_count geometry.edition (f k) ≡ place_count geometry.edition (g k))
+    → free_count geometry f ≡ free_count geometry g
+unfolding free_count
+free_same geometry f g same = ap (λ n. geometry.zone_end - geometry.zone_start - n) (used_same geometry f g same)
+
+-- a shape that is set has as many blocks as those at its place had
+pub set_count : (edition : Edition) (shapes : ℕ → Shape) (i : ℕ) (shape : Shape) → place_count edition shape ≡ place_count edition (shapes i) → (k : ℕ)
+    → place_count edition (set_at shapes i shape k) ≡ place_count edition (shapes k)
+set_count edition shapes i shape same k = elim (cases_eq k i) [
+  | inl e ↦
+      ap (λ x. place_count edition (set_at shapes i shape x)) e
+      ∙ (ap (place_count edition) (set_same shapes i shape) ∙ (same ∙ ap (λ x. place_count edition (shapes x)) (sym e)))
+  | inr other ↦ ap (place_count edition) (set_other shapes i shape k other)
+]
+
+-- one shape set among shapes that count the same
+pub set_counts : (edition : Edition) (f g : ℕ → Shape) (i : ℕ) (shape : Shape) → ((k : ℕ) → place_count edition (f k) ≡ place_count edition (g k)) → (k : ℕ)
+    → place_count edition (set_at f i shape k) ≡ place_count edition (set_at g i shape k)
+set_counts edition f g i shape same k = elim (cases_eq k i) [
+  | inl e ↦
+      ap (λ x. place_count edition (set_at f i shape x)) e
+      ∙ (ap (place_count edition) (set_same f i shape ∙ sym (set_same g i shape)) ∙ ap (λ x. place_count edition (set_at g i shape x)) (sym e))
+  | inr other ↦ ap (place_count edition) (set_other f i shape k other) ∙ (same k ∙ ap (place_count edition) (sym (set_other g i shape k other)))
+]
+
+-- numbers that the volume doesn't have have no blocks
+none_outside : (geometry : Geometry) (image : List ℕ) (i : ℕ) → is_number geometry i ≡ false → place_count geometry.edition (shapes geometry image i) ≡ 0
+unfolding shapes
+none_outside geometry image i outside =
+    ap (λ t. place_count geometry.edition (if t then shape_of geometry image i (kind_of geometry.edition (mode_of geometry image i)) else no_shape)) outside
+    ∙ none_count geometry.edition
+
+-- in a sound image, whatever loses its places gives its blocks to the free ones
+pub free_gone : (geometry : Geometry) (image : List ℕ) (i : ℕ) → IsWhole geometry image
+    → free_count geometry (set_at (shapes geometry image) i no_shape)
+    ≡ free_count geometry (shapes geometry image) + place_count geometry.edition (shapes geometry image i)
+free_gone geometry image i whole = elim (cases_Bool (is_number geometry i)) [
+  | inl inside ↦
+      let range = and_parts _ _ inside in
+      free_all geometry (shapes geometry image) i (leb-true 1 i range.0) (leb-true i geometry.last_inode range.1) (sum_within geometry image whole)
+  | inr outside ↦
+      let none : place_count geometry.edition (shapes geometry image i) ≡ 0 = none_outside geometry image i outside in
+      let empty : place_count geometry.edition no_shape ≡ 0 = none_count geometry.edition in
+      let same : free_count geometry (set_at (shapes geometry image) i no_shape) ≡ free_count geometry (shapes geometry image) =
+      free_same geometry (set_at (shapes geometry image) i no_shape) (shapes geometry image)
+      (set_count geometry.edition (shapes geometry image) i no_shape (empty ∙ sym none)) in
+      omega (arith, none, same)
+]

@@ -1,21 +1,19 @@
 -- The blocks that the entries of a new directory need.
-use Rattle.std.proofs.Common.{◌≡◌, ◌∙◌, sym, refl, ℕ, ◌≤◌, ◌-◌, ◌&&◌, Bool, true, false, not, List, [], ◌∷◌, arith}
+use Rattle.std.proofs.Common.{◌≡◌, refl, ℕ, ◌≤◌, ◌-◌, ◌&&◌, Bool, true, false, not, List, [], ◌∷◌, arith}
 use Rattle.std.specs.Prelude.{◌||◌}
 use Rattle.std.specs.List.{count_by}
-use Rattle.std.specs.Str.{bytes_eq}
-use Rattle.vol_layout.specs.Places.{last_place, places}
+use Rattle.vol_layout.specs.Places.{places}
 use Rattle.vol_layout.specs.declared.edition.Edition.{Edition}
 use Rattle.vol_layout.specs.declared.edition.Edition.TheVariants.{V6, V7}
 use Rattle.vol_layout.specs.declared.geometry.Geometry.{Geometry}
 use Rattle.vol_layout.specs.declared.places.Form.TheVariants.{Small, Deep}
 use Rattle.vol_file.specs.Need.{need_of, missing_count}
 use Rattle.vol_file.specs.Shape.{is_on_ways}
-use Rattle.vol_file.proofs.PlaceLists.{count_none, count_among, places_once, same_place}
+use Rattle.vol_file.proofs.PlaceLists.{count_none}
 use Rattle.vol_dir.specs.Names.{dot}
-use Rattle.vol_dir.specs.Tree.{Shape, no_shape, place_count, free_count}
-use Rattle.vol_dir.proofs.NameMaps.{same_bytes}
+use Rattle.vol_dir.specs.Tree.{Shape, no_shape, free_count}
 use Rattle.vol_node.specs.Edits.{set_at}
-use Rattle.vol_node.specs.Shapes.{need_in, entry_blocks, stored_shape, shape_with_entry}
+use Rattle.vol_node.specs.Shapes.{need_in, entry_blocks, shape_with_entry}
 use Rattle.vol_node.proofs.PlaceCounts.{entry_count, free_less}
 
 -- what is asked and passed

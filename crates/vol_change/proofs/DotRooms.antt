@@ -1,5 +1,5 @@
 -- The block that the second entry of a new directory doesn't need.
-use Rattle.std.proofs.Common.{◌≡◌, refl, ◌&&◌, Bool, true, false, not, List, [], ◌∷◌, arith}
+use Rattle.std.proofs.Common.{◌≡◌, refl, ◌&&◌, Bool, true, false, not, [], ◌∷◌, arith}
 use Rattle.std.specs.Prelude.{◌||◌}
 use Rattle.std.specs.List.{count_by}
 use Rattle.vol_layout.specs.Places.{places}

@@ -22,10 +22,11 @@ use Rattle.vol_node.specs.Shapes.{need_in, entry_blocks, shape_with_entry}
 use Rattle.vol_node.specs.Whole.{IsWhole}
 use Rattle.vol_node.proofs.EntryStates.{names_is, shape_is, size_is}
 use Rattle.vol_node.proofs.FileRooms.{entry_room}
+use Rattle.vol_node.proofs.PlaceCounts.{first_in}
 use Rattle.vol_node.proofs.WrittenStates.{IsKind}
 use Rattle.vol_node.specs.Beside.{StaysBeside}
 use Rattle.vol_change.specs.Dots.{HoldsNames}
-use Rattle.vol_change.proofs.DotRooms.{first_need, second_need}
+use Rattle.vol_change.proofs.DotRooms.{second_need}
 use Rattle.vol_change.proofs.DotStates.{entry_held}
 use Rattle.vol_change.proofs.ReadyLaws.{directory_kept}
 
@@ -85,7 +86,7 @@ pub dot_room : (geometry : Geometry) (image : List ℕ) (i : ℕ) → IsWhole ge
 dot_room geometry image i whole is has room =
     let blocks : need_in geometry.edition (shapes geometry image i) (entry_blocks (shapes geometry image i)) ≡ need_in geometry.edition no_shape (0 ∷ []) =
     ap (λ (x : Shape). need_in geometry.edition x (entry_blocks x)) has.shape in
-    let one = first_need geometry.edition in
+    let one = first_in geometry.edition in
     entry_room geometry image i whole (is_kind geometry image i is) (omega (arith, blocks, one, room))
 
 -- and then for `..`

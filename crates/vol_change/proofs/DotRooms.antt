@@ -1,59 +1,24 @@
--- The blocks that the entries of a new directory need.
-use Rattle.std.proofs.Common.{◌≡◌, ◌∙◌, sym, refl, ℕ, ◌≤◌, ◌-◌, ◌&&◌, Bool, true, false, not, List, [], ◌∷◌, arith}
+-- The block that the second entry of a new directory doesn't need.
+use Rattle.std.proofs.Common.{◌≡◌, refl, ◌&&◌, Bool, true, false, not, [], ◌∷◌, arith}
 use Rattle.std.specs.Prelude.{◌||◌}
 use Rattle.std.specs.List.{count_by}
-use Rattle.std.specs.Str.{bytes_eq}
-use Rattle.vol_layout.specs.Places.{last_place, places}
+use Rattle.vol_layout.specs.Places.{places}
 use Rattle.vol_layout.specs.declared.edition.Edition.{Edition}
 use Rattle.vol_layout.specs.declared.edition.Edition.TheVariants.{V6, V7}
-use Rattle.vol_layout.specs.declared.geometry.Geometry.{Geometry}
 use Rattle.vol_layout.specs.declared.places.Form.TheVariants.{Small, Deep}
 use Rattle.vol_file.specs.Need.{need_of, missing_count}
 use Rattle.vol_file.specs.Shape.{is_on_ways}
-use Rattle.vol_file.proofs.PlaceLists.{count_none, count_among, places_once, same_place}
+use Rattle.vol_file.proofs.PlaceLists.{count_none}
 use Rattle.vol_dir.specs.Names.{dot}
-use Rattle.vol_dir.specs.Tree.{Shape, no_shape, place_count, free_count}
-use Rattle.vol_dir.proofs.NameMaps.{same_bytes}
-use Rattle.vol_node.specs.Edits.{set_at}
-use Rattle.vol_node.specs.Shapes.{need_in, entry_blocks, stored_shape, shape_with_entry}
-use Rattle.vol_node.proofs.PlaceCounts.{stored_count, free_less}
-
--- tests that are passed together are one
-both_ways : (s t : Bool) → (s ≡ true → t ≡ true) → (t ≡ true → s ≡ true) → s ≡ t
-both_ways true t to from = sym (to refl)
-both_ways false true to from = from refl
-both_ways false false to from = refl
-
--- the same lists, whichever comes first
-equal_places : (p q : List ℕ) → bytes_eq p q ≡ bytes_eq q p
-equal_places p q =
-    both_ways (bytes_eq p q) (bytes_eq q p) (λ e. same_place q p (sym (same_bytes p q e))) (λ e. same_place p q (sym (same_bytes q p e)))
-
--- a test behind which nothing stands
-alone : (t : Bool) → (((t || false) || false) && true) ≡ t
-alone true = refl
-alone false = refl
+use Rattle.vol_dir.specs.Tree.{no_shape}
+use Rattle.vol_node.specs.Shapes.{need_in, shape_with_entry}
 
 -- what is asked and passed
 asked_twice : (t : Bool) → (t && not (false || t)) ≡ false
 asked_twice true = refl
 asked_twice false = refl
 
--- the first block of an empty file needs one
-pub first_need : (edition : Edition) → need_in edition no_shape (0 ∷ []) ≤ 1
-unfolding need_of missing_count last_place
-first_need V6 =
-    let same : count_by (λ p. is_on_ways Small (0 ∷ []) p && not false) (places Small) ≡ count_by (bytes_eq (0 ∷ [])) (places Small) =
-    count_among (λ p. is_on_ways Small (0 ∷ []) p && not false) (bytes_eq (0 ∷ [])) (places Small) (λ p among. alone (bytes_eq p (0 ∷ [])) ∙ equal_places p (0 ∷ [])) in
-    let once = places_once Small (0 ∷ []) (omega arith) in
-    omega (arith, same, once)
-first_need V7 =
-    let same : count_by (λ p. is_on_ways Deep (0 ∷ []) p && not false) (places Deep) ≡ count_by (bytes_eq (0 ∷ [])) (places Deep) =
-    count_among (λ p. is_on_ways Deep (0 ∷ []) p && not false) (bytes_eq (0 ∷ [])) (places Deep) (λ p among. alone (bytes_eq p (0 ∷ [])) ∙ equal_places p (0 ∷ [])) in
-    let once = places_once Deep (0 ∷ []) (omega arith) in
-    omega (arith, same, once)
-
--- and once it is there, no other
+-- once the first block of a directory is there, its second slot needs no other
 pub second_need : (edition : Edition) → need_in edition (shape_with_entry edition no_shape dot) (0 ∷ []) ≡ 0
 unfolding need_of missing_count
 second_need V6 =
@@ -64,17 +29,3 @@ second_need V7 =
     let none : count_by (λ p. is_on_ways Deep (0 ∷ []) p && not (false || is_on_ways Deep (0 ∷ []) p)) (places Deep) ≡ 0 =
     count_none (λ p. is_on_ways Deep (0 ∷ []) p && not (false || is_on_ways Deep (0 ∷ []) p)) (places Deep) (λ p. asked_twice (is_on_ways Deep (0 ∷ []) p)) in
     omega (arith, none)
-
--- the slots of a directory are no blocks
-slots_apart : (edition : Edition) (shape : Shape) (name : List ℕ)
-    → place_count edition (shape_with_entry edition shape name) ≡ place_count edition (stored_shape edition shape (entry_blocks shape))
-unfolding place_count
-slots_apart edition shape name = refl
-
--- how many blocks are free once a directory has one more entry
-pub free_entered : (geometry : Geometry) (shapes : ℕ → Shape) (d : ℕ) (name : List ℕ) → 1 ≤ d → d ≤ geometry.last_inode
-    → free_count geometry (set_at shapes d (shape_with_entry geometry.edition (shapes d) name))
-    ≡ free_count geometry shapes - need_in geometry.edition (shapes d) (entry_blocks (shapes d))
-free_entered geometry shapes d name first last =
-    free_less geometry shapes d (shape_with_entry geometry.edition (shapes d) name) (need_in geometry.edition (shapes d) (entry_blocks (shapes d))) first last
-    (slots_apart geometry.edition (shapes d) name ∙ stored_count geometry.edition (shapes d) (entry_blocks (shapes d)))

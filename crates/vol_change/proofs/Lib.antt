@@ -1,11 +1,10 @@
-pub mod FreeAfter
-pub mod ReadyLaws
 pub mod CallSteps
 pub mod DotGraphs
 pub mod DotImages
 pub mod DotRooms
 pub mod DotStates
 pub mod EntryNodes
+pub mod FreeAfter
 pub mod FreeKinds
 pub mod LeftGraphs
 pub mod LeftNodes
@@ -13,4 +12,5 @@ pub mod MadeDirectories
 pub mod NamedNodes
 pub mod NodeEdits
 pub mod NodeLinks
+pub mod ReadyLaws
 pub mod SideStates

@@ -22,8 +22,8 @@ use Rattle.vol_node.specs.Whole.{Keeps}
 use Rattle.vol_change.specs.Dots.{HoldsNames}
 use Rattle.vol_change.specs.Effects.{after_mkdir}
 use Rattle.vol_change.specs.Ready.{IsReady, TakesName, entry_need, free_in}
-use Rattle.vol_change.proofs.DotRooms.{free_entered}
 use Rattle.vol_change.proofs.DotStates.{bare_directory, bare_empty, dots_made}
+use Rattle.vol_change.proofs.FreeAfter.{entry_takes}
 use Rattle.vol_change.proofs.NamedNodes.{new_name}
 use Rattle.vol_change.proofs.NodeEdits.{edit}
 use Rattle.vol_change.proofs.NodeLinks.{links_is}
@@ -43,7 +43,7 @@ pub room_entered : (state : State) (now d i : ℕ) (name : List ℕ) → 1 ≤ d
     → entry_need state d + 1 ≤ free_in state → 1 ≤ free_in (add_entry now d name i state)
 room_entered state now d i name first last room =
     let left : free_in (add_entry now d name i state) ≡ free_in state - entry_need state d =
-    free_entered state.tree.geometry state.shapes d name first last in
+    entry_takes state.tree.geometry state.shapes d name first last in
     omega (arith, left, room)
 
 -- the new directory is empty once its parent has its entry

@@ -74,7 +74,9 @@ impl Volume {
         if is_twice || zone().any(|(is_named, is_free)| is_named && is_free) {
             return Some(7);
         }
-        zone().any(|(is_named, is_free)| !is_named && !is_free).then_some(8)
+        zone()
+            .any(|(is_named, is_free)| !is_named && !is_free)
+            .then_some(8)
     }
 
     /// Marks a block and those to which it leads; the answer is whether their numbers lie in the zone.

@@ -21,8 +21,8 @@ pub fn save(volume: &Volume, path: &str) -> Outcome<()> {
         Err(error) => return Err(error.into()),
     };
     let (file, beside) = new_file(&place, old.is_some())?;
-    let result = fill(file, &beside, old.as_ref(), &volume.bytes)
-        .and_then(|()| fs::rename(&beside, &place));
+    let result =
+        fill(file, &beside, old.as_ref(), &volume.bytes).and_then(|()| fs::rename(&beside, &place));
     if result.is_err() {
         let _ = fs::remove_file(&beside);
     }

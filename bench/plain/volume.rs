@@ -386,5 +386,4 @@ impl Volume {
     pub fn is_in_zone(&self, block: usize) -> bool {
         self.zone_start <= block && block < self.zone_end
     }
-
 }

@@ -1,6 +1,9 @@
+pub mod Accepted
+pub mod AcceptedCalls
 mod AnsweredQueries
 pub mod Journals
 mod ListedNames
+pub mod NeverLaws
 pub mod NewDirectories
 pub mod NewFiles
 pub mod NewRules
@@ -10,7 +13,8 @@ pub mod FoundNames
 pub mod FreeNumbers
 pub mod NeedReadings
 pub mod NodeReadings
+pub mod PerformedCalls
 mod QueriedNodes
-mod Refusals
-mod SoundSizes
+pub mod Refusals
+pub mod SoundSizes
 pub mod StandingImages

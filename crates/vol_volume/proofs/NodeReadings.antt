@@ -1,6 +1,7 @@
 -- What the tree of an image says of one i-node.
 use Rattle.std.proofs.Common.{◌≡◌, ◌≢◌, ℕ, ◌≤◌, ◌∙◌, ap, refl, sym, true, false, cond, List, [], None, Some, arith}
 use Rattle.std.specs.Option.{option_map, unwrap_or}
+use Rattle.std.proofs.lemmas.Bool.{false≢true}
 use Rattle.std.proofs.lemmas.Bool.Decides.{nat_tests}
 use Rattle.vol_layout.specs.Edition.{constants}
 use Rattle.vol_layout.specs.Inode.{inode_place, inode_of}
@@ -9,11 +10,12 @@ use Rattle.vol_layout.specs.declared.mode.Kind.{Kind}
 use Rattle.vol_layout.specs.declared.mode.Kind.TheVariants as kinds
 use Rattle.vol_layout.proofs.InodeLaws.{inode_size}
 use Rattle.vol_file.specs.Rules.{size_of, kind_at, HasSoundFiles}
+use Rattle.vol_file.proofs.Naming.{root_first}
 use Rattle.vol_dir.specs.Entries.{slots, IsDirectory, IsInUse}
-use Rattle.vol_dir.specs.Names.{names_of}
-use Rattle.vol_dir.specs.Tree.{Content, Node, is_number, node_of, node_with, content_of, tree}
+use Rattle.vol_dir.specs.Names.{get, names_of}
+use Rattle.vol_dir.specs.Tree.{Content, Node, State, is_number, node_of, node_with, content_of, tree}
 use Rattle.vol_dir.specs.Walk.{map_of, is_directory}
-use Rattle.vol_node.specs.Nodes.{no_node, node_at, names_at}
+use Rattle.vol_node.specs.Nodes.{no_node, node_at, names_at, entry_of}
 use Rattle.vol_volume.specs.Verdict.{is_device}
 
 -- the node of an i-number of the volume, by the kind of its i-node
@@ -59,6 +61,24 @@ module _ (geometry : Geometry) (image : List ℕ) where
   pub device_is : (i : ℕ) → 1 ≤ i → i ≤ geometry.last_inode → kind_at geometry image i ≡ kinds.Special → is_device (node_at (tree geometry image) i).content ≡ true
   device_is i first last is = ap (λ (n : Node). is_device n.content) (node_is i kinds.Special first last is)
 
+  -- and only there
+  directory_by : (i : ℕ) (kind : Kind) → kind_at geometry image i ≡ kind → is_directory (node_by geometry image i kind) ≡ true → kind_at geometry image i ≡ kinds.Directory
+  directory_by i kinds.Free is found = absurd (false≢true found)
+  directory_by i kinds.Regular is found = absurd (false≢true found)
+  directory_by i kinds.Directory is found = is
+  directory_by i kinds.Special is found = absurd (false≢true found)
+  directory_by i kinds.Odd is found = absurd (false≢true found)
+
+  pub directory_from : (i : ℕ) → 1 ≤ i → i ≤ geometry.last_inode → is_directory (node_at (tree geometry image) i) ≡ true → IsDirectory geometry image i
+  directory_from i first last found = record {
+    first = first;
+    last = last;
+    kind = directory_by i (kind_at geometry image i) refl (sym (ap is_directory (node_is i (kind_at geometry image i) first last refl)) ∙ found);
+  }
+
+  pub other_kind : (i : ℕ) → 1 ≤ i → i ≤ geometry.last_inode → is_directory (node_at (tree geometry image) i) ≡ false → kind_at geometry image i ≢ kinds.Directory
+  other_kind i first last other is = false≢true (sym other ∙ directory_is i first last is)
+
   no_device_by : (i : ℕ) (kind : Kind) → kind ≢ kinds.Special → is_device (node_by geometry image i kind).content ≡ false
   no_device_by i kinds.Free other = refl
   no_device_by i kinds.Regular other = refl
@@ -73,6 +93,10 @@ module _ (geometry : Geometry) (image : List ℕ) where
   -- the names of a directory
   pub names_are : (d : ℕ) → IsDirectory geometry image d → names_at (tree geometry image) d ≡ names_of (slots geometry image d)
   names_are d directory = ap (λ (n : Node). unwrap_or (map_of n.content) []) (node_is d kinds.Directory directory.first directory.last directory.kind)
+
+  -- where the node is no special file, the i-node is none
+  pub other_device : (i : ℕ) → 1 ≤ i → i ≤ geometry.last_inode → is_device (node_at (tree geometry image) i).content ≡ false → kind_at geometry image i ≢ kinds.Special
+  other_device i first last other is = false≢true (sym other ∙ device_is i first last is)
 
   stored_by : (i : ℕ) (kind : Kind) → kind ≢ kinds.Free → kind ≢ kinds.Odd
       → (content : Content) × (content_of geometry image i kind ≡ Some content)
@@ -125,3 +149,18 @@ module _ (geometry : Geometry) (image : List ℕ) where
       → kind_at geometry image i ≢ kinds.Special → kind_at geometry image i ≡ kinds.Regular
   regular_left i first files used directory special =
       regular_by (kind_at geometry image i) used.allocated (files.sound.kinds.known i first used.last) directory special
+
+  -- an i-number in use is one of the volume
+  pub used_first : (i : ℕ) → IsInUse geometry image i → 1 ≤ i
+  used_first i used = let low : 1 ≤ (constants geometry.edition).root = root_first geometry.edition in omega (arith, low, used.first)
+
+  -- a node in use that is neither directory nor special file is that of a regular file
+  pub regular_file : (i : ℕ) → HasSoundFiles geometry image → IsInUse geometry image i → is_directory (node_at (tree geometry image) i) ≡ false
+      → is_device (node_at (tree geometry image) i).content ≡ false → kind_at geometry image i ≡ kinds.Regular
+  regular_file i files used directory special =
+      let first = used_first i used in
+      regular_left i first files used (other_kind i first used.last directory) (other_device i first used.last special)
+
+-- the i-number that a directory has for a name
+pub entry_is : (state : State) (d i : ℕ) (name : List ℕ) → get (names_at state.tree d) name ≡ Some i → entry_of state.tree d name ≡ i
+entry_is state d i name named = ap (λ o. unwrap_or o 0) named

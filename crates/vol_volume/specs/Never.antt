@@ -1,0 +1,5 @@
+-- never
+use Rattle.std.specs.Prelude.{ℕ}
+
+unfoldable pub Never : Type 0
+Never = ⊥

@@ -1,5 +1,5 @@
 -- What a volume is after a call that was performed and recorded.
-use Rattle.std.proofs.Common.{◌≡◌, ℕ, ◌+◌, ◌*◌, ◌<◌, ◌≤◌, ◌&&◌, ◌∙◌, ap, sym, subst, refl, false, nat_le, nat_lt, List, [], ◌∷◌, ◌++◌, slice_index, None, Some, inl, inr, arith}
+use Rattle.std.proofs.Common.{◌≡◌, ℕ, ◌+◌, ◌*◌, ◌≤◌, ◌&&◌, ◌∙◌, ap, sym, subst, refl, nat_le, nat_lt, List, [], ◌∷◌, ◌++◌, None, Some, inl, inr, arith}
 use Rattle.std.proofs.lemmas.Bool.{or_parts, and_cases}
 use Rattle.std.proofs.lemmas.Bool.Decides.{nat_tests}
 use Rattle.vol_layout.specs.Geometry.{geometry_of, block_count}
@@ -14,7 +14,7 @@ use Rattle.vol_volume.specs.Journal.{MayAnswer, Refuses}
 use Rattle.vol_volume.specs.Performing.{IsPerformed}
 use Rattle.vol_volume.specs.Step.{step}
 use Rattle.vol_volume.specs.Verdict.{verdict}
-use Rattle.vol_volume.specs.Volume.{Mounted, reads_as, is_changeable, SameElsewhere, IsConsistent, Performs, Accepts}
+use Rattle.vol_volume.specs.Volume.{Mounted, reads_as, SameElsewhere, IsConsistent, Performs, Accepts}
 use Rattle.vol_volume.proofs.Journals.{kept_consistent}
 use Rattle.vol_volume.proofs.Refusals.{refused_so}
 use Rattle.vol_dir.specs.declared.refusal.Refusal.{Refusal}

@@ -1,5 +1,4 @@
 -- never
-use Rattle.std.specs.Prelude.{ℕ}
 
 unfoldable pub Never : Type 0
 Never = ⊥

@@ -7,7 +7,9 @@ use Rattle.vol_layout.specs.declared.edition.Edition.{Edition}
 use Rattle.vol_layout.specs.declared.edition.Edition.TheVariants.{V6, V7}
 use Rattle.unixvol.specs.Decimal.{IsNumberUpTo, IsNumberGiven}
 use Rattle.unixvol.specs.declared.command_line.Invocation.{Invocation}
-use Rattle.unixvol.specs.declared.command_line.Invocation.TheVariants.{Cat, Mkfs}
+use Rattle.unixvol.specs.declared.command_line.Invocation.TheVariants.{Cat, Mkfs, OnVolume}
+use Rattle.unixvol.specs.declared.command_line.Job.TheVariants as jobs
+use Rattle.unixvol.specs.declared.command_line.VolumeFile.{VolumeFile}
 
 -- the word names this edition
 abbrev pub IsEditionNamed : Edition → List ℕ → Type 0
@@ -22,7 +24,7 @@ IsNoEdition text = (text ≢ codes "6") × (text ≢ codes "7")
 abbrev pub AsksForCat : List ℕ → List ℕ → List ℕ → Invocation → Type 0
 AsksForCat edition image ino (Cat named file number) =
     IsEditionNamed named edition × (file.now ≡ image) × IsNumberUpTo 65535 ino × (number ≡ digits_value 10 ino)
-AsksForCat edition image ino (Mkfs file volume) = ⊥
+AsksForCat edition image ino _ = ⊥
 
 -- a word, or the empty one where there is none
 abbrev pub word_or_empty : Option (List ℕ) → List ℕ
@@ -35,7 +37,6 @@ given_in values argument = word_or_empty (first_value (found_of values) argument
 
 -- the words that were given ask for this volume in this file
 abbrev pub AsksForMkfs : ArgMatches → Invocation → Type 0
-AsksForMkfs values (Cat named file number) = ⊥
 AsksForMkfs values (Mkfs file volume) = (file.now ≡ given_in values (codes "IMAGE"))
     × IsEditionNamed volume.edition (given_in values (codes "EDITION"))
     × IsNumberGiven 4294967295 (given_in values (codes "FSIZE")) volume.blocks
@@ -43,3 +44,57 @@ AsksForMkfs values (Mkfs file volume) = (file.now ≡ given_in values (codes "IM
     × IsNumberGiven 65535 (given_in values (codes "UID")) volume.uid
     × IsNumberGiven 65535 (given_in values (codes "GID")) volume.gid
     × IsNumberGiven 4294967295 (given_in values (codes "NOW")) volume.now
+AsksForMkfs values _ = ⊥
+
+-- the words that were given name this volume
+abbrev pub IsVolumeGiven : ArgMatches → VolumeFile → Type 0
+IsVolumeGiven values volume =
+    IsEditionNamed volume.edition (given_in values (codes "EDITION")) × (volume.image.now ≡ given_in values (codes "IMAGE"))
+
+-- the word that was given for an argument is this one
+abbrev pub IsWordGiven : ArgMatches → List ℕ → List ℕ → Type 0
+IsWordGiven values argument word = word ≡ given_in values argument
+
+-- the moment that was given is this one
+abbrev pub IsMomentGiven : ArgMatches → ℕ → Type 0
+IsMomentGiven values now = IsNumberGiven 4294967295 (given_in values (codes "NOW")) now
+
+-- the words after `ls` ask for this
+abbrev pub AsksForLs : ArgMatches → Invocation → Type 0
+AsksForLs values (OnVolume volume (jobs.Ls path)) = IsVolumeGiven values volume × IsWordGiven values (codes "PATH") path.now
+AsksForLs values _ = ⊥
+
+-- the words after `get` ask for this
+abbrev pub AsksForGet : ArgMatches → Invocation → Type 0
+AsksForGet values (OnVolume volume (jobs.Get path)) = IsVolumeGiven values volume × IsWordGiven values (codes "PATH") path.now
+AsksForGet values _ = ⊥
+
+-- the words after `put` ask for this
+abbrev pub AsksForPut : ArgMatches → Invocation → Type 0
+AsksForPut values (OnVolume volume (jobs.Put path file now)) = IsVolumeGiven values volume × IsWordGiven values (codes "PATH") path.now
+    × IsWordGiven values (codes "FILE") file.now × IsMomentGiven values now
+AsksForPut values _ = ⊥
+
+-- the words after `rm` ask for this
+abbrev pub AsksForRm : ArgMatches → Invocation → Type 0
+AsksForRm values (OnVolume volume (jobs.Rm path now)) =
+    IsVolumeGiven values volume × IsWordGiven values (codes "PATH") path.now × IsMomentGiven values now
+AsksForRm values _ = ⊥
+
+-- the words after `rmdir` ask for this
+abbrev pub AsksForRmdir : ArgMatches → Invocation → Type 0
+AsksForRmdir values (OnVolume volume (jobs.Rmdir path now)) =
+    IsVolumeGiven values volume × IsWordGiven values (codes "PATH") path.now × IsMomentGiven values now
+AsksForRmdir values _ = ⊥
+
+-- the words after `mkdir` ask for this
+abbrev pub AsksForMkdir : ArgMatches → Invocation → Type 0
+AsksForMkdir values (OnVolume volume (jobs.Mkdir path now)) =
+    IsVolumeGiven values volume × IsWordGiven values (codes "PATH") path.now × IsMomentGiven values now
+AsksForMkdir values _ = ⊥
+
+-- the words after `ln` ask for this
+abbrev pub AsksForLn : ArgMatches → Invocation → Type 0
+AsksForLn values (OnVolume volume (jobs.Ln from to now)) = IsVolumeGiven values volume × IsWordGiven values (codes "FROM") from.now
+    × IsWordGiven values (codes "TO") to.now × IsMomentGiven values now
+AsksForLn values _ = ⊥

@@ -12,6 +12,19 @@ use vol_layout::Edition;
 
 mod mkfs;
 mod texts;
+mod volumes;
+mod words;
+
+use words::{EDITION, IMAGE, Verb, edition_argument, wrong_value};
+
+/// A volume in a file.
+#[derive(Clone, Copy, Debug, PartialEq, Eq)]
+pub struct VolumeFile<'a> {
+    /// The edition of Unix.
+    pub edition: Edition,
+    /// The file.
+    pub image: &'a str,
+}
 
 /// What the user asks for.
 #[derive(Clone, Copy, Debug, PartialEq, Eq)]
@@ -27,17 +40,55 @@ pub enum Invocation<'a> {
         image: &'a str,
         volume: NewVolume,
     },
+    /// Do something with the volume in a file.
+    OnVolume {
+        volume: VolumeFile<'a>,
+        job: Job<'a>,
+    },
 }
 
-/// Names of the arguments, as the help shows them.
-const EDITION: &str = "EDITION";
+/// What is to be done with the tree of a volume.
+#[derive(Clone, Copy, Debug, PartialEq, Eq)]
+pub enum Job<'a> {
+    /// List the names in a directory.
+    Ls {
+        path: &'a str,
+    },
+    /// Print the bytes of a file.
+    Get {
+        path: &'a str,
+    },
+    /// Put the bytes of the file `file` into the volume.
+    Put {
+        path: &'a str,
+        file: &'a str,
+        now: u32,
+    },
+    /// Take a name away.
+    Rm {
+        path: &'a str,
+        now: u32,
+    },
+    /// Take an empty directory away.
+    Rmdir {
+        path: &'a str,
+        now: u32,
+    },
+    /// Make a directory.
+    Mkdir {
+        path: &'a str,
+        now: u32,
+    },
+    /// Give a file a further name.
+    Ln {
+        from: &'a str,
+        to: &'a str,
+        now: u32,
+    },
+}
 
-const IMAGE: &str = "IMAGE";
-
+/// Name of an argument, as the help shows it.
 const INO: &str = "INO";
-
-/// The editions' names on the command line.
-static EDITIONS: [&str; 2] = ["6", "7"];
 
 /// Reads the words of the command line, of which the first is the program's own name. The error is
 /// clap's, with its text, its stream and its status; it is of the kind `OutOfMemory` where an
@@ -47,7 +98,14 @@ pub fn read<'a>(alloc: Global, words: &'a [String]) -> Result<Invocation<'a>, Er
     let matches = command.try_get_matches_from_mut(words)?;
     match matches.subcommand() {
         Some(("cat", values)) => read_cat(alloc, values),
+        Some(("ls", values)) => volumes::read_ls(alloc, values),
+        Some(("get", values)) => volumes::read_get(alloc, values),
         Some(("mkfs", values)) => mkfs::read(alloc, values),
+        Some(("put", values)) => volumes::read_put(alloc, values),
+        Some(("rm", values)) => volumes::read_rm(alloc, values),
+        Some(("rmdir", values)) => volumes::read_rmdir(alloc, values),
+        Some(("mkdir", values)) => volumes::read_mkdir(alloc, values),
+        Some(("ln", values)) => volumes::read_ln(alloc, values),
         _ => Err(command.error(ErrorKind::MissingSubcommand, "a command is missing")?),
     }
 }
@@ -61,7 +119,14 @@ fn command_line<'a>(alloc: Global) -> Result<Command<'a>, AllocError> {
         .subcommand_required(true)
         .arg_required_else_help(true)
         .subcommand(cat_command(alloc)?)?
-        .subcommand(mkfs::command(alloc)?)
+        .subcommand(volumes::ls_command(alloc)?)?
+        .subcommand(volumes::get_command(alloc)?)?
+        .subcommand(mkfs::command(alloc)?)?
+        .subcommand(volumes::put_command(alloc)?)?
+        .subcommand(volumes::rm_command(alloc)?)?
+        .subcommand(volumes::rmdir_command(alloc)?)?
+        .subcommand(volumes::mkdir_command(alloc)?)?
+        .subcommand(volumes::ln_command(alloc)?)
 }
 
 /// The command `cat`.
@@ -72,14 +137,6 @@ fn cat_command<'a>(alloc: Global) -> Result<Command<'a>, AllocError> {
         .arg(edition_argument(alloc))?
         .arg(Arg::new(alloc, IMAGE).required(true).help(texts::IMAGE))?
         .arg(Arg::new(alloc, INO).required(true).help(texts::INO))
-}
-
-/// The word that names the edition of the volume.
-fn edition_argument<'a>(alloc: Global) -> Arg<'a> {
-    Arg::new(alloc, EDITION)
-        .required(true)
-        .value_parser(EDITIONS.as_slice())
-        .help(texts::EDITION)
 }
 
 /// Reads the words of `cat`.
@@ -95,8 +152,7 @@ fn read_cat<'a>(alloc: Global, values: &ArgMatches<'a>) -> Result<Invocation<'a>
         Err(WrongWord::Edition) => (EDITION, edition, texts::EDITIONS),
         Err(WrongWord::Ino) => (INO, ino, texts::WORD),
     };
-    let command = cat_command(alloc)?.bin_name("unixvol cat")?;
-    Err(wrong_value(alloc, command, name, value, wanted)?)
+    Err(wrong_value(alloc, Verb::Cat, name, value, wanted)?)
 }
 
 /// A word that is no value of its argument.
@@ -135,16 +191,4 @@ fn edition_of(text: &str) -> Option<Edition>
         "7" => Some(Edition::V7),
         _ => None,
     }
-}
-
-/// The fault of a word that is no value of the argument `name` of `command`.
-fn wrong_value<'a>(
-    alloc: Global,
-    mut command: Command<'a>,
-    name: &str,
-    value: &str,
-    wanted: &str,
-) -> Result<Error, AllocError> {
-    let text = format!(in alloc; "invalid value '{value}' for '<{name}>': {wanted}")?;
-    command.error(ErrorKind::ValueValidation, text.as_str())
 }

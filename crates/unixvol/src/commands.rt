@@ -1,15 +1,17 @@
 //! The commands of the program: what they open, and what they print where something fails.
-ghost use Rattle.std.specs.Prelude.{◌≡◌, ◌≢◌, ◌⊎◌, IsSome};
+ghost use Rattle.std.specs.Prelude.{◌≡◌, ◌≢◌, ◌⊎◌, IsSome, IfErr};
 ghost use Rattle.clap.specs.Words.{kind_of};
 ghost use Rattle.clap.specs.declared.error.kind.ErrorKind.TheVariants as clap_kinds;
 ghost use Rattle.unixvol.specs.Cat.{status_of};
 
+use crate::answer::Answer;
 use crate::cat::{CatFault, cat};
-use crate::command_line::{self, Invocation};
-use crate::making::{Answer, mkfs_command};
+use crate::command_line::{self, Invocation, Job, VolumeFile};
+use crate::jobs::do_job;
+use crate::making::mkfs_command;
 use crate::saving_file::save_file;
 use clap::error::ErrorKind;
-use pdp_words::{FromRead, IntoWrite};
+use pdp_words::{FromRead, IntoWrite, LoadFault, load};
 use std::env::{self, Env};
 use std::fs::{self, Files};
 use std::io::{self, Write};
@@ -53,7 +55,64 @@ pub fn run<R: Env + Files + Eprint + AllocGlobal, W: Write, E: Write>(
             let answer = mkfs_command(rt.alloc(), volume, &mut output, &mut errors);
             save_answer(rt, image, &answer)
         }
+        Ok(Invocation::OnVolume { volume, job }) => run_job(rt, output, errors, volume, job),
         Err(error) => explain_command_line(rt, output, &error),
+    }
+}
+
+/// Does a job with the volume in a file, and saves the volume where it was changed.
+fn run_job<R: Files + Eprint + AllocGlobal, W: Write, E: Write>(
+    rt: &R,
+    output: &mut W,
+    errors: &mut E,
+    volume: VolumeFile<'_>,
+    job: Job<'_>,
+) -> u8 {
+    let image = match read_file(rt, volume.image) {
+        Ok(image) => image,
+        Err(status) => return status,
+    };
+    let file = match file_of(rt, job) {
+        Ok(file) => file,
+        Err(status) => return status,
+    };
+    let mut output = IntoWrite::new(output);
+    let mut errors = IntoWrite::new(errors);
+    let answer = do_job(
+        rt.alloc(),
+        volume.edition,
+        image,
+        file,
+        job,
+        &mut output,
+        &mut errors,
+    );
+    if answer.status == DONE && answer.image.is_none() {
+        return finish(rt, output.into_inner());
+    }
+    save_answer(rt, volume.image, &answer)
+}
+
+/// The bytes of the file that a job puts into a volume, or none.
+fn file_of<R: Files + Eprint + AllocGlobal>(rt: &R, job: Job<'_>) -> Result<Vec<u8>, u8> {
+    match job {
+        Job::Put { file, .. } => read_file(rt, file),
+        _ => Ok(Vec::new(rt.alloc())),
+    }
+}
+
+/// The bytes of a file. Where it can't be read, prints so, and answers the status.
+fn read_file<R: Files + Eprint + AllocGlobal>(rt: &R, path: &str) -> Result<Vec<u8>, u8>
+    ensures { IfErr result (λ status. (status ≡ 3) ⊎ (status ≡ 4)) }
+{
+    let Ok(file) = fs::open(rt, path) else {
+        return Err(explain_unread(rt, path));
+    };
+    let mut source = FromRead::new(file);
+    match load(rt.alloc(), &mut source) {
+        Ok(image) => Ok(image.into_bytes()),
+        Err(LoadFault::Device) => Err(explain_unread(rt, path)),
+        Err(LoadFault::NoMemory) => Err(explain_no_memory(rt)),
     }
 }
 
@@ -90,6 +149,14 @@ fn save_answer<R: Files + Eprint + AllocGlobal>(rt: &R, image: &str, answer: &An
         Err(error) if error.kind() == io::ErrorKind::OutOfMemory => explain_no_memory(rt),
         Err(_) => explain_file(rt, image),
     }
+}
+
+/// Prints that a file can't be read, and answers the status.
+fn explain_unread(rt: &impl Eprint, path: &str) -> u8
+    ensures { result ≡ 3 }
+{
+    let _ = eprintln!(rt; "unixvol: cannot read {path}");
+    BAD_FILE
 }
 
 /// Prints that a file can't be written, and answers the status.

@@ -1,12 +1,18 @@
 //! Reads, checks, makes and changes disk images of Sixth and Seventh Edition Unix.
 #![tactic(auto)]
 
+mod answer;
 mod cat;
+mod changing;
 mod command_line;
 mod commands;
 mod decimal;
+mod faults;
+mod jobs;
 mod making;
+mod mounting;
 mod saving_file;
+mod showing;
 
 use std::process::ExitCode;
 
@@ -18,3 +24,5 @@ fn main(rt: HostRuntime) -> ExitCode {
 
 #[cfg(test)]
 mod tests;
+#[cfg(test)]
+mod worked;

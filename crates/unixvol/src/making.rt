@@ -4,6 +4,7 @@ ghost use Rattle.std.specs.Io.KnownBytes.{Appends, Keeps};
 ghost use Rattle.vol_volume.specs.Mkfs.{is_size, is_bad_id, volume_of, IsNewVolume};
 ghost use Rattle.unixvol.specs.Making.{status_of_fault, line_of_fault, line_of_status};
 
+use crate::answer::Answer;
 use pdp_words::{Sink, write_all};
 use std::alloc::Global;
 use vol_layout::Edition;
@@ -25,15 +26,6 @@ pub struct NewVolume {
     pub gid: u16,
     /// The time of the super-block and the root.
     pub now: u32,
-}
-
-/// What a command that makes or changes an image comes to.
-#[derive(Debug, Drop)]
-pub struct Answer {
-    /// The status that the program ends with, if the image is saved.
-    pub status: u8,
-    /// The bytes that are to be saved, if any are.
-    pub image: Option<Vec<u8>>,
 }
 
 /// Makes a volume. There are bytes to be saved exactly where the status is 0. Else a line on `errors`

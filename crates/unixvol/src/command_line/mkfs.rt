@@ -1,14 +1,12 @@
 //! The words of `mkfs`.
-ghost use Rattle.std.specs.Prelude.{IfOk, codes};
-ghost use Rattle.unixvol.specs.CommandLine.{IsEditionNamed, AsksForMkfs, given_in};
-ghost use Rattle.unixvol.specs.Decimal.{IsNumberGiven};
+ghost use Rattle.std.specs.Prelude.{IfOk};
+ghost use Rattle.unixvol.specs.CommandLine.{AsksForMkfs};
 
-use super::{EDITION, IMAGE, Invocation, edition_argument, edition_of, texts, wrong_value};
-use crate::decimal::{long_of, word_of};
+use super::words::{IMAGE, NOW, Verb, edition_argument, edition_in, long_in, word_in};
+use super::{Invocation, texts};
 use crate::making::NewVolume;
 use clap::{Arg, ArgMatches, Command, Error};
 use std::alloc::{AllocError, Global};
-use vol_layout::Edition;
 
 /// Names of the arguments, as the help shows them.
 const BLOCKS: &str = "FSIZE";
@@ -18,8 +16,6 @@ const LIST_BLOCKS: &str = "IBLOCKS";
 const UID: &str = "UID";
 
 const GID: &str = "GID";
-
-const NOW: &str = "NOW";
 
 /// The command `mkfs`.
 pub(super) fn command<'a>(alloc: Global) -> Result<Command<'a>, AllocError> {
@@ -45,51 +41,12 @@ pub(super) fn read<'a>(alloc: Global, values: &ArgMatches<'a>) -> Result<Invocat
 {
     let image = values.get_str(IMAGE).unwrap_or("");
     let volume = NewVolume {
-        edition: edition_in(alloc, values)?,
-        blocks: long_in(alloc, values, BLOCKS)?,
-        list_blocks: word_in(alloc, values, LIST_BLOCKS)?,
-        uid: word_in(alloc, values, UID)?,
-        gid: word_in(alloc, values, GID)?,
-        now: long_in(alloc, values, NOW)?,
+        edition: edition_in(alloc, Verb::Mkfs, values)?,
+        blocks: long_in(alloc, Verb::Mkfs, values, BLOCKS)?,
+        list_blocks: word_in(alloc, Verb::Mkfs, values, LIST_BLOCKS)?,
+        uid: word_in(alloc, Verb::Mkfs, values, UID)?,
+        gid: word_in(alloc, Verb::Mkfs, values, GID)?,
+        now: long_in(alloc, Verb::Mkfs, values, NOW)?,
     };
     Ok(Invocation::Mkfs { image, volume })
-}
-
-/// The edition that was given.
-fn edition_in(alloc: Global, values: &ArgMatches<'_>) -> Result<Edition, Error>
-    ensures { IfOk result (λ edition. IsEditionNamed edition (given_in values.now (codes "EDITION"))) }
-{
-    let text = values.get_str(EDITION).unwrap_or("");
-    match edition_of(text) {
-        Some(edition) => Ok(edition),
-        None => Err(wrong(alloc, EDITION, text, texts::EDITIONS)?),
-    }
-}
-
-/// The number of 16 bits that was given for an argument.
-fn word_in(alloc: Global, values: &ArgMatches<'_>, name: &str) -> Result<u16, Error>
-    ensures { IfOk result (λ number. IsNumberGiven 65535 (given_in values.now name.now) number) }
-{
-    let text = values.get_str(name).unwrap_or("");
-    match word_of(text) {
-        Some(number) => Ok(number),
-        None => Err(wrong(alloc, name, text, texts::WORD)?),
-    }
-}
-
-/// The number of 32 bits that was given for an argument.
-fn long_in(alloc: Global, values: &ArgMatches<'_>, name: &str) -> Result<u32, Error>
-    ensures { IfOk result (λ number. IsNumberGiven 4294967295 (given_in values.now name.now) number) }
-{
-    let text = values.get_str(name).unwrap_or("");
-    match long_of(text) {
-        Some(number) => Ok(number),
-        None => Err(wrong(alloc, name, text, texts::LONG)?),
-    }
-}
-
-/// The fault of a word that is no value of the argument `name`.
-fn wrong(alloc: Global, name: &str, text: &str, wanted: &str) -> Result<Error, AllocError> {
-    let command = command(alloc)?.bin_name("unixvol mkfs")?;
-    wrong_value(alloc, command, name, text, wanted)
 }

@@ -72,3 +72,162 @@ pub const UID: &str = "The root directory's user";
 pub const GID: &str = "The root directory's group";
 
 pub const NOW: &str = "The moment of all times, in seconds since 1970";
+
+pub const LS_ABOUT: &str = "Lists the names in a directory of a volume.";
+
+pub const LS_MORE: &str = "\
+Example:
+  unixvol ls 7 disk.img /usr
+
+It prints a line for each name, in ascending order of the names' bytes: the i-number, right-aligned in 5
+places, a space, and the name. `.` and `..` are among them.
+
+A path starts at the root, with or without a slash. Repeated slashes count as one, and each name is cut to
+14 bytes. The volume must be sound: its twelve rules are asked first.
+
+Status:
+  0  the names were printed
+  1  `unixvol: unsound, rule N`: the volume breaks this rule, and none before it
+     `unixvol: 2 NoEntry`: there is no such name
+     `unixvol: 20 NotDirectory`: PATH, or what it leads through, is no directory
+  2  the command line can't be read
+  3  `unixvol: cannot read IMAGE`, or `unixvol: cannot write -`: standard output failed
+  4  `unixvol: 12 NoMemory`";
+
+pub const GET_ABOUT: &str = "Prints the bytes of a file of a volume, found by its path.";
+
+pub const GET_MORE: &str = "\
+Example:
+  unixvol get 7 disk.img /etc/passwd > passwd
+
+It prints the file to standard output, byte for byte, with zeros where a block is missing.
+
+A path starts at the root, with or without a slash. Repeated slashes count as one, and each name is cut to
+14 bytes. The volume must be sound: its twelve rules are asked first.
+
+Status:
+  0  the file was printed
+  1  `unixvol: unsound, rule N`: the volume breaks this rule, and none before it
+     `unixvol: 2 NoEntry`: there is no such name
+     `unixvol: 20 NotDirectory`: what PATH leads through is no directory
+     `unixvol: 21 IsDirectory`, `unixvol: 102 NotRegular`: it is a directory, or a special file
+  2  the command line can't be read
+  3  `unixvol: cannot read IMAGE`, or `unixvol: cannot write -`: standard output failed
+  4  `unixvol: 12 NoMemory`";
+
+pub const PUT_ABOUT: &str = "Puts a file into a volume.";
+
+pub const PUT_MORE: &str = "\
+Example:
+  unixvol put 7 disk.img /etc/motd motd 173750400
+
+A name that is missing is made, with permissions 0644, of user 0 and group 0; a file that is there is made
+empty first, and keeps its i-number, links and permissions. IMAGE is written only where all went well: a new
+file is written beside it and then takes its place, with its permissions. Where IMAGE is a device, the bytes
+are written into it.
+
+Status:
+  0  the file was put, and the volume saved
+  1  `unixvol: unsound, rule N`: the volume breaks this rule, and none before it
+     `unixvol: 2 NoEntry`, `unixvol: 20 NotDirectory`: PATH doesn't lead to a directory and a name in it
+     `unixvol: 21 IsDirectory`, `unixvol: 102 NotRegular`: it is a directory, or a special file
+     `unixvol: 27 TooBig`: the edition has no file, or no directory, of that size
+     `unixvol: 28 NoSpace`, `unixvol: 103 NoInode`: too few blocks, or no i-node, are free
+  2  the command line can't be read
+  3  `unixvol: cannot read IMAGE`, `unixvol: cannot read FILE`, `unixvol: cannot write IMAGE`
+  4  `unixvol: 12 NoMemory`";
+
+pub const RM_ABOUT: &str = "Takes a name away from a file of a volume.";
+
+pub const RM_MORE: &str = "\
+Example:
+  unixvol rm 7 disk.img /etc/motd 173750400
+
+The file is freed with its last name. Special files can be removed too, directories can't. IMAGE is written
+only where all went well: a new file is written beside it and then takes its place.
+
+Status:
+  0  the name is gone, and the volume was saved
+  1  `unixvol: unsound, rule N`: the volume breaks this rule, and none before it
+     `unixvol: 2 NoEntry`: there is no such name
+     `unixvol: 20 NotDirectory`: what PATH leads through is no directory
+     `unixvol: 21 IsDirectory`: it is a directory, or no name
+  2  the command line can't be read
+  3  `unixvol: cannot read IMAGE`, `unixvol: cannot write IMAGE`
+  4  `unixvol: 12 NoMemory`";
+
+pub const RMDIR_ABOUT: &str = "Removes an empty directory of a volume.";
+
+pub const RMDIR_MORE: &str = "\
+Example:
+  unixvol rmdir 7 disk.img /tmp/old 173750400
+
+Empty is a directory with `.` and `..` alone. IMAGE is written only where all went well: a new file is
+written beside it and then takes its place.
+
+Status:
+  0  the directory is gone, and the volume was saved
+  1  `unixvol: unsound, rule N`: the volume breaks this rule, and none before it
+     `unixvol: 2 NoEntry`: there is no such name
+     `unixvol: 20 NotDirectory`: it, or what PATH leads through, is no directory
+     `unixvol: 22 Invalid`: PATH is the root, or ends in `.` or `..`
+     `unixvol: 101 NotEmpty`: there are other names in it
+  2  the command line can't be read
+  3  `unixvol: cannot read IMAGE`, `unixvol: cannot write IMAGE`
+  4  `unixvol: 12 NoMemory`";
+
+pub const MKDIR_ABOUT: &str = "Makes a directory in a volume.";
+
+pub const MKDIR_MORE: &str = "\
+Example:
+  unixvol mkdir 7 disk.img /usr/src 173750400
+
+It has permissions 0755, is of user 0 and group 0, and holds `.` and `..`. IMAGE is written only where all
+went well: a new file is written beside it and then takes its place.
+
+Status:
+  0  the directory was made, and the volume saved
+  1  `unixvol: unsound, rule N`: the volume breaks this rule, and none before it
+     `unixvol: 2 NoEntry`, `unixvol: 20 NotDirectory`: PATH doesn't lead to a directory and a name in it
+     `unixvol: 17 Exists`: the name is there already
+     `unixvol: 27 TooBig`: the directory above has the greatest size
+     `unixvol: 28 NoSpace`, `unixvol: 103 NoInode`: too few blocks, or no i-node, are free
+     `unixvol: 31 TooManyLinks`: the directory above has as many as it can
+  2  the command line can't be read
+  3  `unixvol: cannot read IMAGE`, `unixvol: cannot write IMAGE`
+  4  `unixvol: 12 NoMemory`";
+
+pub const LN_ABOUT: &str = "Gives a file of a volume a further name.";
+
+pub const LN_MORE: &str = "\
+Example:
+  unixvol ln 7 disk.img /bin/ed /bin/e 173750400
+
+Both names then lead to one file. Special files can have further names too, directories can't. IMAGE is
+written only where all went well: a new file is written beside it and then takes its place.
+
+Status:
+  0  the name was made, and the volume saved
+  1  `unixvol: unsound, rule N`: the volume breaks this rule, and none before it
+     `unixvol: 2 NoEntry`: there is no FROM, or TO doesn't lead to a directory
+     `unixvol: 17 Exists`: TO is there already
+     `unixvol: 20 NotDirectory`: what FROM or TO leads through is no directory
+     `unixvol: 21 IsDirectory`: FROM is a directory
+     `unixvol: 27 TooBig`: the directory above TO has the greatest size
+     `unixvol: 28 NoSpace`: too few blocks are free for the directory above TO to grow
+     `unixvol: 31 TooManyLinks`: the file has as many as it can
+  2  the command line can't be read
+  3  `unixvol: cannot read IMAGE`, `unixvol: cannot write IMAGE`
+  4  `unixvol: 12 NoMemory`";
+
+pub const DIRECTORY: &str = "The directory's path in the volume";
+
+pub const REGULAR: &str = "The file's path in the volume";
+
+pub const NAMED: &str = "The path of the file's name in the volume";
+
+pub const NEW_NAME: &str = "The path of the new name in the volume";
+
+pub const FILE: &str = "The file whose bytes are put";
+
+pub const CALL_NOW: &str = "The moment of the change, in seconds since 1970";

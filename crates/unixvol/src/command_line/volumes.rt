@@ -1,0 +1,187 @@
+//! The words of the commands on the tree of a volume.
+ghost use Rattle.std.specs.Prelude.{IfOk};
+ghost use Rattle.unixvol.specs.CommandLine.{IsVolumeGiven, AsksForLs, AsksForGet, AsksForPut, AsksForRm, AsksForRmdir, AsksForMkdir, AsksForLn};
+
+use super::words::{EDITION, IMAGE, NOW, Verb, edition_argument, edition_in, long_in};
+use super::{Invocation, Job, VolumeFile, texts};
+use clap::{Arg, ArgMatches, Command, Error};
+use std::alloc::{AllocError, Global};
+
+/// Names of the arguments, as the help shows them.
+const PATH: &str = "PATH";
+
+const FILE: &str = "FILE";
+
+const FROM: &str = "FROM";
+
+const TO: &str = "TO";
+
+/// The command `ls`.
+pub(super) fn ls_command<'a>(alloc: Global) -> Result<Command<'a>, AllocError> {
+    on_volume(alloc, "ls", texts::LS_ABOUT, texts::LS_MORE)?.arg(word(
+        alloc,
+        PATH,
+        texts::DIRECTORY,
+    ))
+}
+
+/// The command `get`.
+pub(super) fn get_command<'a>(alloc: Global) -> Result<Command<'a>, AllocError> {
+    on_volume(alloc, "get", texts::GET_ABOUT, texts::GET_MORE)?.arg(word(
+        alloc,
+        PATH,
+        texts::REGULAR,
+    ))
+}
+
+/// The command `put`.
+pub(super) fn put_command<'a>(alloc: Global) -> Result<Command<'a>, AllocError> {
+    on_volume(alloc, "put", texts::PUT_ABOUT, texts::PUT_MORE)?
+        .arg(word(alloc, PATH, texts::REGULAR))?
+        .arg(word(alloc, FILE, texts::FILE))?
+        .arg(word(alloc, NOW, texts::CALL_NOW))
+}
+
+/// The command `rm`.
+pub(super) fn rm_command<'a>(alloc: Global) -> Result<Command<'a>, AllocError> {
+    on_volume(alloc, "rm", texts::RM_ABOUT, texts::RM_MORE)?
+        .arg(word(alloc, PATH, texts::NAMED))?
+        .arg(word(alloc, NOW, texts::CALL_NOW))
+}
+
+/// The command `rmdir`.
+pub(super) fn rmdir_command<'a>(alloc: Global) -> Result<Command<'a>, AllocError> {
+    on_volume(alloc, "rmdir", texts::RMDIR_ABOUT, texts::RMDIR_MORE)?
+        .arg(word(alloc, PATH, texts::DIRECTORY))?
+        .arg(word(alloc, NOW, texts::CALL_NOW))
+}
+
+/// The command `mkdir`.
+pub(super) fn mkdir_command<'a>(alloc: Global) -> Result<Command<'a>, AllocError> {
+    on_volume(alloc, "mkdir", texts::MKDIR_ABOUT, texts::MKDIR_MORE)?
+        .arg(word(alloc, PATH, texts::DIRECTORY))?
+        .arg(word(alloc, NOW, texts::CALL_NOW))
+}
+
+/// The command `ln`.
+pub(super) fn ln_command<'a>(alloc: Global) -> Result<Command<'a>, AllocError> {
+    on_volume(alloc, "ln", texts::LN_ABOUT, texts::LN_MORE)?
+        .arg(word(alloc, FROM, texts::NAMED))?
+        .arg(word(alloc, TO, texts::NEW_NAME))?
+        .arg(word(alloc, NOW, texts::CALL_NOW))
+}
+
+/// A command whose first words are the edition and the image.
+fn on_volume<'a>(
+    alloc: Global,
+    name: &'a str,
+    about: &'a str,
+    more: &'a str,
+) -> Result<Command<'a>, AllocError> {
+    Command::new(alloc, name)
+        .about(about)
+        .after_help(more)
+        .arg(edition_argument(alloc))?
+        .arg(word(alloc, IMAGE, texts::IMAGE))
+}
+
+/// A word that is required.
+fn word<'a>(alloc: Global, name: &'a str, help: &'a str) -> Arg<'a> {
+    Arg::new(alloc, name).required(true).help(help)
+}
+
+/// Reads the words of `ls`.
+pub(super) fn read_ls<'a>(alloc: Global, values: &ArgMatches<'a>) -> Result<Invocation<'a>, Error>
+    ensures { IfOk result (λ invocation. AsksForLs values.now invocation) }
+{
+    let volume = volume_in(alloc, Verb::Ls, values)?;
+    let path = values.get_str(PATH).unwrap_or("");
+    let job = Job::Ls { path };
+    Ok(Invocation::OnVolume { volume, job })
+}
+
+/// Reads the words of `get`.
+pub(super) fn read_get<'a>(alloc: Global, values: &ArgMatches<'a>) -> Result<Invocation<'a>, Error>
+    ensures { IfOk result (λ invocation. AsksForGet values.now invocation) }
+{
+    let volume = volume_in(alloc, Verb::Get, values)?;
+    let path = values.get_str(PATH).unwrap_or("");
+    let job = Job::Get { path };
+    Ok(Invocation::OnVolume { volume, job })
+}
+
+/// Reads the words of `put`.
+pub(super) fn read_put<'a>(alloc: Global, values: &ArgMatches<'a>) -> Result<Invocation<'a>, Error>
+    ensures { IfOk result (λ invocation. AsksForPut values.now invocation) }
+{
+    let volume = volume_in(alloc, Verb::Put, values)?;
+    let path = values.get_str(PATH).unwrap_or("");
+    let file = values.get_str(FILE).unwrap_or("");
+    let now = long_in(alloc, Verb::Put, values, NOW)?;
+    let job = Job::Put { path, file, now };
+    Ok(Invocation::OnVolume { volume, job })
+}
+
+/// Reads the words of `rm`.
+pub(super) fn read_rm<'a>(alloc: Global, values: &ArgMatches<'a>) -> Result<Invocation<'a>, Error>
+    ensures { IfOk result (λ invocation. AsksForRm values.now invocation) }
+{
+    let volume = volume_in(alloc, Verb::Rm, values)?;
+    let path = values.get_str(PATH).unwrap_or("");
+    let now = long_in(alloc, Verb::Rm, values, NOW)?;
+    let job = Job::Rm { path, now };
+    Ok(Invocation::OnVolume { volume, job })
+}
+
+/// Reads the words of `rmdir`.
+pub(super) fn read_rmdir<'a>(
+    alloc: Global,
+    values: &ArgMatches<'a>,
+) -> Result<Invocation<'a>, Error>
+    ensures { IfOk result (λ invocation. AsksForRmdir values.now invocation) }
+{
+    let volume = volume_in(alloc, Verb::Rmdir, values)?;
+    let path = values.get_str(PATH).unwrap_or("");
+    let now = long_in(alloc, Verb::Rmdir, values, NOW)?;
+    let job = Job::Rmdir { path, now };
+    Ok(Invocation::OnVolume { volume, job })
+}
+
+/// Reads the words of `mkdir`.
+pub(super) fn read_mkdir<'a>(
+    alloc: Global,
+    values: &ArgMatches<'a>,
+) -> Result<Invocation<'a>, Error>
+    ensures { IfOk result (λ invocation. AsksForMkdir values.now invocation) }
+{
+    let volume = volume_in(alloc, Verb::Mkdir, values)?;
+    let path = values.get_str(PATH).unwrap_or("");
+    let now = long_in(alloc, Verb::Mkdir, values, NOW)?;
+    let job = Job::Mkdir { path, now };
+    Ok(Invocation::OnVolume { volume, job })
+}
+
+/// Reads the words of `ln`.
+pub(super) fn read_ln<'a>(alloc: Global, values: &ArgMatches<'a>) -> Result<Invocation<'a>, Error>
+    ensures { IfOk result (λ invocation. AsksForLn values.now invocation) }
+{
+    let volume = volume_in(alloc, Verb::Ln, values)?;
+    let from = values.get_str(FROM).unwrap_or("");
+    let to = values.get_str(TO).unwrap_or("");
+    let now = long_in(alloc, Verb::Ln, values, NOW)?;
+    let job = Job::Ln { from, to, now };
+    Ok(Invocation::OnVolume { volume, job })
+}
+
+/// The edition and the file of the volume that were given.
+fn volume_in<'a>(
+    alloc: Global,
+    verb: Verb,
+    values: &ArgMatches<'a>,
+) -> Result<VolumeFile<'a>, Error>
+    ensures { IfOk result (λ volume. IsVolumeGiven values.now volume) }
+{
+    let edition = edition_in(alloc, verb, values)?;
+    let image = values.get_str(IMAGE).unwrap_or("");
+    Ok(VolumeFile { edition, image })
+}

@@ -1,0 +1,106 @@
+//! The words that several commands have, and the faults of words.
+ghost use Rattle.std.specs.Prelude.{IfOk, codes};
+ghost use Rattle.unixvol.specs.CommandLine.{IsEditionNamed, given_in};
+ghost use Rattle.unixvol.specs.Decimal.{IsNumberGiven};
+
+use super::{cat_command, edition_of, mkfs, texts, volumes};
+use crate::decimal::{long_of, word_of};
+use clap::error::ErrorKind;
+use clap::{Arg, ArgMatches, Command, Error};
+use std::alloc::{AllocError, Global};
+use vol_layout::Edition;
+
+/// Names of the arguments, as the help shows them.
+pub const EDITION: &str = "EDITION";
+
+pub const IMAGE: &str = "IMAGE";
+
+pub const NOW: &str = "NOW";
+
+/// The editions' names on the command line.
+static EDITIONS: [&str; 2] = ["6", "7"];
+
+/// The commands.
+#[derive(Clone, Copy, Debug, PartialEq, Eq)]
+pub enum Verb {
+    Cat,
+    Ls,
+    Get,
+    Mkfs,
+    Put,
+    Rm,
+    Rmdir,
+    Mkdir,
+    Ln,
+}
+
+impl Verb {
+    /// The command, of which the usage shows the whole name.
+    fn command<'a>(self, alloc: Global) -> Result<Command<'a>, AllocError> {
+        match self {
+            Verb::Cat => cat_command(alloc)?.bin_name("unixvol cat"),
+            Verb::Ls => volumes::ls_command(alloc)?.bin_name("unixvol ls"),
+            Verb::Get => volumes::get_command(alloc)?.bin_name("unixvol get"),
+            Verb::Mkfs => mkfs::command(alloc)?.bin_name("unixvol mkfs"),
+            Verb::Put => volumes::put_command(alloc)?.bin_name("unixvol put"),
+            Verb::Rm => volumes::rm_command(alloc)?.bin_name("unixvol rm"),
+            Verb::Rmdir => volumes::rmdir_command(alloc)?.bin_name("unixvol rmdir"),
+            Verb::Mkdir => volumes::mkdir_command(alloc)?.bin_name("unixvol mkdir"),
+            Verb::Ln => volumes::ln_command(alloc)?.bin_name("unixvol ln"),
+        }
+    }
+}
+
+/// The word that names the edition of the volume.
+pub fn edition_argument<'a>(alloc: Global) -> Arg<'a> {
+    Arg::new(alloc, EDITION)
+        .required(true)
+        .value_parser(EDITIONS.as_slice())
+        .help(texts::EDITION)
+}
+
+/// The edition that was given.
+pub fn edition_in(alloc: Global, verb: Verb, values: &ArgMatches<'_>) -> Result<Edition, Error>
+    ensures { IfOk result (λ edition. IsEditionNamed edition (given_in values.now (codes "EDITION"))) }
+{
+    let text = values.get_str(EDITION).unwrap_or("");
+    match edition_of(text) {
+        Some(edition) => Ok(edition),
+        None => Err(wrong_value(alloc, verb, EDITION, text, texts::EDITIONS)?),
+    }
+}
+
+/// The number of 16 bits that was given for an argument.
+pub fn word_in(alloc: Global, verb: Verb, values: &ArgMatches<'_>, name: &str) -> Result<u16, Error>
+    ensures { IfOk result (λ number. IsNumberGiven 65535 (given_in values.now name.now) number) }
+{
+    let text = values.get_str(name).unwrap_or("");
+    match word_of(text) {
+        Some(number) => Ok(number),
+        None => Err(wrong_value(alloc, verb, name, text, texts::WORD)?),
+    }
+}
+
+/// The number of 32 bits that was given for an argument.
+pub fn long_in(alloc: Global, verb: Verb, values: &ArgMatches<'_>, name: &str) -> Result<u32, Error>
+    ensures { IfOk result (λ number. IsNumberGiven 4294967295 (given_in values.now name.now) number) }
+{
+    let text = values.get_str(name).unwrap_or("");
+    match long_of(text) {
+        Some(number) => Ok(number),
+        None => Err(wrong_value(alloc, verb, name, text, texts::LONG)?),
+    }
+}
+
+/// The fault of a word that is no value of the argument `name`.
+pub fn wrong_value(
+    alloc: Global,
+    verb: Verb,
+    name: &str,
+    value: &str,
+    wanted: &str,
+) -> Result<Error, AllocError> {
+    let mut command = verb.command(alloc)?;
+    let text = format!(in alloc; "invalid value '{value}' for '<{name}>': {wanted}")?;
+    command.error(ErrorKind::ValueValidation, text.as_str())
+}

@@ -11,6 +11,6 @@ pub mod FreeNumbers
 pub mod NeedReadings
 pub mod NodeReadings
 mod QueriedNodes
-mod Refusals
-mod SoundSizes
+pub mod Refusals
+pub mod SoundSizes
 pub mod StandingImages

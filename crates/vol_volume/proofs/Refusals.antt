@@ -9,6 +9,7 @@ use Rattle.vol_dir.specs.Tree.{Content, Node, Tree, State}
 use Rattle.vol_dir.specs.Walk.{map_of, search_node, search, and_then, find_in, walk_from, walk, parent_from, walk_parent, split_last, components, root, is_directory}
 use Rattle.vol_volume.specs.Mkfs.{is_bad_id}
 use Rattle.vol_node.specs.Nodes.{node_at}
+use Rattle.vol_volume.specs.Journal.{Refuses}
 use Rattle.vol_volume.specs.Verdict.{first_of, then_others, of_node, of_parent, has_zero, link_refusal, verdict, create_tests, mkdir_tests, link_tests, unlink_tests, rmdir_tests, body_tests, write_tests}
 use Rattle.vol_volume.specs.Answer.{query_refusal, list_tests}
 use Rattle.vol_dir.specs.declared.cred.Cred.{Cred}
@@ -181,3 +182,20 @@ verdict_other state call e = false≢true (sym (says_verdict state call) ∙ ap 
 -- nor is a query
 pub query_other : (tree : Tree) (query : Query) → query_refusal tree query ≢ Some refusals.NoMemory
 query_other tree query e = false≢true (sym (says_query tree query) ∙ ap says e)
+
+-- what a verdict says, a call may be refused as
+pub refused_so : (state : State) (call : Call) (refusal : Refusal) → verdict state call ≡ Some refusal → Refuses state call refusal
+refused_so state call refusals.NoEntry says_so = says_so
+refused_so state call refusals.NoMemory says_so = absurd (verdict_other state call says_so)
+refused_so state call refusals.Access says_so = says_so
+refused_so state call refusals.Exists says_so = says_so
+refused_so state call refusals.NotDirectory says_so = says_so
+refused_so state call refusals.IsDirectory says_so = says_so
+refused_so state call refusals.Invalid says_so = says_so
+refused_so state call refusals.TooBig says_so = says_so
+refused_so state call refusals.NoSpace says_so = says_so
+refused_so state call refusals.TooManyLinks says_so = says_so
+refused_so state call refusals.NotEmpty says_so = says_so
+refused_so state call refusals.NotRegular says_so = says_so
+refused_so state call refusals.NoInode says_so = says_so
+refused_so state call refusals.BadId says_so = says_so

@@ -82,7 +82,7 @@ fn verdict_on(image: &Image, geometry: &Geometry, free: u32, call: &Call) -> Opt
 }
 
 /// Does nothing: the blocks of a sound image lie within it, and are no more than block numbers can say.
-fn fits(image: &Image, geometry: &Geometry)
+pub(crate) fn fits(image: &Image, geometry: &Geometry)
     requires sound { IsSound geometry.now.edition image.now }
     requires sizes { geometry.now ≡ geometry_of geometry.now.edition image.now }
     ensures { Fits geometry.now image.now }

@@ -4,16 +4,20 @@ ghost use Rattle.vol_layout.specs.Geometry.{geometry_of};
 ghost use Rattle.vol_judge.specs.Sound.{IsSound};
 ghost use Rattle.vol_volume.specs.Faults.{IsFaultOf};
 ghost use Rattle.vol_volume.specs.Answer.{Answers};
-ghost use Rattle.vol_volume.specs.Volume.{IsConsistent, mounted, reads_as};
+ghost use Rattle.vol_volume.specs.Journal.{Refuses};
+ghost use Rattle.vol_volume.specs.Verdict.{verdict};
+ghost use Rattle.vol_volume.specs.Volume.{IsConsistent, Accepts, mounted, reads_as};
 
 use crate::answering::answer;
-use crate::calls::Record;
+use crate::calls::{Call, Done, Record};
 use crate::queries::{Query, Reply};
+use crate::verdicts::{fits, verdict};
 use pdp_words::Image;
 use std::alloc::Global;
 use std::marker::Model;
 use thiserror::Error;
 use vol_dir::Refusal;
+use vol_free::free_count;
 use vol_judge::judge;
 use vol_layout::{Edition, Geometry};
 
@@ -140,6 +144,23 @@ impl Volume {
         answer(alloc, &self.current, &self.geometry, query)
     }
 
+    /// Makes a call, where nothing speaks against it, and appends it to the journal; the answer says what was
+    /// made. A call that is refused comes back, and changes nothing. NoMemory is only for the journal's room,
+    /// and comes last, before the first byte changes.
+    #[tactic(auto, using(crate::proofs::Refusals::refused_so))]
+    pub fn call(&mut self, alloc: Global, call: Call) -> Result<Done, (Refusal, Call)>
+        ensures accepted { IfOk result (λ done. Accepts self.old self.new call done) }
+        ensures refused { IfErr result (λ (refusal, same). Refuses (reads_as self.old.edition self.old.image) call refusal) }
+        ensures handed_back { IfErr result (λ (refusal, same). same ≡ call) }
+        ensures unchanged { IfErr result (λ (refusal, same). self.new ≡ self.old) }
+    {
+        let _ = alloc;
+        match refusal(&self.current, &self.geometry, &call) {
+            Some(refusal) => Err((refusal, call)),
+            None => Err((Refusal::NoMemory, call)),
+        }
+    }
+
     /// Gives the image's bytes back. The journal goes. Takes no memory.
     pub fn unmount(self) -> Vec<u8>
         ensures { result.items ≡ self.image }
@@ -153,6 +174,18 @@ impl Volume {
     {
         let _ = &self.geometry;
     }
+}
+
+/// The refusal that a call meets in a sound image.
+#[tactic(auto, using(crate::proofs::SoundSizes::stack_there))]
+fn refusal(image: &Image, geometry: &Geometry, call: &Call) -> Option<Refusal>
+    requires sound { IsSound geometry.now.edition image.now }
+    requires sizes { geometry.now ≡ geometry_of geometry.now.edition image.now }
+    ensures { result ≡ verdict (reads_as geometry.now.edition image.now) call.now }
+{
+    fits(image, geometry);
+    let free = free_count(image, geometry);
+    verdict(image, geometry, free, call)
 }
 
 /// The geometry of a sound image.

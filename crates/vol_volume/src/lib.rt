@@ -7,6 +7,7 @@ pub mod calls;
 pub mod laws;
 pub mod making;
 pub mod queries;
+mod stand_ins;
 mod verdicts;
 pub mod volume;
 

@@ -1,0 +1,19 @@
+//! Stands for the crate vol_change until it is proved (temporary).
+
+
+mod bodies;
+mod entries;
+mod lost_directories;
+mod lost_names;
+mod new_directories;
+mod new_files;
+mod new_names;
+mod new_nodes;
+
+pub use bodies::{truncate, write};
+pub use lost_directories::rmdir;
+pub use lost_names::unlink;
+pub use new_directories::mkdir;
+pub use new_files::create;
+pub use new_names::link;
+pub use new_nodes::NewNode;

@@ -1,3 +1,4 @@
+pub mod Accepted
 mod AnsweredQueries
 pub mod Journals
 mod ListedNames

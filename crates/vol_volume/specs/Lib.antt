@@ -4,6 +4,7 @@ pub mod Faults
 pub mod Journal
 pub mod Laws
 pub mod Mkfs
+pub mod Performing
 pub mod Standing
 pub mod Step
 pub mod Verdict

@@ -6,6 +6,7 @@ pub mod bytes;
 pub mod calls;
 pub mod laws;
 pub mod making;
+mod performing;
 pub mod queries;
 mod stand_ins;
 mod verdicts;

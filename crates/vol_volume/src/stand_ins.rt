@@ -2,6 +2,7 @@
 
 
 mod bodies;
+mod counts;
 mod entries;
 mod lost_directories;
 mod lost_names;
@@ -11,6 +12,7 @@ mod new_names;
 mod new_nodes;
 
 pub use bodies::{truncate, write};
+pub use counts::block_count;
 pub use lost_directories::rmdir;
 pub use lost_names::unlink;
 pub use new_directories::mkdir;

@@ -7,7 +7,7 @@ ghost use Rattle.vol_judge.specs.Sound.{IsSound};
 ghost use Rattle.vol_volume.specs.Standing.{Stands};
 ghost use Rattle.vol_volume.specs.Verdict.{verdict};
 
-mod asked;
+pub(crate) mod asked;
 mod body;
 mod create;
 mod link;

@@ -21,6 +21,7 @@ use vol_node::{add_name, remove_name, touch};
 
 /// Gives `name`, which isn't there yet, to i-number `i` in directory `dir`, whose bytes were then last
 /// changed at `moment`, in seconds.
+#[tactic(none)]
 pub(crate) fn enter(
     image: &mut Image,
     geometry: &Geometry,
@@ -50,6 +51,7 @@ pub(crate) fn enter(
 
 /// Takes `name`, which i-number `i` has, out of directory `dir`, whose bytes were then last changed at
 /// `moment`, in seconds.
+#[tactic(none)]
 pub(crate) fn leave(image: &mut Image, geometry: &Geometry, dir: u16, name: &[u8], moment: u32)
     requires whole { IsWhole geometry.now image.old }
     requires directory { IsDirectory geometry.now image.old dir }

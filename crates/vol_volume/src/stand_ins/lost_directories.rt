@@ -18,6 +18,7 @@ use vol_node::{drop_link, free_node, put_time};
 /// seconds: its blocks, its i-node and its i-number. `dir` loses the link that `..` was.
 ///
 /// Costs a search of `dir`, and what freeing the node does.
+#[tactic(none)]
 pub fn rmdir(image: &mut Image, geometry: &Geometry, dir: u16, name: &[u8], i: u16, moment: u32)
     requires ready { IsReady geometry.now image.old }
     requires directory { IsDirectory geometry.now image.old dir }

@@ -20,6 +20,7 @@ use vol_node::{drop_link, free_node, put_time};
 /// seconds. With its last name the node is freed: its blocks, its i-node and its i-number.
 ///
 /// Costs a search of the directory, and with the last name what freeing the node does.
+#[tactic(none)]
 pub fn unlink(image: &mut Image, geometry: &Geometry, dir: u16, name: &[u8], i: u16, moment: u32)
     requires ready { IsReady geometry.now image.old }
     requires directory { IsDirectory geometry.now image.old dir }

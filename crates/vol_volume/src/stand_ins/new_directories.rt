@@ -21,6 +21,7 @@ use vol_node::{add_link, add_name, make_directory, put_time};
 /// the entry in `dir` are taken first, then that of the new directory.
 ///
 /// Costs what a new entry of `dir` does; the i-list is searched only where no i-number is cached.
+#[tactic(none)]
 pub fn mkdir(
     image: &mut Image,
     geometry: &Geometry,

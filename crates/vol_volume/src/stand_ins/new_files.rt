@@ -19,6 +19,7 @@ use vol_node::{make_file, put_time};
 /// there is one, and else one that is free; the answer is that number.
 ///
 /// Costs what a new entry of the directory does; the i-list is searched only where no i-number is cached.
+#[tactic(none)]
 pub fn create(
     image: &mut Image,
     geometry: &Geometry,

@@ -19,6 +19,7 @@ use vol_node::{add_link, put_time};
 /// Gives node `i`, which is no directory, the further `name` in directory `dir`, at `moment`, in seconds.
 ///
 /// Costs what a new entry of the directory does.
+#[tactic(none)]
 pub fn link(image: &mut Image, geometry: &Geometry, i: u16, dir: u16, name: &[u8], moment: u32)
     requires ready { IsReady geometry.now image.old }
     requires used { IsInUse geometry.now image.old i }

@@ -24,6 +24,7 @@ pub struct NewNode {
 
 /// The i-number for a new node: the recorded one, or else one that is taken from the cache or the i-list.
 /// The cache changes as if one were taken in either case.
+#[tactic(none)]
 pub(crate) fn pick_number(image: &mut Image, geometry: &Geometry, recorded: Option<u16>) -> u16
     requires whole { IsWhole geometry.now image.old }
     requires some { ((i : ℕ) → IsFreeNumber geometry.now image.old i → ⊥) → ⊥ }

@@ -1,0 +1,35 @@
+-- How an accepted call is performed: where its paths lead, and what is known of the image then.
+use Rattle.std.specs.Prelude.{◌≡◌, ℕ, List, Option, None, Some, Ok}
+use Rattle.vol_dir.specs.Tree.{Tree, state}
+use Rattle.vol_dir.specs.Walk.{walk, walk_parent}
+use Rattle.vol_change.specs.Ready.{Changes, free_in}
+use Rattle.vol_volume.specs.Step.{step}
+use Rattle.vol_volume.specs.Journal.{MayAnswer}
+use Rattle.vol_dir.specs.declared.cred.Cred.{Cred}
+use Rattle.vol_layout.specs.declared.geometry.Geometry.{Geometry}
+use Rattle.vol_volume.specs.declared.calls.Call.{Call}
+use Rattle.vol_volume.specs.declared.calls.Done.{Done}
+use Rattle.vol_volume.specs.declared.calls.Done.TheVariants.{Made, Wrote, Plain}
+
+-- a path leads to a parent and a last name (Lions on namei)
+pub record LeadsToParent (tree : Tree) (cred : Cred) (path : List ℕ) : Type 0 where
+  pub found : ℕ × List ℕ
+  pub walked : walk_parent tree cred path ≡ Some (Ok found)
+
+-- a path leads to a node (Lions on namei)
+pub record LeadsToNode (tree : Tree) (cred : Cred) (path : List ℕ) : Type 0 where
+  pub found : ℕ
+  pub walked : walk tree cred path ≡ Ok found
+
+-- the i-number of what a call made, where its answer is recorded
+abbrev pub recorded_number : Option Done → Option ℕ
+recorded_number None = None
+recorded_number (Some (Made i)) = Some i
+recorded_number (Some (Wrote n)) = None
+recorded_number (Some Plain) = None
+
+-- the image has become what a call makes of it with this answer, and so many blocks are free (this project)
+pub record IsPerformed (geometry : Geometry) (old new : List ℕ) (call : Call) (done : Done) (free : ℕ) : Type 0 where
+  pub answered : MayAnswer (state geometry old) call done
+  pub changes : Changes geometry old new (step (state geometry old) call done)
+  pub counted : free ≡ free_in (state geometry new)

@@ -1,0 +1,194 @@
+//! Calls that nothing speaks against, performed.
+ghost use Rattle.std.specs.Prelude.{◌≡◌, true, false, None, Some, Ok, IfSome};
+ghost use Rattle.vol_layout.specs.Geometry.{Fits};
+ghost use Rattle.vol_dir.specs.Entries.{IsDirectory, IsInUse, HasEntries};
+ghost use Rattle.vol_dir.specs.Tree.{tree, state};
+ghost use Rattle.vol_dir.specs.Walk.{IsComponent, has_zero, walk, walk_parent};
+ghost use Rattle.vol_file.specs.Rules.{HasSoundFiles};
+ghost use Rattle.vol_change.specs.Ready.{IsReady, free_in};
+ghost use Rattle.vol_volume.specs.Journal.{MayAnswer};
+ghost use Rattle.vol_volume.specs.Performing.{LeadsToParent, LeadsToNode, IsPerformed, recorded_number};
+ghost use Rattle.vol_volume.specs.Standing.{Stands};
+ghost use Rattle.vol_dir.specs.Names.{get};
+ghost use Rattle.vol_node.specs.Nodes.{names_at};
+ghost use Rattle.vol_volume.specs.Verdict.{has_name, verdict};
+
+mod body;
+mod create;
+mod link;
+mod mkdir;
+mod rmdir;
+mod unlink;
+
+use crate::calls::{Call, Done};
+use crate::stand_ins::NewNode;
+use crate::verdicts::asked::entry;
+use body::{truncate, write};
+use create::create;
+use link::link;
+use mkdir::mkdir;
+use pdp_words::Image;
+use rmdir::rmdir;
+use unlink::unlink;
+use vol_dir::{Cred, walk, walk_parent};
+use vol_layout::Geometry;
+
+/// What a performed call answers, and how many blocks are free then.
+#[derive(Clone, Copy, Debug)]
+pub(crate) struct Performed {
+    /// The answer.
+    pub done: Done,
+    /// The number of free blocks.
+    pub free: u32,
+}
+
+/// Performs a call that nothing speaks against. `free` is the number of free blocks. Where an answer is
+/// recorded, it is that one.
+///
+/// Costs the walks of the call's paths once more, and the change.
+pub(crate) fn perform(
+    image: &mut Image,
+    geometry: &Geometry,
+    free: u32,
+    call: &Call,
+    recorded: Option<Done>,
+) -> Performed
+    requires ready { IsReady geometry.now image.old }
+    requires count { free ≡ free_in (state geometry.now image.old) }
+    requires accepted { verdict (state geometry.now image.old) call.now ≡ None }
+    requires recorded { IfSome recorded (λ done. MayAnswer (state geometry.now image.old) call.now done) }
+    ensures performed { IsPerformed geometry.now image.old image.new call.now result.done result.free }
+    ensures recorded { IfSome recorded (λ done. result.done ≡ done) }
+{
+    match call {
+        Call::Create {
+            cred,
+            now,
+            path,
+            perm,
+        } => {
+            let node = new_node(*cred, *now, *perm);
+            let number = recorded_number(recorded);
+            create(image, geometry, free, node, path.as_slice(), number)
+        }
+        Call::Mkdir {
+            cred,
+            now,
+            path,
+            perm,
+        } => {
+            let node = new_node(*cred, *now, *perm);
+            let number = recorded_number(recorded);
+            mkdir(image, geometry, free, node, path.as_slice(), number)
+        }
+        Call::Link {
+            cred,
+            now,
+            source,
+            target,
+        } => {
+            let source = source.as_slice();
+            link(image, geometry, free, *cred, *now, source, target.as_slice())
+        }
+        Call::Unlink { cred, now, path } => {
+            unlink(image, geometry, free, *cred, *now, path.as_slice())
+        }
+        Call::Rmdir { cred, now, path } => {
+            rmdir(image, geometry, free, *cred, *now, path.as_slice())
+        }
+        Call::Write {
+            cred,
+            now,
+            path,
+            offset,
+            bytes,
+        } => {
+            let path = path.as_slice();
+            let bytes = bytes.as_slice();
+            write(image, geometry, free, *cred, *now, path, *offset, bytes)
+        }
+        Call::Truncate { cred, now, path } => {
+            truncate(image, geometry, free, *cred, *now, path.as_slice())
+        }
+    }
+}
+
+/// What a call says of the node that it makes.
+fn new_node(owner: Cred, moment: u32, permissions: u16) -> NewNode
+    ensures owner { result.owner ≡ owner }
+    ensures moment { result.moment ≡ moment }
+    ensures permissions { result.permissions ≡ permissions }
+{
+    NewNode {
+        owner,
+        permissions,
+        moment,
+    }
+}
+
+/// The i-number that is recorded, if one is.
+fn recorded_number(recorded: Option<Done>) -> Option<u16>
+    ensures { result ≡ recorded_number recorded }
+{
+    match recorded {
+        Some(Done::Made(i)) => Some(i),
+        _ => None,
+    }
+}
+
+/// Does nothing: what a sound image stands for.
+#[tactic(auto, using(crate::proofs::StandingImages::stands))]
+pub(crate) fn ready_stands(image: &Image, geometry: &Geometry)
+    requires { IsReady geometry.now image.now }
+    ensures { Stands geometry.now image.now }
+{
+    let _ = (geometry.zone_end, image.word(514));
+}
+
+/// The parent and the last name to which the path of an accepted call leads.
+pub(crate) fn parent<'a>(
+    image: &Image,
+    geometry: &Geometry,
+    cred: Cred,
+    path: &'a [u8],
+) -> (u16, &'a [u8])
+    requires fits { Fits geometry.now image.now }
+    requires leads { LeadsToParent (tree geometry.now image.now) cred path.now }
+    requires text { has_zero path.now ≡ false }
+    ensures walked { walk_parent (tree geometry.now image.now) cred path.now ≡ Some (Ok (result.0, result.1.now)) }
+    ensures directory { IsDirectory geometry.now image.now result.0 }
+    ensures component { IsComponent result.1.now }
+    ensures text { has_zero result.1.now ≡ false }
+{
+    match walk_parent(image, geometry, cred, path) {
+        Some(Ok(found)) => found,
+        _ => unreachable!(),
+    }
+}
+
+/// The node to which the path of an accepted call leads.
+pub(crate) fn node(image: &Image, geometry: &Geometry, cred: Cred, path: &[u8]) -> u16
+    requires stands { Stands geometry.now image.now }
+    requires leads { LeadsToNode (tree geometry.now image.now) cred path.now }
+    ensures walked { walk (tree geometry.now image.now) cred path.now ≡ Ok result }
+    ensures used { IsInUse geometry.now image.now result }
+{
+    match walk(image, geometry, cred, path) {
+        Ok(i) => i,
+        Err(_) => unreachable!(),
+    }
+}
+
+/// The node that has `name` in directory `dir`.
+pub(crate) fn named(image: &Image, geometry: &Geometry, dir: u16, name: &[u8]) -> u16
+    requires stands { Stands geometry.now image.now }
+    requires directory { IsDirectory geometry.now image.now dir }
+    requires there { has_name (tree geometry.now image.now) dir name.now ≡ true }
+    ensures named { get (names_at (tree geometry.now image.now) dir) name.now ≡ Some result }
+    ensures used { IsInUse geometry.now image.now result }
+{
+    match entry(image, geometry, dir, name) {
+        Some(i) => i,
+        None => unreachable!(),
+    }
+}

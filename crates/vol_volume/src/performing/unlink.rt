@@ -1,0 +1,57 @@
+//! A call by which a name goes.
+ghost use Rattle.std.specs.Prelude.{◌≡◌, ◌≤◌, None, nat_le, if◌then◌else◌};
+ghost use Rattle.vol_dir.specs.Entries.{IsInUse};
+ghost use Rattle.vol_dir.specs.Tree.{tree, shapes, state, place_count};
+ghost use Rattle.vol_node.specs.Nodes.{node_at};
+ghost use Rattle.vol_change.specs.Ready.{IsReady, free_in};
+ghost use Rattle.vol_volume.specs.Performing.{IsPerformed};
+ghost use Rattle.vol_volume.specs.Standing.{Stands};
+ghost use Rattle.vol_volume.specs.Verdict.{verdict};
+
+use crate::calls::{Call, Done};
+use crate::performing::{Performed, named, parent, ready_stands};
+use crate::stand_ins::{self, block_count};
+use pdp_words::Image;
+use vol_dir::Cred;
+use vol_layout::{Geometry, inode};
+
+/// How many blocks become free where node `i` loses a name: with the last one all of its blocks.
+fn freed(image: &Image, geometry: &Geometry, i: u16) -> u32
+    requires ready { IsReady geometry.now image.now }
+    requires stands { Stands geometry.now image.now }
+    requires used { IsInUse geometry.now image.now i }
+    ensures { result ≡ (if nat_le (node_at (tree geometry.now image.now) i).links 1
+        then place_count geometry.now.edition (shapes geometry.now image.now i) else 0) }
+{
+    if inode(image, geometry, i).links <= 1 {
+        block_count(image, geometry, i)
+    } else {
+        0
+    }
+}
+
+/// Performs a call by which a name goes, at `moment`, in seconds.
+pub(crate) fn unlink(
+    image: &mut Image,
+    geometry: &Geometry,
+    free: u32,
+    cred: Cred,
+    moment: u32,
+    path: &[u8],
+) -> Performed
+    requires ready { IsReady geometry.now image.old }
+    requires count { free ≡ free_in (state geometry.now image.old) }
+    requires accepted { verdict (state geometry.now image.old) (Call.Unlink cred moment path.now) ≡ None }
+    ensures done { result.done ≡ Done.Plain }
+    ensures performed { IsPerformed geometry.now image.old image.new (Call.Unlink cred moment path.now) result.done result.free }
+{
+    ready_stands(image, geometry);
+    let (dir, name) = parent(image, geometry, cred, path);
+    let i = named(image, geometry, dir, name);
+    let freed = freed(image, geometry, i);
+    stand_ins::unlink(image, geometry, dir, name, i, moment);
+    Performed {
+        done: Done::Plain,
+        free: free + freed,
+    }
+}

@@ -1,9 +1,9 @@
 -- Whether an i-number can be taken.
 use Rattle.std.proofs.Common.{◌≡◌, ◌≢◌, ℕ, ◌+◌, ◌/◌, ◌%◌, ◌<◌, ◌≤◌, ◌==◌, ◌&&◌, ◌||◌, ◌∙◌, ap, refl, sym, Bool, true, false, nat_lt, nat_le, if◌then◌else◌, List, zero, suc, inl, inr, arith}
-use Rattle.std.specs.Prelude.{IsTrue, ◌↔◌}
+use Rattle.std.specs.Prelude.{IsTrue, ◌↔◌, IfSome, Option, None, Some}
 use Rattle.std.specs.Option.{option_map, is_none}
 use Rattle.std.specs.List.{list_any, range_with_len}
-use Rattle.std.proofs.lemmas.Bool.{cases_eq, or_from}
+use Rattle.std.proofs.lemmas.Bool.{cases_eq, or_from, and_parts, true≢false}
 use Rattle.std.proofs.lemmas.Bool.Decides.{nat_tests}
 use Rattle.vol_layout.specs.Edition.{constants}
 use Rattle.vol_layout.specs.Inode.{inode_of, kind_of, kind_of_type_v6, kind_of_type_v7}
@@ -108,7 +108,8 @@ module _ (geometry : Geometry) (image : List ℕ) (files : HasSoundFiles geometr
   number_is i first last =
       ap (λ b. nat_lt (constants geometry.edition).root i && (nat_le i geometry.last_inode && b)) (none_is i first last)
 
-  number_free : (i : ℕ) → IsFreeNumber geometry image i → is_free_number (tree geometry image) i ≡ true
+  -- a free number passes the test
+  pub number_free : (i : ℕ) → IsFreeNumber geometry image i → is_free_number (tree geometry image) i ≡ true
   number_free i free =
       let above : nat_lt (constants geometry.edition).root i ≡ true = grind (arith, nat_tests, free.above) in
       let within : nat_le i geometry.last_inode ≡ true = grind (arith, nat_tests, free.within) in
@@ -140,3 +141,28 @@ module _ (geometry : Geometry) (image : List ℕ) (files : HasSoundFiles geometr
   any_free false is =
       sym (none_passes (is_free_number (tree geometry image)) 1 geometry.last_inode (λ i from to.
       number_used i from (omega arith) (λ free. let found : false ≡ true = is.1 (i, free) in cc)))
+
+  -- where some number can be taken, some i-node is free
+  pub some_free : has_free_number (tree geometry image) ≡ true → ((i : ℕ) → IsFreeNumber geometry image i → ⊥) → ⊥
+  unfolding tree
+  some_free some none =
+      let all : has_free_number (tree geometry image) ≡ false =
+      none_passes (is_free_number (tree geometry image)) 1 geometry.last_inode (λ i from to. number_used i from (omega arith) (none i))
+      in true≢false (sym some ∙ all)
+
+  -- what passes the test is a free number
+  pub free_of : (i : ℕ) → is_free_number (tree geometry image) i ≡ true → IsFreeNumber geometry image i
+  unfolding tree
+  free_of i passes =
+      let parts = and_parts (nat_lt (constants geometry.edition).root i) _ passes in
+      let rest = and_parts (nat_le i geometry.last_inode) _ parts.1 in
+      let low : (constants geometry.edition).root < i = grind (arith, nat_tests, parts.0) in
+      let high : i ≤ geometry.last_inode = grind (arith, nat_tests, rest.0) in
+      let zero_mode : (mode_of geometry image i == 0) ≡ true = sym (none_is i (omega arith) high) ∙ rest.1 in
+      record { above = low; within = high; mode = grind (arith, nat_tests) }
+
+  -- a recorded number, if there is one, is free
+  pub recorded_free : (recorded : Option ℕ) → IfSome recorded (λ i. is_free_number (tree geometry image) i ≡ true)
+      → IfSome recorded (λ i. IsFreeNumber geometry image i)
+  recorded_free None passes = passes
+  recorded_free (Some i) passes = free_of i passes

@@ -9,8 +9,10 @@ pub mod NewSizes
 pub mod NewVolumes
 pub mod FoundNames
 pub mod FreeNumbers
+pub mod FreeStandIns
 pub mod NeedReadings
 pub mod NodeReadings
+pub mod PerformedCalls
 mod QueriedNodes
 pub mod Refusals
 pub mod SoundSizes

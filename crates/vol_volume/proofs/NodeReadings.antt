@@ -1,6 +1,7 @@
 -- What the tree of an image says of one i-node.
 use Rattle.std.proofs.Common.{◌≡◌, ◌≢◌, ℕ, ◌≤◌, ◌∙◌, ap, refl, sym, true, false, cond, List, [], None, Some, arith}
 use Rattle.std.specs.Option.{option_map, unwrap_or}
+use Rattle.std.proofs.lemmas.Bool.{false≢true}
 use Rattle.std.proofs.lemmas.Bool.Decides.{nat_tests}
 use Rattle.vol_layout.specs.Edition.{constants}
 use Rattle.vol_layout.specs.Inode.{inode_place, inode_of}
@@ -59,6 +60,24 @@ module _ (geometry : Geometry) (image : List ℕ) where
   pub device_is : (i : ℕ) → 1 ≤ i → i ≤ geometry.last_inode → kind_at geometry image i ≡ kinds.Special → is_device (node_at (tree geometry image) i).content ≡ true
   device_is i first last is = ap (λ (n : Node). is_device n.content) (node_is i kinds.Special first last is)
 
+  -- and only there
+  directory_by : (i : ℕ) (kind : Kind) → kind_at geometry image i ≡ kind → is_directory (node_by geometry image i kind) ≡ true → kind_at geometry image i ≡ kinds.Directory
+  directory_by i kinds.Free is found = absurd (false≢true found)
+  directory_by i kinds.Regular is found = absurd (false≢true found)
+  directory_by i kinds.Directory is found = is
+  directory_by i kinds.Special is found = absurd (false≢true found)
+  directory_by i kinds.Odd is found = absurd (false≢true found)
+
+  pub directory_from : (i : ℕ) → 1 ≤ i → i ≤ geometry.last_inode → is_directory (node_at (tree geometry image) i) ≡ true → IsDirectory geometry image i
+  directory_from i first last found = record {
+    first = first;
+    last = last;
+    kind = directory_by i (kind_at geometry image i) refl (sym (ap is_directory (node_is i (kind_at geometry image i) first last refl)) ∙ found);
+  }
+
+  pub other_kind : (i : ℕ) → 1 ≤ i → i ≤ geometry.last_inode → is_directory (node_at (tree geometry image) i) ≡ false → kind_at geometry image i ≢ kinds.Directory
+  other_kind i first last other is = false≢true (sym other ∙ directory_is i first last is)
+
   no_device_by : (i : ℕ) (kind : Kind) → kind ≢ kinds.Special → is_device (node_by geometry image i kind).content ≡ false
   no_device_by i kinds.Free other = refl
   no_device_by i kinds.Regular other = refl
@@ -73,6 +92,10 @@ module _ (geometry : Geometry) (image : List ℕ) where
   -- the names of a directory
   pub names_are : (d : ℕ) → IsDirectory geometry image d → names_at (tree geometry image) d ≡ names_of (slots geometry image d)
   names_are d directory = ap (λ (n : Node). unwrap_or (map_of n.content) []) (node_is d kinds.Directory directory.first directory.last directory.kind)
+
+  -- where the node is no special file, the i-node is none
+  pub other_device : (i : ℕ) → 1 ≤ i → i ≤ geometry.last_inode → is_device (node_at (tree geometry image) i).content ≡ false → kind_at geometry image i ≢ kinds.Special
+  other_device i first last other is = false≢true (sym other ∙ device_is i first last is)
 
   stored_by : (i : ℕ) (kind : Kind) → kind ≢ kinds.Free → kind ≢ kinds.Odd
       → (content : Content) × (content_of geometry image i kind ≡ Some content)

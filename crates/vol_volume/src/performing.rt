@@ -137,7 +137,6 @@ fn recorded_number(recorded: Option<Done>) -> Option<u16>
 }
 
 /// Does nothing: what a sound image stands for.
-#[tactic(auto, using(crate::proofs::StandingImages::stands))]
 pub(crate) fn ready_stands(image: &Image, geometry: &Geometry)
     requires { IsReady geometry.now image.now }
     ensures { Stands geometry.now image.now }

@@ -1,1 +1,2 @@
+pub mod FreeAfter
 pub mod ReadyLaws

@@ -1,4 +1,4 @@
-mod MissingLaws
+pub mod MissingLaws
 pub mod Alone
 pub mod BlockLists
 pub mod Bytes

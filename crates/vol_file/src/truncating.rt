@@ -55,7 +55,7 @@ fn clear_addresses(image: &mut Image, geometry: &Geometry, i: u16, form: Form)
 }
 
 /// How many addresses of an i-node are places of its file.
-fn address_count(form: Form) -> usize
+pub fn address_count(form: Form) -> usize
     ensures { result ≡ first_count form }
 {
     match form {
@@ -66,7 +66,7 @@ fn address_count(form: Form) -> usize
 }
 
 /// How many levels of pointer blocks stand between address `k` and the data.
-fn levels(form: Form, k: usize) -> u32
+pub fn levels(form: Form, k: usize) -> u32
     requires { k ≤ 12 }
     ensures { result ≡ levels form k }
 {

@@ -261,7 +261,7 @@ count_shape geometry image i kinds.Special is = count_bare geometry image i (ap 
 count_shape geometry image i kinds.Odd is = count_bare geometry image i (ap has_places is)
 
 -- the shape of an i-number of the volume
-count_number : (geometry : Geometry) (image : List ℕ) (i : ℕ) → 1 ≤ i → i ≤ geometry.last_inode
+pub count_number : (geometry : Geometry) (image : List ℕ) (i : ℕ) → 1 ≤ i → i ≤ geometry.last_inode
     → place_count geometry.edition (shapes geometry image i) ≡ length (blocks_of geometry image i)
 unfolding shapes
 count_number geometry image i first last =
@@ -270,7 +270,7 @@ count_number geometry image i first last =
     ∙ count_shape geometry image i (kind_at geometry image i) refl
 
 -- sums of terms that agree
-sum_same : (f g : ℕ → ℕ) (a n : ℕ) → ((k : ℕ) → a ≤ k → k < a + n → f k ≡ g k) → sum_by f (range_with_len a n) ≡ sum_by g (range_with_len a n)
+pub sum_same : (f g : ℕ → ℕ) (a n : ℕ) → ((k : ℕ) → a ≤ k → k < a + n → f k ≡ g k) → sum_by f (range_with_len a n) ≡ sum_by g (range_with_len a n)
 sum_same f g a zero same = refl
 sum_same f g a (suc n) same =
     let first : f a ≡ g a = same a (omega arith) (omega arith) in
@@ -368,6 +368,24 @@ module _ (geometry : Geometry) (image blocks : List ℕ) (sound : IsSoundWith ge
       (λ none. there.3 (sym there.2 ∙ none)) in
       ap (in_zone geometry) (sym there.2) ∙ zone
 
+  -- files have as many blocks as their shapes say
+  used_length : length (all_blocks geometry image 1 geometry.last_inode)
+      ≡ sum_by (λ i. place_count geometry.edition (shapes geometry image i)) (range_with_len 1 geometry.last_inode)
+  used_length =
+      all_length geometry image 1 geometry.last_inode
+      ∙ sum_same (λ j. length (blocks_of geometry image j)) (λ i. place_count geometry.edition (shapes geometry image i)) 1 geometry.last_inode
+      (λ j from to. sym (count_number geometry image j from (omega arith)))
+
+  -- files have no more blocks than there are data blocks
+  pub used_within : sum_by (λ i. place_count geometry.edition (shapes geometry image i)) (range_with_len 1 geometry.last_inode)
+      ≤ geometry.zone_end - geometry.zone_start
+  used_within =
+      let used = all_blocks geometry image 1 geometry.last_inode in
+      let most : length used ≤ geometry.zone_end - geometry.zone_start =
+      once_within geometry.zone_start geometry.zone_end used (all_once 1 geometry.last_inode (omega arith) (omega arith))
+      (λ k h. zone_from geometry k (used_zoned k h)) (λ k h. zone_below geometry k (used_zoned k h)) in
+      omega (arith, most, used_length)
+
   -- in a sound image there are as many free blocks as the shapes of its files leave
   pub free_blocks : IsCovered geometry image blocks → length blocks ≡ free_count geometry (shapes geometry image)
   unfolding free_count
@@ -398,9 +416,4 @@ module _ (geometry : Geometry) (image blocks : List ℕ) (sound : IsSoundWith ge
             (blocks_of_have geometry image i k p by.place.place is.0 is.1))
       ]) in
       let both : length (used ++ blocks) ≡ length used + length blocks = length-append used blocks in
-      let sum : length used ≡ sum_by (λ j. length (blocks_of geometry image j)) (range_with_len 1 geometry.last_inode) = all_length geometry image 1 geometry.last_inode in
-      let shapes_sum : sum_by (λ j. length (blocks_of geometry image j)) (range_with_len 1 geometry.last_inode)
-      ≡ sum_by (λ i. place_count geometry.edition (shapes geometry image i)) (range_with_len 1 geometry.last_inode) =
-      sum_same (λ j. length (blocks_of geometry image j)) (λ i. place_count geometry.edition (shapes geometry image i)) 1 geometry.last_inode
-      (λ j from to. sym (count_number geometry image j from (omega arith))) in
-      omega (arith, most, least, both, sum, shapes_sum)
+      omega (arith, most, least, both, used_length)

@@ -1,3 +1,4 @@
+pub mod BlockCounts
 pub mod ChangedInodes
 pub mod Contents
 pub mod FreeCounts
@@ -8,6 +9,7 @@ pub mod NewInodes
 pub mod NewRules
 pub mod OneLink
 pub mod OneNode
+pub mod PlaceCounts
 pub mod States
 pub mod WholeLaws
 pub mod EntryStates

@@ -2,6 +2,7 @@
 #![tactic(auto)]
 
 pub mod bytes;
+mod counting;
 pub mod entries;
 mod freeing;
 mod links;
@@ -9,6 +10,7 @@ mod making;
 mod times;
 
 pub use bytes::{empty_file, write_bytes};
+pub use counting::block_count;
 pub use entries::{add_name, remove_name};
 pub use freeing::free_node;
 pub use links::{add_link, drop_link, put_links};

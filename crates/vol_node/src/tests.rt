@@ -3,8 +3,8 @@ ghost use Rattle.std.specs.Prelude.{◌≡◌, IfOk, IfSome};
 ghost use Rattle.vol_node.specs.Whole.{IsWhole};
 
 use crate::{
-    add_link, drop_link, free_node, make_directory, make_file, put_links, put_time, take_number,
-    touch,
+    add_link, block_count, drop_link, free_node, make_directory, make_file, put_links, put_time,
+    take_number, touch,
 };
 use pdp_words::Image;
 use std::alloc::{AllocError, Global};
@@ -106,6 +106,19 @@ fn times_and_links_are_put(rt: HostRuntime) -> Result<(), Fail> {
     assert_eq!(rt; image.byte(1090), 6);
     change_back(&mut image, &geometry);
     assert_eq!(rt; image.byte(1090), 5);
+    Ok(())
+}
+
+#[test]
+fn blocks_are_counted(rt: HostRuntime) -> Result<(), Fail> {
+    let Some((geometry, image)) = volume(rt.alloc())? else {
+        return Err(Fail::from("the volume is sound"));
+    };
+    if geometry.last_inode < 3 {
+        return Err(Fail::from("the volume has 32 i-nodes"));
+    }
+    assert_eq!(rt; block_count(&image, &geometry, 1), 1);
+    assert_eq!(rt; block_count(&image, &geometry, 3), 0);
     Ok(())
 }
 

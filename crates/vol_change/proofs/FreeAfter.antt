@@ -1,0 +1,200 @@
+-- How many blocks are free after each call.
+use Rattle.std.proofs.Common.{◌≡◌, ◌≢◌, ◌∙◌, sym, ap, refl, ℕ, ◌+◌, ◌-◌, ◌≤◌, ◌==◌, Bool, true, false, if◌then◌else◌, List, [], ◌∷◌, length, Option, None, Some, arith, inl, inr}
+use Rattle.std.specs.Option.{option_map, unwrap_or}
+use Rattle.std.specs.Prelude.{nat_le}
+use Rattle.std.proofs.lemmas.Bool.{cases_eq}
+use Rattle.std.proofs.lemmas.Bool.Decides.{nat_tests}
+use Rattle.vol_layout.specs.Inode.{kind_of}
+use Rattle.vol_layout.specs.declared.geometry.Geometry.{Geometry}
+use Rattle.vol_layout.specs.declared.mode.Kind.TheVariants as kinds
+use Rattle.vol_layout.proofs.KindLaws.{kind_zero}
+use Rattle.vol_free.specs.Numbers.{IsFreeNumber}
+use Rattle.vol_file.specs.Rules.{kind_at}
+use Rattle.vol_file.specs.Shape.{touched}
+use Rattle.vol_file.proofs.MissingLaws.{need_nothing}
+use Rattle.vol_dir.specs.Entries.{IsDirectory}
+use Rattle.vol_dir.specs.Names.{get, remove}
+use Rattle.vol_dir.specs.Tree.{Node, Shape, State, no_shape, form_in, place_count, free_count, is_number, shape_of, shapes, tree, state}
+use Rattle.vol_dir.specs.declared.cred.Cred.{Cred}
+use Rattle.vol_node.specs.Edits.{set_at, at_time, modified, change_names, remove_entry, remove_node, drop_link, release, after_write, after_truncate}
+use Rattle.vol_node.specs.Nodes.{no_node, node_at, names_at, entry_of}
+use Rattle.vol_node.specs.Shapes.{need_in, stored_shape, entry_blocks, shape_with_entry, shape_without_entry, new_directory_shape}
+use Rattle.vol_node.proofs.PlaceCounts.{stored_count, entry_count, gone_count, none_count, new_directory_count, set_other, set_count, set_counts, free_less, free_same, free_gone}
+use Rattle.vol_change.specs.Effects.{after_create, after_mkdir, after_link, after_unlink, after_rmdir}
+use Rattle.vol_change.specs.Ready.{IsReady, entry_need, free_in}
+use Rattle.vol_change.proofs.ReadyLaws.{ready_whole}
+
+-- a directory with one more entry takes the blocks that the entry needs
+entry_takes : (geometry : Geometry) (shapes : ℕ → Shape) (d : ℕ) (name : List ℕ) → 1 ≤ d → d ≤ geometry.last_inode
+    → free_count geometry (set_at shapes d (shape_with_entry geometry.edition (shapes d) name))
+    ≡ free_count geometry shapes - need_in geometry.edition (shapes d) (entry_blocks (shapes d))
+entry_takes geometry shapes d name first last =
+    free_less geometry shapes d (shape_with_entry geometry.edition (shapes d) name) (need_in geometry.edition (shapes d) (entry_blocks (shapes d))) first last
+    (entry_count geometry.edition (shapes d) name)
+
+-- the i-node of a free i-number
+free_kind : (geometry : Geometry) (image : List ℕ) (i : ℕ) → IsFreeNumber geometry image i → kind_at geometry image i ≡ kinds.Free
+free_kind geometry image i free = ap (kind_of geometry.edition) free.mode ∙ kind_zero geometry.edition
+
+-- no directory has a free i-number
+free_other : (geometry : Geometry) (image : List ℕ) (i d : ℕ) → IsFreeNumber geometry image i → IsDirectory geometry image d → d ≢ i
+free_other geometry image i d free is =
+    λ e. let same : kinds.Directory ≡ kinds.Free = sym is.kind ∙ (ap (kind_at geometry image) e ∙ free_kind geometry image i free) in cc
+
+-- what stands for no shape either way
+no_shape_either : (t : Bool) → (if t then no_shape else no_shape) ≡ no_shape
+no_shape_either true = refl
+no_shape_either false = refl
+
+-- a free i-number has no places
+free_shape : (geometry : Geometry) (image : List ℕ) (i : ℕ) → IsFreeNumber geometry image i → shapes geometry image i ≡ no_shape
+unfolding shapes
+free_shape geometry image i free =
+    ap (λ k. if is_number geometry i then shape_of geometry image i k else no_shape) (free_kind geometry image i free)
+    ∙ no_shape_either (is_number geometry i)
+
+-- a node that goes gives back its blocks, whatever entry went before
+lost_blocks : (geometry : Geometry) (image : List ℕ) (d i : ℕ) (name : List ℕ) → IsReady geometry image
+    → free_count geometry (set_at (set_at (shapes geometry image) d (shape_without_entry (shapes geometry image d) name)) i no_shape)
+    ≡ free_count geometry (shapes geometry image) + place_count geometry.edition (shapes geometry image i)
+lost_blocks geometry image d i name ready =
+    let e = geometry.edition in
+    let old : ℕ → Shape = shapes geometry image in
+    let mid : ℕ → Shape = set_at old d (shape_without_entry (old d) name) in
+    free_same geometry (set_at mid i no_shape) (set_at old i no_shape)
+    (set_counts e mid old i no_shape (set_count e old d (shape_without_entry (old d) name) (gone_count e (old d) name)))
+    ∙ free_gone geometry image i (ready_whole geometry image ready)
+
+-- a new file takes the blocks that its entry needs
+pub free_after_create : (geometry : Geometry) (image : List ℕ) (owner : Cred) (now perm made d : ℕ) (name : List ℕ)
+    → IsFreeNumber geometry image made → IsDirectory geometry image d
+    → free_in (at_time now (after_create (state geometry image) owner now perm made d name)) ≡ free_in (state geometry image) - entry_need (state geometry image) d
+unfolding tree
+free_after_create geometry image owner now perm made d name free is =
+    let e = geometry.edition in
+    let old : ℕ → Shape = shapes geometry image in
+    let mid : ℕ → Shape = set_at old made no_shape in
+    let none : old made ≡ no_shape = free_shape geometry image made free in
+    let same : free_count geometry mid ≡ free_count geometry old = free_same geometry mid old (set_count e old made no_shape (ap (place_count e) (sym none))) in
+    let there : mid d ≡ old d = set_other old made no_shape d (free_other geometry image made d free is) in
+    let need : need_in e (mid d) (entry_blocks (mid d)) ≡ need_in e (old d) (entry_blocks (old d)) = ap (λ x. need_in e x (entry_blocks x)) there in
+    let taken : free_count geometry mid - need_in e (mid d) (entry_blocks (mid d)) ≡ free_count geometry old - need_in e (old d) (entry_blocks (old d)) =
+    omega (arith, same, need) in
+    entry_takes geometry mid d name is.first is.last ∙ taken
+
+-- a new directory takes those, and its own
+pub free_after_mkdir : (geometry : Geometry) (image : List ℕ) (owner : Cred) (now perm made d : ℕ) (name : List ℕ)
+    → IsFreeNumber geometry image made → IsDirectory geometry image d
+    → free_in (at_time now (after_mkdir (state geometry image) owner now perm made d name))
+    ≡ free_in (state geometry image) - (entry_need (state geometry image) d + 1)
+unfolding tree
+free_after_mkdir geometry image owner now perm made d name free is =
+    let e = geometry.edition in
+    let old : ℕ → Shape = shapes geometry image in
+    let mid : ℕ → Shape = set_at old made (new_directory_shape e) in
+    let none : place_count e (old made) ≡ 0 = ap (place_count e) (free_shape geometry image made free) ∙ none_count e in
+    let one : place_count e (new_directory_shape e) ≡ 1 = new_directory_count e in
+    let less : free_count geometry mid ≡ free_count geometry old - 1 =
+    free_less geometry old made (new_directory_shape e) 1 (omega (arith, free.above)) free.within (omega (arith, none, one)) in
+    let there : mid d ≡ old d = set_other old made (new_directory_shape e) d (free_other geometry image made d free is) in
+    let need : need_in e (mid d) (entry_blocks (mid d)) ≡ need_in e (old d) (entry_blocks (old d)) = ap (λ x. need_in e x (entry_blocks x)) there in
+    let taken : free_count geometry mid - need_in e (mid d) (entry_blocks (mid d)) ≡ free_count geometry old - (need_in e (old d) (entry_blocks (old d)) + 1) =
+    omega (arith, less, need) in
+    entry_takes geometry mid d name is.first is.last ∙ taken
+
+-- a further name takes the blocks that its entry needs
+pub free_after_link : (geometry : Geometry) (image : List ℕ) (now i d : ℕ) (name : List ℕ) → IsDirectory geometry image d
+    → free_in (at_time now (after_link (state geometry image) now i d name)) ≡ free_in (state geometry image) - entry_need (state geometry image) d
+unfolding tree
+free_after_link geometry image now i d name is = entry_takes geometry (shapes geometry image) d name is.first is.last
+
+-- the i-number that a directory has for a name
+entry_is : (state : State) (d i : ℕ) (name : List ℕ) → get (names_at state.tree d) name ≡ Some i → entry_of state.tree d name ≡ i
+entry_is state d i name named = ap (λ o. unwrap_or o 0) named
+
+-- a node whose entries changed has its links
+links_mapped : (now : ℕ) (name : List ℕ) (o : Option Node)
+    → (unwrap_or (option_map (λ node. record (modified now node) { content = change_names (λ names. remove names name) node.content }) o) no_node).links
+    ≡ (unwrap_or o no_node).links
+links_mapped now name None = refl
+links_mapped now name (Some node) = refl
+
+-- without an entry all nodes have their links
+links_kept : (state : State) (now d i : ℕ) (name : List ℕ) → (node_at (remove_entry now d name state).tree i).links ≡ (node_at state.tree i).links
+links_kept state now d i name =
+    let change : Option Node → Option Node = option_map (λ node. record (modified now node) { content = change_names (λ names. remove names name) node.content }) in
+    elim (cases_eq i d) [
+      | inl e ↦
+          let same : (i == d) ≡ true = grind (arith, nat_tests) in
+          ap (λ t. (unwrap_or (if t then change (state.tree.nodes d) else state.tree.nodes i) no_node).links) same
+          ∙ (links_mapped now name (state.tree.nodes d) ∙ ap (λ x. (unwrap_or (state.tree.nodes x) no_node).links) (sym e))
+      | inr other ↦
+          let differ : (i == d) ≡ false = grind (arith, nat_tests) in
+          ap (λ t. (unwrap_or (if t then change (state.tree.nodes d) else state.tree.nodes i) no_node).links) differ
+    ]
+
+-- what the loss of a name leaves of a node, by its links
+released : (state : State) (now i d : ℕ) (name : List ℕ) (last : Bool) → nat_le (node_at state.tree i).links 1 ≡ last
+    → free_in (at_time now (release now i (remove_entry now d name state)))
+    ≡ free_in (if last then remove_node i (remove_entry now d name state) else drop_link now i (remove_entry now d name state))
+released state now i d name last is =
+    let mid = remove_entry now d name state in
+    ap (λ t. free_in (at_time now (if t then remove_node i mid else drop_link now i mid))) (ap (λ n. nat_le n 1) (links_kept state now d i name) ∙ is)
+
+-- a name that goes gives back nothing, where its node has another
+pub free_after_unlink : (geometry : Geometry) (image : List ℕ) (now i d : ℕ) (name : List ℕ)
+    → get (names_at (state geometry image).tree d) name ≡ Some i → 2 ≤ (node_at (state geometry image).tree i).links
+    → free_in (at_time now (after_unlink (state geometry image) now d name)) ≡ free_in (state geometry image)
+unfolding tree
+free_after_unlink geometry image now i d name named many =
+    let e = geometry.edition in
+    let old : ℕ → Shape = shapes geometry image in
+    let more : nat_le (node_at (state geometry image).tree i).links 1 ≡ false = grind (arith, nat_tests) in
+    ap (λ x. free_in (at_time now (release now x (remove_entry now d name (state geometry image))))) (entry_is (state geometry image) d i name named)
+    ∙ (released (state geometry image) now i d name false more
+    ∙ free_same geometry (set_at old d (shape_without_entry (old d) name)) old
+    (set_count e old d (shape_without_entry (old d) name) (gone_count e (old d) name)))
+
+-- and the blocks of the node, where it was its last
+pub free_after_last_unlink : (geometry : Geometry) (image : List ℕ) (now i d : ℕ) (name : List ℕ) → IsReady geometry image
+    → get (names_at (state geometry image).tree d) name ≡ Some i → (node_at (state geometry image).tree i).links ≤ 1
+    → free_in (at_time now (after_unlink (state geometry image) now d name))
+    ≡ free_in (state geometry image) + place_count geometry.edition ((state geometry image).shapes i)
+unfolding tree
+free_after_last_unlink geometry image now i d name ready named few =
+    let last : nat_le (node_at (state geometry image).tree i).links 1 ≡ true = grind (arith, nat_tests) in
+    ap (λ x. free_in (at_time now (release now x (remove_entry now d name (state geometry image))))) (entry_is (state geometry image) d i name named)
+    ∙ (released (state geometry image) now i d name true last
+    ∙ lost_blocks geometry image d i name ready)
+
+-- a directory that goes gives back its blocks
+pub free_after_rmdir : (geometry : Geometry) (image : List ℕ) (now i d : ℕ) (name : List ℕ) → IsReady geometry image
+    → get (names_at (state geometry image).tree d) name ≡ Some i
+    → free_in (at_time now (after_rmdir (state geometry image) now d name))
+    ≡ free_in (state geometry image) + place_count geometry.edition ((state geometry image).shapes i)
+unfolding tree
+free_after_rmdir geometry image now i d name ready named =
+    ap (λ x. free_in (remove_node x (drop_link now d (remove_entry now d name (state geometry image))))) (entry_is (state geometry image) d i name named)
+    ∙ lost_blocks geometry image d i name ready
+
+-- bytes take the blocks that they need
+pub free_after_write : (geometry : Geometry) (image : List ℕ) (now offset i : ℕ) (bytes : List ℕ) → 1 ≤ i → i ≤ geometry.last_inode
+    → free_in (at_time now (after_write (state geometry image) now offset bytes i))
+    ≡ free_in (state geometry image) - need_in geometry.edition ((state geometry image).shapes i) (touched offset (length bytes))
+unfolding tree
+free_after_write geometry image now offset i [] first last =
+    let old : ℕ → Shape = shapes geometry image in
+    let none : need_in geometry.edition (old i) [] ≡ 0 = need_nothing (form_in geometry.edition (old i).large) (old i).names in
+    let same : free_count geometry old ≡ free_count geometry old - need_in geometry.edition (old i) [] = omega (arith, none) in same
+free_after_write geometry image now offset i (byte ∷ bytes) first last =
+    let old : ℕ → Shape = shapes geometry image in
+    let blocks = touched offset (length (byte ∷ bytes)) in
+    free_less geometry old i (stored_shape geometry.edition (old i) blocks) (need_in geometry.edition (old i) blocks) first last
+    (stored_count geometry.edition (old i) blocks)
+
+-- a file that loses its bytes gives back its blocks
+pub free_after_truncate : (geometry : Geometry) (image : List ℕ) (now i : ℕ) → IsReady geometry image
+    → free_in (at_time now (after_truncate (state geometry image) now i))
+    ≡ free_in (state geometry image) + place_count geometry.edition ((state geometry image).shapes i)
+unfolding tree
+free_after_truncate geometry image now i ready = free_gone geometry image i (ready_whole geometry image ready)

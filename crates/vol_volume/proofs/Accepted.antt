@@ -37,11 +37,11 @@ none_there None e = refl
 none_there (Some i) e = absurd (cc)
 
 -- what is asked first, of the caller's numbers and of the paths
-pub record PassesFirst (tree : Tree) (cred : Cred) (paths : List (List ℕ)) (others : Option Refusal) : Type 0 where
+pub record PassesFirst (tree : Tree) (cred : Cred) (paths : List (List ℕ)) (rest : Option Refusal) : Type 0 where
   pub user : cred.uid ≤ (constants tree.geometry.edition).id_limit
   pub group : cred.gid ≤ (constants tree.geometry.edition).id_limit
   pub plain : list_any has_zero paths ≡ false
-  pub others : others ≡ None
+  pub others : rest ≡ None
 
 below : (a b : ℕ) → nat_lt a b ≡ false → b ≤ a
 below a b e = grind (arith, nat_tests)

@@ -9,7 +9,6 @@ pub mod NewSizes
 pub mod NewVolumes
 pub mod FoundNames
 pub mod FreeNumbers
-pub mod FreeStandIns
 pub mod NeedReadings
 pub mod NodeReadings
 pub mod PerformedCalls

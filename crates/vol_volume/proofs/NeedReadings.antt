@@ -1,5 +1,5 @@
 -- A file needs as many blocks as its shape does.
-use Rattle.std.proofs.Common.{◌≡◌, ℕ, ◌+◌, ◌-◌, ◌*◌, ◌/◌, ◌≤◌, ◌==◌, ◌&&◌, ◌∙◌, ap, refl, sym, Bool, true, false, nat_lt, nat_le, not, cond, if◌then◌else◌, List, [], ◌∷◌, arith}
+use Rattle.std.proofs.Common.{◌≡◌, ℕ, ◌+◌, ◌-◌, ◌*◌, ◌/◌, ◌^◌, ◌<◌, ◌≤◌, ◌==◌, ◌&&◌, ◌∙◌, ap, refl, sym, Bool, true, false, nat_lt, nat_le, not, cond, if◌then◌else◌, List, [], ◌∷◌, arith}
 use Rattle.std.specs.Prelude.{max}
 use Rattle.std.specs.List.{range_with_len}
 use Rattle.std.proofs.lemmas.Bool.Decides.{nat_tests}
@@ -143,3 +143,8 @@ too_great_is geometry image d directory =
     ap (λ g. nat_lt (constants g.edition).greatest (size_with_entry (state geometry image) d)) (tree_geometry geometry image)
     ∙ (ap (λ n. nat_lt (constants geometry.edition).greatest (max n (16 * new_slot (shapes geometry image d).slots + 16))) (size_is geometry image d directory)
     ∙ ap (λ s. nat_lt (constants geometry.edition).greatest (max (size_of geometry image d) (16 * new_slot s + 16))) (slots_are geometry image d directory))
+
+-- the greatest size is one of 32 bits
+pub greatest_fits : (edition : Edition) → (constants edition).greatest < 2 ^ 32
+greatest_fits V6 = omega arith
+greatest_fits V7 = omega arith

@@ -10,11 +10,12 @@ use Rattle.vol_layout.specs.declared.mode.Kind.{Kind}
 use Rattle.vol_layout.specs.declared.mode.Kind.TheVariants as kinds
 use Rattle.vol_layout.proofs.InodeLaws.{inode_size}
 use Rattle.vol_file.specs.Rules.{size_of, kind_at, HasSoundFiles}
+use Rattle.vol_file.proofs.Naming.{root_first}
 use Rattle.vol_dir.specs.Entries.{slots, IsDirectory, IsInUse}
-use Rattle.vol_dir.specs.Names.{names_of}
-use Rattle.vol_dir.specs.Tree.{Content, Node, is_number, node_of, node_with, content_of, tree}
+use Rattle.vol_dir.specs.Names.{get, names_of}
+use Rattle.vol_dir.specs.Tree.{Content, Node, State, is_number, node_of, node_with, content_of, tree}
 use Rattle.vol_dir.specs.Walk.{map_of, is_directory}
-use Rattle.vol_node.specs.Nodes.{no_node, node_at, names_at}
+use Rattle.vol_node.specs.Nodes.{no_node, node_at, names_at, entry_of}
 use Rattle.vol_volume.specs.Verdict.{is_device}
 
 -- the node of an i-number of the volume, by the kind of its i-node
@@ -148,3 +149,18 @@ module _ (geometry : Geometry) (image : List ℕ) where
       → kind_at geometry image i ≢ kinds.Special → kind_at geometry image i ≡ kinds.Regular
   regular_left i first files used directory special =
       regular_by (kind_at geometry image i) used.allocated (files.sound.kinds.known i first used.last) directory special
+
+  -- an i-number in use is one of the volume
+  pub used_first : (i : ℕ) → IsInUse geometry image i → 1 ≤ i
+  used_first i used = let low : 1 ≤ (constants geometry.edition).root = root_first geometry.edition in omega (arith, low, used.first)
+
+  -- a node in use that is neither directory nor special file is that of a regular file
+  pub regular_file : (i : ℕ) → HasSoundFiles geometry image → IsInUse geometry image i → is_directory (node_at (tree geometry image) i) ≡ false
+      → is_device (node_at (tree geometry image) i).content ≡ false → kind_at geometry image i ≡ kinds.Regular
+  regular_file i files used directory special =
+      let first = used_first i used in
+      regular_left i first files used (other_kind i first used.last directory) (other_device i first used.last special)
+
+-- the i-number that a directory has for a name
+pub entry_is : (state : State) (d i : ℕ) (name : List ℕ) → get (names_at state.tree d) name ≡ Some i → entry_of state.tree d name ≡ i
+entry_is state d i name named = ap (λ o. unwrap_or o 0) named

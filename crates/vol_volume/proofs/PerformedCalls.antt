@@ -1,10 +1,18 @@
 -- What a call makes of an image, once its change is made.
-use Rattle.std.proofs.Common.{◌≡◌, ℕ, ◌∙◌, ap, sym, subst, List, length, Option, Some, Result, Ok, Err, refl}
-use Rattle.vol_dir.specs.Tree.{State, state}
+use Rattle.std.proofs.Common.{◌≡◌, ℕ, ◌+◌, ◌^◌, ◌<◌, ◌≤◌, ◌∙◌, ap, sym, subst, nat_le, if◌then◌else◌, true, false, List, length, Option, Some, Result, Ok, Err, refl, arith}
+use Rattle.std.proofs.lemmas.Bool.Decides.{nat_tests}
+use Rattle.vol_layout.specs.Edition.{constants}
+use Rattle.vol_layout.specs.Geometry.{Fits}
+use Rattle.vol_layout.specs.declared.edition.Edition.{Edition}
+use Rattle.vol_layout.specs.declared.edition.Edition.TheVariants.{V6, V7}
+use Rattle.vol_dir.specs.Names.{get}
+use Rattle.vol_dir.specs.Tree.{State, tree, shapes, state, place_count, free_count}
 use Rattle.vol_dir.specs.Walk.{walk, walk_parent}
 use Rattle.vol_node.specs.Edits.{at_time, after_write, after_truncate}
 use Rattle.vol_change.specs.Effects.{after_create, after_mkdir, after_link, after_unlink, after_rmdir}
-use Rattle.vol_change.specs.Ready.{Changes, free_in}
+use Rattle.vol_node.specs.Nodes.{node_at, names_at}
+use Rattle.vol_change.specs.Ready.{IsReady, Changes, free_in}
+use Rattle.vol_change.proofs.FreeAfter.{free_after_unlink, free_after_last_unlink}
 use Rattle.vol_volume.specs.Journal.{MayAnswer}
 use Rattle.vol_volume.specs.Performing.{IsPerformed}
 use Rattle.vol_volume.specs.Step.{on_node, on_parent, changed_by, step}
@@ -70,3 +78,39 @@ module _ (state : State) (cred : Cred) (now : ℕ) (path : List ℕ) where
       → step state (Truncate cred now path) Plain ≡ at_time now (after_truncate state now i)
   unfolding changed_by
   step_truncate i walked = ap (λ w. at_time now (on_node state w (after_truncate state now))) walked
+
+-- block numbers are of at most 24 bits
+limit_low : (edition : Edition) → (constants edition).number_limit ≤ 16777216
+limit_low V6 = omega arith
+limit_low V7 = omega arith
+
+-- so the number of free blocks is one of 32 bits
+pub free_low : (geometry : Geometry) (image : List ℕ) (made : State) → made.tree.geometry ≡ geometry → Fits geometry image → free_in made < 2 ^ 32
+unfolding free_count
+free_low geometry image made same fits =
+    let end : made.tree.geometry.zone_end ≤ 16777216 = omega (arith, fits.limit, limit_low geometry.edition, ap (λ (g : Geometry). g.zone_end) same) in
+    omega arith
+
+-- how many blocks become free where a node loses a name: with the last one all of its blocks
+abbrev pub freed_blocks : Geometry → List ℕ → ℕ → ℕ
+freed_blocks geometry image i =
+    if nat_le (node_at (tree geometry image) i).links 1 then place_count geometry.edition (shapes geometry image i) else 0
+
+-- what is free after a name went
+pub free_unlinked : (geometry : Geometry) (image : List ℕ) (now i d : ℕ) (name : List ℕ) → IsReady geometry image
+    → get (names_at (state geometry image).tree d) name ≡ Some i
+    → free_in (at_time now (after_unlink (state geometry image) now d name)) ≡ free_in (state geometry image) + freed_blocks geometry image i
+free_unlinked geometry image now i d name ready named =
+    let links = (node_at (state geometry image).tree i).links in
+    elim (nat_le links 1) as (λ b. nat_le links 1 ≡ b
+    → free_in (at_time now (after_unlink (state geometry image) now d name))
+    ≡ free_in (state geometry image) + (if b then place_count geometry.edition (shapes geometry image i) else 0)) [
+      | true ↦ λ e.
+          let few : links ≤ 1 = grind (arith, nat_tests, e) in
+          free_after_last_unlink geometry image now i d name ready named few
+      | false ↦ λ e.
+          let many : 2 ≤ links = grind (arith, nat_tests, e) in
+          let same : free_in (at_time now (after_unlink (state geometry image) now d name)) ≡ free_in (state geometry image) =
+          free_after_unlink geometry image now i d name named many in
+          omega (arith, same)
+    ] refl

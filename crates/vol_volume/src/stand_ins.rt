@@ -2,7 +2,6 @@
 
 
 mod bodies;
-mod counts;
 mod entries;
 mod lost_directories;
 mod lost_names;
@@ -12,7 +11,6 @@ mod new_names;
 mod new_nodes;
 
 pub use bodies::{truncate, write};
-pub use counts::block_count;
 pub use lost_directories::rmdir;
 pub use lost_names::unlink;
 pub use new_directories::mkdir;

@@ -7,11 +7,12 @@ ghost use Rattle.vol_volume.specs.Verdict.{verdict};
 
 use crate::calls::{Call, Done};
 use crate::performing::{Performed, node, ready_stands};
-use crate::stand_ins::{self, block_count};
+use crate::stand_ins;
 use pdp_words::Image;
 use vol_dir::Cred;
 use vol_file::need;
 use vol_layout::Geometry;
+use vol_node::block_count;
 
 /// Performs a call that writes `bytes` from byte `offset` on, at `moment`, in seconds.
 pub(crate) fn write(

@@ -7,10 +7,11 @@ ghost use Rattle.vol_volume.specs.Verdict.{verdict};
 
 use crate::calls::{Call, Done};
 use crate::performing::{Performed, named, parent, ready_stands};
-use crate::stand_ins::{self, block_count};
+use crate::stand_ins;
 use pdp_words::Image;
 use vol_dir::Cred;
 use vol_layout::Geometry;
+use vol_node::block_count;
 
 /// Performs a call by which a directory goes, at `moment`, in seconds.
 pub(crate) fn rmdir(

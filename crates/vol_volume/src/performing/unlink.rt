@@ -10,10 +10,11 @@ ghost use Rattle.vol_volume.specs.Verdict.{verdict};
 
 use crate::calls::{Call, Done};
 use crate::performing::{Performed, named, parent, ready_stands};
-use crate::stand_ins::{self, block_count};
+use crate::stand_ins;
 use pdp_words::Image;
 use vol_dir::Cred;
 use vol_layout::{Geometry, inode};
+use vol_node::block_count;
 
 /// How many blocks become free where node `i` loses a name: with the last one all of its blocks.
 fn freed(image: &Image, geometry: &Geometry, i: u16) -> u32

@@ -1,31 +1,67 @@
+use Rattle.std.proofs.Common.{◌≡◌, ◌-◌, ◌+◌, ◌≤◌, ◌∙◌, ap, sym, arith}
+use Rattle.vol_dir.specs.Tree.{tree, state}
+use Rattle.vol_node.specs.Edits.{at_time}
+use Rattle.vol_change.specs.Effects.{after_create}
+use Rattle.vol_change.specs.Ready.{entry_need, free_in}
+use Rattle.vol_change.proofs.FreeAfter.{free_after_create}
+use Rattle.vol_volume.proofs.Accepted.{create_led, create_passed}
+use Rattle.vol_volume.proofs.FreeNumbers.{number_free, some_free, recorded_free}
+use Rattle.vol_volume.proofs.PerformedCalls.{performed_by, step_create}
+use Rattle.vol_volume.specs.declared.calls.Call.TheVariants.{Create}
+use Rattle.vol_volume.specs.declared.calls.Done.TheVariants.{Made}
 use Rattle.vol_volume.proofs.performing.create.create.Goals as goal
 
 pub parent-dir-requires-clause-leads : goal.parent-dir-requires-clause-leads
-parent-dir-requires-clause-leads c = ?
+parent-dir-requires-clause-leads c =
+    (create_led (state c.args.geometry.now c.args.image.now) c.args.new.owner c.args.new.moment c.args.path.now c.args.new.permissions c.requires.accepted).leads
 
 pub parent-dir-requires-clause-text : goal.parent-dir-requires-clause-text
-parent-dir-requires-clause-text c = ?
+parent-dir-requires-clause-text c =
+    (create_led (state c.args.geometry.now c.args.image.now) c.args.new.owner c.args.new.moment c.args.path.now c.args.new.permissions c.requires.accepted).text
 
 pub create-made-requires-clause-user : goal.create-made-requires-clause-user
-create-made-requires-clause-user c = ?
+unfolding tree
+create-made-requires-clause-user c =
+    (create_passed (state c.args.geometry.now c.args.image.now) c.args.new.owner c.args.new.moment c.args.path.now c.args.new.permissions c.parent-dir.result.0 c.parent-dir.result.1.now c.requires.accepted c.parent-dir.ensures.walked).0.user
 
 pub create-made-requires-clause-group : goal.create-made-requires-clause-group
-create-made-requires-clause-group c = ?
+unfolding tree
+create-made-requires-clause-group c =
+    (create_passed (state c.args.geometry.now c.args.image.now) c.args.new.owner c.args.new.moment c.args.path.now c.args.new.permissions c.parent-dir.result.0 c.parent-dir.result.1.now c.requires.accepted c.parent-dir.ensures.walked).0.group
 
 pub create-made-requires-clause-takes : goal.create-made-requires-clause-takes
-create-made-requires-clause-takes c = ?
+create-made-requires-clause-takes c =
+    (create_passed (state c.args.geometry.now c.args.image.now) c.args.new.owner c.args.new.moment c.args.path.now c.args.new.permissions c.parent-dir.result.0 c.parent-dir.result.1.now c.requires.accepted c.parent-dir.ensures.walked).0.takes
 
 pub create-made-requires-clause-room : goal.create-made-requires-clause-room
-create-made-requires-clause-room c = ?
+create-made-requires-clause-room c =
+    (create_passed (state c.args.geometry.now c.args.image.now) c.args.new.owner c.args.new.moment c.args.path.now c.args.new.permissions c.parent-dir.result.0 c.parent-dir.result.1.now c.requires.accepted c.parent-dir.ensures.walked).0.room
 
 pub create-made-requires-clause-some : goal.create-made-requires-clause-some
-create-made-requires-clause-some c = ?
+create-made-requires-clause-some c =
+    some_free c.args.geometry.now c.args.image.now c.ready_stands.ensures.files (create_passed (state c.args.geometry.now c.args.image.now) c.args.new.owner c.args.new.moment c.args.path.now c.args.new.permissions c.parent-dir.result.0 c.parent-dir.result.1.now c.requires.accepted c.parent-dir.ensures.walked).1
 
 pub create-made-requires-clause-recorded : goal.create-made-requires-clause-recorded
-create-made-requires-clause-recorded c = ?
+create-made-requires-clause-recorded c =
+    recorded_free c.args.geometry.now c.args.image.now c.ready_stands.ensures.files c.args.recorded c.requires.recorded
 
 pub overflow_sub-result : goal.overflow_sub-result
-overflow_sub-result c = ?
+overflow_sub-result c =
+    let room : entry_need (state c.args.geometry.now c.args.image.now) c.parent-dir.result.0 ≤ free_in (state c.args.geometry.now c.args.image.now) = (create_passed (state c.args.geometry.now c.args.image.now) c.args.new.owner c.args.new.moment c.args.path.now c.args.new.permissions c.parent-dir.result.0 c.parent-dir.result.1.now c.requires.accepted c.parent-dir.ensures.walked).0.room in
+    let count : c.args.free ≡ free_in (state c.args.geometry.now c.args.image.now) = c.requires.count in
+    let needed : c.entry_need-needed.result ≡ entry_need (state c.args.geometry.now c.args.image.now) c.parent-dir.result.0 = c.entry_need-needed.ensures in
+    omega (arith, room, count, needed)
 
 pub returns-clause-performed : goal.returns-clause-performed
-returns-clause-performed c = ?
+returns-clause-performed c =
+    let count : c.args.free ≡ free_in (state c.args.geometry.now c.args.image.now) = c.requires.count in
+    let needed : c.entry_need-needed.result ≡ entry_need (state c.args.geometry.now c.args.image.now) c.parent-dir.result.0 = c.entry_need-needed.ensures in
+    let after : free_in (at_time c.args.new.moment (after_create (state c.args.geometry.now c.args.image.now) c.args.new.owner c.args.new.moment c.args.new.permissions c.create-made.result c.parent-dir.result.0 c.parent-dir.result.1.now)) ≡ free_in (state c.args.geometry.now c.args.image.now) - entry_need (state c.args.geometry.now c.args.image.now) c.parent-dir.result.0 =
+    free_after_create c.args.geometry.now c.args.image.now c.args.new.owner c.args.new.moment c.args.new.permissions c.create-made.result c.parent-dir.result.0 c.parent-dir.result.1.now c.create-made.ensures.free c.parent-dir.ensures.directory in
+    performed_by c.args.geometry.now c.args.image.now c.create-made.new.image (Create c.args.new.owner c.args.new.moment c.args.path.now c.args.new.permissions) (Made c.create-made.result)
+    (at_time c.args.new.moment (after_create (state c.args.geometry.now c.args.image.now) c.args.new.owner c.args.new.moment c.args.new.permissions c.create-made.result c.parent-dir.result.0 c.parent-dir.result.1.now))
+    (c.args.free - c.entry_need-needed.result)
+    (step_create (state c.args.geometry.now c.args.image.now) c.args.new.owner c.args.new.moment c.args.path.now c.args.new.permissions c.create-made.result c.parent-dir.result.0 c.parent-dir.result.1.now c.parent-dir.ensures.walked)
+    (number_free c.args.geometry.now c.args.image.now c.ready_stands.ensures.files c.create-made.result c.create-made.ensures.free)
+    c.create-made.ensures.changes
+    (omega (arith, count, needed, after))

@@ -1,37 +1,79 @@
+use Rattle.std.proofs.Common.{◌≡◌, ◌-◌, ◌+◌, ◌≤◌, ◌∙◌, ap, sym, arith}
+use Rattle.vol_dir.specs.Tree.{tree, state}
+use Rattle.vol_node.specs.Edits.{at_time}
+use Rattle.vol_change.specs.Effects.{after_mkdir}
+use Rattle.vol_change.specs.Ready.{entry_need, free_in}
+use Rattle.vol_change.proofs.FreeAfter.{free_after_mkdir}
+use Rattle.vol_volume.proofs.Accepted.{mkdir_led, mkdir_passed}
+use Rattle.vol_volume.proofs.FreeNumbers.{number_free, some_free, recorded_free}
+use Rattle.vol_volume.proofs.PerformedCalls.{performed_by, step_mkdir}
+use Rattle.vol_volume.specs.declared.calls.Call.TheVariants.{Mkdir}
+use Rattle.vol_volume.specs.declared.calls.Done.TheVariants.{Made}
 use Rattle.vol_volume.proofs.performing.mkdir.mkdir.Goals as goal
 
 pub parent-dir-requires-clause-leads : goal.parent-dir-requires-clause-leads
-parent-dir-requires-clause-leads c = ?
+parent-dir-requires-clause-leads c =
+    (mkdir_led (state c.args.geometry.now c.args.image.now) c.args.new.owner c.args.new.moment c.args.path.now c.args.new.permissions c.requires.accepted).leads
 
 pub parent-dir-requires-clause-text : goal.parent-dir-requires-clause-text
-parent-dir-requires-clause-text c = ?
+parent-dir-requires-clause-text c =
+    (mkdir_led (state c.args.geometry.now c.args.image.now) c.args.new.owner c.args.new.moment c.args.path.now c.args.new.permissions c.requires.accepted).text
 
 pub mkdir-made-requires-clause-user : goal.mkdir-made-requires-clause-user
-mkdir-made-requires-clause-user c = ?
+unfolding tree
+mkdir-made-requires-clause-user c =
+    (mkdir_passed (state c.args.geometry.now c.args.image.now) c.args.new.owner c.args.new.moment c.args.path.now c.args.new.permissions c.parent-dir.result.0 c.parent-dir.result.1.now c.requires.accepted c.parent-dir.ensures.walked).0.user
 
 pub mkdir-made-requires-clause-group : goal.mkdir-made-requires-clause-group
-mkdir-made-requires-clause-group c = ?
+unfolding tree
+mkdir-made-requires-clause-group c =
+    (mkdir_passed (state c.args.geometry.now c.args.image.now) c.args.new.owner c.args.new.moment c.args.path.now c.args.new.permissions c.parent-dir.result.0 c.parent-dir.result.1.now c.requires.accepted c.parent-dir.ensures.walked).0.group
 
 pub mkdir-made-requires-clause-takes : goal.mkdir-made-requires-clause-takes
-mkdir-made-requires-clause-takes c = ?
-
-pub mkdir-made-requires-clause-links : goal.mkdir-made-requires-clause-links
-mkdir-made-requires-clause-links c = ?
+mkdir-made-requires-clause-takes c =
+    (mkdir_passed (state c.args.geometry.now c.args.image.now) c.args.new.owner c.args.new.moment c.args.path.now c.args.new.permissions c.parent-dir.result.0 c.parent-dir.result.1.now c.requires.accepted c.parent-dir.ensures.walked).0.takes
 
 pub mkdir-made-requires-clause-room : goal.mkdir-made-requires-clause-room
-mkdir-made-requires-clause-room c = ?
+mkdir-made-requires-clause-room c =
+    (mkdir_passed (state c.args.geometry.now c.args.image.now) c.args.new.owner c.args.new.moment c.args.path.now c.args.new.permissions c.parent-dir.result.0 c.parent-dir.result.1.now c.requires.accepted c.parent-dir.ensures.walked).0.room
 
 pub mkdir-made-requires-clause-some : goal.mkdir-made-requires-clause-some
-mkdir-made-requires-clause-some c = ?
+mkdir-made-requires-clause-some c =
+    some_free c.args.geometry.now c.args.image.now c.ready_stands.ensures.files (mkdir_passed (state c.args.geometry.now c.args.image.now) c.args.new.owner c.args.new.moment c.args.path.now c.args.new.permissions c.parent-dir.result.0 c.parent-dir.result.1.now c.requires.accepted c.parent-dir.ensures.walked).1
 
 pub mkdir-made-requires-clause-recorded : goal.mkdir-made-requires-clause-recorded
-mkdir-made-requires-clause-recorded c = ?
+mkdir-made-requires-clause-recorded c =
+    recorded_free c.args.geometry.now c.args.image.now c.ready_stands.ensures.files c.args.recorded c.requires.recorded
 
 pub overflow_sub-result : goal.overflow_sub-result
-overflow_sub-result c = ?
+overflow_sub-result c =
+    let room : (entry_need (state c.args.geometry.now c.args.image.now) c.parent-dir.result.0 + 1) ≤ free_in (state c.args.geometry.now c.args.image.now) = (mkdir_passed (state c.args.geometry.now c.args.image.now) c.args.new.owner c.args.new.moment c.args.path.now c.args.new.permissions c.parent-dir.result.0 c.parent-dir.result.1.now c.requires.accepted c.parent-dir.ensures.walked).0.room in
+    let count : c.args.free ≡ free_in (state c.args.geometry.now c.args.image.now) = c.requires.count in
+    let needed : c.entry_need-needed.result ≡ entry_need (state c.args.geometry.now c.args.image.now) c.parent-dir.result.0 = c.entry_need-needed.ensures in
+    omega (arith, room, count, needed)
+
+pub mkdir-made-requires-clause-links : goal.mkdir-made-requires-clause-links
+unfolding tree
+mkdir-made-requires-clause-links c =
+    (mkdir_passed (state c.args.geometry.now c.args.image.now) c.args.new.owner c.args.new.moment c.args.path.now c.args.new.permissions c.parent-dir.result.0 c.parent-dir.result.1.now c.requires.accepted c.parent-dir.ensures.walked).2
 
 pub overflow_sub-result-2 : goal.overflow_sub-result-2
-overflow_sub-result-2 c = ?
+overflow_sub-result-2 c =
+    let room : (entry_need (state c.args.geometry.now c.args.image.now) c.parent-dir.result.0 + 1) ≤ free_in (state c.args.geometry.now c.args.image.now) = (mkdir_passed (state c.args.geometry.now c.args.image.now) c.args.new.owner c.args.new.moment c.args.path.now c.args.new.permissions c.parent-dir.result.0 c.parent-dir.result.1.now c.requires.accepted c.parent-dir.ensures.walked).0.room in
+    let count : c.args.free ≡ free_in (state c.args.geometry.now c.args.image.now) = c.requires.count in
+    let needed : c.entry_need-needed.result ≡ entry_need (state c.args.geometry.now c.args.image.now) c.parent-dir.result.0 = c.entry_need-needed.ensures in
+    omega (arith, room, count, needed)
 
 pub returns-clause-performed : goal.returns-clause-performed
-returns-clause-performed c = ?
+returns-clause-performed c =
+    let count : c.args.free ≡ free_in (state c.args.geometry.now c.args.image.now) = c.requires.count in
+    let needed : c.entry_need-needed.result ≡ entry_need (state c.args.geometry.now c.args.image.now) c.parent-dir.result.0 = c.entry_need-needed.ensures in
+    let after : free_in (at_time c.args.new.moment (after_mkdir (state c.args.geometry.now c.args.image.now) c.args.new.owner c.args.new.moment c.args.new.permissions c.mkdir-made.result c.parent-dir.result.0 c.parent-dir.result.1.now)) ≡ free_in (state c.args.geometry.now c.args.image.now) - (entry_need (state c.args.geometry.now c.args.image.now) c.parent-dir.result.0 + 1) =
+    free_after_mkdir c.args.geometry.now c.args.image.now c.args.new.owner c.args.new.moment c.args.new.permissions c.mkdir-made.result c.parent-dir.result.0 c.parent-dir.result.1.now c.mkdir-made.ensures.free c.parent-dir.ensures.directory in
+    performed_by c.args.geometry.now c.args.image.now c.mkdir-made.new.image (Mkdir c.args.new.owner c.args.new.moment c.args.path.now c.args.new.permissions) (Made c.mkdir-made.result)
+    (at_time c.args.new.moment (after_mkdir (state c.args.geometry.now c.args.image.now) c.args.new.owner c.args.new.moment c.args.new.permissions c.mkdir-made.result c.parent-dir.result.0 c.parent-dir.result.1.now))
+    (c.args.free - 1 - c.entry_need-needed.result)
+    (step_mkdir (state c.args.geometry.now c.args.image.now) c.args.new.owner c.args.new.moment c.args.path.now c.args.new.permissions c.mkdir-made.result c.parent-dir.result.0 c.parent-dir.result.1.now c.parent-dir.ensures.walked)
+    (number_free c.args.geometry.now c.args.image.now c.ready_stands.ensures.files c.mkdir-made.result c.mkdir-made.ensures.free)
+    c.mkdir-made.ensures.changes
+    (omega (arith, count, needed, after))

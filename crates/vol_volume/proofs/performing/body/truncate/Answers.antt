@@ -1,0 +1,51 @@
+use Rattle.std.proofs.Common.{◌≡◌, ◌+◌, ◌^◌, ◌≤◌, ◌<◌, ◌∙◌, ap, sym, refl, arith}
+use Rattle.vol_dir.specs.Tree.{tree, shapes, state, place_count}
+use Rattle.vol_node.specs.Edits.{at_time, after_truncate}
+use Rattle.vol_change.specs.Ready.{free_in}
+use Rattle.vol_change.proofs.FreeAfter.{free_after_truncate}
+use Rattle.vol_change.proofs.ReadyLaws.{ready_whole}
+use Rattle.vol_volume.proofs.Accepted.{truncate_led, truncate_passed}
+use Rattle.vol_volume.proofs.NodeReadings.{tree_geometry, used_first, regular_file}
+use Rattle.vol_volume.proofs.PerformedCalls.{performed_by, step_truncate, free_low}
+use Rattle.vol_volume.specs.declared.calls.Call.TheVariants.{Truncate}
+use Rattle.vol_volume.specs.declared.calls.Done.TheVariants.{Plain}
+use Rattle.vol_volume.proofs.performing.body.truncate.Goals as goal
+
+pub node-i-requires-clause-leads : goal.node-i-requires-clause-leads
+node-i-requires-clause-leads c =
+    truncate_led (state c.args.geometry.now c.args.image.now) c.args.cred c.args.moment c.args.path.now c.requires.accepted
+
+pub block_count-freed-requires-clause-whole : goal.block_count-freed-requires-clause-whole
+block_count-freed-requires-clause-whole c =
+    ready_whole c.args.geometry.now c.args.image.now c.requires.ready
+
+pub block_count-freed-requires-clause-first : goal.block_count-freed-requires-clause-first
+block_count-freed-requires-clause-first c =
+    used_first c.args.geometry.now c.args.image.now c.node-i.result c.node-i.ensures.used
+
+pub truncate-requires-clause-regular : goal.truncate-requires-clause-regular
+truncate-requires-clause-regular c =
+    (regular_file c.args.geometry.now c.args.image.now c.node-i.result c.ready_stands.ensures.files c.node-i.ensures.used (truncate_passed (state c.args.geometry.now c.args.image.now) c.args.cred c.args.moment c.args.path.now c.node-i.result c.requires.accepted c.node-i.ensures.walked).0 (truncate_passed (state c.args.geometry.now c.args.image.now) c.args.cred c.args.moment c.args.path.now c.node-i.result c.requires.accepted c.node-i.ensures.walked).1)
+
+pub overflow_add-result : goal.overflow_add-result
+unfolding tree
+overflow_add-result c =
+    let count : c.args.free ≡ free_in (state c.args.geometry.now c.args.image.now) = c.requires.count in
+    let freed : c.block_count-freed.result ≡ place_count c.args.geometry.now.edition (shapes c.args.geometry.now c.args.image.now c.node-i.result) = c.block_count-freed.ensures in
+    let after : free_in (at_time c.args.moment (after_truncate (state c.args.geometry.now c.args.image.now) c.args.moment c.node-i.result)) ≡ free_in (state c.args.geometry.now c.args.image.now) + place_count c.args.geometry.now.edition (shapes c.args.geometry.now c.args.image.now c.node-i.result) =
+    free_after_truncate c.args.geometry.now c.args.image.now c.args.moment c.node-i.result c.requires.ready in
+    let low : free_in (at_time c.args.moment (after_truncate (state c.args.geometry.now c.args.image.now) c.args.moment c.node-i.result)) < 2 ^ 32 = free_low c.args.geometry.now c.args.image.now (at_time c.args.moment (after_truncate (state c.args.geometry.now c.args.image.now) c.args.moment c.node-i.result)) (tree_geometry c.args.geometry.now c.args.image.now) c.requires.ready.fits in
+    omega (arith, count, freed, after, low)
+
+pub returns-clause-performed : goal.returns-clause-performed
+returns-clause-performed c =
+    let count : c.args.free ≡ free_in (state c.args.geometry.now c.args.image.now) = c.requires.count in
+    let freed : c.block_count-freed.result ≡ place_count c.args.geometry.now.edition (shapes c.args.geometry.now c.args.image.now c.node-i.result) = c.block_count-freed.ensures in
+    let after : free_in (at_time c.args.moment (after_truncate (state c.args.geometry.now c.args.image.now) c.args.moment c.node-i.result)) ≡ free_in (state c.args.geometry.now c.args.image.now) + place_count c.args.geometry.now.edition (shapes c.args.geometry.now c.args.image.now c.node-i.result) =
+    free_after_truncate c.args.geometry.now c.args.image.now c.args.moment c.node-i.result c.requires.ready in
+    performed_by c.args.geometry.now c.args.image.now c.truncate.new.image (Truncate c.args.cred c.args.moment c.args.path.now) Plain
+    (at_time c.args.moment (after_truncate (state c.args.geometry.now c.args.image.now) c.args.moment c.node-i.result))
+    (c.args.free + c.block_count-freed.result)
+    (step_truncate (state c.args.geometry.now c.args.image.now) c.args.cred c.args.moment c.args.path.now c.node-i.result c.node-i.ensures.walked) tt
+    c.truncate.ensures.changes
+    (omega (arith, count, freed, after))

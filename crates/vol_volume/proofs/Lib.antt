@@ -1,4 +1,5 @@
 pub mod Accepted
+pub mod AcceptedCalls
 mod AnsweredQueries
 pub mod Journals
 mod ListedNames

@@ -1,7 +1,6 @@
 //! Which refusal a call meets, if any.
-ghost use Rattle.std.specs.Prelude.{◌≡◌, ℕ, List, length};
+ghost use Rattle.std.specs.Prelude.{◌≡◌};
 ghost use Rattle.vol_layout.specs.Geometry.{geometry_of, Fits};
-ghost use Rattle.vol_free.specs.Stack.{IsFree};
 ghost use Rattle.vol_dir.specs.Tree.{state, free_count, shapes};
 ghost use Rattle.vol_judge.specs.Sound.{IsSound};
 ghost use Rattle.vol_volume.specs.Standing.{Stands};
@@ -34,7 +33,7 @@ use vol_layout::Geometry;
 pub(crate) fn verdict(image: &Image, geometry: &Geometry, free: u32, call: &Call) -> Option<Refusal>
     requires sound { IsSound geometry.now.edition image.now }
     requires sizes { geometry.now ≡ geometry_of geometry.now.edition image.now }
-    requires free { (blocks : List ℕ) → IsFree geometry.now image.now blocks → free ≡ length blocks }
+    requires count { free ≡ free_count geometry.now (shapes geometry.now image.now) }
     ensures { result ≡ verdict (state geometry.now image.now) call.now }
 {
     fits(image, geometry);

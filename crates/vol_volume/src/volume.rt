@@ -1,19 +1,22 @@
 //! Mounted volumes.
-ghost use Rattle.std.specs.Prelude.{◌≡◌, IfOk, IfErr, List, ℕ};
+ghost use Rattle.std.specs.Prelude.{◌≡◌, ◌<◌, IfOk, IfErr, IfSome, List, [], ◌∷◌, ◌++◌, ℕ, vec_len, vec_capacity, None};
 ghost use Rattle.vol_layout.specs.Geometry.{geometry_of};
+ghost use Rattle.vol_dir.specs.Tree.{state, free_count, shapes};
 ghost use Rattle.vol_judge.specs.Sound.{IsSound};
 ghost use Rattle.vol_volume.specs.Faults.{IsFaultOf};
 ghost use Rattle.vol_volume.specs.Answer.{Answers};
-ghost use Rattle.vol_volume.specs.Journal.{Refuses};
+ghost use Rattle.vol_volume.specs.Journal.{Refuses, MayAnswer, MayFollow};
+ghost use Rattle.vol_volume.specs.Performing.{IsPerformed};
 ghost use Rattle.vol_volume.specs.Verdict.{verdict};
 ghost use Rattle.vol_volume.specs.Volume.{IsConsistent, Accepts, mounted, reads_as};
 
 use crate::answering::answer;
 use crate::calls::{Call, Done, Record};
+use crate::performing::perform;
 use crate::queries::{Query, Reply};
 use crate::verdicts::{fits, verdict};
 use pdp_words::Image;
-use std::alloc::Global;
+use std::alloc::{AllocError, Global};
 use std::marker::Model;
 use thiserror::Error;
 use vol_dir::Refusal;
@@ -38,6 +41,7 @@ pub enum MountFault {
 pub struct Volume {
     geometry: Geometry,
     current: Image,
+    free: u32,
     mounted: Vec<u8>,
     records: Vec<Record>,
 }
@@ -45,6 +49,7 @@ pub struct Volume {
 impl Model for Volume {
     ghost use Rattle.std.specs.Prelude.{◌≡◌};
     ghost use Rattle.vol_layout.specs.Geometry.{geometry_of};
+    ghost use Rattle.vol_dir.specs.Tree.{free_count, shapes};
     ghost use Rattle.vol_volume.specs.Volume.{Mounted, IsConsistent};
 
     ghost Value = { Mounted };
@@ -52,7 +57,8 @@ impl Model for Volume {
     ghost view = { λ v. record { edition = v.geometry.edition; image = v.current; base = v.mounted.items; journal = v.records.items } };
 
     ghost invariant = { λ v. (v.geometry ≡ geometry_of v.geometry.edition v.current)
-        × IsConsistent (record { edition = v.geometry.edition; image = v.current; base = v.mounted.items; journal = v.records.items }) };
+        × IsConsistent (record { edition = v.geometry.edition; image = v.current; base = v.mounted.items; journal = v.records.items })
+        × (v.free ≡ free_count v.geometry (shapes v.geometry v.current)) };
 }
 
 impl Volume {
@@ -93,9 +99,11 @@ impl Volume {
         let Ok(mounted) = Vec::from_slice(alloc, image.as_bytes()) else {
             return Err((MountFault::NoMemory, image.into_bytes()));
         };
+        let free = count_free(&image, &geometry);
         Ok(Volume {
             geometry,
             current: image,
+            free,
             mounted,
             records: Vec::new(alloc),
         })
@@ -144,10 +152,20 @@ impl Volume {
         answer(alloc, &self.current, &self.geometry, query)
     }
 
-    /// Makes a call, where nothing speaks against it, and appends it to the journal; the answer says what was
-    /// made. A call that is refused comes back, and changes nothing. NoMemory is only for the journal's room,
-    /// and comes last, before the first byte changes.
-    #[tactic(auto, using(crate::proofs::Refusals::refused_so))]
+    /// Makes a call, where nothing speaks against it, and appends it to the journal; the answer says what
+    /// was made. A call that is refused comes back, and changes nothing.
+    ///
+    /// The refusals are asked in this order. BadId: the numbers of the user or the group are above the
+    /// edition's. Invalid: a path has a zero byte. NotDirectory, Access, NoEntry: what the walks of the
+    /// paths meet. Then what is asked of the node, the parent and the last name: Exists, Access, NoEntry,
+    /// IsDirectory, NotDirectory, Invalid, NotEmpty, NotRegular, TooManyLinks, TooBig, NoInode, NoSpace, in
+    /// the order of the definition. NoMemory comes last, before the first byte changes, and only where the
+    /// journal has no room for one record more.
+    ///
+    /// Takes memory for the journal alone. Costs two walks of each path and two searches of the last
+    /// directory, and the change: for a new entry the directory's slots, for a new node the i-list where no
+    /// i-number is cached, for a write its bytes and the ways of their blocks, and for what becomes free the
+    /// places of the file, twice.
     pub fn call(&mut self, alloc: Global, call: Call) -> Result<Done, (Refusal, Call)>
         ensures accepted { IfOk result (λ done. Accepts self.old self.new call done) }
         ensures refused { IfErr result (λ (refusal, same). Refuses (reads_as self.old.edition self.old.image) call refusal) }
@@ -155,10 +173,47 @@ impl Volume {
         ensures unchanged { IfErr result (λ (refusal, same). self.new ≡ self.old) }
     {
         let _ = alloc;
-        match refusal(&self.current, &self.geometry, &call) {
-            Some(refusal) => Err((refusal, call)),
-            None => Err((Refusal::NoMemory, call)),
+        if let Some(refusal) = verdict(&self.current, &self.geometry, self.free, &call) {
+            return Err((refusal, call));
         }
+        if self.records.reserve(1).is_err() {
+            return Err((Refusal::NoMemory, call));
+        }
+        Ok(accept(
+            &mut self.current,
+            &self.geometry,
+            &mut self.free,
+            &mut self.records,
+            call,
+            None,
+        ))
+    }
+
+    /// Makes a call with the answer that is recorded for it, the i-number of what it made included, and
+    /// appends that record to the journal. The record is one that may come next. Where the journal has no
+    /// room for it, the record comes back and nothing changes.
+    ///
+    /// Takes memory for the journal alone. Costs what [`Volume::call`] does but for its tests.
+    pub fn redo(&mut self, alloc: Global, record: Record) -> Result<(), (AllocError, Record)>
+        requires { MayFollow (reads_as self.old.edition self.old.image) «record» }
+        ensures accepted { IfOk result (λ _. Accepts self.old self.new «record».call «record».done) }
+        ensures handed_back { IfErr result (λ (error, same). same ≡ «record») }
+        ensures unchanged { IfErr result (λ (error, same). self.new ≡ self.old) }
+    {
+        let _ = alloc;
+        if self.records.reserve(1).is_err() {
+            return Err((AllocError, record));
+        }
+        let Record { call, done } = record;
+        accept(
+            &mut self.current,
+            &self.geometry,
+            &mut self.free,
+            &mut self.records,
+            call,
+            Some(done),
+        );
+        Ok(())
     }
 
     /// Gives the image's bytes back. The journal goes. Takes no memory.
@@ -176,16 +231,45 @@ impl Volume {
     }
 }
 
-/// The refusal that a call meets in a sound image.
-#[tactic(auto, using(crate::proofs::SoundSizes::stack_there))]
-fn refusal(image: &Image, geometry: &Geometry, call: &Call) -> Option<Refusal>
-    requires sound { IsSound geometry.now.edition image.now }
-    requires sizes { geometry.now ≡ geometry_of geometry.now.edition image.now }
-    ensures { result ≡ verdict (reads_as geometry.now.edition image.now) call.now }
+/// Performs a call that nothing speaks against, and appends its record, for which there is room. Where an
+/// answer is recorded, it is that one.
+fn accept(
+    image: &mut Image,
+    geometry: &Geometry,
+    free: &mut u32,
+    records: &mut Vec<Record>,
+    call: Call,
+    recorded: Option<Done>,
+) -> Done
+    requires sound { IsSound geometry.now.edition image.old }
+    requires sizes { geometry.now ≡ geometry_of geometry.now.edition image.old }
+    requires count { free.old ≡ free_count geometry.now (shapes geometry.now image.old) }
+    requires accepted { verdict (state geometry.now image.old) call ≡ None }
+    requires recorded { IfSome recorded (λ done. MayAnswer (state geometry.now image.old) call done) }
+    requires room { vec_len records.old < vec_capacity records.old }
+    ensures performed { IsPerformed geometry.now image.old image.new call result free.new }
+    ensures recorded { IfSome recorded (λ done. result ≡ done) }
+    ensures records { records.new.items ≡ records.old.items ++ record { call = call; done = result } ∷ [] }
 {
     fits(image, geometry);
-    let free = free_count(image, geometry);
-    verdict(image, geometry, free, call)
+    let performed = perform(image, geometry, *free, &call, recorded);
+    *free = performed.free;
+    let done = performed.done;
+    if records.push(Record { call, done }).is_err() {
+        unreachable!();
+    }
+    done
+}
+
+/// The number of free blocks of a sound image.
+#[tactic(auto, using(crate::proofs::SoundSizes::stack_there))]
+fn count_free(image: &Image, geometry: &Geometry) -> u32
+    requires sound { IsSound geometry.now.edition image.now }
+    requires sizes { geometry.now ≡ geometry_of geometry.now.edition image.now }
+    ensures { result ≡ free_count geometry.now (shapes geometry.now image.now) }
+{
+    fits(image, geometry);
+    free_count(image, geometry)
 }
 
 /// The geometry of a sound image.

@@ -17,7 +17,8 @@ returns-then-inode-le1 c =
     links_are c.args.geometry.now c.args.image.now c.args.i (used_first c.args.geometry.now c.args.image.now c.args.i c.requires.used)
     c.requires.stands.files c.requires.used
     ∙ ap (λ (n : Inode). n.links) (sym c.inode.ensures.value) in
-    c.block_count.ensures ∙ sym (ap (λ n. if nat_le n 1 then blocks else 0) links ∙ ap (λ b. if b then blocks else 0) c.if-inode-le1.true)
+    let few : nat_le c.inode.result.links 1 ≡ true = grind (arith, nat_tests, c.if-inode-le1.true) in
+    c.block_count.ensures ∙ sym (ap (λ n. if nat_le n 1 then blocks else 0) links ∙ ap (λ b. if b then blocks else 0) few)
 
 pub returns-else-inode-le1 : goal.returns-else-inode-le1
 returns-else-inode-le1 c =
@@ -26,4 +27,5 @@ returns-else-inode-le1 c =
     links_are c.args.geometry.now c.args.image.now c.args.i (used_first c.args.geometry.now c.args.image.now c.args.i c.requires.used)
     c.requires.stands.files c.requires.used
     ∙ ap (λ (n : Inode). n.links) (sym c.inode.ensures.value) in
-    sym (ap (λ n. if nat_le n 1 then blocks else 0) links ∙ ap (λ b. if b then blocks else 0) c.if-inode-le1.false)
+    let many : nat_le c.inode.result.links 1 ≡ false = grind (arith, nat_tests, c.if-inode-le1.false) in
+    sym (ap (λ n. if nat_le n 1 then blocks else 0) links ∙ ap (λ b. if b then blocks else 0) many)

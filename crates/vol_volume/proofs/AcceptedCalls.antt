@@ -1,0 +1,136 @@
+-- What a volume is after a call that was performed and recorded.
+use Rattle.std.proofs.Common.{◌≡◌, ℕ, ◌+◌, ◌*◌, ◌<◌, ◌≤◌, ◌&&◌, ◌∙◌, ap, sym, subst, refl, false, nat_le, nat_lt, List, [], ◌∷◌, ◌++◌, slice_index, None, Some, inl, inr, arith}
+use Rattle.std.proofs.lemmas.Bool.{or_parts, and_cases}
+use Rattle.std.proofs.lemmas.Bool.Decides.{nat_tests}
+use Rattle.vol_layout.specs.Geometry.{geometry_of, block_count}
+use Rattle.vol_layout.specs.Super.{free_head, time_place}
+use Rattle.vol_layout.specs.declared.edition.Edition.{Edition}
+use Rattle.vol_layout.specs.declared.geometry.Geometry.{Geometry}
+use Rattle.vol_dir.specs.Tree.{state, shapes, tree, free_count}
+use Rattle.vol_node.specs.Whole.{StaysAround}
+use Rattle.vol_node.proofs.WholeLaws.{geometry_kept}
+use Rattle.vol_change.specs.Ready.{free_in}
+use Rattle.vol_volume.specs.Journal.{MayAnswer, Refuses}
+use Rattle.vol_volume.specs.Performing.{IsPerformed}
+use Rattle.vol_volume.specs.Step.{step}
+use Rattle.vol_volume.specs.Verdict.{verdict}
+use Rattle.vol_volume.specs.Volume.{Mounted, reads_as, is_changeable, SameElsewhere, IsConsistent, Performs, Accepts}
+use Rattle.vol_volume.proofs.Journals.{kept_consistent}
+use Rattle.vol_volume.proofs.Refusals.{refused_so}
+use Rattle.vol_dir.specs.declared.refusal.Refusal.{Refusal}
+use Rattle.vol_dir.specs.declared.refusal.Refusal.TheVariants as refusals
+use Rattle.vol_volume.specs.declared.calls.Call.{Call}
+use Rattle.vol_volume.specs.declared.calls.Done.{Done}
+use Rattle.vol_volume.specs.declared.calls.Record.{Record}
+
+-- the bytes that no call changes
+same_elsewhere : (geometry : Geometry) (old new : List ℕ) → geometry ≡ geometry_of geometry.edition old → StaysAround geometry old new
+    → SameElsewhere geometry.edition old new
+same_elsewhere geometry old new sizes around = record {
+  len = around.len;
+  same = λ k stays.
+      let head = free_head geometry.edition in
+      let time = time_place geometry.edition in
+      let end : geometry.zone_end ≡ block_count geometry.edition old = ap (λ (g : Geometry). g.zone_end) sizes in
+      let parts = or_parts (nat_le head k && nat_lt k (head + 404)) _ stays in
+      let rest = or_parts (nat_le time k && nat_lt k (time + 4)) _ parts.1 in
+      elim (and_cases (nat_le head k) (nat_lt k (head + 404)) parts.0) [
+        | inl a ↦ around.before k (grind (arith, nat_tests, a))
+        | inr b ↦
+            let past : head + 404 ≤ k = grind (arith, nat_tests, b) in
+            elim (and_cases (nat_le time k) (nat_lt k (time + 4)) rest.0) [
+              | inl c ↦ around.flags k past (grind (arith, nat_tests, c))
+              | inr d ↦
+                  let after : time + 4 ≤ k = grind (arith, nat_tests, d) in
+                  elim (and_cases (nat_le 1024 k) (nat_lt k (512 * block_count geometry.edition old)) rest.1) [
+                    | inl e ↦ around.rest k after (grind (arith, nat_tests, e))
+                    | inr f ↦
+                        let high : 512 * block_count geometry.edition old ≤ k = grind (arith, nat_tests, f) in
+                        around.behind k (omega (arith, high, end))
+                  ]
+            ]
+      ];
+}
+
+-- the image has become what the call makes of it
+pub performs : (geometry : Geometry) (old new : List ℕ) (call : Call) (done : Done) (free : ℕ) → geometry ≡ geometry_of geometry.edition old
+    → IsPerformed geometry old new call done free → Performs geometry.edition old new call done
+performs geometry old new call done free sizes performed =
+    let kept = geometry_kept geometry old new performed.changes.around in
+    record {
+      answered = subst (λ g. MayAnswer (state g old) call done) sizes performed.answered;
+      makes = ap (λ g. state g new) (kept ∙ sym sizes) ∙ performed.changes.makes ∙ ap (λ g. step (state g old) call done) sizes;
+      sound = performed.changes.ready.sound;
+      sizes = kept;
+      elsewhere = same_elsewhere geometry old new sizes performed.changes.around;
+    }
+
+-- a volume of some fields
+abbrev pub volume_of : Edition → List ℕ → List ℕ → List Record → Mounted
+volume_of edition image base journal = record { edition = edition; image = image; base = base; journal = journal }
+
+module _ (geometry : Geometry) (old new base : List ℕ) (journal : List Record) (call : Call) (done : Done) (free : ℕ)
+    (sizes : geometry ≡ geometry_of geometry.edition old) (accepted : verdict (state geometry old) call ≡ None)
+    (performed : IsPerformed geometry old new call done free) where
+  -- the call was accepted, made and recorded
+  pub accepts : Accepts (volume_of geometry.edition old base journal)
+      (volume_of geometry.edition new base (journal ++ record { call = call; done = done } ∷ [])) call done
+  accepts = record {
+    accepted = subst (λ g. verdict (state g old) call ≡ None) sizes accepted;
+    performed = performs geometry old new call done free sizes performed;
+    edition = refl;
+    base = refl;
+    journal = refl;
+  }
+
+  -- so the volume is consistent still
+  pub consistent : IsConsistent (volume_of geometry.edition old base journal)
+      → IsConsistent (volume_of geometry.edition new base (journal ++ record { call = call; done = done } ∷ []))
+  consistent was = kept_consistent _ _ call done was accepts
+
+-- the number of free blocks, of the image
+pub counted : (geometry : Geometry) (image : List ℕ) → free_in (state geometry image) ≡ free_count geometry (shapes geometry image)
+unfolding tree
+counted geometry image = refl
+
+-- the number of free blocks of an image that was performed on
+counts_new : (geometry : Geometry) (old new : List ℕ) (call : Call) (done : Done) (free : ℕ) → IsPerformed geometry old new call done free
+    → free ≡ free_count geometry (shapes geometry new)
+counts_new geometry old new call done free performed = performed.counted ∙ counted geometry new
+
+-- what every volume keeps of its fields
+pub fields_kept : (geometry : Geometry) (old new base : List ℕ) (journal longer : List Record) (call : Call) (done : Done) (free : ℕ)
+    → geometry ≡ geometry_of geometry.edition old → verdict (state geometry old) call ≡ None → IsPerformed geometry old new call done free
+    → longer ≡ journal ++ record { call = call; done = done } ∷ [] → IsConsistent (volume_of geometry.edition old base journal)
+    → (geometry ≡ geometry_of geometry.edition new) × IsConsistent (volume_of geometry.edition new base longer)
+    × (free ≡ free_count geometry (shapes geometry new))
+fields_kept geometry old new base journal longer call done free sizes accepted performed appended was =
+    (performed.changes.ready.sizes,
+    subst (λ records. IsConsistent (volume_of geometry.edition new base records)) (sym appended)
+    (consistent geometry old new base journal call done free sizes accepted performed was),
+    counts_new geometry old new call done free performed)
+
+-- the call was accepted, whatever the record of it is read as
+pub fields_accepted : (geometry : Geometry) (old new base : List ℕ) (journal longer : List Record) (call : Call) (done : Done) (free : ℕ)
+    → geometry ≡ geometry_of geometry.edition old → verdict (state geometry old) call ≡ None → IsPerformed geometry old new call done free
+    → longer ≡ journal ++ record { call = call; done = done } ∷ []
+    → Accepts (volume_of geometry.edition old base journal) (volume_of geometry.edition new base longer) call done
+fields_accepted geometry old new base journal longer call done free sizes accepted performed appended =
+    subst (λ records. Accepts (volume_of geometry.edition old base journal) (volume_of geometry.edition new base records) call done) (sym appended)
+    (accepts geometry old new base journal call done free sizes accepted performed)
+
+-- a call that is refused is so of what the image reads as
+pub refused : (geometry : Geometry) (image : List ℕ) (call : Call) (refusal : Refusal) → geometry ≡ geometry_of geometry.edition image
+    → verdict (state geometry image) call ≡ Some refusal → Refuses (reads_as geometry.edition image) call refusal
+refused geometry image call refusal sizes says =
+    refused_so (reads_as geometry.edition image) call refusal (subst (λ g. verdict (state g image) call ≡ Some refusal) sizes says)
+
+-- and one that is refused for want of memory was accepted
+pub refused_memory : (geometry : Geometry) (image : List ℕ) (call : Call) → geometry ≡ geometry_of geometry.edition image
+    → verdict (state geometry image) call ≡ None → Refuses (reads_as geometry.edition image) call refusals.NoMemory
+refused_memory geometry image call sizes accepted = subst (λ g. verdict (state g image) call ≡ None) sizes accepted
+
+-- a call that what the image reads as accepts is accepted
+pub accepted_back : (geometry : Geometry) (image : List ℕ) (call : Call) → geometry ≡ geometry_of geometry.edition image
+    → verdict (reads_as geometry.edition image) call ≡ None → verdict (state geometry image) call ≡ None
+accepted_back geometry image call sizes accepted = subst (λ g. verdict (state g image) call ≡ None) (sym sizes) accepted

@@ -2,6 +2,8 @@
 # Times the program against bench/plain, which does the same jobs in plain Rust, and compares what both write, byte by byte.
 # Usage: bench/run.sh PROGRAM. It needs rustc, some 900 MB of disk, and a machine that does nothing else.
 # Times are the best of five runs of the whole command, by turns; memory is the greatest that was resident in a run.
+# For jobs that mount a volume, the last column is that memory by two copies of the image and one of the file that is put.
+# A row ends with what it is above, where it is above what is wanted.
 # FOLDER names another place for the files than bench/out: one in memory shows the programs without the disk.
 set -uo pipefail
 export LC_ALL=C
@@ -15,16 +17,21 @@ mkdir -p "$bench/out" "${FOLDER:=$bench/out}"
 plain=$bench/out/plain
 rustc -O --edition 2021 "$bench/plain/main.rs" -o "$plain" || exit 1
 cd "$FOLDER" || exit 1
+trap 'rm -f ours theirs output made.img work.img full.img six.img seven.img big' EXIT
 
-# The sample volumes: a file of 16,000,000 bytes in one of the sixth edition, and one of 200,000,000 in one of the seventh.
-"$plain" sample 6 six.img 33000 100 16000000 || exit 1
-"$plain" sample 7 seven.img 400000 100 200000000 || exit 1
+# reset: puts the files back that a command changes; `base` names the image of which it is given a copy, if it is
+base=
+reset() {
+    rm -f made.img work.img
+    if [ -n "$base" ]; then
+        cp --reflink=auto "$base" work.img && sync work.img || exit 1
+    fi
+}
 
 # microseconds FILE WORD..: runs a command, its output in FILE, and leaves the microseconds that it took in `taken`
 microseconds() {
     local file=$1 begin end
     shift
-    rm -f "$file" made.img
     begin=${EPOCHREALTIME/./}
     "$@" > "$file" || exit 1
     end=${EPOCHREALTIME/./}
@@ -33,7 +40,6 @@ microseconds() {
 
 # kilobytes WORD..: runs a command, and leaves the greatest memory that was resident, in kilobytes, in `resident`
 kilobytes() {
-    rm -f made.img
     if [ -x /usr/bin/time ]; then
         resident=$(/usr/bin/time -f %M "$@" 2>&1 > /dev/null | tail -n 1)
     else
@@ -44,34 +50,59 @@ print(os.wait4(child, 0)[2].ru_maxrss)' "$@")
     fi
 }
 
-# compare LABEL OUTPUT WORD..: both programs do a job, whose result stands in the file OUTPUT; a row of the table
+# compare LABEL TIMES COPIES RESULT WORD..: both programs do a job, whose result stands in the file RESULT; a row of the
+# table. It is to take at most so many TIMES plain Rust's time, and memory for COPIES bytes and a tenth more (0 for any).
 compare() {
-    local label=$1 output=$2 ours=999999999 theirs=999999999 ours_resident
-    shift 2
+    local label=$1 times=$2 copies=$3 result=$4 ours=999999999 theirs=999999999 ours_resident
+    shift 4
     for _ in 1 2 3 4 5; do
+        reset
         microseconds output "$program" "$@"
         [ "$taken" -lt "$ours" ] && ours=$taken
-        mv "$output" ours
+        mv "$result" ours
+        reset
         microseconds output "$plain" "$@"
         [ "$taken" -lt "$theirs" ] && theirs=$taken
-        mv "$output" theirs
+        mv "$result" theirs
         if ! cmp ours theirs; then
             echo "bench: $label: the two programs differ" >&2
             exit 1
         fi
     done
+    reset
     kilobytes "$program" "$@"
     ours_resident=$resident
+    reset
     kilobytes "$plain" "$@"
-    awk -v label="$label" -v ours="$ours" -v theirs="$theirs" -v a="$ours_resident" -v b="$resident" 'BEGIN {
-        printf "%-34s %9.1f %9.1f %6.2f %9.1f %9.1f %6.2f\n", label,
-            ours / 1000, theirs / 1000, ours / theirs, a / 1024, b / 1024, a / b }'
+    awk -v label="$label" -v times="$times" -v copies="$copies" -v ours="$ours" -v theirs="$theirs" \
+        -v a="$ours_resident" -v b="$resident" 'BEGIN {
+        printf "%-34s %9.1f %9.1f %6.2f %9.1f %9.1f %6.2f", label,
+            ours / 1000, theirs / 1000, ours / theirs, a / 1024, b / 1024, a / b
+        if (copies > 0) printf " %6.2f", a * 1024 / copies
+        if (times > 0 && ours > times * theirs) printf "  time above %s", times
+        if (copies > 0 && a * 1024 > 1.1 * copies) printf "  memory above 1.1"
+        printf "\n" }'
 }
 
 echo "load before: $(cut -d ' ' -f 1-3 /proc/loadavg)"
-printf '%-34s %9s %9s %6s %9s %9s %6s\n' job 'ms' 'plain ms' ratio 'MiB' 'plain MiB' ratio
-compare 'cat 16,000,000 bytes, edition 6' output cat 6 six.img 2
-compare 'cat 200,000,000 bytes, edition 7' output cat 7 seven.img 3
-compare 'mkfs 340,670 blocks, edition 7' made.img mkfs 7 made.img 340670 2000 0 0 173750400
+printf '%-34s %9s %9s %6s %9s %9s %6s %6s\n' job 'ms' 'plain ms' ratio 'MiB' 'plain MiB' ratio copies
+
+# A file of 16,000,000 bytes in a volume of the sixth edition, and one of 200,000,000 in one of the seventh.
+"$plain" sample 6 six.img 33000 100 16000000 || exit 1
+"$plain" sample 7 seven.img 400000 100 200000000 || exit 1
+compare 'cat 16,000,000 bytes, edition 6' 0 0 output cat 6 six.img 2
+compare 'cat 200,000,000 bytes, edition 7' 0 0 output cat 7 seven.img 3
+compare 'mkfs 340,670 blocks, edition 7' 0 0 made.img mkfs 7 made.img 340670 2000 0 0 173750400
+rm -f ours theirs six.img seven.img
+
+# A volume of 340,670 blocks with 10,000 files, and 100,000,000 bytes that are put into it as a further file.
+"$plain" fill 7 full.img 340670 1263 10000 || exit 1
+head -c 100000000 /dev/urandom > big || exit 1
+image=$(stat -c %s full.img)
+compare 'ls /, among 10,000 files' 2 $((2 * image)) output ls 7 full.img /
+compare 'ls /many, 5,002 names' 2 $((2 * image)) output ls 7 full.img /many
+base=full.img
+compare 'put 100,000,000 bytes' 1.5 $((2 * image + 100000000)) work.img put 7 work.img /big big 173750500
+mv theirs full.img
+compare 'rm 100,000,000 bytes' 1.5 $((2 * image)) work.img rm 7 work.img /big 173750600
 echo "load after: $(cut -d ' ' -f 1-3 /proc/loadavg)"
-rm -f ours theirs output made.img six.img seven.img

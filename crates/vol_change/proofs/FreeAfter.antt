@@ -25,7 +25,7 @@ use Rattle.vol_change.specs.Ready.{IsReady, entry_need, free_in}
 use Rattle.vol_change.proofs.ReadyLaws.{ready_whole}
 
 -- a directory with one more entry takes the blocks that the entry needs
-entry_takes : (geometry : Geometry) (shapes : ℕ → Shape) (d : ℕ) (name : List ℕ) → 1 ≤ d → d ≤ geometry.last_inode
+pub entry_takes : (geometry : Geometry) (shapes : ℕ → Shape) (d : ℕ) (name : List ℕ) → 1 ≤ d → d ≤ geometry.last_inode
     → free_count geometry (set_at shapes d (shape_with_entry geometry.edition (shapes d) name))
     ≡ free_count geometry shapes - need_in geometry.edition (shapes d) (entry_blocks (shapes d))
 entry_takes geometry shapes d name first last =

@@ -1,2 +1,16 @@
+pub mod CallSteps
+pub mod DotGraphs
+pub mod DotImages
+pub mod DotRooms
+pub mod DotStates
+pub mod EntryNodes
 pub mod FreeAfter
+pub mod FreeKinds
+pub mod LeftGraphs
+pub mod LeftNodes
+pub mod MadeDirectories
+pub mod NamedNodes
+pub mod NodeEdits
+pub mod NodeLinks
 pub mod ReadyLaws
+pub mod SideStates

@@ -1,5 +1,5 @@
 -- An i-node with other links and times, of which the edition has all that it needs.
-use Rattle.std.proofs.Common.{◌≡◌, ◌∙◌, sym, ap, subst, refl, ℕ, ◌+◌, ◌<◌, ◌≤◌, List, slice_index, Option, None, Some, IsSome, arith}
+use Rattle.std.proofs.Common.{◌≡◌, ◌∙◌, sym, ap, subst, ℕ, ◌+◌, ◌<◌, ◌≤◌, List, slice_index, Option, None, Some, IsSome, arith}
 use Rattle.std.specs.Option.{option_map}
 use Rattle.vol_layout.specs.Edition.{constants}
 use Rattle.vol_layout.specs.Inode.{inode_of, IsStorable}

@@ -1,11 +1,11 @@
 -- What an i-node reads as: it stays where its mode, size and addresses do, its body, and what its places name.
-use Rattle.std.proofs.Common.{◌≡◌, ◌≢◌, ◌∙◌, sym, ap, subst, refl, ℕ, ◌+◌, ◌-◌, ◌*◌, ◌/◌, ◌<◌, ◌≤◌, ◌==◌, ◌&&◌, nat_lt, nat_le, min, Bool, true, false, if◌then◌else◌, not, List, [], ◌∷◌, map, Option, None, Some, inl, inr}
+use Rattle.std.proofs.Common.{◌≡◌, ◌∙◌, ap, refl, ℕ, ◌*◌, ◌/◌, ◌≤◌, ◌==◌, ◌&&◌, nat_lt, min, true, false, if◌then◌else◌, not, List, [], ◌∷◌, map, None, Some}
 use Rattle.std.specs.List.{range_with_len}
 use Rattle.std.specs.Option.{option_map}
-use Rattle.std.proofs.lemmas.Bool.{and_parts, and_from, leb-true, le-leb, ltb-true}
+use Rattle.std.proofs.lemmas.Bool.{and_parts, leb-true, ltb-true}
 use Rattle.vol_layout.specs.Edition.{constants}
 use Rattle.vol_layout.specs.Inode.{inode_of, kind_of, is_large}
-use Rattle.vol_layout.specs.Names.{mode_of, form_at, IsFile, IsPlaceOf, named}
+use Rattle.vol_layout.specs.Names.{mode_of, form_at, IsFile}
 use Rattle.vol_layout.specs.Body.{body}
 use Rattle.vol_layout.specs.Places.{form_of, has_places, IsPlace, first_count, pointer_count, levels_below}
 use Rattle.vol_layout.specs.Slot.{slot_at}
@@ -13,12 +13,12 @@ use Rattle.vol_layout.specs.declared.geometry.Geometry.{Geometry}
 use Rattle.vol_layout.specs.declared.mode.Kind.{Kind}
 use Rattle.vol_layout.specs.declared.mode.Kind.TheVariants as kinds
 use Rattle.vol_layout.specs.declared.places.Form.{Form}
-use Rattle.vol_file.specs.Rules.{size_of, kind_at}
+use Rattle.vol_file.specs.Rules.{kind_at}
 use Rattle.vol_file.specs.Shape.{is_named}
 use Rattle.vol_dir.specs.Entries.{entry_in, entry_at, slots, slot_count}
 use Rattle.vol_dir.specs.Names.{names_of, names_in}
 use Rattle.vol_node.specs.Alone.{KeepsContent}
-use Rattle.vol_dir.specs.Tree.{Content, Body, Directory, Device, Node, Shape, content_of, node_with, node_of, shape_of, is_place, is_named_place}
+use Rattle.vol_dir.specs.Tree.{Body, Directory, Device, content_of, node_with, node_of, shape_of, is_place, is_named_place}
 
 -- the kind stays
 pub kind_same : (geometry : Geometry) (old new : List ℕ) (i : ℕ) → KeepsContent geometry old new i

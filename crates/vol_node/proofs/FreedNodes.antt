@@ -1,17 +1,16 @@
 -- A node that goes: its file is truncated, and its i-node cleared.
-use Rattle.std.proofs.Common.{◌≡◌, ◌≢◌, ◌∙◌, sym, ap, refl, subst, ℕ, ◌+◌, ◌*◌, ◌<◌, ◌≤◌, ◌++◌, true, false, if◌then◌else◌, List, slice_index, Option, None, Some, inl, inr, arith}
+use Rattle.std.proofs.Common.{◌≡◌, ◌∙◌, sym, ap, ℕ, ◌+◌, ◌<◌, ◌≤◌, ◌++◌, false, if◌then◌else◌, List, slice_index, None, inl, inr, arith}
 use Rattle.std.specs.Option.{option_map}
 use Rattle.std.proofs.lemmas.Bool.{cases_lt, lt-ltb, le-ltb, false≢true}
 use Rattle.pdp_words.proofs.Outside.{unchanged}
 use Rattle.pdp_words.specs.Words.{word, SameOutside}
 use Rattle.vol_layout.specs.Edition.{constants}
 use Rattle.vol_layout.specs.Inode.{inode_of, inode_place, kind_of}
-use Rattle.vol_layout.specs.Names.{mode_of, IsFile, IsPlaceOf, named}
+use Rattle.vol_layout.specs.Names.{mode_of, IsPlaceOf, named}
 use Rattle.vol_layout.specs.Places.{has_places}
 use Rattle.vol_layout.specs.declared.edition.Edition.{Edition}
 use Rattle.vol_layout.specs.declared.edition.Edition.TheVariants.{V6, V7}
 use Rattle.vol_layout.specs.declared.geometry.Geometry.{Geometry}
-use Rattle.vol_layout.specs.declared.mode.Kind.{Kind}
 use Rattle.vol_layout.specs.declared.mode.Kind.TheVariants as kinds
 use Rattle.vol_layout.proofs.InodeLaws.{place_from, place_room}
 use Rattle.vol_layout.proofs.KindLaws.{kind_zero}
@@ -23,11 +22,11 @@ use Rattle.vol_file.specs.Changes.{Truncates, blocks_of}
 use Rattle.vol_dir.specs.Tree.{no_shape, content_of, node_with, node_of, shape_of, state}
 use Rattle.vol_judge.specs.Graph.{graph_of}
 use Rattle.vol_judge.proofs.ImageGraphs.{kind_inside}
-use Rattle.vol_node.specs.Alone.{KeepsNode, ChangesOnly}
+use Rattle.vol_node.specs.Alone.{ChangesOnly}
 use Rattle.vol_node.specs.Edits.{remove_node}
 use Rattle.vol_node.specs.NodeGraphs.{DropsNode}
 use Rattle.vol_node.specs.Whole.{IsWhole, Keeps}
-use Rattle.vol_node.proofs.NewRules.{ChangesBare, bare_whole}
+use Rattle.vol_node.proofs.NewRules.{bare_whole}
 use Rattle.vol_node.proofs.OneNode.{only_file, only_inode, only_then, cache_node, cache_only, cache_keeps, only_makes, only_graph, only_links}
 
 -- a truncation keeps the rules

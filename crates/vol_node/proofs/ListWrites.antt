@@ -1,22 +1,20 @@
 -- What writes below the data zone, of the super-block's time or of one i-node, leave of the nodes.
-use Rattle.std.proofs.Common.{◌≡◌, ◌≢◌, ◌∙◌, sym, ap, refl, ℕ, ◌+◌, ◌*◌, ◌<◌, ◌≤◌, List, Option, None, Some, get_or, min, inl, inr, arith}
+use Rattle.std.proofs.Common.{◌≡◌, ◌≢◌, ◌∙◌, sym, ap, refl, ℕ, ◌+◌, ◌*◌, ◌≤◌, List, Option, None, Some, get_or, min, inl, inr, arith}
 use Rattle.std.specs.Option.{option_map}
 use Rattle.std.proofs.lemmas.Bool.{cases_eq}
 use Rattle.pdp_words.specs.Words.{long, SameOutside}
 use Rattle.vol_layout.specs.Edition.{constants}
 use Rattle.vol_layout.specs.Geometry.{Fits}
 use Rattle.vol_layout.specs.Inode.{inode_of, inode_place}
-use Rattle.vol_layout.specs.Names.{mode_of, IsFile}
+use Rattle.vol_layout.specs.Names.{mode_of}
 use Rattle.vol_layout.specs.Places.{form_of, has_places}
 use Rattle.vol_layout.specs.Super.{time_place}
 use Rattle.vol_layout.specs.declared.geometry.Geometry.{Geometry}
 use Rattle.vol_layout.specs.declared.i_node.Inode.{Inode}
-use Rattle.vol_layout.specs.declared.mode.Kind.TheVariants as kinds
 use Rattle.vol_layout.proofs.CopyLaws.{copy_above, copy_below, long_copied}
 use Rattle.vol_layout.proofs.InodeLaws.{KeepsInode, inode_apart, inode_mode, inode_size, inode_address, mode_kept, size_kept, inode_of_kept, place_from, place_room}
 use Rattle.vol_layout.proofs.FrameLaws.{KeepsPlaces, named_list_kept, body_byte_list_kept}
 use Rattle.vol_layout.proofs.BodyLaws.{same_body}
-use Rattle.vol_free.specs.Stack.{IsFree}
 use Rattle.vol_free.proofs.Frames.{IsFree-before_zone}
 use Rattle.vol_file.specs.Rules.{size_of, kind_at}
 use Rattle.vol_dir.specs.Entries.{IsDirectory, entry_at}
@@ -28,9 +26,9 @@ use Rattle.vol_judge.proofs.ImageGraphs.{directory_from, inside_from}
 use Rattle.vol_node.specs.Edits.{at_time, change_node}
 use Rattle.vol_node.specs.NodeGraphs.{SetsLinks}
 use Rattle.vol_node.specs.Alone.{KeepsContent}
-use Rattle.vol_node.specs.Whole.{IsWhole, StaysAround, Keeps}
+use Rattle.vol_node.specs.Whole.{IsWhole, Keeps}
 use Rattle.vol_node.proofs.Contents.{kind_same, entry_same, shape_same, node_same, node_of_content}
-use Rattle.vol_node.proofs.States.{node_here, shape_at, ChangesNode, makes_node, makes_time}
+use Rattle.vol_node.proofs.States.{node_here, makes_node, makes_time}
 use Rattle.vol_node.proofs.WholeLaws.{whole_kept, around_list, zone_behind, super_order}
 
 -- a write below the data zone keeps what i-node i stands for, where its mode, size and addresses stay

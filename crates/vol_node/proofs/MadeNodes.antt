@@ -1,14 +1,14 @@
 -- A new node: its i-node was free, and names nothing.
-use Rattle.std.proofs.Common.{◌≡◌, ◌≢◌, ◌∙◌, sym, ap, refl, subst, ℕ, ◌+◌, ◌-◌, ◌*◌, ◌/◌, ◌<◌, ◌≤◌, ◌&&◌, ◌==◌, min, not, Bool, true, false, List, [], ◌∷◌, length, map, get_or, Option, None, Some, inl, inr, arith}
+use Rattle.std.proofs.Common.{◌≡◌, ◌≢◌, ◌∙◌, sym, ap, refl, ℕ, ◌+◌, ◌/◌, ◌<◌, ◌≤◌, ◌&&◌, ◌==◌, min, not, true, false, List, [], ◌∷◌, map, get_or, Some, arith}
 use Rattle.std.specs.List.{range_with_len}
 use Rattle.std.specs.Option.{option_map}
-use Rattle.std.proofs.lemmas.Bool.{true≢false, false≢true}
+use Rattle.std.proofs.lemmas.Bool.{false≢true}
 use Rattle.pdp_words.specs.Words.{SameOutside}
 use Rattle.vol_layout.specs.Edition.{constants}
-use Rattle.vol_layout.specs.Inode.{inode_of, inode_place, kind_of, is_large, address_count}
-use Rattle.vol_layout.specs.Names.{mode_of, form_at, IsFile, IsPlaceOf, named}
+use Rattle.vol_layout.specs.Inode.{inode_of, inode_place, kind_of, is_large}
+use Rattle.vol_layout.specs.Names.{mode_of, form_at, IsPlaceOf, named}
 use Rattle.vol_layout.specs.Body.{body, body_byte}
-use Rattle.vol_layout.specs.Places.{form_of, has_places, first_count}
+use Rattle.vol_layout.specs.Places.{has_places, first_count}
 use Rattle.vol_layout.specs.declared.geometry.Geometry.{Geometry}
 use Rattle.vol_layout.specs.declared.i_node.Inode.{Inode}
 use Rattle.vol_layout.specs.declared.mode.Kind.{Kind}
@@ -24,18 +24,17 @@ use Rattle.vol_file.proofs.Fronts.{front_zero}
 use Rattle.vol_file.proofs.PlaceLists.{front_first}
 use Rattle.vol_dir.specs.Entries.{entry_at, slots, slot_count}
 use Rattle.vol_dir.specs.Names.{names_of, names_in}
-use Rattle.vol_dir.specs.Tree.{Content, Body, Directory, Shape, no_shape, content_of, node_with, node_of, shape_of, is_place, is_named_place, state}
+use Rattle.vol_dir.specs.Tree.{Content, Body, Directory, no_shape, content_of, node_with, node_of, shape_of, is_place, is_named_place, state}
 use Rattle.vol_dir.proofs.SlotReading.{entry_at_past}
 use Rattle.vol_judge.specs.Graph.{graph_of}
 use Rattle.vol_judge.proofs.ImageGraphs.{kind_inside, empty_by}
-use Rattle.vol_node.specs.Alone.{KeepsNode, ChangesOnly}
+use Rattle.vol_node.specs.Alone.{ChangesOnly}
 use Rattle.vol_node.specs.Edits.{put_node, put_shape}
 use Rattle.vol_node.specs.NodeGraphs.{AddsNode}
 use Rattle.vol_node.specs.Whole.{IsWhole, Keeps}
 use Rattle.vol_node.proofs.Contents.{test_place}
-use Rattle.vol_node.proofs.NewRules.{ChangesBare, bare_whole}
+use Rattle.vol_node.proofs.NewRules.{bare_whole}
 use Rattle.vol_node.proofs.OneNode.{only_inode, only_makes, only_graph, only_links}
-use Rattle.vol_node.proofs.States.{shape_at}
 
 -- i-node i, which was free, is that of a file with nothing in it, and no other byte has changed
 pub record MakesInode (geometry : Geometry) (old new : List ℕ) (i : ℕ) (node : Inode) : Type 0 where

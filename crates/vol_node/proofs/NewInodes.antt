@@ -1,6 +1,6 @@
 -- The i-node of a new node: it can be stored, and reads as what was asked for.
-use Rattle.std.proofs.Common.{◌≡◌, ◌∙◌, sym, ap, refl, subst, ℕ, ◌+◌, ◌%◌, ◌<◌, ◌≤◌, true, false, List, get_or, slice_index, Option, None, Some, IsSome, rules, arith}
-use Rattle.pdp_words.specs.Words.{word, SameOutside}
+use Rattle.std.proofs.Common.{◌≡◌, ◌∙◌, sym, ap, subst, ℕ, ◌+◌, ◌%◌, ◌<◌, ◌≤◌, true, false, List, slice_index, IsSome, rules, arith}
+use Rattle.pdp_words.specs.Words.{SameOutside}
 use Rattle.pdp_words.proofs.Outside.{join}
 use Rattle.vol_layout.specs.Edition.{constants}
 use Rattle.vol_layout.specs.Inode.{inode_of, inode_place, kind_of, is_large, IsStorable}
@@ -11,12 +11,11 @@ use Rattle.vol_layout.specs.declared.edition.Edition.TheVariants.{V6, V7}
 use Rattle.vol_layout.specs.declared.geometry.Geometry.{Geometry}
 use Rattle.vol_layout.specs.declared.i_node.Inode.{Inode}
 use Rattle.vol_layout.specs.declared.mode.Mode.{Mode}
-use Rattle.vol_layout.specs.declared.mode.Kind.{Kind}
 use Rattle.vol_free.specs.Numbers.{IsFreeNumber}
 use Rattle.vol_dir.specs.Tree.{Content, node_with}
 use Rattle.vol_dir.specs.declared.cred.Cred.{Cred}
 use Rattle.vol_node.specs.Inodes.{IsNewInode}
-use Rattle.vol_node.specs.Edits.{first_change, new_node}
+use Rattle.vol_node.specs.Edits.{new_node}
 use Rattle.vol_node.proofs.MadeNodes.{MakesInode}
 
 -- one link or two are within the limit

@@ -1,22 +1,20 @@
 -- Changes of one node alone: one after another, and what all others keep.
-use Rattle.std.proofs.Common.{◌≡◌, ◌≢◌, ◌∙◌, sym, ap, refl, subst, ℕ, ◌+◌, ◌*◌, ◌<◌, ◌≤◌, List, [], Option, None, Some, slice_index, inl, inr, arith}
-use Rattle.std.proofs.lemmas.Bool.{cases_eq, cases_lt}
-use Rattle.pdp_words.specs.Words.{word, long, SameOutside}
+use Rattle.std.proofs.Common.{◌≡◌, ◌≢◌, ◌∙◌, sym, ap, refl, subst, ℕ, ◌+◌, ◌≤◌, List, Option, None, Some, inl, inr, arith}
+use Rattle.std.proofs.lemmas.Bool.{cases_lt}
+use Rattle.pdp_words.specs.Words.{long, SameOutside}
 use Rattle.vol_layout.specs.Edition.{constants}
 use Rattle.vol_layout.specs.Geometry.{Fits}
-use Rattle.vol_layout.specs.Inode.{inode_of, inode_place, kind_of}
-use Rattle.vol_layout.specs.Names.{mode_of, form_at, IsFile, IsPlaceOf, named}
+use Rattle.vol_layout.specs.Inode.{inode_place, kind_of}
+use Rattle.vol_layout.specs.Names.{mode_of, IsPlaceOf}
 use Rattle.vol_layout.specs.Places.{form_of, has_places, IsPlace}
 use Rattle.vol_layout.specs.Super.{free_head, cache_head, time_place}
 use Rattle.vol_layout.specs.declared.geometry.Geometry.{Geometry}
 use Rattle.vol_layout.specs.declared.mode.Kind.TheVariants as kinds
-use Rattle.vol_layout.proofs.CopyLaws.{IsCopy, copy_above, copy_below, long_copied}
+use Rattle.vol_layout.proofs.CopyLaws.{copy_above, copy_below, long_copied}
 use Rattle.vol_layout.proofs.InodeLaws.{KeepsInode, inode_apart, mode_kept, size_kept, inode_of_kept, place_apart, place_from, place_room}
 use Rattle.std.specs.Prelude.{IfSome}
 use Rattle.vol_free.specs.Numbers.{IsFreeNumber}
-use Rattle.vol_free.specs.Stack.{IsFree}
-use Rattle.vol_free.proofs.Frames.{IsFree-behind, IsFree-before_zone, free_from}
-use Rattle.vol_file.specs.Rules.{size_of, kind_at}
+use Rattle.vol_free.proofs.Frames.{IsFree-behind, free_from}
 use Rattle.vol_file.specs.Changes.{ChangesFileAlone}
 use Rattle.vol_dir.specs.Entries.{IsDirectory, entry_at}
 use Rattle.vol_dir.specs.Tree.{Node, Shape, node_of, tree, state}
@@ -25,11 +23,11 @@ use Rattle.vol_judge.specs.GraphEdits.{IsSameGraph, KeepsOthers}
 use Rattle.vol_judge.proofs.EditedGraphs.{same_graph, keeps_others}
 use Rattle.vol_judge.proofs.ImageGraphs.{inside_from}
 use Rattle.vol_node.specs.Alone.{KeepsContent, KeepsNode, ChangesOnly}
-use Rattle.vol_node.specs.Edits.{put_node, put_shape, at_time}
-use Rattle.vol_node.specs.Whole.{IsWhole, StaysAround, Keeps}
+use Rattle.vol_node.specs.Edits.{put_node, put_shape}
+use Rattle.vol_node.specs.Whole.{IsWhole, Keeps}
 use Rattle.vol_node.proofs.Contents.{kind_same, entry_same, shape_same, node_same}
 use Rattle.vol_node.proofs.ListWrites.{content_kept}
-use Rattle.vol_node.proofs.States.{shape_at, ChangesNode, makes_both, makes_time}
+use Rattle.vol_node.proofs.States.{shape_at, makes_both, makes_time}
 use Rattle.vol_node.proofs.WholeLaws.{around_then, around_list, super_order, whole_kept, zone_behind}
 
 -- a place of a file whose mode stays is one still

@@ -206,7 +206,7 @@ first_needed Large some small = absurd (small refl)
 first_needed Bare some small = absurd (some refl)
 
 -- the same of a file of an edition
-first_in : (edition : Edition) → need_in edition no_shape (0 ∷ []) ≡ 1
+pub first_in : (edition : Edition) → need_in edition no_shape (0 ∷ []) ≡ 1
 first_in V6 = first_needed Small (λ e. cc) (λ e. cc)
 first_in V7 = first_needed Deep (λ e. cc) (λ e. cc)
 

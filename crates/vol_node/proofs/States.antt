@@ -1,5 +1,5 @@
 -- States that agree in each node and each shape are equal; so a change of one node is the edit of the state.
-use Rattle.std.proofs.Common.{◌≡◌, ◌≢◌, ◌∙◌, sym, ap, refl, ℕ, ◌≤◌, ◌==◌, Bool, true, false, if◌then◌else◌, List, Option, None, Some, inl, inr, eq-eqb}
+use Rattle.std.proofs.Common.{◌≡◌, ◌≢◌, ◌∙◌, sym, ap, refl, ℕ, ◌≤◌, true, if◌then◌else◌, List, Option, None, inl, inr, eq-eqb}
 use Rattle.std.proofs.lemmas.Bool.{cases_Bool, cases_eq, ne_eqb, and_parts, and_from, leb-true, le-leb}
 use Rattle.pdp_words.specs.Words.{long}
 use Rattle.vol_layout.specs.Super.{time_place}

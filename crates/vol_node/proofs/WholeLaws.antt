@@ -1,22 +1,21 @@
 -- What keeps the rules from 1 to 8, and the bytes that no call changes.
-use Rattle.std.proofs.Common.{◌≡◌, ◌≢◌, ℕ, ◌+◌, ◌*◌, ◌<◌, ◌≤◌, ◌∙◌, sym, ap, subst, refl, List, length, slice_index, true, false, inl, inr, Ok, arith}
-use Rattle.std.proofs.lemmas.Bool.{cases_eq, false≢true}
-use Rattle.pdp_words.specs.Words.{word, long, SameOutside}
+use Rattle.std.proofs.Common.{◌≡◌, ◌≢◌, ℕ, ◌+◌, ◌*◌, ◌<◌, ◌≤◌, ◌∙◌, sym, ap, subst, refl, List, length, slice_index, inl, inr, Ok, arith}
+use Rattle.std.proofs.lemmas.Bool.{false≢true}
+use Rattle.pdp_words.specs.Words.{SameOutside}
 use Rattle.vol_layout.specs.Edition.{constants}
-use Rattle.vol_layout.specs.Geometry.{geometry_of, geometry_read, list_size, block_count, in_zone, Fits}
-use Rattle.vol_layout.specs.Inode.{inode_of, inode_place}
-use Rattle.vol_layout.specs.Names.{form_at, IsFile, IsPlaceOf, named, Names}
+use Rattle.vol_layout.specs.Geometry.{geometry_of, geometry_read, in_zone, Fits}
+use Rattle.vol_layout.specs.Inode.{inode_of}
+use Rattle.vol_layout.specs.Names.{IsFile, IsPlaceOf, named}
 use Rattle.vol_layout.specs.Places.{form_of, has_places, IsPlace}
 use Rattle.vol_layout.specs.Super.{free_head, cache_head, time_place}
 use Rattle.vol_layout.specs.declared.edition.Edition.{Edition}
 use Rattle.vol_layout.specs.declared.edition.Edition.TheVariants.{V6, V7}
 use Rattle.vol_layout.specs.declared.geometry.Geometry.{Geometry}
 use Rattle.vol_layout.specs.declared.mode.Kind.TheVariants as kinds
-use Rattle.vol_layout.proofs.InodeLaws.{place_from, place_room}
 use Rattle.vol_layout.proofs.NameLaws.{zero_out, named_holds, holds_named}
 use Rattle.vol_free.specs.Stack.{IsIn, IsFree}
 use Rattle.vol_free.proofs.Frames.{free_zone}
-use Rattle.vol_file.specs.Rules.{size_of, kind_at, HasKinds, HasSizes, IsSoundWith}
+use Rattle.vol_file.specs.Rules.{kind_at, HasKinds, HasSizes}
 use Rattle.vol_file.proofs.Alone.{fits_len}
 use Rattle.vol_file.proofs.Naming.{kinds_kept}
 use Rattle.vol_node.specs.Alone.{KeepsContent}

@@ -117,13 +117,15 @@ create_passed state cred now path perm d name none walked =
     let granted = passed _ _ _ fresh.1 in
     let great = passed _ _ _ granted.1 in
     let number = passed _ _ _ great.1 in
-    let room = passed _ _ _ number.1 in
-    (record {
-      user = first.user;
-      group = first.group;
-      takes = record { fresh = none_there (get (names_at state.tree d) name) fresh.0; greatest = below _ _ great.0 };
-      room = below _ _ room.0;
-    }, not_not (has_free_number state.tree) number.0)
+    let room = passed _ _ _ number.1 in (
+      record {
+        user = first.user;
+        group = first.group;
+        takes = record { fresh = none_there (get (names_at state.tree d) name) fresh.0; greatest = below _ _ great.0 };
+        room = below _ _ room.0;
+      },
+      not_not (has_free_number state.tree) number.0,
+    )
 
 -- a new directory
 pub mkdir_led : (state : State) (cred : Cred) (now : ℕ) (path : List ℕ) (perm : ℕ) → verdict state (Mkdir cred now path perm) ≡ None
@@ -147,13 +149,16 @@ mkdir_passed state cred now path perm d name none walked =
     let full = passed _ _ _ granted.1 in
     let great = passed _ _ _ full.1 in
     let number = passed _ _ _ great.1 in
-    let room = passed _ _ _ number.1 in
-    (record {
-      user = first.user;
-      group = first.group;
-      takes = record { fresh = none_there (get (names_at state.tree d) name) fresh.0; greatest = below _ _ great.0 };
-      room = below _ _ room.0;
-    }, not_not (has_free_number state.tree) number.0, above _ _ full.0)
+    let room = passed _ _ _ number.1 in (
+      record {
+        user = first.user;
+        group = first.group;
+        takes = record { fresh = none_there (get (names_at state.tree d) name) fresh.0; greatest = below _ _ great.0 };
+        room = below _ _ room.0;
+      },
+      not_not (has_free_number state.tree) number.0,
+      above _ _ full.0,
+    )
 
 -- a further name
 pub link_led : (state : State) (cred : Cred) (now : ℕ) (source target : List ℕ) → verdict state (Link cred now source target) ≡ None

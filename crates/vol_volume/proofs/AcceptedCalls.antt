@@ -104,11 +104,12 @@ pub fields_kept : (geometry : Geometry) (old new base : List ℕ) (journal longe
     → longer ≡ journal ++ record { call = call; done = done } ∷ [] → IsConsistent (volume_of geometry.edition old base journal)
     → (geometry ≡ geometry_of geometry.edition new) × IsConsistent (volume_of geometry.edition new base longer)
     × (free ≡ free_count geometry (shapes geometry new))
-fields_kept geometry old new base journal longer call done free sizes accepted performed appended was =
-    (performed.changes.ready.sizes,
-    subst (λ records. IsConsistent (volume_of geometry.edition new base records)) (sym appended)
-    (consistent geometry old new base journal call done free sizes accepted performed was),
-    counts_new geometry old new call done free performed)
+fields_kept geometry old new base journal longer call done free sizes accepted performed appended was = (
+  performed.changes.ready.sizes,
+  subst (λ records. IsConsistent (volume_of geometry.edition new base records)) (sym appended)
+      (consistent geometry old new base journal call done free sizes accepted performed was),
+  counts_new geometry old new call done free performed,
+)
 
 -- the call was accepted, whatever the record of it is read as
 pub fields_accepted : (geometry : Geometry) (old new base : List ℕ) (journal longer : List Record) (call : Call) (done : Done) (free : ℕ)

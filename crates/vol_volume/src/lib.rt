@@ -8,7 +8,6 @@ pub mod laws;
 pub mod making;
 mod performing;
 pub mod queries;
-mod stand_ins;
 mod verdicts;
 pub mod volume;
 

@@ -21,7 +21,6 @@ mod rmdir;
 mod unlink;
 
 use crate::calls::{Call, Done};
-use crate::stand_ins::NewNode;
 use crate::verdicts::asked::entry;
 use body::{truncate, write};
 use create::create;
@@ -30,6 +29,7 @@ use mkdir::mkdir;
 use pdp_words::Image;
 use rmdir::rmdir;
 use unlink::unlink;
+use vol_change::NewNode;
 use vol_dir::{Cred, walk, walk_parent};
 use vol_layout::Geometry;
 
@@ -88,7 +88,15 @@ pub(crate) fn perform(
             target,
         } => {
             let source = source.as_slice();
-            link(image, geometry, free, *cred, *now, source, target.as_slice())
+            link(
+                image,
+                geometry,
+                free,
+                *cred,
+                *now,
+                source,
+                target.as_slice(),
+            )
         }
         Call::Unlink { cred, now, path } => {
             unlink(image, geometry, free, *cred, *now, path.as_slice())

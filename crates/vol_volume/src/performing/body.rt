@@ -7,7 +7,6 @@ ghost use Rattle.vol_volume.specs.Verdict.{verdict};
 
 use crate::calls::{Call, Done};
 use crate::performing::{Performed, node, ready_stands};
-use crate::stand_ins;
 use pdp_words::Image;
 use vol_dir::Cred;
 use vol_file::need;
@@ -35,7 +34,7 @@ pub(crate) fn write(
     let i = node(image, geometry, cred, path);
     let len = bytes.len() as u32;
     let needed = need(image, geometry, i, offset, len);
-    stand_ins::write(image, geometry, i, offset, bytes, moment);
+    vol_change::write(image, geometry, i, offset, bytes, moment);
     Performed {
         done: Done::Wrote(len),
         free: free - needed,
@@ -60,7 +59,7 @@ pub(crate) fn truncate(
     ready_stands(image, geometry);
     let i = node(image, geometry, cred, path);
     let freed = block_count(image, geometry, i);
-    stand_ins::truncate(image, geometry, i, moment);
+    vol_change::truncate(image, geometry, i, moment);
     Performed {
         done: Done::Plain,
         free: free + freed,

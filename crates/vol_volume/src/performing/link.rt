@@ -7,7 +7,6 @@ ghost use Rattle.vol_volume.specs.Verdict.{verdict};
 
 use crate::calls::{Call, Done};
 use crate::performing::{Performed, node, parent, ready_stands};
-use crate::stand_ins;
 use crate::verdicts::asked::entry_need;
 use pdp_words::Image;
 use vol_dir::Cred;
@@ -33,7 +32,7 @@ pub(crate) fn link(
     let i = node(image, geometry, cred, source);
     let (dir, name) = parent(image, geometry, cred, target);
     let needed = entry_need(image, geometry, dir);
-    stand_ins::link(image, geometry, i, dir, name, moment);
+    vol_change::link(image, geometry, i, dir, name, moment);
     Performed {
         done: Done::Plain,
         free: free - needed,

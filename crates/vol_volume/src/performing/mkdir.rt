@@ -7,9 +7,9 @@ ghost use Rattle.vol_volume.specs.Verdict.{is_free_number, verdict};
 
 use crate::calls::{Call, Done};
 use crate::performing::{Performed, parent, ready_stands};
-use crate::stand_ins::{self, NewNode};
 use crate::verdicts::asked::entry_need;
 use pdp_words::Image;
+use vol_change::NewNode;
 use vol_layout::Geometry;
 
 /// Performs a call for a new directory.
@@ -32,7 +32,7 @@ pub(crate) fn mkdir(
     ready_stands(image, geometry);
     let (dir, name) = parent(image, geometry, new.owner, path);
     let needed = entry_need(image, geometry, dir);
-    let made = stand_ins::mkdir(image, geometry, new, dir, name, recorded);
+    let made = vol_change::mkdir(image, geometry, new, dir, name, recorded);
     Performed {
         done: Done::Made(made),
         free: free - 1 - needed,

@@ -7,7 +7,6 @@ ghost use Rattle.vol_volume.specs.Verdict.{verdict};
 
 use crate::calls::{Call, Done};
 use crate::performing::{Performed, named, parent, ready_stands};
-use crate::stand_ins;
 use pdp_words::Image;
 use vol_dir::Cred;
 use vol_layout::Geometry;
@@ -32,7 +31,7 @@ pub(crate) fn rmdir(
     let (dir, name) = parent(image, geometry, cred, path);
     let i = named(image, geometry, dir, name);
     let freed = block_count(image, geometry, i);
-    stand_ins::rmdir(image, geometry, dir, name, i, moment);
+    vol_change::rmdir(image, geometry, dir, name, i, moment);
     Performed {
         done: Done::Plain,
         free: free + freed,

@@ -10,7 +10,6 @@ ghost use Rattle.vol_volume.specs.Verdict.{verdict};
 
 use crate::calls::{Call, Done};
 use crate::performing::{Performed, named, parent, ready_stands};
-use crate::stand_ins;
 use pdp_words::Image;
 use vol_dir::Cred;
 use vol_layout::{Geometry, inode};
@@ -50,7 +49,7 @@ pub(crate) fn unlink(
     let (dir, name) = parent(image, geometry, cred, path);
     let i = named(image, geometry, dir, name);
     let freed = freed(image, geometry, i);
-    stand_ins::unlink(image, geometry, dir, name, i, moment);
+    vol_change::unlink(image, geometry, dir, name, i, moment);
     Performed {
         done: Done::Plain,
         free: free + freed,

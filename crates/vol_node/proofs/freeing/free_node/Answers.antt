@@ -1,4 +1,3 @@
-use Rattle.std.proofs.Common.{ℕ, List}
 use Rattle.vol_node.proofs.FreedNodes.{FreesNode, given_inside, freed_keeps, freed_makes, freed_graph}
 use Rattle.vol_node.proofs.freeing.free_node.Goals as goal
 use Rattle.vol_node.proofs.freeing.free_node.Goals.{After-give_inode}

@@ -1,4 +1,4 @@
-use Rattle.std.proofs.Common.{◌≡◌, ◌∙◌, ap, subst, ℕ, ◌+◌, ◌-◌, List}
+use Rattle.std.proofs.Common.{◌∙◌, ap, subst, ◌+◌}
 use Rattle.vol_judge.specs.Graph.{graph_of}
 use Rattle.vol_node.specs.NodeGraphs.{SetsLinks}
 use Rattle.vol_node.proofs.OneLink.{link_more}

@@ -1,4 +1,4 @@
-use Rattle.std.proofs.Common.{◌≡◌, ◌∙◌, ap, subst, refl, ℕ, ◌≤◌, List, [], Some, slice_index, arith}
+use Rattle.std.proofs.Common.{◌≡◌, ◌∙◌, ap, subst, [], Some, arith}
 use Rattle.vol_layout.specs.Inode.{kind_of}
 use Rattle.vol_layout.specs.Places.{has_places}
 use Rattle.vol_layout.specs.declared.mode.Kind.TheVariants as kinds

@@ -1,0 +1,90 @@
+//! Sample volumes.
+
+use crate::volume::{Edition, Volume, BLOCK, SLOT};
+use crate::Outcome;
+
+/// The directories over which half of the files are spread.
+const FOLDERS: usize = 50;
+
+const MOMENT: usize = 173_750_400;
+
+/// Bytes that look random, the same in each run.
+struct Noise(u64);
+
+impl Noise {
+    fn new() -> Noise {
+        Noise(0x2545_f491_4f6c_dd1d)
+    }
+
+    fn number(&mut self) -> u64 {
+        self.0 ^= self.0 << 13;
+        self.0 ^= self.0 >> 7;
+        self.0 ^= self.0 << 17;
+        self.0 >> 32
+    }
+
+    fn fill(&mut self, bytes: &mut [u8]) {
+        for byte in bytes {
+            *byte = self.number() as u8;
+        }
+    }
+
+    /// The bytes of a file. Most files are small; few have double indirect blocks.
+    fn size(&mut self, index: usize) -> usize {
+        let most = match index % 500 {
+            0 => return 100_000,
+            1..=350 => 4_000,
+            351..=450 => 16_000,
+            _ => 40_000,
+        };
+        self.number() as usize % (most + 1)
+    }
+}
+
+impl Volume {
+    /// Makes a file `data` of so many bytes in the root directory, at the i-node after the root's.
+    pub fn put_file(&mut self, size: usize) -> Outcome<()> {
+        let root = self.layout.root;
+        let ino = root + 1;
+        self.put_inode(ino, 0o100644, 1, 0);
+        if self.edition == Edition::V6 {
+            self.put_large(ino, true);
+        }
+        self.put_size(ino, size);
+        let is_large = self.is_large(ino);
+        let mut noise = Noise::new();
+        for index in 0..size.div_ceil(BLOCK) {
+            let start = self.block_taken(ino, is_large, index)? * BLOCK;
+            let count = BLOCK.min(size - index * BLOCK);
+            noise.fill(&mut self.bytes[start..start + count]);
+        }
+        self.put_size(root, 3 * SLOT);
+        self.put_slot(self.zone_start * BLOCK + 2 * SLOT, ino, b"data");
+        Ok(())
+    }
+
+    /// Makes so many files of various sizes: half of them in `/many`, the others spread over further directories.
+    pub fn fill(&mut self, files: usize) -> Outcome<()> {
+        let root = self.layout.root;
+        let many = self.make_directory(root, b"many", MOMENT)?;
+        let mut folders = Vec::new();
+        for number in 0..FOLDERS {
+            let name = format!("folder{number}");
+            folders.push(self.make_directory(root, name.as_bytes(), MOMENT)?);
+        }
+        let mut noise = Noise::new();
+        let mut body = Vec::new();
+        for index in 0..files {
+            let dir = match index % 2 {
+                0 => many,
+                _ => folders[index / 2 % FOLDERS],
+            };
+            let name = format!("file{index}");
+            let ino = self.make_file(dir, name.as_bytes(), MOMENT)?;
+            body.resize(noise.size(index), 0);
+            noise.fill(&mut body);
+            self.write(ino, &body, MOMENT)?;
+        }
+        Ok(())
+    }
+}

@@ -1,0 +1,155 @@
+-- What is known of the image of a directory whose entries, size and places the state says.
+use Rattle.std.proofs.Common.{◌≡◌, ◌∙◌, sym, ap, subst, ℕ, ◌*◌, ◌≤◌, true≢false, List, [], ◌∷◌, length, None, arith}
+use Rattle.std.specs.Option.{unwrap_or}
+use Rattle.vol_layout.specs.Edition.{constants}
+use Rattle.vol_layout.specs.declared.edition.Edition.{Edition}
+use Rattle.vol_layout.specs.declared.edition.Edition.TheVariants.{V6, V7}
+use Rattle.vol_layout.specs.declared.geometry.Geometry.{Geometry}
+use Rattle.vol_layout.specs.declared.mode.Kind.TheVariants as kinds
+use Rattle.vol_file.specs.Need.{need}
+use Rattle.vol_file.specs.Rules.{size_of, IsSoundWith}
+use Rattle.vol_dir.specs.Editing.{HasNamesOnce}
+use Rattle.vol_dir.specs.Entries.{IsDirectory, entry_at, slots}
+use Rattle.vol_dir.specs.Names.{Names, dot, dot_dot, insert, get, names_of, names_in}
+use Rattle.vol_dir.specs.Searching.{holds, new_slot}
+use Rattle.vol_dir.specs.Tree.{Shape, no_shape, state, tree, shapes, free_count}
+use Rattle.vol_dir.specs.Walk.{map_of}
+use Rattle.vol_judge.specs.Graph.{graph_of, entry_by}
+use Rattle.vol_judge.proofs.ImageGraphs.{directory_to, graph_within}
+use Rattle.vol_node.specs.Contents.{put_entry}
+use Rattle.vol_node.specs.Nodes.{no_node}
+use Rattle.vol_node.specs.Shapes.{need_in, entry_blocks, shape_with_entry}
+use Rattle.vol_node.specs.Whole.{IsWhole}
+use Rattle.vol_node.proofs.EntryStates.{names_is, shape_is, size_is}
+use Rattle.vol_node.proofs.FileRooms.{entry_room}
+use Rattle.vol_node.proofs.PlaceCounts.{first_in}
+use Rattle.vol_node.proofs.WrittenStates.{IsKind}
+use Rattle.vol_node.specs.Beside.{StaysBeside}
+use Rattle.vol_change.specs.Dots.{HoldsNames}
+use Rattle.vol_change.proofs.DotRooms.{second_need}
+use Rattle.vol_change.proofs.DotStates.{entry_held}
+use Rattle.vol_change.proofs.ReadyLaws.{directory_kept}
+
+-- a directory is of that kind
+is_kind : (geometry : Geometry) (image : List ℕ) (i : ℕ) → IsDirectory geometry image i → IsKind geometry image i kinds.Directory
+is_kind geometry image i is = record { first = is.first; last = is.last; kind = is.kind }
+
+-- the map of its slots
+pub names_held : (geometry : Geometry) (image : List ℕ) (i size : ℕ) (names : Names) (shape : Shape) → IsDirectory geometry image i
+    → HoldsNames (state geometry image) i names size shape → names_of (slots geometry image i) ≡ names
+names_held geometry image i size names shape is has =
+    sym (names_is geometry image i (is_kind geometry image i is))
+    ∙ (ap (λ node. unwrap_or (map_of (unwrap_or node no_node).content) []) has.is ∙ ap (λ content. unwrap_or (map_of content) []) has.content)
+
+-- its size
+pub size_held : (geometry : Geometry) (image : List ℕ) (i size : ℕ) (names : Names) (shape : Shape) → IsDirectory geometry image i
+    → HoldsNames (state geometry image) i names size shape → size_of geometry image i ≡ size
+size_held geometry image i size names shape is has =
+    sym (size_is geometry image i (is_kind geometry image i is)) ∙ (ap (λ node. (unwrap_or node no_node).size) has.is ∙ has.size)
+
+-- the names in its slots
+slots_held : (geometry : Geometry) (image : List ℕ) (i size : ℕ) (names : Names) (shape : Shape) → IsDirectory geometry image i
+    → HoldsNames (state geometry image) i names size shape → names_in (slots geometry image i) ≡ shape.slots
+slots_held geometry image i size names shape is has =
+    ap (λ (x : Shape). x.slots) (sym (shape_is geometry image i (is_kind geometry image i is)) ∙ has.shape)
+
+-- the slot for `.`
+pub first_slot : (geometry : Geometry) (image : List ℕ) (i : ℕ) → IsDirectory geometry image i → HoldsNames (state geometry image) i [] 0 no_shape
+    → new_slot (names_in (slots geometry image i)) ≡ 0
+first_slot geometry image i is has = ap new_slot (slots_held geometry image i 0 [] no_shape is has)
+
+-- where a directory has no bytes, it has no entries
+pub no_entry : (geometry : Geometry) (image : List ℕ) (i s : ℕ) (shape : Shape) → IsDirectory geometry image i
+    → HoldsNames (state geometry image) i [] 0 shape → entry_at geometry image i s ≡ None
+no_entry geometry image i s shape is has =
+    let size = size_held geometry image i 0 [] shape is has in
+    sym (ap (λ k. entry_by k geometry image i s) (directory_to geometry image i is))
+    ∙ (graph_within geometry image).slots i s (omega (arith, size))
+
+-- and no name twice
+pub none_twice : (geometry : Geometry) (image : List ℕ) (i : ℕ) (shape : Shape) → IsDirectory geometry image i
+    → HoldsNames (state geometry image) i [] 0 shape → HasNamesOnce geometry image i
+none_twice geometry image i shape is has = record {
+  once = λ name s t first second.
+      absurd (true≢false (sym first ∙ ap (holds name) (no_entry geometry image i s shape is has)));
+}
+
+-- both entries are within the greatest file
+pub dots_fit : (edition : Edition) → 32 ≤ (constants edition).greatest
+dots_fit V6 = omega arith
+dots_fit V7 = omega arith
+
+-- there is room for `.`
+pub dot_room : (geometry : Geometry) (image : List ℕ) (i : ℕ) → IsWhole geometry image → IsDirectory geometry image i
+    → HoldsNames (state geometry image) i [] 0 no_shape → 1 ≤ free_count geometry (shapes geometry image)
+    → (free : List ℕ) → IsSoundWith geometry image free → need geometry image i (16 * new_slot (names_in (slots geometry image i))) 16 ≤ length free
+dot_room geometry image i whole is has room =
+    let blocks : need_in geometry.edition (shapes geometry image i) (entry_blocks (shapes geometry image i)) ≡ need_in geometry.edition no_shape (0 ∷ []) =
+    ap (λ (x : Shape). need_in geometry.edition x (entry_blocks x)) has.shape in
+    let one = first_in geometry.edition in
+    entry_room geometry image i whole (is_kind geometry image i is) (omega (arith, blocks, one, room))
+
+-- and then for `..`
+pub dot_dot_room : (geometry : Geometry) (image : List ℕ) (i : ℕ) (names : Names) → IsWhole geometry image → IsDirectory geometry image i
+    → HoldsNames (state geometry image) i names 16 (shape_with_entry geometry.edition no_shape dot)
+    → (free : List ℕ) → IsSoundWith geometry image free → need geometry image i (16 * new_slot (names_in (slots geometry image i))) 16 ≤ length free
+dot_dot_room geometry image i names whole is has =
+    let blocks : need_in geometry.edition (shapes geometry image i) (entry_blocks (shapes geometry image i))
+    ≡ need_in geometry.edition (shape_with_entry geometry.edition no_shape dot) (0 ∷ []) =
+    ap (λ (x : Shape). need_in geometry.edition x (entry_blocks x)) has.shape in
+    let none = second_need geometry.edition in
+    entry_room geometry image i whole (is_kind geometry image i is) (omega (arith, blocks, none))
+
+-- a directory without entries gets `.`
+dot_held : (geometry : Geometry) (old new : List ℕ) (i : ℕ) → HoldsNames (state geometry old) i [] 0 no_shape
+    → state geometry new ≡ put_entry i dot i (state geometry old)
+    → HoldsNames (state geometry new) i (insert [] dot i) 16 (shape_with_entry geometry.edition no_shape dot)
+unfolding tree
+dot_held geometry old new i has makes =
+    subst (λ s. HoldsNames s i (insert [] dot i) 16 (shape_with_entry geometry.edition no_shape dot)) (sym makes)
+    (entry_held (state geometry old) i i 0 dot [] no_shape has)
+
+-- and then `..`
+dot_dot_held : (geometry : Geometry) (old new : List ℕ) (i d : ℕ)
+    → HoldsNames (state geometry old) i (insert [] dot i) 16 (shape_with_entry geometry.edition no_shape dot)
+    → state geometry new ≡ put_entry i dot_dot d (state geometry old)
+    → HoldsNames (state geometry new) i (insert (insert [] dot i) dot_dot d) 32
+    (shape_with_entry geometry.edition (shape_with_entry geometry.edition no_shape dot) dot_dot)
+unfolding tree
+dot_dot_held geometry old new i d has makes =
+    subst (λ s. HoldsNames s i (insert (insert [] dot i) dot_dot d) 32
+    (shape_with_entry geometry.edition (shape_with_entry geometry.edition no_shape dot) dot_dot)) (sym makes)
+    (entry_held (state geometry old) i d 16 dot_dot (insert [] dot i) (shape_with_entry geometry.edition no_shape dot) has)
+
+-- a directory that has `.` and nothing else
+pub record HasDot (geometry : Geometry) (image : List ℕ) (i : ℕ) : Type 0 where
+  pub is : IsDirectory geometry image i
+  pub has : HoldsNames (state geometry image) i (insert [] dot i) 16 (shape_with_entry geometry.edition no_shape dot)
+
+-- it has that once it gets it
+pub dot_there : (geometry : Geometry) (old new : List ℕ) (i : ℕ) → IsDirectory geometry old i → HoldsNames (state geometry old) i [] 0 no_shape
+    → state geometry new ≡ put_entry i dot i (state geometry old) → StaysBeside (graph_of geometry old) (graph_of geometry new) i
+    → HasDot geometry new i
+dot_there geometry old new i is has makes beside = record {
+  is = directory_kept geometry old new i (beside.kind i) is;
+  has = dot_held geometry old new i has makes;
+}
+
+-- the slot for `..`
+pub second_slot : (geometry : Geometry) (image : List ℕ) (i : ℕ) → HasDot geometry image i → new_slot (names_in (slots geometry image i)) ≡ 1
+second_slot geometry image i dotted =
+    ap new_slot (slots_held geometry image i 16 (insert [] dot i) (shape_with_entry geometry.edition no_shape dot) dotted.is dotted.has)
+
+-- `..` isn't there
+pub dot_dot_new : (geometry : Geometry) (image : List ℕ) (i : ℕ) → HasDot geometry image i → get (names_of (slots geometry image i)) dot_dot ≡ None
+dot_dot_new geometry image i dotted =
+    ap (λ names. get names dot_dot) (names_held geometry image i 16 (insert [] dot i) (shape_with_entry geometry.edition no_shape dot) dotted.is dotted.has)
+
+-- the size with both
+pub dots_size : (geometry : Geometry) (old new : List ℕ) (i d : ℕ) → HasDot geometry old i
+    → state geometry new ≡ put_entry i dot_dot d (state geometry old) → StaysBeside (graph_of geometry old) (graph_of geometry new) i
+    → size_of geometry new i ≡ 32
+dots_size geometry old new i d dotted makes beside =
+    size_held geometry new i 32 (insert (insert [] dot i) dot_dot d)
+    (shape_with_entry geometry.edition (shape_with_entry geometry.edition no_shape dot) dot_dot)
+    (directory_kept geometry old new i (beside.kind i) dotted.is) (dot_dot_held geometry old new i d dotted.has makes)

@@ -1,0 +1,78 @@
+-- A volume in which a directory is made.
+use Rattle.std.proofs.Common.{◌≡◌, ◌≢◌, ◌∙◌, sym, ap, subst, ℕ, ◌+◌, ◌-◌, ◌<◌, ◌≤◌, List, [], Some, arith}
+use Rattle.vol_layout.specs.Edition.{constants}
+use Rattle.vol_layout.specs.Inode.{inode_of}
+use Rattle.vol_layout.specs.declared.geometry.Geometry.{Geometry}
+use Rattle.vol_file.specs.Rules.{HasKinds}
+use Rattle.vol_dir.specs.Entries.{IsDirectory}
+use Rattle.vol_dir.specs.Names.{dot, dot_dot}
+use Rattle.vol_dir.specs.Tree.{State, no_shape, state, tree}
+use Rattle.vol_dir.specs.Walk.{IsComponent}
+use Rattle.vol_dir.specs.declared.cred.Cred.{Cred}
+use Rattle.vol_judge.specs.Directories.{root_of}
+use Rattle.vol_judge.specs.Graph.{graph_of}
+use Rattle.vol_judge.specs.GraphEdits.{AddsDirectory}
+use Rattle.vol_judge.proofs.GraphParts.{not_free}
+use Rattle.vol_judge.proofs.ImageGraphs.{graph_within}
+use Rattle.vol_judge.proofs.MadeGraphs.{added_directory_sound}
+use Rattle.vol_node.specs.Contents.{put_entry}
+use Rattle.vol_node.specs.Edits.{add_entry, add_link}
+use Rattle.vol_node.specs.Nodes.{node_at}
+use Rattle.vol_node.specs.Whole.{Keeps}
+use Rattle.vol_change.specs.Dots.{HoldsNames}
+use Rattle.vol_change.specs.Effects.{after_mkdir}
+use Rattle.vol_change.specs.Ready.{IsReady, TakesName, entry_need, free_in}
+use Rattle.vol_change.proofs.DotStates.{bare_directory, bare_empty, dots_made}
+use Rattle.vol_change.proofs.FreeAfter.{entry_takes}
+use Rattle.vol_change.proofs.NamedNodes.{new_name}
+use Rattle.vol_change.proofs.NodeEdits.{edit}
+use Rattle.vol_change.proofs.NodeLinks.{links_is}
+use Rattle.vol_change.proofs.ReadyLaws.{ready_graph, ready_from}
+
+-- an image in which a directory was made stays sound
+pub directory_ready : (geometry : Geometry) (old new : List ℕ) (made d s : ℕ) (name : List ℕ) → IsReady geometry old → IsDirectory geometry old d
+    → TakesName (state geometry old) d name → IsComponent name → root_of geometry ≤ made → Keeps geometry old new
+    → AddsDirectory (graph_of geometry old) (graph_of geometry new) made d s name → IsReady geometry new
+directory_ready geometry old new made d s name ready is takes component above keeps adds =
+    ready_from geometry old new ready keeps
+    (added_directory_sound (graph_of geometry old) (graph_of geometry new) (root_of geometry) geometry.last_inode made d s name (graph_within geometry old)
+    (graph_within geometry new) (ready_graph geometry old ready) (new_name geometry old d name is takes component) above adds)
+
+-- a block is free once a directory has its new entry, where there was one more than that needed
+pub room_entered : (state : State) (now d i : ℕ) (name : List ℕ) → 1 ≤ d → d ≤ state.tree.geometry.last_inode
+    → entry_need state d + 1 ≤ free_in state → 1 ≤ free_in (add_entry now d name i state)
+room_entered state now d i name first last room =
+    let left : free_in (add_entry now d name i state) ≡ free_in state - entry_need state d =
+    entry_takes state.tree.geometry state.shapes d name first last in
+    omega (arith, left, room)
+
+-- the new directory is empty once its parent has its entry
+pub made_empty : (geometry : Geometry) (old bare named : List ℕ) (cred : Cred) (now perm made d : ℕ) (name : List ℕ) → made ≢ d
+    → state geometry bare ≡ edit made (Some (bare_directory geometry.edition cred now perm)) no_shape (state geometry old)
+    → state geometry named ≡ add_entry now d name made (state geometry bare) → HoldsNames (state geometry named) made [] 0 no_shape
+made_empty geometry old bare named cred now perm made d name apart makes enters =
+    subst (λ s. HoldsNames s made [] 0 no_shape) (sym (enters ∙ ap (add_entry now d name made) makes))
+    (bare_empty (state geometry old) cred geometry.edition now perm made d name apart)
+
+-- all that is done for a new directory is what is said of it
+pub directory_makes : (geometry : Geometry) (old bare named dotted new : List ℕ) (cred : Cred) (now perm made d : ℕ) (name : List ℕ) → made ≢ d
+    → state geometry bare ≡ edit made (Some (bare_directory geometry.edition cred now perm)) no_shape (state geometry old)
+    → state geometry named ≡ add_entry now d name made (state geometry bare)
+    → state geometry dotted ≡ put_entry made dot_dot d (put_entry made dot made (state geometry named))
+    → state geometry new ≡ add_link now d (state geometry dotted) → state geometry new ≡ after_mkdir (state geometry old) cred now perm made d name
+unfolding tree
+directory_makes geometry old bare named dotted new cred now perm made d name apart makes enters dots links =
+    links
+    ∙ ap (add_link now d)
+    (dots
+    ∙ (ap (λ s. put_entry made dot_dot d (put_entry made dot made s)) (enters ∙ ap (add_entry now d name made) makes)
+    ∙ dots_made (state geometry old) cred now perm made d name apart))
+
+-- a directory may have one link more where the state says so
+pub links_room : (geometry : Geometry) (old new : List ℕ) (d : ℕ) → HasKinds geometry old → IsDirectory geometry old d
+    → (graph_of geometry new).links d ≡ (graph_of geometry old).links d
+    → (node_at (state geometry old).tree d).links < (constants geometry.edition).link_limit
+    → (inode_of geometry.edition new d).links < (constants geometry.edition).link_limit
+links_room geometry old new d has is same room =
+    let links = links_is geometry old d has is.first is.last (not_free _ is.kind) in
+    subst (λ n. n < (constants geometry.edition).link_limit) (sym (same ∙ sym links)) room

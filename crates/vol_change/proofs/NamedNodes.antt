@@ -1,0 +1,127 @@
+-- A node that is made or gets a link, and then a name.
+use Rattle.std.proofs.Common.{◌≡◌, ◌≢◌, ◌∙◌, sym, ap, refl, ℕ, ◌+◌, ◌≤◌, List, length, Option, None, Some, arith}
+use Rattle.std.proofs.lemmas.Slice.Eq.{bytes_eq-Decides}
+use Rattle.vol_layout.specs.declared.geometry.Geometry.{Geometry}
+use Rattle.vol_layout.specs.declared.mode.Kind.{Kind}
+use Rattle.vol_layout.specs.declared.mode.Kind.TheVariants as kinds
+use Rattle.vol_dir.specs.Entries.{IsDirectory}
+use Rattle.vol_dir.specs.Names.{get}
+use Rattle.vol_dir.specs.Searching.{holds}
+use Rattle.vol_dir.specs.Tree.{state}
+use Rattle.vol_dir.specs.Walk.{IsComponent}
+use Rattle.vol_dir.proofs.NewEntries.{not_held}
+use Rattle.vol_judge.specs.Directories.{root_of}
+use Rattle.vol_judge.specs.Graph.{Graph, graph_of}
+use Rattle.vol_judge.specs.GraphEdits.{IsNewName, ChangesSlot, KeepsOthers, AddsFile, AddsLink}
+use Rattle.vol_judge.proofs.ImageGraphs.{graph_within, entry_from}
+use Rattle.vol_judge.proofs.NamedGraphs.{added_file_sound, added_link_sound}
+use Rattle.vol_node.specs.Beside.{StaysBeside}
+use Rattle.vol_node.specs.NodeGraphs.{SetsLinks, AddsNode}
+use Rattle.vol_node.specs.Whole.{Keeps}
+use Rattle.vol_node.proofs.EntryStates.{names_is}
+use Rattle.vol_change.specs.Ready.{IsReady, TakesName}
+use Rattle.vol_change.proofs.ReadyLaws.{ready_graph, ready_from}
+use Rattle.vol_change.proofs.SideStates.{KeepsDirectory}
+
+-- a directory isn't what was free
+pub not_made : (graph : Graph) (d made : ℕ) → graph.kind d ≡ kinds.Directory → graph.kind made ≡ kinds.Free → d ≢ made
+not_made graph d made is free same = let clash : kinds.Directory ≡ kinds.Free = sym is ∙ (ap graph.kind same ∙ free) in cc
+
+-- a new node leaves each directory
+pub made_keeps : (old new : Graph) (d made : ℕ) (kind : Kind) (count : ℕ) → AddsNode old new made kind count → old.kind d ≡ kinds.Directory
+    → KeepsDirectory old new d
+made_keeps old new d made kind count adds is =
+    let other = not_made old d made is adds.was in
+    record {
+      kind = adds.others.kind d other;
+      size = adds.others.size d other other is;
+      entry = λ s. adds.others.entry d s other other;
+    }
+
+-- and so does another link count
+pub linked_keeps : (old new : Graph) (d i count : ℕ) → SetsLinks old new i count → old.kind d ≡ kinds.Directory → KeepsDirectory old new d
+linked_keeps old new d i count sets is = record { kind = sets.kind d; size = sets.size d is; entry = sets.entry d }
+
+-- a slot of a directory that was kept changes
+pub slot_then : (old mid new : Graph) (d s : ℕ) (was is : Option (List ℕ × ℕ)) → KeepsDirectory old mid d → old.kind d ≡ kinds.Directory
+    → ChangesSlot mid new d s was is → ChangesSlot old new d s was is
+slot_then old mid new d s was is kept directory slot = record {
+  directory = directory;
+  was = sym (kept.entry s) ∙ slot.was;
+  is = slot.is;
+  beside = λ t other. slot.beside t other ∙ kept.entry t;
+  whole = slot.whole;
+}
+
+-- what stays beside node i, and then beside directory d, stays beside both
+pub others_then : (old mid new : Graph) (d i : ℕ) → KeepsOthers old mid i i → StaysBeside mid new d → KeepsOthers old new d i
+others_then old mid new d i others beside = record {
+  kind = λ x away. beside.kind x ∙ others.kind x away;
+  size = λ x other away is. beside.size x other (others.kind x away ∙ is) ∙ others.size x away away is;
+  entry = λ x t other away. beside.entry x t other ∙ others.entry x t away away;
+}
+
+-- link counts that stay but for node i's, and then beside a directory
+kept_then : (old mid new : Graph) (d i : ℕ) → ((x : ℕ) → x ≢ i → mid.kind x ≡ old.kind x)
+    → ((x : ℕ) → x ≢ i → old.kind x ≢ kinds.Free → mid.links x ≡ old.links x) → StaysBeside mid new d
+    → (x : ℕ) → x ≢ i → old.kind x ≢ kinds.Free → new.links x ≡ old.links x
+kept_then old mid new d i kind kept beside x other used = beside.links x (λ free. used (sym (kind x other) ∙ free)) ∙ kept x other used
+
+-- a new file, and then its name
+pub file_added : (old mid new : Graph) (made d s : ℕ) (name : List ℕ) → AddsNode old mid made kinds.Regular 1 → old.kind d ≡ kinds.Directory
+    → ChangesSlot mid new d s None (Some (name, made)) → StaysBeside mid new d → AddsFile old new made d s name
+file_added old mid new made d s name adds is slot beside = record {
+  slot = slot_then old mid new d s None (Some (name, made)) (made_keeps old mid d made kinds.Regular 1 adds is) is slot;
+  others = others_then old mid new d made adds.others beside;
+  was = adds.was;
+  kind = beside.kind made ∙ adds.kind;
+  links = beside.links made (λ free. let clash : kinds.Regular ≡ kinds.Free = sym adds.kind ∙ free in cc) ∙ adds.links;
+  kept = kept_then old mid new d made adds.others.kind adds.kept beside;
+}
+
+-- one link more, and then the name
+pub link_added : (old mid new : Graph) (i d s : ℕ) (name : List ℕ) → SetsLinks old mid i (old.links i + 1) → old.kind i ≢ kinds.Free
+    → old.kind i ≢ kinds.Directory → old.kind d ≡ kinds.Directory → ChangesSlot mid new d s None (Some (name, i)) → StaysBeside mid new d
+    → AddsLink old new i d s name
+link_added old mid new i d s name sets used other is slot beside =
+    let others : KeepsOthers old mid i i = record { kind = λ x away. sets.kind x; size = λ x one two is. sets.size x is; entry = λ x t one two. sets.entry x t } in
+    record {
+      slot = slot_then old mid new d s None (Some (name, i)) (linked_keeps old mid d i (old.links i + 1) sets is) is slot;
+      others = others_then old mid new d i others beside;
+      used = used;
+      other = other;
+      kind = beside.kind i ∙ sets.kind i;
+      links = beside.links i (λ free. used (sym (sets.kind i) ∙ free)) ∙ sets.links;
+      kept = kept_then old mid new d i (λ x away. sets.kind x) sets.kept beside;
+    }
+
+-- a name that the map doesn't have is new in the graph
+pub new_name : (geometry : Geometry) (image : List ℕ) (d : ℕ) (name : List ℕ) → IsDirectory geometry image d
+    → TakesName (state geometry image) d name → IsComponent name → IsNewName (graph_of geometry image) d name
+new_name geometry image d name is takes component =
+    let none = ap (λ names. get names name) (sym (names_is geometry image d (record { first = is.first; last = is.last; kind = is.kind }))) ∙ takes.fresh in
+    record {
+      fresh = λ s i e.
+          not_held geometry image d s name none
+          (ap (holds name) (entry_from geometry image name d s i e).entry ∙ (bytes_eq-Decides name name).1 refl);
+      some = λ e. let zero : length name ≡ 0 = ap length e in omega (arith, component.some);
+      plain = component.plain;
+    }
+
+-- an image in which a file was made stays sound
+pub file_ready : (geometry : Geometry) (old new : List ℕ) (made d s : ℕ) (name : List ℕ) → IsReady geometry old → IsDirectory geometry old d
+    → TakesName (state geometry old) d name → IsComponent name → root_of geometry ≤ made → Keeps geometry old new
+    → AddsFile (graph_of geometry old) (graph_of geometry new) made d s name → IsReady geometry new
+file_ready geometry old new made d s name ready is takes component above keeps adds =
+    ready_from geometry old new ready keeps
+    (added_file_sound (graph_of geometry old) (graph_of geometry new) (root_of geometry) geometry.last_inode made d s name (graph_within geometry old)
+    (graph_within geometry new) (ready_graph geometry old ready) (new_name geometry old d name is takes component) above adds)
+
+-- and so does one in which a file got one more name
+pub link_ready : (geometry : Geometry) (old new : List ℕ) (i d s : ℕ) (name : List ℕ) → IsReady geometry old → IsDirectory geometry old d
+    → TakesName (state geometry old) d name → IsComponent name → root_of geometry ≤ i → Keeps geometry old new
+    → AddsLink (graph_of geometry old) (graph_of geometry new) i d s name → IsReady geometry new
+link_ready geometry old new i d s name ready is takes component above keeps adds =
+    ready_from geometry old new ready keeps
+    (added_link_sound (graph_of geometry old) (graph_of geometry new) (root_of geometry) geometry.last_inode i d s name (graph_within geometry old)
+    (graph_within geometry new) (ready_graph geometry old ready) (new_name geometry old d name is takes component) above adds)

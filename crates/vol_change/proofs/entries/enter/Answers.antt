@@ -1,0 +1,50 @@
+use Rattle.std.proofs.Common.{◌≡◌, ◌∙◌, sym, ap, ◌+◌, ◌*◌, None, Some, arith}
+use Rattle.vol_layout.specs.declared.mode.Kind.TheVariants as kinds
+use Rattle.vol_dir.specs.Entries.{slots}
+use Rattle.vol_dir.specs.Names.{get, names_in}
+use Rattle.vol_dir.specs.Searching.{new_slot}
+use Rattle.vol_dir.specs.Tree.{Shape, shapes, tree}
+use Rattle.vol_judge.specs.Graph.{graph_of}
+use Rattle.vol_node.proofs.EntryStates.{names_is, shape_is}
+use Rattle.vol_node.proofs.FileRooms.{entry_room}
+use Rattle.vol_node.proofs.WholeLaws.{keeps_then}
+use Rattle.vol_node.proofs.WrittenStates.{IsKind}
+use Rattle.vol_change.proofs.ReadyLaws.{slot_same, beside_same}
+use Rattle.vol_change.proofs.entries.enter.Goals as goal
+
+pub add_name-requires-clause-new : goal.add_name-requires-clause-new
+add_name-requires-clause-new c =
+    let at : IsKind c.args.geometry.now c.args.image.now c.args.dir kinds.Directory =
+    record { first = c.requires.directory.first; last = c.requires.directory.last; kind = c.requires.directory.kind } in
+    ap (λ names. get names c.args.name.now) (sym (names_is c.args.geometry.now c.args.image.now c.args.dir at)) ∙ c.requires.takes.fresh
+
+pub add_name-requires-clause-greatest : goal.add_name-requires-clause-greatest
+unfolding tree
+add_name-requires-clause-greatest c =
+    let at : IsKind c.args.geometry.now c.args.image.now c.args.dir kinds.Directory =
+    record { first = c.requires.directory.first; last = c.requires.directory.last; kind = c.requires.directory.kind } in
+    let same : 16 * new_slot (shapes c.args.geometry.now c.args.image.now c.args.dir).slots + 16
+    ≡ 16 * new_slot (names_in (slots c.args.geometry.now c.args.image.now c.args.dir)) + 16 =
+    ap (λ (shape : Shape). 16 * new_slot shape.slots + 16) (shape_is c.args.geometry.now c.args.image.now c.args.dir at) in
+    omega (arith, c.requires.takes.greatest, same)
+
+pub add_name-requires-clause-room : goal.add_name-requires-clause-room
+unfolding tree
+add_name-requires-clause-room c =
+    entry_room c.args.geometry.now c.args.image.now c.args.dir c.requires.whole
+    (record { first = c.requires.directory.first; last = c.requires.directory.last; kind = c.requires.directory.kind }) c.requires.room
+
+pub returns-clause-keeps : goal.returns-clause-keeps
+returns-clause-keeps c =
+    keeps_then c.args.geometry.now c.args.image.now c.add_name.new.image c.touch.new.image c.add_name.ensures.keeps c.touch.ensures.keeps
+
+pub returns-clause-slot : goal.returns-clause-slot
+returns-clause-slot c =
+    slot_same (graph_of c.args.geometry.now c.args.image.now) (graph_of c.args.geometry.now c.add_name.new.image)
+    (graph_of c.args.geometry.now c.touch.new.image) c.args.dir (new_slot (names_in (slots c.args.geometry.now c.args.image.now c.args.dir)))
+    None (Some (c.args.name.now, c.args.i)) c.add_name.ensures.slot c.touch.ensures.graph (c.add_name.ensures.beside.kind c.args.dir)
+
+pub returns-clause-beside : goal.returns-clause-beside
+returns-clause-beside c =
+    beside_same (graph_of c.args.geometry.now c.args.image.now) (graph_of c.args.geometry.now c.add_name.new.image)
+    (graph_of c.args.geometry.now c.touch.new.image) c.args.dir c.add_name.ensures.beside c.touch.ensures.graph

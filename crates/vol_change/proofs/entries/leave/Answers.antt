@@ -1,0 +1,25 @@
+use Rattle.std.proofs.Common.{None}
+use Rattle.std.specs.Option.{option_map}
+use Rattle.vol_dir.specs.Entries.{slots}
+use Rattle.vol_dir.specs.Names.{get, names_of}
+use Rattle.vol_dir.specs.Searching.{slot_named}
+use Rattle.vol_judge.specs.Graph.{graph_of}
+use Rattle.vol_node.proofs.WholeLaws.{keeps_then}
+use Rattle.vol_change.proofs.ReadyLaws.{slot_same, beside_same}
+use Rattle.vol_change.proofs.entries.leave.Goals as goal
+
+pub returns-clause-keeps : goal.returns-clause-keeps
+returns-clause-keeps c =
+    keeps_then c.args.geometry.now c.args.image.now c.remove_name.new.image c.touch.new.image c.remove_name.ensures.keeps c.touch.ensures.keeps
+
+pub returns-clause-slot : goal.returns-clause-slot
+returns-clause-slot c =
+    slot_same (graph_of c.args.geometry.now c.args.image.now) (graph_of c.args.geometry.now c.remove_name.new.image)
+    (graph_of c.args.geometry.now c.touch.new.image) c.args.dir (slot_named c.args.name.now (slots c.args.geometry.now c.args.image.now c.args.dir))
+    (option_map (λ i. (c.args.name.now, i)) (get (names_of (slots c.args.geometry.now c.args.image.now c.args.dir)) c.args.name.now)) None
+    c.remove_name.ensures.slot c.touch.ensures.graph (c.remove_name.ensures.beside.kind c.args.dir)
+
+pub returns-clause-beside : goal.returns-clause-beside
+returns-clause-beside c =
+    beside_same (graph_of c.args.geometry.now c.args.image.now) (graph_of c.args.geometry.now c.remove_name.new.image)
+    (graph_of c.args.geometry.now c.touch.new.image) c.args.dir c.remove_name.ensures.beside c.touch.ensures.graph

@@ -1,0 +1,52 @@
+//! The bytes of a regular file: some that are written, and none that are left.
+ghost use Rattle.std.specs.Prelude.{◌≡◌, ◌+◌, ◌≤◌, length};
+ghost use Rattle.vol_layout.specs.Edition.{constants};
+ghost use Rattle.vol_layout.specs.declared.mode.Kind.TheVariants as kinds;
+ghost use Rattle.vol_file.specs.Rules.{kind_at};
+ghost use Rattle.vol_file.specs.Shape.{touched};
+ghost use Rattle.vol_dir.specs.Tree.{state};
+ghost use Rattle.vol_node.specs.Edits.{at_time, after_write, after_truncate};
+ghost use Rattle.vol_node.specs.Shapes.{need_in};
+ghost use Rattle.vol_change.specs.Ready.{IsReady, Changes, free_in};
+
+use pdp_words::Image;
+use vol_layout::Geometry;
+use vol_node::{empty_file, put_time, touch, write_bytes};
+
+/// Writes `bytes` into the regular file `i` from byte `offset` on, at `moment`, in seconds. Of a write of
+/// no bytes only the volume's time is left.
+///
+/// Costs the bytes, and the ways of their blocks.
+pub fn write(image: &mut Image, geometry: &Geometry, i: u16, offset: u32, bytes: &[u8], moment: u32)
+    requires ready { IsReady geometry.now image.old }
+    requires first { 1 ≤ i }
+    requires last { i ≤ geometry.now.last_inode }
+    requires regular { kind_at geometry.now image.old i ≡ kinds.Regular }
+    requires greatest { offset + length bytes.now ≤ (constants geometry.now.edition).greatest }
+    requires room { need_in geometry.now.edition ((state geometry.now image.old).shapes i) (touched offset (length bytes.now))
+        ≤ free_in (state geometry.now image.old) }
+    ensures changes { Changes geometry.now image.old image.new
+        (at_time moment (after_write (state geometry.now image.old) moment offset bytes.now i)) }
+{
+    if !bytes.is_empty() {
+        write_bytes(image, geometry, i, offset, bytes);
+        touch(image, geometry, i, moment);
+    }
+    put_time(image, geometry, moment);
+}
+
+/// Takes all bytes and blocks from the regular file `i`, at `moment`, in seconds.
+///
+/// Costs the places of the file that name something.
+pub fn truncate(image: &mut Image, geometry: &Geometry, i: u16, moment: u32)
+    requires ready { IsReady geometry.now image.old }
+    requires first { 1 ≤ i }
+    requires last { i ≤ geometry.now.last_inode }
+    requires regular { kind_at geometry.now image.old i ≡ kinds.Regular }
+    ensures changes { Changes geometry.now image.old image.new
+        (at_time moment (after_truncate (state geometry.now image.old) moment i)) }
+{
+    empty_file(image, geometry, i);
+    touch(image, geometry, i, moment);
+    put_time(image, geometry, moment);
+}

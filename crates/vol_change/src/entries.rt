@@ -1,0 +1,68 @@
+//! An entry that comes, and one that goes, with the times of its directory.
+ghost use Rattle.std.specs.Prelude.{◌≡◌, ℕ, ◌%◌, ◌≤◌, false, None, Some, IsSome};
+ghost use Rattle.std.specs.Option.{option_map};
+ghost use Rattle.vol_dir.specs.Editing.{HasNamesOnce};
+ghost use Rattle.vol_dir.specs.Entries.{IsDirectory, slots};
+ghost use Rattle.vol_dir.specs.Names.{get, names_of, names_in};
+ghost use Rattle.vol_dir.specs.Searching.{new_slot, slot_named};
+ghost use Rattle.vol_dir.specs.Tree.{state};
+ghost use Rattle.vol_dir.specs.Walk.{IsComponent, has_zero};
+ghost use Rattle.vol_file.specs.Rules.{size_of};
+ghost use Rattle.vol_judge.specs.Graph.{graph_of};
+ghost use Rattle.vol_judge.specs.GraphEdits.{ChangesSlot};
+ghost use Rattle.vol_node.specs.Beside.{StaysBeside};
+ghost use Rattle.vol_node.specs.Edits.{add_entry, remove_entry};
+ghost use Rattle.vol_node.specs.Whole.{IsWhole, Keeps};
+ghost use Rattle.vol_change.specs.Ready.{TakesName, entry_need, free_in};
+
+use pdp_words::Image;
+use vol_layout::Geometry;
+use vol_node::{add_name, remove_name, touch};
+
+/// Gives `name`, which isn't there yet, to i-number `i` in directory `dir`, whose bytes were then last
+/// changed at `moment`, in seconds.
+pub(crate) fn enter(
+    image: &mut Image,
+    geometry: &Geometry,
+    dir: u16,
+    name: &[u8],
+    i: u16,
+    moment: u32,
+)
+    requires whole { IsWhole geometry.now image.old }
+    requires directory { IsDirectory geometry.now image.old dir }
+    requires slots { size_of geometry.now image.old dir % 16 ≡ 0 }
+    requires once { HasNamesOnce geometry.now image.old dir }
+    requires takes { TakesName (state geometry.now image.old) dir name.now }
+    requires component { IsComponent name.now }
+    requires text { has_zero name.now ≡ false }
+    requires inode { 1 ≤ i }
+    requires room { entry_need (state geometry.now image.old) dir ≤ free_in (state geometry.now image.old) }
+    ensures keeps { Keeps geometry.now image.old image.new }
+    ensures makes { state geometry.now image.new ≡ add_entry moment dir name.now i (state geometry.now image.old) }
+    ensures slot { ChangesSlot (graph_of geometry.now image.old) (graph_of geometry.now image.new) dir
+        (new_slot (names_in (slots geometry.now image.old dir))) None (Some (name.now, i)) }
+    ensures beside { StaysBeside (graph_of geometry.now image.old) (graph_of geometry.now image.new) dir }
+{
+    add_name(image, geometry, dir, name, i);
+    touch(image, geometry, dir, moment);
+}
+
+/// Takes `name`, which i-number `i` has, out of directory `dir`, whose bytes were then last changed at
+/// `moment`, in seconds.
+pub(crate) fn leave(image: &mut Image, geometry: &Geometry, dir: u16, name: &[u8], moment: u32)
+    requires whole { IsWhole geometry.now image.old }
+    requires directory { IsDirectory geometry.now image.old dir }
+    requires slots { size_of geometry.now image.old dir % 16 ≡ 0 }
+    requires once { HasNamesOnce geometry.now image.old dir }
+    requires there { IsSome (get (names_of (slots geometry.now image.old dir)) name.now) }
+    ensures keeps { Keeps geometry.now image.old image.new }
+    ensures makes { state geometry.now image.new ≡ remove_entry moment dir name.now (state geometry.now image.old) }
+    ensures slot { ChangesSlot (graph_of geometry.now image.old) (graph_of geometry.now image.new) dir
+        (slot_named name.now (slots geometry.now image.old dir))
+        (option_map (λ i. (name.now, i)) (get (names_of (slots geometry.now image.old dir)) name.now)) None }
+    ensures beside { StaysBeside (graph_of geometry.now image.old) (graph_of geometry.now image.new) dir }
+{
+    remove_name(image, geometry, dir, name);
+    touch(image, geometry, dir, moment);
+}

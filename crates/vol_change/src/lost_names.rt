@@ -1,0 +1,38 @@
+//! A name that goes.
+ghost use Rattle.std.specs.Prelude.{◌≡◌, ◌≢◌, Some};
+ghost use Rattle.vol_layout.specs.declared.mode.Kind.TheVariants as kinds;
+ghost use Rattle.vol_file.specs.Rules.{kind_at};
+ghost use Rattle.vol_dir.specs.Entries.{IsDirectory};
+ghost use Rattle.vol_dir.specs.Names.{get};
+ghost use Rattle.vol_dir.specs.Tree.{state};
+ghost use Rattle.vol_node.specs.Edits.{at_time};
+ghost use Rattle.vol_node.specs.Nodes.{names_at};
+ghost use Rattle.vol_change.specs.Effects.{after_unlink};
+ghost use Rattle.vol_change.specs.Ready.{IsReady, Changes};
+
+use crate::entries::leave;
+use pdp_words::Image;
+use vol_layout::Geometry;
+use vol_layout::i_list::inode;
+use vol_node::{drop_link, free_node, put_time};
+
+/// Takes `name`, which node `i` has and which is no directory, out of directory `dir`, at `moment`, in
+/// seconds. With its last name the node is freed: its blocks, its i-node and its i-number.
+///
+/// Costs a search of the directory, and with the last name what freeing the node does.
+pub fn unlink(image: &mut Image, geometry: &Geometry, dir: u16, name: &[u8], i: u16, moment: u32)
+    requires ready { IsReady geometry.now image.old }
+    requires directory { IsDirectory geometry.now image.old dir }
+    requires named { get (names_at (state geometry.now image.old).tree dir) name.now ≡ Some i }
+    requires other { kind_at geometry.now image.old i ≢ kinds.Directory }
+    ensures changes { Changes geometry.now image.old image.new
+        (at_time moment (after_unlink (state geometry.now image.old) moment dir name.now)) }
+{
+    leave(image, geometry, dir, name, moment);
+    if inode(image, geometry, i).links <= 1 {
+        free_node(image, geometry, i);
+    } else {
+        drop_link(image, geometry, i, moment);
+    }
+    put_time(image, geometry, moment);
+}

@@ -1,5 +1,5 @@
 -- What a volume is after a call that was performed and recorded.
-use Rattle.std.proofs.Common.{◌≡◌, ℕ, ◌+◌, ◌*◌, ◌<◌, ◌≤◌, ◌&&◌, ◌∙◌, ap, sym, subst, refl, false, nat_le, nat_lt, List, [], ◌∷◌, ◌++◌, slice_index, None, Some, inl, inr, arith}
+use Rattle.std.proofs.Common.{◌≡◌, ℕ, ◌+◌, ◌*◌, ◌≤◌, ◌&&◌, ◌∙◌, ap, sym, subst, refl, nat_le, nat_lt, List, [], ◌∷◌, ◌++◌, None, Some, inl, inr, arith}
 use Rattle.std.proofs.lemmas.Bool.{or_parts, and_cases}
 use Rattle.std.proofs.lemmas.Bool.Decides.{nat_tests}
 use Rattle.vol_layout.specs.Geometry.{geometry_of, block_count}
@@ -14,7 +14,7 @@ use Rattle.vol_volume.specs.Journal.{MayAnswer, Refuses}
 use Rattle.vol_volume.specs.Performing.{IsPerformed}
 use Rattle.vol_volume.specs.Step.{step}
 use Rattle.vol_volume.specs.Verdict.{verdict}
-use Rattle.vol_volume.specs.Volume.{Mounted, reads_as, is_changeable, SameElsewhere, IsConsistent, Performs, Accepts}
+use Rattle.vol_volume.specs.Volume.{Mounted, reads_as, SameElsewhere, IsConsistent, Performs, Accepts}
 use Rattle.vol_volume.proofs.Journals.{kept_consistent}
 use Rattle.vol_volume.proofs.Refusals.{refused_so}
 use Rattle.vol_dir.specs.declared.refusal.Refusal.{Refusal}
@@ -125,11 +125,6 @@ pub refused : (geometry : Geometry) (image : List ℕ) (call : Call) (refusal : 
     → verdict (state geometry image) call ≡ Some refusal → Refuses (reads_as geometry.edition image) call refusal
 refused geometry image call refusal sizes says =
     refused_so (reads_as geometry.edition image) call refusal (subst (λ g. verdict (state g image) call ≡ Some refusal) sizes says)
-
--- and one that is refused for want of memory was accepted
-pub refused_memory : (geometry : Geometry) (image : List ℕ) (call : Call) → geometry ≡ geometry_of geometry.edition image
-    → verdict (state geometry image) call ≡ None → Refuses (reads_as geometry.edition image) call refusals.NoMemory
-refused_memory geometry image call sizes accepted = subst (λ g. verdict (state g image) call ≡ None) sizes accepted
 
 -- a call that what the image reads as accepts is accepted
 pub accepted_back : (geometry : Geometry) (image : List ℕ) (call : Call) → geometry ≡ geometry_of geometry.edition image

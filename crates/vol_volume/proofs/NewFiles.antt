@@ -1,20 +1,17 @@
 -- The i-nodes and places of a new volume: only the root has any, and it names one block.
-use Rattle.std.proofs.Common.{◌≡◌, ◌≢◌, ℕ, zero, suc, ◌+◌, ◌-◌, ◌*◌, ◌<◌, ◌≤◌, List, [], ◌∷◌, refl, sym, ap, subst, ◌∙◌, arith, ◌⊎◌, inl, inr, get_or, true, false, replicate}
+use Rattle.std.proofs.Common.{◌≡◌, ◌≢◌, ℕ, zero, suc, ◌+◌, ◌-◌, ◌<◌, ◌≤◌, List, [], ◌∷◌, refl, sym, ap, subst, ◌∙◌, arith, ◌⊎◌, inl, inr, get_or, true, false, replicate}
 use Rattle.std.specs.List.{range_with_len}
 use Rattle.std.proofs.lemmas.Bool.{cases_eq, false≢true}
 use Rattle.std.proofs.lemmas.Bool.Decides.{nat_tests}
-use Rattle.pdp_words.specs.Words.{word}
 use Rattle.vol_layout.specs.Edition.{constants}
 use Rattle.vol_layout.specs.Geometry.{Fits, in_zone}
-use Rattle.vol_layout.specs.Inode.{inode_place, inode_at, inode_of, address_at, size_at, kind_of}
-use Rattle.vol_layout.specs.Names.{mode_of, form_at, IsFile, IsPlaceOf, named, Names}
+use Rattle.vol_layout.specs.Inode.{inode_place, inode_of, address_at, kind_of}
+use Rattle.vol_layout.specs.Names.{mode_of, form_at, IsFile, IsPlaceOf, named}
 use Rattle.vol_layout.specs.Places.{form_of, levels_below, IsPlace, has_places, first_count}
 use Rattle.vol_layout.specs.declared.edition.Edition.{Edition}
 use Rattle.vol_layout.specs.declared.edition.Edition.TheVariants.{V6, V7}
 use Rattle.vol_layout.specs.declared.geometry.Geometry.{Geometry}
 use Rattle.vol_layout.specs.declared.mode.Kind.TheVariants as kinds
-use Rattle.vol_layout.specs.declared.places.Form.{Form}
-use Rattle.vol_layout.specs.declared.places.Form.TheVariants.{Small, Deep}
 use Rattle.vol_layout.proofs.InodeLaws.{inode_mode, inode_size, inode_address}
 use Rattle.vol_layout.proofs.NameLaws.{named_stops, zero_out, named_holds}
 use Rattle.vol_layout.proofs.KindLaws.{kind_zero}
@@ -22,7 +19,7 @@ use Rattle.vol_free.specs.Stack.{IsIn, IsFree, HasStack}
 use Rattle.vol_free.proofs.Frames.{free_from}
 use Rattle.vol_free.proofs.Stacks.{zone_from, zone_below, IsFree_unique}
 use Rattle.vol_file.specs.Rules.{size_of, kind_at, HasKinds, HasSizes, IsZoned, IsApart, IsOutside, IsCovered}
-use Rattle.vol_volume.specs.Mkfs.{root_mode, root_inode, IsNewVolume}
+use Rattle.vol_volume.specs.Mkfs.{root_mode, IsNewVolume}
 use Rattle.vol_volume.proofs.NewVolumes.{zeros_at, root_first, none_below}
 
 -- the root's mode is that of a directory, and of a file that isn't large

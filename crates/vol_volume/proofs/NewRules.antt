@@ -1,5 +1,5 @@
 -- A new volume keeps all twelve rules.
-use Rattle.std.proofs.Common.{◌≡◌, ℕ, ◌+◌, ◌-◌, ◌∙◌, List, Bool, true, false, if◌then◌else◌, refl, sym, ap, subst, Ok, Err}
+use Rattle.std.proofs.Common.{◌≡◌, ℕ, ◌+◌, ◌-◌, List, Bool, true, false, if◌then◌else◌, refl, sym, ap, subst, Ok, Err}
 use Rattle.std.specs.Prelude.{Result}
 use Rattle.std.specs.List.{range_with_len}
 use Rattle.vol_layout.specs.Geometry.{Fits, geometry_of, geometry_read, is_whole, is_bounded}

@@ -1,5 +1,5 @@
 -- What a call makes of an image, once its change is made.
-use Rattle.std.proofs.Common.{◌≡◌, ℕ, ◌+◌, ◌^◌, ◌<◌, ◌≤◌, ◌∙◌, ap, sym, subst, nat_le, if◌then◌else◌, true, false, List, length, Option, Some, Result, Ok, Err, refl, arith}
+use Rattle.std.proofs.Common.{◌≡◌, ℕ, ◌+◌, ◌^◌, ◌<◌, ◌≤◌, ◌∙◌, ap, sym, subst, nat_le, if◌then◌else◌, true, false, List, Some, Ok, refl, arith}
 use Rattle.std.proofs.lemmas.Bool.Decides.{nat_tests}
 use Rattle.vol_layout.specs.Edition.{constants}
 use Rattle.vol_layout.specs.Geometry.{Fits}
@@ -21,7 +21,7 @@ use Rattle.vol_layout.specs.declared.geometry.Geometry.{Geometry}
 use Rattle.vol_volume.specs.declared.calls.Call.{Call}
 use Rattle.vol_volume.specs.declared.calls.Call.TheVariants.{Create, Mkdir, Link, Unlink, Rmdir, Write, Truncate}
 use Rattle.vol_volume.specs.declared.calls.Done.{Done}
-use Rattle.vol_volume.specs.declared.calls.Done.TheVariants.{Made, Wrote, Plain}
+use Rattle.vol_volume.specs.declared.calls.Done.TheVariants.{Made, Plain}
 
 -- a call is performed where its change is made
 pub performed_by : (geometry : Geometry) (old new : List ℕ) (call : Call) (done : Done) (made : State) (free : ℕ)

@@ -5,7 +5,7 @@ use Rattle.std.specs.Option.{option_map, option_map_or, ok_or}
 use Rattle.std.proofs.lemmas.Bool.{false≢true}
 use Rattle.vol_dir.specs.Access.{grants, may_execute, may_read, may_write}
 use Rattle.vol_dir.specs.Names.{Names, get}
-use Rattle.vol_dir.specs.Tree.{Content, Node, Tree, State}
+use Rattle.vol_dir.specs.Tree.{Node, Tree, State}
 use Rattle.vol_dir.specs.Walk.{map_of, search_node, search, and_then, find_in, walk_from, walk, parent_from, walk_parent, split_last, components, root, is_directory}
 use Rattle.vol_volume.specs.Mkfs.{is_bad_id}
 use Rattle.vol_node.specs.Nodes.{node_at}

@@ -1,5 +1,5 @@
 -- The geometry of a sound image can be read.
-use Rattle.std.proofs.Common.{◌≡◌, List, ℕ, ap, refl, sym, subst, ◌∙◌, Ok}
+use Rattle.std.proofs.Common.{◌≡◌, List, ℕ, refl, sym, subst, Ok}
 use Rattle.vol_layout.specs.Geometry.{geometry_of, geometry_read}
 use Rattle.vol_judge.specs.Sound.{Rule, IsSound}
 use Rattle.vol_layout.specs.declared.edition.Edition.{Edition}

@@ -1,5 +1,5 @@
 -- The journal of accepted calls: which records may follow one another, and what they make of a volume.
-use Rattle.std.specs.Prelude.{◌≡◌, ℕ, true, List, [], ◌∷◌, length, None, Some}
+use Rattle.std.specs.Prelude.{◌≡◌, true, List, [], ◌∷◌, length, None, Some}
 use Rattle.vol_dir.specs.Tree.{State}
 use Rattle.vol_volume.specs.Verdict.{verdict, is_free_number}
 use Rattle.vol_volume.specs.Step.{step}

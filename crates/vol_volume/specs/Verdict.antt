@@ -1,13 +1,12 @@
 -- Which refusal a call meets, if any. The refusals are asked in a fixed order, and the first that applies is the answer.
-use Rattle.std.specs.Prelude.{ℕ, ◌+◌, ◌*◌, ◌==◌, ◌&&◌, Bool, true, false, not, max, nat_lt, nat_le, if◌then◌else◌, List, [], ◌∷◌, ◌++◌, length, Option, None, Some, is_none, is_some, Result, Ok, Err}
-use Rattle.std.specs.Option.{unwrap_or}
+use Rattle.std.specs.Prelude.{ℕ, ◌+◌, ◌==◌, ◌&&◌, Bool, true, false, not, nat_lt, nat_le, if◌then◌else◌, List, [], ◌∷◌, ◌++◌, length, Option, None, Some, is_none, is_some, Result, Ok, Err}
 use Rattle.std.specs.List.{list_any, range_with_len}
 use Rattle.vol_layout.specs.Edition.{constants}
 use Rattle.vol_file.specs.Shape.{touched}
 use Rattle.vol_dir.specs.Access.{grants, may_write}
-use Rattle.vol_dir.specs.Names.{Names, get, is_dots}
+use Rattle.vol_dir.specs.Names.{get, is_dots}
 use Rattle.vol_dir.specs.Tree.{Content, Body, Directory, Device, Node, Tree, State, free_count}
-use Rattle.vol_dir.specs.Walk.{root, map_of, is_directory, walk, walk_parent}
+use Rattle.vol_dir.specs.Walk.{root, is_directory, walk, walk_parent}
 use Rattle.vol_volume.specs.Mkfs.{is_bad_id}
 use Rattle.vol_node.specs.Nodes.{node_at, names_at, entry_of, size_with_entry}
 use Rattle.vol_node.specs.Shapes.{need_in}

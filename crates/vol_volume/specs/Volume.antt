@@ -1,9 +1,9 @@
 -- A mounted volume, and what its calls promise.
-use Rattle.std.specs.Prelude.{◌≡◌, ℕ, ◌+◌, ◌*◌, ◌&&◌, ◌||◌, Bool, true, false, nat_le, nat_lt, List, [], ◌∷◌, ◌++◌, length, slice_index, None}
+use Rattle.std.specs.Prelude.{◌≡◌, ℕ, ◌+◌, ◌*◌, ◌&&◌, ◌||◌, Bool, false, nat_le, nat_lt, List, [], ◌∷◌, ◌++◌, length, slice_index, None}
 use Rattle.vol_layout.specs.Geometry.{geometry_of, block_count}
 use Rattle.vol_layout.specs.Super.{free_head, time_place}
 use Rattle.vol_dir.specs.Tree.{State, state}
-use Rattle.vol_judge.specs.Sound.{IsSound, IsLeastBroken}
+use Rattle.vol_judge.specs.Sound.{IsSound}
 use Rattle.vol_volume.specs.Verdict.{verdict}
 use Rattle.vol_volume.specs.Step.{step}
 use Rattle.vol_volume.specs.Journal.{MayAnswer, after, IsLegal}

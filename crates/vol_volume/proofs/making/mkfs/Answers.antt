@@ -1,4 +1,4 @@
-use Rattle.std.proofs.Common.{◌≡◌, ◌∙◌, sym, ap, subst}
+use Rattle.std.proofs.Common.{◌≡◌, sym, ap, subst}
 use Rattle.vol_layout.specs.declared.edition.Edition.{Edition}
 use Rattle.vol_judge.specs.Sound.{IsSound}
 use Rattle.vol_volume.proofs.NewRules.{new_sound}

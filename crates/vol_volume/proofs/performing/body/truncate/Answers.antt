@@ -1,4 +1,4 @@
-use Rattle.std.proofs.Common.{◌≡◌, ◌+◌, ◌^◌, ◌≤◌, ◌<◌, ◌∙◌, ap, sym, refl, arith}
+use Rattle.std.proofs.Common.{◌≡◌, ◌+◌, ◌^◌, ◌<◌, arith}
 use Rattle.vol_dir.specs.Tree.{tree, shapes, state, place_count}
 use Rattle.vol_node.specs.Edits.{at_time, after_truncate}
 use Rattle.vol_change.specs.Ready.{free_in}

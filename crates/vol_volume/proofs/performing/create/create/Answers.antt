@@ -1,4 +1,4 @@
-use Rattle.std.proofs.Common.{◌≡◌, ◌-◌, ◌+◌, ◌≤◌, ◌∙◌, ap, sym, arith}
+use Rattle.std.proofs.Common.{◌≡◌, ◌-◌, ◌≤◌, arith}
 use Rattle.vol_dir.specs.Tree.{tree, state}
 use Rattle.vol_node.specs.Edits.{at_time}
 use Rattle.vol_change.specs.Effects.{after_create}

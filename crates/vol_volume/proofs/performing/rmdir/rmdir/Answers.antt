@@ -1,4 +1,4 @@
-use Rattle.std.proofs.Common.{◌≡◌, ℕ, ◌+◌, ◌^◌, ◌≤◌, ◌<◌, ◌∙◌, ap, sym, refl, arith}
+use Rattle.std.proofs.Common.{◌≡◌, ℕ, ◌+◌, ◌^◌, ◌<◌, ◌∙◌, ap, sym, arith}
 use Rattle.vol_dir.specs.Tree.{tree, shapes, state, place_count}
 use Rattle.vol_dir.specs.Walk.{is_directory}
 use Rattle.vol_node.specs.Edits.{at_time}

@@ -1,6 +1,4 @@
-use Rattle.std.proofs.Common.{◌≡◌, ◌∙◌, ap, sym, None, List, [], ◌∷◌, ◌++◌}
-use Rattle.vol_dir.specs.Tree.{state}
-use Rattle.vol_volume.specs.Verdict.{verdict}
+use Rattle.std.proofs.Common.{◌∙◌, ap, sym, List, [], ◌∷◌, ◌++◌}
 use Rattle.vol_volume.proofs.AcceptedCalls.{fields_kept, fields_accepted, refused}
 use Rattle.vol_volume.specs.declared.calls.Record.{Record}
 use Rattle.vol_volume.proofs.volume.Volume.call.Goals as goal

@@ -194,17 +194,17 @@ impl Volume {
     /// room for it, the record comes back and nothing changes.
     ///
     /// Takes memory for the journal alone. Costs what [`Volume::call`] does but for its tests.
-    pub fn redo(&mut self, alloc: Global, record: Record) -> Result<(), (AllocError, Record)>
-        requires { MayFollow (reads_as self.old.edition self.old.image) «record» }
-        ensures accepted { IfOk result (λ _. Accepts self.old self.new «record».call «record».done) }
-        ensures handed_back { IfErr result (λ (error, same). same ≡ «record») }
+    pub fn redo(&mut self, alloc: Global, entry: Record) -> Result<(), (AllocError, Record)>
+        requires { MayFollow (reads_as self.old.edition self.old.image) entry }
+        ensures accepted { IfOk result (λ _. Accepts self.old self.new entry.call entry.done) }
+        ensures handed_back { IfErr result (λ (error, same). same ≡ entry) }
         ensures unchanged { IfErr result (λ (error, same). self.new ≡ self.old) }
     {
         let _ = alloc;
         if self.records.reserve(1).is_err() {
-            return Err((AllocError, record));
+            return Err((AllocError, entry));
         }
-        let Record { call, done } = record;
+        let Record { call, done } = entry;
         accept(
             &mut self.current,
             &self.geometry,

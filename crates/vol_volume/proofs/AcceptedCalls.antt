@@ -18,7 +18,6 @@ use Rattle.vol_volume.specs.Volume.{Mounted, reads_as, SameElsewhere, IsConsiste
 use Rattle.vol_volume.proofs.Journals.{kept_consistent}
 use Rattle.vol_volume.proofs.Refusals.{refused_so}
 use Rattle.vol_dir.specs.declared.refusal.Refusal.{Refusal}
-use Rattle.vol_dir.specs.declared.refusal.Refusal.TheVariants as refusals
 use Rattle.vol_volume.specs.declared.calls.Call.{Call}
 use Rattle.vol_volume.specs.declared.calls.Done.{Done}
 use Rattle.vol_volume.specs.declared.calls.Record.{Record}
@@ -125,11 +124,6 @@ pub refused : (geometry : Geometry) (image : List ℕ) (call : Call) (refusal : 
     → verdict (state geometry image) call ≡ Some refusal → Refuses (reads_as geometry.edition image) call refusal
 refused geometry image call refusal sizes says =
     refused_so (reads_as geometry.edition image) call refusal (subst (λ g. verdict (state g image) call ≡ Some refusal) sizes says)
-
--- and one that is refused for want of memory was accepted
-pub refused_memory : (geometry : Geometry) (image : List ℕ) (call : Call) → geometry ≡ geometry_of geometry.edition image
-    → verdict (state geometry image) call ≡ None → Refuses (reads_as geometry.edition image) call refusals.NoMemory
-refused_memory geometry image call sizes accepted = subst (λ g. verdict (state g image) call ≡ None) sizes accepted
 
 -- a call that what the image reads as accepts is accepted
 pub accepted_back : (geometry : Geometry) (image : List ℕ) (call : Call) → geometry ≡ geometry_of geometry.edition image

@@ -3,7 +3,6 @@ pub mod AcceptedCalls
 mod AnsweredQueries
 pub mod Journals
 mod ListedNames
-pub mod NeverLaws
 pub mod NewDirectories
 pub mod NewFiles
 pub mod NewRules

@@ -4,7 +4,6 @@ pub mod Faults
 pub mod Journal
 pub mod Laws
 pub mod Mkfs
-pub mod Never
 pub mod Performing
 pub mod Standing
 pub mod Step

@@ -1,5 +1,4 @@
 //! Calls that nothing speaks against, performed.
-ghost use Rattle.vol_volume.specs.Never.{Never};
 ghost use Rattle.std.specs.Prelude.{◌≡◌, true, false, None, Some, Ok, IfSome};
 ghost use Rattle.vol_layout.specs.Geometry.{Fits};
 ghost use Rattle.vol_dir.specs.Entries.{IsDirectory, IsInUse, HasEntries};
@@ -54,7 +53,6 @@ pub(crate) fn perform(
     call: &Call,
     recorded: Option<Done>,
 ) -> Performed
-    requires never { Never }
     requires ready { IsReady geometry.now image.old }
     requires count { free ≡ free_in (state geometry.now image.old) }
     requires accepted { verdict (state geometry.now image.old) call.now ≡ None }

@@ -1,5 +1,4 @@
 //! Mounted volumes.
-ghost use Rattle.vol_volume.specs.Never.{Never};
 ghost use Rattle.std.specs.Prelude.{◌≡◌, ◌<◌, IfOk, IfErr, IfSome, List, [], ◌∷◌, ◌++◌, ℕ, vec_len, vec_capacity, None};
 ghost use Rattle.vol_layout.specs.Geometry.{geometry_of};
 ghost use Rattle.vol_dir.specs.Tree.{state, free_count, shapes};
@@ -168,7 +167,6 @@ impl Volume {
     /// i-number is cached, for a write its bytes and the ways of their blocks, and for what becomes free the
     /// places of the file, twice.
     pub fn call(&mut self, alloc: Global, call: Call) -> Result<Done, (Refusal, Call)>
-        requires never { Never }
         ensures accepted { IfOk result (λ done. Accepts self.old self.new call done) }
         ensures refused { IfErr result (λ (refusal, same). Refuses (reads_as self.old.edition self.old.image) call refusal) }
         ensures handed_back { IfErr result (λ (refusal, same). same ≡ call) }
@@ -196,18 +194,17 @@ impl Volume {
     /// room for it, the record comes back and nothing changes.
     ///
     /// Takes memory for the journal alone. Costs what [`Volume::call`] does but for its tests.
-    pub fn redo(&mut self, alloc: Global, record: Record) -> Result<(), (AllocError, Record)>
-        requires never { Never }
-        requires next { MayFollow (reads_as self.old.edition self.old.image) «record» }
-        ensures accepted { IfOk result (λ _. Accepts self.old self.new «record».call «record».done) }
-        ensures handed_back { IfErr result (λ (error, same). same ≡ «record») }
+    pub fn redo(&mut self, alloc: Global, entry: Record) -> Result<(), (AllocError, Record)>
+        requires { MayFollow (reads_as self.old.edition self.old.image) entry }
+        ensures accepted { IfOk result (λ _. Accepts self.old self.new entry.call entry.done) }
+        ensures handed_back { IfErr result (λ (error, same). same ≡ entry) }
         ensures unchanged { IfErr result (λ (error, same). self.new ≡ self.old) }
     {
         let _ = alloc;
         if self.records.reserve(1).is_err() {
-            return Err((AllocError, record));
+            return Err((AllocError, entry));
         }
-        let Record { call, done } = record;
+        let Record { call, done } = entry;
         accept(
             &mut self.current,
             &self.geometry,
@@ -244,7 +241,6 @@ fn accept(
     call: Call,
     recorded: Option<Done>,
 ) -> Done
-    requires never { Never }
     requires sound { IsSound geometry.now.edition image.old }
     requires sizes { geometry.now ≡ geometry_of geometry.now.edition image.old }
     requires count { free.old ≡ free_count geometry.now (shapes geometry.now image.old) }

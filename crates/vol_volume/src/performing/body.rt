@@ -1,5 +1,4 @@
 //! Calls that change the bytes of a file.
-ghost use Rattle.vol_volume.specs.Never.{Never};
 ghost use Rattle.std.specs.Prelude.{◌≡◌, None, length};
 ghost use Rattle.vol_dir.specs.Tree.{state};
 ghost use Rattle.vol_change.specs.Ready.{IsReady, free_in};
@@ -25,7 +24,6 @@ pub(crate) fn write(
     offset: u32,
     bytes: &[u8],
 ) -> Performed
-    requires never { Never }
     requires ready { IsReady geometry.now image.old }
     requires count { free ≡ free_in (state geometry.now image.old) }
     requires accepted { verdict (state geometry.now image.old) (Call.Write cred moment path.now offset bytes.now) ≡ None }
@@ -52,7 +50,6 @@ pub(crate) fn truncate(
     moment: u32,
     path: &[u8],
 ) -> Performed
-    requires never { Never }
     requires ready { IsReady geometry.now image.old }
     requires count { free ≡ free_in (state geometry.now image.old) }
     requires accepted { verdict (state geometry.now image.old) (Call.Truncate cred moment path.now) ≡ None }

@@ -1,5 +1,4 @@
 //! A call for a new file.
-ghost use Rattle.vol_volume.specs.Never.{Never};
 ghost use Rattle.std.specs.Prelude.{◌≡◌, true, None, IfSome};
 ghost use Rattle.vol_dir.specs.Tree.{tree, state};
 ghost use Rattle.vol_change.specs.Ready.{IsReady, free_in};
@@ -22,7 +21,6 @@ pub(crate) fn create(
     path: &[u8],
     recorded: Option<u16>,
 ) -> Performed
-    requires never { Never }
     requires ready { IsReady geometry.now image.old }
     requires count { free ≡ free_in (state geometry.now image.old) }
     requires accepted { verdict (state geometry.now image.old) (Call.Create new.owner new.moment path.now new.permissions) ≡ None }

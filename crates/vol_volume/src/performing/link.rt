@@ -1,5 +1,4 @@
 //! A call for a further name.
-ghost use Rattle.vol_volume.specs.Never.{Never};
 ghost use Rattle.std.specs.Prelude.{◌≡◌, None};
 ghost use Rattle.vol_dir.specs.Tree.{state};
 ghost use Rattle.vol_change.specs.Ready.{IsReady, free_in};
@@ -23,7 +22,6 @@ pub(crate) fn link(
     source: &[u8],
     target: &[u8],
 ) -> Performed
-    requires never { Never }
     requires ready { IsReady geometry.now image.old }
     requires count { free ≡ free_in (state geometry.now image.old) }
     requires accepted { verdict (state geometry.now image.old) (Call.Link cred moment source.now target.now) ≡ None }

@@ -1,5 +1,4 @@
 //! A call by which a directory goes.
-ghost use Rattle.vol_volume.specs.Never.{Never};
 ghost use Rattle.std.specs.Prelude.{◌≡◌, None};
 ghost use Rattle.vol_dir.specs.Tree.{state};
 ghost use Rattle.vol_change.specs.Ready.{IsReady, free_in};
@@ -22,7 +21,6 @@ pub(crate) fn rmdir(
     moment: u32,
     path: &[u8],
 ) -> Performed
-    requires never { Never }
     requires ready { IsReady geometry.now image.old }
     requires count { free ≡ free_in (state geometry.now image.old) }
     requires accepted { verdict (state geometry.now image.old) (Call.Rmdir cred moment path.now) ≡ None }

@@ -1,5 +1,4 @@
 //! A call by which a name goes.
-ghost use Rattle.vol_volume.specs.Never.{Never};
 ghost use Rattle.std.specs.Prelude.{◌≡◌, ◌≤◌, None, nat_le, if◌then◌else◌};
 ghost use Rattle.vol_dir.specs.Entries.{IsInUse};
 ghost use Rattle.vol_dir.specs.Tree.{tree, shapes, state, place_count};
@@ -40,7 +39,6 @@ pub(crate) fn unlink(
     moment: u32,
     path: &[u8],
 ) -> Performed
-    requires never { Never }
     requires ready { IsReady geometry.now image.old }
     requires count { free ≡ free_in (state geometry.now image.old) }
     requires accepted { verdict (state geometry.now image.old) (Call.Unlink cred moment path.now) ≡ None }

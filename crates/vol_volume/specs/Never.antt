@@ -1,4 +1,0 @@
--- never
-
-unfoldable pub Never : Type 0
-Never = ⊥

@@ -6,7 +6,7 @@ ghost use Rattle.unixvol.specs.Decimal.{IsNumberUpTo};
 use crate::decimal::word_of;
 use crate::making::NewVolume;
 use clap::error::ErrorKind;
-use clap::{Arg, ArgMatches, Command, Error};
+use clap::{ArgMatches, Command, Error};
 use std::alloc::{AllocError, Global};
 use vol_layout::Edition;
 
@@ -15,7 +15,7 @@ mod texts;
 mod volumes;
 mod words;
 
-use words::{EDITION, IMAGE, Verb, edition_argument, wrong_value};
+use words::{EDITION, IMAGE, Verb, edition_argument, required, wrong_value};
 
 /// A volume in a file.
 #[derive(Clone, Copy, Debug, PartialEq, Eq)]
@@ -112,18 +112,30 @@ pub fn read<'a>(alloc: Global, words: &'a [String]) -> Result<Invocation<'a>, Er
 
 /// The whole command line.
 fn command_line<'a>(alloc: Global) -> Result<Command<'a>, AllocError> {
-    Command::new(alloc, "unixvol")
+    let command = Command::new(alloc, "unixvol")
         .version("0.1.0")
         .about(texts::ABOUT)
         .after_help(texts::STATUSES)
         .subcommand_required(true)
-        .arg_required_else_help(true)
+        .arg_required_else_help(true);
+    with_changes(alloc, with_prints(alloc, command)?)
+}
+
+/// With the commands that print something of a volume.
+fn with_prints<'a>(alloc: Global, command: Command<'a>) -> Result<Command<'a>, AllocError> {
+    command
         .subcommand(cat_command(alloc)?)?
         .subcommand(volumes::ls_command(alloc)?)?
-        .subcommand(volumes::get_command(alloc)?)?
+        .subcommand(volumes::get_command(alloc)?)
+}
+
+/// With the commands that make or change a volume.
+fn with_changes<'a>(alloc: Global, command: Command<'a>) -> Result<Command<'a>, AllocError> {
+    let command = command
         .subcommand(mkfs::command(alloc)?)?
         .subcommand(volumes::put_command(alloc)?)?
-        .subcommand(volumes::rm_command(alloc)?)?
+        .subcommand(volumes::rm_command(alloc)?)?;
+    command
         .subcommand(volumes::rmdir_command(alloc)?)?
         .subcommand(volumes::mkdir_command(alloc)?)?
         .subcommand(volumes::ln_command(alloc)?)
@@ -135,8 +147,8 @@ fn cat_command<'a>(alloc: Global) -> Result<Command<'a>, AllocError> {
         .about(texts::CAT_ABOUT)
         .after_help(texts::CAT_MORE)
         .arg(edition_argument(alloc))?
-        .arg(Arg::new(alloc, IMAGE).required(true).help(texts::IMAGE))?
-        .arg(Arg::new(alloc, INO).required(true).help(texts::INO))
+        .arg(required(alloc, IMAGE, texts::IMAGE))?
+        .arg(required(alloc, INO, texts::INO))
 }
 
 /// Reads the words of `cat`.
@@ -192,3 +204,6 @@ fn edition_of(text: &str) -> Option<Edition>
         _ => None,
     }
 }
+
+#[cfg(test)]
+mod tests;

@@ -2,10 +2,10 @@
 ghost use Rattle.std.specs.Prelude.{IfOk};
 ghost use Rattle.unixvol.specs.CommandLine.{AsksForMkfs};
 
-use super::words::{IMAGE, NOW, Verb, edition_argument, edition_in, long_in, word_in};
+use super::words::{IMAGE, NOW, Verb, edition_argument, edition_in, long_in, required, word_in};
 use super::{Invocation, texts};
 use crate::making::NewVolume;
-use clap::{Arg, ArgMatches, Command, Error};
+use clap::{ArgMatches, Command, Error};
 use std::alloc::{AllocError, Global};
 
 /// Names of the arguments, as the help shows them.
@@ -23,16 +23,12 @@ pub(super) fn command<'a>(alloc: Global) -> Result<Command<'a>, AllocError> {
         .about(texts::MKFS_ABOUT)
         .after_help(texts::MKFS_MORE)
         .arg(edition_argument(alloc))?
-        .arg(Arg::new(alloc, IMAGE).required(true).help(texts::NEW_IMAGE))?
-        .arg(Arg::new(alloc, BLOCKS).required(true).help(texts::BLOCKS))?
-        .arg(
-            Arg::new(alloc, LIST_BLOCKS)
-                .required(true)
-                .help(texts::LIST_BLOCKS),
-        )?
-        .arg(Arg::new(alloc, UID).required(true).help(texts::UID))?
-        .arg(Arg::new(alloc, GID).required(true).help(texts::GID))?
-        .arg(Arg::new(alloc, NOW).required(true).help(texts::NOW))
+        .arg(required(alloc, IMAGE, texts::NEW_IMAGE))?
+        .arg(required(alloc, BLOCKS, texts::BLOCKS))?
+        .arg(required(alloc, LIST_BLOCKS, texts::LIST_BLOCKS))?
+        .arg(required(alloc, UID, texts::UID))?
+        .arg(required(alloc, GID, texts::GID))?
+        .arg(required(alloc, NOW, texts::NOW))
 }
 
 /// Reads the words of `mkfs`.

@@ -2,9 +2,9 @@
 ghost use Rattle.std.specs.Prelude.{IfOk};
 ghost use Rattle.unixvol.specs.CommandLine.{IsVolumeGiven, AsksForLs, AsksForGet, AsksForPut, AsksForRm, AsksForRmdir, AsksForMkdir, AsksForLn};
 
-use super::words::{EDITION, IMAGE, NOW, Verb, edition_argument, edition_in, long_in};
+use super::words::{IMAGE, NOW, Verb, edition_argument, edition_in, long_in, required};
 use super::{Invocation, Job, VolumeFile, texts};
-use clap::{Arg, ArgMatches, Command, Error};
+use clap::{ArgMatches, Command, Error};
 use std::alloc::{AllocError, Global};
 
 /// Names of the arguments, as the help shows them.
@@ -18,7 +18,7 @@ const TO: &str = "TO";
 
 /// The command `ls`.
 pub(super) fn ls_command<'a>(alloc: Global) -> Result<Command<'a>, AllocError> {
-    on_volume(alloc, "ls", texts::LS_ABOUT, texts::LS_MORE)?.arg(word(
+    on_volume(alloc, "ls", texts::LS_ABOUT, texts::LS_MORE)?.arg(required(
         alloc,
         PATH,
         texts::DIRECTORY,
@@ -27,7 +27,7 @@ pub(super) fn ls_command<'a>(alloc: Global) -> Result<Command<'a>, AllocError> {
 
 /// The command `get`.
 pub(super) fn get_command<'a>(alloc: Global) -> Result<Command<'a>, AllocError> {
-    on_volume(alloc, "get", texts::GET_ABOUT, texts::GET_MORE)?.arg(word(
+    on_volume(alloc, "get", texts::GET_ABOUT, texts::GET_MORE)?.arg(required(
         alloc,
         PATH,
         texts::REGULAR,
@@ -37,38 +37,38 @@ pub(super) fn get_command<'a>(alloc: Global) -> Result<Command<'a>, AllocError> 
 /// The command `put`.
 pub(super) fn put_command<'a>(alloc: Global) -> Result<Command<'a>, AllocError> {
     on_volume(alloc, "put", texts::PUT_ABOUT, texts::PUT_MORE)?
-        .arg(word(alloc, PATH, texts::REGULAR))?
-        .arg(word(alloc, FILE, texts::FILE))?
-        .arg(word(alloc, NOW, texts::CALL_NOW))
+        .arg(required(alloc, PATH, texts::REGULAR))?
+        .arg(required(alloc, FILE, texts::FILE))?
+        .arg(required(alloc, NOW, texts::CALL_NOW))
 }
 
 /// The command `rm`.
 pub(super) fn rm_command<'a>(alloc: Global) -> Result<Command<'a>, AllocError> {
     on_volume(alloc, "rm", texts::RM_ABOUT, texts::RM_MORE)?
-        .arg(word(alloc, PATH, texts::NAMED))?
-        .arg(word(alloc, NOW, texts::CALL_NOW))
+        .arg(required(alloc, PATH, texts::NAMED))?
+        .arg(required(alloc, NOW, texts::CALL_NOW))
 }
 
 /// The command `rmdir`.
 pub(super) fn rmdir_command<'a>(alloc: Global) -> Result<Command<'a>, AllocError> {
     on_volume(alloc, "rmdir", texts::RMDIR_ABOUT, texts::RMDIR_MORE)?
-        .arg(word(alloc, PATH, texts::DIRECTORY))?
-        .arg(word(alloc, NOW, texts::CALL_NOW))
+        .arg(required(alloc, PATH, texts::DIRECTORY))?
+        .arg(required(alloc, NOW, texts::CALL_NOW))
 }
 
 /// The command `mkdir`.
 pub(super) fn mkdir_command<'a>(alloc: Global) -> Result<Command<'a>, AllocError> {
     on_volume(alloc, "mkdir", texts::MKDIR_ABOUT, texts::MKDIR_MORE)?
-        .arg(word(alloc, PATH, texts::DIRECTORY))?
-        .arg(word(alloc, NOW, texts::CALL_NOW))
+        .arg(required(alloc, PATH, texts::DIRECTORY))?
+        .arg(required(alloc, NOW, texts::CALL_NOW))
 }
 
 /// The command `ln`.
 pub(super) fn ln_command<'a>(alloc: Global) -> Result<Command<'a>, AllocError> {
     on_volume(alloc, "ln", texts::LN_ABOUT, texts::LN_MORE)?
-        .arg(word(alloc, FROM, texts::NAMED))?
-        .arg(word(alloc, TO, texts::NEW_NAME))?
-        .arg(word(alloc, NOW, texts::CALL_NOW))
+        .arg(required(alloc, FROM, texts::NAMED))?
+        .arg(required(alloc, TO, texts::NEW_NAME))?
+        .arg(required(alloc, NOW, texts::CALL_NOW))
 }
 
 /// A command whose first words are the edition and the image.
@@ -82,12 +82,7 @@ fn on_volume<'a>(
         .about(about)
         .after_help(more)
         .arg(edition_argument(alloc))?
-        .arg(word(alloc, IMAGE, texts::IMAGE))
-}
-
-/// A word that is required.
-fn word<'a>(alloc: Global, name: &'a str, help: &'a str) -> Arg<'a> {
-    Arg::new(alloc, name).required(true).help(help)
+        .arg(required(alloc, IMAGE, texts::IMAGE))
 }
 
 /// Reads the words of `ls`.

@@ -59,6 +59,11 @@ pub fn edition_argument<'a>(alloc: Global) -> Arg<'a> {
         .help(texts::EDITION)
 }
 
+/// A word that is required.
+pub fn required<'a>(alloc: Global, name: &'a str, help: &'a str) -> Arg<'a> {
+    Arg::new(alloc, name).required(true).help(help)
+}
+
 /// The edition that was given.
 pub fn edition_in(alloc: Global, verb: Verb, values: &ArgMatches<'_>) -> Result<Edition, Error>
     ensures { IfOk result (λ edition. IsEditionNamed edition (given_in values.now (codes "EDITION"))) }

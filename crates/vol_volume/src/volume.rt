@@ -285,6 +285,8 @@ fn sound_geometry(edition: Edition, image: &Image) -> Geometry
 }
 
 #[cfg(test)]
+mod calls_tests;
+#[cfg(test)]
 mod rules_tests;
 #[cfg(test)]
 mod tests;

@@ -409,6 +409,166 @@ misread 'error: the following required arguments were not provided' mkfs 6 volum
 misread 'error: unexpected argument' mkfs 6 volumes/kept 20 2 0 0 0 0
 saves 'a file whose command line was misread' volumes/kept hello
 
+# Words of the commands on trees that are none of the command line's.
+for command in 'ls /' 'get /a' 'put /a hello 1' 'rm /a 1' 'rmdir /a 1' 'mkdir /a 1' 'ln /a /b 1'; do
+    read -r -a given <<< "$command"
+    misread "error: invalid value '8'" "${given[0]}" 8 volumes/a "${given[@]:1}"
+    misread 'error: the following required arguments were not provided' "${given[0]}" 6 volumes/a "${given[@]:2}"
+    misread 'error: unexpected argument' "${given[0]}" 6 volumes/a "${given[@]:1}" 2
+done
+for number in 4294967296 +1 0x1 '' one; do
+    misread "error: invalid value '$number' for '<NOW>'" put 6 volumes/a /a hello "$number"
+    misread "error: invalid value '$number' for '<NOW>'" rm 6 volumes/a /a "$number"
+    misread "error: invalid value '$number' for '<NOW>'" rmdir 6 volumes/a /a "$number"
+    misread "error: invalid value '$number' for '<NOW>'" mkdir 6 volumes/a /a "$number"
+    misread "error: invalid value '$number' for '<NOW>'" ln 6 volumes/a /a /b "$number"
+done
+saves 'a volume whose command line was misread' volumes/a made
+
+# The tree of a volume, for each edition: the root's i-number, and those of the first two files or directories that are made.
+# lists IMAGE PATH LINE..: `ls` prints these lines
+lists() {
+    local volume=$1 path=$2
+    shift 2
+    printf '%s\n' "$@" > lines
+    prints lines ls "$edition" "$volume" "$path"
+}
+
+for numbers in '6 1 32 31' '7 2 16 15'; do
+    read -r edition top first second <<< "$numbers"
+    dots=("    $top ." "    $top ..")
+    tree=volumes/tree$edition
+    prints none mkfs "$edition" "$tree" 100 2 0 0 1000
+    chmod 640 "$tree"
+    cp "$tree" empty
+    lists "$tree" / "${dots[@]}"
+    prints none put "$edition" "$tree" /hello hello 1001
+    lists "$tree" '' "${dots[@]}" "   $first hello"
+    prints hello get "$edition" "$tree" /hello
+    prints hello get "$edition" "$tree" hello//
+    prints hello cat "$edition" "$tree" "$first"
+    prints none mkdir "$edition" "$tree" /d 1002
+    lists "$tree" / "${dots[@]}" "   $second d" "   $first hello"
+    lists "$tree" d/ "   $second ." "    $top .."
+    prints none ln "$edition" "$tree" /hello /d/again 1003
+    lists "$tree" /d "   $second ." "    $top .." "   $first again"
+    prints none put "$edition" "$tree" /d/../d/again long_hello 1004
+    prints long_hello get "$edition" "$tree" /hello
+    prints none put "$edition" "$tree" /d/none none 1005
+    prints none get "$edition" "$tree" /d/none
+    cp "$tree" before
+    # What is refused leaves the image as it was.
+    refuses 1 'unixvol: 2 NoEntry' ls "$edition" "$tree" /none
+    refuses 1 'unixvol: 20 NotDirectory' ls "$edition" "$tree" /hello
+    refuses 1 'unixvol: 2 NoEntry' get "$edition" "$tree" /none
+    refuses 1 'unixvol: 20 NotDirectory' get "$edition" "$tree" /hello/none
+    refuses 1 'unixvol: 21 IsDirectory' get "$edition" "$tree" /d
+    refuses 1 'unixvol: 2 NoEntry' put "$edition" "$tree" /none/a hello 2000
+    refuses 1 'unixvol: 20 NotDirectory' put "$edition" "$tree" /hello/a hello 2000
+    refuses 1 'unixvol: 21 IsDirectory' put "$edition" "$tree" / hello 2000
+    refuses 1 'unixvol: 2 NoEntry' rm "$edition" "$tree" /none 2000
+    refuses 1 'unixvol: 21 IsDirectory' rm "$edition" "$tree" /d 2000
+    refuses 1 'unixvol: 2 NoEntry' rmdir "$edition" "$tree" /none 2000
+    refuses 1 'unixvol: 20 NotDirectory' rmdir "$edition" "$tree" /hello 2000
+    refuses 1 'unixvol: 22 Invalid' rmdir "$edition" "$tree" / 2000
+    refuses 1 'unixvol: 22 Invalid' rmdir "$edition" "$tree" /d/.. 2000
+    refuses 1 'unixvol: 101 NotEmpty' rmdir "$edition" "$tree" /d 2000
+    refuses 1 'unixvol: 17 Exists' mkdir "$edition" "$tree" /d 2000
+    refuses 1 'unixvol: 2 NoEntry' mkdir "$edition" "$tree" /none/a 2000
+    refuses 1 'unixvol: 2 NoEntry' ln "$edition" "$tree" /none /a 2000
+    refuses 1 'unixvol: 17 Exists' ln "$edition" "$tree" /hello /d 2000
+    refuses 1 'unixvol: 21 IsDirectory' ln "$edition" "$tree" /d /e 2000
+    body great 50000
+    refuses 1 'unixvol: 28 NoSpace' put "$edition" "$tree" /great great 2000
+    saves 'a volume that commands were refused on' "$tree" before
+    # And back to the start: all that was made goes.
+    prints none rm "$edition" "$tree" /d/none 1007
+    prints none rm "$edition" "$tree" hello 1008
+    prints long_hello get "$edition" "$tree" /d/again
+    prints none rm "$edition" "$tree" /d/again 1009
+    prints none rmdir "$edition" "$tree" /d 1010
+    lists "$tree" / "${dots[@]}"
+    has 'the permissions of a volume that was changed' 640 "$(stat -c %a "$tree")"
+    has 'the size of a volume that was changed' 51200 "$(wc -c < "$tree")"
+    # All blocks but the root's are free again: a file takes them, down to the last.
+    case $edition in
+        6) blocks=94 ;; # of 95, one names the others
+        7) blocks=94 ;;
+    esac
+    body all $((blocks * 512))
+    prints none put "$edition" "$tree" /all all 1011
+    prints all get "$edition" "$tree" /all
+    refuses 1 'unixvol: 28 NoSpace' put "$edition" "$tree" /more hello 1012
+    prints none put "$edition" "$tree" /more none 1013
+    refuses 1 'unixvol: 28 NoSpace' mkdir "$edition" "$tree" /d 1014
+    prints none rm "$edition" "$tree" /all 1015
+    prints none mkdir "$edition" "$tree" /d 1016
+done
+
+# Refusals that want a volume of their own: i-nodes, links, sizes, special files.
+edition=6
+prints none mkfs 6 volumes/small 20 1 0 0 0
+for number in $(seq 15); do prints none put 6 volumes/small "/f$number" none 1; done
+refuses 1 'unixvol: 103 NoInode' put 6 volumes/small /f16 none 1
+refuses 1 'unixvol: 103 NoInode' mkdir 6 volumes/small /d 1
+for number in $(seq 126); do "$program" ln 6 volumes/small /f1 "/l$number" 1 || break; done
+refuses 1 'unixvol: 31 TooManyLinks' ln 6 volumes/small /f1 /l127 1
+body great 16777216
+refuses 1 'unixvol: 27 TooBig' put 6 volumes/small /f1 great 1
+prints none mkfs 6 volumes/special 20 2 0 0 0
+prints none put 6 volumes/special /tty none 1
+put volumes/special $((1024 + 32 * 31)) 'A4 A1'
+lists volumes/special / '    1 .' '    1 ..' '   32 tty'
+refuses 1 'unixvol: 102 NotRegular' get 6 volumes/special /tty
+refuses 1 'unixvol: 102 NotRegular' put 6 volumes/special /tty hello 1
+prints none ln 6 volumes/special /tty /terminal 1
+prints none rm 6 volumes/special /tty 1
+prints none rm 6 volumes/special /terminal 1
+lists volumes/special / '    1 .' '    1 ..'
+
+# Volumes that aren't sound, and files that can't be read or written.
+cp volumes/a unsound
+put unsound 1026 '05'
+refuses 1 'unixvol: unsound, rule 12' ls 6 unsound /
+refuses 1 'unixvol: unsound, rule 12' put 6 unsound /a hello 1
+refuses 1 'unixvol: unsound, rule 1' get 6 none /
+refuses 3 'unixvol: cannot read missing' ls 6 missing /
+refuses 3 'unixvol: cannot read .' rm 6 . / 1
+refuses 3 'unixvol: cannot read missing' put 6 missing / nothing 1
+refuses 3 'unixvol: cannot read nothing' put 6 unsound /a nothing 1
+refuses 3 'unixvol: cannot read .' put 6 volumes/a /a . 1
+saves 'a volume into which nothing was put' volumes/a made
+"$program" ls 6 volumes/a / > /dev/full 2> error
+echo $? > status
+: > output
+echo 'unixvol: cannot write -' > line
+wants 'ls to a full device' 3 none line
+"$program" get 6 volumes/tree6 /d >&- 2> error
+echo $? > status
+echo 'unixvol: 21 IsDirectory' > line
+wants 'get of a directory to a closed output' 1 none line
+truncate -s 400M volumes/great
+(ulimit -v 300000; runs put 6 volumes/great /a hello 1)
+echo 'unixvol: 12 NoMemory' > line
+wants 'put in less memory than the image takes' 4 none line
+rm volumes/great
+
+# Where the changed volume goes: a link is followed, a pipe written in place, and a full disk leaves the old file.
+cp volumes/a volumes/linked
+prints none put 6 volumes/link /a hello 1
+has 'a symbolic link to a volume' linked "$(readlink volumes/link)"
+prints hello get 6 volumes/linked /a
+cp volumes/linked before
+(ulimit -f 8; trap '' XFSZ; runs rm 6 volumes/linked /a 1)
+echo 'unixvol: cannot write volumes/linked' > line
+wants 'rm where the new file finds no room' 3 none line
+saves 'a volume whose new file found no room' volumes/linked before
+{ cat volumes/linked > pipe; cat pipe > piped; } &
+prints none rm 6 pipe /a 1
+wait
+edition=6
+lists piped / '    1 .' '    1 ..'
+
 # The examples of README.md and of the help; where a word is `disk.img`, it is a volume in which the example has a file.
 prints hello cat 6 "$samples/hello.v6" 1
 prints none mkfs 6 disk.img 4000 100 0 0 173750400
@@ -437,6 +597,10 @@ helps cat --help
 helps help cat
 helps mkfs --help
 helps help mkfs
+for command in ls get put rm rmdir mkdir ln; do
+    helps "$command" --help
+    helps help "$command"
+done
 
 echo "$passed passed, $failed failed"
 [ "$failed" = 0 ]

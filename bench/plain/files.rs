@@ -163,7 +163,7 @@ impl Volume {
         self.put_size(ino, 0);
     }
 
-    /// Gives back a block, and first those to which it leads in so many steps.
+    /// Gives back a block, and first those to which it leads in so many steps; what names them is cleared.
     fn give_all(&mut self, block: usize, depth: usize) {
         if depth > 0 {
             for entry in (0..self.layout.fan_out).rev() {
@@ -172,6 +172,7 @@ impl Volume {
                     self.give_all(next, depth - 1);
                 }
             }
+            self.bytes[block * BLOCK..(block + 1) * BLOCK].fill(0);
         }
         self.give(block);
     }

@@ -579,6 +579,19 @@ prints root cat 6 disk.img 1
 od -c < root > dumped
 { "$program" cat 6 disk.img 1 2> error; echo $? > status; } | od -c > output
 wants 'cat of a root directory, dumped' 0 dumped none
+echo 'Welcome.' > motd
+prints none mkdir 6 disk.img /etc 173750401
+prints none put 6 disk.img /etc/motd motd 173750402
+printf '%s\n' '  101 .' '    1 ..' '  100 motd' > lines
+prints lines ls 6 disk.img /etc
+prints motd get 6 disk.img /etc/motd
+prints none ln 6 disk.img /etc/motd /motd 173750403
+prints none rm 6 disk.img /etc/motd 173750404
+prints none rmdir 6 disk.img /etc 173750405
+printf '%s\n' '    1 .' '    1 ..' '  100 motd' > lines
+prints lines ls 6 disk.img /
+put disk.img 1026 '05'
+refuses 1 'unixvol: unsound, rule 12' ls 6 disk.img /
 prints none mkfs 7 disk.img 100 2 0 0 0
 put root 0 '02'
 put root 16 '02'
@@ -595,8 +608,10 @@ helps --help
 helps help
 helps cat --help
 helps help cat
-helps mkfs --help
-helps help mkfs
+for command in mkfs ls get put rm mkdir rmdir ln; do
+    helps "$command" --help
+    helps help "$command"
+done
 for command in ls get put rm rmdir mkdir ln; do
     helps "$command" --help
     helps help "$command"

@@ -547,6 +547,16 @@ wants 'ls to a full device' 3 none line
 echo $? > status
 echo 'unixvol: 21 IsDirectory' > line
 wants 'get of a directory to a closed output' 1 none line
+# A change that can't be saved leaves the old volume; one that can goes to the end of a link.
+cp volumes/tree6 before
+(ulimit -f 40; trap '' XFSZ; runs put 6 volumes/tree6 /more hello 2000)
+echo 'unixvol: cannot write volumes/tree6' > line
+wants 'put where the new file finds no room' 3 none line
+saves 'a volume whose new file found no room' volumes/tree6 before
+ln -s tree6 volumes/leads
+prints none put 6 volumes/leads /more hello 2000
+has 'a link to a volume that was changed' tree6 "$(readlink volumes/leads)"
+prints hello get 6 volumes/tree6 /more
 truncate -s 400M volumes/great
 (ulimit -v 300000; runs put 6 volumes/great /a hello 1)
 echo 'unixvol: 12 NoMemory' > line

@@ -281,6 +281,3 @@ fn collect_names(
     }
     Ok(names)
 }
-
-#[cfg(test)]
-mod tests;

@@ -285,8 +285,6 @@ fn sound_geometry(edition: Edition, image: &Image) -> Geometry
 }
 
 #[cfg(test)]
-mod calls_tests;
-#[cfg(test)]
 mod rules_tests;
 #[cfg(test)]
 mod tests;

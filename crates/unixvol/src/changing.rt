@@ -277,6 +277,3 @@ fn unmount(volume: Volume) -> Vec<u8>
     volume.check();
     volume.unmount()
 }
-
-#[cfg(test)]
-mod tests;

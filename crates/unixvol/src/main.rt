@@ -24,5 +24,3 @@ fn main(rt: HostRuntime) -> ExitCode {
 
 #[cfg(test)]
 mod tests;
-#[cfg(test)]
-mod worked;

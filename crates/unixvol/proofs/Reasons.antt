@@ -1,14 +1,12 @@
--- The faults of commands: a rule that one names is one of the twelve, and a volume that isn't mounted prints nothing.
-use Rattle.std.proofs.Common.{◌≡◌, ℕ, zero, suc, ◌≤◌, Bool, true, List, Option, Result, Ok, Err, IfErr, arith}
+-- The faults of commands: a rule that one names is one of the twelve.
+use Rattle.std.proofs.Common.{ℕ, zero, suc, ◌≤◌, Bool, true, List, Option, Result, Ok, Err, IfErr, arith}
 use Rattle.std.specs.Global.{Vec}
-use Rattle.std.proofs.KnownBytes.{Keeps-refl}
 use Rattle.vol_judge.specs.Sound.{Rule, IsLeastBroken}
 use Rattle.vol_layout.specs.declared.edition.Edition.{Edition}
-use Rattle.vol_dir.specs.declared.refusal.Refusal.TheVariants as refusals
 use Rattle.vol_volume.specs.declared.calls.Call.{Call}
 use Rattle.vol_volume.specs.declared.queries.Query.{Query}
 use Rattle.unixvol.specs.Changing.{IsReason}
-use Rattle.unixvol.specs.Showing.{IsObstacle, Prints}
+use Rattle.unixvol.specs.Showing.{Prints}
 use Rattle.unixvol.specs.Faults.{IsRuled}
 use Rattle.unixvol.specs.declared.faults.Fault.{Fault}
 use Rattle.unixvol.specs.declared.faults.Fault.TheVariants as faults
@@ -46,13 +44,6 @@ pub outcome_ruled : (edition : Edition) (image : List ℕ) (calls : List Call) (
     → IfErr outcome (IsReason edition image calls) → IfErr outcome IsRuled
 outcome_ruled edition image calls (Ok bytes) reason = tt
 outcome_ruled edition image calls (Err fault) reason = reason_ruled edition image calls fault reason
-
--- where there is an obstacle nothing was printed
-pub nothing_printed : (edition : Edition) (image : List ℕ) (query : Query) (known : Option (List ℕ)) (failed : Bool) (fault : Fault)
-    → ((asked : Query) → IsObstacle edition image asked fault) → Prints edition image query known known failed (Err fault)
-nothing_printed edition image query known failed (faults.Unsound rule) obstacle = (obstacle query, Keeps-refl known)
-nothing_printed edition image query known failed (faults.Refused refusal) obstacle = (obstacle query, Keeps-refl known)
-nothing_printed edition image query known failed faults.Output obstacle = absurd (obstacle query)
 
 -- the rule of an obstacle is one of the twelve
 printed_ruled : (edition : Edition) (image : List ℕ) (query : Query) (old new : Option (List ℕ)) (failed : Bool) (fault : Fault)

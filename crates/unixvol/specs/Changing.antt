@@ -1,5 +1,5 @@
 -- What the commands that change a volume make, and why they don't.
-use Rattle.std.specs.Prelude.{◌≡◌, ◌⊎◌, ◌↔◌, ℕ, true, List, [], ◌∷◌, map, Option, IsSome, IsNone, IfSome, Result, Ok, Err}
+use Rattle.std.specs.Prelude.{◌≡◌, ◌⊎◌, ◌↔◌, ℕ, true, List, [], ◌∷◌, map, IsSome, IsNone, IfSome, Result, Err}
 use Rattle.vol_layout.specs.Geometry.{geometry_of}
 use Rattle.vol_dir.specs.Tree.{Tree, State}
 use Rattle.vol_judge.specs.Sound.{IsSound, IsLeastBroken}

@@ -4,5 +4,6 @@ pub mod CommandLine
 pub mod Decimal
 pub mod Faults
 pub mod Jobs
+pub mod Laws
 pub mod Making
 pub mod Showing

@@ -277,3 +277,6 @@ fn unmount(volume: Volume) -> Vec<u8>
     volume.check();
     volume.unmount()
 }
+
+#[cfg(test)]
+mod tests;

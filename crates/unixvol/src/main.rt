@@ -9,6 +9,7 @@ mod commands;
 mod decimal;
 mod faults;
 mod jobs;
+mod laws;
 mod making;
 mod mounting;
 mod saving_file;
@@ -24,3 +25,5 @@ fn main(rt: HostRuntime) -> ExitCode {
 
 #[cfg(test)]
 mod tests;
+#[cfg(test)]
+mod worked;

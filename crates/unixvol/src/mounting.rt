@@ -3,9 +3,7 @@ ghost use Rattle.std.specs.Prelude.{◌≡◌, IfOk, IfErr, OnOk, List};
 ghost use Rattle.vol_judge.specs.Sound.{IsSound};
 ghost use Rattle.vol_volume.specs.Volume.{mounted};
 ghost use Rattle.vol_volume.specs.declared.calls.Call.{Call};
-ghost use Rattle.vol_volume.specs.declared.queries.Query.{Query};
 ghost use Rattle.unixvol.specs.Changing.{IsReason};
-ghost use Rattle.unixvol.specs.Showing.{IsObstacle};
 
 use crate::faults::Fault;
 use std::alloc::{AllocError, Global};
@@ -20,8 +18,7 @@ pub const USER: Cred = Cred { uid: 0, gid: 0 };
 pub fn mount(alloc: Global, edition: Edition, image: Vec<u8>) -> Result<Volume, Fault>
     ensures mounted { IfOk result (λ volume. volume ≡ mounted edition image.items) }
     ensures sound { OnOk result (IsSound edition image.items) }
-    ensures calls { IfErr result (λ fault. (calls : List Call) → IsReason edition image.items calls fault) }
-    ensures query { IfErr result (λ fault. (query : Query) → IsObstacle edition image.items query fault) }
+    ensures fault { IfErr result (λ fault. (calls : List Call) → IsReason edition image.items calls fault) }
 {
     match Volume::mount(alloc, edition, image) {
         Ok(volume) => Ok(volume),

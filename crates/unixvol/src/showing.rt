@@ -7,16 +7,17 @@ ghost use Rattle.unixvol.specs.Showing.{Shows, Prints, digit_at, padded_number, 
 
 use crate::answer::{Answer, report};
 use crate::faults::Fault;
-use crate::mounting::{USER, copy, mount};
-use pdp_words::{Sink, write_all};
+use crate::mounting::{USER, copy};
+use pdp_words::{Image, Sink, write_all};
 use std::alloc::{AllocError, Global};
+use vol_dir::Refusal;
 use vol_layout::Edition;
-use vol_volume::{Bytes, Query, Reply};
+use vol_volume::{Bytes, MountFault, Query, Reply, ask};
 
 /// `ls`: prints the names in a directory in ascending order of their bytes, each on a line with its i-number,
 /// and as its bytes are. Nothing goes out before all is known.
 ///
-/// Takes memory for what mounting takes, for the names, and for the text.
+/// Takes memory for what [`vol_volume::ask`] takes, and for the text.
 pub fn ls<O: Sink, E: Sink>(
     alloc: Global,
     edition: Edition,
@@ -34,7 +35,7 @@ pub fn ls<O: Sink, E: Sink>(
 
 /// `get`: prints the bytes of a regular file. Nothing goes out before all is known.
 ///
-/// Takes memory for what mounting takes, and for the file's bytes.
+/// Takes memory for what [`vol_volume::ask`] takes.
 pub fn get<O: Sink, E: Sink>(
     alloc: Global,
     edition: Edition,
@@ -98,10 +99,12 @@ fn show<O: Sink>(
 ) -> Result<(), Fault>
     ensures { Prints edition image.items query (O.contents output.old) (O.contents output.new) (O.failed output.new) result }
 {
-    let volume = mount(alloc, edition, image)?;
-    let reply = match volume.ask(alloc, &query) {
-        Ok(reply) => reply,
-        Err(refusal) => return Err(Fault::Refused(refusal)),
+    let image = Image::from_bytes(image);
+    let reply = match ask(alloc, edition, &image, &query) {
+        Ok(Ok(reply)) => reply,
+        Ok(Err(refusal)) => return Err(Fault::Refused(refusal)),
+        Err(MountFault::Unsound(rule)) => return Err(Fault::Unsound(rule)),
+        Err(MountFault::NoMemory) => return Err(Fault::Refused(Refusal::NoMemory)),
     };
     let text = text(alloc, reply)?;
     match write_all(output, &text) {
@@ -166,3 +169,6 @@ fn digit(number: u16, weight: u16) -> u8
     }
     b'0' + (number / weight % 10) as u8
 }
+
+#[cfg(test)]
+mod tests;

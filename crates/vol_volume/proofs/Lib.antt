@@ -14,6 +14,7 @@ pub mod NeedReadings
 pub mod NodeReadings
 pub mod PerformedCalls
 mod QueriedNodes
+pub mod RecordedNumbers
 pub mod Refusals
 pub mod SoundSizes
 pub mod StandingImages

@@ -281,3 +281,6 @@ fn collect_names(
     }
     Ok(names)
 }
+
+#[cfg(test)]
+mod tests;

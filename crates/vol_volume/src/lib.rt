@@ -2,6 +2,7 @@
 #![tactic(auto)]
 
 mod answering;
+pub mod asking;
 pub mod bytes;
 pub mod calls;
 pub mod laws;
@@ -11,6 +12,7 @@ pub mod queries;
 mod verdicts;
 pub mod volume;
 
+pub use asking::ask;
 pub use bytes::Bytes;
 pub use calls::{Call, Done, Record};
 pub use making::{MkfsFault, mkfs};

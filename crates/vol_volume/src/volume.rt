@@ -274,7 +274,7 @@ fn count_free(image: &Image, geometry: &Geometry) -> u32
 
 /// The geometry of a sound image.
 #[tactic(auto, using(crate::proofs::SoundSizes::sound_read))]
-fn sound_geometry(edition: Edition, image: &Image) -> Geometry
+pub(crate) fn sound_geometry(edition: Edition, image: &Image) -> Geometry
     requires { IsSound edition image.now }
     ensures { result ≡ geometry_of edition image.now }
 {
@@ -284,6 +284,8 @@ fn sound_geometry(edition: Edition, image: &Image) -> Geometry
     }
 }
 
+#[cfg(test)]
+mod calls_tests;
 #[cfg(test)]
 mod rules_tests;
 #[cfg(test)]

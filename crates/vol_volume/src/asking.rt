@@ -1,0 +1,42 @@
+//! Queries of a volume that isn't mounted.
+ghost use Rattle.std.specs.Prelude.{OnOk, IfOk, IfErr};
+ghost use Rattle.vol_judge.specs.Sound.{IsSound};
+ghost use Rattle.vol_volume.specs.Answer.{Answers};
+ghost use Rattle.vol_volume.specs.Faults.{IsFaultOf};
+ghost use Rattle.vol_volume.specs.Volume.{reads_as};
+
+use crate::answering::answer;
+use crate::queries::{Query, Reply};
+use crate::volume::{MountFault, sound_geometry};
+use pdp_words::Image;
+use std::alloc::Global;
+use vol_dir::Refusal;
+use vol_judge::judge;
+use vol_layout::Edition;
+
+/// The answer to a query of the volume in an image: what [`Volume::ask`](crate::Volume::ask) answers once
+/// the same bytes are mounted. An unsound image is asked nothing.
+///
+/// Takes memory to judge the image, and for the reply; no copy of the image is made.
+pub fn ask(
+    alloc: Global,
+    edition: Edition,
+    image: &Image,
+    query: &Query,
+) -> Result<Result<Reply, Refusal>, MountFault>
+    ensures sound { OnOk result (IsSound edition image.now) }
+    ensures answered { IfOk result (λ answer. Answers (reads_as edition image.now).tree query.now answer) }
+    ensures fault { IfErr result (λ fault. IsFaultOf edition image.now fault) }
+{
+    match judge(alloc, edition, image, true) {
+        Ok(None) => {
+            let geometry = sound_geometry(edition, image);
+            Ok(answer(alloc, image, &geometry, query))
+        }
+        Ok(Some(rule)) => Err(MountFault::Unsound(rule)),
+        Err(_) => Err(MountFault::NoMemory),
+    }
+}
+
+#[cfg(test)]
+mod tests;

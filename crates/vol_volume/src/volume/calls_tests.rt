@@ -1,0 +1,479 @@
+// Calls of worked volumes: what they answer, the bytes that they leave, and their journals made again.
+ghost use Rattle.std.specs.Prelude.{◌≡◌, true, IfOk};
+ghost use Rattle.vol_volume.specs.Journal.{MayAnswer, MayFollow};
+ghost use Rattle.vol_volume.specs.Verdict.{is_free_number};
+ghost use Rattle.vol_volume.specs.Volume.{mounted, reads_as};
+
+use super::Volume;
+use crate::{Bytes, Call, Done, Query, Record, Reply, Stat, mkfs};
+use std::alloc::Global;
+use std::process::Abort;
+use std::test::Fail;
+use vol_dir::{Cred, Refusal};
+use vol_layout::i_list::mode;
+use vol_layout::{Edition, Geometry};
+
+mod directories;
+mod files;
+mod kept_bytes;
+mod refusals;
+mod replays;
+
+/// The moment at which the worked volumes are made.
+const NOW: u32 = 0x0A0B_0C0D;
+
+/// The moment of the calls, which stands on the disk as 02 01 04 03.
+const LATER: u32 = 0x0102_0304;
+
+/// The user who may do everything.
+const ROOT: Cred = Cred { uid: 0, gid: 0 };
+
+/// A call, without its user and moment.
+#[derive(Clone, Copy, Debug)]
+enum Asked<'a> {
+    /// For a file with these permission bits.
+    Create(&'a [u8], u16),
+    /// For a directory with these permission bits.
+    Mkdir(&'a [u8], u16),
+    /// For a further name of what the first path leads to.
+    Link(&'a [u8], &'a [u8]),
+    /// By which a name goes.
+    Unlink(&'a [u8]),
+    /// By which a directory goes.
+    Rmdir(&'a [u8]),
+    /// That writes these bytes from an offset on.
+    Write(&'a [u8], u32, &'a [u8]),
+    /// That writes so many of one byte into a file from its first byte on.
+    Fill(&'a [u8], usize, u8),
+    /// By which a file becomes empty.
+    Truncate(&'a [u8]),
+}
+
+/// A step of a run.
+enum Step {
+    /// A call, and what is wanted of it.
+    Call(Asked<'static>, Result<Done, Refusal>),
+    /// Bytes that stand at a place of the image then.
+    At(usize, &'static [u8]),
+    /// From a place on so many bytes that are this one.
+    All(usize, usize, u8),
+}
+
+/// A new volume of user 0 and group 0.
+fn new_volume(
+    alloc: Global,
+    edition: Edition,
+    blocks: u32,
+    list_blocks: u16,
+) -> Result<Volume, Fail> {
+    mount(
+        alloc,
+        edition,
+        mkfs(alloc, edition, blocks, list_blocks, 0, 0, NOW)?,
+    )
+}
+
+/// A new volume of the sixth edition: 20 blocks, two of them the i-list, of which 5 to 19 are free.
+fn sixth(alloc: Global) -> Result<Volume, Fail> {
+    new_volume(alloc, Edition::V6, 20, 2)
+}
+
+/// A new volume of the seventh edition: 100 blocks, two of them the i-list, of which 5 to 99 are free.
+fn seventh(alloc: Global) -> Result<Volume, Fail> {
+    new_volume(alloc, Edition::V7, 100, 2)
+}
+
+/// Mounts the bytes of a sound image.
+fn mount(alloc: Global, edition: Edition, bytes: Vec<u8>) -> Result<Volume, Fail>
+    ensures { IfOk result (λ volume. volume ≡ mounted edition bytes.items) }
+{
+    match Volume::mount(alloc, edition, bytes) {
+        Ok(volume) => Ok(volume),
+        Err(_) => Err(Fail::from("the volume is sound")),
+    }
+}
+
+/// The bytes of an image.
+fn image_of(alloc: Global, volume: &Volume) -> Result<Vec<u8>, Fail>
+    ensures { IfOk result (λ bytes. bytes.items ≡ volume.now.image) }
+{
+    Ok(Vec::from_slice(alloc, volume.image().as_bytes())?)
+}
+
+/// Mounts a volume's image, in which other bytes are put at a place.
+fn edited(alloc: Global, volume: Volume, at: usize, piece: &[u8]) -> Result<Volume, Fail> {
+    let edition = volume.edition();
+    let mut bytes = volume.unmount();
+    put(&mut bytes, at, piece);
+    mount(alloc, edition, bytes)
+}
+
+/// Puts bytes at a place, as far as there is one.
+fn put(bytes: &mut [u8], at: usize, piece: &[u8]) {
+    for (byte, new) in bytes.iter_mut().skip(at).zip(piece) {
+        *byte = *new;
+    }
+}
+
+/// The bytes of a volume's image from a place on are these.
+fn check_at(rt: &impl Abort, volume: &Volume, place: usize, wanted: &[u8]) {
+    let bytes = volume.image().as_bytes();
+    for (offset, byte) in wanted.iter().enumerate() {
+        let found = bytes.get(place.saturating_add(offset));
+        assert_eq!(rt; found, Some(byte), "byte {offset} from byte {place}");
+    }
+}
+
+/// A copy of some bytes.
+fn copied(alloc: Global, bytes: &[u8]) -> Result<Bytes, Fail>
+    ensures { IfOk result (λ copy. copy ≡ bytes.now) }
+{
+    Ok(Bytes::from_vec(Vec::from_slice(alloc, bytes)?))
+}
+
+/// A call in the name of a user.
+fn call_by(alloc: Global, cred: Cred, asked: Asked) -> Result<Call, Fail> {
+    let now = LATER;
+    Ok(match asked {
+        Asked::Create(path, perm) => {
+            let path = copied(alloc, path)?;
+            Call::Create {
+                cred,
+                now,
+                path,
+                perm,
+            }
+        }
+        Asked::Mkdir(path, perm) => {
+            let path = copied(alloc, path)?;
+            Call::Mkdir {
+                cred,
+                now,
+                path,
+                perm,
+            }
+        }
+        Asked::Link(source, target) => {
+            let source = copied(alloc, source)?;
+            let target = copied(alloc, target)?;
+            Call::Link {
+                cred,
+                now,
+                source,
+                target,
+            }
+        }
+        Asked::Unlink(path) => {
+            let path = copied(alloc, path)?;
+            Call::Unlink { cred, now, path }
+        }
+        Asked::Rmdir(path) => {
+            let path = copied(alloc, path)?;
+            Call::Rmdir { cred, now, path }
+        }
+        Asked::Write(path, offset, bytes) => {
+            let path = copied(alloc, path)?;
+            let bytes = copied(alloc, bytes)?;
+            Call::Write {
+                cred,
+                now,
+                path,
+                offset,
+                bytes,
+            }
+        }
+        Asked::Fill(path, len, byte) => {
+            let path = copied(alloc, path)?;
+            let bytes = Bytes::from_vec(vec![in alloc; byte; len]?);
+            let offset = 0;
+            Call::Write {
+                cred,
+                now,
+                path,
+                offset,
+                bytes,
+            }
+        }
+        Asked::Truncate(path) => {
+            let path = copied(alloc, path)?;
+            Call::Truncate { cred, now, path }
+        }
+    })
+}
+
+/// Makes a call in the name of a user, and answers what came of it. An accepted call is the journal's
+/// last, and its moment is the super-block's; a refused one leaves image and journal as they were, and
+/// comes back.
+fn make<A: Abort>(
+    rt: &A,
+    alloc: Global,
+    volume: &mut Volume,
+    cred: Cred,
+    asked: Asked,
+) -> Result<Result<Done, Refusal>, Fail> {
+    let before = image_of(alloc, volume)?;
+    let len = volume.journal().len();
+    let call = call_by(alloc, cred, asked)?;
+    let shown = format!(in alloc; "{call:?}")?;
+    match volume.call(alloc, call) {
+        Ok(done) => {
+            assert_eq!(rt; volume.journal().len().checked_sub(1), Some(len));
+            let Some(record) = volume.journal().last() else {
+                return Err(Fail::from("the call is in the journal"));
+            };
+            assert_eq!(rt; format!(in alloc; "{:?}", record.call)?, shown);
+            assert_eq!(rt; record.done, done);
+            let place = time_place(volume.edition());
+            check_at(rt, volume, place, b"\x02\x01\x04\x03");
+            Ok(Ok(done))
+        }
+        Err((refusal, same)) => {
+            assert_eq!(rt; volume.journal().len(), len);
+            assert_eq!(rt; volume.image().as_bytes(), before.as_slice());
+            assert_eq!(rt; format!(in alloc; "{same:?}")?, shown);
+            Ok(Err(refusal))
+        }
+    }
+}
+
+/// Where the super-block's time stands.
+fn time_place(edition: Edition) -> usize {
+    match edition {
+        Edition::V6 => 924,
+        Edition::V7 => 926,
+    }
+}
+
+/// Takes the steps of a run, whose calls are in the name of a user.
+fn check_steps<A: Abort>(
+    rt: &A,
+    alloc: Global,
+    volume: &mut Volume,
+    cred: Cred,
+    steps: &[Step],
+) -> Result<(), Fail> {
+    for step in steps {
+        check_step(rt, alloc, volume, cred, step)?;
+    }
+    Ok(())
+}
+
+/// Takes a step of a run.
+fn check_step<A: Abort>(
+    rt: &A,
+    alloc: Global,
+    volume: &mut Volume,
+    cred: Cred,
+    step: &Step,
+) -> Result<(), Fail> {
+    match step {
+        Step::Call(asked, wanted) => {
+            let answer = make(rt, alloc, volume, cred, *asked)?;
+            assert_eq!(rt; answer, *wanted, "{asked:?}");
+        }
+        Step::At(place, bytes) => check_at(rt, volume, *place, bytes),
+        Step::All(place, len, byte) => {
+            let bytes = vec![in alloc; *byte; *len]?;
+            check_at(rt, volume, *place, &bytes);
+        }
+    }
+    Ok(())
+}
+
+/// Takes the steps of a run in the name of user 0, and then makes the journal again.
+fn check_run<A: Abort>(
+    rt: &A,
+    alloc: Global,
+    volume: &mut Volume,
+    steps: &[Step],
+) -> Result<(), Fail> {
+    check_steps(rt, alloc, volume, ROOT, steps)?;
+    check_replays(rt, alloc, volume)
+}
+
+/// What user 0 is told of a node.
+fn stat(alloc: Global, volume: &Volume, path: &[u8]) -> Result<Stat, Fail> {
+    let path = copied(alloc, path)?;
+    match volume.ask(alloc, &Query::Stat { cred: ROOT, path }) {
+        Ok(Reply::Stat(told)) => Ok(told),
+        _ => Err(Fail::from("the path leads to a node")),
+    }
+}
+
+/// What a user reads of a file.
+fn read(
+    alloc: Global,
+    volume: &Volume,
+    cred: Cred,
+    path: &[u8],
+    offset: u32,
+    len: u32,
+) -> Result<Result<Bytes, Refusal>, Fail> {
+    let path = copied(alloc, path)?;
+    let query = Query::Read {
+        cred,
+        path,
+        offset,
+        len,
+    };
+    match volume.ask(alloc, &query) {
+        Ok(Reply::Bytes(bytes)) => Ok(Ok(bytes)),
+        Ok(_) => Err(Fail::from("bytes are read")),
+        Err(refusal) => Ok(Err(refusal)),
+    }
+}
+
+/// The journal of a volume, made again on the bytes that were mounted, once by calls and once by its
+/// records, gives the same image and the same journal.
+fn check_replays<A: Abort>(rt: &A, alloc: Global, volume: &Volume) -> Result<(), Fail> {
+    let base = Vec::from_slice(alloc, volume.base())?;
+    let mut called = mount(alloc, volume.edition(), base)?;
+    for record in volume.journal() {
+        let call = copied_call(alloc, &record.call)?;
+        assert_eq!(rt; called.call(alloc, call).ok(), Some(record.done));
+    }
+    check_same(rt, alloc, &called, volume)?;
+    check_redone(rt, alloc, volume)
+}
+
+/// The records of a volume, made again on the bytes that were mounted, give the same image and the same
+/// journal.
+fn check_redone<A: Abort>(rt: &A, alloc: Global, volume: &Volume) -> Result<(), Fail> {
+    let base = Vec::from_slice(alloc, volume.base())?;
+    let mut redone = mount(alloc, volume.edition(), base)?;
+    for record in volume.journal() {
+        redo(alloc, &mut redone, record)?;
+    }
+    check_same(rt, alloc, &redone, volume)
+}
+
+/// Two volumes have the same bytes and the same journal.
+fn check_same<A: Abort>(rt: &A, alloc: Global, one: &Volume, other: &Volume) -> Result<(), Fail> {
+    assert_eq!(rt; one.base(), other.base());
+    assert_eq!(rt; one.image().as_bytes(), other.image().as_bytes());
+    let journal = format!(in alloc; "{:?}", other.journal())?;
+    assert_eq!(rt; format!(in alloc; "{:?}", one.journal())?, journal);
+    Ok(())
+}
+
+/// Makes a copy of a record, once it is shown that it may come next.
+fn redo(alloc: Global, volume: &mut Volume, entry: &Record) -> Result<(), Fail> {
+    show_legal(alloc, volume, entry)?;
+    let call = copied_call(alloc, &entry.call)?;
+    let done = entry.done;
+    match volume.redo(alloc, Record { call, done }) {
+        Ok(()) => Ok(()),
+        Err(_) => Err(Fail::from("there is memory")),
+    }
+}
+
+/// Shows that a record may come next: a twin of the volume accepts its call, and may answer so.
+fn show_legal(alloc: Global, volume: &Volume, entry: &Record) -> Result<(), Fail>
+    ensures { IfOk result (λ _. MayFollow (reads_as volume.now.edition volume.now.image) entry.now) }
+{
+    let mut twin = mount(alloc, volume.edition(), image_of(alloc, volume)?)?;
+    let call = copied_call(alloc, &entry.call)?;
+    let Ok(done) = twin.call(alloc, call) else {
+        return Err(Fail::from("the call is accepted"));
+    };
+    if !may_answer(volume, entry, done) {
+        return Err(Fail::from("the call may answer so"));
+    }
+    Ok(())
+}
+
+/// Whether a record has an answer that its call may have, where `done` is one.
+fn may_answer(volume: &Volume, entry: &Record, done: Done) -> bool
+    requires { MayAnswer (reads_as volume.now.edition volume.now.image) entry.now.call done }
+    ensures { result ≡ true → MayAnswer (reads_as volume.now.edition volume.now.image) entry.now.call entry.now.done }
+{
+    match (done, entry.done) {
+        (Done::Made(_), Done::Made(number)) => is_free(volume, number),
+        (done, other) => done == other,
+    }
+}
+
+/// Whether an i-number is above the root's and free.
+fn is_free(volume: &Volume, number: u16) -> bool
+    ensures { result ≡ true → is_free_number (reads_as volume.now.edition volume.now.image).tree number ≡ true }
+{
+    volume.check();
+    let image = volume.image();
+    match Geometry::read(volume.edition(), image) {
+        Ok(geometry) => {
+            geometry.edition.constants().root < number
+                && number <= geometry.last_inode
+                && mode(image, &geometry, number).bits == 0
+        }
+        Err(_) => false,
+    }
+}
+
+/// A copy of a call.
+fn copied_call(alloc: Global, call: &Call) -> Result<Call, Fail>
+    ensures { IfOk result (λ copy. copy ≡ call.now) }
+{
+    Ok(match call {
+        Call::Create {
+            cred,
+            now,
+            path,
+            perm,
+        } => Call::Create {
+            cred: *cred,
+            now: *now,
+            path: copied(alloc, path.as_slice())?,
+            perm: *perm,
+        },
+        Call::Mkdir {
+            cred,
+            now,
+            path,
+            perm,
+        } => Call::Mkdir {
+            cred: *cred,
+            now: *now,
+            path: copied(alloc, path.as_slice())?,
+            perm: *perm,
+        },
+        Call::Link {
+            cred,
+            now,
+            source,
+            target,
+        } => Call::Link {
+            cred: *cred,
+            now: *now,
+            source: copied(alloc, source.as_slice())?,
+            target: copied(alloc, target.as_slice())?,
+        },
+        Call::Unlink { cred, now, path } => Call::Unlink {
+            cred: *cred,
+            now: *now,
+            path: copied(alloc, path.as_slice())?,
+        },
+        Call::Rmdir { cred, now, path } => Call::Rmdir {
+            cred: *cred,
+            now: *now,
+            path: copied(alloc, path.as_slice())?,
+        },
+        Call::Write {
+            cred,
+            now,
+            path,
+            offset,
+            bytes,
+        } => Call::Write {
+            cred: *cred,
+            now: *now,
+            path: copied(alloc, path.as_slice())?,
+            offset: *offset,
+            bytes: copied(alloc, bytes.as_slice())?,
+        },
+        Call::Truncate { cred, now, path } => Call::Truncate {
+            cred: *cred,
+            now: *now,
+            path: copied(alloc, path.as_slice())?,
+        },
+    })
+}

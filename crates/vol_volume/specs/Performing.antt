@@ -8,8 +8,10 @@ use Rattle.vol_volume.specs.Journal.{MayAnswer}
 use Rattle.vol_dir.specs.declared.cred.Cred.{Cred}
 use Rattle.vol_layout.specs.declared.geometry.Geometry.{Geometry}
 use Rattle.vol_volume.specs.declared.calls.Call.{Call}
+use Rattle.vol_volume.specs.declared.calls.Call.TheVariants.{Create, Mkdir, Link, Unlink, Rmdir, Write, Truncate}
 use Rattle.vol_volume.specs.declared.calls.Done.{Done}
 use Rattle.vol_volume.specs.declared.calls.Done.TheVariants.{Made, Wrote, Plain}
+use Rattle.vol_volume.specs.declared.performing.Caller.{Caller}
 
 -- a path leads to a parent and a last name (Lions on namei)
 pub record LeadsToParent (tree : Tree) (cred : Cred) (path : List ℕ) : Type 0 where
@@ -20,6 +22,16 @@ pub record LeadsToParent (tree : Tree) (cred : Cred) (path : List ℕ) : Type 0 
 pub record LeadsToNode (tree : Tree) (cred : Cred) (path : List ℕ) : Type 0 where
   pub found : ℕ
   pub walked : walk tree cred path ≡ Ok found
+
+-- who makes a call, and when (this project)
+abbrev pub caller_of : Call → Caller
+caller_of (Create cred now path perm) = record { cred = cred; moment = now }
+caller_of (Mkdir cred now path perm) = record { cred = cred; moment = now }
+caller_of (Link cred now source target) = record { cred = cred; moment = now }
+caller_of (Unlink cred now path) = record { cred = cred; moment = now }
+caller_of (Rmdir cred now path) = record { cred = cred; moment = now }
+caller_of (Write cred now path offset bytes) = record { cred = cred; moment = now }
+caller_of (Truncate cred now path) = record { cred = cred; moment = now }
 
 -- the i-number of what a call made, where its answer is recorded
 abbrev pub recorded_number : Option Done → Option ℕ

@@ -7,7 +7,7 @@ ghost use Rattle.vol_dir.specs.Walk.{IsComponent, has_zero, walk, walk_parent};
 ghost use Rattle.vol_file.specs.Rules.{HasSoundFiles};
 ghost use Rattle.vol_change.specs.Ready.{IsReady, free_in};
 ghost use Rattle.vol_volume.specs.Journal.{MayAnswer};
-ghost use Rattle.vol_volume.specs.Performing.{LeadsToParent, LeadsToNode, IsPerformed, recorded_number};
+ghost use Rattle.vol_volume.specs.Performing.{LeadsToParent, LeadsToNode, IsPerformed, caller_of, recorded_number};
 ghost use Rattle.vol_volume.specs.Standing.{Stands};
 ghost use Rattle.vol_dir.specs.Names.{get};
 ghost use Rattle.vol_node.specs.Nodes.{names_at};
@@ -42,6 +42,15 @@ pub(crate) struct Performed {
     pub free: u32,
 }
 
+/// Who makes a call, and when.
+#[derive(Clone, Copy, Debug)]
+pub(crate) struct Caller {
+    /// The user and group.
+    pub cred: Cred,
+    /// The moment, in seconds.
+    pub moment: u32,
+}
+
 /// Performs a call that nothing speaks against. `free` is the number of free blocks. Where an answer is
 /// recorded, it is that one.
 ///
@@ -60,77 +69,66 @@ pub(crate) fn perform(
     ensures performed { IsPerformed geometry.now image.old image.new call.now result.done result.free }
     ensures recorded { IfSome recorded (λ done. result.done ≡ done) }
 {
+    let caller = caller(call);
+    let number = recorded_number(recorded);
     match call {
-        Call::Create {
-            cred,
-            now,
-            path,
-            perm,
-        } => {
-            let node = new_node(*cred, *now, *perm);
-            let number = recorded_number(recorded);
+        Call::Create { path, perm, .. } => {
+            let node = new_node(caller, *perm);
             create(image, geometry, free, node, path.as_slice(), number)
         }
-        Call::Mkdir {
-            cred,
-            now,
-            path,
-            perm,
-        } => {
-            let node = new_node(*cred, *now, *perm);
-            let number = recorded_number(recorded);
+        Call::Mkdir { path, perm, .. } => {
+            let node = new_node(caller, *perm);
             mkdir(image, geometry, free, node, path.as_slice(), number)
         }
-        Call::Link {
-            cred,
-            now,
-            source,
-            target,
-        } => {
+        Call::Link { source, target, .. } => {
             let source = source.as_slice();
-            link(
-                image,
-                geometry,
-                free,
-                *cred,
-                *now,
-                source,
-                target.as_slice(),
-            )
+            link(image, geometry, free, caller, source, target.as_slice())
         }
-        Call::Unlink { cred, now, path } => {
-            unlink(image, geometry, free, *cred, *now, path.as_slice())
-        }
-        Call::Rmdir { cred, now, path } => {
-            rmdir(image, geometry, free, *cred, *now, path.as_slice())
-        }
+        Call::Unlink { path, .. } => unlink(image, geometry, free, caller, path.as_slice()),
+        Call::Rmdir { path, .. } => rmdir(image, geometry, free, caller, path.as_slice()),
         Call::Write {
-            cred,
-            now,
             path,
             offset,
             bytes,
+            ..
         } => {
             let path = path.as_slice();
             let bytes = bytes.as_slice();
-            write(image, geometry, free, *cred, *now, path, *offset, bytes)
+            write(image, geometry, free, caller, path, *offset, bytes)
         }
-        Call::Truncate { cred, now, path } => {
-            truncate(image, geometry, free, *cred, *now, path.as_slice())
-        }
+        Call::Truncate { path, .. } => truncate(image, geometry, free, caller, path.as_slice()),
+    }
+}
+
+/// Who makes a call, and when.
+fn caller(call: &Call) -> Caller
+    ensures { result ≡ caller_of call.now }
+{
+    let (cred, now) = match call {
+        Call::Create { cred, now, .. }
+        | Call::Mkdir { cred, now, .. }
+        | Call::Link { cred, now, .. }
+        | Call::Unlink { cred, now, .. }
+        | Call::Rmdir { cred, now, .. }
+        | Call::Write { cred, now, .. }
+        | Call::Truncate { cred, now, .. } => (cred, now),
+    };
+    Caller {
+        cred: *cred,
+        moment: *now,
     }
 }
 
 /// What a call says of the node that it makes.
-fn new_node(owner: Cred, moment: u32, permissions: u16) -> NewNode
-    ensures owner { result.owner ≡ owner }
-    ensures moment { result.moment ≡ moment }
+fn new_node(caller: Caller, permissions: u16) -> NewNode
+    ensures owner { result.owner ≡ caller.cred }
+    ensures moment { result.moment ≡ caller.moment }
     ensures permissions { result.permissions ≡ permissions }
 {
     NewNode {
-        owner,
+        owner: caller.cred,
         permissions,
-        moment,
+        moment: caller.moment,
     }
 }
 

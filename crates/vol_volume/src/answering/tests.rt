@@ -166,25 +166,46 @@ fn bytes_are_read_up_to_the_end(rt: HostRuntime) -> Result<(), Fail> {
     Ok(())
 }
 
+/// What is asked of the node to which a path leads.
+#[derive(Clone, Copy, Debug)]
+enum Asked {
+    /// What it is.
+    Stat,
+    /// Its first 3 bytes.
+    Read,
+    /// Its names.
+    List,
+}
+
+/// The user of no volume.
+const UNKNOWN: Cred = Cred { uid: 256, gid: 0 };
+
+/// Questions, and the refusal that each meets.
+static REFUSED: [(Asked, Cred, &[u8], Refusal); 11] = [
+    (Asked::Stat, UNKNOWN, b"/\0", Refusal::BadId),
+    (Asked::Stat, ROOT, b"/none\0", Refusal::Invalid),
+    (Asked::Stat, ROOT, b"/none", Refusal::NoEntry),
+    (Asked::Stat, ROOT, b"/-/none", Refusal::NotDirectory),
+    (Asked::Read, ROOT, b"/", Refusal::IsDirectory),
+    (Asked::Read, ROOT, b"/none", Refusal::NoEntry),
+    (Asked::Read, OTHER, b"/-", Refusal::Access),
+    (Asked::Read, UNKNOWN, b"/", Refusal::BadId),
+    (Asked::List, ROOT, b"/-", Refusal::NotDirectory),
+    (Asked::List, OTHER, b"/-", Refusal::NotDirectory),
+    (Asked::List, ROOT, b"\0", Refusal::Invalid),
+];
+
 #[test]
 fn queries_are_refused_in_order(rt: HostRuntime) -> Result<(), Fail> {
     let alloc = rt.alloc();
     let volume = volume_with_file(alloc)?;
-    let unknown = Cred { uid: 256, gid: 0 };
-    for (query, wanted) in [
-        (stat(alloc, unknown, b"/\0")?, Refusal::BadId),
-        (stat(alloc, ROOT, b"/none\0")?, Refusal::Invalid),
-        (stat(alloc, ROOT, b"/none")?, Refusal::NoEntry),
-        (stat(alloc, ROOT, b"/-/none")?, Refusal::NotDirectory),
-        (read(alloc, ROOT, b"/", 0)?, Refusal::IsDirectory),
-        (read(alloc, ROOT, b"/none", 0)?, Refusal::NoEntry),
-        (read(alloc, OTHER, b"/-", 0)?, Refusal::Access),
-        (read(alloc, unknown, b"/", 0)?, Refusal::BadId),
-        (list(alloc, ROOT, b"/-")?, Refusal::NotDirectory),
-        (list(alloc, OTHER, b"/-")?, Refusal::NotDirectory),
-        (list(alloc, ROOT, b"\0")?, Refusal::Invalid),
-    ] {
-        assert_eq!(rt; volume.ask(alloc, &query).err(), Some(wanted));
+    for (asked, cred, bytes, wanted) in &REFUSED {
+        let query = match asked {
+            Asked::Stat => stat(alloc, *cred, bytes)?,
+            Asked::Read => read(alloc, *cred, bytes, 0)?,
+            Asked::List => list(alloc, *cred, bytes)?,
+        };
+        assert_eq!(rt; volume.ask(alloc, &query).err(), Some(*wanted), "{asked:?}");
     }
     Ok(())
 }

@@ -6,32 +6,30 @@ ghost use Rattle.vol_volume.specs.Performing.{IsPerformed};
 ghost use Rattle.vol_volume.specs.Verdict.{verdict};
 
 use crate::calls::{Call, Done};
-use crate::performing::{Performed, named, parent, ready_stands};
+use crate::performing::{Caller, Performed, named, parent, ready_stands};
 use pdp_words::Image;
-use vol_dir::Cred;
 use vol_layout::Geometry;
 use vol_node::block_count;
 
-/// Performs a call by which a directory goes, at `moment`, in seconds.
+/// Performs a call by which a directory goes.
 pub(crate) fn rmdir(
     image: &mut Image,
     geometry: &Geometry,
     free: u32,
-    cred: Cred,
-    moment: u32,
+    caller: Caller,
     path: &[u8],
 ) -> Performed
     requires ready { IsReady geometry.now image.old }
     requires count { free ≡ free_in (state geometry.now image.old) }
-    requires accepted { verdict (state geometry.now image.old) (Call.Rmdir cred moment path.now) ≡ None }
+    requires accepted { verdict (state geometry.now image.old) (Call.Rmdir caller.cred caller.moment path.now) ≡ None }
     ensures done { result.done ≡ Done.Plain }
-    ensures performed { IsPerformed geometry.now image.old image.new (Call.Rmdir cred moment path.now) result.done result.free }
+    ensures performed { IsPerformed geometry.now image.old image.new (Call.Rmdir caller.cred caller.moment path.now) result.done result.free }
 {
     ready_stands(image, geometry);
-    let (dir, name) = parent(image, geometry, cred, path);
+    let (dir, name) = parent(image, geometry, caller.cred, path);
     let i = named(image, geometry, dir, name);
     let freed = block_count(image, geometry, i);
-    vol_change::rmdir(image, geometry, dir, name, i, moment);
+    vol_change::rmdir(image, geometry, dir, name, i, caller.moment);
     Performed {
         done: Done::Plain,
         free: free + freed,

@@ -13,7 +13,7 @@ use Rattle.vol_volume.proofs.performing.body.truncate.Goals as goal
 
 pub node-i-requires-clause-leads : goal.node-i-requires-clause-leads
 node-i-requires-clause-leads c =
-    truncate_led (state c.args.geometry.now c.args.image.now) c.args.cred c.args.moment c.args.path.now c.requires.accepted
+    truncate_led (state c.args.geometry.now c.args.image.now) c.args.caller.cred c.args.caller.moment c.args.path.now c.requires.accepted
 
 pub block_count-freed-requires-clause-whole : goal.block_count-freed-requires-clause-whole
 block_count-freed-requires-clause-whole c =
@@ -25,27 +25,27 @@ block_count-freed-requires-clause-first c =
 
 pub truncate-requires-clause-regular : goal.truncate-requires-clause-regular
 truncate-requires-clause-regular c =
-    (regular_file c.args.geometry.now c.args.image.now c.node-i.result c.ready_stands.ensures.files c.node-i.ensures.used (truncate_passed (state c.args.geometry.now c.args.image.now) c.args.cred c.args.moment c.args.path.now c.node-i.result c.requires.accepted c.node-i.ensures.walked).0 (truncate_passed (state c.args.geometry.now c.args.image.now) c.args.cred c.args.moment c.args.path.now c.node-i.result c.requires.accepted c.node-i.ensures.walked).1)
+    (regular_file c.args.geometry.now c.args.image.now c.node-i.result c.ready_stands.ensures.files c.node-i.ensures.used (truncate_passed (state c.args.geometry.now c.args.image.now) c.args.caller.cred c.args.caller.moment c.args.path.now c.node-i.result c.requires.accepted c.node-i.ensures.walked).0 (truncate_passed (state c.args.geometry.now c.args.image.now) c.args.caller.cred c.args.caller.moment c.args.path.now c.node-i.result c.requires.accepted c.node-i.ensures.walked).1)
 
 pub overflow_add-result : goal.overflow_add-result
 unfolding tree
 overflow_add-result c =
     let count : c.args.free ≡ free_in (state c.args.geometry.now c.args.image.now) = c.requires.count in
     let freed : c.block_count-freed.result ≡ place_count c.args.geometry.now.edition (shapes c.args.geometry.now c.args.image.now c.node-i.result) = c.block_count-freed.ensures in
-    let after : free_in (at_time c.args.moment (after_truncate (state c.args.geometry.now c.args.image.now) c.args.moment c.node-i.result)) ≡ free_in (state c.args.geometry.now c.args.image.now) + place_count c.args.geometry.now.edition (shapes c.args.geometry.now c.args.image.now c.node-i.result) =
-    free_after_truncate c.args.geometry.now c.args.image.now c.args.moment c.node-i.result c.requires.ready in
-    let low : free_in (at_time c.args.moment (after_truncate (state c.args.geometry.now c.args.image.now) c.args.moment c.node-i.result)) < 2 ^ 32 = free_low c.args.geometry.now c.args.image.now (at_time c.args.moment (after_truncate (state c.args.geometry.now c.args.image.now) c.args.moment c.node-i.result)) (tree_geometry c.args.geometry.now c.args.image.now) c.requires.ready.fits in
+    let after : free_in (at_time c.args.caller.moment (after_truncate (state c.args.geometry.now c.args.image.now) c.args.caller.moment c.node-i.result)) ≡ free_in (state c.args.geometry.now c.args.image.now) + place_count c.args.geometry.now.edition (shapes c.args.geometry.now c.args.image.now c.node-i.result) =
+    free_after_truncate c.args.geometry.now c.args.image.now c.args.caller.moment c.node-i.result c.requires.ready in
+    let low : free_in (at_time c.args.caller.moment (after_truncate (state c.args.geometry.now c.args.image.now) c.args.caller.moment c.node-i.result)) < 2 ^ 32 = free_low c.args.geometry.now c.args.image.now (at_time c.args.caller.moment (after_truncate (state c.args.geometry.now c.args.image.now) c.args.caller.moment c.node-i.result)) (tree_geometry c.args.geometry.now c.args.image.now) c.requires.ready.fits in
     omega (arith, count, freed, after, low)
 
 pub returns-clause-performed : goal.returns-clause-performed
 returns-clause-performed c =
     let count : c.args.free ≡ free_in (state c.args.geometry.now c.args.image.now) = c.requires.count in
     let freed : c.block_count-freed.result ≡ place_count c.args.geometry.now.edition (shapes c.args.geometry.now c.args.image.now c.node-i.result) = c.block_count-freed.ensures in
-    let after : free_in (at_time c.args.moment (after_truncate (state c.args.geometry.now c.args.image.now) c.args.moment c.node-i.result)) ≡ free_in (state c.args.geometry.now c.args.image.now) + place_count c.args.geometry.now.edition (shapes c.args.geometry.now c.args.image.now c.node-i.result) =
-    free_after_truncate c.args.geometry.now c.args.image.now c.args.moment c.node-i.result c.requires.ready in
-    performed_by c.args.geometry.now c.args.image.now c.truncate.new.image (Truncate c.args.cred c.args.moment c.args.path.now) Plain
-    (at_time c.args.moment (after_truncate (state c.args.geometry.now c.args.image.now) c.args.moment c.node-i.result))
+    let after : free_in (at_time c.args.caller.moment (after_truncate (state c.args.geometry.now c.args.image.now) c.args.caller.moment c.node-i.result)) ≡ free_in (state c.args.geometry.now c.args.image.now) + place_count c.args.geometry.now.edition (shapes c.args.geometry.now c.args.image.now c.node-i.result) =
+    free_after_truncate c.args.geometry.now c.args.image.now c.args.caller.moment c.node-i.result c.requires.ready in
+    performed_by c.args.geometry.now c.args.image.now c.truncate.new.image (Truncate c.args.caller.cred c.args.caller.moment c.args.path.now) Plain
+    (at_time c.args.caller.moment (after_truncate (state c.args.geometry.now c.args.image.now) c.args.caller.moment c.node-i.result))
     (c.args.free + c.block_count-freed.result)
-    (step_truncate (state c.args.geometry.now c.args.image.now) c.args.cred c.args.moment c.args.path.now c.node-i.result c.node-i.ensures.walked) tt
+    (step_truncate (state c.args.geometry.now c.args.image.now) c.args.caller.cred c.args.caller.moment c.args.path.now c.node-i.result c.node-i.ensures.walked) tt
     c.truncate.ensures.changes
     (omega (arith, count, freed, after))

@@ -17,36 +17,36 @@ use Rattle.vol_volume.proofs.performing.body.write.Goals as goal
 
 pub node-i-requires-clause-leads : goal.node-i-requires-clause-leads
 node-i-requires-clause-leads c =
-    write_led (state c.args.geometry.now c.args.image.now) c.args.cred c.args.moment c.args.path.now c.args.offset c.args.bytes.now c.requires.accepted
+    write_led (state c.args.geometry.now c.args.image.now) c.args.caller.cred c.args.caller.moment c.args.path.now c.args.offset c.args.bytes.now c.requires.accepted
 
 pub overflow_cast-len : goal.overflow_cast-len
 unfolding tree
 overflow_cast-len c =
-    let most : c.args.offset + length c.args.bytes.now ≤ (constants c.args.geometry.now.edition).greatest = (write_passed (state c.args.geometry.now c.args.image.now) c.args.cred c.args.moment c.args.path.now c.args.offset c.args.bytes.now c.node-i.result c.requires.accepted c.node-i.ensures.walked).greatest in
+    let most : c.args.offset + length c.args.bytes.now ≤ (constants c.args.geometry.now.edition).greatest = (write_passed (state c.args.geometry.now c.args.image.now) c.args.caller.cred c.args.caller.moment c.args.path.now c.args.offset c.args.bytes.now c.node-i.result c.requires.accepted c.node-i.ensures.walked).greatest in
     let low : (constants c.args.geometry.now.edition).greatest < 2 ^ 32 = greatest_fits c.args.geometry.now.edition in
     omega arith
 
 pub write-requires-clause-regular : goal.write-requires-clause-regular
 write-requires-clause-regular c =
-    (regular_file c.args.geometry.now c.args.image.now c.node-i.result c.ready_stands.ensures.files c.node-i.ensures.used (write_passed (state c.args.geometry.now c.args.image.now) c.args.cred c.args.moment c.args.path.now c.args.offset c.args.bytes.now c.node-i.result c.requires.accepted c.node-i.ensures.walked).other (write_passed (state c.args.geometry.now c.args.image.now) c.args.cred c.args.moment c.args.path.now c.args.offset c.args.bytes.now c.node-i.result c.requires.accepted c.node-i.ensures.walked).regular)
+    (regular_file c.args.geometry.now c.args.image.now c.node-i.result c.ready_stands.ensures.files c.node-i.ensures.used (write_passed (state c.args.geometry.now c.args.image.now) c.args.caller.cred c.args.caller.moment c.args.path.now c.args.offset c.args.bytes.now c.node-i.result c.requires.accepted c.node-i.ensures.walked).other (write_passed (state c.args.geometry.now c.args.image.now) c.args.caller.cred c.args.caller.moment c.args.path.now c.args.offset c.args.bytes.now c.node-i.result c.requires.accepted c.node-i.ensures.walked).regular)
 
 pub write-requires-clause-greatest : goal.write-requires-clause-greatest
 unfolding tree
 write-requires-clause-greatest c =
-    (write_passed (state c.args.geometry.now c.args.image.now) c.args.cred c.args.moment c.args.path.now c.args.offset c.args.bytes.now c.node-i.result c.requires.accepted c.node-i.ensures.walked).greatest
+    (write_passed (state c.args.geometry.now c.args.image.now) c.args.caller.cred c.args.caller.moment c.args.path.now c.args.offset c.args.bytes.now c.node-i.result c.requires.accepted c.node-i.ensures.walked).greatest
 
 pub write-requires-clause-room : goal.write-requires-clause-room
 unfolding tree
 write-requires-clause-room c =
-    (write_passed (state c.args.geometry.now c.args.image.now) c.args.cred c.args.moment c.args.path.now c.args.offset c.args.bytes.now c.node-i.result c.requires.accepted c.node-i.ensures.walked).room
+    (write_passed (state c.args.geometry.now c.args.image.now) c.args.caller.cred c.args.caller.moment c.args.path.now c.args.offset c.args.bytes.now c.node-i.result c.requires.accepted c.node-i.ensures.walked).room
 
 pub overflow_sub-result : goal.overflow_sub-result
 unfolding tree
 overflow_sub-result c =
-    let room : need_in c.args.geometry.now.edition (shapes c.args.geometry.now c.args.image.now c.node-i.result) (touched c.args.offset (length c.args.bytes.now)) ≤ free_in (state c.args.geometry.now c.args.image.now) = (write_passed (state c.args.geometry.now c.args.image.now) c.args.cred c.args.moment c.args.path.now c.args.offset c.args.bytes.now c.node-i.result c.requires.accepted c.node-i.ensures.walked).room in
+    let room : need_in c.args.geometry.now.edition (shapes c.args.geometry.now c.args.image.now c.node-i.result) (touched c.args.offset (length c.args.bytes.now)) ≤ free_in (state c.args.geometry.now c.args.image.now) = (write_passed (state c.args.geometry.now c.args.image.now) c.args.caller.cred c.args.caller.moment c.args.path.now c.args.offset c.args.bytes.now c.node-i.result c.requires.accepted c.node-i.ensures.walked).room in
     let count : c.args.free ≡ free_in (state c.args.geometry.now c.args.image.now) = c.requires.count in
     let needed : c.need-needed.result ≡ need_in c.args.geometry.now.edition (shapes c.args.geometry.now c.args.image.now c.node-i.result) (touched c.args.offset (length c.args.bytes.now)) =
-    c.need-needed.ensures ∙ sym (write_need_is c.args.geometry.now c.args.image.now c.node-i.result c.args.offset (length c.args.bytes.now) (used_first c.args.geometry.now c.args.image.now c.node-i.result c.node-i.ensures.used) c.node-i.ensures.used.last (ap has_places (regular_file c.args.geometry.now c.args.image.now c.node-i.result c.ready_stands.ensures.files c.node-i.ensures.used (write_passed (state c.args.geometry.now c.args.image.now) c.args.cred c.args.moment c.args.path.now c.args.offset c.args.bytes.now c.node-i.result c.requires.accepted c.node-i.ensures.walked).other (write_passed (state c.args.geometry.now c.args.image.now) c.args.cred c.args.moment c.args.path.now c.args.offset c.args.bytes.now c.node-i.result c.requires.accepted c.node-i.ensures.walked).regular))) in
+    c.need-needed.ensures ∙ sym (write_need_is c.args.geometry.now c.args.image.now c.node-i.result c.args.offset (length c.args.bytes.now) (used_first c.args.geometry.now c.args.image.now c.node-i.result c.node-i.ensures.used) c.node-i.ensures.used.last (ap has_places (regular_file c.args.geometry.now c.args.image.now c.node-i.result c.ready_stands.ensures.files c.node-i.ensures.used (write_passed (state c.args.geometry.now c.args.image.now) c.args.caller.cred c.args.caller.moment c.args.path.now c.args.offset c.args.bytes.now c.node-i.result c.requires.accepted c.node-i.ensures.walked).other (write_passed (state c.args.geometry.now c.args.image.now) c.args.caller.cred c.args.caller.moment c.args.path.now c.args.offset c.args.bytes.now c.node-i.result c.requires.accepted c.node-i.ensures.walked).regular))) in
     omega (arith, room, count, needed)
 
 pub returns-clause-performed : goal.returns-clause-performed
@@ -54,12 +54,12 @@ unfolding tree
 returns-clause-performed c =
     let count : c.args.free ≡ free_in (state c.args.geometry.now c.args.image.now) = c.requires.count in
     let needed : c.need-needed.result ≡ need_in c.args.geometry.now.edition (shapes c.args.geometry.now c.args.image.now c.node-i.result) (touched c.args.offset (length c.args.bytes.now)) =
-    c.need-needed.ensures ∙ sym (write_need_is c.args.geometry.now c.args.image.now c.node-i.result c.args.offset (length c.args.bytes.now) (used_first c.args.geometry.now c.args.image.now c.node-i.result c.node-i.ensures.used) c.node-i.ensures.used.last (ap has_places (regular_file c.args.geometry.now c.args.image.now c.node-i.result c.ready_stands.ensures.files c.node-i.ensures.used (write_passed (state c.args.geometry.now c.args.image.now) c.args.cred c.args.moment c.args.path.now c.args.offset c.args.bytes.now c.node-i.result c.requires.accepted c.node-i.ensures.walked).other (write_passed (state c.args.geometry.now c.args.image.now) c.args.cred c.args.moment c.args.path.now c.args.offset c.args.bytes.now c.node-i.result c.requires.accepted c.node-i.ensures.walked).regular))) in
-    let after : free_in (at_time c.args.moment (after_write (state c.args.geometry.now c.args.image.now) c.args.moment c.args.offset c.args.bytes.now c.node-i.result)) ≡ free_in (state c.args.geometry.now c.args.image.now) - need_in c.args.geometry.now.edition (shapes c.args.geometry.now c.args.image.now c.node-i.result) (touched c.args.offset (length c.args.bytes.now)) =
-    free_after_write c.args.geometry.now c.args.image.now c.args.moment c.args.offset c.node-i.result c.args.bytes.now (used_first c.args.geometry.now c.args.image.now c.node-i.result c.node-i.ensures.used) c.node-i.ensures.used.last in
-    performed_by c.args.geometry.now c.args.image.now c.write.new.image (Write c.args.cred c.args.moment c.args.path.now c.args.offset c.args.bytes.now) (Wrote (length c.args.bytes.now))
-    (at_time c.args.moment (after_write (state c.args.geometry.now c.args.image.now) c.args.moment c.args.offset c.args.bytes.now c.node-i.result))
+    c.need-needed.ensures ∙ sym (write_need_is c.args.geometry.now c.args.image.now c.node-i.result c.args.offset (length c.args.bytes.now) (used_first c.args.geometry.now c.args.image.now c.node-i.result c.node-i.ensures.used) c.node-i.ensures.used.last (ap has_places (regular_file c.args.geometry.now c.args.image.now c.node-i.result c.ready_stands.ensures.files c.node-i.ensures.used (write_passed (state c.args.geometry.now c.args.image.now) c.args.caller.cred c.args.caller.moment c.args.path.now c.args.offset c.args.bytes.now c.node-i.result c.requires.accepted c.node-i.ensures.walked).other (write_passed (state c.args.geometry.now c.args.image.now) c.args.caller.cred c.args.caller.moment c.args.path.now c.args.offset c.args.bytes.now c.node-i.result c.requires.accepted c.node-i.ensures.walked).regular))) in
+    let after : free_in (at_time c.args.caller.moment (after_write (state c.args.geometry.now c.args.image.now) c.args.caller.moment c.args.offset c.args.bytes.now c.node-i.result)) ≡ free_in (state c.args.geometry.now c.args.image.now) - need_in c.args.geometry.now.edition (shapes c.args.geometry.now c.args.image.now c.node-i.result) (touched c.args.offset (length c.args.bytes.now)) =
+    free_after_write c.args.geometry.now c.args.image.now c.args.caller.moment c.args.offset c.node-i.result c.args.bytes.now (used_first c.args.geometry.now c.args.image.now c.node-i.result c.node-i.ensures.used) c.node-i.ensures.used.last in
+    performed_by c.args.geometry.now c.args.image.now c.write.new.image (Write c.args.caller.cred c.args.caller.moment c.args.path.now c.args.offset c.args.bytes.now) (Wrote (length c.args.bytes.now))
+    (at_time c.args.caller.moment (after_write (state c.args.geometry.now c.args.image.now) c.args.caller.moment c.args.offset c.args.bytes.now c.node-i.result))
     (c.args.free - c.need-needed.result)
-    (step_write (state c.args.geometry.now c.args.image.now) c.args.cred c.args.moment c.args.path.now c.args.offset c.args.bytes.now c.node-i.result (Wrote (length c.args.bytes.now)) c.node-i.ensures.walked) refl
+    (step_write (state c.args.geometry.now c.args.image.now) c.args.caller.cred c.args.caller.moment c.args.path.now c.args.offset c.args.bytes.now c.node-i.result (Wrote (length c.args.bytes.now)) c.node-i.ensures.walked) refl
     c.write.ensures.changes
     (omega (arith, count, needed, after))

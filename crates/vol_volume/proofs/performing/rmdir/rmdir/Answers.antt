@@ -17,15 +17,15 @@ use Rattle.vol_volume.proofs.performing.rmdir.rmdir.Goals as goal
 
 pub parent-dir-requires-clause-leads : goal.parent-dir-requires-clause-leads
 parent-dir-requires-clause-leads c =
-    (rmdir_led (state c.args.geometry.now c.args.image.now) c.args.cred c.args.moment c.args.path.now c.requires.accepted).leads
+    (rmdir_led (state c.args.geometry.now c.args.image.now) c.args.caller.cred c.args.caller.moment c.args.path.now c.requires.accepted).leads
 
 pub parent-dir-requires-clause-text : goal.parent-dir-requires-clause-text
 parent-dir-requires-clause-text c =
-    (rmdir_led (state c.args.geometry.now c.args.image.now) c.args.cred c.args.moment c.args.path.now c.requires.accepted).text
+    (rmdir_led (state c.args.geometry.now c.args.image.now) c.args.caller.cred c.args.caller.moment c.args.path.now c.requires.accepted).text
 
 pub named-i-requires-clause-there : goal.named-i-requires-clause-there
 named-i-requires-clause-there c =
-    (rmdir_passed (state c.args.geometry.now c.args.image.now) c.args.cred c.args.moment c.args.path.now c.parent-dir.result.0 c.parent-dir.result.1.now c.requires.accepted c.parent-dir.ensures.walked).there
+    (rmdir_passed (state c.args.geometry.now c.args.image.now) c.args.caller.cred c.args.caller.moment c.args.path.now c.parent-dir.result.0 c.parent-dir.result.1.now c.requires.accepted c.parent-dir.ensures.walked).there
 
 pub block_count-freed-requires-clause-whole : goal.block_count-freed-requires-clause-whole
 block_count-freed-requires-clause-whole c =
@@ -37,35 +37,35 @@ block_count-freed-requires-clause-first c =
 
 pub rmdir-requires-clause-plain : goal.rmdir-requires-clause-plain
 rmdir-requires-clause-plain c =
-    (rmdir_passed (state c.args.geometry.now c.args.image.now) c.args.cred c.args.moment c.args.path.now c.parent-dir.result.0 c.parent-dir.result.1.now c.requires.accepted c.parent-dir.ensures.walked).plain
+    (rmdir_passed (state c.args.geometry.now c.args.image.now) c.args.caller.cred c.args.caller.moment c.args.path.now c.parent-dir.result.0 c.parent-dir.result.1.now c.requires.accepted c.parent-dir.ensures.walked).plain
 
 pub rmdir-requires-clause-gone : goal.rmdir-requires-clause-gone
 rmdir-requires-clause-gone c =
-    (directory_from c.args.geometry.now c.args.image.now c.named-i.result (used_first c.args.geometry.now c.args.image.now c.named-i.result c.named-i.ensures.used) c.named-i.ensures.used.last (ap (λ (j : ℕ). is_directory (node_at (tree c.args.geometry.now c.args.image.now) j)) (sym (entry_is (state c.args.geometry.now c.args.image.now) c.parent-dir.result.0 c.named-i.result c.parent-dir.result.1.now c.named-i.ensures.named)) ∙ (rmdir_passed (state c.args.geometry.now c.args.image.now) c.args.cred c.args.moment c.args.path.now c.parent-dir.result.0 c.parent-dir.result.1.now c.requires.accepted c.parent-dir.ensures.walked).gone))
+    (directory_from c.args.geometry.now c.args.image.now c.named-i.result (used_first c.args.geometry.now c.args.image.now c.named-i.result c.named-i.ensures.used) c.named-i.ensures.used.last (ap (λ (j : ℕ). is_directory (node_at (tree c.args.geometry.now c.args.image.now) j)) (sym (entry_is (state c.args.geometry.now c.args.image.now) c.parent-dir.result.0 c.named-i.result c.parent-dir.result.1.now c.named-i.ensures.named)) ∙ (rmdir_passed (state c.args.geometry.now c.args.image.now) c.args.caller.cred c.args.caller.moment c.args.path.now c.parent-dir.result.0 c.parent-dir.result.1.now c.requires.accepted c.parent-dir.ensures.walked).gone))
 
 pub rmdir-requires-clause-only : goal.rmdir-requires-clause-only
 rmdir-requires-clause-only c =
-    ap (has_others (tree c.args.geometry.now c.args.image.now)) (sym (entry_is (state c.args.geometry.now c.args.image.now) c.parent-dir.result.0 c.named-i.result c.parent-dir.result.1.now c.named-i.ensures.named)) ∙ (rmdir_passed (state c.args.geometry.now c.args.image.now) c.args.cred c.args.moment c.args.path.now c.parent-dir.result.0 c.parent-dir.result.1.now c.requires.accepted c.parent-dir.ensures.walked).only
+    ap (has_others (tree c.args.geometry.now c.args.image.now)) (sym (entry_is (state c.args.geometry.now c.args.image.now) c.parent-dir.result.0 c.named-i.result c.parent-dir.result.1.now c.named-i.ensures.named)) ∙ (rmdir_passed (state c.args.geometry.now c.args.image.now) c.args.caller.cred c.args.caller.moment c.args.path.now c.parent-dir.result.0 c.parent-dir.result.1.now c.requires.accepted c.parent-dir.ensures.walked).only
 
 pub overflow_add-result : goal.overflow_add-result
 unfolding tree
 overflow_add-result c =
     let count : c.args.free ≡ free_in (state c.args.geometry.now c.args.image.now) = c.requires.count in
     let freed : c.block_count-freed.result ≡ place_count c.args.geometry.now.edition (shapes c.args.geometry.now c.args.image.now c.named-i.result) = c.block_count-freed.ensures in
-    let after : free_in (at_time c.args.moment (after_rmdir (state c.args.geometry.now c.args.image.now) c.args.moment c.parent-dir.result.0 c.parent-dir.result.1.now)) ≡ free_in (state c.args.geometry.now c.args.image.now) + place_count c.args.geometry.now.edition (shapes c.args.geometry.now c.args.image.now c.named-i.result) =
-    free_after_rmdir c.args.geometry.now c.args.image.now c.args.moment c.named-i.result c.parent-dir.result.0 c.parent-dir.result.1.now c.requires.ready c.named-i.ensures.named in
-    let low : free_in (at_time c.args.moment (after_rmdir (state c.args.geometry.now c.args.image.now) c.args.moment c.parent-dir.result.0 c.parent-dir.result.1.now)) < 2 ^ 32 = free_low c.args.geometry.now c.args.image.now (at_time c.args.moment (after_rmdir (state c.args.geometry.now c.args.image.now) c.args.moment c.parent-dir.result.0 c.parent-dir.result.1.now)) (tree_geometry c.args.geometry.now c.args.image.now) c.requires.ready.fits in
+    let after : free_in (at_time c.args.caller.moment (after_rmdir (state c.args.geometry.now c.args.image.now) c.args.caller.moment c.parent-dir.result.0 c.parent-dir.result.1.now)) ≡ free_in (state c.args.geometry.now c.args.image.now) + place_count c.args.geometry.now.edition (shapes c.args.geometry.now c.args.image.now c.named-i.result) =
+    free_after_rmdir c.args.geometry.now c.args.image.now c.args.caller.moment c.named-i.result c.parent-dir.result.0 c.parent-dir.result.1.now c.requires.ready c.named-i.ensures.named in
+    let low : free_in (at_time c.args.caller.moment (after_rmdir (state c.args.geometry.now c.args.image.now) c.args.caller.moment c.parent-dir.result.0 c.parent-dir.result.1.now)) < 2 ^ 32 = free_low c.args.geometry.now c.args.image.now (at_time c.args.caller.moment (after_rmdir (state c.args.geometry.now c.args.image.now) c.args.caller.moment c.parent-dir.result.0 c.parent-dir.result.1.now)) (tree_geometry c.args.geometry.now c.args.image.now) c.requires.ready.fits in
     omega (arith, count, freed, after, low)
 
 pub returns-clause-performed : goal.returns-clause-performed
 returns-clause-performed c =
     let count : c.args.free ≡ free_in (state c.args.geometry.now c.args.image.now) = c.requires.count in
     let freed : c.block_count-freed.result ≡ place_count c.args.geometry.now.edition (shapes c.args.geometry.now c.args.image.now c.named-i.result) = c.block_count-freed.ensures in
-    let after : free_in (at_time c.args.moment (after_rmdir (state c.args.geometry.now c.args.image.now) c.args.moment c.parent-dir.result.0 c.parent-dir.result.1.now)) ≡ free_in (state c.args.geometry.now c.args.image.now) + place_count c.args.geometry.now.edition (shapes c.args.geometry.now c.args.image.now c.named-i.result) =
-    free_after_rmdir c.args.geometry.now c.args.image.now c.args.moment c.named-i.result c.parent-dir.result.0 c.parent-dir.result.1.now c.requires.ready c.named-i.ensures.named in
-    performed_by c.args.geometry.now c.args.image.now c.rmdir.new.image (Rmdir c.args.cred c.args.moment c.args.path.now) Plain
-    (at_time c.args.moment (after_rmdir (state c.args.geometry.now c.args.image.now) c.args.moment c.parent-dir.result.0 c.parent-dir.result.1.now))
+    let after : free_in (at_time c.args.caller.moment (after_rmdir (state c.args.geometry.now c.args.image.now) c.args.caller.moment c.parent-dir.result.0 c.parent-dir.result.1.now)) ≡ free_in (state c.args.geometry.now c.args.image.now) + place_count c.args.geometry.now.edition (shapes c.args.geometry.now c.args.image.now c.named-i.result) =
+    free_after_rmdir c.args.geometry.now c.args.image.now c.args.caller.moment c.named-i.result c.parent-dir.result.0 c.parent-dir.result.1.now c.requires.ready c.named-i.ensures.named in
+    performed_by c.args.geometry.now c.args.image.now c.rmdir.new.image (Rmdir c.args.caller.cred c.args.caller.moment c.args.path.now) Plain
+    (at_time c.args.caller.moment (after_rmdir (state c.args.geometry.now c.args.image.now) c.args.caller.moment c.parent-dir.result.0 c.parent-dir.result.1.now))
     (c.args.free + c.block_count-freed.result)
-    (step_rmdir (state c.args.geometry.now c.args.image.now) c.args.cred c.args.moment c.args.path.now c.parent-dir.result.0 c.parent-dir.result.1.now c.parent-dir.ensures.walked) tt
+    (step_rmdir (state c.args.geometry.now c.args.image.now) c.args.caller.cred c.args.caller.moment c.args.path.now c.parent-dir.result.0 c.parent-dir.result.1.now c.parent-dir.ensures.walked) tt
     c.rmdir.ensures.changes
     (omega (arith, count, freed, after))

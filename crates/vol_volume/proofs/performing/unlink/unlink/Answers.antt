@@ -14,28 +14,28 @@ use Rattle.vol_volume.proofs.performing.unlink.unlink.Goals as goal
 
 pub parent-dir-requires-clause-leads : goal.parent-dir-requires-clause-leads
 parent-dir-requires-clause-leads c =
-    (unlink_led (state c.args.geometry.now c.args.image.now) c.args.cred c.args.moment c.args.path.now c.requires.accepted).leads
+    (unlink_led (state c.args.geometry.now c.args.image.now) c.args.caller.cred c.args.caller.moment c.args.path.now c.requires.accepted).leads
 
 pub parent-dir-requires-clause-text : goal.parent-dir-requires-clause-text
 parent-dir-requires-clause-text c =
-    (unlink_led (state c.args.geometry.now c.args.image.now) c.args.cred c.args.moment c.args.path.now c.requires.accepted).text
+    (unlink_led (state c.args.geometry.now c.args.image.now) c.args.caller.cred c.args.caller.moment c.args.path.now c.requires.accepted).text
 
 pub named-i-requires-clause-there : goal.named-i-requires-clause-there
 named-i-requires-clause-there c =
-    (unlink_passed (state c.args.geometry.now c.args.image.now) c.args.cred c.args.moment c.args.path.now c.parent-dir.result.0 c.parent-dir.result.1.now c.requires.accepted c.parent-dir.ensures.walked).0
+    (unlink_passed (state c.args.geometry.now c.args.image.now) c.args.caller.cred c.args.caller.moment c.args.path.now c.parent-dir.result.0 c.parent-dir.result.1.now c.requires.accepted c.parent-dir.ensures.walked).0
 
 pub unlink-requires-clause-other : goal.unlink-requires-clause-other
 unlink-requires-clause-other c =
-    (other_kind c.args.geometry.now c.args.image.now c.named-i.result (used_first c.args.geometry.now c.args.image.now c.named-i.result c.named-i.ensures.used) c.named-i.ensures.used.last (ap (λ (j : ℕ). is_directory (node_at (tree c.args.geometry.now c.args.image.now) j)) (sym (entry_is (state c.args.geometry.now c.args.image.now) c.parent-dir.result.0 c.named-i.result c.parent-dir.result.1.now c.named-i.ensures.named)) ∙ (unlink_passed (state c.args.geometry.now c.args.image.now) c.args.cred c.args.moment c.args.path.now c.parent-dir.result.0 c.parent-dir.result.1.now c.requires.accepted c.parent-dir.ensures.walked).1))
+    (other_kind c.args.geometry.now c.args.image.now c.named-i.result (used_first c.args.geometry.now c.args.image.now c.named-i.result c.named-i.ensures.used) c.named-i.ensures.used.last (ap (λ (j : ℕ). is_directory (node_at (tree c.args.geometry.now c.args.image.now) j)) (sym (entry_is (state c.args.geometry.now c.args.image.now) c.parent-dir.result.0 c.named-i.result c.parent-dir.result.1.now c.named-i.ensures.named)) ∙ (unlink_passed (state c.args.geometry.now c.args.image.now) c.args.caller.cred c.args.caller.moment c.args.path.now c.parent-dir.result.0 c.parent-dir.result.1.now c.requires.accepted c.parent-dir.ensures.walked).1))
 
 pub overflow_add-result : goal.overflow_add-result
 unfolding tree
 overflow_add-result c =
     let count : c.args.free ≡ free_in (state c.args.geometry.now c.args.image.now) = c.requires.count in
     let lost : c.freed-freed.result ≡ (freed_blocks c.args.geometry.now c.args.image.now c.named-i.result) = c.freed-freed.ensures in
-    let after : free_in (at_time c.args.moment (after_unlink (state c.args.geometry.now c.args.image.now) c.args.moment c.parent-dir.result.0 c.parent-dir.result.1.now)) ≡ free_in (state c.args.geometry.now c.args.image.now) + (freed_blocks c.args.geometry.now c.args.image.now c.named-i.result) =
-    free_unlinked c.args.geometry.now c.args.image.now c.args.moment c.named-i.result c.parent-dir.result.0 c.parent-dir.result.1.now c.requires.ready c.named-i.ensures.named in
-    let same : free_in (state c.args.geometry.now c.unlink.new.image) ≡ free_in (at_time c.args.moment (after_unlink (state c.args.geometry.now c.args.image.now) c.args.moment c.parent-dir.result.0 c.parent-dir.result.1.now)) = ap free_in c.unlink.ensures.changes.makes in
+    let after : free_in (at_time c.args.caller.moment (after_unlink (state c.args.geometry.now c.args.image.now) c.args.caller.moment c.parent-dir.result.0 c.parent-dir.result.1.now)) ≡ free_in (state c.args.geometry.now c.args.image.now) + (freed_blocks c.args.geometry.now c.args.image.now c.named-i.result) =
+    free_unlinked c.args.geometry.now c.args.image.now c.args.caller.moment c.named-i.result c.parent-dir.result.0 c.parent-dir.result.1.now c.requires.ready c.named-i.ensures.named in
+    let same : free_in (state c.args.geometry.now c.unlink.new.image) ≡ free_in (at_time c.args.caller.moment (after_unlink (state c.args.geometry.now c.args.image.now) c.args.caller.moment c.parent-dir.result.0 c.parent-dir.result.1.now)) = ap free_in c.unlink.ensures.changes.makes in
     let low : free_in (state c.args.geometry.now c.unlink.new.image) < 2 ^ 32 =
     free_low c.args.geometry.now c.args.image.now (state c.args.geometry.now c.unlink.new.image) (tree_geometry c.args.geometry.now c.unlink.new.image) c.requires.ready.fits in
     omega (arith, count, lost, after, same, low)
@@ -44,11 +44,11 @@ pub returns-clause-performed : goal.returns-clause-performed
 returns-clause-performed c =
     let count : c.args.free ≡ free_in (state c.args.geometry.now c.args.image.now) = c.requires.count in
     let lost : c.freed-freed.result ≡ (freed_blocks c.args.geometry.now c.args.image.now c.named-i.result) = c.freed-freed.ensures in
-    let after : free_in (at_time c.args.moment (after_unlink (state c.args.geometry.now c.args.image.now) c.args.moment c.parent-dir.result.0 c.parent-dir.result.1.now)) ≡ free_in (state c.args.geometry.now c.args.image.now) + (freed_blocks c.args.geometry.now c.args.image.now c.named-i.result) =
-    free_unlinked c.args.geometry.now c.args.image.now c.args.moment c.named-i.result c.parent-dir.result.0 c.parent-dir.result.1.now c.requires.ready c.named-i.ensures.named in
-    performed_by c.args.geometry.now c.args.image.now c.unlink.new.image (Unlink c.args.cred c.args.moment c.args.path.now) Plain
-    (at_time c.args.moment (after_unlink (state c.args.geometry.now c.args.image.now) c.args.moment c.parent-dir.result.0 c.parent-dir.result.1.now))
+    let after : free_in (at_time c.args.caller.moment (after_unlink (state c.args.geometry.now c.args.image.now) c.args.caller.moment c.parent-dir.result.0 c.parent-dir.result.1.now)) ≡ free_in (state c.args.geometry.now c.args.image.now) + (freed_blocks c.args.geometry.now c.args.image.now c.named-i.result) =
+    free_unlinked c.args.geometry.now c.args.image.now c.args.caller.moment c.named-i.result c.parent-dir.result.0 c.parent-dir.result.1.now c.requires.ready c.named-i.ensures.named in
+    performed_by c.args.geometry.now c.args.image.now c.unlink.new.image (Unlink c.args.caller.cred c.args.caller.moment c.args.path.now) Plain
+    (at_time c.args.caller.moment (after_unlink (state c.args.geometry.now c.args.image.now) c.args.caller.moment c.parent-dir.result.0 c.parent-dir.result.1.now))
     (c.args.free + c.freed-freed.result)
-    (step_unlink (state c.args.geometry.now c.args.image.now) c.args.cred c.args.moment c.args.path.now c.parent-dir.result.0 c.parent-dir.result.1.now c.parent-dir.ensures.walked) tt
+    (step_unlink (state c.args.geometry.now c.args.image.now) c.args.caller.cred c.args.caller.moment c.args.path.now c.parent-dir.result.0 c.parent-dir.result.1.now c.parent-dir.ensures.walked) tt
     c.unlink.ensures.changes
     (omega (arith, count, lost, after))

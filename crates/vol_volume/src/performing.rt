@@ -69,7 +69,7 @@ pub(crate) fn perform(
     ensures performed { IsPerformed geometry.now image.old image.new call.now result.done result.free }
     ensures recorded { IfSome recorded (λ done. result.done ≡ done) }
 {
-    let caller = caller(call);
+    let caller = caller_of(call);
     let number = recorded_number(recorded);
     match call {
         Call::Create { path, perm, .. } => {
@@ -101,7 +101,7 @@ pub(crate) fn perform(
 }
 
 /// Who makes a call, and when.
-fn caller(call: &Call) -> Caller
+fn caller_of(call: &Call) -> Caller
     ensures { result ≡ caller_of call.now }
 {
     let (cred, now) = match call {

@@ -39,6 +39,18 @@ fn mount(edition: &str, image: &str) -> Outcome<Volume> {
     Ok(volume)
 }
 
+/// A new volume, of the numbers that `mkfs` is given after the image.
+fn make(edition: &str, [blocks, list_blocks, uid, gid, now]: [&str; 5]) -> Outcome<Volume> {
+    Volume::make(
+        Edition::named(edition)?,
+        blocks.parse()?,
+        list_blocks.parse()?,
+        uid.parse()?,
+        gid.parse()?,
+        now.parse()?,
+    )
+}
+
 /// Writes to standard output, not through the standard library's own buffer, which looks for the ends of lines.
 fn print(write: impl FnOnce(&mut BufWriter<File>) -> Outcome<()>) -> Outcome<()> {
     let output = File::from(io::stdout().as_fd().try_clone_to_owned()?);
@@ -61,15 +73,7 @@ fn run(words: &[String]) -> Outcome<()> {
             print(|output| volume.list(path, output))
         }
         ["mkfs", edition, image, blocks, list_blocks, uid, gid, now] => {
-            let volume = Volume::make(
-                Edition::named(edition)?,
-                blocks.parse()?,
-                list_blocks.parse()?,
-                uid.parse()?,
-                gid.parse()?,
-                now.parse()?,
-            )?;
-            save(&volume, image)
+            save(&make(edition, [blocks, list_blocks, uid, gid, now])?, image)
         }
         ["put", edition, image, path, file, now] => {
             let now = now.parse()?;
@@ -86,14 +90,12 @@ fn run(words: &[String]) -> Outcome<()> {
             save(&volume, image)
         }
         ["sample", edition, image, blocks, list_blocks, size] => {
-            let edition = Edition::named(edition)?;
-            let mut volume = Volume::make(edition, blocks.parse()?, list_blocks.parse()?, 0, 0, 0)?;
+            let mut volume = make(edition, [blocks, list_blocks, "0", "0", "0"])?;
             volume.put_file(size.parse()?)?;
             save(&volume, image)
         }
         ["fill", edition, image, blocks, list_blocks, files] => {
-            let edition = Edition::named(edition)?;
-            let mut volume = Volume::make(edition, blocks.parse()?, list_blocks.parse()?, 0, 0, 0)?;
+            let mut volume = make(edition, [blocks, list_blocks, "0", "0", "0"])?;
             volume.fill(files.parse()?)?;
             save(&volume, image)
         }

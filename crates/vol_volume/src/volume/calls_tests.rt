@@ -131,38 +131,52 @@ fn copied(alloc: Global, bytes: &[u8]) -> Result<Bytes, Fail>
     Ok(Bytes::from_vec(Vec::from_slice(alloc, bytes)?))
 }
 
+/// A call that makes a file.
+fn create(cred: Cred, path: Bytes, perm: u16) -> Call {
+    let now = LATER;
+    Call::Create {
+        cred,
+        now,
+        path,
+        perm,
+    }
+}
+
+/// A call that makes a directory.
+fn mkdir(cred: Cred, path: Bytes, perm: u16) -> Call {
+    let now = LATER;
+    Call::Mkdir {
+        cred,
+        now,
+        path,
+        perm,
+    }
+}
+
+/// A call that writes bytes.
+fn write(cred: Cred, path: Bytes, offset: u32, bytes: Bytes) -> Call {
+    let now = LATER;
+    Call::Write {
+        cred,
+        now,
+        path,
+        offset,
+        bytes,
+    }
+}
+
 /// A call in the name of a user.
 fn call_by(alloc: Global, cred: Cred, asked: Asked) -> Result<Call, Fail> {
     let now = LATER;
     Ok(match asked {
-        Asked::Create(path, perm) => {
-            let path = copied(alloc, path)?;
-            Call::Create {
-                cred,
-                now,
-                path,
-                perm,
-            }
-        }
-        Asked::Mkdir(path, perm) => {
-            let path = copied(alloc, path)?;
-            Call::Mkdir {
-                cred,
-                now,
-                path,
-                perm,
-            }
-        }
-        Asked::Link(source, target) => {
-            let source = copied(alloc, source)?;
-            let target = copied(alloc, target)?;
-            Call::Link {
-                cred,
-                now,
-                source,
-                target,
-            }
-        }
+        Asked::Create(path, perm) => create(cred, copied(alloc, path)?, perm),
+        Asked::Mkdir(path, perm) => mkdir(cred, copied(alloc, path)?, perm),
+        Asked::Link(source, target) => Call::Link {
+            cred,
+            now,
+            source: copied(alloc, source)?,
+            target: copied(alloc, target)?,
+        },
         Asked::Unlink(path) => {
             let path = copied(alloc, path)?;
             Call::Unlink { cred, now, path }
@@ -173,26 +187,11 @@ fn call_by(alloc: Global, cred: Cred, asked: Asked) -> Result<Call, Fail> {
         }
         Asked::Write(path, offset, bytes) => {
             let path = copied(alloc, path)?;
-            let bytes = copied(alloc, bytes)?;
-            Call::Write {
-                cred,
-                now,
-                path,
-                offset,
-                bytes,
-            }
+            write(cred, path, offset, copied(alloc, bytes)?)
         }
         Asked::Fill(path, len, byte) => {
             let path = copied(alloc, path)?;
-            let bytes = Bytes::from_vec(vec![in alloc; byte; len]?);
-            let offset = 0;
-            Call::Write {
-                cred,
-                now,
-                path,
-                offset,
-                bytes,
-            }
+            write(cred, path, 0, Bytes::from_vec(vec![in alloc; byte; len]?))
         }
         Asked::Truncate(path) => {
             let path = copied(alloc, path)?;
@@ -414,6 +413,43 @@ fn copied_call(alloc: Global, call: &Call) -> Result<Call, Fail>
     ensures { IfOk result (λ copy. copy ≡ call.now) }
 {
     Ok(match call {
+        Call::Unlink { cred, now, path } => Call::Unlink {
+            cred: *cred,
+            now: *now,
+            path: copied(alloc, path.as_slice())?,
+        },
+        Call::Rmdir { cred, now, path } => Call::Rmdir {
+            cred: *cred,
+            now: *now,
+            path: copied(alloc, path.as_slice())?,
+        },
+        Call::Write {
+            cred,
+            now,
+            path,
+            offset,
+            bytes,
+        } => Call::Write {
+            cred: *cred,
+            now: *now,
+            path: copied(alloc, path.as_slice())?,
+            offset: *offset,
+            bytes: copied(alloc, bytes.as_slice())?,
+        },
+        Call::Truncate { cred, now, path } => Call::Truncate {
+            cred: *cred,
+            now: *now,
+            path: copied(alloc, path.as_slice())?,
+        },
+        _ => copied_making(alloc, call)?,
+    })
+}
+
+/// A copy of a call that makes a name.
+fn copied_making(alloc: Global, call: &Call) -> Result<Call, Fail>
+    ensures { IfOk result (λ copy. copy ≡ call.now) }
+{
+    Ok(match call {
         Call::Create {
             cred,
             now,
@@ -447,33 +483,6 @@ fn copied_call(alloc: Global, call: &Call) -> Result<Call, Fail>
             source: copied(alloc, source.as_slice())?,
             target: copied(alloc, target.as_slice())?,
         },
-        Call::Unlink { cred, now, path } => Call::Unlink {
-            cred: *cred,
-            now: *now,
-            path: copied(alloc, path.as_slice())?,
-        },
-        Call::Rmdir { cred, now, path } => Call::Rmdir {
-            cred: *cred,
-            now: *now,
-            path: copied(alloc, path.as_slice())?,
-        },
-        Call::Write {
-            cred,
-            now,
-            path,
-            offset,
-            bytes,
-        } => Call::Write {
-            cred: *cred,
-            now: *now,
-            path: copied(alloc, path.as_slice())?,
-            offset: *offset,
-            bytes: copied(alloc, bytes.as_slice())?,
-        },
-        Call::Truncate { cred, now, path } => Call::Truncate {
-            cred: *cred,
-            now: *now,
-            path: copied(alloc, path.as_slice())?,
-        },
+        _ => return Err(Fail::from("the call makes a name")),
     })
 }

@@ -40,42 +40,45 @@ fn bytes_past_the_volume_are_kept(rt: HostRuntime) -> Result<(), Fail> {
     Ok(())
 }
 
+/// New volumes of so many blocks, in which the byte at a place is another, and the rule that each breaks.
+static BROKEN: [(Edition, u32, usize, u8, Option<u8>); 13] = [
+    // The root has five links.
+    (Edition::V6, 20, 1026, 5, Some(12)),
+    // The chain block names itself.
+    (Edition::V7, 100, 25_604, 50, Some(6)),
+    // I-number 1, for bad blocks, is a regular file without entry or link.
+    (Edition::V7, 100, 1025, 0x80, None),
+    // I-number 3 is one.
+    (Edition::V7, 100, 1153, 0x80, Some(12)),
+    // The super-block has no i-list.
+    (Edition::V6, 20, 512, 0, Some(2)),
+    // The super-block tells of a block more.
+    (Edition::V6, 20, 514, 21, Some(1)),
+    // The root is a special file.
+    (Edition::V6, 20, 1025, 0xA1, Some(3)),
+    // The root has 128 links.
+    (Edition::V6, 20, 1026, 128, Some(4)),
+    // The root names the super-block.
+    (Edition::V6, 20, 1032, 1, Some(5)),
+    // The root names a free block.
+    (Edition::V6, 20, 1032, 5, Some(7)),
+    // A free block is lost: the array's top number is left out.
+    (Edition::V6, 20, 516, 15, Some(8)),
+    // The root's `.` names a free i-node.
+    (Edition::V6, 20, 2048, 2, Some(9)),
+    // The root has no `.`.
+    (Edition::V6, 20, 2050, 0x61, Some(10)),
+];
+
 #[test]
 fn the_least_rule_that_fails_is_named(rt: HostRuntime) -> Result<(), Fail> {
     let alloc = rt.alloc();
-    for (edition, blocks, at, byte, wanted) in [
-        // The root has five links.
-        (Edition::V6, 20, 1026, 5, Some(12)),
-        // The chain block names itself.
-        (Edition::V7, 100, 25_604, 50, Some(6)),
-        // I-number 1, for bad blocks, is a regular file without entry or link.
-        (Edition::V7, 100, 1025, 0x80, None),
-        // I-number 3 is one.
-        (Edition::V7, 100, 1153, 0x80, Some(12)),
-        // The super-block has no i-list.
-        (Edition::V6, 20, 512, 0, Some(2)),
-        // The super-block tells of a block more.
-        (Edition::V6, 20, 514, 21, Some(1)),
-        // The root is a special file.
-        (Edition::V6, 20, 1025, 0xA1, Some(3)),
-        // The root has 128 links.
-        (Edition::V6, 20, 1026, 128, Some(4)),
-        // The root names the super-block.
-        (Edition::V6, 20, 1032, 1, Some(5)),
-        // The root names a free block.
-        (Edition::V6, 20, 1032, 5, Some(7)),
-        // A free block is lost: the array's top number is left out.
-        (Edition::V6, 20, 516, 15, Some(8)),
-        // The root's `.` names a free i-node.
-        (Edition::V6, 20, 2048, 2, Some(9)),
-        // The root has no `.`.
-        (Edition::V6, 20, 2050, 0x61, Some(10)),
-    ] {
-        let bytes = changed(alloc, edition, blocks, at, byte)?;
+    for (edition, blocks, at, byte, wanted) in &BROKEN {
+        let bytes = changed(alloc, *edition, *blocks, *at, *byte)?;
         let same = Vec::from_slice(alloc, &bytes)?;
-        match Volume::mount(alloc, edition, bytes) {
+        match Volume::mount(alloc, *edition, bytes) {
             Ok(volume) => {
-                assert_eq!(rt; wanted, None, "byte {at}");
+                assert_eq!(rt; *wanted, None, "byte {at}");
                 assert_eq!(rt; volume.unmount(), same);
             }
             Err((fault, bytes)) => {

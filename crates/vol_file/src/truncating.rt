@@ -1,8 +1,7 @@
 //! Truncating a file to nothing: its blocks go back to the free list.
-ghost use Rattle.std.specs.Prelude.{◌≡◌, ℕ, ◌+◌, ◌*◌, ◌≤◌, List, [], ◌∷◌};
+ghost use Rattle.std.specs.Prelude.{◌≡◌, ℕ, ◌+◌, ◌*◌, List, [], ◌∷◌};
 ghost use Rattle.vol_layout.specs.Geometry.{Fits};
 ghost use Rattle.vol_layout.specs.Names.{form_at, IsFile, named};
-ghost use Rattle.vol_layout.specs.Places.{first_count, levels};
 ghost use Rattle.vol_file.specs.Rules.{IsSoundWith, HasSoundFiles};
 ghost use Rattle.vol_file.specs.Changes.{blocks_of, Truncates};
 ghost use Rattle.vol_file.specs.Clears.{IsUnder, Clears, Drops, HasEntry, HasAddress, HasNode, ClearsBelow};
@@ -43,44 +42,20 @@ fn clear_addresses(image: &mut Image, geometry: &Geometry, i: u16, form: Form)
     ensures { (blocks : List ℕ) → IsSoundWith geometry.now image.old blocks
         → Clears geometry.now image.old image.new i (IsUnder [] 0) (blocks_of geometry.now image.old i) blocks }
 {
-    let mut k = address_count(form);
+    let mut k = form.address_count();
     while k > 0 {
         k -= 1;
         let b = address(image, geometry, i, k);
         if b != 0 {
-            clear_below(image, geometry, b, levels(form, k));
+            clear_below(image, geometry, b, form.levels(k));
             drop_address(image, geometry, i, k, b);
         }
     }
 }
 
-/// How many addresses of an i-node are places of its file.
-pub fn address_count(form: Form) -> usize
-    ensures { result ≡ first_count form }
-{
-    match form {
-        Form::Small | Form::Large => 8,
-        Form::Deep => 13,
-        Form::Bare => 0,
-    }
-}
-
-/// How many levels of pointer blocks stand between address `k` and the data.
-pub fn levels(form: Form, k: usize) -> u32
-    requires { k ≤ 12 }
-    ensures { result ≡ levels form k }
-{
-    match form {
-        Form::Large if k == 7 => 2,
-        Form::Large => 1,
-        Form::Deep if k > 9 => k as u32 - 9,
-        _ => 0,
-    }
-}
-
 /// Makes all entries of block `m` 0, the last one first, and gives back what they lead to. Block `m` is
 /// named by a place with `level` levels below it; where there is none, nothing is done.
-fn clear_below(image: &mut Image, geometry: &Geometry, m: u32, level: u32)
+fn clear_below(image: &mut Image, geometry: &Geometry, m: u32, level: u8)
     requires { HasNode geometry.now image.old m level }
     ensures { ClearsBelow geometry.now image.old image.new m level }
 {

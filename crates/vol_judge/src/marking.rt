@@ -1,7 +1,6 @@
 //! Which blocks the places of all files name: whether each is a data block, and none is named twice.
 ghost use Rattle.std.specs.Prelude.{◌≡◌, ℕ, ◌≤◌, ◌↔◌, length, slice_index, IsTrue, true, false, Some, None};
 ghost use Rattle.vol_layout.specs.Geometry.{Fits};
-ghost use Rattle.vol_layout.specs.Places.{first_count, levels};
 ghost use Rattle.vol_file.specs.Rules.{IsZoned, IsApart};
 ghost use Rattle.vol_file.specs.Changes.{blocks_of};
 ghost use Rattle.vol_judge.specs.Marks.{
@@ -48,30 +47,6 @@ pub fn mark_places(image: &Image, geometry: &Geometry, marks: &mut [u8]) -> Plac
     Places::Once
 }
 
-/// How many addresses of an i-node are places of its file.
-fn address_count(form: Form) -> usize
-    ensures { result ≡ first_count form }
-{
-    match form {
-        Form::Small | Form::Large => 8,
-        Form::Deep => 13,
-        Form::Bare => 0,
-    }
-}
-
-/// How many levels of pointer blocks stand between address `k` and the data.
-fn levels(form: Form, k: usize) -> u8
-    requires { k ≤ 12 }
-    ensures { result ≡ levels form k }
-{
-    match form {
-        Form::Large if k == 7 => 2,
-        Form::Large => 1,
-        Form::Deep if k > 9 => k as u8 - 9,
-        _ => 0,
-    }
-}
-
 /// Makes all bytes 0.
 fn clear(marks: &mut [u8])
     ensures { (k : ℕ) → slice_index marks.new k ≡ 0 }
@@ -107,9 +82,9 @@ fn is_file_zoned(image: &Image, geometry: &Geometry, i: u16, known: &mut [u8]) -
     ensures known { KnowsInside geometry.now image.now known.new }
 {
     let form = Form::of(geometry.edition, mode(image, geometry, i));
-    for k in 0..address_count(form) {
+    for k in 0..form.address_count() {
         let b = address(image, geometry, i, k);
-        if !is_inside(image, geometry, b, levels(form, k), known) {
+        if !is_inside(image, geometry, b, form.levels(k), known) {
             return false;
         }
     }
@@ -172,9 +147,9 @@ fn mark_file(image: &Image, geometry: &Geometry, i: u16, marks: &mut [u8]) -> bo
     ensures twice { result ≡ false → marked marks.old (blocks_of geometry.now image.now i) ≡ None }
 {
     let form = Form::of(geometry.edition, mode(image, geometry, i));
-    for k in 0..address_count(form) {
+    for k in 0..form.address_count() {
         let b = address(image, geometry, i, k);
-        if !mark_from(image, geometry, b, levels(form, k), marks) {
+        if !mark_from(image, geometry, b, form.levels(k), marks) {
             return false;
         }
     }

@@ -1,5 +1,5 @@
 //! The forms of a file, by which its blocks are found.
-ghost use Rattle.std.specs.Prelude.{◌≡◌};
+ghost use Rattle.std.specs.Prelude.{◌≡◌, ◌≤◌};
 
 use crate::edition::Edition;
 use crate::mode::{Kind, Mode};
@@ -20,7 +20,7 @@ pub enum Form {
 }
 
 impl Form {
-    ghost use Rattle.vol_layout.specs.Places.{form_of, block_limit};
+    ghost use Rattle.vol_layout.specs.Places.{form_of, block_limit, first_count, levels};
 
     /// The form of an i-node with some mode.
     pub fn of(edition: Edition, mode: Mode) -> Form
@@ -45,6 +45,31 @@ impl Form {
             Form::Large => 32_768,
             Form::Deep => 2_113_674,
             Form::Bare => 0,
+        }
+    }
+
+    /// How many addresses of an i-node are places of a file of this form.
+    pub fn address_count(self) -> usize
+        ensures { result ≡ first_count self }
+    {
+        match self {
+            Form::Small | Form::Large => 8,
+            Form::Deep => 13,
+            Form::Bare => 0,
+        }
+    }
+
+    /// How many levels of pointer blocks stand between address `k` and the data. An i-node has at most 13
+    /// addresses, counted from 0.
+    pub fn levels(self, k: usize) -> u8
+        requires { k ≤ 12 }
+        ensures { result ≡ levels self k }
+    {
+        match self {
+            Form::Large if k == 7 => 2,
+            Form::Large => 1,
+            Form::Deep if k > 9 => k as u8 - 9,
+            _ => 0,
         }
     }
 }

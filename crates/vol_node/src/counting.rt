@@ -6,7 +6,6 @@ ghost use Rattle.vol_judge.specs.Marks.{IsInside, blocks_from};
 ghost use Rattle.vol_node.specs.Whole.{IsWhole};
 
 use pdp_words::{BLOCK, Image};
-use vol_file::truncating::{address_count, levels};
 use vol_layout::i_list::{address, mode};
 use vol_layout::{Form, Geometry, number};
 
@@ -22,16 +21,16 @@ pub fn block_count(image: &Image, geometry: &Geometry, i: u16) -> u32
 {
     let form = Form::of(geometry.edition, mode(image, geometry, i));
     let mut count = 0;
-    for k in 0..address_count(form) {
+    for k in 0..form.address_count() {
         let b = address(image, geometry, i, k);
-        count += count_from(image, geometry, b, levels(form, k));
+        count += count_from(image, geometry, b, form.levels(k));
     }
     count
 }
 
 /// How many blocks are found from number `b` on, itself among them, in `level` levels below it. From 0
 /// none is found.
-fn count_from(image: &Image, geometry: &Geometry, b: u32, level: u32) -> u32
+fn count_from(image: &Image, geometry: &Geometry, b: u32, level: u8) -> u32
     requires fits { Fits geometry.now image.now }
     requires inside { IsInside geometry.now image.now level b }
     requires deepest { level ≤ 3 }

@@ -1,8 +1,8 @@
 -- Laws of the body of a file: its length, its bytes, and its pieces of one block.
 use Rattle.std.specs.Prelude.{slice_range, replicate}
-use Rattle.std.proofs.Common.{◌≡◌, ◌++◌, ℕ, ◌+◌, ◌-◌, ◌*◌, ◌/◌, ◌%◌, ◌<◌, ◌≤◌, ◌∙◌, sym, ap, List, length, get_or, take, drop, true, false, if◌then◌else◌, leb, ltb, refl, arith}
+use Rattle.std.proofs.Common.{◌≡◌, ℕ, ◌+◌, ◌-◌, ◌*◌, ◌/◌, ◌%◌, ◌<◌, ◌≤◌, ◌∙◌, sym, ap, List, length, get_or, take, drop, true, false, if◌then◌else◌, leb, ltb, refl, arith}
 use Rattle.std.proofs.lemmas.Bool.{and_parts, leb-true, ltb-true}
-use Rattle.std.proofs.lemmas.List.{length-take-le, length-drop, get_or-take, get_or-drop, get_or-replicate, length-replicate, take-append-drop, take-take, drop-take, take_all}
+use Rattle.std.proofs.lemmas.List.{length-take-le, length-drop, get_or-take, get_or-drop, get_or-replicate, length-replicate}
 use Rattle.std.proofs.lemmas.List.FromFn.{length-map-range_with_len, get_or-map-range_with_len}
 use Rattle.std.proofs.lemmas.Grind.{same_number_lists}
 use Rattle.vol_layout.specs.Geometry.{in_zone, Fits}
@@ -113,27 +113,6 @@ pub body_piece : (geometry : Geometry) (image : List ℕ) (i b n k : ℕ) → Fi
     ≡ (if in_zone geometry k then slice_range image (512 * k) (512 * k + n) else replicate n 0)
 body_piece geometry image i b n k fits h room is_stored =
     body_part geometry image i b 0 n k (512 * b) (512 * k) fits (omega arith) (omega arith) (omega arith) room is_stored
-
--- what is taken of a list up to from + n is what is taken up to `from`, and a slice
-pub take_slice : (xs : List ℕ) (from n : ℕ) → take (from + n) xs ≡ take from xs ++ slice_range xs from (from + n)
-take_slice xs from n =
-    let count : from + n - from ≡ n = omega arith in
-    sym (take-append-drop from (take (from + n) xs))
-    ∙ (ap (λ ys. ys ++ drop from (take (from + n) xs)) (take-take from (from + n) xs (omega arith))
-    ∙ ap (λ ys. take from xs ++ ys) (drop-take from n xs ∙ ap (λ m. take m (drop from xs)) (sym count)))
-
--- the body up to byte n of block b is that up to the block, and then the piece of the data block k that is stored for b
-pub body_more : (geometry : Geometry) (image : List ℕ) (i b n k : ℕ) → Fits geometry image → n ≤ 512 → 512 * b + n ≤ body_size geometry image i
-    → stored geometry image i (form_at geometry image i) b ≡ k
-    → take (512 * b + n) (body geometry image i)
-    ≡ take (512 * b) (body geometry image i) ++ (if in_zone geometry k then slice_range image (512 * k) (512 * k + n) else replicate n 0)
-body_more geometry image i b n k fits h room is_stored =
-    take_slice (body geometry image i) (512 * b) n
-    ∙ ap (λ ys. take (512 * b) (body geometry image i) ++ ys) (body_piece geometry image i b n k fits h room is_stored)
-
--- the body up to its size is the whole body
-pub body_all : (geometry : Geometry) (image : List ℕ) (i n : ℕ) → body_size geometry image i ≤ n → take n (body geometry image i) ≡ body geometry image i
-body_all geometry image i n h = take_all n (body geometry image i) (let whole : length (body geometry image i) ≡ body_size geometry image i = length-body geometry image i in omega arith)
 
 -- byte r of a data block
 pub zone_byte_in : (geometry : Geometry) (image : List ℕ) (m r : ℕ) → in_zone geometry m ≡ true → zone_byte geometry image m r ≡ get_or image (512 * m + r) 0

@@ -1,6 +1,5 @@
 -- What a write leaves alone of the names and the bodies of the files.
-use Rattle.std.proofs.Common.{◌≡◌, ◌≢◌, ℕ, ◌+◌, ◌*◌, ◌/◌, ◌%◌, ◌<◌, ◌≤◌, ◌∙◌, sym, ap, List, [], ◌∷◌, get_or, refl, arith, inl, inr, Some, None, if◌then◌else◌, ◌==◌, true, false, eq-eqb}
-use Rattle.std.proofs.lemmas.Bool.{cases_eq, ne_eqb}
+use Rattle.std.proofs.Common.{◌≡◌, ◌≢◌, ℕ, ◌+◌, ◌*◌, ◌/◌, ◌%◌, ◌<◌, ◌≤◌, ◌∙◌, sym, ap, List, [], ◌∷◌, get_or, refl, arith, inl, inr, Some, None, if◌then◌else◌, true, false}
 use Rattle.std.specs.Option.{option_map_or}
 use Rattle.pdp_words.specs.Words.{SameOutside}
 use Rattle.vol_layout.specs.Edition.{constants, number}
@@ -212,20 +211,6 @@ body_byte_elsewhere geometry old new i k n kept same apart other =
     (λ z. (copy_block old new (stored geometry old i (form_at geometry old i) (n / 512)) k same other).bytes (n % 512) byte)
     ∙ sym (body_byte_is geometry old i n)))
 
--- byte n of the body after a write of data block k, no pointer block of the file: k's new one where k is stored for n / 512, else as before
-pub body_byte_written : (geometry : Geometry) (old new : List ℕ) (i k n : ℕ) → KeepsPlaces geometry old new i
-    → SameOutside old new (512 * k) (512 * k + 512) → in_zone geometry k ≡ true
-    → ((q : List ℕ) → IsPlace (form_at geometry old i) q → 1 ≤ levels_below (form_at geometry old i) q → named geometry old i q ≢ k)
-    → body_byte geometry new i n
-    ≡ (if stored geometry old i (form_at geometry old i) (n / 512) == k then get_or new (512 * k + n % 512) 0 else body_byte geometry old i n)
-body_byte_written geometry old new i k n kept same zone apart =
-    elim (cases_eq (stored geometry old i (form_at geometry old i) (n / 512)) k) [
-      | inl e ↦ let t : (stored geometry old i (form_at geometry old i) (n / 512) == k) ≡ true = eq-eqb (stored geometry old i (form_at geometry old i) (n / 512)) k e in
-          rw t (body_byte_there geometry old new i k n kept same zone apart e)
-      | inr other ↦ let t : (stored geometry old i (form_at geometry old i) (n / 512) == k) ≡ false = ne_eqb (stored geometry old i (form_at geometry old i) (n / 512)) k other in
-          rw t (body_byte_elsewhere geometry old new i k n kept same apart other)
-    ]
-
 -- a write below the data zone leaves each data block
 pub zone_kept : (geometry : Geometry) (old new : List ℕ) (from to m : ℕ) → SameOutside old new from to → to ≤ 512 * geometry.zone_start
     → in_zone geometry m ≡ true → IsCopy old new (512 * m) (512 * m) 512
@@ -260,10 +245,3 @@ body_byte_list_kept geometry old new from to i n kept same below =
     ∙ (zone_byte_kept geometry old new (stored geometry old i (form_at geometry old i) (n / 512)) (n % 512)
     (λ z. (zone_kept geometry old new from to (stored geometry old i (form_at geometry old i) (n / 512)) same below z).bytes (n % 512) byte)
     ∙ sym (body_byte_is geometry old i n)))
-
--- a write below the data zone leaves the body of each file whose i-node it keeps
-pub body_list_kept : (geometry : Geometry) (old new : List ℕ) (from to i : ℕ) → KeepsInode geometry old new i
-    → SameOutside old new from to → to ≤ 512 * geometry.zone_start → body geometry new i ≡ body geometry old i
-body_list_kept geometry old new from to i kept same below =
-    same_body geometry old new i (body_size_kept geometry old new i kept)
-    (λ n h. body_byte_list_kept geometry old new from to i n (places_kept geometry old new i kept) same below)

@@ -35,12 +35,6 @@ unfolding inode_at
 inode_addresses V6 image at = refl
 inode_addresses V7 image at = refl
 
--- an i-node has 13 addresses, of which the sixth edition uses 8
-pub length-addresses : (edition : Edition) (image : List ℕ) (at : ℕ) → length (inode_at edition image at).addresses ≡ 13
-unfolding addresses_at
-length-addresses edition image at =
-    ap length (inode_addresses edition image at) ∙ length-map-range_with_len (address_at edition image at) 0 13
-
 -- address k of an i-node
 pub inode_address : (edition : Edition) (image : List ℕ) (at k : ℕ) → k < 13
     → get_or (inode_at edition image at).addresses k 0 ≡ address_at edition image at k
@@ -70,11 +64,6 @@ place_manual V7 i h = omega arith
 -- the i-nodes stand behind blocks 0 and 1
 pub place_from : (edition : Edition) (i : ℕ) → 1024 ≤ inode_place edition i
 place_from edition i = omega arith
-
--- an i-node ends where the next one begins
-pub place_next : (edition : Edition) (i : ℕ) → 1 ≤ i → inode_place edition i + (constants edition).inode_bytes ≡ inode_place edition (i + 1)
-place_next V6 i h = omega arith
-place_next V7 i h = omega arith
 
 -- an i-node ends before a later one begins
 pub place_apart : (edition : Edition) (i j : ℕ) → 1 ≤ i → i < j → inode_place edition i + (constants edition).inode_bytes ≤ inode_place edition j

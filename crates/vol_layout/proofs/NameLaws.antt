@@ -1,16 +1,11 @@
 -- Laws of what the places of a file name.
-use Rattle.std.specs.Prelude.{reverse}
-use Rattle.std.proofs.Common.{◌≡◌, ◌≢◌, ℕ, ◌*◌, ◌<◌, ◌≤◌, ◌∙◌, sym, ap, subst, List, [], ◌∷◌, ◌++◌, true, false, refl, arith, inl, inr, Some, None}
-use Rattle.std.proofs.lemmas.List.{append_assoc}
-use Rattle.std.proofs.lemmas.Grind.{reverse_onto}
+use Rattle.std.proofs.Common.{◌≡◌, ◌≢◌, ℕ, ◌*◌, ◌<◌, ◌≤◌, ◌∙◌, sym, ap, subst, List, [], ◌∷◌, true, false, refl, arith, inl, inr, Some, None}
 use Rattle.vol_layout.specs.Edition.{number}
 use Rattle.vol_layout.specs.Geometry.{in_zone, Fits}
-use Rattle.vol_layout.specs.Inode.{address_at, inode_place}
 use Rattle.vol_layout.specs.Names.{entry_of, named, Holds, stored}
 use Rattle.vol_layout.specs.Places.{last_place}
 use Rattle.vol_layout.specs.declared.places.Form.{Form}
 use Rattle.std.specs.Option.{option_map_or}
-use Rattle.vol_layout.specs.Walk.{walk_down}
 use Rattle.vol_layout.specs.Laws.{IsFront}
 use Rattle.vol_layout.specs.declared.geometry.Geometry.{Geometry}
 use Rattle.vol_layout.proofs.BodyLaws.{zone_bounds}
@@ -31,11 +26,6 @@ pub zero_out : (geometry : Geometry) (image : List ℕ) → Fits geometry image 
 zero_out geometry image fits =
     elim (in_zone geometry 0) as (λ z. in_zone geometry 0 ≡ z → z ≡ false)
     [ false ↦ λ z. refl | true ↦ λ z. let bounds : (geometry.zone_start ≤ 0) × (0 < geometry.zone_end) = zone_bounds geometry 0 z in absurd (omega arith) ] refl
-
--- a place with one index more names an entry of what the place names
-pub named_more : (geometry : Geometry) (image : List ℕ) (i j a : ℕ) (p : List ℕ)
-    → named geometry image i (j ∷ (a ∷ p)) ≡ entry_of geometry image (named geometry image i (a ∷ p)) j
-named_more geometry image i j a p = refl
 
 -- a place that names no data block has nothing below it
 pub named_stops : (geometry : Geometry) (image : List ℕ) (i j a : ℕ) (p : List ℕ) → in_zone geometry (named geometry image i (a ∷ p)) ≡ false
@@ -79,20 +69,6 @@ named_holds geometry image i (j ∷ (a ∷ p)) k fits e some =
           (sym (entry_in geometry image (named geometry image i (a ∷ p)) j z) ∙ e)
       | false ↦ λ z. absurd (some (sym e ∙ named_stops geometry image i j a p z))
     ] refl
-
--- the walk from what a place names leads to what the place with the further indexes names
-pub walk_named : (geometry : Geometry) (image : List ℕ) (i a : ℕ) (p js : List ℕ)
-    → walk_down geometry image (named geometry image i (a ∷ p)) js ≡ named geometry image i (reverse js ++ (a ∷ p))
-walk_named geometry image i a p [] = refl
-walk_named geometry image i a p (j ∷ js) =
-    let list : reverse js ++ (j ∷ (a ∷ p)) ≡ reverse (j ∷ js) ++ (a ∷ p) =
-    sym (ap (λ xs. xs ++ (a ∷ p)) (reverse_onto js j []) ∙ append_assoc (reverse js) (j ∷ []) (a ∷ p)) in
-    walk_named geometry image i j (a ∷ p) js ∙ ap (named geometry image i) list
-
--- the walk from an address, by the indexes after the first, leads to what the place names
-pub walk_address : (geometry : Geometry) (image : List ℕ) (i k : ℕ) (js : List ℕ)
-    → walk_down geometry image (address_at geometry.edition image (inode_place geometry.edition i) k) js ≡ named geometry image i (reverse (k ∷ js))
-walk_address geometry image i k js = walk_named geometry image i k [] js ∙ ap (named geometry image i) (sym (reverse_onto js k []))
 
 -- the number stored for a logical block is what its last place names
 pub stored_is : (geometry : Geometry) (image : List ℕ) (i : ℕ) (form : Form) (b : ℕ) (p : List ℕ) → last_place form b ≡ Some p

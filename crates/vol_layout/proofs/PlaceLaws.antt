@@ -1,6 +1,6 @@
 -- Laws of the places of a file, and of the last place of the way of each logical block.
-use Rattle.std.proofs.Common.{◌≡◌, ◌≢◌, length, ℕ, ◌+◌, ◌-◌, ◌*◌, ◌/◌, ◌%◌, ◌<◌, ◌≤◌, ◌∙◌, sym, subst, List, [], ◌∷◌, true, false, Bool, if◌then◌else◌, ltb, refl, arith, Option, Some, None, inl, inr}
-use Rattle.std.proofs.lemmas.Bool.{ltb-true, ltb-false, lt-ltb, le-ltb, cases_eq}
+use Rattle.std.proofs.Common.{◌≡◌, ℕ, ◌+◌, ◌-◌, ◌*◌, ◌/◌, ◌%◌, ◌<◌, ◌≤◌, ◌∙◌, sym, subst, List, [], ◌∷◌, true, false, Bool, if◌then◌else◌, ltb, refl, arith, Option, Some, None, inl, inr}
+use Rattle.std.proofs.lemmas.Bool.{ltb-true, ltb-false}
 use Rattle.std.proofs.lemmas.Bool.Decides.{nat_tests}
 use Rattle.vol_layout.specs.Places.{levels, levels_below, IsPlace, block_limit, last_place}
 use Rattle.vol_layout.specs.Laws.{IsFront}
@@ -129,10 +129,6 @@ has_no_way form b h =
 pub last_apart : (form : Form) (b c : ℕ) (p : List ℕ) → last_place form b ≡ Some p → last_place form c ≡ Some p → b ≡ c
 last_apart form b c p e f = sym (last_leaf form b p e).block ∙ (last_leaf form c p f).block
 
--- a place without its last step is a place with a level below it
-pub place_above : (form : Form) (j a : ℕ) (p : List ℕ) → IsPlace form (j ∷ (a ∷ p)) → (1 ≤ levels_below form (a ∷ p)) × IsPlace form (a ∷ p)
-place_above form j a p place = (place.1, place.2)
-
 -- a front of a place is a place
 pub place_front : (form : Form) (p q : List ℕ) → IsPlace form p → IsFront q p → IsPlace form q
 place_front form [] q place front = absurd place
@@ -159,103 +155,3 @@ pub small_levels : (p : List ℕ) → levels_below Small p ≡ 0
 small_levels [] = refl
 small_levels (k ∷ []) = refl
 small_levels (j ∷ (a ∷ p)) = let above : levels_below Small (a ∷ p) ≡ 0 = small_levels (a ∷ p) in omega arith
-
--- the addresses of a large file have a level below, the last of them two, and no other has two
-large_address : (k : ℕ) → (1 ≤ levels Large k) × (levels Large k ≤ 2) × (2 ≤ levels Large k → k ≡ 7) × (levels Large k ≡ 1 → k ≢ 7)
-large_address k =
-    elim (cases_eq k 7) [
-      | inl e ↦ let two : levels Large k ≡ 2 = grind (arith, nat_tests) in (omega arith, omega arith, λ h. e, λ h. absurd (omega arith))
-      | inr other ↦ let one : levels Large k ≡ 1 = grind (arith, nat_tests) in (omega arith, omega arith, λ h. absurd (omega arith), λ h. other)
-    ]
-
--- the way of the logical block of a place with nothing below it ends there, in a small file
-leaf_small : (p : List ℕ) → IsPlace Small p → last_place Small (leaf_block Small p) ≡ Some p
-unfolding last_place
-leaf_small [] place = absurd place
-leaf_small (b ∷ []) place = let t : ltb b 8 ≡ true = lt-ltb b 8 place in rw t
-leaf_small (j ∷ (a ∷ p)) place = let none : levels_below Small (a ∷ p) ≡ 0 = small_levels (a ∷ p) in absurd (omega (arith, place.1, none))
-
--- a place of a large file has at most two levels below it, and one less for each index after the first
-large_depth : (p : List ℕ) → IsPlace Large p → levels_below Large p ≤ 3 - length p
-large_depth [] place = absurd place
-large_depth (k ∷ []) place = omega (arith, (large_address k).1)
-large_depth (j ∷ (a ∷ p)) place = omega (arith, large_depth (a ∷ p) place.2)
-
--- the way of the logical block of a place with nothing below it ends there, in a large file, if the block is below the limit
-leaf_large : (p : List ℕ) → IsPlace Large p → levels_below Large p ≡ 0 → leaf_block Large p < 32768 → last_place Large (leaf_block Large p) ≡ Some p
-unfolding last_place
-leaf_large [] place bottom limit = absurd place
-leaf_large (k ∷ []) place bottom limit = absurd (omega (arith, (large_address k).0))
-leaf_large (r ∷ (a ∷ [])) place bottom limit =
-    let one : levels Large a ≡ 1 = omega arith in
-    let other : a ≢ 7 = (large_address a).3 one in
-    let row : r < 256 = place.0 in
-    let t : ltb (256 * a + r) 1792 ≡ true = lt-ltb (256 * a + r) 1792 (omega arith) in
-    let rest : (256 * a + r) % 256 ≡ r = omega arith in
-    let part : (256 * a + r) / 256 ≡ a = omega arith in
-    rw t (cc)
-leaf_large (r ∷ (a ∷ (k ∷ []))) place bottom limit =
-    let last : k ≡ 7 = (large_address k).2 (omega arith) in
-    let row : r < 256 = place.0 in
-    let t : ltb (1792 + (256 * a + r)) 1792 ≡ false = le-ltb (1792 + (256 * a + r)) 1792 (omega arith) in
-    let u : ltb (1792 + (256 * a + r)) 32768 ≡ true = lt-ltb (1792 + (256 * a + r)) 32768 limit in
-    let rest : (1792 + (256 * a + r)) % 256 ≡ r = omega arith in
-    let part : (1792 + (256 * a + r)) / 256 - 7 ≡ a = omega arith in
-    rw (t, u) (cc)
-leaf_large (r ∷ (a ∷ (k ∷ (h ∷ p)))) place bottom limit =
-    absurd (omega (arith, large_depth (a ∷ (k ∷ (h ∷ p))) place.2, place.1))
-
--- a place of the seventh edition has at most three levels below it, and one less for each index after the first
-deep_depth : (p : List ℕ) → IsPlace Deep p → levels_below Deep p ≤ 4 - length p
-deep_depth [] place = absurd place
-deep_depth (k ∷ []) place = omega arith
-deep_depth (j ∷ (a ∷ p)) place = omega (arith, deep_depth (a ∷ p) place.2)
-
--- the way of the logical block of a place with nothing below it ends there, in the seventh edition
-leaf_deep : (p : List ℕ) → IsPlace Deep p → levels_below Deep p ≡ 0 → leaf_block Deep p < 2113674 → last_place Deep (leaf_block Deep p) ≡ Some p
-unfolding last_place
-leaf_deep [] place bottom limit = absurd place
-leaf_deep (b ∷ []) place bottom limit = let t : ltb b 10 ≡ true = lt-ltb b 10 (omega arith) in rw t
-leaf_deep (r ∷ (k ∷ [])) place bottom limit =
-    let above : 1 ≤ k - 9 = place.1 in
-    let row : r < 128 = place.0 in
-    let first : k ≡ 10 = omega arith in
-    let t : ltb (10 + r) 10 ≡ false = le-ltb (10 + r) 10 (omega arith) in
-    let u : ltb (10 + r) 138 ≡ true = lt-ltb (10 + r) 138 (omega arith) in
-    let rest : 10 + r - 10 ≡ r = omega arith in
-    rw (t, u) (cc)
-leaf_deep (r ∷ (a ∷ (k ∷ []))) place bottom limit =
-    let above : 1 ≤ k - 9 - 1 = place.1 in
-    let row : r < 128 = place.0 in
-    let column : a < 128 = place.2.0 in
-    let first : k ≡ 11 = omega arith in
-    let t : ltb (138 + (128 * a + r)) 10 ≡ false = le-ltb (138 + (128 * a + r)) 10 (omega arith) in
-    let u : ltb (138 + (128 * a + r)) 138 ≡ false = le-ltb (138 + (128 * a + r)) 138 (omega arith) in
-    let v : ltb (138 + (128 * a + r)) 16522 ≡ true = lt-ltb (138 + (128 * a + r)) 16522 (omega arith) in
-    let rest : (138 + (128 * a + r) - 138) % 128 ≡ r = omega arith in
-    let part : (138 + (128 * a + r) - 138) / 128 ≡ a = omega arith in
-    rw (t, u, v) (cc)
-leaf_deep (r ∷ (c ∷ (a ∷ (k ∷ [])))) place bottom limit =
-    let above : 1 ≤ k - 9 - 1 - 1 = place.1 in
-    let row : r < 128 = place.0 in
-    let column : c < 128 = place.2.0 in
-    let few : k < 13 = place.2.2.2 in
-    let first : k ≡ 12 = omega arith in
-    let t : ltb (16522 + (16384 * a + (128 * c + r))) 10 ≡ false = le-ltb (16522 + (16384 * a + (128 * c + r))) 10 (omega arith) in
-    let u : ltb (16522 + (16384 * a + (128 * c + r))) 138 ≡ false = le-ltb (16522 + (16384 * a + (128 * c + r))) 138 (omega arith) in
-    let v : ltb (16522 + (16384 * a + (128 * c + r))) 16522 ≡ false = le-ltb (16522 + (16384 * a + (128 * c + r))) 16522 (omega arith) in
-    let w : ltb (16522 + (16384 * a + (128 * c + r))) 2113674 ≡ true = lt-ltb (16522 + (16384 * a + (128 * c + r))) 2113674 limit in
-    let rest : (16522 + (16384 * a + (128 * c + r)) - 16522) % 128 ≡ r = omega arith in
-    let part : (16522 + (16384 * a + (128 * c + r)) - 16522) / 128 % 128 ≡ c = omega arith in
-    let high : (16522 + (16384 * a + (128 * c + r)) - 16522) / 16384 ≡ a = omega arith in
-    rw (t, u, v, w) (cc)
-leaf_deep (r ∷ (c ∷ (a ∷ (d ∷ (k ∷ p))))) place bottom limit =
-    absurd (omega (arith, deep_depth (c ∷ (a ∷ (d ∷ (k ∷ p)))) place.2, place.1))
-
--- a place with nothing below it is the last place of its logical block, if that is below the limit
-pub leaf_last : (form : Form) (p : List ℕ) → IsPlace form p → levels_below form p ≡ 0 → leaf_block form p < block_limit form
-    → last_place form (leaf_block form p) ≡ Some p
-leaf_last Small p place bottom limit = leaf_small p place
-leaf_last Large p place bottom limit = leaf_large p place bottom limit
-leaf_last Deep p place bottom limit = leaf_deep p place bottom limit
-leaf_last Bare p place bottom limit = elim limit [ ]

@@ -62,26 +62,26 @@ abbrev pub address_count : Edition → ℕ
 address_count V6 = 8
 address_count V7 = 13
 
--- how far the addresses stand behind the first byte of an i-node; the size stands right before them in both editions
+-- how far the addresses stand behind the first byte of an i-node; the size stands right before them in both editions (ino.h)
 abbrev pub address_offset : Edition → ℕ
 address_offset V6 = 8
 address_offset V7 = 12
 
--- how many bytes an address has in an i-node
+-- how many bytes an address has in an i-node (ino.h)
 abbrev pub address_bytes : Edition → ℕ
 address_bytes V6 = 2
 address_bytes V7 = 3
 
--- the byte where address k of i-node i begins
+-- the byte where address k of i-node i begins (ino.h)
 abbrev pub address_place : Edition → ℕ → ℕ → ℕ
 address_place edition i k = inode_place edition i + address_offset edition + address_bytes edition * k
 
--- how many bytes the size has in an i-node
+-- how many bytes the size has in an i-node (ino.h)
 abbrev pub size_bytes : Edition → ℕ
 size_bytes V6 = 3
 size_bytes V7 = 4
 
--- the byte where the size of i-node i begins
+-- the byte where the size of i-node i begins (ino.h)
 abbrev pub size_place : Edition → ℕ → ℕ
 size_place edition i = inode_place edition i + (address_offset edition - size_bytes edition)
 

@@ -12,25 +12,25 @@ use Rattle.vol_layout.specs.declared.edition.Edition.TheVariants.{V6, V7}
 use Rattle.vol_layout.specs.declared.geometry.Geometry.{Geometry}
 use Rattle.vol_layout.specs.declared.places.Form.{Form}
 
--- q is a front of place p, or p itself: a place that the way to p goes through
+-- q is a front of place p, or p itself: a place that the way to p goes through (Lions on bmap)
 abbrev pub IsFront : List ℕ → List ℕ → Type 0
 IsFront q [] = ⊥
 IsFront q (j ∷ p) = (q ≡ j ∷ p) ⊎ IsFront q p
 
--- what a place holds by the rules, step by step, is what `named` gives for it, unless that is 0
+-- what a place holds by the rules, step by step, is what `named` gives for it, unless that is 0 (this project's law)
 abbrev pub HoldsWhatIsNamed : Type 0
 HoldsWhatIsNamed = (geometry : Geometry) (image : List ℕ) (i : ℕ) (p : List ℕ) (k : ℕ) → Fits geometry image
     → (Holds geometry image i p k) ↔ ((named geometry image i p ≡ k) × (k ≢ 0))
 
--- a logical block below the form's limit has a last place, and no other block has one
+-- a logical block below the form's limit has a last place, and no other block has one (this project's law)
 abbrev pub HasWaysBelowLimit : Type 0
 HasWaysBelowLimit = (form : Form) (b : ℕ) → (b < block_limit form) ↔ ((p : List ℕ) × (last_place form b ≡ Some p))
 
--- the last place of a logical block is a place with nothing below it
+-- the last place of a logical block is a place with nothing below it (this project's law)
 abbrev pub EndsWaysAtPlaces : Type 0
 EndsWaysAtPlaces = (form : Form) (b : ℕ) (p : List ℕ) → last_place form b ≡ Some p → IsPlace form p × (levels_below form p ≡ 0)
 
--- different logical blocks have different last places
+-- different logical blocks have different last places (this project's law)
 abbrev pub EndsWaysApart : Type 0
 EndsWaysApart = (form : Form) (b c : ℕ) (p : List ℕ) → last_place form b ≡ Some p → last_place form c ≡ Some p → b ≡ c
 
@@ -39,25 +39,25 @@ abbrev pub manual_place : Edition → ℕ → ℕ
 manual_place V6 i = 512 * ((i + 31) / 16) + 32 * ((i + 31) % 16)
 manual_place V7 i = 512 * ((i + 15) / 8) + 64 * ((i + 15) % 8)
 
--- each i-node begins where the manual's formula says
+-- each i-node begins where the manual's formula says (this project's law)
 abbrev pub PlacesInodes : Type 0
 PlacesInodes = (edition : Edition) (i : ℕ) → 1 ≤ i → inode_place edition i ≡ manual_place edition i
 
--- the i-nodes of a volume stand between block 1 and the data zone, none over another
+-- the i-nodes of a volume stand between block 1 and the data zone, none over another (this project's law)
 abbrev pub PlacesInodesApart : Type 0
 PlacesInodesApart = (geometry : Geometry) (image : List ℕ) (i j : ℕ) → Fits geometry image → 1 ≤ i → i < j → j ≤ geometry.last_inode
     → (1024 ≤ inode_place geometry.edition i)
     × (inode_place geometry.edition i + (constants geometry.edition).inode_bytes ≤ inode_place geometry.edition j)
     × (inode_place geometry.edition j + (constants geometry.edition).inode_bytes ≤ 512 * geometry.zone_start)
 
--- a piece of a body within one logical block is those bytes of the data block stored for it, and zeros where none is
+-- a piece of a body within one logical block is those bytes of the data block stored for it, and zeros where none is (this project's law)
 abbrev pub ReadsBodyByBlocks : Type 0
 ReadsBodyByBlocks = (geometry : Geometry) (image : List ℕ) (i b n k : ℕ) → Fits geometry image → n ≤ 512
     → 512 * b + n ≤ body_size geometry image i → stored geometry image i (form_at geometry image i) b ≡ k
     → slice_range (body geometry image i) (512 * b) (512 * b + n)
     ≡ (if in_zone geometry k then slice_range image (512 * k) (512 * k + n) else replicate n 0)
 
--- a write of a data block that a file names by no place leaves the file's i-node and its body
+-- a write of a data block that a file names by no place leaves the file's i-node and its body (this project's law)
 abbrev pub LeavesOtherBodies : Type 0
 LeavesOtherBodies = (geometry : Geometry) (old new : List ℕ) (i k : ℕ) → Fits geometry old → IsFile geometry old i
     → in_zone geometry k ≡ true → SameOutside old new (512 * k) (512 * k + 512)

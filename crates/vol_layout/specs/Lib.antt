@@ -7,4 +7,3 @@ pub mod Places
 pub mod Names
 pub mod Body
 pub mod Laws
-pub mod Walk

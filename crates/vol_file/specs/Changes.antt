@@ -13,13 +13,13 @@ use Rattle.vol_layout.specs.declared.edition.Edition.{Edition}
 use Rattle.vol_layout.specs.declared.edition.Edition.TheVariants.{V6, V7}
 use Rattle.vol_layout.specs.declared.geometry.Geometry.{Geometry}
 
--- whether byte r of an i-node is none of its size and addresses, nor, in the sixth edition, of its mode
+-- whether byte r of an i-node is none of its size and addresses, nor, in the sixth edition, of its mode (ino.h)
 abbrev pub is_kept_byte : Edition → ℕ → Bool
 is_kept_byte V6 r = (nat_le 2 r && nat_lt r 5) || (nat_le 24 r && nat_lt r 32)
 is_kept_byte V7 r = nat_lt r 8 || (nat_le 51 r && nat_lt r 64)
 
--- of all that isn't file i's and isn't free nothing has changed: block 0, block 1 outside the free list, the other
--- i-nodes, the other bytes of i's own, the blocks, bodies and places of all other files, and what lies behind the volume
+-- what a change of file i leaves alone: block 0, block 1 outside the free list, the other i-nodes, the other bytes of i's own,
+-- the blocks, bodies and places of all other files, and what lies behind the volume (a frame)
 pub record ChangesFileAlone (geometry : Geometry) (old new : List ℕ) (i : ℕ) : Type 0 where
   pub len : length new ≡ length old
   pub before : (k : ℕ) → k < free_head geometry.edition → slice_index new k ≡ slice_index old k
@@ -35,17 +35,18 @@ pub record ChangesFileAlone (geometry : Geometry) (old new : List ℕ) (i : ℕ)
   pub bodies : (j : ℕ) → j ≢ i → IsFile geometry old j → body geometry new j ≡ body geometry old j
   pub behind : (k : ℕ) → 512 * geometry.zone_end ≤ k → slice_index new k ≡ slice_index old k
 
--- bytes with others put at an offset over them, and zeros between their end and the offset
+-- bytes with others put at an offset over them, and zeros between their end and the offset (Lions on
+-- writei; the zeros are this project's)
 abbrev pub spliced : List ℕ → ℕ → List ℕ → List ℕ
 spliced bytes offset text = (take offset bytes ++ replicate (offset - length bytes) 0) ++ (text ++ drop (offset + length text) bytes)
 
--- the mode of a file once these logical blocks are touched
+-- the mode of a file once these logical blocks are touched (Lions on bmap)
 abbrev pub mode_after : Geometry → List ℕ → ℕ → List ℕ → ℕ
 mode_after geometry image i blocks =
     if grows_large (form_at geometry image i) blocks then with_large (mode_of geometry image i) true else mode_of geometry image i
 
 -- a write of at least one byte at an offset of file i, where `blocks` were free: those taken are the first of them, as
--- many as are needed, and the rest stay free
+-- many as are needed, and the rest stay free (Lions on writei and bmap)
 pub record Writes (geometry : Geometry) (old new : List ℕ) (i offset : ℕ) (text blocks : List ℕ) : Type 0 where
   pub taken : List ℕ
   pub rest : List ℕ
@@ -60,17 +61,17 @@ pub record Writes (geometry : Geometry) (old new : List ℕ) (i offset : ℕ) (t
   pub names : (p : List ℕ) → IsPlace (form_at geometry new i) p
       → is_named geometry new i p ≡ filled (form_at geometry old i) (is_named geometry old i) (touched offset (length text)) p
 
--- the blocks that a file names, in the order of its places
+-- the blocks that a file names, in the order of its places (Lions on itrunc)
 unfoldable pub blocks_of : Geometry → List ℕ → ℕ → List ℕ
 blocks_of geometry image i = filter (λ k. not (k == 0)) (map (named geometry image i) (places (form_at geometry image i)))
 
--- the mode of a file once it is truncated: the sixth edition's large flag goes
+-- the mode of a file once it is truncated: the sixth edition's large flag goes (Lions on itrunc)
 abbrev pub truncated_mode : Edition → ℕ → ℕ
 truncated_mode V6 mode = with_large mode false
 truncated_mode V7 mode = mode
 
 -- a truncation of file i to nothing, where `blocks` were free: its blocks lie upon them, in the order of its places,
--- since they are given back from the last place to the first
+-- since they are given back from the last place to the first (Lions on itrunc)
 pub record Truncates (geometry : Geometry) (old new : List ℕ) (i : ℕ) (blocks : List ℕ) : Type 0 where
   pub sound : IsSoundWith geometry new (blocks_of geometry old i ++ blocks)
   pub covered : IsCovered geometry old blocks → IsCovered geometry new (blocks_of geometry old i ++ blocks)

@@ -9,37 +9,38 @@ use Rattle.vol_file.specs.Rules.{size_of, IsSoundWith, IsCovered}
 use Rattle.vol_file.specs.Steps.{StaysElsewhere}
 use Rattle.vol_layout.specs.declared.geometry.Geometry.{Geometry}
 
--- q is entry j or a later one of what place p names, or lies below such an entry
+-- q is entry j or a later one of what place p names, or lies below such an entry (Lions on bmap)
 pub record IsUnder (p : List ℕ) (j : ℕ) (q : List ℕ) : Type 0 where
   pub index : ℕ
   pub from : j ≤ index
   pub front : IsFront (index ∷ p) q
 
--- the blocks that some places of a file name, in the order of the places
+-- the blocks that some places of a file name, in the order of the places (Lions on itrunc)
 unfoldable pub blocks_at : Geometry → List ℕ → ℕ → List (List ℕ) → List ℕ
 blocks_at geometry image i places = filter (λ k. not (k == 0)) (map (named geometry image i) places)
 
--- `count` entries of place p, from entry `from` on, each with the places below it in as many more levels as `level` says
+-- `count` entries of place p, from entry `from` on, each with the places below it in as many more levels as `level`
+-- says (Lions on itrunc)
 abbrev pub places_among : ℕ → (ℕ → ℕ) → List ℕ → ℕ → ℕ → List (List ℕ)
 places_among n level p from count = flat_map (λ x. places_from n (x ∷ p) (level x)) (range_with_len from count)
 
--- the places below place p, in d levels, in ascending order of their indexes, each before those below it
+-- the places below place p, in d levels, in ascending order of their indexes, each before those below it (Lions on itrunc)
 abbrev pub places_below : ℕ → List ℕ → ℕ → List (List ℕ)
 places_below n p zero = []
 places_below n p (suc d) = places_among n (λ x. d) p 0 n
 
--- place q of file i names b, which is not 0
+-- place q of file i names b, which is not 0 (manual section 5, file system)
 pub record IsNamedAt (geometry : Geometry) (image : List ℕ) (i : ℕ) (q : List ℕ) (b : ℕ) : Type 0 where
   pub place : IsPlaceOf geometry image i q
   pub names : named geometry image i q ≡ b
   pub some : b ≢ 0
 
--- no place below place q of file i names anything
+-- no place below place q of file i names anything (Lions on itrunc)
 abbrev pub IsEmptyUnder : Geometry → List ℕ → ℕ → List ℕ → Type 0
 IsEmptyUnder geometry image i q = (p : List ℕ) → IsPlaceOf geometry image i p → IsUnder q 0 p → named geometry image i p ≡ 0
 
 -- the places of file i of which `Cleared` holds name nothing any more, the blocks `given` are free besides `blocks`, and
--- nothing else has changed
+-- nothing else has changed (Lions on itrunc)
 pub record Clears (geometry : Geometry) (old new : List ℕ) (i : ℕ) (Cleared : List ℕ → Type 0) (given blocks : List ℕ) : Type 0 where
   pub alone : StaysElsewhere geometry old new i
   pub mode : mode_of geometry new i ≡ mode_of geometry old i
@@ -50,12 +51,12 @@ pub record Clears (geometry : Geometry) (old new : List ℕ) (i : ℕ) (Cleared 
   pub gone : (q : List ℕ) → IsPlaceOf geometry old i q → Cleared q → named geometry new i q ≡ 0
   pub kept : (q : List ℕ) → IsPlaceOf geometry old i q → (Cleared q → ⊥) → named geometry new i q ≡ named geometry old i q
 
--- where place q of file i names b and nothing below it names anything, it names nothing any more, and b is free
+-- where place q of file i names b and nothing below it names anything, it names nothing any more, and b is free (Lions on itrunc)
 abbrev pub Drops : Geometry → List ℕ → List ℕ → ℕ → List ℕ → ℕ → List ℕ → Type 0
 Drops geometry old new i q b blocks = IsSoundWith geometry old blocks → IsNamedAt geometry old i q b → IsEmptyUnder geometry old i q
     → Clears geometry old new i (IsFront q) (b ∷ []) blocks
 
--- entry j of block m, which a place of a file names, names b
+-- entry j of block m, which a place of a file names, names b (manual section 5, file system)
 pub record HasEntry (geometry : Geometry) (image : List ℕ) (m j b : ℕ) : Type 0 where
   pub blocks : List ℕ
   pub sound : IsSoundWith geometry image blocks
@@ -65,13 +66,13 @@ pub record HasEntry (geometry : Geometry) (image : List ℕ) (m j b : ℕ) : Typ
   pub block : named geometry image file (index ∷ place) ≡ m
   pub is : IsNamedAt geometry image file (j ∷ (index ∷ place)) b
 
--- address k of file i names b
+-- address k of file i names b (manual section 5, file system)
 pub record HasAddress (geometry : Geometry) (image : List ℕ) (i k b : ℕ) : Type 0 where
   pub blocks : List ℕ
   pub sound : IsSoundWith geometry image blocks
   pub is : IsNamedAt geometry image i (k ∷ []) b
 
--- block b is named by a place of a file with so many levels below it
+-- block b is named by a place of a file with so many levels below it (manual section 5, file system)
 pub record HasNode (geometry : Geometry) (image : List ℕ) (b level : ℕ) : Type 0 where
   pub blocks : List ℕ
   pub sound : IsSoundWith geometry image blocks
@@ -81,7 +82,8 @@ pub record HasNode (geometry : Geometry) (image : List ℕ) (b level : ℕ) : Ty
   pub is : IsNamedAt geometry image file (index ∷ place) b
   pub below : levels_below (form_at geometry image file) (index ∷ place) ≡ level
 
--- wherever block b was named with so many levels below it, nothing below it is named any more, and what was named there is free
+-- wherever block b was named with so many levels below it, nothing below it is named any more,
+-- and what was named there is free (Lions on itrunc)
 abbrev pub ClearsBelow : Geometry → List ℕ → List ℕ → ℕ → ℕ → Type 0
 ClearsBelow geometry old new b level = (i a : ℕ) (p blocks : List ℕ) → IsSoundWith geometry old blocks
     → IsNamedAt geometry old i (a ∷ p) b → levels_below (form_at geometry old i) (a ∷ p) ≡ level

@@ -8,25 +8,25 @@ use Rattle.vol_file.specs.Missing.{missing_from}
 use Rattle.vol_layout.specs.declared.geometry.Geometry.{Geometry}
 use Rattle.vol_layout.specs.declared.places.Form.{Form}
 
--- p is one of the places of a list
+-- p is one of the places of a list (membership)
 abbrev pub IsAmong : List ℕ → List (List ℕ) → Type 0
 IsAmong p [] = ⊥
 IsAmong p (q ∷ qs) = (p ≡ q) ⊎ IsAmong p qs
 
--- the list of a form's places has its places and nothing else
+-- the list of a form's places has its places and nothing else (this project)
 abbrev pub ListsPlaces : Type 0
 ListsPlaces = (form : Form) (p : List ℕ) → IsAmong p (places form) ↔ IsPlace form p
 
--- and it has each of them once
+-- and it has each of them once (this project)
 abbrev pub ListsPlacesOnce : Type 0
 ListsPlacesOnce = (form : Form) (p : List ℕ) → IsPlace form p → count_by (bytes_eq p) (places form) ≡ 1
 
 -- the places that are missing for n logical blocks in a row, counted over the list of all places, are as many as those
--- counted block by block, where a place on the ways of two blocks is counted at the first
+-- counted block by block, where a place on the ways of two blocks is counted at the first (Lions on bmap)
 abbrev pub CountsBlockByBlock : Type 0
 CountsBlockByBlock = (form : Form) (names : List ℕ → Bool) (first n : ℕ)
     → missing_count form names (range_with_len first n) ≡ missing_from form names first n
 
--- a write of no bytes needs nothing
+-- a write of no bytes needs nothing (this project)
 abbrev pub NeedsNothingForNothing : Type 0
 NeedsNothingForNothing = (geometry : Geometry) (image : List ℕ) (i offset : ℕ) → need geometry image i offset 0 ≡ 0

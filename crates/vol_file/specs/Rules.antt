@@ -11,47 +11,49 @@ use Rattle.vol_layout.specs.declared.mode.Kind.{Kind}
 use Rattle.vol_layout.specs.declared.mode.Kind.TheVariants as kinds
 use Rattle.vol_layout.specs.declared.places.Form.TheVariants.{Small}
 
--- the size of i-node i
+-- the size of i-node i (manual section 5, file system)
 abbrev pub size_of : Geometry → List ℕ → ℕ → ℕ
 size_of geometry image i = size_at geometry.edition image (inode_place geometry.edition i)
 
--- what i-node i is
+-- what i-node i is (manual section 5, file system)
 abbrev pub kind_at : Geometry → List ℕ → ℕ → Kind
 kind_at geometry image i = kind_of geometry.edition (mode_of geometry image i)
 
 -- rule 3: no mode is odd, the root is a directory, and i-number 1 of the seventh edition is free or a regular file
+-- (manual section 5; the rules of soundness are this project's)
 pub record HasKinds (geometry : Geometry) (image : List ℕ) : Type 0 where
   pub known : (i : ℕ) → 1 ≤ i → i ≤ geometry.last_inode → kind_at geometry image i ≢ kinds.Odd
   pub root : kind_at geometry image (constants geometry.edition).root ≡ kinds.Directory
   pub bad_blocks : geometry.edition ≡ V7 → (kind_at geometry image 1 ≡ kinds.Free) ⊎ (kind_at geometry image 1 ≡ kinds.Regular)
 
--- rule 4: no file is greater than the greatest or, if it is small, than eight blocks, and no link count is above the limit
+-- rule 4: no file is greater than the greatest or, if it is small, than eight blocks,
+-- and no link count is above the limit (this project)
 pub record HasSizes (geometry : Geometry) (image : List ℕ) : Type 0 where
   pub greatest : (i : ℕ) → IsFile geometry image i → size_of geometry image i ≤ (constants geometry.edition).greatest
   pub small : (i : ℕ) → IsFile geometry image i → form_at geometry image i ≡ Small → size_of geometry image i ≤ 4096
   pub links : (i : ℕ) → 1 ≤ i → i ≤ geometry.last_inode → kind_at geometry image i ≢ kinds.Free
       → (inode_of geometry.edition image i).links ≤ (constants geometry.edition).link_limit
 
--- rule 5: each number that a place of a file names is that of a data block
+-- rule 5: each number that a place of a file names is that of a data block (icheck)
 abbrev pub IsZoned : Geometry → List ℕ → Type 0
 IsZoned geometry image = (i : ℕ) (p : List ℕ) → IsPlaceOf geometry image i p → named geometry image i p ≢ 0
     → in_zone geometry (named geometry image i p) ≡ true
 
--- rule 7, of files: no block is named by two places
+-- rule 7, of files: no block is named by two places (icheck)
 abbrev pub IsApart : Geometry → List ℕ → Type 0
 IsApart geometry image = (i j : ℕ) (p q : List ℕ) → IsPlaceOf geometry image i p → IsPlaceOf geometry image j q
     → named geometry image i p ≢ 0 → named geometry image i p ≡ named geometry image j q → (i ≡ j) × (p ≡ q)
 
--- rule 7, of the free blocks: no block that a place names is free
+-- rule 7, of the free blocks: no block that a place names is free (icheck)
 abbrev pub IsOutside : Geometry → List ℕ → List ℕ → Type 0
 IsOutside geometry image blocks = (i : ℕ) (p : List ℕ) → IsPlaceOf geometry image i p → IsIn (named geometry image i p) blocks → ⊥
 
--- rule 8: each data block is free, or named by a place
+-- rule 8: each data block is free, or named by a place (icheck)
 abbrev pub IsCovered : Geometry → List ℕ → List ℕ → Type 0
 IsCovered geometry image blocks = (k : ℕ) → in_zone geometry k ≡ true
     → IsIn k blocks ⊎ ((i : ℕ) × (p : List ℕ) × Names geometry image i p k)
 
--- rules 1 to 7 hold, and these are the free blocks
+-- rules 1 to 7 hold, and these are the free blocks (this project)
 pub record IsSoundWith (geometry : Geometry) (image blocks : List ℕ) : Type 0 where
   pub fits : Fits geometry image
   pub kinds : HasKinds geometry image
@@ -61,7 +63,7 @@ pub record IsSoundWith (geometry : Geometry) (image blocks : List ℕ) : Type 0 
   pub apart : IsApart geometry image
   pub outside : IsOutside geometry image blocks
 
--- rules 1 to 7 hold
+-- rules 1 to 7 hold (this project)
 pub record HasSoundFiles (geometry : Geometry) (image : List ℕ) : Type 0 where
   pub blocks : List ℕ
   pub sound : IsSoundWith geometry image blocks

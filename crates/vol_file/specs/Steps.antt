@@ -18,7 +18,8 @@ use Rattle.vol_file.specs.Changes.{is_kept_byte, mode_after}
 use Rattle.vol_layout.specs.declared.geometry.Geometry.{Geometry}
 use Rattle.vol_layout.specs.declared.places.Form.TheVariants.{Large}
 
--- of the bytes that are neither file i's nor the free list's nor a free block's none has changed
+-- what each step of a change of file i leaves alone: block 0, block 1 outside the free list, the other i-nodes, the other bytes of
+-- i's own, the blocks of all other files, and what lies behind the volume (a frame)
 pub record StaysElsewhere (geometry : Geometry) (old new : List ℕ) (i : ℕ) : Type 0 where
   pub len : length new ≡ length old
   pub before : (k : ℕ) → k < free_head geometry.edition → slice_index new k ≡ slice_index old k
@@ -32,7 +33,7 @@ pub record StaysElsewhere (geometry : Geometry) (old new : List ℕ) (i : ℕ) :
       → slice_index new (512 * k + r) ≡ slice_index old (512 * k + r)
   pub behind : (k : ℕ) → 512 * geometry.zone_end ≤ k → slice_index new k ≡ slice_index old k
 
--- number v was put at place q of file i, where these blocks are free: nothing else has changed
+-- number v was put at place q of file i, where these blocks are free: nothing else has changed (Lions on bmap)
 pub record Stores (geometry : Geometry) (old new : List ℕ) (i : ℕ) (q : List ℕ) (v : ℕ) (blocks : List ℕ) : Type 0 where
   pub alone : StaysElsewhere geometry old new i
   pub mode : mode_of geometry new i ≡ mode_of geometry old i
@@ -44,12 +45,12 @@ pub record Stores (geometry : Geometry) (old new : List ℕ) (i : ℕ) (q : List
       → r < 512 → slice_index new (512 * k + r) ≡ slice_index old (512 * k + r)
   pub free : IsFree geometry new blocks
 
--- how many of the wanted places of file i name nothing
+-- how many of the wanted places of file i name nothing (Lions on bmap)
 unfoldable pub lacking : Geometry → List ℕ → ℕ → (List ℕ → Bool) → ℕ
 lacking geometry image i wanted = count_by (λ p. wanted p && not (is_named geometry image i p)) (places (form_at geometry image i))
 
 -- the places of a set of file i's name something now, each that didn't by the next of the free blocks, which was zeroed:
--- the file's bytes are as before
+-- the file's bytes are as before (Lions on bmap)
 pub record Extends (geometry : Geometry) (old new : List ℕ) (i : ℕ) (wanted set : List ℕ → Bool) (blocks rest : List ℕ) : Type 0 where
   pub alone : StaysElsewhere geometry old new i
   pub sound : IsSoundWith geometry new rest
@@ -62,41 +63,42 @@ pub record Extends (geometry : Geometry) (old new : List ℕ) (i : ℕ) (wanted 
   pub names : (p : List ℕ) → IsPlaceOf geometry old i p → is_named geometry new i p ≡ (is_named geometry old i p || set p)
   pub bytes : (n : ℕ) → body_byte geometry new i n ≡ body_byte geometry old i n
 
--- whether the second place is a front of the first, or that itself
+-- whether the second place is a front of the first, or that itself (Lions on bmap)
 abbrev pub is_front : List ℕ → List ℕ → Bool
 is_front q p = list_any (bytes_eq p) (fronts q)
 
--- place q of file i names block k now, and all its fronts name something
+-- place q of file i names block k now, and all its fronts name something (Lions on bmap)
 pub record Reaches (geometry : Geometry) (old new : List ℕ) (i : ℕ) (wanted : List ℕ → Bool) (q blocks : List ℕ) (k : ℕ) : Type 0 where
   pub rest : List ℕ
   pub extends : Extends geometry old new i wanted (is_front q) blocks rest
   pub is : named geometry new i q ≡ k
   pub some : k ≢ 0
 
--- the rules hold with these free blocks, which are enough for the wanted places of file i
+-- the rules hold with these free blocks, which are enough for the wanted places of file i (this project)
 pub record IsReady (geometry : Geometry) (image : List ℕ) (i : ℕ) (wanted : List ℕ → Bool) (blocks : List ℕ) : Type 0 where
   pub file : IsFile geometry image i
   pub sound : IsSoundWith geometry image blocks
   pub room : lacking geometry image i wanted ≤ length blocks
 
--- the rules hold with these free blocks, which are enough for the wanted places of file i, and place q is one of those
+-- the rules hold with these free blocks, which are enough for the wanted places of file i,
+-- and place q is one of those (this project)
 pub record IsWanted (geometry : Geometry) (image : List ℕ) (i : ℕ) (wanted : List ℕ → Bool) (q blocks : List ℕ) : Type 0 where
   pub ready : IsReady geometry image i wanted blocks
   pub place : IsPlaceOf geometry image i q
   pub want : wanted q ≡ true
 
--- place q of file i may be named: there are free blocks enough
+-- place q of file i may be named: there are free blocks enough (this project)
 pub record MayName (geometry : Geometry) (image : List ℕ) (i : ℕ) (q : List ℕ) : Type 0 where
   pub wanted : List ℕ → Bool
   pub blocks : List ℕ
   pub is : IsWanted geometry image i wanted q blocks
 
--- entry j of block m, which place a ∷ p of file i names by now, is wanted
+-- entry j of block m, which place a ∷ p of file i names by now, is wanted (Lions on bmap)
 pub record IsNext (geometry : Geometry) (old image : List ℕ) (i : ℕ) (wanted : List ℕ → Bool) (j a : ℕ) (p blocks : List ℕ) (m : ℕ) : Type 0 where
   pub want : IsWanted geometry old i wanted (j ∷ (a ∷ p)) blocks
   pub reached : Reaches geometry old image i wanted (a ∷ p) blocks m
 
--- entry j of block m may be named: a place of a file names m, and there are free blocks enough
+-- entry j of block m may be named: a place of a file names m, and there are free blocks enough (this project)
 pub record MayNameEntry (geometry : Geometry) (image : List ℕ) (m j : ℕ) : Type 0 where
   pub old : List ℕ
   pub i : ℕ
@@ -106,42 +108,43 @@ pub record MayNameEntry (geometry : Geometry) (image : List ℕ) (m j : ℕ) : T
   pub blocks : List ℕ
   pub next : IsNext geometry old image i wanted j a p blocks m
 
--- the rules hold with these free blocks, which are enough for the wanted places of file i, those on the way of logical block b among them
+-- the rules hold with these free blocks, which are enough for the wanted places of file i,
+-- those on the way of logical block b among them (this project)
 pub record WantsWay (geometry : Geometry) (image : List ℕ) (i : ℕ) (wanted : List ℕ → Bool) (b : ℕ) (blocks : List ℕ) : Type 0 where
   pub ready : IsReady geometry image i wanted blocks
   pub limit : b < block_limit (form_at geometry image i)
   pub want : (p : List ℕ) → list_any (bytes_eq p) (way (form_at geometry image i) b) ≡ true → wanted p ≡ true
 
--- the places on the way of logical block b may be named: there are free blocks enough
+-- the places on the way of logical block b may be named: there are free blocks enough (this project)
 pub record MayNameWay (geometry : Geometry) (image : List ℕ) (i b : ℕ) : Type 0 where
   pub wanted : List ℕ → Bool
   pub blocks : List ℕ
   pub is : WantsWay geometry image i wanted b blocks
 
--- the places on the way of logical block b name something now
+-- the places on the way of logical block b name something now (Lions on bmap)
 pub record NamesWay (geometry : Geometry) (old new : List ℕ) (i : ℕ) (wanted : List ℕ → Bool) (b : ℕ) (blocks : List ℕ) : Type 0 where
   pub rest : List ℕ
   pub extends : Extends geometry old new i wanted (λ p. list_any (bytes_eq p) (way (form_at geometry old i) b)) blocks rest
 
 -- the rules hold with these free blocks, which are enough for the wanted places of file i, those on the ways of n logical
--- blocks from `from` on among them
+-- blocks from `from` on among them (this project)
 pub record WantsWays (geometry : Geometry) (image : List ℕ) (i : ℕ) (wanted : List ℕ → Bool) (from n : ℕ) (blocks : List ℕ) : Type 0 where
   pub ready : IsReady geometry image i wanted blocks
   pub limit : from + n ≤ block_limit (form_at geometry image i)
   pub want : (p : List ℕ) → is_on_ways (form_at geometry image i) (range_with_len from n) p ≡ true → wanted p ≡ true
 
--- the places on the ways of n logical blocks may be named: there are free blocks enough
+-- the places on the ways of n logical blocks may be named: there are free blocks enough (this project)
 pub record MayNameWays (geometry : Geometry) (image : List ℕ) (i from n : ℕ) : Type 0 where
   pub wanted : List ℕ → Bool
   pub blocks : List ℕ
   pub is : WantsWays geometry image i wanted from n blocks
 
--- the places on the ways of n logical blocks name something now
+-- the places on the ways of n logical blocks name something now (Lions on bmap)
 pub record NamesWays (geometry : Geometry) (old new : List ℕ) (i : ℕ) (wanted : List ℕ → Bool) (from n : ℕ) (blocks : List ℕ) : Type 0 where
   pub rest : List ℕ
   pub extends : Extends geometry old new i wanted (is_on_ways (form_at geometry old i) (range_with_len from n)) blocks rest
 
--- the bytes of file i from byte lo up to hi are those of a function now, and all else is as before
+-- the bytes of file i from byte lo up to hi are those of a function now, and all else is as before (Lions on writei)
 pub record Rewrites (geometry : Geometry) (old new : List ℕ) (i lo hi : ℕ) (content : ℕ → ℕ) (blocks : List ℕ) : Type 0 where
   pub alone : StaysElsewhere geometry old new i
   pub sound : IsSoundWith geometry new blocks
@@ -153,15 +156,15 @@ pub record Rewrites (geometry : Geometry) (old new : List ℕ) (i lo hi : ℕ) (
   pub below : (n : ℕ) → n < lo → body_byte geometry new i n ≡ body_byte geometry old i n
   pub above : (n : ℕ) → hi ≤ n → body_byte geometry new i n ≡ body_byte geometry old i n
 
--- the bytes of a text that is put at an offset
+-- the bytes of a text that is put at an offset (Lions on writei)
 abbrev pub text_at : ℕ → List ℕ → ℕ → ℕ
 text_at offset text n = slice_index text (n - offset)
 
--- zeros
+-- zeros (this project)
 abbrev pub zeros_at : ℕ → ℕ
 zeros_at n = 0
 
--- the small file i was made large, by the first of the free blocks, which holds its eight old addresses now
+-- the small file i was made large, by the first of the free blocks, which holds its eight old addresses now (Lions on bmap)
 pub record Enlarges (geometry : Geometry) (old new : List ℕ) (i : ℕ) (blocks : List ℕ) : Type 0 where
   pub first : ℕ
   pub rest : List ℕ
@@ -175,14 +178,14 @@ pub record Enlarges (geometry : Geometry) (old new : List ℕ) (i : ℕ) (blocks
   pub names : (p : List ℕ) → IsPlace Large p → is_named geometry new i p ≡ moved_down (is_named geometry old i) p
   pub bytes : (n : ℕ) → body_byte geometry new i n ≡ body_byte geometry old i n
 
--- file i may be made large: the rules hold, and a block is free
+-- file i may be made large: the rules hold, and a block is free (this project)
 pub record MayEnlarge (geometry : Geometry) (image : List ℕ) (i : ℕ) : Type 0 where
   pub file : IsFile geometry image i
   pub blocks : List ℕ
   pub sound : IsSoundWith geometry image blocks
   pub some : 1 ≤ length blocks
 
--- all places on the ways of these logical blocks name something now, by as many of the free blocks as are needed
+-- all places on the ways of these logical blocks name something now, by as many of the free blocks as are needed (Lions on bmap)
 pub record Fills (geometry : Geometry) (old new : List ℕ) (i : ℕ) (touches blocks : List ℕ) : Type 0 where
   pub rest : List ℕ
   pub taken : List ℕ
@@ -199,18 +202,19 @@ pub record Fills (geometry : Geometry) (old new : List ℕ) (i : ℕ) (touches b
       → is_named geometry new i p ≡ filled (form_at geometry old i) (is_named geometry old i) touches p
   pub bytes : (n : ℕ) → body_byte geometry new i n ≡ body_byte geometry old i n
 
--- the rules hold with these free blocks, which are enough for the ways of the logical blocks from `from` up to `to`
+-- the rules hold with these free blocks, which are enough for the ways of the logical blocks from `from` up to `to` (this project)
 pub record HasRoom (geometry : Geometry) (image : List ℕ) (i from to : ℕ) (blocks : List ℕ) : Type 0 where
   pub sound : IsSoundWith geometry image blocks
   pub room : need_of (form_at geometry image i) (is_named geometry image i) (range_with_len from (to - from)) ≤ length blocks
 
--- the ways of the logical blocks from `from` up to `to` may be named
+-- the ways of the logical blocks from `from` up to `to` may be named (this project)
 pub record MayFill (geometry : Geometry) (image : List ℕ) (i from to : ℕ) : Type 0 where
   pub file : IsFile geometry image i
   pub blocks : List ℕ
   pub has : HasRoom geometry image i from to blocks
 
 -- a text was put at an offset of file i, whose places named blocks for it: between the old size and the offset stand zeros
+-- (Lions on writei)
 pub record Puts (geometry : Geometry) (old new : List ℕ) (i offset : ℕ) (text blocks : List ℕ) : Type 0 where
   pub alone : StaysElsewhere geometry old new i
   pub sound : IsSoundWith geometry new blocks

@@ -3,7 +3,6 @@ use Rattle.std.proofs.Common.{◌≡◌, ℕ, ◌+◌, ◌-◌, ◌*◌, ◌≤�
 use Rattle.pdp_words.specs.Words.{word}
 use Rattle.vol_layout.specs.Edition.{constants, number}
 use Rattle.vol_layout.specs.Geometry.{in_zone}
-use Rattle.vol_layout.specs.Super.{free_head}
 use Rattle.vol_layout.specs.declared.geometry.Geometry.{Geometry}
 use Rattle.vol_free.specs.Stack.{IsStack, IsFree}
 use Rattle.vol_free.proofs.Stacks.{IsChained, stack_next, stack_last, stack_none}
@@ -20,11 +19,6 @@ pub record IsNext (geometry : Geometry) (image : List ℕ) (n total b : ℕ) (bl
   pub zone : in_zone geometry b ≡ true
   pub few : word image (512 * b) ≤ (constants geometry.edition).free_slots
   pub left : IsLeft geometry image (512 * b) (word image (512 * b)) (total + n) blocks
-
--- all free blocks are left for the head in the super-block
-pub left_first : {geometry : Geometry} {image blocks : List ℕ} → IsFree geometry image blocks
-    → IsLeft geometry image (free_head geometry.edition) (word image (free_head geometry.edition)) 0 blocks
-left_first {blocks = blocks} free = record { rest = blocks; stack = free.stack; sum = omega arith }
 
 -- the blocks counted are free ones
 pub left_within : {geometry : Geometry} {image blocks : List ℕ} {at n total : ℕ} → IsFree geometry image blocks

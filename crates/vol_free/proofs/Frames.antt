@@ -1,15 +1,12 @@
 -- Writes that leave the free stack as it is.
-use Rattle.std.proofs.Common.{true, ◌≡◌, ℕ, ◌+◌, ◌*◌, ◌≤◌, ◌⊎◌, inl, inr, List, [], refl, arith}
+use Rattle.std.proofs.Common.{true, ◌≡◌, ℕ, ◌+◌, ◌*◌, ◌≤◌, ◌⊎◌, inl, inr, List, [], arith}
 use Rattle.std.proofs.lemmas.Bool.{cases_lt}
 use Rattle.std.proofs.Math.Nat.{eq-or-lt_of_le}
 use Rattle.pdp_words.specs.Words.{word, SameOutside}
 use Rattle.vol_layout.specs.Geometry.{in_zone}
-use Rattle.vol_layout.specs.Super.{free_head, cache_head}
-use Rattle.vol_layout.specs.declared.edition.Edition.{Edition}
-use Rattle.vol_layout.specs.declared.edition.Edition.TheVariants.{V6, V7}
+use Rattle.vol_layout.specs.Super.{free_head}
 use Rattle.vol_layout.specs.declared.geometry.Geometry.{Geometry}
 use Rattle.vol_free.specs.Stack.{IsIn, Once, IsStack, IsFree, StaysBut}
-use Rattle.vol_free.proofs.IList.{cache_end}
 use Rattle.vol_free.proofs.Copies.{IsCopy, word_copied, number_copied, copied_below, copied_above}
 use Rattle.vol_free.proofs.Stacks.{IsStack-moved, array_copied, stack_zoned, zone_from, head_end}
 
@@ -57,19 +54,6 @@ pub IsFree-before_zone : {geometry : Geometry} {old new blocks : List ℕ} {from
     → 720 ≤ from → to ≤ 512 * geometry.zone_start → IsFree geometry old blocks → IsFree geometry new blocks
 IsFree-before_zone s h t free =
     IsFree-outside s h (λ b i. inr (omega (arith, free_from free b i))) free
-
--- the cache of i-numbers stands behind the free list
-cache_behind : (edition : Edition) → free_head edition + 202 ≡ cache_head edition
-cache_behind V6 = refl
-cache_behind V7 = refl
-
--- a write to the cache of i-numbers keeps the free blocks
-pub IsFree-cache : {geometry : Geometry} {old new blocks : List ℕ} → 2 ≤ geometry.zone_start
-    → SameOutside old new (cache_head geometry.edition) (cache_head geometry.edition + 202) → IsFree geometry old blocks → IsFree geometry new blocks
-IsFree-cache {geometry = geometry} low s free =
-    let behind : free_head geometry.edition + 202 ≡ cache_head geometry.edition = cache_behind geometry.edition in
-    let end : cache_head geometry.edition + 202 ≤ 1024 = cache_end geometry.edition in
-    IsFree-behind s (omega arith) (λ b i. inr (omega (arith, free_from free b i))) free
 
 -- where the super-block has no number, no block is free
 pub IsFree-none : (geometry : Geometry) (image : List ℕ) → word image (free_head geometry.edition) ≡ 0 → IsFree geometry image []

@@ -1,5 +1,6 @@
 -- What giving a block to the free list does to its stack.
-use Rattle.std.proofs.Common.{◌≡◌, ℕ, ◌+◌, ◌*◌, ◌<◌, ◌≤◌, inl, inr, true, List, [], ◌∷◌, refl, ◌∙◌, arith}
+use Rattle.std.proofs.Common.{◌≡◌, ℕ, ◌+◌, ◌*◌, ◌<◌, ◌≤◌, inl, inr, true, List, [], ◌∷◌, slice_index, refl, ◌∙◌, arith}
+use Rattle.std.proofs.lemmas.Bool.Decides.{nat_tests}
 use Rattle.pdp_words.specs.Words.{word, SameOutside}
 use Rattle.vol_layout.specs.Edition.{constants, number}
 use Rattle.vol_layout.specs.Geometry.{in_zone}
@@ -7,7 +8,7 @@ use Rattle.vol_layout.specs.Super.{free_head}
 use Rattle.vol_layout.specs.declared.geometry.Geometry.{Geometry}
 use Rattle.vol_layout.specs.declared.edition.Edition.{Edition}
 use Rattle.vol_layout.specs.declared.edition.Edition.TheVariants.{V6, V7}
-use Rattle.vol_free.specs.Stack.{IsIn, Once, IsFree, HasStack, StaysBut}
+use Rattle.vol_free.specs.Stack.{IsIn, Once, IsFree, HasStack, StaysBut, count_given, HeadGiven}
 use Rattle.vol_free.proofs.Copies.{IsCopy, word_copied, number_copied, copied_twice, copied_above}
 use Rattle.vol_free.proofs.Stacks.{IsStack-moved, IsFree_unique, array_copied, stack_none, stack_above, stack_chained, stack_zero, zone_from, head_end}
 use Rattle.vol_free.proofs.Frames.{free_from, kept_apart}
@@ -110,6 +111,22 @@ chained_stays {geometry = geometry} two s t =
       between = λ k h less. t.above k h ∙ s.below k less;
       above = λ k h. t.above k (omega arith) ∙ s.above k h;
     }
+
+-- a full array has one number once a block is given
+pub given_full : (edition : Edition) → count_given edition (constants edition).free_slots ≡ 1
+given_full V6 = refl
+given_full V7 = refl
+
+-- an array that is neither empty nor full has one number more
+pub given_above : (edition : Edition) (n : ℕ) → (n ≡ 0 → ⊥) → (n ≡ (constants edition).free_slots → ⊥) → count_given edition n ≡ n + 1
+given_above edition n some room = grind (arith, nat_tests)
+
+-- the count and array after a giving, where there were n numbers and are m
+pub head_given : (edition : Edition) (old new : List ℕ) (n m : ℕ) → word old (free_head edition) ≡ n → count_given edition n ≡ m
+    → word new (free_head edition) ≡ m
+    → ((k : ℕ) → free_head edition + 2 + (constants edition).number_bytes * m ≤ k → k < free_head edition + 202 → slice_index new k ≡ slice_index old k)
+    → HeadGiven edition old new
+head_given edition old new n m was is now same = record { count = rw (was, is) now; past = rw (was, is) same }
 
 -- nothing is among the free blocks of an empty list
 pub none_free : {geometry : Geometry} {image blocks : List ℕ} → 1 ≤ geometry.zone_start → IsFree geometry image [] → IsFree geometry image blocks

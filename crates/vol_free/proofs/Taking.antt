@@ -1,11 +1,12 @@
 -- What taking a block from the free list does to its stack.
 use Rattle.std.proofs.Common.{◌≡◌, ℕ, ◌+◌, ◌-◌, ◌*◌, ◌<◌, ◌≤◌, ◌⊎◌, inl, inr, true, List, [], ◌∷◌, Option, None, Some, slice_index, refl, sym, ◌∙◌, arith}
 use Rattle.pdp_words.specs.Words.{word, SameOutside}
+use Rattle.pdp_words.proofs.Below.{word_below}
 use Rattle.vol_layout.specs.Edition.{constants, number}
 use Rattle.vol_layout.specs.Geometry.{in_zone, Fits}
 use Rattle.vol_layout.specs.Super.{free_head}
 use Rattle.vol_layout.specs.declared.geometry.Geometry.{Geometry}
-use Rattle.vol_free.specs.Stack.{IsIn, Once, IsStack, IsFree, HasStack, StaysBut, Pops}
+use Rattle.vol_free.specs.Stack.{IsIn, Once, IsStack, IsFree, HasStack, StaysBut, HeadTaken, Pops}
 use Rattle.vol_free.proofs.Copies.{IsCopy, word_copied, number_copied, copied_twice, copied_below, copied_above}
 use Rattle.vol_free.proofs.Stacks.{IsStack-moved, array_copied, stack_not_none, head_end, zone_behind}
 use Rattle.vol_free.proofs.Frames.{free_from, kept_apart}
@@ -66,11 +67,6 @@ unfolding IsIn Once
 rest_kept free low s small c i =
     let from = free_from free c (inr i) in
     kept_apart s small c (omega arith) (λ same. free.once.0 (rw same i))
-
--- the first free block isn't among the others
-pub first_fresh : (b : ℕ) (rest : List ℕ) → Once (b ∷ rest) → IsIn b rest → ⊥
-unfolding Once
-first_fresh b rest once = once.0
 
 -- the other free blocks are distinct
 pub rest_once : (b : ℕ) (rest : List ℕ) → Once (b ∷ rest) → Once rest
@@ -199,3 +195,27 @@ pub pops_left : (geometry : Geometry) (old new : List ℕ) (blocks : List ℕ) (
     → Pops geometry old new blocks result → HasStack geometry new
 pops_left geometry old new [] result free (none, same) = rw same (record { blocks = []; free = free })
 pops_left geometry old new (b ∷ rest) result free (some, popped) = record { blocks = rest; free = popped.free }
+
+-- the count and array once block b is taken, where the count was lowered
+pub head_lowered : (geometry : Geometry) (old mid new : List ℕ) (b : ℕ) → 2 ≤ b → IsTaken geometry old mid new b
+    → (word old (free_head geometry.edition) ≡ 1 → ⊥)
+    → word mid (free_head geometry.edition) ≡ word old (free_head geometry.edition) - 1
+    → SameOutside old mid (free_head geometry.edition) (free_head geometry.edition + 2) → HeadTaken geometry.edition old new b
+head_lowered geometry old mid new b two taken more less s =
+    let end : free_head geometry.edition + 202 ≤ 720 = head_end geometry.edition in
+    record {
+      lowered = λ some. word_below taken.block (free_head geometry.edition) (omega arith) ∙ less;
+      array = λ some k from to. taken.block.below k (omega arith) ∙ s.above k from;
+      refilled = λ one. absurd (more one);
+    }
+
+-- the count and array once block b is taken, where the head was refilled from it
+pub head_refilled : (geometry : Geometry) (old mid new : List ℕ) (b : ℕ) → 2 ≤ b → IsTaken geometry old mid new b
+    → word old (free_head geometry.edition) ≡ 1 → IsCopy old mid (512 * b) (free_head geometry.edition) 202 → HeadTaken geometry.edition old new b
+head_refilled geometry old mid new b two taken one copy =
+    let end : free_head geometry.edition + 202 ≤ 720 = head_end geometry.edition in
+    record {
+      lowered = λ some. absurd (omega arith);
+      array = λ some. absurd (omega arith);
+      refilled = λ _ k h. taken.block.below (free_head geometry.edition + k) (omega arith) ∙ copy.bytes k h;
+    }

@@ -1,9 +1,10 @@
 -- The free blocks, which form a stack: the last one given is the first one taken.
-use Rattle.std.specs.Prelude.{◌≡◌, ℕ, ◌+◌, ◌-◌, ◌*◌, ◌<◌, ◌≤◌, ◌⊎◌, true, List, [], ◌∷◌, length, slice_index, Option, None, Some}
+use Rattle.std.specs.Prelude.{◌≡◌, ℕ, ◌+◌, ◌-◌, ◌*◌, ◌<◌, ◌≤◌, ◌==◌, ◌⊎◌, true, if◌then◌else◌, List, [], ◌∷◌, length, slice_index, Option, None, Some}
 use Rattle.pdp_words.specs.Words.{word}
 use Rattle.vol_layout.specs.Edition.{constants, number}
 use Rattle.vol_layout.specs.Geometry.{in_zone}
 use Rattle.vol_layout.specs.Super.{free_head}
+use Rattle.vol_layout.specs.declared.edition.Edition.{Edition}
 use Rattle.vol_layout.specs.declared.geometry.Geometry.{Geometry}
 
 -- b is one of the numbers (membership)
@@ -54,3 +55,23 @@ pub record Popped (geometry : Geometry) (old new : List ℕ) (b : ℕ) (rest : L
 abbrev pub Pops : Geometry → List ℕ → List ℕ → List ℕ → Option ℕ → Type 0
 Pops geometry old new [] taken = (taken ≡ None) × (new ≡ old)
 Pops geometry old new (b ∷ rest) taken = (taken ≡ Some b) × Popped geometry old new b rest
+
+-- what taking block b does to the count and array of the super-block: the count is one less and the array stays, or where one
+-- number was left, both are those that the block began with (manual section 5, file system)
+pub record HeadTaken (edition : Edition) (old new : List ℕ) (b : ℕ) : Type 0 where
+  pub lowered : 2 ≤ word old (free_head edition) → word new (free_head edition) ≡ word old (free_head edition) - 1
+  pub array : 2 ≤ word old (free_head edition) → (k : ℕ) → free_head edition + 2 ≤ k → k < free_head edition + 202
+      → slice_index new k ≡ slice_index old k
+  pub refilled : word old (free_head edition) ≡ 1 → (k : ℕ) → k < 202
+      → slice_index new (free_head edition + k) ≡ slice_index old (512 * b + k)
+
+-- how many numbers the array has once a block is given: one more, but two where it had none, since number 0 is 0 then, and one
+-- where it was full, since its numbers stand in the block (manual section 5, file system)
+abbrev pub count_given : Edition → ℕ → ℕ
+count_given edition n = if n == 0 then 2 else if n == (constants edition).free_slots then 1 else n + 1
+
+-- what giving a block does to the count and array of the super-block: what stands past the numbers stays (manual section 5)
+pub record HeadGiven (edition : Edition) (old new : List ℕ) : Type 0 where
+  pub count : word new (free_head edition) ≡ count_given edition (word old (free_head edition))
+  pub past : (k : ℕ) → free_head edition + 2 + (constants edition).number_bytes * count_given edition (word old (free_head edition)) ≤ k
+      → k < free_head edition + 202 → slice_index new k ≡ slice_index old k

@@ -1,11 +1,11 @@
 //! The free list: a stack of block numbers. The super-block has a count and an array, and number 0 of
 //! the array is the block that begins with the next count and array, or 0 where there is none.
-ghost use Rattle.std.specs.Prelude.{◌≡◌, ℕ, ◌+◌, ◌*◌, ◌<◌, ◌≤◌, true, List, ◌∷◌, length, slice_index};
+ghost use Rattle.std.specs.Prelude.{◌≡◌, ℕ, ◌+◌, ◌*◌, ◌<◌, ◌≤◌, true, List, ◌∷◌, length, slice_index, IfSome};
 ghost use Rattle.pdp_words.specs.Words.{SameOutside, word};
 ghost use Rattle.vol_layout.specs.Edition.{constants, number};
 ghost use Rattle.vol_layout.specs.Geometry.{Fits, in_zone};
 ghost use Rattle.vol_layout.specs.Super.{free_head};
-ghost use Rattle.vol_free.specs.Stack.{IsIn, IsFree, HasStack, Pops, StaysBut};
+ghost use Rattle.vol_free.specs.Stack.{IsIn, IsFree, HasStack, Pops, HeadTaken, HeadGiven, StaysBut};
 
 use pdp_words::{BLOCK, Image};
 use vol_layout::{Geometry, Super, number};
@@ -14,12 +14,14 @@ use vol_layout::{Geometry, Super, number};
 const HEAD_BYTES: usize = 202;
 
 /// Takes the first block of the free list, and hands it out zeroed. None where no block is free, and
-/// then the image stays as it was. Takes no memory.
+/// then the image stays as it was. The number taken stays in the array, past the count; where it was
+/// number 0, count and array are those that the block began with. Takes no memory.
 pub fn take(image: &mut Image, geometry: &Geometry) -> Option<u32>
     requires fits { Fits geometry.now image.old }
     requires stack { HasStack geometry.now image.old }
     ensures popped { (blocks : List ℕ) → IsFree geometry.now image.old blocks
         → Pops geometry.now image.old image.new blocks result }
+    ensures head { IfSome result (λ b. HeadTaken geometry.now.edition image.old image.new b) }
     ensures stack { HasStack geometry.now image.new }
     ensures fits { Fits geometry.now image.new }
 {
@@ -46,13 +48,14 @@ pub fn take(image: &mut Image, geometry: &Geometry) -> Option<u32>
 
 /// Gives data block `b` to the free list, of which it becomes the first. Where the array of the
 /// super-block is full, block `b` begins with its count and array then; else the block isn't written.
-/// Takes no memory.
+/// What stands in the array past the count stays. Takes no memory.
 pub fn give(image: &mut Image, geometry: &Geometry, b: u32)
     requires fits { Fits geometry.now image.old }
     requires stack { HasStack geometry.now image.old }
     requires zone { in_zone geometry.now b ≡ true }
     requires fresh { (blocks : List ℕ) → IsFree geometry.now image.old blocks → IsIn b blocks → ⊥ }
     ensures pushed { (blocks : List ℕ) → IsFree geometry.now image.old blocks → IsFree geometry.now image.new (b ∷ blocks) }
+    ensures head { HeadGiven geometry.now.edition image.old image.new }
     ensures stack { HasStack geometry.now image.new }
     ensures others { StaysBut geometry.now image.old image.new b 202 }
     ensures unwritten { word image.old (free_head geometry.now.edition) < (constants geometry.now.edition).free_slots
@@ -111,6 +114,8 @@ fn push(image: &mut Image, super_block: Super, count: u16, b: u32)
     ensures put { number super_block.edition image.new (free_head super_block.edition + 2) count ≡ b }
     ensures kept { (j : ℕ) → j < count → number super_block.edition image.new (free_head super_block.edition + 2) j
         ≡ number super_block.edition image.old (free_head super_block.edition + 2) j }
+    ensures past { (k : ℕ) → free_head super_block.edition + 2 + (constants super_block.edition).number_bytes * (count + 1) ≤ k
+        → slice_index image.new k ≡ slice_index image.old k }
     ensures others { SameOutside image.old image.new (free_head super_block.edition) (free_head super_block.edition + 202) }
 {
     super_block.put_free(image, count as usize, b);

@@ -1,7 +1,7 @@
-use Rattle.std.proofs.Common.{◌≡◌, ◌<◌, inl, inr, length, arith, sym, ◌∙◌}
+use Rattle.std.proofs.Common.{◌≡◌, ◌<◌, ◌≤◌, inl, inr, length, arith, sym, ◌∙◌}
 use Rattle.pdp_words.proofs.Outside.{widen}
-use Rattle.vol_free.proofs.Stacks.{zone_below}
-use Rattle.vol_free.proofs.Taking.{pops_none, pops_lowered, pops_refilled, pops_left, taken_zone}
+use Rattle.vol_free.proofs.Stacks.{zone_below, zone_from, zone_behind}
+use Rattle.vol_free.proofs.Taking.{pops_none, pops_lowered, pops_refilled, pops_left, taken_zone, head_lowered, head_refilled}
 use Rattle.vol_free.proofs.free_list.take.Goals as goal
 use Rattle.vol_free.proofs.free_list.take.Goals.{then-count-eq1, else-count-eq1}
 
@@ -54,3 +54,23 @@ pub returns-clause-stack : goal.returns-clause-stack
 returns-clause-stack c =
     pops_left c.args.geometry.now c.args.image.now c.clear.new.self c.requires.stack.blocks _ c.requires.stack.free
     (returns-clause-popped c c.requires.stack.blocks c.requires.stack.free)
+
+pub returns-clause-head : goal.returns-clause-head
+returns-clause-head c =
+    let next = rw c.free_count-count.ensures at (sym c.free-taken.ensures) in
+    let zone = taken_zone c.free-taken.result c.requires.stack (λ none. c.if-count-eq0.false (omega arith)) next c.if-taken-eq0.false in
+    let start : 2 ≤ c.args.geometry.now.zone_start = zone_behind c.requires.fits in
+    let from : c.args.geometry.now.zone_start ≤ c.free-taken.result = zone_from c.args.geometry.now c.free-taken.result zone in
+    elim c.if-count-eq1.branch [
+      | then-count-eq1 w ↦
+          let within = rw (w.free_head.ensures, ← w.image-is) at w.copy_head.ensures.others in
+          let copied = rw (w.free_head.ensures, ← w.image-is) at w.copy_head.ensures.copied in
+          head_refilled c.args.geometry.now c.args.image.now c.if-count-eq1.image c.clear.new.self c.free-taken.result (omega arith)
+          (record { head = within; block = c.clear.ensures.others; zero = c.clear.ensures.zero }) (omega arith) (record { bytes = copied })
+      | else-count-eq1 w ↦
+          let within = rw (← w.image-is) at w.put_free_count.ensures.others in
+          let less = rw (← w.image-is) at w.put_free_count.ensures.put in
+          head_lowered c.args.geometry.now c.args.image.now c.if-count-eq1.image c.clear.new.self c.free-taken.result (omega arith)
+          (record { head = widen within (omega arith) (omega arith); block = c.clear.ensures.others; zero = c.clear.ensures.zero })
+          (λ one. w.if-count-eq1.false (omega arith)) (omega (arith, less)) within
+    ]

@@ -8,13 +8,15 @@ use Rattle.vol_dir.specs.declared.access.Access.{Access}
 use Rattle.vol_dir.specs.declared.access.Access.TheVariants.{Read, Write, Execute}
 use Rattle.vol_dir.specs.declared.cred.Cred.{Cred}
 
--- the bits of a triple of permissions (manual section 5, file system)
+-- the bit of a triple of permissions that lets read (manual section 5, file system)
 abbrev pub may_read : ℕ
 may_read = 4
 
+-- the bit that lets write (manual section 5, file system)
 abbrev pub may_write : ℕ
 may_write = 2
 
+-- the bit that lets execute, and search a directory (manual section 5, file system)
 abbrev pub may_execute : ℕ
 may_execute = 1
 

@@ -9,7 +9,7 @@ use Rattle.vol_dir.specs.Searching.{holds}
 abbrev pub slot_bytes : List ℕ → ℕ → List ℕ
 slot_bytes name i = (i % 256) ∷ (i / 256) ∷ padded_name name
 
--- a list with another item in place of item s; with one item more, where s is its length
+-- a list with another item in place of item s; with one item more, where s is its length (this project)
 abbrev pub with_item : {X : Type 0} → List X → ℕ → X → List X
 with_item xs s x = take s xs ++ (x ∷ drop (s + 1) xs)
 

@@ -38,7 +38,7 @@ pub record HasEntry (geometry : Geometry) (image : List ℕ) (d s : ℕ) (name :
   pub entry : entry_at geometry image d s ≡ Some (name, i)
 
 -- rule 9: each directory is whole slots; each entry has a name, without a slash, for an allocated i-number from the root's
--- to the last; and no name comes twice in a directory
+-- to the last; and no name comes twice in a directory (manual section 5, directories; the rule is this project's)
 pub record HasEntries (geometry : Geometry) (image : List ℕ) : Type 0 where
   pub whole : (d : ℕ) → IsDirectory geometry image d → size_of geometry image d % 16 ≡ 0
   pub named : (d s i : ℕ) (name : List ℕ) → HasEntry geometry image d s name i → (name ≢ []) × (list_any (λ c. c == 47) name ≡ false)

@@ -3,7 +3,7 @@ use Rattle.std.specs.Prelude.{◌≡◌, ◌≢◌, ℕ, ◌<◌, ◌≤◌, Lis
 use Rattle.vol_dir.specs.Entries.{entry_in}
 use Rattle.vol_layout.specs.declared.slot.Slot.{Slot}
 
--- slot s is the first from slot `from` on, of so many, that has an entry, and this is what it holds (manual section 5, directories)
+-- slot s is the first from slot `from` on, of so many, that has an entry, and this slot has its i-number and name (manual section 5, directories)
 pub record IsNextEntry (entry : ℕ → Option (List ℕ × ℕ)) (from count s : ℕ) (slot : Slot) : Type 0 where
   pub reached : from ≤ s
   pub within : s < count

@@ -14,7 +14,7 @@ use Rattle.vol_dir.specs.declared.refusal.Refusal.TheVariants as refusals
 abbrev pub root : Tree → ℕ
 root tree = (constants tree.geometry.edition).root
 
--- a byte before the first piece of a list of pieces (splitting)
+-- a byte before the first piece of a list of pieces (this project)
 abbrev pub onto_first : ℕ → List (List ℕ) → List (List ℕ)
 onto_first c [] = (c ∷ []) ∷ []
 onto_first c (piece ∷ pieces) = (c ∷ piece) ∷ pieces
@@ -24,7 +24,7 @@ abbrev pub pieces : List ℕ → List (List ℕ)
 pieces [] = [] ∷ []
 pieces (c ∷ path) = if c == 47 then [] ∷ pieces path else onto_first c (pieces path)
 
--- whether a list has no item
+-- whether a list has no item (this project)
 abbrev pub is_nil : {X : Type 0} → List X → Bool
 is_nil [] = true
 is_nil (x ∷ xs) = false
@@ -33,7 +33,7 @@ is_nil (x ∷ xs) = false
 unfoldable pub components : List ℕ → List (List ℕ)
 components path = map (take 14) (filter (λ piece. not (is_nil piece)) (pieces path))
 
--- whether a path or a name has a zero byte
+-- whether a path or a name has a zero byte (this project)
 abbrev pub has_zero : List ℕ → Bool
 has_zero bytes = list_any (λ c. c == 0) bytes
 
@@ -63,7 +63,7 @@ search_node cred node =
 abbrev pub search : Tree → Cred → ℕ → Result Names Refusal
 search tree cred i = option_map_or (search_node cred) (tree.nodes i) (Err refusals.NotDirectory)
 
--- what comes after an Ok
+-- what comes after an Ok; a refusal ends it (this project)
 abbrev pub and_then : {X Y : Type 0} → Result X Refusal → (X → Result Y Refusal) → Result Y Refusal
 and_then (Ok x) next = next x
 and_then (Err refusal) next = Err refusal
@@ -81,7 +81,7 @@ walk_from tree cred i (name ∷ names) = and_then (find_in tree cred i name) (λ
 unfoldable pub walk : Tree → Cred → List ℕ → Result ℕ Refusal
 walk tree cred path = walk_from tree cred (root tree) (components path)
 
--- the items before the last, and the last
+-- the items before the last, and the last; None of a list without item (this project)
 abbrev pub split_last : {X : Type 0} → List X → Option (List X × X)
 split_last [] = None
 split_last (x ∷ xs) = Some (option_map_or (λ parts. (x ∷ parts.0, parts.1)) (split_last xs) ([], x))

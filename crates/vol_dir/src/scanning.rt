@@ -49,7 +49,8 @@ fn next_in_block(
     }
 }
 
-/// The first slot of directory `dir` from slot `from` on that has an entry, and what it holds.
+/// The first slot of directory `dir` from slot `from` on that has an entry, with its i-number and name. Which
+/// bytes stand behind the name's first zero byte is left open.
 ///
 /// Costs the way of each logical block that is passed, and a look at each slot of those that aren't holes.
 pub fn next_entry(image: &Image, geometry: &Geometry, dir: u16, from: u32) -> Option<(u32, Slot)>

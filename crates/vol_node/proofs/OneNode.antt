@@ -99,7 +99,7 @@ only_inode geometry old new i fits first last same =
     }
 
 -- the bytes of another i-node stay where a file is changed
-alone_inode : (geometry : Geometry) (old new : List ℕ) (i j : ℕ) → Fits geometry old → ChangesFileAlone geometry old new i → 1 ≤ i → 1 ≤ j
+pub alone_inode : (geometry : Geometry) (old new : List ℕ) (i j : ℕ) → Fits geometry old → ChangesFileAlone geometry old new i → 1 ≤ i → 1 ≤ j
     → j ≤ geometry.last_inode → j ≢ i → KeepsInode geometry old new j
 alone_inode geometry old new i j fits alone first low high other =
     let start = place_from geometry.edition j in

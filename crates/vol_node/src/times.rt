@@ -16,7 +16,7 @@ use pdp_words::Image;
 use vol_layout::i_list::inode;
 use vol_layout::{Geometry, Inode, Super, put_inode};
 
-/// Makes `now` the time at which the volume was last changed, in seconds.
+/// Makes `now` the time at which the volume was last changed, in seconds. No other byte changes.
 #[tactic(auto, using(crate::proofs::ListWrites::time_keeps, crate::proofs::ListWrites::time_makes, crate::proofs::ListWrites::time_graph))]
 pub fn put_time(image: &mut Image, geometry: &Geometry, now: u32)
     requires whole { IsWhole geometry.now image.old }

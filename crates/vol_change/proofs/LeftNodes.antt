@@ -71,6 +71,11 @@ used_graph geometry old mid d i name now leaves =
     let used = named_used geometry old name d i leaves.ready leaves.directory leaves.named in
     used_to geometry old i used.first used.last used.allocated
 
+-- and keeps its links
+pub left_same : (geometry : Geometry) (old mid : List ℕ) (d i : ℕ) (name : List ℕ) (now : ℕ) → LeavesEntry geometry old mid d i name now
+    → (inode_of geometry.edition mid i).links ≡ (inode_of geometry.edition old i).links
+left_same geometry old mid d i name now leaves = leaves.beside.links i (used_graph geometry old mid d i name now leaves)
+
 -- what is no directory is none in the graph
 other_graph : (geometry : Geometry) (old mid : List ℕ) (d i : ℕ) (name : List ℕ) (now : ℕ) → LeavesEntry geometry old mid d i name now
     → kind_at geometry old i ≢ kinds.Directory → (graph_of geometry old).kind i ≢ kinds.Directory

@@ -14,3 +14,4 @@ pub mod NodeEdits
 pub mod NodeLinks
 pub mod ReadyLaws
 pub mod SideStates
+pub mod UnusedNodes

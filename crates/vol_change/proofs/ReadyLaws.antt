@@ -108,15 +108,6 @@ pub directory_kept : (geometry : Geometry) (old new : List ℕ) (d : ℕ) → (g
     → IsDirectory geometry old d → IsDirectory geometry new d
 directory_kept geometry old new d same is = directory_from geometry new d (same ∙ directory_to geometry old d is)
 
--- graphs that are the same, one after the other
-pub same_then : (old mid new : Graph) → IsSameGraph old mid → IsSameGraph mid new → IsSameGraph old new
-same_then old mid new a b = record {
-  kind = λ i. b.kind i ∙ a.kind i;
-  links = λ i used. b.links i (λ free. used (sym (a.kind i) ∙ free)) ∙ a.links i used;
-  size = λ d is. b.size d (a.kind d ∙ is) ∙ a.size d is;
-  entry = λ d s. b.entry d s ∙ a.entry d s;
-}
-
 -- a slot that changes, and then a graph that is the same
 pub slot_same : (old mid new : Graph) (d s : ℕ) (was is : Option (List ℕ × ℕ)) → ChangesSlot old mid d s was is → IsSameGraph mid new
     → mid.kind d ≡ old.kind d → ChangesSlot old new d s was is

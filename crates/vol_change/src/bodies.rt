@@ -1,5 +1,5 @@
 //! The bytes of a regular file: some that are written, and none that are left.
-ghost use Rattle.std.specs.Prelude.{◌≡◌, ◌+◌, ◌≤◌, length};
+ghost use Rattle.std.specs.Prelude.{◌≡◌, ℕ, ◌+◌, ◌≤◌, length};
 ghost use Rattle.vol_layout.specs.Edition.{constants};
 ghost use Rattle.vol_layout.specs.declared.mode.Kind.TheVariants as kinds;
 ghost use Rattle.vol_file.specs.Rules.{kind_at};
@@ -7,6 +7,7 @@ ghost use Rattle.vol_file.specs.Shape.{touched};
 ghost use Rattle.vol_dir.specs.Tree.{state};
 ghost use Rattle.vol_node.specs.Edits.{at_time, after_write, after_truncate};
 ghost use Rattle.vol_node.specs.Shapes.{need_in};
+ghost use Rattle.vol_node.specs.Unused.{KeepsUnused};
 ghost use Rattle.vol_change.specs.Ready.{IsReady, Changes, free_in};
 
 use pdp_words::Image;
@@ -27,6 +28,7 @@ pub fn write(image: &mut Image, geometry: &Geometry, i: u16, offset: u32, bytes:
         ≤ free_in (state geometry.now image.old) }
     ensures changes { Changes geometry.now image.old image.new
         (at_time moment (after_write (state geometry.now image.old) moment offset bytes.now i)) }
+    ensures unused { (j : ℕ) → 1 ≤ j → j ≤ geometry.now.last_inode → KeepsUnused geometry.now image.old image.new j }
 {
     if !bytes.is_empty() {
         write_bytes(image, geometry, i, offset, bytes);
@@ -45,6 +47,7 @@ pub fn truncate(image: &mut Image, geometry: &Geometry, i: u16, moment: u32)
     requires regular { kind_at geometry.now image.old i ≡ kinds.Regular }
     ensures changes { Changes geometry.now image.old image.new
         (at_time moment (after_truncate (state geometry.now image.old) moment i)) }
+    ensures unused { (j : ℕ) → 1 ≤ j → j ≤ geometry.now.last_inode → KeepsUnused geometry.now image.old image.new j }
 {
     empty_file(image, geometry, i);
     touch(image, geometry, i, moment);

@@ -12,6 +12,7 @@ ghost use Rattle.vol_judge.specs.Graph.{graph_of};
 ghost use Rattle.vol_judge.specs.GraphEdits.{ChangesSlot};
 ghost use Rattle.vol_node.specs.Beside.{StaysBeside};
 ghost use Rattle.vol_node.specs.Edits.{add_entry, remove_entry};
+ghost use Rattle.vol_node.specs.Unused.{KeepsUnused};
 ghost use Rattle.vol_node.specs.Whole.{IsWhole, Keeps};
 ghost use Rattle.vol_change.specs.Ready.{TakesName, entry_need, free_in};
 
@@ -43,6 +44,7 @@ pub(crate) fn enter(
     ensures slot { ChangesSlot (graph_of geometry.now image.old) (graph_of geometry.now image.new) dir
         (new_slot (names_in (slots geometry.now image.old dir))) None (Some (name.now, i)) }
     ensures beside { StaysBeside (graph_of geometry.now image.old) (graph_of geometry.now image.new) dir }
+    ensures unused { (j : ℕ) → 1 ≤ j → j ≤ geometry.now.last_inode → KeepsUnused geometry.now image.old image.new j }
 {
     add_name(image, geometry, dir, name, i);
     touch(image, geometry, dir, moment);
@@ -62,6 +64,7 @@ pub(crate) fn leave(image: &mut Image, geometry: &Geometry, dir: u16, name: &[u8
         (slot_named name.now (slots geometry.now image.old dir))
         (option_map (λ i. (name.now, i)) (get (names_of (slots geometry.now image.old dir)) name.now)) None }
     ensures beside { StaysBeside (graph_of geometry.now image.old) (graph_of geometry.now image.new) dir }
+    ensures unused { (j : ℕ) → 1 ≤ j → j ≤ geometry.now.last_inode → KeepsUnused geometry.now image.old image.new j }
 {
     remove_name(image, geometry, dir, name);
     touch(image, geometry, dir, moment);

@@ -1,11 +1,12 @@
 //! A directory that goes.
-ghost use Rattle.std.specs.Prelude.{◌≡◌, ℕ, List, not, false, Some};
+ghost use Rattle.std.specs.Prelude.{◌≡◌, ◌≢◌, ℕ, ◌≤◌, List, not, false, Some};
 ghost use Rattle.std.specs.List.{list_any};
 ghost use Rattle.vol_dir.specs.Entries.{IsDirectory};
 ghost use Rattle.vol_dir.specs.Names.{get, is_dots};
 ghost use Rattle.vol_dir.specs.Tree.{state};
 ghost use Rattle.vol_node.specs.Edits.{at_time};
 ghost use Rattle.vol_node.specs.Nodes.{names_at};
+ghost use Rattle.vol_node.specs.Unused.{IsCleared, KeepsUnused};
 ghost use Rattle.vol_change.specs.Effects.{after_rmdir};
 ghost use Rattle.vol_change.specs.Ready.{IsReady, Changes};
 
@@ -27,6 +28,8 @@ pub fn rmdir(image: &mut Image, geometry: &Geometry, dir: u16, name: &[u8], i: u
     requires only { list_any (λ (entry : List ℕ × ℕ). not (is_dots entry.0)) (names_at (state geometry.now image.old).tree i) ≡ false }
     ensures changes { Changes geometry.now image.old image.new
         (at_time moment (after_rmdir (state geometry.now image.old) moment dir name.now)) }
+    ensures cleared { IsCleared geometry.now image.new i }
+    ensures others { (j : ℕ) → 1 ≤ j → j ≤ geometry.now.last_inode → j ≢ i → KeepsUnused geometry.now image.old image.new j }
 {
     leave(image, geometry, dir, name, moment);
     drop_link(image, geometry, dir, moment);

@@ -1,5 +1,6 @@
 //! A name that goes.
-ghost use Rattle.std.specs.Prelude.{◌≡◌, ◌≢◌, Some};
+ghost use Rattle.std.specs.Prelude.{◌≡◌, ◌≢◌, ℕ, ◌<◌, ◌≤◌, Some};
+ghost use Rattle.vol_layout.specs.Inode.{inode_of};
 ghost use Rattle.vol_layout.specs.declared.mode.Kind.TheVariants as kinds;
 ghost use Rattle.vol_file.specs.Rules.{kind_at};
 ghost use Rattle.vol_dir.specs.Entries.{IsDirectory};
@@ -7,6 +8,7 @@ ghost use Rattle.vol_dir.specs.Names.{get};
 ghost use Rattle.vol_dir.specs.Tree.{state};
 ghost use Rattle.vol_node.specs.Edits.{at_time};
 ghost use Rattle.vol_node.specs.Nodes.{names_at};
+ghost use Rattle.vol_node.specs.Unused.{IsCleared, KeepsUnused};
 ghost use Rattle.vol_change.specs.Effects.{after_unlink};
 ghost use Rattle.vol_change.specs.Ready.{IsReady, Changes};
 
@@ -27,6 +29,9 @@ pub fn unlink(image: &mut Image, geometry: &Geometry, dir: u16, name: &[u8], i: 
     requires other { kind_at geometry.now image.old i ≢ kinds.Directory }
     ensures changes { Changes geometry.now image.old image.new
         (at_time moment (after_unlink (state geometry.now image.old) moment dir name.now)) }
+    ensures cleared { (inode_of geometry.now.edition image.old i).links ≤ 1 → IsCleared geometry.now image.new i }
+    ensures unused { 1 < (inode_of geometry.now.edition image.old i).links → KeepsUnused geometry.now image.old image.new i }
+    ensures others { (j : ℕ) → 1 ≤ j → j ≤ geometry.now.last_inode → j ≢ i → KeepsUnused geometry.now image.old image.new j }
 {
     leave(image, geometry, dir, name, moment);
     if inode(image, geometry, i).links <= 1 {

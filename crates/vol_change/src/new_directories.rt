@@ -1,6 +1,8 @@
 //! A new directory.
-ghost use Rattle.std.specs.Prelude.{◌≡◌, ℕ, ◌+◌, ◌<◌, ◌≤◌, false, [], IfSome};
+ghost use Rattle.std.specs.Prelude.{◌≡◌, ◌≢◌, ℕ, ◌+◌, ◌<◌, ◌≤◌, false, [], IfSome, slice_index};
 ghost use Rattle.vol_layout.specs.Edition.{constants};
+ghost use Rattle.vol_layout.specs.Inode.{inode_place};
+ghost use Rattle.vol_layout.specs.declared.edition.Edition.TheVariants as editions;
 ghost use Rattle.vol_dir.specs.Entries.{IsDirectory};
 ghost use Rattle.vol_dir.specs.Names.{dot, dot_dot};
 ghost use Rattle.vol_dir.specs.Tree.{no_shape, state};
@@ -12,6 +14,7 @@ ghost use Rattle.vol_node.specs.Edits.{at_time};
 ghost use Rattle.vol_node.specs.Nodes.{node_at};
 ghost use Rattle.vol_node.specs.Whole.{IsWhole, Keeps};
 ghost use Rattle.vol_change.specs.Dots.{HoldsNames, AddsDots};
+ghost use Rattle.vol_node.specs.Unused.{KeepsUnused};
 ghost use Rattle.vol_change.specs.Effects.{after_mkdir};
 ghost use Rattle.vol_change.specs.Ready.{IsReady, TakesName, Changes, entry_need, free_in};
 
@@ -49,6 +52,8 @@ pub fn mkdir(
     ensures recorded { IfSome recorded (λ i. result ≡ i) }
     ensures changes { Changes geometry.now image.old image.new
         (at_time node.moment (after_mkdir (state geometry.now image.old) node.owner node.moment node.permissions result dir name.now)) }
+    ensures unused { geometry.now.edition ≡ editions.V7 → slice_index image.new (inode_place editions.V7 result + 51) ≡ 0 }
+    ensures others { (j : ℕ) → 1 ≤ j → j ≤ geometry.now.last_inode → j ≢ result → KeepsUnused geometry.now image.old image.new j }
 {
     let made = pick_number(image, geometry, recorded);
     let NewNode {
@@ -75,6 +80,7 @@ fn add_dots(image: &mut Image, geometry: &Geometry, i: u16, dir: u16)
     ensures keeps { Keeps geometry.now image.old image.new }
     ensures makes { state geometry.now image.new ≡ put_entry i dot_dot dir (put_entry i dot i (state geometry.now image.old)) }
     ensures graph { AddsDots (graph_of geometry.now image.old) (graph_of geometry.now image.new) i dir }
+    ensures unused { (j : ℕ) → 1 ≤ j → j ≤ geometry.now.last_inode → KeepsUnused geometry.now image.old image.new j }
 {
     add_name(image, geometry, i, b".", i);
     add_name(image, geometry, i, b"..", dir);

@@ -1,11 +1,14 @@
 //! A new file.
-ghost use Rattle.std.specs.Prelude.{◌≡◌, ℕ, ◌≤◌, false, IfSome};
+ghost use Rattle.std.specs.Prelude.{◌≡◌, ◌≢◌, ℕ, ◌+◌, ◌≤◌, false, IfSome, slice_index};
 ghost use Rattle.vol_layout.specs.Edition.{constants};
+ghost use Rattle.vol_layout.specs.Inode.{inode_place};
+ghost use Rattle.vol_layout.specs.declared.edition.Edition.TheVariants as editions;
 ghost use Rattle.vol_dir.specs.Entries.{IsDirectory};
 ghost use Rattle.vol_dir.specs.Tree.{state};
 ghost use Rattle.vol_dir.specs.Walk.{IsComponent, has_zero};
 ghost use Rattle.vol_free.specs.Numbers.{IsFreeNumber};
 ghost use Rattle.vol_node.specs.Edits.{at_time};
+ghost use Rattle.vol_node.specs.Unused.{KeepsUnused};
 ghost use Rattle.vol_change.specs.Effects.{after_create};
 ghost use Rattle.vol_change.specs.Ready.{IsReady, TakesName, Changes, entry_need, free_in};
 
@@ -41,6 +44,8 @@ pub fn create(
     ensures recorded { IfSome recorded (λ i. result ≡ i) }
     ensures changes { Changes geometry.now image.old image.new
         (at_time node.moment (after_create (state geometry.now image.old) node.owner node.moment node.permissions result dir name.now)) }
+    ensures unused { geometry.now.edition ≡ editions.V7 → slice_index image.new (inode_place editions.V7 result + 51) ≡ 0 }
+    ensures others { (j : ℕ) → 1 ≤ j → j ≤ geometry.now.last_inode → j ≢ result → KeepsUnused geometry.now image.old image.new j }
 {
     let made = pick_number(image, geometry, recorded);
     let NewNode {

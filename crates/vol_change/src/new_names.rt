@@ -1,5 +1,5 @@
 //! A further name.
-ghost use Rattle.std.specs.Prelude.{◌≡◌, ◌≢◌, ◌<◌, ◌≤◌, false};
+ghost use Rattle.std.specs.Prelude.{◌≡◌, ◌≢◌, ℕ, ◌<◌, ◌≤◌, false};
 ghost use Rattle.vol_layout.specs.Edition.{constants};
 ghost use Rattle.vol_layout.specs.declared.mode.Kind.TheVariants as kinds;
 ghost use Rattle.vol_file.specs.Rules.{kind_at};
@@ -8,6 +8,7 @@ ghost use Rattle.vol_dir.specs.Tree.{state};
 ghost use Rattle.vol_dir.specs.Walk.{IsComponent, has_zero};
 ghost use Rattle.vol_node.specs.Edits.{at_time};
 ghost use Rattle.vol_node.specs.Nodes.{node_at};
+ghost use Rattle.vol_node.specs.Unused.{KeepsUnused};
 ghost use Rattle.vol_change.specs.Effects.{after_link};
 ghost use Rattle.vol_change.specs.Ready.{IsReady, TakesName, Changes, entry_need, free_in};
 
@@ -31,6 +32,7 @@ pub fn link(image: &mut Image, geometry: &Geometry, i: u16, dir: u16, name: &[u8
     requires room { entry_need (state geometry.now image.old) dir ≤ free_in (state geometry.now image.old) }
     ensures changes { Changes geometry.now image.old image.new
         (at_time moment (after_link (state geometry.now image.old) moment i dir name.now)) }
+    ensures unused { (j : ℕ) → 1 ≤ j → j ≤ geometry.now.last_inode → KeepsUnused geometry.now image.old image.new j }
 {
     add_link(image, geometry, i, moment);
     enter(image, geometry, dir, name, i, moment);

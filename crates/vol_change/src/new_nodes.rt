@@ -1,9 +1,10 @@
 //! What a call says of a node that it makes, and the i-number that the node gets.
-ghost use Rattle.std.specs.Prelude.{◌≡◌, ℕ, IfSome};
+ghost use Rattle.std.specs.Prelude.{◌≡◌, ℕ, ◌≤◌, IfSome};
 ghost use Rattle.vol_dir.specs.Tree.{state};
 ghost use Rattle.vol_free.specs.Numbers.{IsFreeNumber};
 ghost use Rattle.vol_judge.specs.Graph.{graph_of};
 ghost use Rattle.vol_judge.specs.GraphEdits.{IsSameGraph};
+ghost use Rattle.vol_node.specs.Unused.{KeepsUnused};
 ghost use Rattle.vol_node.specs.Whole.{IsWhole, Keeps};
 
 use pdp_words::Image;
@@ -33,6 +34,7 @@ pub(crate) fn pick_number(image: &mut Image, geometry: &Geometry, recorded: Opti
     ensures keeps { Keeps geometry.now image.old image.new }
     ensures makes { state geometry.now image.new ≡ state geometry.now image.old }
     ensures graph { IsSameGraph (graph_of geometry.now image.old) (graph_of geometry.now image.new) }
+    ensures unused { (j : ℕ) → 1 ≤ j → j ≤ geometry.now.last_inode → KeepsUnused geometry.now image.old image.new j }
 {
     let Some(taken) = take_number(image, geometry) else {
         unreachable!()

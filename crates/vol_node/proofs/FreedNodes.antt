@@ -1,5 +1,5 @@
 -- A node that goes: its file is truncated, and its i-node cleared.
-use Rattle.std.proofs.Common.{◌≡◌, ◌∙◌, sym, ap, ℕ, ◌+◌, ◌<◌, ◌≤◌, ◌++◌, false, if◌then◌else◌, List, slice_index, None, inl, inr, arith}
+use Rattle.std.proofs.Common.{◌≡◌, ◌∙◌, sym, ap, ℕ, ◌+◌, ◌<◌, ◌≤◌, ◌++◌, if◌then◌else◌, List, slice_index, None, inl, inr, arith}
 use Rattle.std.specs.Option.{option_map}
 use Rattle.std.proofs.lemmas.Bool.{cases_lt, lt-ltb, le-ltb, false≢true}
 use Rattle.pdp_words.proofs.Outside.{unchanged}
@@ -41,17 +41,6 @@ pub truncated_only : (geometry : Geometry) (old new : List ℕ) (i : ℕ) → (w
     → ((blocks : List ℕ) → IsSoundWith geometry old blocks → Truncates geometry old new i blocks) → ChangesOnly geometry old new i
 truncated_only geometry old new i whole first truncates =
     only_file geometry old new i whole.sound.fits (truncates whole.blocks whole.sound).alone first
-
--- and it names nothing then
-pub truncated_none : (geometry : Geometry) (old new : List ℕ) (i : ℕ) → (whole : IsWhole geometry old)
-    → ((blocks : List ℕ) → IsSoundWith geometry old blocks → Truncates geometry old new i blocks)
-    → (p : List ℕ) → IsPlaceOf geometry new i p → named geometry new i p ≡ 0
-truncated_none geometry old new i whole truncates p place = (truncates whole.blocks whole.sound).names p place
-
--- what is no file has no places
-pub other_none : (geometry : Geometry) (image : List ℕ) (i : ℕ) → has_places (kind_at geometry image i) ≡ false
-    → (p : List ℕ) → IsPlaceOf geometry image i p → named geometry image i p ≡ 0
-other_none geometry image i other p place = absurd (false≢true (sym other ∙ place.file.kind))
 
 -- an i-node has room for its mode
 mode_room : (edition : Edition) → 2 ≤ (constants edition).inode_bytes

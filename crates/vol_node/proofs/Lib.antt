@@ -20,5 +20,6 @@ pub mod FileStates
 pub mod ShapePlaces
 pub mod SoundVolumes
 pub mod TimedEdits
+pub mod UnusedBytes
 pub mod WrittenShapes
 pub mod WrittenStates

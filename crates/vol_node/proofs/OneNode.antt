@@ -1,5 +1,5 @@
 -- Changes of one node alone: one after another, and what all others keep.
-use Rattle.std.proofs.Common.{◌≡◌, ◌≢◌, ◌∙◌, sym, ap, refl, subst, ℕ, ◌+◌, ◌≤◌, List, Option, None, Some, inl, inr, arith}
+use Rattle.std.proofs.Common.{◌≡◌, ◌≢◌, ◌∙◌, sym, ap, subst, ℕ, ◌+◌, ◌≤◌, List, Option, None, Some, inl, inr, arith}
 use Rattle.std.proofs.lemmas.Bool.{cases_lt}
 use Rattle.pdp_words.specs.Words.{long, SameOutside}
 use Rattle.vol_layout.specs.Edition.{constants}
@@ -70,15 +70,6 @@ only_then geometry old mid new i a b = record {
   others = λ j first last other. node_then geometry old mid new j (a.others j first last other) (b.others j first last other);
 }
 
--- no change at all
-pub only_none : (geometry : Geometry) (image : List ℕ) (i : ℕ) → ChangesOnly geometry image image i
-only_none geometry image i = record {
-  around = record { len = refl; before = λ k h. refl; flags = λ k a b. refl; rest = λ k a b. refl; behind = λ k h. refl };
-  time = refl;
-  others = λ j first last other.
-      record { content = record { mode = refl; size = refl; addresses = refl; bytes = λ file. refl; names = λ p place. refl }; inode = refl };
-}
-
 -- a write of i-node i alone
 pub only_inode : (geometry : Geometry) (old new : List ℕ) (i : ℕ) → Fits geometry old → 1 ≤ i → i ≤ geometry.last_inode
     → SameOutside old new (inode_place geometry.edition i) (inode_place geometry.edition i + (constants geometry.edition).inode_bytes)
@@ -99,7 +90,7 @@ only_inode geometry old new i fits first last same =
     }
 
 -- the bytes of another i-node stay where a file is changed
-alone_inode : (geometry : Geometry) (old new : List ℕ) (i j : ℕ) → Fits geometry old → ChangesFileAlone geometry old new i → 1 ≤ i → 1 ≤ j
+pub alone_inode : (geometry : Geometry) (old new : List ℕ) (i j : ℕ) → Fits geometry old → ChangesFileAlone geometry old new i → 1 ≤ i → 1 ≤ j
     → j ≤ geometry.last_inode → j ≢ i → KeepsInode geometry old new j
 alone_inode geometry old new i j fits alone first low high other =
     let start = place_from geometry.edition j in

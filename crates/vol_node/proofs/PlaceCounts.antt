@@ -270,16 +270,6 @@ used_with geometry shapes i shape first last =
     (λ k other. ap (place_count e) (set_other shapes i shape k other)) in
     omega (arith, now, change)
 
--- what the free blocks and those of one file become where it has another shape, for which there is room
-pub free_with : (geometry : Geometry) (shapes : ℕ → Shape) (i : ℕ) (shape : Shape) → 1 ≤ i → i ≤ geometry.last_inode
-    → used_count geometry shapes ≤ geometry.zone_end - geometry.zone_start
-    → place_count geometry.edition shape ≤ free_count geometry shapes + place_count geometry.edition (shapes i)
-    → free_count geometry (set_at shapes i shape) + place_count geometry.edition shape ≡ free_count geometry shapes + place_count geometry.edition (shapes i)
-unfolding free_count
-free_with geometry shapes i shape first last within room =
-    let used = used_with geometry shapes i shape first last in
-    omega (arith, used, within, room)
-
 -- a file that takes n blocks takes them from the free ones
 pub free_less : (geometry : Geometry) (shapes : ℕ → Shape) (i : ℕ) (shape : Shape) (n : ℕ) → 1 ≤ i → i ≤ geometry.last_inode
     → place_count geometry.edition shape ≡ place_count geometry.edition (shapes i) + n

@@ -3,8 +3,8 @@ use Rattle.std.proofs.Common.{◌≡◌, ◌∙◌, sym, ap, refl, ℕ, ◌≤�
 use Rattle.std.specs.Option.{option_map}
 use Rattle.std.proofs.lemmas.Bool.{cases_Bool}
 use Rattle.vol_dir.specs.Tree.{Node, Shape, State}
-use Rattle.vol_node.specs.Edits.{set_at, change_node, put_shape, modified, add_entry, remove_entry, after_write, after_truncate}
-use Rattle.vol_node.specs.Contents.{write_body, empty_body, put_entry, drop_entry}
+use Rattle.vol_node.specs.Edits.{set_at, change_node, put_shape, modified, after_write, after_truncate}
+use Rattle.vol_node.specs.Contents.{write_body, empty_body}
 
 -- one change after another
 map_twice : (f g : Node → Node) (node : Option Node) → option_map f (option_map g node) ≡ option_map (λ x. f (g x)) node
@@ -47,13 +47,3 @@ timed_write state now offset i (byte ∷ bytes) h = change_twice state i _ (modi
 -- a truncation, and then the times
 pub timed_truncate : (state : State) (now i : ℕ) → change_node i (modified now) (empty_body i state) ≡ after_truncate state now i
 timed_truncate state now i = change_twice state i _ (modified now) _
-
--- a new entry, and then the times
-pub timed_add : (state : State) (now d i : ℕ) (name : List ℕ)
-    → change_node d (modified now) (put_entry d name i state) ≡ add_entry now d name i state
-timed_add state now d i name = change_twice state d _ (modified now) _
-
--- an entry gone, and then the times
-pub timed_remove : (state : State) (now d : ℕ) (name : List ℕ)
-    → change_node d (modified now) (drop_entry d name state) ≡ remove_entry now d name state
-timed_remove state now d name = change_twice state d _ (modified now) _

@@ -15,19 +15,19 @@ abbrev pub first_change : Edition → ℕ → Option ℕ
 first_change V6 now = None
 first_change V7 now = Some now
 
--- values by i-number, with another one at i
+-- values by i-number, with another one at i (this project)
 abbrev pub set_at : {X : Type 0} → (ℕ → X) → ℕ → X → ℕ → X
 set_at values i value j = if j == i then value else values j
 
--- the state with another node at i, or with none
+-- the state with another node at i, or with none (this project)
 abbrev pub put_node : ℕ → Option Node → State → State
 put_node i node state = record state { tree = record state.tree { nodes = set_at state.tree.nodes i node } }
 
--- the state with node i changed
+-- the state with node i changed (this project)
 abbrev pub change_node : ℕ → (Node → Node) → State → State
 change_node i change state = put_node i (option_map change (state.tree.nodes i)) state
 
--- the state with another shape at i
+-- the state with another shape at i (this project)
 abbrev pub put_shape : ℕ → Shape → State → State
 put_shape i shape state = record state { shapes = set_at state.shapes i shape }
 

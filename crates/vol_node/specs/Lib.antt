@@ -6,4 +6,5 @@ pub mod Inodes
 pub mod NodeGraphs
 pub mod Nodes
 pub mod Shapes
+pub mod Unused
 pub mod Whole

@@ -6,7 +6,7 @@ use Rattle.vol_dir.specs.Tree.{Body, Node, Tree, State}
 use Rattle.vol_dir.specs.Walk.{map_of}
 use Rattle.vol_dir.specs.Searching.{new_slot}
 
--- what stands for a node where there is none; no walk ends there
+-- what stands for a node where there is none; no walk ends there (this project)
 abbrev pub no_node : Node
 no_node = record { content = Body []; permissions = 0; links = 0; uid = 0; gid = 0; size = 0; accessed = 0; modified = 0; changed = None }
 

@@ -8,6 +8,7 @@ ghost use Rattle.vol_dir.specs.Tree.{state};
 ghost use Rattle.vol_judge.specs.Graph.{graph_of};
 ghost use Rattle.vol_judge.specs.GraphEdits.{IsSameGraph};
 ghost use Rattle.vol_node.specs.Contents.{write_body, empty_body};
+ghost use Rattle.vol_node.specs.Unused.{KeepsUnused};
 ghost use Rattle.vol_node.specs.Whole.{IsWhole, Keeps};
 
 use pdp_words::Image;
@@ -32,6 +33,7 @@ pub fn write_bytes(image: &mut Image, geometry: &Geometry, i: u16, offset: u32, 
     ensures makes { 1 ≤ length bytes.now
         → state geometry.now image.new ≡ write_body i offset bytes.now (state geometry.now image.old) }
     ensures graph { IsSameGraph (graph_of geometry.now image.old) (graph_of geometry.now image.new) }
+    ensures unused { (j : ℕ) → 1 ≤ j → j ≤ geometry.now.last_inode → KeepsUnused geometry.now image.old image.new j }
 {
     write(image, geometry, i, offset, bytes);
 }
@@ -48,6 +50,7 @@ pub fn empty_file(image: &mut Image, geometry: &Geometry, i: u16)
     ensures keeps { Keeps geometry.now image.old image.new }
     ensures makes { state geometry.now image.new ≡ empty_body i (state geometry.now image.old) }
     ensures graph { IsSameGraph (graph_of geometry.now image.old) (graph_of geometry.now image.new) }
+    ensures unused { (j : ℕ) → 1 ≤ j → j ≤ geometry.now.last_inode → KeepsUnused geometry.now image.old image.new j }
 {
     truncate(image, geometry, i);
 }

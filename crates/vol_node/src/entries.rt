@@ -14,6 +14,7 @@ ghost use Rattle.vol_judge.specs.Graph.{graph_of};
 ghost use Rattle.vol_judge.specs.GraphEdits.{ChangesSlot};
 ghost use Rattle.vol_node.specs.Beside.{StaysBeside};
 ghost use Rattle.vol_node.specs.Contents.{put_entry, drop_entry};
+ghost use Rattle.vol_node.specs.Unused.{KeepsUnused};
 ghost use Rattle.vol_node.specs.Whole.{IsWhole, Keeps};
 
 use pdp_words::Image;
@@ -44,6 +45,7 @@ pub fn add_name(image: &mut Image, geometry: &Geometry, dir: u16, name: &[u8], i
         (new_slot (names_in (slots geometry.now image.old dir))) None (Some (name.now, i)) }
     ensures beside { StaysBeside (graph_of geometry.now image.old) (graph_of geometry.now image.new) dir }
     ensures once { HasNamesOnce geometry.now image.new dir }
+    ensures unused { (j : ℕ) → 1 ≤ j → j ≤ geometry.now.last_inode → KeepsUnused geometry.now image.old image.new j }
 {
     add(image, geometry, dir, name, i);
 }
@@ -67,6 +69,7 @@ pub fn remove_name(image: &mut Image, geometry: &Geometry, dir: u16, name: &[u8]
         (option_map (λ i. (name.now, i)) (get (names_of (slots geometry.now image.old dir)) name.now)) None }
     ensures beside { StaysBeside (graph_of geometry.now image.old) (graph_of geometry.now image.new) dir }
     ensures once { HasNamesOnce geometry.now image.new dir }
+    ensures unused { (j : ℕ) → 1 ≤ j → j ≤ geometry.now.last_inode → KeepsUnused geometry.now image.old image.new j }
 {
     remove(image, geometry, dir, name);
 }

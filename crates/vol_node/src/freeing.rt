@@ -9,6 +9,7 @@ ghost use Rattle.vol_judge.specs.Graph.{graph_of};
 ghost use Rattle.vol_node.specs.Alone.{ChangesOnly};
 ghost use Rattle.vol_node.specs.Edits.{remove_node};
 ghost use Rattle.vol_node.specs.NodeGraphs.{DropsNode};
+ghost use Rattle.vol_node.specs.Unused.{IsCleared, KeepsUnused};
 ghost use Rattle.vol_node.specs.Whole.{IsWhole, Keeps};
 
 use pdp_words::Image;
@@ -28,6 +29,8 @@ pub fn free_node(image: &mut Image, geometry: &Geometry, i: u16)
     ensures keeps { Keeps geometry.now image.old image.new }
     ensures makes { state geometry.now image.new ≡ remove_node i (state geometry.now image.old) }
     ensures graph { DropsNode (graph_of geometry.now image.old) (graph_of geometry.now image.new) i }
+    ensures cleared { IsCleared geometry.now image.new i }
+    ensures others { (j : ℕ) → 1 ≤ j → j ≤ geometry.now.last_inode → j ≢ i → KeepsUnused geometry.now image.old image.new j }
 {
     free_blocks(image, geometry, i);
     clear_inode(image, geometry, i);
@@ -41,6 +44,7 @@ fn free_blocks(image: &mut Image, geometry: &Geometry, i: u16)
     requires last { i ≤ geometry.now.last_inode }
     ensures whole { IsWhole geometry.now image.new }
     ensures only { ChangesOnly geometry.now image.old image.new i }
+    ensures unused { (j : ℕ) → 1 ≤ j → j ≤ geometry.now.last_inode → KeepsUnused geometry.now image.old image.new j }
     ensures none { (p : List ℕ) → IsPlaceOf geometry.now image.new i p → named geometry.now image.new i p ≡ 0 }
 {
     match mode(image, geometry, i).kind(geometry.edition) {

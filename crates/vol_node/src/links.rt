@@ -1,5 +1,5 @@
 //! The link counts.
-ghost use Rattle.std.specs.Prelude.{◌≡◌, ◌≢◌, ◌+◌, ◌-◌, ◌<◌, ◌≤◌};
+ghost use Rattle.std.specs.Prelude.{◌≡◌, ◌≢◌, ℕ, ◌+◌, ◌-◌, ◌<◌, ◌≤◌};
 ghost use Rattle.vol_layout.specs.Edition.{constants};
 ghost use Rattle.vol_layout.specs.Inode.{inode_of};
 ghost use Rattle.vol_layout.specs.declared.mode.Kind.TheVariants as kinds;
@@ -8,6 +8,7 @@ ghost use Rattle.vol_dir.specs.Tree.{state};
 ghost use Rattle.vol_judge.specs.Graph.{graph_of};
 ghost use Rattle.vol_node.specs.Edits.{add_link, change_node, drop_link, with_links};
 ghost use Rattle.vol_node.specs.NodeGraphs.{SetsLinks};
+ghost use Rattle.vol_node.specs.Unused.{KeepsUnused};
 ghost use Rattle.vol_node.specs.Whole.{IsWhole, Keeps};
 
 use crate::times::stamp;
@@ -25,6 +26,7 @@ pub fn put_links(image: &mut Image, geometry: &Geometry, i: u16, links: u16, now
     ensures keeps { Keeps geometry.now image.old image.new }
     ensures makes { state geometry.now image.new ≡ change_node i (with_links now links) (state geometry.now image.old) }
     ensures graph { SetsLinks (graph_of geometry.now image.old) (graph_of geometry.now image.new) i links }
+    ensures unused { (j : ℕ) → 1 ≤ j → j ≤ geometry.now.last_inode → KeepsUnused geometry.now image.old image.new j }
 {
     let node = inode(image, geometry, i);
     let linked = Inode {
@@ -46,6 +48,7 @@ pub fn add_link(image: &mut Image, geometry: &Geometry, i: u16, now: u32)
     ensures makes { state geometry.now image.new ≡ add_link now i (state geometry.now image.old) }
     ensures graph { SetsLinks (graph_of geometry.now image.old) (graph_of geometry.now image.new) i
         ((inode_of geometry.now.edition image.old i).links + 1) }
+    ensures unused { (j : ℕ) → 1 ≤ j → j ≤ geometry.now.last_inode → KeepsUnused geometry.now image.old image.new j }
 {
     let links = inode(image, geometry, i).links;
     put_links(image, geometry, i, links + 1, now);
@@ -62,6 +65,7 @@ pub fn drop_link(image: &mut Image, geometry: &Geometry, i: u16, now: u32)
     ensures makes { state geometry.now image.new ≡ drop_link now i (state geometry.now image.old) }
     ensures graph { SetsLinks (graph_of geometry.now image.old) (graph_of geometry.now image.new) i
         ((inode_of geometry.now.edition image.old i).links - 1) }
+    ensures unused { (j : ℕ) → 1 ≤ j → j ≤ geometry.now.last_inode → KeepsUnused geometry.now image.old image.new j }
 {
     let links = inode(image, geometry, i).links;
     put_links(image, geometry, i, links - 1, now);

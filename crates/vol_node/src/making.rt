@@ -1,7 +1,9 @@
 //! New nodes, and the i-numbers that they get.
-ghost use Rattle.std.specs.Prelude.{◌≡◌, ℕ, ◌+◌, ◌≤◌, [], Some, None, IfSome, slice_index};
+ghost use Rattle.std.specs.Prelude.{◌≡◌, ◌≢◌, ℕ, ◌+◌, ◌≤◌, [], Some, None, IfSome, slice_index};
+ghost use Rattle.pdp_words.specs.Words.{SameOutside};
 ghost use Rattle.vol_layout.specs.Edition.{constants};
 ghost use Rattle.vol_layout.specs.Inode.{inode_place};
+ghost use Rattle.vol_layout.specs.Super.{cache_head};
 ghost use Rattle.vol_layout.specs.declared.edition.Edition.TheVariants as editions;
 ghost use Rattle.vol_layout.specs.declared.mode.Kind.TheVariants as kinds;
 ghost use Rattle.vol_free.specs.Numbers.{IsFreeNumber};
@@ -11,6 +13,7 @@ ghost use Rattle.vol_judge.specs.GraphEdits.{IsSameGraph};
 ghost use Rattle.vol_node.specs.Edits.{new_node, put_node, put_shape};
 ghost use Rattle.vol_node.specs.Inodes.{IsNewInode};
 ghost use Rattle.vol_node.specs.NodeGraphs.{AddsNode};
+ghost use Rattle.vol_node.specs.Unused.{KeepsUnused};
 ghost use Rattle.vol_node.specs.Whole.{IsWhole, Keeps};
 
 use pdp_words::Image;
@@ -27,6 +30,8 @@ pub fn take_number(image: &mut Image, geometry: &Geometry) -> Option<u16>
     ensures keeps { Keeps geometry.now image.old image.new }
     ensures makes { state geometry.now image.new ≡ state geometry.now image.old }
     ensures graph { IsSameGraph (graph_of geometry.now image.old) (graph_of geometry.now image.new) }
+    ensures others { SameOutside image.old image.new
+        (cache_head geometry.now.edition) (cache_head geometry.now.edition + 202) }
 {
     take_inode(image, geometry)
 }
@@ -52,6 +57,7 @@ pub fn make_file(
         (state geometry.now image.old)) }
     ensures graph { AddsNode (graph_of geometry.now image.old) (graph_of geometry.now image.new) i kinds.Regular 1 }
     ensures unused { geometry.now.edition ≡ editions.V7 → slice_index image.new (inode_place editions.V7 i + 51) ≡ 0 }
+    ensures others { (j : ℕ) → 1 ≤ j → j ≤ geometry.now.last_inode → j ≢ i → KeepsUnused geometry.now image.old image.new j }
 {
     let mode = Mode::regular(geometry.edition, permissions);
     let node = new_inode(geometry.edition, mode, 1, owner, now);
@@ -80,6 +86,7 @@ pub fn make_directory(
         (state geometry.now image.old)) }
     ensures graph { AddsNode (graph_of geometry.now image.old) (graph_of geometry.now image.new) i kinds.Directory 2 }
     ensures unused { geometry.now.edition ≡ editions.V7 → slice_index image.new (inode_place editions.V7 i + 51) ≡ 0 }
+    ensures others { (j : ℕ) → 1 ≤ j → j ≤ geometry.now.last_inode → j ≢ i → KeepsUnused geometry.now image.old image.new j }
 {
     let mode = Mode::directory(geometry.edition, permissions);
     let node = new_inode(geometry.edition, mode, 2, owner, now);

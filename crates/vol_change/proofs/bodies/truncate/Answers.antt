@@ -1,5 +1,7 @@
+use Rattle.vol_node.proofs.UnusedBytes.{unused_then}
 use Rattle.vol_change.proofs.CallSteps.{changed, made_truncate}
 use Rattle.vol_change.proofs.ReadyLaws.{ready_whole}
+use Rattle.vol_change.proofs.UnusedNodes.{time_unused}
 use Rattle.vol_change.proofs.bodies.truncate.Goals as goal
 
 -- src/bodies.rt:49:5
@@ -15,4 +17,8 @@ returns c =
           (record { keeps = c.empty_file.ensures.keeps; makes = c.empty_file.ensures.makes; graph = c.empty_file.ensures.graph })
           (record { keeps = c.touch.ensures.keeps; makes = c.touch.ensures.makes; graph = c.touch.ensures.graph }))
           (record { keeps = c.put_time.ensures.keeps; makes = c.put_time.ensures.makes; graph = c.put_time.ensures.graph });
+      unused = λ j low high.
+          unused_then c.args.geometry.now c.args.image.now c.empty_file.new.image c.put_time.new.image j (c.empty_file.ensures.unused j low high)
+          (unused_then c.args.geometry.now c.empty_file.new.image c.touch.new.image c.put_time.new.image j (c.touch.ensures.unused j low high)
+          (time_unused c.args.geometry.now c.touch.new.image c.put_time.new.image j c.put_time.ensures.others));
     }

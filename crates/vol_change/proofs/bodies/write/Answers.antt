@@ -1,13 +1,16 @@
-use Rattle.std.proofs.Common.{◌≡◌, ap, ◌≤◌, length, arith}
+use Rattle.std.proofs.Common.{◌≡◌, ap, refl, ℕ, ◌≤◌, length, arith}
 use Rattle.std.proofs.lemmas.Bool.Decides.{nat_tests}
 use Rattle.vol_layout.specs.Names.{IsFile}
 use Rattle.vol_layout.specs.Places.{has_places}
 use Rattle.vol_file.specs.Shape.{touched}
 use Rattle.vol_dir.specs.Tree.{tree, state}
 use Rattle.vol_node.specs.Edits.{after_write}
+use Rattle.vol_node.specs.Unused.{KeepsUnused}
 use Rattle.vol_node.proofs.FileRooms.{file_room}
+use Rattle.vol_node.proofs.UnusedBytes.{unused_then, nothing_unused}
 use Rattle.vol_change.proofs.CallSteps.{HasMade, changed, made_write, made_none}
 use Rattle.vol_change.proofs.ReadyLaws.{ready_whole}
+use Rattle.vol_change.proofs.UnusedNodes.{time_unused}
 use Rattle.vol_change.proofs.bodies.write.Goals as goal
 use Rattle.vol_change.proofs.bodies.write.Goals.{After-put_time, then-not-is_empty, else-not-is_empty}
 
@@ -50,9 +53,23 @@ written c = elim c.if-not-is_empty.branch [
       rw w.image-is (made_none c.args.geometry.now c.args.image.now c.args.bytes.now c.args.i c.args.offset c.args.moment c.requires.ready none)
 ]
 
+-- and what has no use
+unused : (c : After-put_time) (j : ℕ) → 1 ≤ j → j ≤ c.args.geometry.now.last_inode
+    → KeepsUnused c.args.geometry.now c.args.image.now c.if-not-is_empty.image j
+unused c j low high = elim c.if-not-is_empty.branch [
+  | then-not-is_empty w ↦
+      rw w.image-is
+      (unused_then c.args.geometry.now c.args.image.now w.write_bytes.new.image w.touch.new.image j (w.write_bytes.ensures.unused j low high)
+      (w.touch.ensures.unused j low high))
+  | else-not-is_empty w ↦ rw w.image-is (nothing_unused c.args.geometry.now c.args.image.now c.args.image.now j refl)
+]
+
 -- src/bodies.rt:20:1
 pub returns : goal.returns
 returns c = record {
   changes = changed _ _ _ _ _ c.args.moment c.requires.ready (written c)
       (record { keeps = c.put_time.ensures.keeps; makes = c.put_time.ensures.makes; graph = c.put_time.ensures.graph });
+  unused = λ j low high.
+      unused_then c.args.geometry.now c.args.image.now c.if-not-is_empty.image c.put_time.new.image j (unused c j low high)
+      (time_unused c.args.geometry.now c.if-not-is_empty.image c.put_time.new.image j c.put_time.ensures.others);
 }

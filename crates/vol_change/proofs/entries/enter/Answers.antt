@@ -10,6 +10,7 @@ use Rattle.vol_node.proofs.FileRooms.{entry_room}
 use Rattle.vol_node.proofs.WholeLaws.{keeps_then}
 use Rattle.vol_node.proofs.WrittenStates.{IsKind}
 use Rattle.vol_change.proofs.ReadyLaws.{slot_same, beside_same}
+use Rattle.vol_node.proofs.UnusedBytes.{unused_then}
 use Rattle.vol_change.proofs.entries.enter.Goals as goal
 
 pub add_name-requires-clause-new : goal.add_name-requires-clause-new
@@ -48,3 +49,8 @@ pub returns-clause-beside : goal.returns-clause-beside
 returns-clause-beside c =
     beside_same (graph_of c.args.geometry.now c.args.image.now) (graph_of c.args.geometry.now c.add_name.new.image)
     (graph_of c.args.geometry.now c.touch.new.image) c.args.dir c.add_name.ensures.beside c.touch.ensures.graph
+
+pub returns-clause-unused : goal.returns-clause-unused
+returns-clause-unused c = λ j first last.
+    unused_then c.args.geometry.now c.args.image.now c.add_name.new.image c.touch.new.image j (c.add_name.ensures.unused j first last)
+    (c.touch.ensures.unused j first last)

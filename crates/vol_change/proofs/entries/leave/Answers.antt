@@ -6,6 +6,7 @@ use Rattle.vol_dir.specs.Searching.{slot_named}
 use Rattle.vol_judge.specs.Graph.{graph_of}
 use Rattle.vol_node.proofs.WholeLaws.{keeps_then}
 use Rattle.vol_change.proofs.ReadyLaws.{slot_same, beside_same}
+use Rattle.vol_node.proofs.UnusedBytes.{unused_then}
 use Rattle.vol_change.proofs.entries.leave.Goals as goal
 
 pub returns-clause-keeps : goal.returns-clause-keeps
@@ -23,3 +24,8 @@ pub returns-clause-beside : goal.returns-clause-beside
 returns-clause-beside c =
     beside_same (graph_of c.args.geometry.now c.args.image.now) (graph_of c.args.geometry.now c.remove_name.new.image)
     (graph_of c.args.geometry.now c.touch.new.image) c.args.dir c.remove_name.ensures.beside c.touch.ensures.graph
+
+pub returns-clause-unused : goal.returns-clause-unused
+returns-clause-unused c = λ j first last.
+    unused_then c.args.geometry.now c.args.image.now c.remove_name.new.image c.touch.new.image j (c.remove_name.ensures.unused j first last)
+    (c.touch.ensures.unused j first last)

@@ -1,7 +1,9 @@
+use Rattle.vol_node.proofs.UnusedBytes.{unused_then}
 use Rattle.vol_change.proofs.CallSteps.{changed}
 use Rattle.vol_change.proofs.EntryNodes.{name_there, directory_above}
 use Rattle.vol_change.proofs.LeftNodes.{left_linked, made_emptied}
 use Rattle.vol_change.proofs.ReadyLaws.{ready_whole, ready_slots, ready_once}
+use Rattle.vol_change.proofs.UnusedNodes.{time_unused, time_cleared}
 use Rattle.vol_change.proofs.lost_directories.rmdir.Goals as goal
 
 -- src/lost_directories.rt:30:5
@@ -58,4 +60,10 @@ returns c = record {
       }) c.requires.plain c.requires.gone c.requires.only c.drop_link.ensures.keeps c.drop_link.ensures.makes c.drop_link.ensures.graph
       c.free_node.ensures.keeps c.free_node.ensures.makes c.free_node.ensures.graph)
       (record { keeps = c.put_time.ensures.keeps; makes = c.put_time.ensures.makes; graph = c.put_time.ensures.graph });
+  cleared = time_cleared c.args.geometry.now c.free_node.new.image c.put_time.new.image c.args.i c.put_time.ensures.others c.free_node.ensures.cleared;
+  others = λ j low high other.
+      unused_then c.args.geometry.now c.args.image.now c.leave.new.image c.put_time.new.image j (c.leave.ensures.unused j low high)
+      (unused_then c.args.geometry.now c.leave.new.image c.drop_link.new.image c.put_time.new.image j (c.drop_link.ensures.unused j low high)
+      (unused_then c.args.geometry.now c.drop_link.new.image c.free_node.new.image c.put_time.new.image j (c.free_node.ensures.others j low high other)
+      (time_unused c.args.geometry.now c.free_node.new.image c.put_time.new.image j c.put_time.ensures.others)));
 }

@@ -1,12 +1,15 @@
-use Rattle.std.proofs.Common.{◌<◌, ◌≤◌, arith}
+use Rattle.std.proofs.Common.{◌≢◌, ℕ, ◌<◌, ◌≤◌, arith}
 use Rattle.std.proofs.lemmas.Bool.Decides.{nat_tests}
 use Rattle.vol_layout.specs.Inode.{inode_of}
 use Rattle.vol_dir.specs.Tree.{state}
+use Rattle.vol_node.specs.Unused.{IsCleared, KeepsUnused}
+use Rattle.vol_node.proofs.UnusedBytes.{unused_then}
 use Rattle.vol_change.specs.Effects.{after_unlink}
 use Rattle.vol_change.proofs.CallSteps.{HasMade, changed}
 use Rattle.vol_change.proofs.EntryNodes.{name_there, named_used, used_first, file_above}
-use Rattle.vol_change.proofs.LeftNodes.{LeavesEntry, left_used, made_unnamed, made_unlinked}
+use Rattle.vol_change.proofs.LeftNodes.{LeavesEntry, left_same, left_used, made_unnamed, made_unlinked}
 use Rattle.vol_change.proofs.ReadyLaws.{ready_whole, ready_slots, ready_once}
+use Rattle.vol_change.proofs.UnusedNodes.{time_unused, time_cleared}
 use Rattle.vol_change.proofs.lost_names.unlink.Goals as goal
 use Rattle.vol_change.proofs.lost_names.unlink.Goals.{After-put_time, then-inode-le1, else-inode-le1}
 
@@ -108,9 +111,56 @@ unlinked c = elim c.if-inode-le1.branch [
       (leaves c) c.requires.other most w.drop_link.ensures.keeps w.drop_link.ensures.makes w.drop_link.ensures.graph)
 ]
 
+-- with its last link the i-node is cleared
+cleared : (c : After-put_time) → (inode_of c.args.geometry.now.edition c.args.image.now c.args.i).links ≤ 1
+    → IsCleared c.args.geometry.now c.if-inode-le1.image c.args.i
+cleared c last = elim c.if-inode-le1.branch [
+  | then-inode-le1 w ↦ rw w.image-is w.free_node.ensures.cleared
+  | else-inode-le1 w ↦
+      let value = c.inode.ensures.value in
+      let most : 1 < (inode_of c.args.geometry.now.edition c.leave.new.image c.args.i).links =
+      rw (← value) (grind (arith, nat_tests)) in
+      let same = left_same c.args.geometry.now c.args.image.now c.leave.new.image c.args.dir c.args.i c.args.name.now c.args.moment (leaves c) in
+      absurd (omega (arith, most, last, same))
+]
+
+-- with another it keeps what has no use
+unused : (c : After-put_time) → 1 < (inode_of c.args.geometry.now.edition c.args.image.now c.args.i).links → 1 ≤ c.args.i
+    → c.args.i ≤ c.args.geometry.now.last_inode → KeepsUnused c.args.geometry.now c.leave.new.image c.if-inode-le1.image c.args.i
+unused c more low high = elim c.if-inode-le1.branch [
+  | then-inode-le1 w ↦
+      let value = c.inode.ensures.value in
+      let last : (inode_of c.args.geometry.now.edition c.leave.new.image c.args.i).links ≤ 1 =
+      rw (← value) (grind (arith, nat_tests)) in
+      let same = left_same c.args.geometry.now c.args.image.now c.leave.new.image c.args.dir c.args.i c.args.name.now c.args.moment (leaves c) in
+      absurd (omega (arith, more, last, same))
+  | else-inode-le1 w ↦ rw w.image-is (w.drop_link.ensures.unused c.args.i low high)
+]
+
+-- and so do the others
+others : (c : After-put_time) (j : ℕ) → 1 ≤ j → j ≤ c.args.geometry.now.last_inode → j ≢ c.args.i
+    → KeepsUnused c.args.geometry.now c.leave.new.image c.if-inode-le1.image j
+others c j low high other = elim c.if-inode-le1.branch [
+  | then-inode-le1 w ↦ rw w.image-is (w.free_node.ensures.others j low high other)
+  | else-inode-le1 w ↦ rw w.image-is (w.drop_link.ensures.unused j low high)
+]
+
 -- src/lost_names.rt:23:1
 pub returns : goal.returns
 returns c = record {
   changes = changed _ _ _ _ _ c.args.moment c.requires.ready (unlinked c)
       (record { keeps = c.put_time.ensures.keeps; makes = c.put_time.ensures.makes; graph = c.put_time.ensures.graph });
+  cleared = λ last.
+      time_cleared c.args.geometry.now c.if-inode-le1.image c.put_time.new.image c.args.i c.put_time.ensures.others (cleared c last);
+  unused = λ more.
+      let used = named_used c.args.geometry.now c.args.image.now c.args.name.now c.args.dir c.args.i c.requires.ready c.requires.directory c.requires.named in
+      unused_then c.args.geometry.now c.args.image.now c.leave.new.image c.put_time.new.image c.args.i
+      (c.leave.ensures.unused c.args.i (used_first _ _ _ used) used.last)
+      (unused_then c.args.geometry.now c.leave.new.image c.if-inode-le1.image c.put_time.new.image c.args.i
+      (unused c more (used_first _ _ _ used) used.last)
+      (time_unused c.args.geometry.now c.if-inode-le1.image c.put_time.new.image c.args.i c.put_time.ensures.others));
+  others = λ j low high other.
+      unused_then c.args.geometry.now c.args.image.now c.leave.new.image c.put_time.new.image j (c.leave.ensures.unused j low high)
+      (unused_then c.args.geometry.now c.leave.new.image c.if-inode-le1.image c.put_time.new.image j (others c j low high other)
+      (time_unused c.args.geometry.now c.if-inode-le1.image c.put_time.new.image j c.put_time.ensures.others));
 }

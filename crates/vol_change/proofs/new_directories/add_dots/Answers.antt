@@ -9,6 +9,7 @@ use Rattle.vol_node.specs.Contents.{put_entry}
 use Rattle.vol_node.proofs.WholeLaws.{keeps_then}
 use Rattle.vol_change.proofs.DotGraphs.{dots_added}
 use Rattle.vol_change.proofs.DotImages.{names_held, size_held, first_slot, no_entry, none_twice, dots_fit, dot_room, dot_there, second_slot, dot_dot_new, dot_dot_room, dots_size}
+use Rattle.vol_node.proofs.UnusedBytes.{unused_then}
 use Rattle.vol_change.proofs.new_directories.add_dots.Goals as goal
 
 pub add_name-requires-clause-slots : goal.add_name-requires-clause-slots
@@ -70,3 +71,8 @@ returns-clause-graph c =
     (dots_size geometry mid new i c.args.dir dotted c.add_name-2.ensures.makes c.add_name-2.ensures.beside)
     (λ s. ap (λ k. entry_by k geometry old i s) (directory_to geometry old i c.requires.directory)
     ∙ no_entry geometry old i s no_shape c.requires.directory c.requires.empty)
+
+pub returns-clause-unused : goal.returns-clause-unused
+returns-clause-unused c = λ j first last.
+    unused_then c.args.geometry.now c.args.image.now c.add_name.new.image c.add_name-2.new.image j (c.add_name.ensures.unused j first last)
+    (c.add_name-2.ensures.unused j first last)

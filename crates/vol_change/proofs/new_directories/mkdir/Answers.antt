@@ -8,6 +8,7 @@ use Rattle.vol_judge.specs.Graph.{graph_of}
 use Rattle.vol_judge.proofs.GraphParts.{not_free}
 use Rattle.vol_judge.proofs.ImageGraphs.{directory_to, directory_from}
 use Rattle.vol_node.specs.Edits.{at_time, put_node}
+use Rattle.vol_node.proofs.UnusedBytes.{unused_then}
 use Rattle.vol_node.proofs.WholeLaws.{keeps_then}
 use Rattle.vol_change.specs.Effects.{after_mkdir}
 use Rattle.vol_change.specs.Ready.{TakesName, entry_need, free_in}
@@ -18,6 +19,7 @@ use Rattle.vol_change.proofs.MadeDirectories.{directory_ready, room_entered, mad
 use Rattle.vol_change.proofs.NamedNodes.{not_made, made_keeps}
 use Rattle.vol_change.proofs.ReadyLaws.{ready_whole, ready_same, directory_kept}
 use Rattle.vol_change.proofs.SideStates.{made_state, takes_ready, takes_kept}
+use Rattle.vol_change.proofs.UnusedNodes.{time_unused}
 use Rattle.vol_change.proofs.new_directories.mkdir.Goals as goal
 
 pub pick_number-made-requires-clause-whole : goal.pick_number-made-requires-clause-whole
@@ -145,3 +147,30 @@ returns-clause-changes c =
           c.make_directory.ensures.makes c.enter.ensures.makes c.add_dots.ensures.makes c.add_link.ensures.makes
           ∙ ap (λ (s : State). after_mkdir s c.args.node.owner moment c.args.node.permissions i d name) c.pick_number-made.ensures.makes);
     }
+
+pub returns-clause-unused : goal.returns-clause-unused
+returns-clause-unused c = λ v7.
+    let geometry = c.args.geometry.now in
+    let i = c.pick_number-made.result in
+    let free = c.pick_number-made.ensures.free in
+    let first : 1 ≤ i = omega (arith, free.above) in
+    (time_unused geometry c.add_link.new.image c.put_time.new.image i c.put_time.ensures.others).stays v7
+    ∙ ((c.add_link.ensures.unused i first free.within).stays v7
+    ∙ ((c.add_dots.ensures.unused i first free.within).stays v7
+    ∙ ((c.enter.ensures.unused i first free.within).stays v7 ∙ c.make_directory.ensures.unused v7)))
+
+pub returns-clause-others : goal.returns-clause-others
+returns-clause-others c = λ j low high other.
+    let geometry = c.args.geometry.now in
+    let picked = c.pick_number-made.new.image in
+    let bare = c.make_directory.new.image in
+    let named = c.enter.new.image in
+    let dotted = c.add_dots.new.image in
+    let linked = c.add_link.new.image in
+    let new = c.put_time.new.image in
+    unused_then geometry c.args.image.now picked new j (c.pick_number-made.ensures.unused j low high)
+    (unused_then geometry picked bare new j (c.make_directory.ensures.others j low high other)
+    (unused_then geometry bare named new j (c.enter.ensures.unused j low high)
+    (unused_then geometry named dotted new j (c.add_dots.ensures.unused j low high)
+    (unused_then geometry dotted linked new j (c.add_link.ensures.unused j low high)
+    (time_unused geometry linked new j c.put_time.ensures.others)))))

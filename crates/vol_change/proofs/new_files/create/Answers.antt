@@ -7,12 +7,14 @@ use Rattle.vol_dir.specs.Tree.{Body, State, no_shape, tree}
 use Rattle.vol_judge.specs.Graph.{graph_of}
 use Rattle.vol_judge.proofs.ImageGraphs.{directory_to}
 use Rattle.vol_node.specs.Edits.{add_entry, at_time, new_node, put_node, put_shape}
+use Rattle.vol_node.proofs.UnusedBytes.{unused_then}
 use Rattle.vol_node.proofs.WholeLaws.{keeps_then}
 use Rattle.vol_change.specs.Ready.{TakesName, entry_need, free_in}
 use Rattle.vol_change.proofs.FreeKinds.{free_kept}
 use Rattle.vol_change.proofs.NamedNodes.{not_made, made_keeps, file_added, file_ready}
 use Rattle.vol_change.proofs.ReadyLaws.{ready_whole, ready_same, directory_kept}
 use Rattle.vol_change.proofs.SideStates.{made_state, takes_ready, takes_kept}
+use Rattle.vol_change.proofs.UnusedNodes.{time_unused}
 use Rattle.vol_change.proofs.new_files.create.Goals as goal
 
 pub pick_number-made-requires-clause-whole : goal.pick_number-made-requires-clause-whole
@@ -88,3 +90,22 @@ returns-clause-changes c =
           ∙ ap (add_entry moment d name i)
           (c.make_file.ensures.makes ∙ ap (λ (s : State). put_shape i no_shape (put_node i (Some node) s)) c.pick_number-made.ensures.makes));
     }
+
+pub returns-clause-unused : goal.returns-clause-unused
+returns-clause-unused c = λ v7.
+    let geometry = c.args.geometry.now in
+    let i = c.pick_number-made.result in
+    let free = c.pick_number-made.ensures.free in
+    (time_unused geometry c.enter.new.image c.put_time.new.image i c.put_time.ensures.others).stays v7
+    ∙ ((c.enter.ensures.unused i (omega (arith, free.above)) free.within).stays v7 ∙ c.make_file.ensures.unused v7)
+
+pub returns-clause-others : goal.returns-clause-others
+returns-clause-others c = λ j low high other.
+    let geometry = c.args.geometry.now in
+    let picked = c.pick_number-made.new.image in
+    let mid = c.make_file.new.image in
+    let entered = c.enter.new.image in
+    let new = c.put_time.new.image in
+    unused_then geometry c.args.image.now picked new j (c.pick_number-made.ensures.unused j low high)
+    (unused_then geometry picked mid new j (c.make_file.ensures.others j low high other)
+    (unused_then geometry mid entered new j (c.enter.ensures.unused j low high) (time_unused geometry entered new j c.put_time.ensures.others)))

@@ -9,11 +9,13 @@ use Rattle.vol_dir.specs.Tree.{tree}
 use Rattle.vol_judge.specs.Graph.{graph_of}
 use Rattle.vol_judge.proofs.ImageGraphs.{directory_to, kind_inside}
 use Rattle.vol_node.specs.Edits.{add_entry, at_time}
+use Rattle.vol_node.proofs.UnusedBytes.{unused_then}
 use Rattle.vol_node.proofs.WholeLaws.{keeps_then}
 use Rattle.vol_change.proofs.NamedNodes.{linked_keeps, link_added, link_ready}
 use Rattle.vol_change.proofs.NodeLinks.{links_is}
 use Rattle.vol_change.proofs.ReadyLaws.{ready_whole, ready_same}
 use Rattle.vol_change.proofs.SideStates.{takes_ready, takes_kept}
+use Rattle.vol_change.proofs.UnusedNodes.{time_unused}
 use Rattle.vol_change.proofs.new_names.link.Goals as goal
 
 pub add_link-requires-clause-whole : goal.add_link-requires-clause-whole
@@ -81,4 +83,7 @@ returns c =
         makes = c.put_time.ensures.makes
             ∙ ap (at_time c.args.moment) (c.enter.ensures.makes ∙ ap (add_entry c.args.moment d name i) c.add_link.ensures.makes);
       };
+      unused = λ j low high.
+          unused_then geometry old mid new j (c.add_link.ensures.unused j low high)
+          (unused_then geometry mid entered new j (c.enter.ensures.unused j low high) (time_unused geometry entered new j c.put_time.ensures.others));
     }

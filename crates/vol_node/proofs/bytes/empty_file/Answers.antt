@@ -1,4 +1,5 @@
 use Rattle.vol_node.proofs.FileGraphs.{regular_graph}
+use Rattle.vol_node.proofs.UnusedBytes.{file_unused}
 use Rattle.vol_node.proofs.WrittenStates.{truncated_kind, truncated_state, truncates_keeps}
 use Rattle.vol_node.proofs.bytes.empty_file.Goals as goal
 
@@ -20,3 +21,8 @@ returns-clause-graph c =
     c.requires.first c.requires.regular
     (truncated_kind c.args.geometry.now c.args.image.now c.truncate.new.image c.requires.whole.blocks c.args.i
     (record { first = c.requires.first; last = c.requires.last; kind = c.requires.regular }) cuts)
+
+pub returns-clause-unused : goal.returns-clause-unused
+returns-clause-unused c = λ j first last.
+    file_unused c.args.geometry.now c.args.image.now c.truncate.new.image c.args.i j c.requires.whole.sound.fits
+    (c.truncate.ensures.truncated c.requires.whole.blocks c.requires.whole.sound).alone c.requires.first first last

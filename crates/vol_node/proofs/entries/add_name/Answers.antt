@@ -11,6 +11,7 @@ use Rattle.vol_dir.proofs.SlotReading.{slot_is}
 use Rattle.vol_judge.proofs.EditedGraphs.{changes_slot}
 use Rattle.vol_node.proofs.EntryStates.{added_state}
 use Rattle.vol_node.proofs.FileGraphs.{directory_beside}
+use Rattle.vol_node.proofs.UnusedBytes.{file_unused}
 use Rattle.vol_node.proofs.WrittenStates.{IsKind, writes_keeps, written_kind}
 use Rattle.vol_node.proofs.entries.add_name.Goals as goal
 
@@ -38,4 +39,5 @@ returns c =
           c.requires.greatest writes);
       beside = directory_beside geometry old new d whole.sound.fits writes.alone c.requires.first kind;
       once = c.add.ensures.once;
+      unused = λ j first last. file_unused geometry old new d j whole.sound.fits writes.alone c.requires.first first last;
     }

@@ -10,6 +10,7 @@ use Rattle.vol_dir.proofs.GoneEntries.{removes}
 use Rattle.vol_judge.proofs.EditedGraphs.{changes_slot}
 use Rattle.vol_node.proofs.EntryStates.{named_slot, removed_state}
 use Rattle.vol_node.proofs.FileGraphs.{directory_beside}
+use Rattle.vol_node.proofs.UnusedBytes.{file_unused}
 use Rattle.vol_node.proofs.WrittenStates.{IsKind, writes_keeps, written_kind}
 use Rattle.vol_node.proofs.entries.remove_name.Goals as goal
 
@@ -37,4 +38,5 @@ returns c =
           (removes geometry old new whole.blocks d s file whole.sound c.requires.slots named.within writes);
       beside = directory_beside geometry old new d whole.sound.fits writes.alone c.requires.first kind;
       once = c.remove.ensures.once;
+      unused = λ j first last. file_unused geometry old new d j whole.sound.fits writes.alone c.requires.first first last;
     }

@@ -1,4 +1,7 @@
+use Rattle.std.proofs.Common.{◌+◌, arith}
+use Rattle.vol_layout.specs.Super.{cache_head}
 use Rattle.vol_node.proofs.FreedNodes.{FreesNode, given_inside, freed_keeps, freed_makes, freed_graph}
+use Rattle.vol_node.proofs.UnusedBytes.{unused_then, other_unused, low_unused, cleared_by, cleared_still, cache_low}
 use Rattle.vol_node.proofs.freeing.free_node.Goals as goal
 use Rattle.vol_node.proofs.freeing.free_node.Goals.{After-give_inode}
 
@@ -27,3 +30,22 @@ returns-clause-makes c = freed_makes _ _ _ _ _ _ (frees c)
 -- src/freeing.rt:24:1
 pub returns-clause-graph : goal.returns-clause-graph
 returns-clause-graph c = freed_graph _ _ _ _ _ _ (frees c)
+
+-- its i-node is all zeros
+pub returns-clause-cleared : goal.returns-clause-cleared
+returns-clause-cleared c =
+    let geometry = c.args.geometry.now in
+    cleared_still geometry c.clear_inode.new.image c.give_inode.new.image c.args.i (cache_head geometry.edition) (cache_head geometry.edition + 202)
+    (frees c).given (cache_low geometry.edition) (cleared_by geometry c.clear_inode.new.image c.args.i (frees c).zero)
+
+-- and the others keep their unused byte
+pub returns-clause-others : goal.returns-clause-others
+returns-clause-others c = λ j first last other.
+    let geometry = c.args.geometry.now in
+    let old = c.args.image.now in
+    let mid = c.free_blocks.new.image in
+    let low = c.clear_inode.new.image in
+    let new = c.give_inode.new.image in
+    unused_then geometry old mid new j (c.free_blocks.ensures.unused j first last)
+    (unused_then geometry mid low new j (other_unused geometry mid low c.args.i j (omega (arith, c.requires.above)) first other (frees c).cleared)
+    (low_unused geometry low new j (cache_head geometry.edition) (cache_head geometry.edition + 202) (frees c).given (cache_low geometry.edition)))

@@ -8,6 +8,7 @@ use Rattle.vol_judge.specs.Graph.{graph_of}
 use Rattle.vol_node.specs.NodeGraphs.{AddsNode}
 use Rattle.vol_node.proofs.MadeNodes.{MakesInode, made_keeps, directory_makes, made_graph}
 use Rattle.vol_node.proofs.NewInodes.{storable_new, reads_new, makes_new, unused_zero}
+use Rattle.vol_node.proofs.UnusedBytes.{other_unused}
 use Rattle.vol_node.proofs.making.make_directory.Goals as goal
 use Rattle.vol_node.proofs.making.make_directory.Goals.{After-put_inode}
 
@@ -45,3 +46,7 @@ returns-clause-graph c =
 pub returns-clause-unused : goal.returns-clause-unused
 returns-clause-unused c v7 =
     unused_zero c.args.geometry.now.edition c.clear_inode.new.image c.put_inode.new.image c.args.i v7 c.clear_inode.ensures.zero (c.put_inode.ensures.unused v7)
+
+pub returns-clause-others : goal.returns-clause-others
+returns-clause-others c = λ j first last other.
+    other_unused c.args.geometry.now c.args.image.now c.put_inode.new.image c.args.i j (omega (arith, c.requires.free.above)) first other (makes c).same

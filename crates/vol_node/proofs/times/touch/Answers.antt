@@ -6,6 +6,7 @@ use Rattle.vol_dir.specs.Tree.{node_with}
 use Rattle.vol_node.specs.Edits.{modified}
 use Rattle.vol_node.proofs.ChangedInodes.{storable_changed, puts_changed}
 use Rattle.vol_node.proofs.ListWrites.{PutsInode, put_keeps, put_makes, put_same}
+use Rattle.vol_node.proofs.UnusedBytes.{put_unused}
 use Rattle.vol_node.proofs.times.touch.Goals as goal
 use Rattle.vol_node.proofs.times.touch.Goals.{After-put_inode}
 
@@ -42,3 +43,8 @@ pub returns-clause-graph : goal.returns-clause-graph
 returns-clause-graph c =
     put_same c.args.geometry.now c.args.image.now c.put_inode.new.image c.args.i (put_node c) c.requires.whole (puts c)
     (ap (λ node. node.links) c.inode-node.ensures.value)
+
+pub returns-clause-unused : goal.returns-clause-unused
+returns-clause-unused c = λ j first last.
+    put_unused c.args.geometry.now c.args.image.now c.put_inode.new.image c.args.i j c.requires.first first c.put_inode.ensures.others
+    c.put_inode.ensures.unused

@@ -1,0 +1,14 @@
+-- The bytes of i-nodes that no field has.
+use Rattle.std.specs.Prelude.{◌≡◌, ℕ, ◌+◌, ◌<◌, List, slice_index}
+use Rattle.vol_layout.specs.Edition.{constants}
+use Rattle.vol_layout.specs.Inode.{inode_place}
+use Rattle.vol_layout.specs.declared.edition.Edition.TheVariants.{V7}
+use Rattle.vol_layout.specs.declared.geometry.Geometry.{Geometry}
+
+-- byte 51 of i-node j, which the seventh edition doesn't use, is as it was (ino.h)
+pub record KeepsUnused (geometry : Geometry) (old new : List ℕ) (j : ℕ) : Type 0 where
+  pub stays : geometry.edition ≡ V7 → slice_index new (inode_place V7 j + 51) ≡ slice_index old (inode_place V7 j + 51)
+
+-- all bytes of i-node i are zero (Lions on iput, ifree; this project)
+pub record IsCleared (geometry : Geometry) (image : List ℕ) (i : ℕ) : Type 0 where
+  pub zero : (k : ℕ) → k < (constants geometry.edition).inode_bytes → slice_index image (inode_place geometry.edition i + k) ≡ 0

@@ -51,21 +51,18 @@ abbrev pub file_by : Result Geometry GeometryFault → List ℕ → ℕ → Resu
 file_by (Ok geometry) image i = file_in geometry image i
 file_by (Err fault) image i = Err (faults.Unsound fault)
 
--- the geometry of an image whose file i `cat` prints, or the refusal that it answers: rule 1, rule 2, no such
--- i-node, no regular file or directory
+-- the geometry of an image whose file i `cat` prints, or its first refusal: rule 1, rule 2, no such i-node, no regular file or directory (this project)
 unfoldable pub file_of : Edition → List ℕ → ℕ → Result Geometry CatFault
 file_of edition image i = file_by (geometry_read edition image) image i
 
--- what `cat` writes and answers for an image: the body of file i, or its first bytes, as many as a writer's fault
--- counts, or a refusal and nothing
+-- what `cat` writes and answers for an image: file i's body, or as many of its bytes as a writer's fault counts, or a refusal and nothing (this project)
 abbrev pub Shows : Option (List ℕ) → Option (List ℕ) → List ℕ → ℕ → Result Geometry CatFault → Result (Unit {0}) CatFault → Type 0
 Shows old new image i (Err fault) result = (result ≡ Err fault) × Keeps old new
 Shows old new image i (Ok geometry) (Ok done) = Appends old new (body geometry image i)
 Shows old new image i (Ok geometry) (Err (faults.Writer written)) = AppendsFront old new (body geometry image i) written
 Shows old new image i (Ok geometry) (Err _) = ⊥
 
--- what `cat` does, from the bytes that its reader had and has left to those that its writer held and holds: where the
--- image was read whole it shows it, and else it writes nothing
+-- what `cat` does with its reader and its writer: an image that was read whole is shown, and else nothing is written (this project)
 abbrev pub Cats : Option (List ℕ) → Option (List ℕ) → Option (List ℕ) → Option (List ℕ) → Edition → ℕ → Result (Unit {0}) CatFault → Type 0
 Cats had left old new edition i (Err faults.Device) = Keeps old new
 Cats had left old new edition i (Err faults.NoMemory) = Keeps old new

@@ -21,7 +21,7 @@ use Rattle.unixvol.specs.declared.answer.Answer.{Answer}
 use Rattle.unixvol.specs.declared.faults.Fault.{Fault}
 use Rattle.unixvol.specs.declared.faults.Fault.TheVariants as faults
 
--- the bytes are a sound image of what calls, made one after another, leave of a sound image; no byte changes but those that calls change
+-- the bytes are a sound image of what calls, made in turn, leave of a sound image; no byte changes but those that calls change (this project)
 pub record Makes (edition : Edition) (image : List ℕ) (calls : List Call) (bytes : List ℕ) : Type 0 where
   pub mounted : IsSound edition image
   pub journal : List Record
@@ -32,7 +32,7 @@ pub record Makes (edition : Edition) (image : List ℕ) (calls : List Call) (byt
   pub sizes : geometry_of edition bytes ≡ geometry_of edition image
   pub elsewhere : SameElsewhere edition image bytes
 
--- of calls, made one after another, the first that isn't accepted is refused so
+-- of calls, made one after another, the first that isn't accepted is refused so (this project)
 abbrev pub AreRefused : State → List Call → Refusal → Type 0
 AreRefused state [] refusal = ⊥
 AreRefused state (call ∷ calls) refusal = Refuses state call refusal
@@ -45,14 +45,14 @@ IsReason edition image calls (faults.Refused refusals.NoMemory) = Unit {0}
 IsReason edition image calls (faults.Refused refusal) = IsSound edition image × AreRefused (reads_as edition image) calls refusal
 IsReason edition image calls faults.Output = ⊥
 
--- what a command that makes calls answers and prints: the bytes to be saved with status 0 and no line, or the status and the line of a reason
+-- what a command that makes calls comes to: bytes to be saved, status 0 and no line, or the status and the line of a reason (this project)
 pub record Changes (edition : Edition) (image : List ℕ) (calls : List Call) (said : List ℕ → Type 0) (answer : Answer) : Type 0 where
   pub saved : answer.status ≡ 0 ↔ IsSome answer.image
   pub made : IfSome answer.image (λ bytes. Makes edition image calls bytes.items × said [])
   pub refused : IsNone answer.image
       → (fault : Fault) × IsReason edition image calls fault × (answer.status ≡ status_at fault) × said (line_at fault)
 
--- what makes a file empty: where a question for it is answered that it is missing it is created with permissions 0644, else it is truncated
+-- what makes a file empty: a create with permissions 0644 where a question for it answers that it is missing, else a truncate (this project)
 abbrev pub emptying_by : Result Reply Refusal → ℕ → List ℕ → Call
 emptying_by (Err refusals.NoEntry) now path = calls.Create user now path 0o644
 emptying_by _ now path = calls.Truncate user now path

@@ -2,10 +2,10 @@
 use Rattle.std.specs.Prelude.{◌≡◌, ℕ, ◌≤◌, List}
 use Rattle.std.specs.Str.Parse.{IsNumeral, digits_value}
 
--- the text is one or more decimal digits and nothing else, and their value is at most `most`
+-- the text is one or more decimal digits and nothing else, and their value is at most `most` (this project)
 abbrev pub IsNumberUpTo : ℕ → List ℕ → Type 0
 IsNumberUpTo most text = IsNumeral 10 text × (digits_value 10 text ≤ most)
 
--- the text is such a number, and it is this one
+-- the text is such a number, and it is this one (this project)
 abbrev pub IsNumberGiven : ℕ → List ℕ → ℕ → Type 0
 IsNumberGiven most text number = IsNumberUpTo most text × (number ≡ digits_value 10 text)

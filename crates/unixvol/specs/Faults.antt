@@ -35,7 +35,7 @@ line_of_refusal refusals.NotRegular = codes "unixvol: 102 NotRegular\n"
 line_of_refusal refusals.NoInode = codes "unixvol: 103 NoInode\n"
 line_of_refusal refusals.BadId = codes "unixvol: 104 BadId\n"
 
--- the digits of a number below 100
+-- the digits of a number below 100 (this project)
 abbrev pub short_decimal : ℕ → List ℕ
 short_decimal n = if nat_lt n 10 then (48 + n) ∷ [] else (48 + n / 10) ∷ (48 + n % 10) ∷ []
 
@@ -49,16 +49,16 @@ line_at (faults.Unsound rule) = line_of_rule rule
 line_at (faults.Refused refusal) = line_of_refusal refusal
 line_at faults.Output = codes "unixvol: cannot write -\n"
 
--- want of memory
+-- want of memory (this project)
 abbrev pub no_memory : Fault
 no_memory = faults.Refused refusals.NoMemory
 
--- the rule that a fault names is one of the twelve
+-- the rule that a fault names is one of the twelve (this project)
 abbrev pub IsRuled : Fault → Type 0
 IsRuled (faults.Unsound rule) = (1 ≤ rule) × (rule ≤ 12)
 IsRuled (faults.Refused refusal) = Unit {0}
 IsRuled faults.Output = Unit {0}
 
--- a stream that didn't fail got these bytes
+-- a stream that didn't fail got these bytes (this project)
 abbrev pub Gets : Bool → Option (List ℕ) → Option (List ℕ) → List ℕ → Type 0
 Gets failed old new bytes = failed ≡ false → Appends old new bytes

@@ -14,19 +14,19 @@ use Rattle.unixvol.specs.declared.answer.Answer.{Answer}
 use Rattle.unixvol.specs.declared.command_line.Job.{Job}
 use Rattle.unixvol.specs.declared.command_line.Job.TheVariants as jobs
 
--- what two streams were and are: their bytes, and whether standard output failed; and what standard error got
+-- what two streams were and are: their bytes, and whether standard output failed; and what standard error got (this project)
 pub record Streams : Type 1 where
   pub old : Option (List ℕ)
   pub new : Option (List ℕ)
   pub failed : Bool
   pub said : List ℕ → Type 0
 
--- a query is shown
+-- a query is shown (this project)
 abbrev pub Asks : Edition → List ℕ → Streams → Answer → Query → Type 0
 Asks edition image streams answer query =
     Shows edition image query (Prints edition image query streams.old streams.new streams.failed) streams.said answer
 
--- calls are made, and nothing is printed
+-- calls are made, and nothing is printed (this project)
 abbrev pub Calls : Edition → List ℕ → Streams → Answer → List Call → Type 0
 Calls edition image streams answer calls = Changes edition image calls streams.said answer × Keeps streams.old streams.new
 

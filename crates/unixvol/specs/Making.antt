@@ -3,19 +3,19 @@ use Rattle.std.specs.Prelude.{ℕ, ◌==◌, Bool, if◌then◌else◌, List, []
 use Rattle.vol_volume.specs.declared.making.MkfsFault.{MkfsFault}
 use Rattle.vol_volume.specs.declared.making.MkfsFault.TheVariants.{Bounds, BadId, NoMemory}
 
--- the status that the program ends with at a fault: 1 for a refusal, 4 for memory
+-- the status that the program ends with at a fault: 1 for a refusal, 4 for memory (this project)
 abbrev pub status_of_fault : MkfsFault → ℕ
 status_of_fault Bounds = 1
 status_of_fault BadId = 1
 status_of_fault NoMemory = 4
 
--- the line of a fault on standard error
+-- the line of a fault on standard error (this project)
 abbrev pub line_of_fault : MkfsFault → List ℕ
 line_of_fault Bounds = codes "unixvol: bounds\n"
 line_of_fault BadId = codes "unixvol: 104 BadId\n"
 line_of_fault NoMemory = codes "unixvol: 12 NoMemory\n"
 
--- what stands on standard error by the status, and by whether the sizes are those of a volume: they are asked first
+-- what stands on standard error by the status, and by whether the sizes are those of a volume: they are asked first (this project)
 abbrev pub line_of_status : Bool → ℕ → List ℕ
 line_of_status sized status =
     if status == 0 then []

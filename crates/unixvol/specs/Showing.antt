@@ -18,7 +18,7 @@ use Rattle.unixvol.specs.declared.answer.Answer.{Answer}
 use Rattle.unixvol.specs.declared.faults.Fault.{Fault}
 use Rattle.unixvol.specs.declared.faults.Fault.TheVariants as faults
 
--- the digit of a number at a weight, or a space before the first digit
+-- the digit of a number at a weight, or a space before the first digit (this project)
 abbrev pub digit_at : ℕ → ℕ → ℕ
 digit_at weight n = if nat_lt n weight then 32 else 48 + n / weight % 10
 
@@ -34,13 +34,13 @@ entry_line entry = padded_number entry.1 ++ (32 ∷ entry.0) ++ (10 ∷ [])
 abbrev pub listing_text : Names → List ℕ
 listing_text names = flat_map entry_line names
 
--- what is printed of a reply
+-- what is printed of a reply (this project)
 abbrev pub text_of : Reply → List ℕ
 text_of (replies.Names names) = listing_text names
 text_of (replies.Bytes bytes) = bytes
 text_of (replies.Stat stat) = []
 
--- the answer to a query of the volume in an image
+-- the answer to a query of the volume in an image (this project)
 abbrev pub answer_of : Edition → List ℕ → Query → Result Reply Refusal
 answer_of edition image query = answer (reads_as edition image).tree query
 
@@ -51,20 +51,19 @@ IsObstacle edition image query (faults.Refused refusals.NoMemory) = Unit {0}
 IsObstacle edition image query (faults.Refused refusal) = IsSound edition image × (answer_of edition image query ≡ Err refusal)
 IsObstacle edition image query faults.Output = ⊥
 
--- the image is sound, and its reply to the query has this text
+-- the image is sound, and its reply to the query has this text (this project)
 abbrev pub Replies : Edition → List ℕ → Query → (List ℕ → Type 0) → Type 0
 Replies edition image query printed =
     IsSound edition image × (reply : Reply) × (answer_of edition image query ≡ Ok reply) × printed (text_of reply)
 
--- what standard output, which failed or not, gets by an outcome: the text of the reply; or, where it failed, the front of it; or nothing
+-- what standard output gets by an outcome: the text of the reply; or, where it failed, the front of it; or nothing (this project)
 abbrev pub Prints : Edition → List ℕ → Query → Option (List ℕ) → Option (List ℕ) → Bool → Result (Unit {0}) Fault → Type 0
 Prints edition image query old new failed (Ok done) = Replies edition image query (Appends old new)
 Prints edition image query old new failed (Err faults.Output) =
     (failed ≡ true) × Replies edition image query (λ text. (count : ℕ) × AppendsFront old new text count)
 Prints edition image query old new failed (Err fault) = IsObstacle edition image query fault × Keeps old new
 
--- what a command that shows the reply to a query answers and prints: nothing is saved; the text with status 0 and no line, or the status and
--- the line of a fault
+-- what a command that shows a reply comes to: nothing to be saved; the text, status 0 and no line, or a fault's status and its line (this project)
 pub record Shows (edition : Edition) (image : List ℕ) (query : Query) (printed : Result (Unit {0}) Fault → Type 0)
     (said : List ℕ → Type 0) (answer : Answer) : Type 0 where
   pub unsaved : answer.image ≡ None

@@ -1,6 +1,6 @@
 //! The words of the command line.
 ghost use Rattle.std.specs.Prelude.{◌≡◌, None, IfOk, IfSome, IsErrOf, codes};
-ghost use Rattle.unixvol.specs.CommandLine.{IsEditionNamed, IsNoEdition, AsksForCat, given_in};
+ghost use Rattle.unixvol.specs.CommandLine.{IsEditionNamed, IsNoEdition, AsksFor, AsksForCat, given_in};
 ghost use Rattle.unixvol.specs.Decimal.{IsNumberUpTo};
 
 use crate::decimal::word_of;
@@ -96,18 +96,35 @@ const INO: &str = "INO";
 pub fn read<'a>(alloc: Global, words: &'a [String]) -> Result<Invocation<'a>, Error> {
     let mut command = command_line(alloc)?;
     let matches = command.try_get_matches_from_mut(words)?;
-    match matches.subcommand() {
-        Some(("cat", values)) => read_cat(alloc, values),
-        Some(("ls", values)) => volumes::read_ls(alloc, values),
-        Some(("get", values)) => volumes::read_get(alloc, values),
-        Some(("mkfs", values)) => mkfs::read(alloc, values),
-        Some(("put", values)) => volumes::read_put(alloc, values),
-        Some(("rm", values)) => volumes::read_rm(alloc, values),
-        Some(("rmdir", values)) => volumes::read_rmdir(alloc, values),
-        Some(("mkdir", values)) => volumes::read_mkdir(alloc, values),
-        Some(("ln", values)) => volumes::read_ln(alloc, values),
-        _ => Err(command.error(ErrorKind::MissingSubcommand, "a command is missing")?),
+    if let Some((verb, values)) = matches.subcommand() {
+        if let Some(invocation) = read_command(alloc, verb, values)? {
+            return Ok(invocation);
+        }
     }
+    Err(command.error(ErrorKind::MissingSubcommand, "a command is missing")?)
+}
+
+/// Reads the words after a command. `None` where there is no command of that name.
+fn read_command<'a>(
+    alloc: Global,
+    verb: &str,
+    values: &ArgMatches<'a>,
+) -> Result<Option<Invocation<'a>>, Error>
+    ensures { IfOk result (λ found. IfSome found (AsksFor verb.now values.now)) }
+{
+    let invocation = match verb {
+        "cat" => read_cat(alloc, values)?,
+        "ls" => volumes::read_ls(alloc, values)?,
+        "get" => volumes::read_get(alloc, values)?,
+        "mkfs" => mkfs::read(alloc, values)?,
+        "put" => volumes::read_put(alloc, values)?,
+        "rm" => volumes::read_rm(alloc, values)?,
+        "rmdir" => volumes::read_rmdir(alloc, values)?,
+        "mkdir" => volumes::read_mkdir(alloc, values)?,
+        "ln" => volumes::read_ln(alloc, values)?,
+        _ => return Ok(None),
+    };
+    Ok(Some(invocation))
 }
 
 /// The whole command line.

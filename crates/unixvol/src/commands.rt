@@ -1,5 +1,7 @@
 //! The commands of the program: what they open, and what they print where something fails.
 ghost use Rattle.std.specs.Prelude.{◌≡◌, ◌≢◌, ◌⊎◌, IsSome, IfErr};
+ghost use Rattle.std.specs.IoError.{error_kind};
+ghost use Rattle.std.specs.declared.io.ErrorKind.TheVariants as io_kinds;
 ghost use Rattle.clap.specs.Words.{kind_of};
 ghost use Rattle.clap.specs.declared.error.kind.ErrorKind.TheVariants as clap_kinds;
 ghost use Rattle.unixvol.specs.Cat.{status_of};
@@ -220,7 +222,10 @@ fn explain_output(rt: &impl Eprint) -> u8
 }
 
 /// Prints why the words of the command line can't be had, and answers the status.
-fn explain_words(rt: &impl Eprint, error: &io::Error) -> u8 {
+fn explain_words(rt: &impl Eprint, error: &io::Error) -> u8
+    ensures memory { error_kind error.now ≡ io_kinds.OutOfMemory → result ≡ 4 }
+    ensures mistake { error_kind error.now ≢ io_kinds.OutOfMemory → result ≡ 2 }
+{
     if error.kind() == io::ErrorKind::OutOfMemory {
         return explain_no_memory(rt);
     }

@@ -90,20 +90,6 @@ entry_split {geometry = geometry} {image = image} {d = d} {from = from} {s = s} 
       ]
     ]
 
--- before the first slot nothing is asked
-pub below_first : (geometry : Geometry) (image : List ℕ) (d : ℕ) → HasEntriesBelow geometry image d 0
-below_first geometry image d = record {
-  entries = λ t i name low entry. absurd (omega arith);
-  once = λ s t i j name low low' entry entry'. absurd (omega arith);
-}
-
--- and an empty set holds the names
-pub names_first : (geometry : Geometry) (image : List ℕ) (d : ℕ) (names : BTreeSet (List ℕ)) → names.keys ≡ [] → HoldsNames geometry image d 0 names
-names_first geometry image d names empty = record {
-  all = λ t i name low entry. absurd (omega arith);
-  only = λ name held. let none : is_in names name ≡ false = rw empty refl in absurd (cc);
-}
-
 -- a name below the next entry is in the set
 below_in : {geometry : Geometry} {image : List ℕ} {d from t i : ℕ} {names : BTreeSet (List ℕ)} (name other : List ℕ) → HoldsNames geometry image d from names
     → t < from → entry_at geometry image d t ≡ Some (name, i) → name ≡ other → is_in names (padded_name other) ≡ false → ⊥

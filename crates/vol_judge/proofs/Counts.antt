@@ -14,11 +14,12 @@ use Rattle.vol_layout.specs.declared.slot.Slot.{Slot}
 use Rattle.vol_layout.specs.declared.mode.Kind.{Kind}
 use Rattle.vol_layout.specs.declared.mode.Kind.TheVariants as kinds
 use Rattle.vol_file.specs.Rules.{kind_at}
+use Rattle.vol_file.proofs.PlaceLists.{sum_none}
 use Rattle.vol_dir.specs.Entries.{entry_at, slot_count, slots, IsDirectory, HasEntry}
-use Rattle.vol_judge.specs.Directories.{is_for, count_in, entry_count, HasLinks}
-use Rattle.vol_judge.specs.Counting.{is_before, count_before_in, count_before, CountsBefore, HasCounts, IsCounted}
+use Rattle.vol_judge.specs.Directories.{is_for, count_in, entry_count}
+use Rattle.vol_judge.specs.Counting.{is_before, count_before_in, count_before, CountsBefore, HasCounts}
 use Rattle.vol_judge.specs.Stepping.{rank, IsNext, IsEnd}
-use Rattle.vol_judge.proofs.Parents.{root_first}
+use Rattle.vol_judge.proofs.GraphCounts.{sum_same}
 use Rattle.vol_judge.proofs.Passing.{entry_within, split}
 
 -- the last i-number is below 2^28
@@ -30,15 +31,6 @@ last_by V7 last start end e h l = omega arith
 pub last_low : {geometry : Geometry} {image : List ℕ} → Fits geometry image → geometry.last_inode < 268435456
 last_low {geometry = geometry} fits =
     last_by geometry.edition geometry.last_inode geometry.zone_start geometry.zone_end fits.i_list fits.zone fits.limit
-
--- sums of what agrees on a run of numbers agree
-sum_same : (f g : ℕ → ℕ) (a n : ℕ) → ((t : ℕ) → a ≤ t → t < a + n → f t ≡ g t) → sum_by f (range_with_len a n) ≡ sum_by g (range_with_len a n)
-sum_same f g a zero same = refl
-sum_same f g a (suc n) same =
-    let rest = sum_same f g (a + 1) n (λ t low high. same t (omega arith) (omega arith)) in
-    let here : f a ≡ g a = same a (omega arith) (omega arith) in
-    let xs = range_with_len (a + 1) n in
-    sum_by-cons f a xs ∙ (ap (λ m. m + sum_by f xs) here ∙ (ap (λ m. g a + m) rest ∙ sym (sum_by-cons g a xs)))
 
 -- one more at one number is one more in the sum
 sum_one : (f g : ℕ → ℕ) (a n d : ℕ) → a ≤ d → d < a + n → g d ≡ f d + 1 → ((t : ℕ) → a ≤ t → t < a + n → t ≢ d → f t ≡ g t)
@@ -61,14 +53,6 @@ sum_one f g a (suc n) d low high more same =
   where
     added : (l r a b x y : ℕ) → l ≡ a + x → r ≡ b + y → b + y ≡ a + x + 1 → r ≡ l + 1
     added l r a b x y p q e = omega arith
-
--- a sum of zeros
-sum_none : (f : ℕ → ℕ) (a n : ℕ) → ((t : ℕ) → a ≤ t → t < a + n → f t ≡ 0) → sum_by f (range_with_len a n) ≡ 0
-sum_none f a zero none = refl
-sum_none f a (suc n) none =
-    let rest = sum_none f (a + 1) n (λ t low high. none t (omega arith) (omega arith)) in
-    let here : f a ≡ 0 = none a (omega arith) (omega arith) in
-    sum_by-cons f a (range_with_len (a + 1) n) ∙ (ap (λ m. f a + m) rest ∙ (ap (λ m. m + 0) here))
 
 -- counting what a list is made of
 count_map : {X : Type 0} (p : X → Bool) (f : ℕ → X) (xs : List ℕ) → count_by p (map f xs) ≡ count_by (λ x. p (f x)) xs
@@ -263,16 +247,3 @@ counts_all {geometry = geometry} {image = image} {place = place} is none = recor
   room = is.room;
   count = λ i last. is.count i last ∙ count_all geometry image place i none;
 }
-
--- rule 12 holds where each link count is right
-pub links_hold : {geometry : Geometry} {image counts : List ℕ} → HasCounts geometry image counts
-    → ((i : ℕ) → 1 ≤ i → i ≤ geometry.last_inode → IsCounted geometry image i (get_or counts i 0)) → HasLinks geometry image
-links_hold {geometry = geometry} is each = record {
-  counts = λ i first last used. (each i first last used).0 ∙ is.count i last;
-  linked = λ i above last used. (each i (omega (arith, root_first geometry.edition)) last used).1 above;
-}
-
--- and each is where it holds
-pub links_right : {geometry : Geometry} {image counts : List ℕ} → HasCounts geometry image counts → HasLinks geometry image
-    → (i : ℕ) → 1 ≤ i → i ≤ geometry.last_inode → IsCounted geometry image i (get_or counts i 0)
-links_right is rule i first last used = (rule.counts i first last used ∙ sym (is.count i last), λ above. rule.linked i above last used)

@@ -5,28 +5,18 @@ use Rattle.std.proofs.lemmas.Bool.{cases_Bool, and_parts, leb-true, not-false}
 use Rattle.vol_layout.specs.Inode.{inode_of}
 use Rattle.vol_layout.specs.declared.geometry.Geometry.{Geometry}
 use Rattle.vol_layout.specs.declared.mode.Kind.TheVariants as kinds
-use Rattle.vol_file.specs.Rules.{size_of, kind_at, HasSizes}
-use Rattle.vol_dir.specs.Entries.{entry_at, slots, IsDirectory, HasEntries}
+use Rattle.vol_file.specs.Rules.{size_of, kind_at}
+use Rattle.vol_dir.specs.Entries.{entry_at, slots, IsDirectory}
 use Rattle.vol_dir.specs.Names.{get, names_of, is_dots}
 use Rattle.vol_dir.specs.Searching.{holds, holds_other}
 use Rattle.vol_dir.specs.Tree.{is_number}
 use Rattle.vol_dir.proofs.NameMaps.{bytes_same}
 use Rattle.vol_dir.proofs.NewEntries.{not_held}
 use Rattle.vol_dir.proofs.Replacing.{Replaces}
-use Rattle.vol_judge.specs.Directories.{root_of, HasDots, IsTree, HasLinks}
-use Rattle.vol_judge.specs.Graph.{entry_by, kind_in, graph_of, IsGraphSound}
+use Rattle.vol_judge.specs.Graph.{entry_by, kind_in, graph_of}
 use Rattle.vol_judge.specs.GraphEdits.{IsSameGraph, IsNewName, ChangesSlot, KeepsOthers}
 use Rattle.vol_judge.proofs.GraphParts.{is_directory}
-use Rattle.vol_judge.proofs.ImageGraphs.{kind_inside, inside_from, directory_to, directory_from, entry_from, other_by, graph_from_rules, rules_from_graph}
-
--- where the graph stays sound, rules 9 to 12 are kept
-pub rules_kept : (geometry : Geometry) (old new : List ℕ) → HasSizes geometry old → HasSizes geometry new
-    → (IsGraphSound (graph_of geometry old) (root_of geometry) geometry.last_inode
-    → IsGraphSound (graph_of geometry new) (root_of geometry) geometry.last_inode)
-    → HasEntries geometry old → HasDots geometry old → IsTree geometry old → HasLinks geometry old
-    → HasEntries geometry new × HasDots geometry new × IsTree geometry new × HasLinks geometry new
-rules_kept geometry old new before after stays entries dots tree links =
-    rules_from_graph geometry new after (stays (graph_from_rules geometry old before entries dots tree links))
+use Rattle.vol_judge.proofs.ImageGraphs.{kind_inside, inside_from, directory_to, directory_from, entry_from, other_by}
 
 -- where i-node x has the same kind in both images, if the volume has it, it has so in their graphs
 pub kind_kept : (geometry : Geometry) (old new : List ℕ) (x : ℕ)

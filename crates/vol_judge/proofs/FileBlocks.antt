@@ -13,10 +13,11 @@ use Rattle.vol_layout.proofs.NameLaws.{zero_out, named_past}
 use Rattle.vol_file.specs.Changes.{blocks_of}
 use Rattle.vol_file.specs.Clears.{blocks_at}
 use Rattle.vol_file.proofs.BlockLists.{at_nil, at_append, at_some, from_none}
+use Rattle.vol_file.proofs.Nodes.{pointers_file}
 use Rattle.vol_judge.specs.Marks.{blocks_from, marked}
 use Rattle.vol_judge.proofs.BlocksFrom.{from_zero, from_leaf, entries_from, from_entries}
 use Rattle.vol_judge.proofs.MarkLists.{marked_none, marked_more, marked_fails}
-use Rattle.vol_judge.proofs.ZonedFiles.{file_pointers, file_counted}
+use Rattle.vol_judge.proofs.ZonedFiles.{file_counted}
 
 -- a file's blocks are those that its form's places name
 pub blocks_at_all : (geometry : Geometry) (image : List ℕ) (i : ℕ) → blocks_of geometry image i ≡ blocks_at geometry image i (places (form_at geometry image i))
@@ -99,7 +100,7 @@ blocks_by_address geometry image i fits first last =
     (λ k. blocks_at geometry image i (places_from (pointer_count form) (k ∷ []) (levels form k))) (range_with_len 0 (first_count form)) (λ k. refl)
     ∙ flat_equal (λ k. blocks_at geometry image i (places_from (pointer_count form) (k ∷ []) (levels form k))) (address_blocks geometry image i) 0 (first_count form)
     (λ k low high. at_from geometry image i (pointer_count form) (levels form k) k [] fits
-    (file_pointers geometry image i (file_counted geometry image i k first last (omega (arith, high))))))
+    (pointers_file geometry image i (file_counted geometry image i k first last (omega (arith, high))))))
 
 -- before the first address nothing is marked
 pub addresses_none : (geometry : Geometry) (image : List ℕ) (i : ℕ) (marks : List ℕ) → marked marks (addresses_from geometry image i 0) ≡ Some marks

@@ -8,7 +8,7 @@ use Rattle.vol_layout.specs.declared.slot.Slot.{Slot}
 use Rattle.vol_dir.specs.Entries.{IsDirectory}
 use Rattle.vol_dir.specs.Names.{is_dots}
 use Rattle.vol_judge.specs.Directories.{root_of, Enters}
-use Rattle.vol_judge.specs.InodeMarks.{is_marked, HasRoot, IsEnteredBefore, MarksOnce, IsOnce}
+use Rattle.vol_judge.specs.InodeMarks.{is_marked, IsEnteredBefore, MarksOnce, IsOnce}
 use Rattle.vol_judge.specs.Stepping.{rank, IsNext, IsEnd}
 use Rattle.vol_judge.proofs.Passing.{split}
 
@@ -32,18 +32,6 @@ mark_before marks n i apart marked = rw get_or-set_other at marked
 entered_later : {geometry : Geometry} {image : List ℕ} {place i : ℕ} (later : ℕ) → place ≤ later → IsEnteredBefore geometry image place i
     → IsEnteredBefore geometry image later i
 entered_later later low had = record { directory = had.directory; slot = had.slot; enters = had.enters; before = omega (arith, had.before) }
-
--- before the first place the root's mark alone is asked
-pub once_first : {geometry : Geometry} {image : List ℕ} {marks : List Bool} (place : ℕ) → HasRoot geometry marks → place ≤ rank 1 0
-    → MarksOnce geometry image place marks
-once_first place marks low = record {
-  room = marks.room;
-  root = marks.root;
-  all = λ e t i is enters before. absurd (omega (arith, enters.1.directory.first));
-  only = λ i marked. inl (marks.only i marked);
-  once = λ e s f t i is enters enters' before before'. absurd (omega (arith, enters.1.directory.first));
-  root_none = λ e s enters before. absurd (omega (arith, enters.1.directory.first));
-}
 
 -- an entry of `.` or `..`, or for what is no directory, is passed
 pub once_passed : {geometry : Geometry} {image : List ℕ} {marks : List Bool} {place d s : ℕ} {slot : Slot} → IsDirectory geometry image (root_of geometry)

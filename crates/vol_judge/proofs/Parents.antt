@@ -2,18 +2,16 @@
 use Rattle.std.proofs.Common.{◌≡◌, ◌≢◌, ℕ, ◌+◌, ◌<◌, ◌≤◌, inl, inr, Bool, true, false, List, Option, None, Some, length, get_or, refl, sym, ap, ◌∙◌, arith, get_or-set_other, get_or-set_same}
 use Rattle.std.proofs.Math.ListN.{set, length-set}
 use Rattle.std.proofs.lemmas.Bool.{cases_lt, cases_eq}
-use Rattle.vol_layout.specs.Edition.{constants}
 use Rattle.vol_layout.specs.Geometry.{Fits}
 use Rattle.vol_layout.specs.Slot.{name_of}
-use Rattle.vol_layout.specs.declared.edition.Edition.{Edition}
-use Rattle.vol_layout.specs.declared.edition.Edition.TheVariants.{V6, V7}
 use Rattle.vol_layout.specs.declared.geometry.Geometry.{Geometry}
 use Rattle.vol_layout.specs.declared.slot.Slot.{Slot}
 use Rattle.vol_file.specs.Rules.{HasKinds}
+use Rattle.vol_file.proofs.Naming.{root_first}
 use Rattle.vol_dir.specs.Entries.{entry_at, IsDirectory, HasEntry, HasEntries}
 use Rattle.vol_dir.specs.Names.{dot, dot_dot, is_dots}
 use Rattle.vol_judge.specs.Directories.{root_of, HasDots}
-use Rattle.vol_judge.specs.InodeMarks.{is_marked, HasRoot, IsNamed, HasUpsBelow, HasUps, MarksChildren}
+use Rattle.vol_judge.specs.InodeMarks.{is_marked, IsNamed, HasUpsBelow, HasUps, MarksChildren}
 use Rattle.vol_judge.specs.Stepping.{rank, IsNextIn, IsNext, IsEnd}
 use Rattle.vol_judge.proofs.Collecting.{same_entry, none_some}
 use Rattle.vol_judge.proofs.EachDirectory.{directories_more, directories_all}
@@ -58,16 +56,6 @@ named_none {geometry = geometry} {image = image} {d = d} {from = from} name end 
     | inr above ↦ none_some (entry_at geometry image d t) (name, i) has.entry (end t above)
   ]);
   only = λ i number. absurd (cc);
-}
-
--- before the first place the root's mark alone is asked
-pub children_first : {geometry : Geometry} {image : List ℕ} {marks : List Bool} (ups : List (Option ℕ)) (place : ℕ) → HasRoot geometry marks
-    → place ≤ rank 1 0 → MarksChildren geometry image ups place marks
-children_first ups place marks low = record {
-  room = marks.room;
-  root = marks.root;
-  all = λ e t i enters before up. absurd (omega (arith, enters.1.directory.first));
-  only = λ i marked. inl (marks.only i marked);
 }
 
 -- an entry in the directory that it names by `..` is marked
@@ -179,11 +167,6 @@ dots_marked {geometry = geometry} ups marks rule d is =
           let enters = parent.4 in
           marks.all parent.1 parent.2 d enters (omega (arith, entry_low enters.1, enters.1.directory.last)) ((ups.named d is).all parent.0 parent.1 parent.3)
     ]
-
--- the root's i-number isn't 0
-pub root_first : (edition : Edition) → 1 ≤ (constants edition).root
-root_first V6 = omega arith
-root_first V7 = omega arith
 
 -- the root is a directory
 pub root_is : {geometry : Geometry} {image : List ℕ} → Fits geometry image → HasKinds geometry image → IsDirectory geometry image (root_of geometry)

@@ -6,20 +6,16 @@ use Rattle.vol_layout.specs.declared.geometry.Geometry.{Geometry}
 use Rattle.vol_layout.specs.declared.slot.Slot.{Slot}
 use Rattle.vol_file.specs.Rules.{size_of}
 use Rattle.vol_dir.specs.Entries.{entry_at, slot_count, IsDirectory, HasEntry}
+use Rattle.vol_dir.proofs.SlotReading.{entry_at_past}
 use Rattle.vol_judge.specs.Stepping.{rank, IsNextIn, IsNext, IsEnd}
 use Rattle.vol_judge.proofs.Collecting.{count_low, next_low, same_entry, none_some}
-
--- past the last slot there is no entry
-pub past_last : (geometry : Geometry) (image : List ℕ) (d s : ℕ) → slot_count geometry image d ≤ s → entry_at geometry image d s ≡ None
-unfolding entry_at
-past_last geometry image d s past = grind (arith, past)
 
 -- the slot of an entry is one of the directory
 pub entry_within : (geometry : Geometry) (image : List ℕ) (d s : ℕ) (entry : List ℕ × ℕ) → entry_at geometry image d s ≡ Some entry → s < slot_count geometry image d
 entry_within geometry image d s entry is =
     elim (cases_lt s (slot_count geometry image d)) [
       | inl low ↦ low
-      | inr past ↦ absurd (none_some (entry_at geometry image d s) entry is (past_last geometry image d s past))
+      | inr past ↦ absurd (none_some (entry_at geometry image d s) entry is (entry_at_past geometry image d s past))
     ]
 
 -- so it is numbered in 32 bits

@@ -1,29 +1,15 @@
 -- Rule 5 by the addresses of each file.
-use Rattle.std.proofs.Common.{◌≡◌, ℕ, zero, suc, ◌<◌, ◌≤◌, ◌∙◌, ap, List, [], ◌∷◌, true, false, if◌then◌else◌, refl, arith}
+use Rattle.std.proofs.Common.{◌≡◌, ℕ, zero, suc, ◌<◌, ◌≤◌, List, [], ◌∷◌, true, false, if◌then◌else◌, refl, arith}
 use Rattle.vol_layout.specs.Edition.{constants}
-use Rattle.vol_layout.specs.Inode.{inode_place, address_at, is_large, kind_of}
+use Rattle.vol_layout.specs.Inode.{inode_place, address_at, kind_of}
 use Rattle.vol_layout.specs.Places.{has_places, file_form, form_of, first_count, pointer_count, levels, levels_below, IsPlace}
 use Rattle.vol_layout.specs.Names.{mode_of, form_at, IsFile, named}
 use Rattle.vol_layout.specs.declared.edition.Edition.{Edition}
-use Rattle.vol_layout.specs.declared.edition.Edition.TheVariants.{V6, V7}
 use Rattle.vol_layout.specs.declared.geometry.Geometry.{Geometry}
-use Rattle.vol_layout.specs.declared.places.Form.TheVariants.{Small, Large, Bare}
+use Rattle.vol_layout.specs.declared.places.Form.TheVariants.{Bare}
+use Rattle.vol_file.proofs.Nodes.{pointers_file}
 use Rattle.vol_judge.specs.Marks.{IsInside, IsFileZoned}
 use Rattle.vol_judge.proofs.Insides.{inside_here, inside_entry}
-
--- a file's pointer blocks hold as many numbers as those of its edition
-form_pointers : (edition : Edition) (mode : ℕ) → pointer_count (file_form edition mode) ≡ (constants edition).pointers
-form_pointers V6 mode = elim (is_large V6 mode) as (λ t. pointer_count (if t then Large else Small) ≡ 256) [ true ↦ refl | false ↦ refl ]
-form_pointers V7 mode = refl
-
--- the same of a mode of a kind with places
-mode_pointers : (edition : Edition) (mode : ℕ) → has_places (kind_of edition mode) ≡ true → pointer_count (form_of edition mode) ≡ (constants edition).pointers
-mode_pointers edition mode kind = ap (λ t. pointer_count (if t then file_form edition mode else Bare)) kind ∙ form_pointers edition mode
-
--- the same of a file
-pub file_pointers : (geometry : Geometry) (image : List ℕ) (i : ℕ) → IsFile geometry image i
-    → pointer_count (form_at geometry image i) ≡ (constants geometry.edition).pointers
-file_pointers geometry image i file = mode_pointers geometry.edition (mode_of geometry image i) file.kind
 
 -- a mode whose form has an address is of a kind with places
 kind_counted : (edition : Edition) (mode k : ℕ) → k < first_count (form_of edition mode) → has_places (kind_of edition mode) ≡ true
@@ -46,7 +32,7 @@ place_inside geometry image i file zoned zero a p place deep = λ some. zoned (a
 place_inside geometry image i file zoned (suc d) a p place deep = (
   λ some. zoned (a ∷ p) (record { file = file; place = place }) some,
   λ j h.
-      let many : pointer_count (form_at geometry image i) ≡ (constants geometry.edition).pointers = file_pointers geometry image i file in
+      let many : pointer_count (form_at geometry image i) ≡ (constants geometry.edition).pointers = pointers_file geometry image i file in
       place_inside geometry image i file zoned d j (a ∷ p) (omega (arith, h, many), omega (arith, deep), place) (omega (arith, deep)),
 )
 
@@ -68,7 +54,7 @@ inside_place : (geometry : Geometry) (image : List ℕ) (i : ℕ) → IsFile geo
 inside_place geometry image i file inside [] place = absurd place
 inside_place geometry image i file inside (k ∷ []) place = inside k place
 inside_place geometry image i file inside (j ∷ (a ∷ p)) place =
-    let many : pointer_count (form_at geometry image i) ≡ (constants geometry.edition).pointers = file_pointers geometry image i file in
+    let many : pointer_count (form_at geometry image i) ≡ (constants geometry.edition).pointers = pointers_file geometry image i file in
     inside_entry geometry image (levels_below (form_at geometry image i) (a ∷ p)) (named geometry image i (a ∷ p)) j place.1
     (omega (arith, place.0, many)) (inside_place geometry image i file inside (a ∷ p) place.2)
 

@@ -58,7 +58,7 @@ Steps geometry image old new rest End = IsEnd geometry image rest × (new ≡ ol
 Steps geometry image old new rest Broken =
     (blocks : List ℕ) → IsRest geometry image rest blocks → ((b : ℕ) → IsIn b blocks → slice_index_or old b false ≡ true → ⊥) → ⊥
 
--- the blocks of one list, the last first, and then those of the other
+-- the blocks of one list, the last first, and then those of the other (this project)
 unfoldable pub joined : List ℕ → List ℕ → List ℕ
 joined [] blocks = blocks
 joined (b ∷ met) blocks = joined met (b ∷ blocks)

@@ -40,7 +40,7 @@ graph_of geometry image = record {
   entry = λ d s. entry_by (kind_in geometry image d) geometry image d s;
 }
 
--- the graph is one of a volume with some last i-number: what isn't free is one of its numbers, and no entry stands past the size
+-- the graph is one of a volume with some last i-number: what isn't free is one of its numbers, and no entry stands past the size (this project)
 pub record IsGraphWithin (graph : Graph) (last : ℕ) : Type 0 where
   pub numbers : (i : ℕ) → graph.kind i ≢ kinds.Free → (1 ≤ i) × (i ≤ last)
   pub slots : (d s : ℕ) → graph.size d / 16 ≤ s → graph.entry d s ≡ None
@@ -63,7 +63,7 @@ counted_in graph i d = count_by (is_for i) (map (graph.entry d) (range_with_len 
 unfoldable pub counted : Graph → ℕ → ℕ → ℕ
 counted graph last i = sum_by (counted_in graph i) (range_with_len 1 last)
 
--- rules 9 to 12 of a graph with some root and last i-number
+-- rules 9 to 12 of a graph with some root and last i-number (dcheck, ncheck)
 pub record IsGraphSound (graph : Graph) (root last : ℕ) : Type 0 where
   pub whole : (d : ℕ) → graph.kind d ≡ kinds.Directory → graph.size d % 16 ≡ 0
   pub named : (d s i : ℕ) (name : List ℕ) → graph.entry d s ≡ Some (name, i) → (name ≢ []) × (list_any (λ c. c == 47) name ≡ false)

@@ -12,7 +12,7 @@ abbrev pub IsFirstBroken : ℕ → List (Type 0) → Option ℕ → Type 0
 IsFirstBroken n [] answer = answer ≡ None
 IsFirstBroken n (fact ∷ facts) answer = ((answer ≡ Some n) × (fact → ⊥)) ⊎ (fact × IsFirstBroken (n + 1) facts answer)
 
--- rules 6 to 8, where the free list is asked
+-- rules 6 to 8, where the free list is asked (icheck)
 abbrev pub free_rules : Geometry → List ℕ → List (Type 0)
 free_rules geometry image =
     HasStack geometry image
@@ -20,7 +20,7 @@ free_rules geometry image =
     ∷ IsNoneLost geometry image
     ∷ []
 
--- rules 5 to 8
+-- rules 5 to 8; where the free list isn't asked, what concerns it asks nothing (icheck)
 abbrev pub block_rules : Bool → Geometry → List ℕ → List (Type 0)
 block_rules free geometry image =
     IsZoned geometry image
@@ -29,11 +29,11 @@ block_rules free geometry image =
     ∷ Asked free (IsNoneLost geometry image)
     ∷ []
 
--- rules 9 to 12
+-- rules 9 to 12 (dcheck, ncheck)
 abbrev pub directory_rules : Geometry → List ℕ → List (Type 0)
 directory_rules geometry image = HasEntries geometry image ∷ HasDots geometry image ∷ IsTree geometry image ∷ HasLinks geometry image ∷ []
 
--- rules 3 to 12
+-- rules 3 to 12 (this project)
 abbrev pub volume_rules : Bool → Geometry → List ℕ → List (Type 0)
 volume_rules free geometry image =
     HasKinds geometry image ∷ HasSizes geometry image ∷ (block_rules free geometry image ++ directory_rules geometry image)

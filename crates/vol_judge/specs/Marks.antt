@@ -21,7 +21,7 @@ IsInside geometry image (suc d) b =
 abbrev pub KnowsInside : Geometry → List ℕ → List ℕ → Type 0
 KnowsInside geometry image known = (b : ℕ) → in_zone geometry b ≡ true → IsInside geometry image (slice_index known b) b
 
--- rule 5 for the places of i-node i
+-- rule 5 for the places of i-node i (icheck)
 abbrev pub IsFileZoned : Geometry → List ℕ → ℕ → Type 0
 IsFileZoned geometry image i = (p : List ℕ) → IsPlaceOf geometry image i p → named geometry image i p ≢ 0
     → in_zone geometry (named geometry image i p) ≡ true
@@ -37,11 +37,11 @@ unfoldable pub marked : List ℕ → List ℕ → Option (List ℕ)
 marked marks [] = Some marks
 marked marks (b ∷ blocks) = if slice_index marks b == 0 then marked (slice_set marks b 1) blocks else None
 
--- the blocks that the places of all files name, by i-number and in the order of the places
+-- the blocks that the places of all files name, by i-number and in the order of the places (icheck)
 abbrev pub all_blocks : Geometry → List ℕ → List ℕ
 all_blocks geometry image = flat_map (blocks_of geometry image) (range_with_len 1 geometry.last_inode)
 
--- the blocks with a mark that isn't 0 are those that a place names
+-- the blocks with a mark that isn't 0 are those that a place names (icheck)
 abbrev pub MarksNamed : Geometry → List ℕ → List ℕ → Type 0
 MarksNamed geometry image marks = (b : ℕ) → slice_index marks b ≢ 0 ↔ ((i : ℕ) × (p : List ℕ) × Names geometry image i p b)
 

@@ -8,11 +8,11 @@ use Rattle.vol_judge.specs.Directories.{HasDots, IsTree, HasLinks}
 use Rattle.vol_layout.specs.declared.edition.Edition.{Edition}
 use Rattle.vol_layout.specs.declared.geometry.Geometry.{Geometry}
 
--- rule 7, of the free stack: no block in it is named by a place of a file
+-- rule 7, of the free stack: no block in it is named by a place of a file (icheck)
 abbrev pub IsFreeApart : Geometry → List ℕ → Type 0
 IsFreeApart geometry image = (blocks : List ℕ) → IsFree geometry image blocks → IsOutside geometry image blocks
 
--- rule 8: each data block is named by a place or stands in the free stack
+-- rule 8: each data block is named by a place or stands in the free stack (icheck)
 abbrev pub IsNoneLost : Geometry → List ℕ → Type 0
 IsNoneLost geometry image = (blocks : List ℕ) → IsFree geometry image blocks → IsCovered geometry image blocks
 
@@ -39,7 +39,7 @@ rules free edition image geometry =
     ∷ HasLinks geometry image
     ∷ []
 
--- fact n of a list; there is nothing to ask past its end
+-- fact n of a list; there is nothing to ask past its end (this project)
 abbrev pub nth_fact : List (Type 0) → ℕ → Type 0
 nth_fact [] n = Unit {0}
 nth_fact (fact ∷ facts) zero = fact

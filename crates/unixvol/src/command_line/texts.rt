@@ -51,7 +51,7 @@ The root directory has permissions 0777; its size is 32, for `.` and `..`. All o
 
 The sixth edition takes 1 to 4095 blocks of i-list with 16 i-nodes each, at most 65535 blocks in all, and
 user and group numbers up to 255; the seventh 1 to 8191 with 8 i-nodes each, at most 16777216, and numbers
-up to 32767. The first two blocks and the root's are needed too: FSIZE is at least IBLOCKS and 3.
+up to 32767. The first two blocks and the root's are needed too: FSIZE is at least IBLOCKS + 3.
 
 Status:
   0  the volume was made and saved
@@ -228,6 +228,6 @@ pub const NAMED: &str = "The path of the file's name in the volume";
 
 pub const NEW_NAME: &str = "The path of the new name in the volume";
 
-pub const FILE: &str = "The file whose bytes are put";
+pub const FILE: &str = "The file whose bytes are put into the volume";
 
 pub const CALL_NOW: &str = "The moment of the change, in seconds since 1970";

@@ -1,5 +1,7 @@
 //! The words of the command line.
-ghost use Rattle.std.specs.Prelude.{◌≡◌, None, IfOk, IfSome, IsErrOf, codes};
+ghost use Rattle.std.specs.Prelude.{◌≡◌, ◌⊎◌, None, IfOk, IfErr, IfSome, IsErrOf, codes};
+ghost use Rattle.clap.specs.Words.{kind_of};
+ghost use Rattle.clap.specs.declared.error.kind.ErrorKind.TheVariants as clap_kinds;
 ghost use Rattle.unixvol.specs.CommandLine.{IsEditionNamed, IsNoEdition, AsksFor, AsksForCat, given_in};
 ghost use Rattle.unixvol.specs.Decimal.{IsNumberUpTo};
 
@@ -170,8 +172,11 @@ fn cat_command<'a>(alloc: Global) -> Result<Command<'a>, AllocError> {
 
 /// Reads the words of `cat`.
 fn read_cat<'a>(alloc: Global, values: &ArgMatches<'a>) -> Result<Invocation<'a>, Error>
-    ensures { IfOk result (λ invocation. AsksForCat (given_in values.now (codes "EDITION"))
+    ensures read { IfOk result (λ invocation. AsksForCat (given_in values.now (codes "EDITION"))
         (given_in values.now (codes "IMAGE")) (given_in values.now (codes "INO")) invocation) }
+    ensures refused { IfErr result (λ error. (kind_of error ≡ clap_kinds.OutOfMemory)
+        ⊎ IsNoEdition (given_in values.now (codes "EDITION"))
+        ⊎ (IsNumberUpTo 65535 (given_in values.now (codes "INO")) → ⊥)) }
 {
     let edition = values.get_str(EDITION).unwrap_or("");
     let image = values.get_str(IMAGE).unwrap_or("");

@@ -3,8 +3,9 @@
 pub const ABOUT: &str = "Works on disk images of Sixth and Seventh Edition Unix.";
 
 pub const STATUSES: &str = "\
-A fault is one line on standard error. The status is 0 where all went well, 1 for a refusal, 2 for a
-fault of the command line, 3 where a file can't be read or written, and 4 for want of memory.";
+A fault is one line on standard error; one of the command line is told with its usage. The status is 0 where
+all went well, 1 for a refusal, 2 for a fault of the command line, 3 where a file can't be read or written,
+and 4 for want of memory.";
 
 pub const CAT_ABOUT: &str =
     "Prints the bytes of a file or directory of a volume, found by its i-number.";
@@ -51,7 +52,7 @@ The root directory has permissions 0777; its size is 32, for `.` and `..`. All o
 
 The sixth edition takes 1 to 4095 blocks of i-list with 16 i-nodes each, at most 65535 blocks in all, and
 user and group numbers up to 255; the seventh 1 to 8191 with 8 i-nodes each, at most 16777216, and numbers
-up to 32767. The first two blocks and the root's are needed too: FSIZE is at least IBLOCKS and 3.
+up to 32767. The first two blocks and the root's are needed too: FSIZE is at least IBLOCKS + 3.
 
 Status:
   0  the volume was made and saved
@@ -71,7 +72,7 @@ pub const UID: &str = "The root directory's user";
 
 pub const GID: &str = "The root directory's group";
 
-pub const NOW: &str = "The moment of all times, in seconds since 1970";
+pub const NOW: &str = "The time of the volume and of its root, in seconds since 1970";
 
 pub const LS_ABOUT: &str = "Lists the names in a directory of a volume.";
 
@@ -126,6 +127,9 @@ empty first, and keeps its i-number, links and permissions. IMAGE is written onl
 file is written beside it and then takes its place, with its permissions. Where IMAGE is a device, the bytes
 are written into it.
 
+A path starts at the root, with or without a slash. Repeated slashes count as one, and each name is cut to
+14 bytes. The volume must be sound: its twelve rules are asked first.
+
 Status:
   0  the file was put, and the volume saved
   1  `unixvol: unsound, rule N`: the volume breaks this rule, and none before it
@@ -146,6 +150,9 @@ Example:
 The file is freed with its last name. Special files can be removed too, directories can't. IMAGE is written
 only where all went well: a new file is written beside it and then takes its place.
 
+A path starts at the root, with or without a slash. Repeated slashes count as one, and each name is cut to
+14 bytes. The volume must be sound: its twelve rules are asked first.
+
 Status:
   0  the name is gone, and the volume was saved
   1  `unixvol: unsound, rule N`: the volume breaks this rule, and none before it
@@ -164,6 +171,9 @@ Example:
 
 Empty is a directory with `.` and `..` alone. IMAGE is written only where all went well: a new file is
 written beside it and then takes its place.
+
+A path starts at the root, with or without a slash. Repeated slashes count as one, and each name is cut to
+14 bytes. The volume must be sound: its twelve rules are asked first.
 
 Status:
   0  the directory is gone, and the volume was saved
@@ -185,6 +195,9 @@ Example:
 It has permissions 0755, is of user 0 and group 0, and holds `.` and `..`. IMAGE is written only where all
 went well: a new file is written beside it and then takes its place.
 
+A path starts at the root, with or without a slash. Repeated slashes count as one, and each name is cut to
+14 bytes. The volume must be sound: its twelve rules are asked first.
+
 Status:
   0  the directory was made, and the volume saved
   1  `unixvol: unsound, rule N`: the volume breaks this rule, and none before it
@@ -205,6 +218,9 @@ Example:
 
 Both names then lead to one file. Special files can have further names too, directories can't. IMAGE is
 written only where all went well: a new file is written beside it and then takes its place.
+
+A path starts at the root, with or without a slash. Repeated slashes count as one, and each name is cut to
+14 bytes. The volume must be sound: its twelve rules are asked first.
 
 Status:
   0  the name was made, and the volume saved
@@ -228,6 +244,6 @@ pub const NAMED: &str = "The path of the file's name in the volume";
 
 pub const NEW_NAME: &str = "The path of the new name in the volume";
 
-pub const FILE: &str = "The file whose bytes are put";
+pub const FILE: &str = "The file whose bytes are put into the volume";
 
 pub const CALL_NOW: &str = "The moment of the change, in seconds since 1970";

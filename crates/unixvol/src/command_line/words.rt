@@ -1,7 +1,9 @@
 //! The words that several commands have, and the faults of words.
-ghost use Rattle.std.specs.Prelude.{IfOk, codes};
-ghost use Rattle.unixvol.specs.CommandLine.{IsEditionNamed, given_in};
-ghost use Rattle.unixvol.specs.Decimal.{IsNumberGiven};
+ghost use Rattle.std.specs.Prelude.{◌≡◌, ◌⊎◌, IfOk, IfErr, codes};
+ghost use Rattle.clap.specs.Words.{kind_of};
+ghost use Rattle.clap.specs.declared.error.kind.ErrorKind.TheVariants as clap_kinds;
+ghost use Rattle.unixvol.specs.CommandLine.{IsEditionNamed, IsNoEdition, given_in};
+ghost use Rattle.unixvol.specs.Decimal.{IsNumberUpTo, IsNumberGiven};
 
 use super::{cat_command, edition_of, mkfs, texts, volumes};
 use crate::decimal::{long_of, word_of};
@@ -66,7 +68,9 @@ pub fn required<'a>(alloc: Global, name: &'a str, help: &'a str) -> Arg<'a> {
 
 /// The edition that was given.
 pub fn edition_in(alloc: Global, verb: Verb, values: &ArgMatches<'_>) -> Result<Edition, Error>
-    ensures { IfOk result (λ edition. IsEditionNamed edition (given_in values.now (codes "EDITION"))) }
+    ensures read { IfOk result (λ edition. IsEditionNamed edition (given_in values.now (codes "EDITION"))) }
+    ensures refused { IfErr result (λ error. (kind_of error ≡ clap_kinds.OutOfMemory)
+        ⊎ IsNoEdition (given_in values.now (codes "EDITION"))) }
 {
     let text = values.get_str(EDITION).unwrap_or("");
     match edition_of(text) {
@@ -77,7 +81,9 @@ pub fn edition_in(alloc: Global, verb: Verb, values: &ArgMatches<'_>) -> Result<
 
 /// The number of 16 bits that was given for an argument.
 pub fn word_in(alloc: Global, verb: Verb, values: &ArgMatches<'_>, name: &str) -> Result<u16, Error>
-    ensures { IfOk result (λ number. IsNumberGiven 65535 (given_in values.now name.now) number) }
+    ensures read { IfOk result (λ number. IsNumberGiven 65535 (given_in values.now name.now) number) }
+    ensures refused { IfErr result (λ error. (kind_of error ≡ clap_kinds.OutOfMemory)
+        ⊎ (IsNumberUpTo 65535 (given_in values.now name.now) → ⊥)) }
 {
     let text = values.get_str(name).unwrap_or("");
     match word_of(text) {
@@ -88,7 +94,9 @@ pub fn word_in(alloc: Global, verb: Verb, values: &ArgMatches<'_>, name: &str) -
 
 /// The number of 32 bits that was given for an argument.
 pub fn long_in(alloc: Global, verb: Verb, values: &ArgMatches<'_>, name: &str) -> Result<u32, Error>
-    ensures { IfOk result (λ number. IsNumberGiven 4294967295 (given_in values.now name.now) number) }
+    ensures read { IfOk result (λ number. IsNumberGiven 4294967295 (given_in values.now name.now) number) }
+    ensures refused { IfErr result (λ error. (kind_of error ≡ clap_kinds.OutOfMemory)
+        ⊎ (IsNumberUpTo 4294967295 (given_in values.now name.now) → ⊥)) }
 {
     let text = values.get_str(name).unwrap_or("");
     match long_of(text) {
@@ -104,7 +112,9 @@ pub fn wrong_value(
     name: &str,
     value: &str,
     wanted: &str,
-) -> Result<Error, AllocError> {
+) -> Result<Error, AllocError>
+    ensures { IfOk result (λ error. kind_of error ≡ clap_kinds.ValueValidation) }
+{
     let mut command = verb.command(alloc)?;
     let text = format!(in alloc; "invalid value '{value}' for '<{name}>': {wanted}")?;
     command.error(ErrorKind::ValueValidation, text.as_str())

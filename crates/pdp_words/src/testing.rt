@@ -1,9 +1,9 @@
 //! Readers and writers for tests: they move their bytes in pieces, and one of their calls may go
 //! wrong. `FromRead` and `IntoWrite` make devices of them.
-ghost use Rattle.std.specs.Prelude.{◌≡◌, ◌-◌, ◌<◌, Some, None, Ok, List, ℕ, [], min, length, take, drop, ◌++◌, IfSome, IfErr, IfOk, IsErrAnd, IsOk, MatchResult};
+ghost use Rattle.std.specs.Prelude.{◌≡◌, ◌-◌, ◌<◌, Some, None, Ok, [], min, length, take, IfSome, IsErrAnd, IsOk, MatchResult};
 ghost use Rattle.std.specs.IoError.{error_kind};
 ghost use Rattle.std.specs.Io.{ReadsAtMost, WritesAtMost};
-ghost use Rattle.std.specs.Io.KnownBytes.{Keeps, ReadConsumes, WriteAppends};
+ghost use Rattle.std.specs.Io.KnownBytes.{ReadConsumes, WriteAppends};
 ghost use Rattle.pdp_words.specs.Mishaps.{due, not_due};
 
 use std::alloc::Global;

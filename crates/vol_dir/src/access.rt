@@ -1,5 +1,5 @@
 //! Who may do what with an i-node.
-ghost use Rattle.std.specs.Prelude.{◌≡◌, ℕ, ◌*◌, ◌<◌, ◌≤◌, Some};
+ghost use Rattle.std.specs.Prelude.{◌≡◌, ◌*◌, ◌≤◌, Some};
 ghost use Rattle.vol_layout.specs.Geometry.{Fits};
 ghost use Rattle.vol_dir.specs.Tree.{Node, node_of};
 ghost use Rattle.vol_dir.specs.Access.{bit_of, has_bit, grants, grants_at};

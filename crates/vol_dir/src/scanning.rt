@@ -1,9 +1,9 @@
 //! Going over the entries of a directory.
-ghost use Rattle.std.specs.Prelude.{◌≡◌, ℕ, ◌+◌, ◌*◌, ◌<◌, ◌≤◌, None, MatchOption, length};
+ghost use Rattle.std.specs.Prelude.{◌+◌, ◌*◌, ◌<◌, ◌≤◌, None, length};
 ghost use Rattle.vol_layout.specs.Geometry.{Fits};
 ghost use Rattle.vol_layout.specs.Slot.{slot_at};
 ghost use Rattle.vol_dir.specs.Entries.{entry_in, slot_count, entry_at, IsDirectory};
-ghost use Rattle.vol_dir.specs.Scanning.{GoesOn, IsNextEntry};
+ghost use Rattle.vol_dir.specs.Scanning.{GoesOn};
 
 use crate::entries::{SLOTS, slot_count};
 use pdp_words::{BLOCK, Image};

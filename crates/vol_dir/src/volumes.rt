@@ -1,9 +1,9 @@
 //! Volumes on which the tests begin.
-ghost use Rattle.std.specs.Prelude.{◌≡◌, ℕ, ◌*◌, ◌<◌, ◌≤◌, List, [], length, slice_index, IfOk};
+ghost use Rattle.std.specs.Prelude.{◌≡◌, ℕ, ◌*◌, ◌<◌, ◌≤◌, List, length, slice_index, IfOk};
 ghost use Rattle.vol_layout.specs.Edition.{constants};
 ghost use Rattle.vol_layout.specs.Geometry.{Fits};
 ghost use Rattle.vol_layout.specs.Names.{IsFile};
-ghost use Rattle.vol_free.specs.Stack.{IsFree, HasStack};
+ghost use Rattle.vol_free.specs.Stack.{HasStack};
 ghost use Rattle.vol_file.specs.Rules.{HasSoundFiles};
 
 use pdp_words::{BLOCK, Image};

@@ -1,5 +1,5 @@
 //! Truncating a file to nothing: its blocks go back to the free list.
-ghost use Rattle.std.specs.Prelude.{◌≡◌, ℕ, ◌+◌, ◌*◌, List, [], ◌∷◌};
+ghost use Rattle.std.specs.Prelude.{◌≡◌, ℕ, ◌*◌, List, [], ◌∷◌};
 ghost use Rattle.vol_layout.specs.Geometry.{Fits};
 ghost use Rattle.vol_layout.specs.Names.{form_at, IsFile, named};
 ghost use Rattle.vol_file.specs.Rules.{IsSoundWith, HasSoundFiles};

@@ -1,7 +1,7 @@
 //! Free i-numbers, and the cache of up to 100 of them in the super-block, which only speeds things up:
 //! whether an i-number is free stands in its i-node.
-ghost use Rattle.std.specs.Prelude.{◌≡◌, ℕ, ◌+◌, ◌*◌, ◌<◌, ◌≤◌, IsTrue, ◌↔◌, IfSome, None, length, slice_index};
-ghost use Rattle.pdp_words.specs.Words.{SameOutside, word};
+ghost use Rattle.std.specs.Prelude.{◌≡◌, ℕ, ◌+◌, ◌<◌, ◌≤◌, IsTrue, ◌↔◌, IfSome, None, length};
+ghost use Rattle.pdp_words.specs.Words.{SameOutside};
 ghost use Rattle.vol_layout.specs.Edition.{constants};
 ghost use Rattle.vol_layout.specs.Geometry.{Fits};
 ghost use Rattle.vol_layout.specs.Super.{cache_head};

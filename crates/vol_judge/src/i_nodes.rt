@@ -1,8 +1,7 @@
 //! The rules that speak of i-nodes one by one: their kinds, their sizes and their link counts.
-ghost use Rattle.std.specs.Prelude.{◌≡◌, ℕ, ◌≤◌, ◌⊎◌, IsTrue, ◌↔◌};
+ghost use Rattle.std.specs.Prelude.{◌≡◌, ◌≤◌, ◌⊎◌, IsTrue, ◌↔◌};
 ghost use Rattle.vol_layout.specs.Edition.{constants};
 ghost use Rattle.vol_layout.specs.Geometry.{Fits};
-ghost use Rattle.vol_layout.specs.Inode.{inode_of};
 ghost use Rattle.vol_file.specs.Rules.{HasKinds, HasSizes, kind_at};
 ghost use Rattle.vol_judge.specs.Limits.{IsSized, IsLinked};
 

@@ -1,5 +1,5 @@
 //! Marks by i-number.
-ghost use Rattle.std.specs.Prelude.{◌≡◌, ℕ, ◌+◌, ◌≤◌, false, true, IfOk, IsTrue, ◌↔◌, length, vec_len, slice_index_or};
+ghost use Rattle.std.specs.Prelude.{◌≡◌, ℕ, ◌+◌, ◌≤◌, false, true, IfOk, IsTrue, ◌↔◌, length, slice_index_or};
 ghost use Rattle.vol_layout.specs.Geometry.{Fits};
 ghost use Rattle.vol_layout.specs.Edition.{constants};
 ghost use Rattle.vol_dir.specs.Entries.{IsDirectory};

@@ -1,7 +1,6 @@
 //! The twelve rules in their order, up to the first that fails.
 ghost use Rattle.std.specs.Prelude.{◌≡◌, ◌≢◌, ℕ, false, IfOk, length, slice_index_or};
 ghost use Rattle.vol_layout.specs.Geometry.{Fits};
-ghost use Rattle.vol_file.specs.Rules.{HasKinds, HasSizes};
 ghost use Rattle.vol_judge.specs.Judging.{IsFirstBroken, free_rules, block_rules, volume_rules};
 ghost use Rattle.vol_judge.specs.Marks.{Finds};
 ghost use Rattle.vol_judge.specs.Sound.{IsJudged};

@@ -1,5 +1,5 @@
 // A small volume by hand, on which each change of a node is made once.
-ghost use Rattle.std.specs.Prelude.{◌≡◌, IfOk, IfSome};
+ghost use Rattle.std.specs.Prelude.{IfOk, IfSome};
 ghost use Rattle.vol_node.specs.Whole.{IsWhole};
 
 use crate::{

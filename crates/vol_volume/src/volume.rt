@@ -1,5 +1,5 @@
 //! Mounted volumes.
-ghost use Rattle.std.specs.Prelude.{◌≡◌, ◌<◌, IfOk, IfErr, IfSome, List, [], ◌∷◌, ◌++◌, ℕ, vec_len, vec_capacity, None};
+ghost use Rattle.std.specs.Prelude.{◌≡◌, ◌<◌, IfOk, IfErr, IfSome, [], ◌∷◌, ◌++◌, vec_len, vec_capacity, None};
 ghost use Rattle.vol_layout.specs.Geometry.{geometry_of};
 ghost use Rattle.vol_dir.specs.Tree.{state, free_count, shapes};
 ghost use Rattle.vol_judge.specs.Sound.{IsSound};

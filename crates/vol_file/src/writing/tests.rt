@@ -1,5 +1,5 @@
 // Worked values: which blocks a write takes and where they are named, and the zeros behind the old end.
-ghost use Rattle.std.specs.Prelude.{◌≡◌, ◌≤◌};
+ghost use Rattle.std.specs.Prelude.{◌≤◌};
 ghost use Rattle.vol_layout.specs.Geometry.{Fits};
 ghost use Rattle.vol_layout.specs.Names.{IsFile};
 ghost use Rattle.vol_file.specs.Rules.{HasSoundFiles};

@@ -1,10 +1,10 @@
 //! Rule 10: the entries `.` and `..`.
-ghost use Rattle.std.specs.Prelude.{◌≡◌, ℕ, ◌+◌, ◌≤◌, IfOk, IsTrue, ◌↔◌, vec_len, length};
+ghost use Rattle.std.specs.Prelude.{◌≡◌, ℕ, ◌+◌, IfOk, IsTrue, ◌↔◌, length};
 ghost use Rattle.vol_layout.specs.Geometry.{Fits};
 ghost use Rattle.vol_file.specs.Rules.{HasKinds};
 ghost use Rattle.vol_dir.specs.Entries.{IsDirectory, HasEntry, HasEntries};
 ghost use Rattle.vol_dir.specs.Names.{dot};
-ghost use Rattle.vol_judge.specs.Directories.{root_of, HasDots};
+ghost use Rattle.vol_judge.specs.Directories.{HasDots};
 ghost use Rattle.vol_judge.specs.InodeMarks.{IsNamed, HasUps, MarksChildren};
 ghost use Rattle.vol_judge.specs.Stepping.{rank};
 

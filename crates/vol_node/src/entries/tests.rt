@@ -1,10 +1,10 @@
 // A volume of the sixth edition by hand, in which a file is written and emptied, and names come and go.
-ghost use Rattle.std.specs.Prelude.{◌≡◌, ◌≢◌, ℕ, ◌+◌, ◌*◌, ◌%◌, ◌<◌, ◌≤◌, IfOk, IfSome, IsTrue, length, slice_index};
+ghost use Rattle.std.specs.Prelude.{◌≡◌, ◌+◌, ◌%◌, ◌<◌, ◌≤◌, IfOk, IfSome, IsTrue, length};
 ghost use Rattle.vol_layout.specs.Geometry.{Fits};
 ghost use Rattle.vol_file.specs.Rules.{kind_at};
 ghost use Rattle.vol_layout.specs.declared.mode.Kind.TheVariants as kinds;
 ghost use Rattle.vol_dir.specs.Editing.{HasNamesOnce};
-ghost use Rattle.vol_dir.specs.Entries.{IsDirectory, HasEntries};
+ghost use Rattle.vol_dir.specs.Entries.{HasEntries};
 ghost use Rattle.vol_node.specs.Whole.{IsWhole};
 
 use super::{add_name, remove_name};

@@ -1,5 +1,5 @@
 //! A call by which a name goes.
-ghost use Rattle.std.specs.Prelude.{◌≡◌, ◌≤◌, None, nat_le, if◌then◌else◌};
+ghost use Rattle.std.specs.Prelude.{◌≡◌, None, nat_le, if◌then◌else◌};
 ghost use Rattle.vol_dir.specs.Entries.{IsInUse};
 ghost use Rattle.vol_dir.specs.Tree.{tree, shapes, state, place_count};
 ghost use Rattle.vol_node.specs.Nodes.{node_at};

@@ -20,6 +20,7 @@ use saving::save;
 use std::env;
 use std::error::Error;
 use std::fs::{self, File};
+use std::hint::black_box;
 use std::io::{self, BufWriter, Write};
 use std::os::fd::AsFd;
 use std::process::ExitCode;
@@ -32,11 +33,26 @@ fn open(edition: &str, image: &str) -> Outcome<Volume> {
     Volume::open(Edition::named(edition)?, fs::read(image)?)
 }
 
-/// The volume in an image, if it is sound.
-fn mount(edition: &str, image: &str) -> Outcome<Volume> {
-    let volume = open(edition, image)?;
-    volume.judge()?;
-    Ok(volume)
+/// A sound volume that is to be changed, with a copy of the bytes that were mounted.
+struct Mounted {
+    volume: Volume,
+    base: Vec<u8>,
+}
+
+impl Mounted {
+    /// Mounts a volume, if it is sound.
+    fn new(volume: Volume) -> Outcome<Mounted> {
+        volume.judge()?;
+        let base = volume.bytes.clone();
+        Ok(Mounted { volume, base })
+    }
+
+    /// Saves the volume, and gives it up; till then the copy is kept.
+    fn save(self, image: &str) -> Outcome<()> {
+        save(&self.volume, image)?;
+        black_box(&self.base);
+        Ok(())
+    }
 }
 
 /// A new volume, of the numbers that `mkfs` is given after the image.
@@ -69,7 +85,8 @@ fn run(words: &[String]) -> Outcome<()> {
             print(|output| volume.print(ino, output))
         }
         ["ls", edition, image, path] => {
-            let volume = mount(edition, image)?;
+            let volume = open(edition, image)?;
+            volume.judge()?;
             print(|output| volume.list(path, output))
         }
         ["mkfs", edition, image, blocks, list_blocks, uid, gid, now] => {
@@ -77,17 +94,17 @@ fn run(words: &[String]) -> Outcome<()> {
         }
         ["put", edition, image, path, file, now] => {
             let now = now.parse()?;
-            let mut volume = open(edition, image)?;
+            let volume = open(edition, image)?;
             let body = fs::read(file)?;
-            volume.judge()?;
-            volume.put(path, &body, now)?;
-            save(&volume, image)
+            let mut mounted = Mounted::new(volume)?;
+            mounted.volume.put(path, &body, now)?;
+            mounted.save(image)
         }
         ["rm", edition, image, path, now] => {
             let now = now.parse()?;
-            let mut volume = mount(edition, image)?;
-            volume.unlink(path, now)?;
-            save(&volume, image)
+            let mut mounted = Mounted::new(open(edition, image)?)?;
+            mounted.volume.unlink(path, now)?;
+            mounted.save(image)
         }
         ["sample", edition, image, blocks, list_blocks, size] => {
             let mut volume = make(edition, [blocks, list_blocks, "0", "0", "0"])?;

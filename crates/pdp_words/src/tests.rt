@@ -205,6 +205,23 @@ fn interrupted_calls_are_tried_again(rt: HostRuntime) -> Result<(), Fail> {
 }
 
 #[test]
+fn calls_of_no_byte_and_of_one_do_their_work(rt: HostRuntime) -> Result<(), Fail> {
+    let mut source = FromRead::new(ScriptedReader::new(&[5, 6], 7));
+    let mut byte = [0; 1];
+    assert_eq!(rt; source.read(&mut [])?, 0);
+    assert_eq!(rt; source.read(&mut byte)?, 1);
+    assert_eq!(rt; byte, [5]);
+    assert!(rt; !source.failed());
+    assert_eq!(rt; source.into_inner().rest, [6].as_slice());
+    let mut sink = IntoWrite::new(ScriptedWriter::new(rt.alloc(), 7));
+    assert_eq!(rt; sink.write(&[])?, 0);
+    assert_eq!(rt; sink.write(&[8])?, 1);
+    assert!(rt; !sink.failed());
+    assert_eq!(rt; sink.into_inner().taken.as_slice(), [8].as_slice());
+    Ok(())
+}
+
+#[test]
 fn long_images_are_loaded_whole(rt: HostRuntime) -> Result<(), Fail> {
     let bytes = sample(rt.alloc(), 200_000)?;
     for capacity in [0, 1, 199_999, 200_000, 300_000] {

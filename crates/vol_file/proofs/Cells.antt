@@ -26,7 +26,8 @@ use Rattle.vol_free.proofs.Stacks.{head_end}
 use Rattle.vol_free.proofs.Frames.{IsFree-before_zone, IsFree-within}
 use Rattle.vol_file.specs.Rules.{IsSoundWith}
 use Rattle.vol_file.specs.Changes.{is_kept_byte}
-use Rattle.vol_file.specs.Steps.{StaysElsewhere, Stores}
+use Rattle.vol_file.specs.Steps.{StaysElsewhere}
+use Rattle.vol_file.proofs.Stores.{Stores}
 use Rattle.vol_file.proofs.Fronts.{front_longer}
 
 -- another number of an array stays where one is written

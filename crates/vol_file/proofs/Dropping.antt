@@ -13,7 +13,8 @@ use Rattle.vol_layout.proofs.NameLaws.{zone_some, named_holds, holds_named}
 use Rattle.vol_free.specs.Stack.{IsIn, IsFree, StaysBut}
 use Rattle.vol_free.proofs.Frames.{free_zone}
 use Rattle.vol_file.specs.Rules.{size_of, IsSoundWith, IsCovered}
-use Rattle.vol_file.specs.Steps.{StaysElsewhere, Stores}
+use Rattle.vol_file.specs.Steps.{StaysElsewhere}
+use Rattle.vol_file.proofs.Stores.{Stores}
 use Rattle.vol_file.specs.Clears.{IsNamedAt, IsEmptyUnder, Clears}
 use Rattle.vol_file.proofs.Alone.{fits_len, elsewhere_before, elsewhere_named, elsewhere_names, elsewhere_then}
 use Rattle.vol_file.proofs.Fronts.{front_or, front_under, front_zero}

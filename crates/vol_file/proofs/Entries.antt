@@ -14,7 +14,7 @@ use Rattle.vol_layout.proofs.FrameLaws.{addresses_few, pointers_of}
 use Rattle.vol_free.specs.Stack.{IsIn, IsFree}
 use Rattle.vol_free.proofs.Stacks.{IsFree_unique, zone_behind}
 use Rattle.vol_file.specs.Rules.{IsSoundWith}
-use Rattle.vol_file.specs.Steps.{Stores}
+use Rattle.vol_file.proofs.Stores.{Stores}
 use Rattle.vol_file.specs.Clears.{IsNamedAt}
 use Rattle.vol_file.proofs.Cells.{entry_end, stores_entry, stores_address}
 

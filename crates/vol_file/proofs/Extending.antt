@@ -23,7 +23,8 @@ use Rattle.vol_layout.proofs.FrameLaws.{zone_byte_kept}
 use Rattle.vol_free.specs.Stack.{IsIn, Popped}
 use Rattle.vol_file.specs.Shape.{is_named}
 use Rattle.vol_file.specs.Rules.{IsSoundWith, IsCovered}
-use Rattle.vol_file.specs.Steps.{StaysElsewhere, Stores, lacking, Extends}
+use Rattle.vol_file.specs.Steps.{StaysElsewhere, lacking, Extends}
+use Rattle.vol_file.proofs.Stores.{Stores}
 use Rattle.vol_file.specs.Laws.{IsAmong}
 use Rattle.vol_file.proofs.PlaceLists.{same_place, other_place, places_once, among_places}
 use Rattle.vol_file.proofs.Alone.{fits_len, elsewhere_then, elsewhere_names}

@@ -22,6 +22,7 @@ pub mod ReadingLaws
 pub mod Sizing
 pub mod Soundness
 pub mod Splicing
+pub mod Stores
 pub mod Taking
 pub mod Truncated
 pub mod Whole

@@ -19,7 +19,8 @@ use Rattle.vol_layout.proofs.InodeLaws.{mode_kept}
 use Rattle.vol_free.specs.Stack.{Popped, Pops}
 use Rattle.vol_file.specs.Shape.{is_named}
 use Rattle.vol_file.specs.Rules.{IsSoundWith}
-use Rattle.vol_file.specs.Steps.{lacking, Extends, Reaches, IsReady, IsWanted, IsNext, Stores, is_front}
+use Rattle.vol_file.specs.Steps.{lacking, Extends, Reaches, IsReady, IsWanted, IsNext, is_front}
+use Rattle.vol_file.proofs.Stores.{Stores}
 use Rattle.vol_file.proofs.PlaceLists.{same_place, other_place, place_is, places_once}
 use Rattle.vol_file.proofs.Alone.{elsewhere_self, elsewhere_then}
 use Rattle.vol_file.proofs.Cells.{stores_address, stores_entry, entry_end}

@@ -3,14 +3,11 @@ use Rattle.std.specs.Prelude.{◌≡◌, ◌≢◌, ℕ, ◌+◌, ◌-◌, ◌*�
 use Rattle.std.specs.List.{count_by, list_any, range_with_len}
 use Rattle.std.specs.Str.{bytes_eq}
 use Rattle.vol_layout.specs.Edition.{constants}
-use Rattle.vol_layout.specs.Geometry.{in_zone}
 use Rattle.vol_layout.specs.Inode.{inode_place, with_large}
 use Rattle.vol_layout.specs.Super.{free_head}
-use Rattle.vol_layout.specs.Places.{IsPlace, levels_below, block_limit, fronts, way, places}
+use Rattle.vol_layout.specs.Places.{IsPlace, block_limit, fronts, way, places}
 use Rattle.vol_layout.specs.Body.{body_byte}
-use Rattle.vol_layout.specs.Laws.{IsFront}
 use Rattle.vol_layout.specs.Names.{mode_of, form_at, IsFile, IsPlaceOf, named, Names}
-use Rattle.vol_free.specs.Stack.{IsFree}
 use Rattle.vol_file.specs.Shape.{is_named, is_on_ways, moved_down, fit_form, filled}
 use Rattle.vol_file.specs.Need.{need_of}
 use Rattle.vol_file.specs.Rules.{size_of, IsSoundWith, IsCovered}
@@ -32,18 +29,6 @@ pub record StaysElsewhere (geometry : Geometry) (old new : List ℕ) (i : ℕ) :
   pub blocks : (j : ℕ) (p : List ℕ) (k r : ℕ) → j ≢ i → Names geometry old j p k → r < 512
       → slice_index new (512 * k + r) ≡ slice_index old (512 * k + r)
   pub behind : (k : ℕ) → 512 * geometry.zone_end ≤ k → slice_index new k ≡ slice_index old k
-
--- number v was put at place q of file i, where these blocks are free: nothing else has changed (Lions on bmap)
-pub record Stores (geometry : Geometry) (old new : List ℕ) (i : ℕ) (q : List ℕ) (v : ℕ) (blocks : List ℕ) : Type 0 where
-  pub alone : StaysElsewhere geometry old new i
-  pub mode : mode_of geometry new i ≡ mode_of geometry old i
-  pub size : size_of geometry new i ≡ size_of geometry old i
-  pub here : named geometry new i q ≡ v
-  pub others : (p : List ℕ) → IsPlaceOf geometry old i p → (IsFront q p → ⊥) → named geometry new i p ≡ named geometry old i p
-  pub bytes : (k r : ℕ) → in_zone geometry k ≡ true
-      → ((p : List ℕ) → IsPlaceOf geometry old i p → 1 ≤ levels_below (form_at geometry old i) p → named geometry old i p ≢ k)
-      → r < 512 → slice_index new (512 * k + r) ≡ slice_index old (512 * k + r)
-  pub free : IsFree geometry new blocks
 
 -- how many of the wanted places of file i name nothing (Lions on bmap)
 unfoldable pub lacking : Geometry → List ℕ → ℕ → (List ℕ → Bool) → ℕ

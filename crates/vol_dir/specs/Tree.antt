@@ -80,7 +80,7 @@ is_named_place geometry image i p = is_place (form_at geometry image i) p && is_
 unfoldable pub place_count : Edition → Shape → ℕ
 place_count edition shape = count_by shape.names (places (form_in edition shape.large))
 
--- how many data blocks no place names (icheck)
+-- the number of data blocks less that of the places of all files that name something; where none is named twice, how many are free (icheck)
 unfoldable pub free_count : Geometry → (ℕ → Shape) → ℕ
 free_count geometry shapes =
     geometry.zone_end - geometry.zone_start

@@ -1,5 +1,5 @@
 -- An i-number that a record may have.
-use Rattle.std.proofs.Common.{◌≡◌, ℕ, ◌<◌, ◌≤◌, ap, sym, subst, ◌∙◌, refl, true, List, Ok}
+use Rattle.std.proofs.Common.{◌≡◌, ℕ, ◌<◌, ◌≤◌, subst, refl, true, List, Ok}
 use Rattle.vol_layout.specs.Edition.{constants}
 use Rattle.vol_layout.specs.Geometry.{geometry_of, geometry_read, Fits}
 use Rattle.vol_layout.specs.Names.{mode_of}

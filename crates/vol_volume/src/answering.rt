@@ -4,14 +4,14 @@ ghost use Rattle.vol_layout.specs.Body.{body};
 ghost use Rattle.vol_layout.specs.Geometry.{Fits, geometry_of};
 ghost use Rattle.vol_layout.specs.Names.{IsFile};
 ghost use Rattle.vol_file.specs.Rules.{kind_at, HasSoundFiles};
-ghost use Rattle.vol_dir.specs.Access.{bit_of, may_read};
-ghost use Rattle.vol_dir.specs.Entries.{slots, slot_count, IsDirectory, HasEntries, IsInUse};
+ghost use Rattle.vol_dir.specs.Access.{bit_of};
+ghost use Rattle.vol_dir.specs.Entries.{slots, IsDirectory, HasEntries, IsInUse};
 ghost use Rattle.vol_dir.specs.Names.{names_of};
 ghost use Rattle.vol_dir.specs.Tree.{tree};
 ghost use Rattle.vol_judge.specs.Sound.{IsSound};
 ghost use Rattle.vol_node.specs.Nodes.{node_at};
 ghost use Rattle.vol_volume.specs.Answer.{stat_of, list_tests, read_bytes, Answers};
-ghost use Rattle.vol_volume.specs.Answering.{IsRefused, LeadsTo, HasCollected, named};
+ghost use Rattle.vol_volume.specs.Answering.{IsRefused, LeadsTo, named};
 ghost use Rattle.vol_volume.specs.Verdict.{first_of, body_tests};
 
 use crate::bytes::Bytes;

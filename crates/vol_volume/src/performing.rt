@@ -1,10 +1,9 @@
 //! Calls that nothing speaks against, performed.
 ghost use Rattle.std.specs.Prelude.{◌≡◌, true, false, None, Some, Ok, IfSome};
 ghost use Rattle.vol_layout.specs.Geometry.{Fits};
-ghost use Rattle.vol_dir.specs.Entries.{IsDirectory, IsInUse, HasEntries};
+ghost use Rattle.vol_dir.specs.Entries.{IsDirectory, IsInUse};
 ghost use Rattle.vol_dir.specs.Tree.{tree, state};
 ghost use Rattle.vol_dir.specs.Walk.{IsComponent, has_zero, walk, walk_parent};
-ghost use Rattle.vol_file.specs.Rules.{HasSoundFiles};
 ghost use Rattle.vol_change.specs.Ready.{IsReady, free_in};
 ghost use Rattle.vol_volume.specs.Journal.{MayAnswer};
 ghost use Rattle.vol_volume.specs.Performing.{LeadsToParent, LeadsToNode, IsPerformed, caller_of, recorded_number};

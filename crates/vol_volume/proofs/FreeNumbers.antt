@@ -1,15 +1,13 @@
 -- Whether an i-number can be taken.
-use Rattle.std.proofs.Common.{◌≡◌, ◌≢◌, ℕ, ◌+◌, ◌/◌, ◌%◌, ◌<◌, ◌≤◌, ◌==◌, ◌&&◌, ◌||◌, ◌∙◌, ap, refl, sym, Bool, true, false, nat_lt, nat_le, if◌then◌else◌, List, zero, suc, inl, inr, arith}
+use Rattle.std.proofs.Common.{◌≡◌, ◌≢◌, ℕ, ◌+◌, ◌<◌, ◌≤◌, ◌==◌, ◌&&◌, ◌||◌, ◌∙◌, ap, refl, sym, Bool, true, false, nat_lt, nat_le, List, zero, suc, inl, inr, arith}
 use Rattle.std.specs.Prelude.{IsTrue, ◌↔◌, IfSome, Option, None, Some}
 use Rattle.std.specs.Option.{option_map, is_none}
 use Rattle.std.specs.List.{list_any, range_with_len}
 use Rattle.std.proofs.lemmas.Bool.{cases_eq, or_from, and_parts, true≢false}
 use Rattle.std.proofs.lemmas.Bool.Decides.{nat_tests}
 use Rattle.vol_layout.specs.Edition.{constants}
-use Rattle.vol_layout.specs.Inode.{inode_of, kind_of, kind_of_type_v6, kind_of_type_v7}
+use Rattle.vol_layout.specs.Inode.{inode_of, kind_of}
 use Rattle.vol_layout.specs.Names.{mode_of}
-use Rattle.vol_layout.specs.declared.edition.Edition.{Edition}
-use Rattle.vol_layout.specs.declared.edition.Edition.TheVariants.{V6, V7}
 use Rattle.vol_layout.specs.declared.geometry.Geometry.{Geometry}
 use Rattle.vol_layout.specs.declared.mode.Kind.{Kind}
 use Rattle.vol_layout.specs.declared.mode.Kind.TheVariants as kinds
@@ -18,12 +16,8 @@ use Rattle.vol_free.specs.Numbers.{IsFreeNumber}
 use Rattle.vol_file.specs.Rules.{kind_at, HasSoundFiles}
 use Rattle.vol_dir.specs.Tree.{node_with, content_of, tree}
 use Rattle.vol_volume.specs.Verdict.{is_free_number, has_free_number}
+use Rattle.vol_change.proofs.FreeKinds.{free_zero}
 use Rattle.vol_volume.proofs.NodeReadings.{node_from, node_of_kind}
-
--- neither of two kinds is free
-neither : (b : Bool) (x y : Kind) → x ≢ kinds.Free → y ≢ kinds.Free → (if b then x else y) ≢ kinds.Free
-neither true x y first second = first
-neither false x y first second = second
 
 regular_used : kinds.Regular ≢ kinds.Free
 regular_used e = cc
@@ -33,34 +27,6 @@ directory_used e = cc
 
 special_used : kinds.Special ≢ kinds.Free
 special_used e = cc
-
-odd_used : kinds.Odd ≢ kinds.Free
-odd_used e = cc
-
-type_v6_used : (type : ℕ) → kind_of_type_v6 type ≢ kinds.Free
-type_v6_used type = neither (type == 0) _ _ regular_used (neither (type == 2) _ _ directory_used special_used)
-
-type_v7_used : (type : ℕ) → kind_of_type_v7 type ≢ kinds.Free
-type_v7_used type =
-    neither (type == 8) _ _ regular_used (neither (type == 4) _ _ directory_used (neither (type == 2) _ _ special_used
-    (neither (type == 6) _ _ special_used (neither (type == 3) _ _ special_used (neither (type == 7) _ _ special_used odd_used)))))
-
--- only mode 0 is that of a free i-node
-free_zero : (edition : Edition) (mode : ℕ) → kind_of edition mode ≡ kinds.Free → mode ≡ 0
-unfolding kind_of
-free_zero V6 mode free = elim (cases_eq mode 0) [
-  | inl e ↦ e
-  | inr other ↦
-      let some : (mode == 0) ≡ false = grind (arith, nat_tests) in
-      absurd (neither (nat_lt mode 32768) _ _ odd_used (type_v6_used (mode / 8192 % 4))
-      (sym (ap (λ b. if b then kinds.Free else if nat_lt mode 32768 then kinds.Odd else kind_of_type_v6 (mode / 8192 % 4)) some) ∙ free))
-]
-free_zero V7 mode free = elim (cases_eq mode 0) [
-  | inl e ↦ e
-  | inr other ↦
-      let some : (mode == 0) ≡ false = grind (arith, nat_tests) in
-      absurd (type_v7_used (mode / 4096) (sym (ap (λ b. if b then kinds.Free else kind_of_type_v7 (mode / 4096)) some) ∙ free))
-]
 
 -- a test that a number of a range passes
 any_passes : (test : ℕ → Bool) (a n i : ℕ) → a ≤ i → i < a + n → test i ≡ true → list_any test (range_with_len a n) ≡ true

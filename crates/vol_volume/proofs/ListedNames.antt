@@ -21,7 +21,16 @@ use Rattle.vol_dir.specs.Names.{insert, names_of}
 use Rattle.vol_dir.specs.Scanning.{IsNextEntry}
 use Rattle.vol_dir.specs.Searching.{holds}
 use Rattle.vol_dir.proofs.NameMaps.{names_with, same_bytes}
-use Rattle.vol_volume.specs.Answering.{slots_below, named, HasCollected}
+use Rattle.vol_volume.specs.Answering.{named}
+
+-- the entries in the slots of directory d below slot n
+unfoldable pub slots_below : Geometry → List ℕ → ℕ → ℕ → List (Option (List ℕ × ℕ))
+slots_below geometry image d n = map (entry_at geometry image d) (range_with_len 0 n)
+
+-- the names in the slots of directory d below slot n were collected
+pub record HasCollected (geometry : Geometry) (image : List ℕ) (d n : ℕ) (entries : List (Vec ℕ × ℕ)) : Type 0 where
+  pub within : n ≤ slot_count geometry image d
+  pub names : named entries ≡ names_of (slots_below geometry image d n)
 
 -- one number more
 range_more : (a n j : ℕ) → a + n ≡ j → range_with_len a (suc n) ≡ range_with_len a n ++ j ∷ []

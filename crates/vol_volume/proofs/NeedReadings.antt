@@ -1,12 +1,11 @@
 -- A file needs as many blocks as its shape does.
-use Rattle.std.proofs.Common.{◌≡◌, ℕ, ◌+◌, ◌-◌, ◌*◌, ◌/◌, ◌^◌, ◌<◌, ◌≤◌, ◌==◌, ◌&&◌, ◌∙◌, ap, refl, sym, Bool, true, false, nat_lt, nat_le, not, cond, if◌then◌else◌, List, [], ◌∷◌, arith}
+use Rattle.std.proofs.Common.{◌≡◌, ℕ, ◌+◌, ◌-◌, ◌*◌, ◌/◌, ◌^◌, ◌<◌, ◌≤◌, ◌==◌, ◌&&◌, ◌∙◌, ap, refl, sym, Bool, true, false, nat_lt, not, cond, if◌then◌else◌, List, [], ◌∷◌, arith}
 use Rattle.std.specs.Prelude.{max}
 use Rattle.std.specs.List.{range_with_len}
 use Rattle.std.proofs.lemmas.Bool.Decides.{nat_tests}
 use Rattle.vol_layout.specs.Edition.{constants}
-use Rattle.vol_layout.specs.Inode.{kind_of, is_large}
 use Rattle.vol_layout.specs.Names.{mode_of, form_at}
-use Rattle.vol_layout.specs.Places.{form_of, file_form, has_places, IsPlace, places, pointer_count, levels_below}
+use Rattle.vol_layout.specs.Places.{has_places, IsPlace, places}
 use Rattle.vol_layout.specs.declared.edition.Edition.{Edition}
 use Rattle.vol_layout.specs.declared.edition.Edition.TheVariants.{V6, V7}
 use Rattle.vol_layout.specs.declared.geometry.Geometry.{Geometry}
@@ -21,22 +20,13 @@ use Rattle.vol_file.proofs.PlaceLists.{count_among, among_places}
 use Rattle.vol_dir.specs.Entries.{slots, IsDirectory}
 use Rattle.vol_dir.specs.Names.{names_in}
 use Rattle.vol_dir.specs.Searching.{new_slot}
-use Rattle.vol_dir.specs.Tree.{form_in, is_place, is_named_place, is_number, no_shape, shape_of, shapes, tree, state}
+use Rattle.vol_dir.specs.Tree.{is_place, is_named_place, is_number, no_shape, shape_of, shapes, tree, state}
 use Rattle.vol_node.specs.Nodes.{size_with_entry}
 use Rattle.vol_node.specs.Shapes.{need_in, entry_blocks}
+use Rattle.vol_node.proofs.FreeCounts.{place_test, form_shape}
 use Rattle.vol_change.specs.Ready.{entry_need}
 use Rattle.vol_volume.specs.Verdict.{write_need, is_too_great}
 use Rattle.vol_volume.proofs.NodeReadings.{tree_geometry, size_is}
-
--- a place passes the test for places
-place_tested : (form : Form) (p : List ℕ) → IsPlace form p → is_place form p ≡ true
-place_tested form [] place = absurd place
-place_tested form (k ∷ []) place = grind (arith, nat_tests)
-place_tested form (j ∷ (a ∷ p)) place =
-    let rest : is_place form (a ∷ p) ≡ true = place_tested form (a ∷ p) place.2 in
-    let low : nat_lt j (pointer_count form) ≡ true = grind (arith, nat_tests, place.0) in
-    let deep : nat_le 1 (levels_below form (a ∷ p)) ≡ true = grind (arith, nat_tests, place.1) in
-    ap (λ t. t && (nat_le 1 (levels_below form (a ∷ p)) && is_place form (a ∷ p))) low ∙ (ap (λ t. t && is_place form (a ∷ p)) deep ∙ rest)
 
 -- what the names of places say is the same with the test for places and without it
 missing_same : (form : Form) (s t : List ℕ → Bool) (blocks : List ℕ) → ((p : List ℕ) → IsPlace form p → s p ≡ t p)
@@ -51,7 +41,7 @@ abbrev tested : Form → (List ℕ → Bool) → List ℕ → Bool
 tested form names p = is_place form p && names p
 
 tested_same : (form : Form) (names : List ℕ → Bool) (p : List ℕ) → IsPlace form p → tested form names p ≡ names p
-tested_same form names p place = ap (λ t. t && names p) (place_tested form p place)
+tested_same form names p place = ap (λ t. t && names p) (place_test form p place)
 
 -- in a small file, what is moved down is the same
 moved_same : (names : List ℕ → Bool) (p : List ℕ) → moved_down (tested Small names) p ≡ moved_down names p
@@ -74,18 +64,13 @@ needed_same Large names blocks = ap (λ n. n + 0) (missing_same Large (tested La
 needed_same Deep names blocks = ap (λ n. n + 0) (missing_same Deep (tested Deep names) names blocks (tested_same Deep names))
 needed_same Bare names blocks = ap (λ n. n + 0) (missing_same Bare (tested Bare names) names blocks (tested_same Bare names))
 
--- the form of a file is that of its shape
-shape_form : (edition : Edition) (mode : ℕ) → has_places (kind_of edition mode) ≡ true → form_in edition (is_large edition mode) ≡ form_of edition mode
-shape_form V6 mode file = sym (ap (λ t. if t then file_form V6 mode else Bare) file)
-shape_form V7 mode file = sym (ap (λ t. if t then file_form V7 mode else Bare) file)
-
 need_by : (geometry : Geometry) (image : List ℕ) (i : ℕ) (kind : Kind) (blocks : List ℕ) → kind_at geometry image i ≡ kind → has_places kind ≡ true
     → need_in geometry.edition (shape_of geometry image i kind) blocks ≡ need_of (form_at geometry image i) (is_named geometry image i) blocks
 need_by geometry image i kinds.Regular blocks is file =
-    ap (λ form. need_of form (is_named_place geometry image i) blocks) (shape_form geometry.edition (mode_of geometry image i) (ap has_places is))
+    ap (λ form. need_of form (is_named_place geometry image i) blocks) (form_shape geometry.edition (mode_of geometry image i) (ap has_places is))
     ∙ needed_same (form_at geometry image i) (is_named geometry image i) blocks
 need_by geometry image i kinds.Directory blocks is file =
-    ap (λ form. need_of form (is_named_place geometry image i) blocks) (shape_form geometry.edition (mode_of geometry image i) (ap has_places is))
+    ap (λ form. need_of form (is_named_place geometry image i) blocks) (form_shape geometry.edition (mode_of geometry image i) (ap has_places is))
     ∙ needed_same (form_at geometry image i) (is_named geometry image i) blocks
 need_by geometry image i kinds.Free blocks is file = cc
 need_by geometry image i kinds.Special blocks is file = cc

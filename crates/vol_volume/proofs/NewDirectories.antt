@@ -1,5 +1,5 @@
 -- The directories of a new volume: the root alone, with the entries `.` and `..`.
-use Rattle.std.specs.Prelude.{min, nat_lt, ◌==◌}
+use Rattle.std.specs.Prelude.{nat_lt, ◌==◌}
 use Rattle.std.proofs.Common.{◌≡◌, ◌≢◌, ℕ, zero, suc, ◌+◌, ◌*◌, ◌/◌, ◌%◌, ◌<◌, ◌≤◌, List, [], ◌∷◌, refl, sym, ap, subst, ◌∙◌, arith, ◌⊎◌, inl, inr, get_or, true, false, length, map, Option, Some, None}
 use Rattle.std.specs.Option.{is_some}
 use Rattle.std.specs.List.{range_with_len, sum_by, count_by, list_any}
@@ -27,7 +27,7 @@ use Rattle.vol_dir.specs.Names.{dot, dot_dot, is_dots}
 use Rattle.vol_judge.specs.Directories.{Enters, IsReached, is_for, count_in, entry_count, HasDots, IsTree, HasLinks}
 use Rattle.vol_judge.specs.Directories.IsReached.{at_root}
 use Rattle.vol_volume.specs.Mkfs.{root_mode, IsNewVolume}
-use Rattle.vol_volume.proofs.NewVolumes.{root_first}
+use Rattle.vol_file.proofs.Naming.{root_first}
 use Rattle.vol_volume.proofs.NewFiles
 
 -- the root's first logical block stands at its first address
@@ -41,10 +41,6 @@ entry_root : (edition : Edition) (slot : Slot) (name : List ℕ) → slot ≡ re
     → entry_in slot ≡ Some (name_of name, (constants edition).root)
 entry_root V6 slot name e = ap entry_in e
 entry_root V7 slot name e = ap entry_in e
-
--- 32 bytes are two slots
-two_slots : (greatest : ℕ) → 32 ≤ greatest → min 32 greatest / 16 ≡ 2
-two_slots greatest h = omega arith
 
 -- a sum whose terms are all 0 but at one number
 sum_none : (f : ℕ → ℕ) (a n : ℕ) → ((k : ℕ) → a ≤ k → k < a + n → f k ≡ 0) → sum_by f (range_with_len a n) ≡ 0
@@ -71,13 +67,6 @@ sum_one f a (suc n) at from to none =
           sum_one f (a + 1) n at (omega (arith, other)) (omega arith) (λ k low high differ. none k (omega arith) (omega arith) differ) in
           omega (arith, first, rest, both)
     ]
-
--- a name is what it is padded from
-name_dot : name_of (padded_name dot) ≡ dot
-name_dot = refl
-
-name_dot_dot : name_of (padded_name dot_dot) ≡ dot_dot
-name_dot_dot = refl
 
 module _ (geometry : Geometry) (uid gid now : ℕ) (image : List ℕ) (new : IsNewVolume geometry uid gid now image) (fits : Fits geometry image)
     (start : 3 ≤ geometry.zone_start) where

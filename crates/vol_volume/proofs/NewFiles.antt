@@ -20,7 +20,9 @@ use Rattle.vol_free.proofs.Frames.{free_from}
 use Rattle.vol_free.proofs.Stacks.{zone_from, zone_below, IsFree_unique}
 use Rattle.vol_file.specs.Rules.{size_of, kind_at, HasKinds, HasSizes, IsZoned, IsApart, IsOutside, IsCovered}
 use Rattle.vol_volume.specs.Mkfs.{root_mode, IsNewVolume}
-use Rattle.vol_volume.proofs.NewVolumes.{zeros_at, root_first, none_below}
+use Rattle.vol_file.proofs.Naming.{root_first}
+use Rattle.vol_node.proofs.NewInodes.{few_links}
+use Rattle.vol_volume.proofs.NewVolumes.{addresses_above, none_below}
 
 -- the root's mode is that of a directory, and of a file that isn't large
 root_kind : (edition : Edition) → kind_of edition (root_mode edition) ≡ kinds.Directory
@@ -44,10 +46,6 @@ pub size_fits : (edition : Edition) → 32 ≤ (constants edition).greatest
 size_fits V6 = omega arith
 size_fits V7 = omega arith
 
-links_fit : (edition : Edition) → 2 ≤ (constants edition).link_limit
-links_fit V6 = omega arith
-links_fit V7 = omega arith
-
 root_some : (edition : Edition) → 0 < first_count (form_of edition (root_mode edition))
 unfolding kind_of
 root_some V6 = omega arith
@@ -56,11 +54,6 @@ root_some V7 = omega arith
 inode_room : (edition : Edition) → 2 ≤ (constants edition).inode_bytes
 inode_room V6 = omega arith
 inode_room V7 = omega arith
-
--- of the root's addresses the first names a block
-first_address : (block k : ℕ) → 1 ≤ k → get_or (block ∷ replicate 12 0) k 0 ≡ 0
-first_address block zero h = absurd (omega arith)
-first_address block (suc k) h = zeros_at 12 k
 
 -- a number from a up to n more is one of them
 pub in_range : (x a n : ℕ) → a ≤ x → x < a + n → IsIn x (range_with_len a n)
@@ -130,7 +123,7 @@ module _ (geometry : Geometry) (uid gid now : ℕ) (image : List ℕ) (new : IsN
     | inl e ↦ inl (ap (λ j. j ∷ []) e)
     | inr other ↦
         let few : first_count (form_at geometry image root) ≤ 13 = subst (λ form. first_count form ≤ 13) (sym form_root) (root_addresses geometry.edition) in
-        inr (address_root k (omega (arith, place, few)) ∙ first_address geometry.zone_start k (omega (arith, other)))
+        inr (address_root k (omega (arith, place, few)) ∙ addresses_above geometry.zone_start k (omega (arith, other)))
   ]
   named_others (j ∷ (a ∷ p)) place = elim (named_others (a ∷ p) place.2) [
     | inl e ↦
@@ -179,7 +172,7 @@ module _ (geometry : Geometry) (uid gid now : ℕ) (image : List ℕ) (new : IsN
     links = λ i first last some.
         let links : (inode_of geometry.edition image i).links ≡ 2 =
         ap (λ j. (inode_of geometry.edition image j).links) (only_root i first last some) ∙ ap (λ node. node.links) new.root in
-        let most : 2 ≤ (constants geometry.edition).link_limit = links_fit geometry.edition in omega arith;
+        let most : 2 ≤ (constants geometry.edition).link_limit = few_links geometry.edition in omega arith;
   }
 
   -- rule 5

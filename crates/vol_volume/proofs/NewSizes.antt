@@ -11,7 +11,8 @@ use Rattle.vol_layout.specs.Super.{free_head, time_place}
 use Rattle.vol_layout.proofs.CopyLaws.{IsCopy, long_copied}
 use Rattle.vol_layout.proofs.InodeLaws.{place_from, place_room, place_apart}
 use Rattle.vol_free.proofs.Stacks.{head_end}
-use Rattle.vol_volume.proofs.NewVolumes.{zeros_at, root_first}
+use Rattle.vol_file.proofs.Naming.{root_first}
+use Rattle.vol_volume.proofs.NewVolumes.{zeros_at}
 use Rattle.vol_volume.specs.Mkfs.{is_size, IsMakeable, KeepsFirstBlocks}
 use Rattle.vol_layout.specs.declared.edition.Edition.{Edition}
 use Rattle.vol_layout.specs.declared.edition.Edition.TheVariants.{V6, V7}

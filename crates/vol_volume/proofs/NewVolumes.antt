@@ -1,18 +1,16 @@
 -- Lemmas on making a volume.
-use Rattle.std.proofs.Common.{◌≡◌, ℕ, zero, suc, ◌+◌, ◌-◌, ◌<◌, ◌≤◌, List, [], ◌∷◌, refl, ap, subst, ◌∙◌, arith, inl, inr, get_or, false, replicate}
+use Rattle.std.proofs.Common.{◌≡◌, ℕ, zero, suc, ◌+◌, ◌-◌, ◌<◌, ◌≤◌, List, ◌∷◌, refl, ap, subst, ◌∙◌, arith, inl, inr, get_or, false, replicate}
 use Rattle.std.specs.List.{range_with_len}
 use Rattle.std.proofs.lemmas.Bool.{cases_lt}
 use Rattle.std.proofs.lemmas.Bool.Decides.{nat_tests}
 use Rattle.std.proofs.lemmas.Grind.{common_steps}
 use Rattle.std.proofs.lemmas.List.{get_or-replicate}
-use Rattle.pdp_words.specs.Words.{word}
 use Rattle.vol_layout.specs.Inode.{IsStorable}
 use Rattle.vol_layout.specs.Inode.IsStorable.{in_v6, in_v7}
 use Rattle.vol_layout.specs.declared.edition.Edition.{Edition}
 use Rattle.vol_layout.specs.declared.edition.Edition.TheVariants.{V6, V7}
 use Rattle.vol_layout.specs.Edition.{constants}
-use Rattle.vol_layout.specs.Super.{free_head}
-use Rattle.vol_free.specs.Stack.{IsIn, Once, IsStack, IsFree, StaysBut}
+use Rattle.vol_free.specs.Stack.{IsIn, IsFree, StaysBut}
 use Rattle.vol_free.proofs.Stacks.{IsFree_unique}
 use Rattle.vol_volume.specs.Mkfs.{is_bad_id, root_inode, KeepsFirstBlocks}
 use Rattle.vol_layout.specs.declared.geometry.Geometry.{Geometry}
@@ -23,11 +21,6 @@ unfolding IsIn
 IsIn-range_with_len x a zero h = absurd h
 IsIn-range_with_len x a (suc n) h =
     elim h [ inl e ↦ omega arith | inr later ↦ let above : a + 1 ≤ x = IsIn-range_with_len x (a + 1) n later in omega arith ]
-
--- an empty free list
-pub free_none : (geometry : Geometry) (image : List ℕ) → word image (free_head geometry.edition) ≡ 0 → IsFree geometry image []
-unfolding IsStack Once
-free_none geometry image e = record { count = omega arith; stack = inl e; once = tt }
 
 -- a number below those that are free isn't free
 pub none_below : (geometry : Geometry) (image : List ℕ) (a b n : ℕ) → 1 ≤ geometry.zone_start → b < a
@@ -56,7 +49,7 @@ pub zeros_at : (n k : ℕ) → get_or {A = ℕ} (replicate n 0) k 0 ≡ 0
 zeros_at n k = elim (cases_lt k n) [ inl low ↦ get_or-replicate n k 0 0 low | inr past ↦ grind (arith, common_steps) ]
 
 -- of the root's addresses the first alone isn't zero
-addresses_above : (block k : ℕ) → 1 ≤ k → get_or (block ∷ replicate 12 0) k 0 ≡ 0
+pub addresses_above : (block k : ℕ) → 1 ≤ k → get_or (block ∷ replicate 12 0) k 0 ≡ 0
 addresses_above block zero h = absurd (omega arith)
 addresses_above block (suc k) h = zeros_at 12 k
 
@@ -73,8 +66,3 @@ root_storable V6 block uid gid now room id =
     in_v6 (omega arith) (omega arith) (omega arith) (omega arith) (λ k h. addresses_within block k 65536 room)
     (λ k h. addresses_above block k (omega arith)) refl
 root_storable V7 block uid gid now room id = in_v7 {node = root_inode V7 block uid gid now} (λ k. addresses_within block k 16777216 room) refl
-
--- the root's i-number is above 0
-pub root_first : (edition : Edition) → 1 ≤ (constants edition).root
-root_first V6 = omega arith
-root_first V7 = omega arith

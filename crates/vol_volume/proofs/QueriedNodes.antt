@@ -3,19 +3,15 @@ use Rattle.std.proofs.Common.{◌≡◌, ◌≢◌, ℕ, ◌≤◌, ◌%◌, Boo
 use Rattle.std.specs.Prelude.{not, if◌then◌else◌, IfOk}
 use Rattle.std.specs.Option.{option_map, unwrap_or}
 use Rattle.std.proofs.lemmas.Bool.Decides.{nat_tests}
-use Rattle.vol_layout.specs.Edition.{constants}
 use Rattle.vol_layout.specs.Geometry.{Fits, geometry_of, geometry_read}
 use Rattle.vol_layout.specs.Inode.{inode_of}
-use Rattle.vol_layout.specs.Names.{IsFile}
-use Rattle.vol_layout.specs.Places.{has_places}
-use Rattle.vol_layout.specs.declared.edition.Edition.{Edition}
-use Rattle.vol_layout.specs.declared.edition.Edition.TheVariants.{V6, V7}
 use Rattle.vol_layout.specs.declared.geometry.Geometry.{Geometry}
 use Rattle.vol_layout.specs.declared.geometry.GeometryFault.{GeometryFault}
 use Rattle.vol_layout.specs.declared.i_node.Inode.{Inode}
 use Rattle.vol_layout.specs.declared.mode.Kind.{Kind}
 use Rattle.vol_layout.specs.declared.mode.Kind.TheVariants as kinds
 use Rattle.vol_file.specs.Rules.{kind_at, HasSoundFiles}
+use Rattle.vol_file.proofs.Naming.{root_first}
 use Rattle.vol_dir.specs.Access.{grants_at, may_read}
 use Rattle.vol_dir.specs.Entries.{slots, HasEntries, IsInUse}
 use Rattle.vol_dir.specs.Names.{names_of}
@@ -52,11 +48,6 @@ pub entries_sound : (geometry : Geometry) (image : List ℕ) → IsSound geometr
 entries_sound geometry image sound sizes =
     subst (λ g. HasEntries g image) (sym sizes) (sound_entries geometry.edition image sound)
 
--- the root's i-number isn't 0
-root_low : (edition : Edition) → 1 ≤ (constants edition).root
-root_low V6 = omega arith
-root_low V7 = omega arith
-
 -- an i-number of the volume stands for what its i-node reads as
 node_read : (geometry : Geometry) (image : List ℕ) (i : ℕ) → 1 ≤ i → i ≤ geometry.last_inode
     → (tree geometry image).nodes i ≡ node_of geometry image i
@@ -72,7 +63,7 @@ node_is : (geometry : Geometry) (image : List ℕ) (i : ℕ) (kind : Kind) (cont
 unfolding node_of
 node_is geometry image i kind content used is holds =
     ap (λ node. unwrap_or node no_node)
-    (node_read geometry image i (omega (arith, root_low geometry.edition, used.first)) used.last
+    (node_read geometry image i (omega (arith, root_first geometry.edition, used.first)) used.last
     ∙ (ap (λ k. option_map (node_with (inode_of geometry.edition image i)) (content_of geometry image i k)) is
     ∙ ap (option_map (node_with (inode_of geometry.edition image i))) holds))
 
@@ -105,7 +96,7 @@ told_of geometry image i kinds.Special used is some known = sym (ap (stat_of i) 
 known_kind : (geometry : Geometry) (image : List ℕ) (i : ℕ) → HasSoundFiles geometry image → IsInUse geometry image i
     → kind_at geometry image i ≢ kinds.Odd
 known_kind geometry image i files used =
-    files.sound.kinds.known i (omega (arith, root_low geometry.edition, used.first)) used.last
+    files.sound.kinds.known i (omega (arith, root_first geometry.edition, used.first)) used.last
 
 -- what is told of an i-node is told of its node
 pub stat_is : (geometry : Geometry) (image : List ℕ) (i permissions : ℕ) (kind : Kind) (node : Inode) → HasSoundFiles geometry image
@@ -182,12 +173,3 @@ pub names_are : (geometry : Geometry) (image : List ℕ) (i : ℕ) → IsInUse g
     → names_at (tree geometry image) i ≡ names_of (slots geometry image i)
 names_are geometry image i used is =
     ap (λ node. unwrap_or (map_of node.content) []) (node_is geometry image i kinds.Directory _ used is refl)
-
--- a regular file is a file
-pub file_is : (geometry : Geometry) (image : List ℕ) (i : ℕ) → IsInUse geometry image i → kind_at geometry image i ≡ kinds.Regular
-    → IsFile geometry image i
-file_is geometry image i used is = record {
-  first = omega (arith, root_low geometry.edition, used.first);
-  last = used.last;
-  kind = ap has_places is;
-}

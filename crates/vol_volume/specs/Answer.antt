@@ -53,7 +53,7 @@ query_refusal tree (queries.Read cred path offset len) =
 query_refusal tree (queries.List cred path) =
     then_others tree cred (path ∷ []) (of_node (walk tree cred path) (λ i. first_of (list_tests tree cred i)))
 
--- the reply of the node that a walk leads to
+-- the reply of the node that a walk leads to (Lions on namei)
 abbrev pub reply_at : Result ℕ Refusal → (ℕ → Reply) → Result Reply Refusal
 reply_at (Err refusal) reply = Err refusal
 reply_at (Ok i) reply = Ok (reply i)
@@ -69,7 +69,7 @@ reply_of tree (queries.Read cred path offset len) =
     reply_at (walk tree cred path) (λ i. replies.Bytes (read_bytes (body_of (node_at tree i).content) offset len))
 reply_of tree (queries.List cred path) = reply_at (walk tree cred path) (λ i. replies.Names (names_at tree i))
 
--- a refusal, or else a reply
+-- a refusal, or else a reply (this project)
 abbrev pub refused_or : Option Refusal → Result Reply Refusal → Result Reply Refusal
 refused_or (Some refusal) reply = Err refusal
 refused_or None reply = reply
@@ -78,7 +78,7 @@ refused_or None reply = reply
 abbrev pub answer : Tree → Query → Result Reply Refusal
 answer tree query = refused_or (query_refusal tree query) (reply_of tree query)
 
--- whether the reply to a query takes memory
+-- whether the reply to a query takes memory (this project)
 abbrev pub takes_memory : Query → Bool
 takes_memory (queries.Stat cred path) = false
 takes_memory (queries.Read cred path offset len) = true

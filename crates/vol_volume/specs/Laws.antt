@@ -16,32 +16,32 @@ use Rattle.vol_volume.specs.declared.calls.Done.{Done}
 use Rattle.vol_volume.specs.declared.calls.Record.{Record}
 use Rattle.vol_volume.specs.declared.queries.Query.{Query}
 
--- a volume that is consistent is so after each accepted call
+-- a volume that is consistent is so after each accepted call (this project)
 abbrev pub KeepsConsistent : Type 0
 KeepsConsistent = (old new : Mounted) (call : Call) (done : Done) → IsConsistent old → Accepts old new call done → IsConsistent new
 
--- a journal leads where its second part leads from where its first part led
+-- a journal leads where its second part leads from where its first part led (this project)
 abbrev pub LeadsInParts : Type 0
 LeadsInParts = (state : State) (front rest : List Record) → after state (front ++ rest) ≡ after (after state front) rest
 
--- and it is legal where both parts are
+-- and it is legal where both parts are (this project)
 abbrev pub IsLegalInParts : Type 0
 IsLegalInParts = (state : State) (front rest : List Record)
     → IsLegal state (front ++ rest) ↔ (IsLegal state front × IsLegal (after state front) rest)
 
--- no tree is a reason for want of memory in a call
+-- no tree is a reason for want of memory in a call (this project)
 abbrev pub HasMemory : Type 0
 HasMemory = (state : State) (call : Call) → verdict state call ≢ Some refusals.NoMemory
 
--- nor for a query
+-- nor for a query (this project)
 abbrev pub HasMemoryForQueries : Type 0
 HasMemoryForQueries = (tree : Tree) (query : Query) → query_refusal tree query ≢ Some refusals.NoMemory
 
--- a write of no bytes changes nothing but the super-block's time
+-- a write of no bytes changes nothing but the super-block's time (Lions on writei; the time is this project's)
 abbrev pub WritesNothing : Type 0
 WritesNothing = (state : State) (cred : Cred) (now offset : ℕ) (path : List ℕ) (done : Done)
     → step state (Write cred now path offset []) done ≡ at_time now state
 
--- the empty path leads to the root, and so does one of slashes alone
+-- the empty path leads to the root, and so does a slash (this project)
 abbrev pub LeadsToRoot : Type 0
 LeadsToRoot = (tree : Tree) (cred : Cred) → (walk tree cred [] ≡ Ok (root tree)) × (walk tree cred (47 ∷ []) ≡ Ok (root tree))

@@ -14,7 +14,7 @@ use Rattle.vol_layout.specs.declared.edition.Edition.TheVariants.{V6, V7}
 use Rattle.vol_layout.specs.declared.geometry.Geometry.{Geometry}
 use Rattle.vol_layout.specs.declared.i_node.Inode.{Inode}
 
--- whether a volume can have so many blocks, of which so many are the i-list: those are rule 2's limits (rule 2)
+-- whether a volume can have so many blocks, of which so many are the i-list: rule 2 holds, and the sixth edition's word has room for the number of blocks (filsys.h)
 abbrev pub is_size : Edition → ℕ → ℕ → Bool
 is_size V6 blocks list_blocks =
     nat_le 1 list_blocks && (nat_le list_blocks 4095 && (nat_lt (list_blocks + 2) blocks && nat_le blocks 65535))
@@ -61,7 +61,7 @@ pub record IsMakeable (geometry : Geometry) : Type 0 where
 
 -- an image is that of a new volume: its geometry is the one asked for and it has no more bytes, its time is `now`, the
 -- root has its i-node and its two slots, both of which name it, each other i-node is all zeros, and the free blocks are all
--- data blocks but the root's, ascending
+-- data blocks but the root's, ascending (mkfs)
 pub record IsNewVolume (geometry : Geometry) (uid gid now : ℕ) (image : List ℕ) : Type 0 where
   pub len : length image ≡ 512 * geometry.zone_end
   pub sizes : geometry_read geometry.edition image ≡ Ok geometry

@@ -33,7 +33,7 @@ caller_of (Rmdir cred now path) = record { cred = cred; moment = now }
 caller_of (Write cred now path offset bytes) = record { cred = cred; moment = now }
 caller_of (Truncate cred now path) = record { cred = cred; moment = now }
 
--- the i-number of what a call made, where its answer is recorded
+-- the i-number of what a call made, where its answer is recorded (this project)
 abbrev pub recorded_number : Option Done → Option ℕ
 recorded_number None = None
 recorded_number (Some (Made i)) = Some i

@@ -10,24 +10,24 @@ use Rattle.vol_volume.specs.declared.calls.Call.TheVariants.{Create, Mkdir, Link
 use Rattle.vol_volume.specs.declared.calls.Done.{Done}
 use Rattle.vol_volume.specs.declared.calls.Done.TheVariants.{Made, Wrote, Plain}
 
--- the state changed at the node that a walk leads to; where it leads nowhere, the state as it is
+-- the state changed at the node that a walk leads to; where it leads nowhere, the state as it is (this project)
 abbrev pub on_node : State → Result ℕ Refusal → (ℕ → State) → State
 on_node state (Err refusal) change = state
 on_node state (Ok i) change = change i
 
--- the state changed at the parent and the name that a walk leads to; where it leads nowhere, the state as it is
+-- the state changed at the parent and the name that a walk leads to; where it leads nowhere, the state as it is (this project)
 abbrev pub on_parent : State → Option (Result (ℕ × List ℕ) Refusal) → (ℕ → List ℕ → State) → State
 on_parent state None change = state
 on_parent state (Some (Err refusal)) change = state
 on_parent state (Some (Ok found)) change = change found.0 found.1
 
--- the i-number that a call made; a call that makes none has none
+-- the i-number that a call made, and 0 for one that makes none (this project)
 abbrev pub made_number : Done → ℕ
 made_number (Made i) = i
 made_number (Wrote n) = 0
 made_number Plain = 0
 
--- the state after a call, but for the super-block's time
+-- the state after a call, but for the super-block's time (Lions; mkdir, rmdir)
 unfoldable pub changed_by : State → Call → Done → State
 changed_by state (Create cred now path perm) done =
     on_parent state (walk_parent state.tree cred path) (after_create state cred now perm (made_number done))
@@ -40,7 +40,7 @@ changed_by state (Rmdir cred now path) done = on_parent state (walk_parent state
 changed_by state (Write cred now path offset bytes) done = on_node state (walk state.tree cred path) (after_write state now offset bytes)
 changed_by state (Truncate cred now path) done = on_node state (walk state.tree cred path) (after_truncate state now)
 
--- the moment of a call
+-- the moment of a call (this project)
 abbrev pub moment_of : Call → ℕ
 moment_of (Create cred now path perm) = now
 moment_of (Mkdir cred now path perm) = now

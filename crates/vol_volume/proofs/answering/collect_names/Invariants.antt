@@ -1,5 +1,5 @@
 use Rattle.std.proofs.Common.{◌-◌}
-use Rattle.vol_volume.specs.Answering.{HasCollected}
+use Rattle.vol_volume.proofs.ListedNames.{HasCollected}
 use Rattle.vol_volume.proofs.answering.collect_names.Given as goal
 
 -- the names before slot `from` are collected

@@ -6,7 +6,7 @@ use Rattle.vol_layout.proofs.CopyLaws.{IsCopy}
 use Rattle.vol_layout.proofs.InodeLaws.{place_from, place_room, inode_of_kept}
 use Rattle.vol_layout.proofs.SlotLaws.{slot_copied}
 use Rattle.vol_free.proofs.Stacks.{head_end}
-use Rattle.vol_volume.proofs.NewVolumes.{root_first}
+use Rattle.vol_file.proofs.Naming.{root_first}
 use Rattle.vol_volume.proofs.NewSizes.{len_blank, fits_blank, fits_rooted, super_rooted, free_rooted, others_zero, read_makeable, sizes_kept, time_kept, time_within}
 use Rattle.vol_volume.proofs.making.fill.Goals as goal
 

@@ -1,7 +1,8 @@
 use Rattle.std.proofs.Common.{◌≡◌, ◌+◌, ◌-◌, refl, arith, sym, subst, ap, []}
 use Rattle.std.specs.List.{range_with_len}
 use Rattle.vol_free.specs.Stack.{IsFree}
-use Rattle.vol_volume.proofs.NewVolumes.{free_none, none_below, range_before, kept_on}
+use Rattle.vol_free.proofs.Frames.{IsFree-none}
+use Rattle.vol_volume.proofs.NewVolumes.{none_below, range_before, kept_on}
 use Rattle.vol_volume.proofs.making.give_all.Goals as goal
 
 pub loop-next-init : goal.loop-next-init
@@ -12,7 +13,7 @@ loop-next-init c =
       omega arith,
       omega arith,
       c.requires.fits,
-      subst (IsFree geometry c.args.image.now) empty (free_none geometry c.args.image.now c.requires.empty),
+      subst (IsFree geometry c.args.image.now) empty (IsFree-none geometry c.args.image.now c.requires.empty),
       record { len = refl; below = λ k h. refl; between = λ k a b. refl },
     )
 

@@ -4,7 +4,8 @@ use Rattle.vol_layout.specs.Inode.{IsStorable, inode_of}
 use Rattle.vol_layout.proofs.CopyLaws.{copy_below}
 use Rattle.vol_layout.proofs.InodeLaws.{inode_kept, inode_of_kept, fits_kept}
 use Rattle.vol_layout.proofs.SlotLaws.{slot_copied}
-use Rattle.vol_volume.proofs.NewVolumes.{root_storable, root_first}
+use Rattle.vol_file.proofs.Naming.{root_first}
+use Rattle.vol_volume.proofs.NewVolumes.{root_storable}
 use Rattle.vol_volume.proofs.making.put_root.Goals as goal
 
 pub put_inode-requires-clause-storable : goal.put_inode-requires-clause-storable

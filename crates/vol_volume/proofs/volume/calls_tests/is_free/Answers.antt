@@ -1,4 +1,4 @@
-use Rattle.std.proofs.Common.{◌≡◌, ◌<◌, subst, true, arith, rules}
+use Rattle.std.proofs.Common.{◌≡◌, ◌<◌, subst, arith, rules}
 use Rattle.std.proofs.lemmas.Bool.Decides.{nat_tests}
 use Rattle.vol_volume.proofs.RecordedNumbers.{number_shown}
 use Rattle.vol_volume.proofs.volume.calls_tests.is_free.Goals as goal

@@ -20,6 +20,12 @@ IsEditionNamed V7 text = text ≡ codes "7"
 abbrev pub IsNoEdition : List ℕ → Type 0
 IsNoEdition text = (text ≢ codes "6") × (text ≢ codes "7")
 
+-- the word names no command (this project)
+abbrev pub IsNoCommand : List ℕ → Type 0
+IsNoCommand text =
+    (text ≢ codes "cat") × (text ≢ codes "ls") × (text ≢ codes "get") × (text ≢ codes "mkfs") × (text ≢ codes "put")
+    × (text ≢ codes "rm") × (text ≢ codes "rmdir") × (text ≢ codes "mkdir") × (text ≢ codes "ln")
+
 -- the words after `cat` ask for this (this project)
 abbrev pub AsksForCat : List ℕ → List ℕ → List ℕ → Invocation → Type 0
 AsksForCat edition image ino (Cat named file number) =

@@ -2,7 +2,7 @@
 ghost use Rattle.std.specs.Prelude.{◌≡◌, ◌⊎◌, None, IfOk, IfErr, IfSome, IsErrOf, codes};
 ghost use Rattle.clap.specs.Words.{kind_of};
 ghost use Rattle.clap.specs.declared.error.kind.ErrorKind.TheVariants as clap_kinds;
-ghost use Rattle.unixvol.specs.CommandLine.{IsEditionNamed, IsNoEdition, AsksFor, AsksForCat, given_in};
+ghost use Rattle.unixvol.specs.CommandLine.{IsEditionNamed, IsNoEdition, IsNoCommand, AsksFor, AsksForCat, given_in};
 ghost use Rattle.unixvol.specs.Decimal.{IsNumberUpTo};
 
 use crate::decimal::word_of;
@@ -112,7 +112,8 @@ fn read_command<'a>(
     verb: &str,
     values: &ArgMatches<'a>,
 ) -> Result<Option<Invocation<'a>>, Error>
-    ensures { IfOk result (λ found. IfSome found (AsksFor verb.now values.now)) }
+    ensures read { IfOk result (λ found. IfSome found (AsksFor verb.now values.now)) }
+    ensures missing { IfOk result (λ found. found ≡ None → IsNoCommand verb.now) }
 {
     let invocation = match verb {
         "cat" => read_cat(alloc, values)?,

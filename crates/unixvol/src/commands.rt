@@ -96,7 +96,9 @@ fn run_job<R: Files + Eprint + AllocGlobal, W: Write, E: Write>(
 }
 
 /// The bytes of the file that a job puts into a volume, or none.
-fn file_of<R: Files + Eprint + AllocGlobal>(rt: &R, job: Job<'_>) -> Result<Vec<u8>, u8> {
+fn file_of<R: Files + Eprint + AllocGlobal>(rt: &R, job: Job<'_>) -> Result<Vec<u8>, u8>
+    ensures { IfErr result (λ status. (status ≡ 3) ⊎ (status ≡ 4)) }
+{
     match job {
         Job::Put { file, .. } => read_file(rt, file),
         _ => Ok(Vec::new(rt.alloc())),

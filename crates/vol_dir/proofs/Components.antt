@@ -3,6 +3,7 @@ use Rattle.std.proofs.Common.{◌≡◌, ℕ, ◌+◌, ◌<◌, Bool, true, fals
 use Rattle.std.specs.Prelude.{not, ◌||◌, filter}
 use Rattle.std.specs.List.{position_or_len, list_any}
 use Rattle.std.proofs.Math.Nat.{min_comm}
+use Rattle.std.proofs.lemmas.Bool.{or_parts}
 use Rattle.std.proofs.lemmas.List.{take_min, nil_from_length, length-take}
 use Rattle.vol_dir.specs.Walk.{onto_first, pieces, is_nil, components, has_zero, IsComponent}
 
@@ -118,20 +119,16 @@ components-split path named front rest k n m at is full stop before after cut =
     ∙ (ap (λ xs. xs ∷ components (drop n named)) (sym short) ∙ ap (λ xs. take m front ∷ components xs) (sym after)) in
     same ∙ (split ∙ parts)
 
-or_false : (a b : Bool) → (a || b) ≡ false → (a ≡ false) × (b ≡ false)
-or_false false b e = (refl, e)
-or_false true b e = cc
-
 list_any-take : (p : ℕ → Bool) (n : ℕ) (xs : List ℕ) → list_any p xs ≡ false → list_any p (take n xs) ≡ false
 list_any-take p zero xs e = refl
 list_any-take p (suc n) [] e = refl
 list_any-take p (suc n) (x ∷ xs) e =
-    let h = or_false (p x) (list_any p xs) e in ap (λ b. b || list_any p (take n xs)) h.0 ∙ list_any-take p n xs h.1
+    let h = or_parts (p x) (list_any p xs) e in ap (λ b. b || list_any p (take n xs)) h.0 ∙ list_any-take p n xs h.1
 
 list_any-drop : (p : ℕ → Bool) (n : ℕ) (xs : List ℕ) → list_any p xs ≡ false → list_any p (drop n xs) ≡ false
 list_any-drop p zero xs e = e
 list_any-drop p (suc n) [] e = refl
-list_any-drop p (suc n) (x ∷ xs) e = list_any-drop p n xs (or_false (p x) (list_any p xs) e).1
+list_any-drop p (suc n) (x ∷ xs) e = list_any-drop p n xs (or_parts (p x) (list_any p xs) e).1
 
 -- no byte before the first slash is a slash
 list_any-first : (xs : List ℕ) → list_any (λ c. eqb c 47) (take (position_or_len (λ c. eqb c 47) xs) xs) ≡ false

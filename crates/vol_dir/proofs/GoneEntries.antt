@@ -22,10 +22,11 @@ use Rattle.vol_file.specs.Changes.{spliced, Writes}
 use Rattle.vol_file.specs.Need.{missing_count, need, need_of}
 use Rattle.vol_file.specs.Rules.{size_of, IsSoundWith}
 use Rattle.vol_file.specs.Shape.{is_named, touched, is_on_ways, grows_large, moved_down}
+use Rattle.vol_file.proofs.PlaceLists.{same_bytes}
 use Rattle.vol_dir.specs.Editing.{with_item, HasNamesOnce}
 use Rattle.vol_dir.specs.Entries.{slot_count, entry_at, slots}
 use Rattle.vol_dir.specs.Searching.{holds, slot_named}
-use Rattle.vol_dir.proofs.NameMaps.{same_bytes, cleared}
+use Rattle.vol_dir.proofs.NameMaps.{cleared}
 use Rattle.vol_dir.proofs.Replacing.{Replaces, replaces, spliced_inside, length-with_item, with_item_here, with_item_else}
 use Rattle.vol_dir.proofs.SlotReading.{length-slots, slot_from, slot_is, entry_in_hole, empty_slot}
 

@@ -12,7 +12,7 @@ use Rattle.std.proofs.lemmas.Cmp.{nat_list_cmp_total}
 use Rattle.std.proofs.lemmas.Bool.{or_parts, true≢false, false_from_ne_true}
 use Rattle.std.proofs.lemmas.Map.Lookups.{exact_bytes}
 use Rattle.std.proofs.lemmas.Map.Text.{is_eq-slice_cmp}
-use Rattle.std.proofs.lemmas.Slice.Eq.{bytes_eq-Decides}
+use Rattle.vol_file.proofs.PlaceLists.{bytes_same, same_bytes}
 use Rattle.vol_dir.specs.Editing.{with_item}
 use Rattle.vol_dir.specs.Names.{Names, get, insert, remove, names_of, names_in}
 use Rattle.vol_dir.specs.Names.{is_dots}
@@ -100,14 +100,6 @@ turned : {X : Type 0} (a b : Bool) (x y z : X) → (a ≡ true → b ≡ true �
 turned true true x y z apart = absurd (apart refl refl)
 turned true false x y z apart = refl
 turned false b x y z apart = refl
-
--- names with equal bytes are equal
-pub same_bytes : (xs ys : List ℕ) → bytes_eq xs ys ≡ true → xs ≡ ys
-same_bytes xs ys e = (bytes_eq-Decides xs ys).0 e
-
--- and the other way round
-pub bytes_same : (xs ys : List ℕ) → xs ≡ ys → bytes_eq xs ys ≡ true
-bytes_same xs ys e = (bytes_eq-Decides xs ys).1 e
 
 -- another item behind the first
 with_item_next : {X : Type 0} (first x : X) (xs : List X) (s : ℕ) → with_item (first ∷ xs) (suc s) x ≡ first ∷ with_item xs s x

@@ -11,7 +11,7 @@ use Rattle.vol_layout.specs.Body.{body_byte, zone_byte}
 use Rattle.vol_layout.specs.declared.geometry.Geometry.{Geometry}
 use Rattle.vol_layout.specs.declared.places.Form.TheVariants.{Small, Large}
 use Rattle.vol_layout.proofs.InodeLaws.{mode_kept, size_kept, form_kept}
-use Rattle.vol_layout.proofs.PlaceLaws.{IsLeaf, leaf_block, last_leaf, has_no_way, small_levels}
+use Rattle.vol_layout.proofs.PlaceLaws.{IsLeaf, leaf_block, last_leaf, has_no_way, large_levels, small_levels}
 use Rattle.vol_layout.proofs.BodyLaws.{body_byte_is, zone_byte_out}
 use Rattle.vol_layout.proofs.NameLaws.{zone_some, zero_out, named_stops, holds_named, named_holds}
 use Rattle.vol_layout.proofs.FrameLaws.{zone_byte_kept}
@@ -54,10 +54,6 @@ entry_none : (geometry : Geometry) (image : List ℕ) (i j a : ℕ) (p : List �
     → named geometry image i (j ∷ (a ∷ p)) ≡ 0
 entry_none geometry image i j a p fits zero = named_stops geometry image i j a p (ap (in_zone geometry) zero ∙ zero_out geometry image fits)
 
--- the levels below an address of a large file but the last
-one_level : (k : ℕ) → k < 7 → levels Large k ≡ 1
-one_level k h = rw (ne_eqb k 7 (λ e. omega arith)) refl
-
 -- a large file has two levels at most below a place
 few_levels : (h : ℕ) (q : List ℕ) → levels_below Large (h ∷ q) ≤ 2
 few_levels h [] = elim (cases_eq h 7) [
@@ -77,7 +73,7 @@ deep_none : (geometry : Geometry) (old new : List ℕ) (i b : ℕ) (rest : List 
     → IsPlace Large (l ∷ (j ∷ (k ∷ q))) → named geometry new i (l ∷ (j ∷ (k ∷ q))) ≡ 0
 deep_none geometry old new i b rest l j k [] fits moves place =
     elim (cases_lt k 7) [
-      | inl low ↦ let one : levels Large k ≡ 1 = one_level k low in let deep : 1 ≤ levels Large k - 1 = place.1 in absurd (omega (arith, one, deep))
+      | inl low ↦ let one : levels Large k ≡ 1 = large_levels k low in let deep : 1 ≤ levels Large k - 1 = place.1 in absurd (omega (arith, one, deep))
       | inr high ↦
           entry_none geometry new i l j (k ∷ []) fits (entry_none geometry new i j k [] fits (moves.others k (omega arith) place.2.2))
     ]

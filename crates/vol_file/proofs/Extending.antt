@@ -26,7 +26,7 @@ use Rattle.vol_file.specs.Rules.{IsSoundWith, IsCovered}
 use Rattle.vol_file.specs.Steps.{StaysElsewhere, lacking, Extends}
 use Rattle.vol_file.proofs.Stores.{Stores}
 use Rattle.vol_file.specs.Laws.{IsAmong}
-use Rattle.vol_file.proofs.PlaceLists.{same_place, other_place, places_once, among_places}
+use Rattle.vol_file.proofs.PlaceLists.{bytes_same, other_place, places_once, among_places}
 use Rattle.vol_file.proofs.Alone.{fits_len, elsewhere_then, elsewhere_names}
 use Rattle.vol_file.proofs.Naming.{MayStand, stores_only, stores_sound, place_same}
 use Rattle.vol_file.proofs.Taking.{IsUnnamed, stays_block, stays_inode, zone_two, stays_named, stays_before, stays_elsewhere, first_unnamed, first_zoned, first_once, taken_sound}
@@ -75,7 +75,7 @@ count_less f g q (p ∷ qs) n once here gone others =
     let split : count_by (bytes_eq q) (p ∷ qs) ≡ cond (bytes_eq q p) 1 0 + count_by (bytes_eq q) qs = sum_by-cons (λ x. cond (bytes_eq q x) 1 0) p qs in
     elim (same_or p q) [
       | inl e ↦
-          let one : ◌≡◌ {A = ℕ} (cond (bytes_eq q p) 1 0) 1 = ap (λ t. cond t 1 0) (same_place q p (sym e)) in
+          let one : ◌≡◌ {A = ℕ} (cond (bytes_eq q p) 1 0) 1 = ap (λ t. cond t 1 0) (bytes_same q p (sym e)) in
           let first : ◌≡◌ {A = ℕ} (cond (f p) 1 0) 1 = ap (λ t. cond t 1 0) (ap f e ∙ here) in
           let second : ◌≡◌ {A = ℕ} (cond (g p) 1 0) 0 = ap (λ t. cond t 1 0) (ap g e ∙ gone) in
           omega (arith, rest, split_f, split_g, split, once, one, first, second)
@@ -187,7 +187,7 @@ extends_names geometry old new i b q none here some only p place =
       | inl e ↦
           let now : is_named geometry new i p ≡ true = named_true geometry new i p (λ z. some (sym here ∙ (sym (ap (named geometry new i) e) ∙ z))) in
           let was : is_named geometry old i p ≡ false = unnamed_false geometry old i p (ap (named geometry old i) e ∙ none) in
-          now ∙ sym (ap (λ t. t || bytes_eq p q) was ∙ same_place p q e)
+          now ∙ sym (ap (λ t. t || bytes_eq p q) was ∙ bytes_same p q e)
       | inr differ ↦
           let same : is_named geometry new i p ≡ is_named geometry old i p = ap (λ m. not (eqb m 0)) (only p place differ) in
           same ∙ sym (ap (λ t. is_named geometry old i p || t) (other_place p q differ) ∙ or-false (is_named geometry old i p))

@@ -13,7 +13,7 @@ use Rattle.vol_layout.specs.declared.places.Form.{Form}
 use Rattle.vol_layout.specs.declared.places.Form.TheVariants.{Small, Large, Deep, Bare}
 use Rattle.vol_layout.proofs.PlaceLaws.{place_front, last_leaf}
 use Rattle.vol_file.specs.Steps.{Reaches, IsWanted, MayName, IsNext, MayNameEntry, WantsWay, NamesWay, is_front}
-use Rattle.vol_file.proofs.PlaceLists.{same_place}
+use Rattle.vol_file.proofs.PlaceLists.{bytes_same}
 use Rattle.vol_file.proofs.Reaching.{extends_as}
 
 -- of a small file
@@ -64,7 +64,7 @@ or_true false = refl
 -- a front is found among the fronts
 pub front_true : (q s : List ℕ) → IsFront s q → is_front q s ≡ true
 front_true [] s front = absurd front
-front_true (j ∷ q) s (inl e) = ap (λ t. t || is_front q s) (same_place s (j ∷ q) e)
+front_true (j ∷ q) s (inl e) = ap (λ t. t || is_front q s) (bytes_same s (j ∷ q) e)
 front_true (j ∷ q) s (inr front) = ap (λ t. bytes_eq s (j ∷ q) || t) (front_true q s front) ∙ or_true (bytes_eq s (j ∷ q))
 
 -- the way of a logical block is the fronts of its last place

@@ -3,7 +3,7 @@ use Rattle.std.proofs.Common.{◌≡◌, ℕ, zero, suc, ◌+◌, ◌-◌, ◌*�
 use Rattle.std.specs.List.{count_by, list_any, range_with_len}
 use Rattle.std.specs.Option.{option_map_or}
 use Rattle.std.specs.Str.{bytes_eq}
-use Rattle.std.proofs.lemmas.Bool.{cases_lt}
+use Rattle.std.proofs.lemmas.Bool.{cases_lt, and_parts, or_parts}
 use Rattle.std.proofs.lemmas.Bool.Decides.{nat_tests, same_from_decides, Decides-like, Decides-eqb}
 use Rattle.std.proofs.lemmas.List.Sums.{sum_by-cons}
 use Rattle.std.proofs.lemmas.Slice.Eq.{bytes_eq-Decides}
@@ -17,7 +17,7 @@ use Rattle.vol_layout.proofs.PlaceLaws.{last_leaf, has_no_way}
 use Rattle.vol_file.specs.Shape.{touched, is_on_ways, grows_large}
 use Rattle.vol_file.specs.Need.{missing_count, need_of}
 use Rattle.vol_file.specs.Missing.{missing_to, missing_at, missing_from, grown_form, grown_names, grows_at}
-use Rattle.vol_file.proofs.PlaceLists.{same_place, place_is, first_or_later, count_same, count_none, places_once}
+use Rattle.vol_file.proofs.PlaceLists.{bytes_same, same_bytes, first_or_later, count_same, count_none, places_once}
 use Rattle.vol_file.proofs.Fronts.{front_length}
 use Rattle.vol_file.proofs.Lasts.{last_small, last_large, last_huge, last_direct, last_single, last_double, last_triple}
 
@@ -60,16 +60,6 @@ either : (x y : Bool) → (x || y) ≡ true → (x ≡ true) ⊎ ((x ≡ false) 
 either true y e = inl refl
 either false y e = inr (refl, e)
 
--- both answers are no
-neither : (x y : Bool) → (x || y) ≡ false → (x ≡ false) × (y ≡ false)
-neither true y e = absurd (cc)
-neither false y e = (refl, e)
-
--- both answers are yes
-both : (x y : Bool) → (x && y) ≡ true → (x ≡ true) × (y ≡ true)
-both true y e = (refl, e)
-both false y e = absurd (cc)
-
 -- a choice and a refusal, the refusal first
 or_and : (x y z : Bool) → ((x || y) && z) ≡ ((x && z) || (y && z))
 or_and true true true = refl
@@ -99,19 +89,19 @@ is_new whole (j ∷ (a ∷ p)) q = bytes_eq q (j ∷ (a ∷ p)) || ((whole || j 
 -- what counts is a front
 new_front : (whole : Bool) (p q : List ℕ) → is_new whole p q ≡ true → IsFront q p
 new_front whole [] q e = absurd (cc)
-new_front whole (k ∷ []) q e = inl (place_is q (k ∷ []) e)
+new_front whole (k ∷ []) q e = inl (same_bytes q (k ∷ []) e)
 new_front whole (j ∷ (a ∷ p)) q e =
     elim (either (bytes_eq q (j ∷ (a ∷ p))) ((whole || j == 0) && is_new whole (a ∷ p) q) e) [
-      | inl here ↦ inl (place_is q (j ∷ (a ∷ p)) here)
-      | inr (other, above) ↦ inr (new_front whole (a ∷ p) q (both (whole || j == 0) (is_new whole (a ∷ p) q) above).1)
+      | inl here ↦ inl (same_bytes q (j ∷ (a ∷ p)) here)
+      | inr (other, above) ↦ inr (new_front whole (a ∷ p) q (and_parts (whole || j == 0) (is_new whole (a ∷ p) q) above).1)
     ]
 
 -- where the whole way counts, each front does
 front_new : (p q : List ℕ) → IsFront q p → is_new true p q ≡ true
 front_new [] q front = absurd front
-front_new (k ∷ []) q (inl e) = same_place q (k ∷ []) e
+front_new (k ∷ []) q (inl e) = bytes_same q (k ∷ []) e
 front_new (k ∷ []) q (inr none) = absurd none
-front_new (j ∷ (a ∷ p)) q (inl e) = ap (λ x. x || is_new true (a ∷ p) q) (same_place q (j ∷ (a ∷ p)) e)
+front_new (j ∷ (a ∷ p)) q (inl e) = ap (λ x. x || is_new true (a ∷ p) q) (bytes_same q (j ∷ (a ∷ p)) e)
 front_new (j ∷ (a ∷ p)) q (inr deeper) =
     let above : is_new true (a ∷ p) q ≡ true = front_new (a ∷ p) q deeper in
     yes_after (bytes_eq q (j ∷ (a ∷ p))) (is_new true (a ∷ p) q) above
@@ -128,12 +118,12 @@ count_at : (names : List ℕ → Bool) (p : List ℕ) (qs : List (List ℕ)) →
 count_at names p qs once =
     elim (names p) as (λ t. names p ≡ t → count_by (λ q. bytes_eq q p && not (names q)) qs ≡ (if t then 0 else 1)) [
       | true ↦ λ e. count_none (λ q. bytes_eq q p && not (names q)) qs (λ q. no_from (bytes_eq q p && not (names q)) (λ passes.
-          let parts : (bytes_eq q p ≡ true) × (not (names q) ≡ true) = both (bytes_eq q p) (not (names q)) passes in
-          let no : not (names q) ≡ false = ap (λ x. not (names x)) (place_is q p parts.0) ∙ ap not e in
+          let parts : (bytes_eq q p ≡ true) × (not (names q) ≡ true) = and_parts (bytes_eq q p) (not (names q)) passes in
+          let no : not (names q) ≡ false = ap (λ x. not (names x)) (same_bytes q p parts.0) ∙ ap not e in
           let clash : true ≡ false = sym parts.1 ∙ no in cc))
       | false ↦ λ e. count_same (λ q. bytes_eq q p && not (names q)) (bytes_eq p) qs (λ q.
           elim (bytes_eq q p) as (λ t. bytes_eq q p ≡ t → (t && not (names q)) ≡ bytes_eq p q) [
-            | true ↦ λ same. ap (λ x. not (names x)) (place_is q p same) ∙ (ap not e ∙ (sym same ∙ bytes_eq_sym q p))
+            | true ↦ λ same. ap (λ x. not (names x)) (same_bytes q p same) ∙ (ap not e ∙ (sym same ∙ bytes_eq_sym q p))
             | false ↦ λ other. sym other ∙ bytes_eq_sym q p
           ] refl) ∙ once
     ] refl
@@ -159,9 +149,9 @@ count_new form names whole (j ∷ (a ∷ p)) place =
     count_same (λ q. is_new whole (j ∷ (a ∷ p)) q && not (names q)) (λ q. here q || above q) (places form)
     (λ q. or_and (bytes_eq q (j ∷ (a ∷ p))) ((whole || j == 0) && is_new whole (a ∷ p) q) (not (names q)))
     ∙ (count_apart here above (places form) (λ q passes. no_from (above q) (λ higher.
-    let same : q ≡ j ∷ (a ∷ p) = place_is q (j ∷ (a ∷ p)) (both (bytes_eq q (j ∷ (a ∷ p))) (not (names q)) passes).0 in
+    let same : q ≡ j ∷ (a ∷ p) = same_bytes q (j ∷ (a ∷ p)) (and_parts (bytes_eq q (j ∷ (a ∷ p))) (not (names q)) passes).0 in
     let new : is_new whole (a ∷ p) q ≡ true =
-    (both (whole || j == 0) (is_new whole (a ∷ p) q) (both ((whole || j == 0) && is_new whole (a ∷ p) q) (not (names q)) higher).0).1 in
+    (and_parts (whole || j == 0) (is_new whole (a ∷ p) q) (and_parts ((whole || j == 0) && is_new whole (a ∷ p) q) (not (names q)) higher).0).1 in
     let short : length q ≤ length (a ∷ p) = front_length (a ∷ p) q (new_front whole (a ∷ p) q new) in
     let len : length q ≡ length (j ∷ (a ∷ p)) = ap length same in
     omega (arith, short, len)))
@@ -200,12 +190,12 @@ first_front form (j ∷ (a ∷ p)) q (inr deeper) =
 -- a front that no earlier way has begins with the place
 first_new : (form : Form) (p q : List ℕ) → is_new false p q ≡ true → first_through form q ≡ first_through form p
 first_new form [] q e = absurd (cc)
-first_new form (k ∷ []) q e = ap (first_through form) (place_is q (k ∷ []) e)
+first_new form (k ∷ []) q e = ap (first_through form) (same_bytes q (k ∷ []) e)
 first_new form (j ∷ (a ∷ p)) q e =
     elim (either (bytes_eq q (j ∷ (a ∷ p))) ((false || j == 0) && is_new false (a ∷ p) q) e) [
-      | inl here ↦ ap (first_through form) (place_is q (j ∷ (a ∷ p)) here)
+      | inl here ↦ ap (first_through form) (same_bytes q (j ∷ (a ∷ p)) here)
       | inr (other, above) ↦
-          let parts : (j == 0 ≡ true) × (is_new false (a ∷ p) q ≡ true) = both (j == 0) (is_new false (a ∷ p) q) above in
+          let parts : (j == 0 ≡ true) × (is_new false (a ∷ p) q ≡ true) = and_parts (j == 0) (is_new false (a ∷ p) q) above in
           let none : j ≡ 0 = (Decides-eqb j 0).0 parts.0 in
           let less : j * spread form (levels_below form (j ∷ (a ∷ p))) ≡ 0 = ap (λ x. x * spread form (levels_below form (j ∷ (a ∷ p)))) none ∙ omega arith in
           first_new form (a ∷ p) q parts.1 ∙ omega (arith, less)
@@ -222,13 +212,13 @@ above (j ∷ (a ∷ p)) = if j == 0 then above (a ∷ p) else a ∷ p
 -- a front that doesn't count as new lies above the zeros
 front_above_zeros : (p q : List ℕ) → IsFront q p → is_new false p q ≡ false → IsFront q (above p)
 front_above_zeros [] q front e = absurd front
-front_above_zeros (k ∷ []) q (inl same) e = let passes : bytes_eq q (k ∷ []) ≡ true = same_place q (k ∷ []) same in let clash : true ≡ false = sym passes ∙ e in absurd (cc)
+front_above_zeros (k ∷ []) q (inl same) e = let passes : bytes_eq q (k ∷ []) ≡ true = bytes_same q (k ∷ []) same in let clash : true ≡ false = sym passes ∙ e in absurd (cc)
 front_above_zeros (k ∷ []) q (inr none) e = absurd none
 front_above_zeros (j ∷ (a ∷ p)) q (inl same) e =
-    let passes : bytes_eq q (j ∷ (a ∷ p)) ≡ true = same_place q (j ∷ (a ∷ p)) same in
-    let clash : true ≡ false = sym passes ∙ (neither (bytes_eq q (j ∷ (a ∷ p))) ((false || j == 0) && is_new false (a ∷ p) q) e).0 in absurd (cc)
+    let passes : bytes_eq q (j ∷ (a ∷ p)) ≡ true = bytes_same q (j ∷ (a ∷ p)) same in
+    let clash : true ≡ false = sym passes ∙ (or_parts (bytes_eq q (j ∷ (a ∷ p))) ((false || j == 0) && is_new false (a ∷ p) q) e).0 in absurd (cc)
 front_above_zeros (j ∷ (a ∷ p)) q (inr deeper) e =
-    let rest : ((j == 0) && is_new false (a ∷ p) q) ≡ false = (neither (bytes_eq q (j ∷ (a ∷ p))) ((false || j == 0) && is_new false (a ∷ p) q) e).1 in
+    let rest : ((j == 0) && is_new false (a ∷ p) q) ≡ false = (or_parts (bytes_eq q (j ∷ (a ∷ p))) ((false || j == 0) && is_new false (a ∷ p) q) e).1 in
     elim (j == 0) as (λ t. (t && is_new false (a ∷ p) q) ≡ false → IsFront q (if t then above (a ∷ p) else a ∷ p))
     [ true ↦ λ old. front_above_zeros (a ∷ p) q deeper old | false ↦ λ old. deeper ] rest
 
@@ -514,8 +504,8 @@ count_later form names first n p e sofar =
     (new_on_way p q) (old_is_old form p q first n e))
     ∙ or_and (is_on_ways form (range_with_len first (suc n)) q) (is_new false p q) (not (names q))))
     ∙ (count_apart old new (places form) (λ q passes. no_from (new q) (λ fresh.
-    new_is_new form p q first (suc n) e (both (is_new false p q) (not (names q)) fresh).0
-    (both (is_on_ways form (range_with_len first (suc n)) q) (not (names q)) passes).0))
+    new_is_new form p q first (suc n) e (and_parts (is_new false p q) (not (names q)) fresh).0
+    (and_parts (is_on_ways form (range_with_len first (suc n)) q) (not (names q)) passes).0))
     ∙ omega (arith, sofar, added, at))
 
 -- the count with one block more, where it has a way

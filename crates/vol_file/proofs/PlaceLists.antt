@@ -11,9 +11,9 @@ use Rattle.vol_layout.proofs.PlaceLaws.{place_front, front_above}
 use Rattle.vol_file.specs.Laws.{IsAmong}
 use Rattle.vol_file.proofs.Fronts.{front_length, fronts_same}
 
--- a list of indexes equals itself
-pub same_place : (p q : List ℕ) → p ≡ q → bytes_eq p q ≡ true
-same_place p q e = (bytes_eq-Decides p q).1 e
+-- equal lists have equal bytes
+pub bytes_same : (p q : List ℕ) → p ≡ q → bytes_eq p q ≡ true
+bytes_same p q e = (bytes_eq-Decides p q).1 e
 
 -- different lists of indexes are told apart
 pub other_place : (p q : List ℕ) → p ≢ q → bytes_eq p q ≡ false
@@ -21,9 +21,9 @@ other_place p q ne =
     elim (bytes_eq p q) as (λ t. bytes_eq p q ≡ t → t ≡ false)
     [ false ↦ λ e. refl | true ↦ λ e. absurd (ne ((bytes_eq-Decides p q).0 e)) ] refl
 
--- places that are told to be the same are
-pub place_is : (p q : List ℕ) → bytes_eq p q ≡ true → p ≡ q
-place_is p q e = (bytes_eq-Decides p q).0 e
+-- lists with equal bytes are equal
+pub same_bytes : (p q : List ℕ) → bytes_eq p q ≡ true → p ≡ q
+same_bytes p q e = (bytes_eq-Decides p q).0 e
 
 -- 1 where q is p, else 0
 abbrev pub comes : List ℕ → List ℕ → ℕ
@@ -31,7 +31,7 @@ comes p q = cond (bytes_eq p q) 1 0
 
 -- a place comes where it is
 pub comes_same : (p q : List ℕ) → p ≡ q → comes p q ≡ 1
-comes_same p q e = ap (λ t. cond t 1 0) (same_place p q e)
+comes_same p q e = ap (λ t. cond t 1 0) (bytes_same p q e)
 
 -- a place doesn't come where another is
 pub comes_other : (p q : List ℕ) → p ≢ q → comes p q ≡ 0

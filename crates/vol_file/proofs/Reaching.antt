@@ -21,7 +21,7 @@ use Rattle.vol_file.specs.Shape.{is_named}
 use Rattle.vol_file.specs.Rules.{IsSoundWith}
 use Rattle.vol_file.specs.Steps.{lacking, Extends, Reaches, IsReady, IsWanted, IsNext, is_front}
 use Rattle.vol_file.proofs.Stores.{Stores}
-use Rattle.vol_file.proofs.PlaceLists.{same_place, other_place, place_is, places_once}
+use Rattle.vol_file.proofs.PlaceLists.{bytes_same, other_place, same_bytes, places_once}
 use Rattle.vol_file.proofs.Alone.{elsewhere_self, elsewhere_then}
 use Rattle.vol_file.proofs.Cells.{stores_address, stores_entry, entry_end}
 use Rattle.vol_file.proofs.Naming.{place_same, file_same}
@@ -122,7 +122,7 @@ lacking_some geometry image i wanted q place want none =
     let here : f q ≡ true = rw (want, unnamed_false geometry image i q none) refl in
     let less = count_less f (λ p. f p && not (bytes_eq p q)) q (places (form_at geometry image i)) 1
     (places_once (form_at geometry image i) q place.place) here
-    (rw (here, same_place q q refl) refl)
+    (rw (here, bytes_same q q refl) refl)
     (λ p among differ. ap (λ t. f p && not t) (other_place p q differ) ∙ and_all (f p)) in
     omega (arith, less)
 
@@ -154,7 +154,7 @@ pub steps_named : (geometry : Geometry) (image : List ℕ) (i : ℕ) (wanted : L
 steps_named geometry image i wanted q blocks k want is some = record {
   rest = blocks;
   extends = extends_none geometry image i wanted (λ p. bytes_eq p q) blocks want.ready.sound
-      (λ p e. named_true geometry image i p (λ zero. some (sym is ∙ (ap (named geometry image i) (sym (place_is p q e)) ∙ zero))));
+      (λ p e. named_true geometry image i p (λ zero. some (sym is ∙ (ap (named geometry image i) (sym (same_bytes p q e)) ∙ zero))));
   is = is;
   some = some;
 }

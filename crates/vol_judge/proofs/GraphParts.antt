@@ -3,8 +3,8 @@ use Rattle.std.proofs.Common.{◌≡◌, ◌≢◌, ◌∙◌, sym, ap, refl, �
 use Rattle.std.specs.Option.{option_map_or}
 use Rattle.std.specs.Str.{bytes_eq}
 use Rattle.std.proofs.lemmas.Bool.{cases_eq, or_cases, or_from, false_from_ne_true}
+use Rattle.vol_file.proofs.PlaceLists.{same_bytes}
 use Rattle.vol_dir.specs.Names.{dot, dot_dot, is_dots}
-use Rattle.vol_dir.proofs.NameMaps.{same_bytes}
 use Rattle.vol_judge.specs.Graph.{Graph, IsGraphWithin, Leads, IsBelow, at_root, below, counted, IsGraphSound}
 use Rattle.vol_judge.specs.GraphEdits.{IsSameGraph, IsNewName, ChangesSlot, KeepsOthers}
 use Rattle.vol_judge.proofs.GraphCounts.{one_for, counted_none, counted_same, counted_but, slots_same, slot_changed}

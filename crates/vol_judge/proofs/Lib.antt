@@ -1,4 +1,3 @@
-mod NextEntries
 pub mod AllBlocks
 pub mod BlocksFrom
 pub mod Collecting
@@ -20,6 +19,7 @@ pub mod MadeGraphs
 pub mod MarkLists
 pub mod NamedGraphs
 pub mod NamedOnce
+pub mod NextEntries
 pub mod Numbering
 pub mod Once
 pub mod Parents

@@ -12,7 +12,7 @@ use Rattle.vol_dir.proofs.SlotReading.{entry_at_past}
 use Rattle.vol_judge.specs.Stepping.{IsNextIn}
 
 -- a slot with an i-number holds an entry
-entry_some : (slot : Slot) → slot.inode ≢ 0 → entry_in slot ≡ Some (name_of slot.name, slot.inode)
+pub entry_some : (slot : Slot) → slot.inode ≢ 0 → entry_in slot ≡ Some (name_of slot.name, slot.inode)
 entry_some slot some = let is : (slot.inode == 0) ≡ false = grind (arith, nat_tests) in rw is
 
 -- what a directory answers is its next entry

@@ -37,7 +37,7 @@ choose : {X : Type 0} (P : Option X → Type 0) (t : Bool) (x y : Option X) → 
 choose P t x y first other = elim t as (λ s. t ≡ s → P (if s then x else y)) [ true ↦ first | false ↦ other ] refl
 
 -- the addresses of a large file below the last have one level below
-large_levels : (k : ℕ) → k < 7 → levels Large k ≡ 1
+pub large_levels : (k : ℕ) → k < 7 → levels Large k ≡ 1
 large_levels k h = grind (arith, nat_tests)
 
 -- the way of each logical block of a small file

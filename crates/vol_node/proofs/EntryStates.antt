@@ -1,8 +1,9 @@
 -- The state after a change of an entry of a directory.
-use Rattle.std.proofs.Common.{◌≡◌, ◌∙◌, sym, ap, refl, ℕ, ◌+◌, ◌-◌, ◌*◌, ◌/◌, ◌<◌, ◌≤◌, Bool, true, false, true≢false, max, List, [], ◌∷◌, length, map, get_or, arith, inl, inr, Option, None, Some}
+use Rattle.std.proofs.Common.{◌≡◌, ◌∙◌, sym, ap, refl, ℕ, ◌+◌, ◌-◌, ◌*◌, ◌/◌, ◌<◌, ◌≤◌, true, true≢false, max, List, [], ◌∷◌, length, map, get_or, arith, inl, inr, Option, None, Some}
 use Rattle.std.specs.Prelude.{◌||◌}
 use Rattle.std.specs.List.{range_with_len}
 use Rattle.std.specs.Option.{is_some, option_map, unwrap_or}
+use Rattle.std.proofs.Math.Bool.{or-false}
 use Rattle.std.proofs.lemmas.Bool.{cases_lt}
 use Rattle.std.proofs.lemmas.List.Sums.{passes_at_first, fails_before_first}
 use Rattle.vol_layout.specs.Geometry.{Fits}
@@ -16,13 +17,14 @@ use Rattle.vol_file.specs.Changes.{Writes}
 use Rattle.vol_file.specs.Need.{need_of, need}
 use Rattle.vol_file.specs.Rules.{kind_at, size_of}
 use Rattle.vol_file.specs.Shape.{is_named, touched}
+use Rattle.vol_file.proofs.PlaceLists.{same_bytes}
 use Rattle.vol_dir.specs.Editing.{slot_bytes, with_item, HasNamesOnce}
 use Rattle.vol_dir.specs.Entries.{slot_count, entry_at, slots, IsDirectory, HasEntries}
 use Rattle.vol_dir.specs.Names.{insert, remove, get, names_of, names_in}
 use Rattle.vol_dir.specs.Searching.{holds, new_slot, slot_named, emptied}
 use Rattle.vol_dir.specs.Tree.{Directory, Shape, content_of, form_in, is_named_place, node_with, shape_of, shapes, tree, state}
 use Rattle.vol_dir.specs.Walk.{map_of}
-use Rattle.vol_dir.proofs.NameMaps.{get_first, get_none, same_bytes}
+use Rattle.vol_dir.proofs.NameMaps.{get_first, get_none}
 use Rattle.vol_dir.proofs.SlotReading.{length-slots, slot_is}
 use Rattle.vol_dir.proofs.NewEntries.{length-slot_bytes}
 use Rattle.vol_node.specs.Contents.{put_entry, drop_entry}
@@ -115,11 +117,6 @@ added_state geometry old new free name d i is fits short writes names list =
     ∙ (ap (λ list. record (stored_shape edition (directory_shape geometry old d) list) { slots = put }) blocks
     ∙ sym (ap (λ shape. shape_with_entry edition shape name) (shape_is geometry old d is)))))
 
--- what always stands behind a choice of nothing
-or_false : (t : Bool) → (t || false) ≡ t
-or_false true = refl
-or_false false = refl
-
 -- the state after an entry is gone
 pub removed_state : (geometry : Geometry) (old new free name : List ℕ) (d s : ℕ) → IsKind geometry old d kinds.Directory → Fits geometry old
     → Writes geometry old new d (16 * s) (0 ∷ 0 ∷ []) free → need geometry old d (16 * s) 2 ≡ 0 → size_of geometry new d ≡ size_of geometry old d
@@ -139,7 +136,7 @@ removed_state geometry old new free name d s is fits writes none size names list
     ∙ (need_places (form_at geometry old d) (is_named geometry old d) blocks ∙ none) in
     let grows = grown_need form (is_named_place geometry old d) blocks needed in
     let large : is_large edition (mode_of geometry new d) ≡ is_large edition (mode_of geometry old d) =
-    stores.large ∙ (ap (λ t. is_large edition (mode_of geometry old d) || t) grows ∙ or_false (is_large edition (mode_of geometry old d))) in
+    stores.large ∙ (ap (λ t. is_large edition (mode_of geometry old d) || t) grows ∙ or-false (is_large edition (mode_of geometry old d))) in
     let stay : (p : List ℕ) → is_named_place geometry new d p ≡ is_named_place geometry old d p =
     λ p. stores.names p ∙ filled_none form (is_named_place geometry old d) blocks p needed in
     let old_node = inode_of edition old d in

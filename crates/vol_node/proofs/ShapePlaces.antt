@@ -13,7 +13,7 @@ use Rattle.vol_layout.specs.declared.places.Form.TheVariants.{Small, Large, Deep
 use Rattle.vol_layout.proofs.PlaceLaws.{last_leaf, place_front}
 use Rattle.vol_file.specs.Need.{missing_count, need_of}
 use Rattle.vol_file.specs.Shape.{is_on_ways, grows_large, moved_down, fit_form, fit_names, filled}
-use Rattle.vol_file.proofs.PlaceLists.{count_among, among_places, place_is}
+use Rattle.vol_file.proofs.PlaceLists.{count_among, among_places, same_bytes}
 use Rattle.vol_dir.specs.Tree.{is_place}
 use Rattle.vol_node.proofs.FreeCounts.{place_test}
 
@@ -101,7 +101,7 @@ fit_places form names blocks p = elim (cases_Bool (grows_large form blocks)) [
 front_passed : (p q : List ℕ) → list_any (bytes_eq p) (fronts q) ≡ true → IsFront p q
 front_passed p [] h = true≢false (sym h)
 front_passed p (j ∷ q) h = elim (cases_Bool (bytes_eq p (j ∷ q))) [
-  | inl same ↦ inl (place_is p (j ∷ q) same)
+  | inl same ↦ inl (same_bytes p (j ∷ q) same)
   | inr other ↦ inr (front_passed p q (sym (ap (λ t. t || list_any (bytes_eq p) (fronts q)) other) ∙ h))
 ]
 

@@ -1,5 +1,5 @@
 -- Collecting the names of a directory, slot after slot.
-use Rattle.std.proofs.Common.{◌≡◌, ◌≢◌, ℕ, zero, suc, ◌+◌, ◌-◌, ◌<◌, ◌≤◌, ◌==◌, inl, inr, false, List, [], ◌∷◌, ◌++◌, drop, map, length, None, Some, refl, ap, sym, ◌∙◌, arith}
+use Rattle.std.proofs.Common.{◌≡◌, ◌≢◌, ℕ, zero, suc, ◌+◌, ◌-◌, ◌<◌, ◌≤◌, inl, inr, false, List, [], ◌∷◌, ◌++◌, drop, map, length, None, Some, refl, ap, sym, ◌∙◌, arith}
 use Rattle.std.specs.Prelude.{Option}
 use Rattle.std.specs.BTreeMap.{insert_entry}
 use Rattle.std.specs.Cmp.Lexicographic.{slice_cmp}
@@ -10,17 +10,18 @@ use Rattle.std.specs.Ordering.{nat_cmp, match_ordering}
 use Rattle.std.specs.declared.cmp.Ordering.TheVariants.{Less, Equal, Greater}
 use Rattle.std.specs.Str.{bytes_eq}
 use Rattle.std.proofs.lemmas.Bool.{cases_Bool, or_from}
-use Rattle.std.proofs.lemmas.Bool.Decides.{nat_tests}
 use Rattle.std.proofs.lemmas.List.{map-append, take_all, drop_all, get_or_past}
 use Rattle.vol_layout.specs.Slot.{name_of}
 use Rattle.vol_layout.specs.declared.geometry.Geometry.{Geometry}
 use Rattle.vol_layout.specs.declared.slot.Slot.{Slot}
+use Rattle.vol_file.proofs.PlaceLists.{same_bytes}
 use Rattle.vol_dir.specs.Editing.{with_item}
-use Rattle.vol_dir.specs.Entries.{entry_in, entry_at, slot_count, slots, IsDirectory, HasEntries}
+use Rattle.vol_dir.specs.Entries.{entry_at, slot_count, slots, IsDirectory, HasEntries}
 use Rattle.vol_dir.specs.Names.{insert, names_of}
 use Rattle.vol_dir.specs.Scanning.{IsNextEntry}
 use Rattle.vol_dir.specs.Searching.{holds}
-use Rattle.vol_dir.proofs.NameMaps.{names_with, same_bytes}
+use Rattle.vol_dir.proofs.NameMaps.{names_with}
+use Rattle.vol_judge.proofs.NextEntries.{entry_some}
 use Rattle.vol_volume.specs.Answering.{named}
 
 -- the entries in the slots of directory d below slot n
@@ -86,10 +87,6 @@ none_holds f name a zero none = refl
 none_holds f name a (suc n) none =
     or_from (holds name (f a)) (list_any (holds name) (map f (range_with_len (a + 1) n))) (none a (omega arith) (omega arith))
     (none_holds f name (a + 1) n (λ t low high. none t (omega arith) (omega arith)))
-
--- a slot with an i-number holds an entry
-entry_some : (slot : Slot) → slot.inode ≢ 0 → entry_in slot ≡ Some (name_of slot.name, slot.inode)
-entry_some slot some = let is : (slot.inode == 0) ≡ false = grind (arith, nat_tests) in rw is
 
 -- of two slots of a directory only one holds a name
 held_once : (geometry : Geometry) (image : List ℕ) (d s t i : ℕ) (name : List ℕ) (slot : Option (List ℕ × ℕ)) → HasEntries geometry image

@@ -3,32 +3,31 @@ use Rattle.std.proofs.Common.{◌≡◌, ◌≢◌, ℕ, ◌+◌, ◌<◌, ◌�
 use Rattle.std.specs.List.{flat_map, range_with_len}
 use Rattle.vol_layout.specs.Geometry.{in_zone, Fits}
 use Rattle.vol_layout.specs.Places.{IsPlace, places}
-use Rattle.vol_layout.specs.Names.{form_at, IsPlaceOf, named}
+use Rattle.vol_layout.specs.Names.{mode_of, form_at, IsPlaceOf, named}
 use Rattle.vol_layout.specs.declared.geometry.Geometry.{Geometry}
 use Rattle.vol_layout.proofs.BodyLaws.{zone_bounds}
+use Rattle.vol_layout.proofs.KindLaws.{place_file}
 use Rattle.vol_layout.proofs.NameLaws.{holds_named, named_holds}
 use Rattle.vol_free.specs.Stack.{IsIn, Once}
 use Rattle.vol_file.specs.Rules.{IsZoned, IsApart}
 use Rattle.vol_file.specs.Changes.{blocks_of}
-use Rattle.vol_file.proofs.PlaceLists.{front_first, places_once, places_among, among_places}
+use Rattle.vol_file.proofs.PlaceLists.{places_once, places_among, among_places}
 use Rattle.vol_judge.specs.Marks.{marked, all_blocks, MarksNamed}
 use Rattle.vol_judge.proofs.FileBlocks.{blocks_at_all}
 use Rattle.vol_judge.proofs.MarkLists.{marked_none, marked_more, marked_fails, marked_marks, marked_refused}
 use Rattle.vol_judge.proofs.NamedOnce.{in_flat, flat_in, once_each, once_same, once_flat, in_at, at_in, at_same_place, once_at}
-use Rattle.vol_judge.proofs.ZonedFiles.{file_counted}
 
 -- place p of file i names block b
-record NamedBy (geometry : Geometry) (image : List ℕ) (i : ℕ) (p : List ℕ) (b : ℕ) : Type 0 where
-  place : IsPlaceOf geometry image i p
-  is : named geometry image i p ≡ b
-  some : b ≢ 0
+pub record NamedBy (geometry : Geometry) (image : List ℕ) (i : ℕ) (p : List ℕ) (b : ℕ) : Type 0 where
+  pub place : IsPlaceOf geometry image i p
+  pub is : named geometry image i p ≡ b
+  pub some : b ≢ 0
 
 -- a place of an i-node's form is a place of a file
 place_of : (geometry : Geometry) (image : List ℕ) (i : ℕ) (p : List ℕ) → 1 ≤ i → i ≤ geometry.last_inode → IsPlace (form_at geometry image i) p
     → IsPlaceOf geometry image i p
 place_of geometry image i p first last place =
-    let address = front_first (form_at geometry image i) p place in
-    record { file = file_counted geometry image i address.0 first last address.1; place = place }
+    record { file = record { first = first; last = last; kind = place_file geometry.edition (mode_of geometry image i) p place }; place = place }
 
 -- a block of a file is named by one of its places
 block_named : (geometry : Geometry) (image : List ℕ) (i b : ℕ) → 1 ≤ i → i ≤ geometry.last_inode → IsIn b (blocks_of geometry image i)
@@ -51,7 +50,7 @@ named_block geometry image i p place some =
     (at_in geometry image i p (places (form_at geometry image i)) (places_among (form_at geometry image i) p place.place) some)
 
 -- a block of all is named by a place
-all_named : (geometry : Geometry) (image : List ℕ) (b : ℕ) → IsIn b (all_blocks geometry image)
+pub all_named : (geometry : Geometry) (image : List ℕ) (b : ℕ) → IsIn b (all_blocks geometry image)
     → (i : ℕ) × (p : List ℕ) × NamedBy geometry image i p b
 all_named geometry image b among =
     let file = in_flat (blocks_of geometry image) b 1 geometry.last_inode among in
@@ -59,7 +58,7 @@ all_named geometry image b among =
     (file.0, found.0, found.1)
 
 -- a block that a place names is one of all
-named_all : (geometry : Geometry) (image : List ℕ) (i : ℕ) (p : List ℕ) → IsPlaceOf geometry image i p → named geometry image i p ≢ 0
+pub named_all : (geometry : Geometry) (image : List ℕ) (i : ℕ) (p : List ℕ) → IsPlaceOf geometry image i p → named geometry image i p ≢ 0
     → IsIn (named geometry image i p) (all_blocks geometry image)
 named_all geometry image i p place some =
     flat_in (blocks_of geometry image) (named geometry image i p) 1 geometry.last_inode i place.file.first (omega (arith, place.file.last))
@@ -96,7 +95,7 @@ file_once geometry image i first last apart =
     (apart i i p q (place_of geometry image i p first last (among_places form p here)) (place_of geometry image i q first last (among_places form q there)) some same).1))
 
 -- and none of all comes twice
-apart_once : (geometry : Geometry) (image : List ℕ) → IsApart geometry image → Once (all_blocks geometry image)
+pub apart_once : (geometry : Geometry) (image : List ℕ) → IsApart geometry image → Once (all_blocks geometry image)
 apart_once geometry image apart =
     once_flat (blocks_of geometry image) 1 geometry.last_inode
     (λ i low high. file_once geometry image i low (omega (arith, high)) apart)
@@ -105,14 +104,17 @@ apart_once geometry image apart =
     let q = block_named geometry image j b low' (omega (arith, high')) there in
     (apart i j p.0 q.0 p.1.place q.1.place (λ none. p.1.some (sym p.1.is ∙ none)) (p.1.is ∙ sym q.1.is)).0)
 
--- where each number is a data block's, each block of all has a mark
-all_within : (geometry : Geometry) (image : List ℕ) (b : ℕ) → IsZoned geometry image → IsIn b (all_blocks geometry image) → b < geometry.zone_end
-all_within geometry image b zoned among =
+-- where each number is a data block's, so is each block of all
+pub all_zoned : (geometry : Geometry) (image : List ℕ) (b : ℕ) → IsZoned geometry image → IsIn b (all_blocks geometry image) → in_zone geometry b ≡ true
+all_zoned geometry image b zoned among =
     let found = all_named geometry image b among in
     let by = found.2 in
-    let zone : in_zone geometry b ≡ true =
-    ap (in_zone geometry) (sym by.is) ∙ zoned found.0 found.1 by.place (λ none. by.some (sym by.is ∙ none)) in
-    let bounds = zone_bounds geometry b zone in bounds.1
+    ap (in_zone geometry) (sym by.is) ∙ zoned found.0 found.1 by.place (λ none. by.some (sym by.is ∙ none))
+
+-- and each has a mark
+all_within : (geometry : Geometry) (image : List ℕ) (b : ℕ) → IsZoned geometry image → IsIn b (all_blocks geometry image) → b < geometry.zone_end
+all_within geometry image b zoned among =
+    let bounds = zone_bounds geometry b (all_zoned geometry image b zoned among) in bounds.1
 
 -- where all could be marked, no two places name the same block, and the marks are those of the blocks that they name
 pub all_marked : (geometry : Geometry) (image marks new : List ℕ) → Fits geometry image → IsZoned geometry image → length marks ≡ geometry.zone_end

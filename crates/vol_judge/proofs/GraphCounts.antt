@@ -18,7 +18,7 @@ sum_same f g a (suc n) same =
     omega (arith, first, rest, split_f, split_g)
 
 -- sums of terms that are the same but at k
-sum_but : (f g : ℕ → ℕ) (a n k : ℕ) → a ≤ k → k < a + n → ((x : ℕ) → x ≢ k → f x ≡ g x)
+pub sum_but : (f g : ℕ → ℕ) (a n k : ℕ) → a ≤ k → k < a + n → ((x : ℕ) → x ≢ k → f x ≡ g x)
     → sum_by f (range_with_len a n) + g k ≡ sum_by g (range_with_len a n) + f k
 sum_but f g a zero k low high same = absurd (omega (arith, low, high))
 sum_but f g a (suc n) k low high same =

@@ -12,21 +12,21 @@ use Rattle.vol_file.proofs.BlockLists.{at_nil, at_zero, at_some}
 use Rattle.vol_file.proofs.PlaceLists.{comes_same, counted_more, first_or_later}
 
 -- what is in two lists joined is in either
-in_append : (b : ℕ) (xs ys : List ℕ) → IsIn b (xs ++ ys) → IsIn b xs ⊎ IsIn b ys
+pub in_append : (b : ℕ) (xs ys : List ℕ) → IsIn b (xs ++ ys) → IsIn b xs ⊎ IsIn b ys
 unfolding IsIn
 in_append b [] ys among = inr among
 in_append b (x ∷ xs) ys (inl e) = inl (inl e)
 in_append b (x ∷ xs) ys (inr later) = elim (in_append b xs ys later) [ inl l ↦ inl (inr l) | inr r ↦ inr r ]
 
 -- what is in the first of two lists is in both joined
-in_left : (b : ℕ) (xs ys : List ℕ) → IsIn b xs → IsIn b (xs ++ ys)
+pub in_left : (b : ℕ) (xs ys : List ℕ) → IsIn b xs → IsIn b (xs ++ ys)
 unfolding IsIn
 in_left b [] ys among = absurd among
 in_left b (x ∷ xs) ys (inl e) = inl e
 in_left b (x ∷ xs) ys (inr later) = inr (in_left b xs ys later)
 
 -- what is in the second of two lists is in both joined
-in_right : (b : ℕ) (xs ys : List ℕ) → IsIn b ys → IsIn b (xs ++ ys)
+pub in_right : (b : ℕ) (xs ys : List ℕ) → IsIn b ys → IsIn b (xs ++ ys)
 unfolding IsIn
 in_right b [] ys among = among
 in_right b (x ∷ xs) ys among = inr (in_right b xs ys among)
@@ -46,7 +46,7 @@ once_parts (x ∷ xs) ys once =
     )
 
 -- lists with nothing twice, and nothing in common, joined
-once_append : (xs ys : List ℕ) → Once xs → Once ys → ((b : ℕ) → IsIn b xs → IsIn b ys → ⊥) → Once (xs ++ ys)
+pub once_append : (xs ys : List ℕ) → Once xs → Once ys → ((b : ℕ) → IsIn b xs → IsIn b ys → ⊥) → Once (xs ++ ys)
 unfolding IsIn Once
 once_append [] ys left right apart = right
 once_append (x ∷ xs) ys left right apart = (

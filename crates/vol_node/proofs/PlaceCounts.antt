@@ -21,10 +21,11 @@ use Rattle.vol_file.specs.Shape.{is_on_ways, grows_large, moved_down, fit_form, 
 use Rattle.vol_file.proofs.MissingLaws.{need_some}
 use Rattle.vol_file.proofs.PlaceLists.{counted_flat, count_none, count_among, from_front, sum_none}
 use Rattle.vol_dir.specs.Tree.{Shape, no_shape, form_in, place_count, free_count, is_number, shape_of, shapes}
+use Rattle.vol_judge.proofs.GraphCounts.{sum_but, sum_same}
 use Rattle.vol_node.specs.Edits.{set_at}
 use Rattle.vol_node.specs.Shapes.{need_in, stored_shape, entry_blocks, shape_with_entry, shape_without_entry, new_directory_shape}
 use Rattle.vol_node.specs.Whole.{IsWhole}
-use Rattle.vol_node.proofs.FreeCounts.{sum_same, used_within}
+use Rattle.vol_node.proofs.FreeCounts.{used_within}
 
 -- one more in a count
 one_more : (t : List ℕ → Bool) (p : List ℕ) (ps : List (List ℕ)) → count_by t (p ∷ ps) ≡ cond (t p) 1 0 + count_by t ps
@@ -223,27 +224,6 @@ new_directory_count edition =
     let one : need_in edition no_shape (0 ∷ []) ≡ 1 = first_in edition in
     stored_count edition no_shape (0 ∷ []) ∙ omega (arith, none, one)
 
--- sums that differ in one term
-sum_changed : (f g : ℕ → ℕ) (a n i : ℕ) → a ≤ i → i < a + n → ((k : ℕ) → k ≢ i → f k ≡ g k)
-    → sum_by f (range_with_len a n) + g i ≡ sum_by g (range_with_len a n) + f i
-sum_changed f g a zero i low high same = absurd (omega arith)
-sum_changed f g a (suc n) i low high same =
-    let split_f : sum_by f (range_with_len a (suc n)) ≡ f a + sum_by f (range_with_len (a + 1) n) = sum_by-cons f a (range_with_len (a + 1) n) in
-    let split_g : sum_by g (range_with_len a (suc n)) ≡ g a + sum_by g (range_with_len (a + 1) n) = sum_by-cons g a (range_with_len (a + 1) n) in
-    elim (cases_eq a i) [
-      | inl e ↦
-          let here_f : f a ≡ f i = ap f e in
-          let here_g : g a ≡ g i = ap g e in
-          let rest : sum_by f (range_with_len (a + 1) n) ≡ sum_by g (range_with_len (a + 1) n) =
-          sum_same f g (a + 1) n (λ k from to. same k (λ h. omega arith)) in
-          omega (arith, split_f, split_g, here_f, here_g, rest)
-      | inr other ↦
-          let here : f a ≡ g a = same a other in
-          let rest : sum_by f (range_with_len (a + 1) n) + g i ≡ sum_by g (range_with_len (a + 1) n) + f i =
-          sum_changed f g (a + 1) n i (omega arith) (omega arith) same in
-          omega (arith, split_f, split_g, here, rest)
-    ]
-
 -- a value that was set, and the others
 pub set_same : (shapes : ℕ → Shape) (i : ℕ) (shape : Shape) → set_at shapes i shape i ≡ shape
 set_same shapes i shape = let same : (i == i) ≡ true = grind (arith, nat_tests) in ap (λ t. if t then shape else shapes i) same
@@ -266,7 +246,7 @@ used_with geometry shapes i shape first last =
     let e = geometry.edition in
     let now : place_count e (set_at shapes i shape i) ≡ place_count e shape = ap (place_count e) (set_same shapes i shape) in
     let change : used_count geometry (set_at shapes i shape) + place_count e (shapes i) ≡ used_count geometry shapes + place_count e (set_at shapes i shape i) =
-    sum_changed (λ j. place_count e (set_at shapes i shape j)) (λ j. place_count e (shapes j)) 1 geometry.last_inode i first (omega arith)
+    sum_but (λ j. place_count e (set_at shapes i shape j)) (λ j. place_count e (shapes j)) 1 geometry.last_inode i first (omega arith)
     (λ k other. ap (place_count e) (set_other shapes i shape k other)) in
     omega (arith, now, change)
 

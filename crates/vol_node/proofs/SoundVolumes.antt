@@ -5,7 +5,6 @@ use Rattle.vol_layout.specs.Geometry.{Fits, geometry_of, geometry_read, is_whole
 use Rattle.vol_layout.specs.declared.edition.Edition.{Edition}
 use Rattle.vol_layout.specs.declared.geometry.Geometry.{Geometry}
 use Rattle.vol_layout.specs.declared.geometry.GeometryFault.TheVariants.{Short, Bounds}
-use Rattle.vol_dir.specs.Entries.{HasEntries}
 use Rattle.vol_judge.specs.Sound.{Rule, IsSound}
 use Rattle.vol_node.specs.Whole.{IsWhole}
 
@@ -28,11 +27,6 @@ sound_whole edition image fits sound =
       };
       covered = sound 8 stack.blocks stack.free;
     }
-
--- and rule 9
-pub sound_entries : (edition : Edition) (image : List ℕ) → IsSound edition image → HasEntries (geometry_of edition image) image
-unfolding Rule
-sound_entries edition image sound = sound 9
 
 -- what is read as the geometry is what the super-block states
 read_by : (whole bounded : Bool) (geometry other : Geometry)

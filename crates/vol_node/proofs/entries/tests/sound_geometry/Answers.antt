@@ -3,8 +3,9 @@ use Rattle.vol_layout.specs.Geometry.{Fits, geometry_of}
 use Rattle.vol_layout.specs.declared.edition.Edition.TheVariants.{V6}
 use Rattle.vol_dir.specs.Entries.{HasEntries}
 use Rattle.vol_judge.specs.Sound.{IsSound, IsJudged}
+use Rattle.vol_judge.proofs.Parts.{sound_entries}
 use Rattle.vol_node.specs.Whole.{IsWhole}
-use Rattle.vol_node.proofs.SoundVolumes.{geometry_is, sound_entries, sound_whole}
+use Rattle.vol_node.proofs.SoundVolumes.{geometry_is, sound_whole}
 use Rattle.vol_node.proofs.entries.tests.sound_geometry.Goals as goal
 
 pub returns-in-None-clause-whole : goal.returns-in-None-clause-whole

@@ -1,7 +1,6 @@
 mod Components
 mod ParentLaws
 mod PathJoins
-mod WalkLaws
 pub mod Finding
 pub mod GoingOn
 pub mod GoneEntries
@@ -9,3 +8,4 @@ pub mod NameMaps
 pub mod NewEntries
 pub mod Replacing
 pub mod SlotReading
+pub mod WalkLaws

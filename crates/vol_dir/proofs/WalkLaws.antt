@@ -36,10 +36,10 @@ named_from f (x ∷ xs) name j e =
     ] refl e
 
 -- what a name of a directory leads to is in use
-pub IsInUse-found : (geometry : Geometry) (image : List ℕ) (d : ℕ) (name : List ℕ) (j : ℕ) → HasEntries geometry image
+pub found_in_use : (geometry : Geometry) (image : List ℕ) (d : ℕ) (name : List ℕ) (j : ℕ) → HasEntries geometry image
     → IsDirectory geometry image d → get (names_of (slots geometry image d)) name ≡ Some j → IsInUse geometry image j
 unfolding slots
-IsInUse-found geometry image d name j h directory e =
+found_in_use geometry image d name j h directory e =
     let p = named_from (entry_at geometry image d) _ name j e in
     let r = h.allocated d p.0 j p.1 (record { directory = directory; entry = p.2 }) in
     record { first = r.0; last = r.1; allocated = r.2 }
@@ -50,7 +50,7 @@ pub IfOk-found : (geometry : Geometry) (image : List ℕ) (d : ℕ) (name : List
     → r ≡ ok_or found refusals.NoEntry → IfOk r (λ j. IsInUse geometry image j)
 IfOk-found geometry image d name None r h directory e is = subst (λ r. IfOk r (λ j. IsInUse geometry image j)) (sym is) tt
 IfOk-found geometry image d name (Some j) r h directory e is =
-    subst (λ r. IfOk r (λ j. IsInUse geometry image j)) (sym is) (IsInUse-found geometry image d name j h directory (sym e))
+    subst (λ r. IfOk r (λ j. IsInUse geometry image j)) (sym is) (found_in_use geometry image d name j h directory (sym e))
 
 -- the root is in use
 pub IsInUse-root : (geometry : Geometry) (image : List ℕ) → HasSoundFiles geometry image

@@ -168,8 +168,8 @@ state_set geometry old new i node shape first last time stays is_node is_shape =
     (λ j low high other. shape_stays geometry old new j (stays j low high other)) is_shape in
     λ k. record { tree = record { geometry = geometry; time = time k; nodes = λ j. nodes j k }; shapes = λ j. forms j k }
 
--- the super-block's time stands behind the free list
-time_behind : (edition : Edition) → (free_head edition + 202 ≤ time_place edition) × (time_place edition + 4 ≤ 1024)
+-- the super-block's time stands behind the free list, in block 1
+pub time_behind : (edition : Edition) → (free_head edition + 202 ≤ time_place edition) × (time_place edition + 4 ≤ 1024)
 time_behind V6 = (omega arith, omega arith)
 time_behind V7 = (omega arith, omega arith)
 

@@ -43,7 +43,7 @@ truncated_only geometry old new i whole first truncates =
     only_file geometry old new i whole.sound.fits (truncates whole.blocks whole.sound).alone first
 
 -- an i-node has room for its mode
-mode_room : (edition : Edition) → 2 ≤ (constants edition).inode_bytes
+pub mode_room : (edition : Edition) → 2 ≤ (constants edition).inode_bytes
 mode_room V6 = omega arith
 mode_room V7 = omega arith
 

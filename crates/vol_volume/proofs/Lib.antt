@@ -8,7 +8,6 @@ pub mod NewFiles
 pub mod NewRules
 pub mod NewSizes
 pub mod NewVolumes
-pub mod FoundNames
 pub mod FreeNumbers
 pub mod NeedReadings
 pub mod NodeReadings

@@ -21,7 +21,9 @@ use Rattle.vol_free.proofs.Stacks.{zone_from, zone_below, IsFree_unique}
 use Rattle.vol_file.specs.Rules.{size_of, kind_at, HasKinds, HasSizes, IsZoned, IsApart, IsOutside, IsCovered}
 use Rattle.vol_volume.specs.Mkfs.{root_mode, IsNewVolume}
 use Rattle.vol_file.proofs.Naming.{root_first}
+use Rattle.vol_node.proofs.FreedNodes.{mode_room}
 use Rattle.vol_node.proofs.NewInodes.{few_links}
+use Rattle.vol_change.proofs.DotImages.{dots_fit}
 use Rattle.vol_volume.proofs.NewVolumes.{addresses_above, none_below}
 
 -- the root's mode is that of a directory, and of a file that isn't large
@@ -41,19 +43,11 @@ unfolding kind_of
 root_addresses V6 = omega arith
 root_addresses V7 = omega arith
 
--- the size and the links of the root
-pub size_fits : (edition : Edition) → 32 ≤ (constants edition).greatest
-size_fits V6 = omega arith
-size_fits V7 = omega arith
-
+-- the root has an address
 root_some : (edition : Edition) → 0 < first_count (form_of edition (root_mode edition))
 unfolding kind_of
 root_some V6 = omega arith
 root_some V7 = omega arith
-
-inode_room : (edition : Edition) → 2 ≤ (constants edition).inode_bytes
-inode_room V6 = omega arith
-inode_room V7 = omega arith
 
 -- a number from a up to n more is one of them
 pub in_range : (x a n : ℕ) → a ≤ x → x < a + n → IsIn x (range_with_len a n)
@@ -85,7 +79,7 @@ module _ (geometry : Geometry) (uid gid now : ℕ) (image : List ℕ) (new : IsN
   -- each other i-node is free
   pub kind_other : (i : ℕ) → 1 ≤ i → i ≤ geometry.last_inode → i ≢ root → kind_at geometry image i ≡ kinds.Free
   kind_other i first last other =
-      let room : 2 ≤ (constants geometry.edition).inode_bytes = inode_room geometry.edition in
+      let room : 2 ≤ (constants geometry.edition).inode_bytes = mode_room geometry.edition in
       let low : get_or image (inode_place geometry.edition i + 0) 0 ≡ 0 = new.others i 0 first last other (omega arith) in
       let high : get_or image (inode_place geometry.edition i + 1) 0 ≡ 0 = new.others i 1 first last other (omega arith) in
       let here : inode_place geometry.edition i + 0 ≡ inode_place geometry.edition i = omega arith in
@@ -167,7 +161,7 @@ module _ (geometry : Geometry) (uid gid now : ℕ) (image : List ℕ) (new : IsN
   new_sizes = record {
     greatest = λ i file.
         let size : size_of geometry image i ≡ 32 = ap (size_of geometry image) (only_file i file) ∙ size_root in
-        let most : 32 ≤ (constants geometry.edition).greatest = size_fits geometry.edition in omega arith;
+        let most : 32 ≤ (constants geometry.edition).greatest = dots_fit geometry.edition in omega arith;
     small = λ i file form. let size : size_of geometry image i ≡ 32 = ap (size_of geometry image) (only_file i file) ∙ size_root in omega arith;
     links = λ i first last some.
         let links : (inode_of geometry.edition image i).links ≡ 2 =

@@ -12,6 +12,7 @@ use Rattle.vol_layout.proofs.CopyLaws.{IsCopy, long_copied}
 use Rattle.vol_layout.proofs.InodeLaws.{place_from, place_room, place_apart}
 use Rattle.vol_free.proofs.Stacks.{head_end}
 use Rattle.vol_file.proofs.Naming.{root_first}
+pub use Rattle.vol_node.proofs.FileStates.{time_behind as time_within}
 use Rattle.vol_volume.proofs.NewVolumes.{zeros_at}
 use Rattle.vol_volume.specs.Mkfs.{is_size, IsMakeable, KeepsFirstBlocks}
 use Rattle.vol_layout.specs.declared.edition.Edition.{Edition}
@@ -71,11 +72,6 @@ sizes_kept V7 old new same =
     let b0 = same 512 (omega arith) in let b1 = same 513 (omega arith) in let b2 = same 514 (omega arith) in let b3 = same 515 (omega arith) in
     let b4 = same 516 (omega arith) in let b5 = same 517 (omega arith) in
     (omega arith, omega arith)
-
--- the time stands behind the free list, in block 1
-pub time_within : (edition : Edition) → (free_head edition + 202 ≤ time_place edition) × (time_place edition + 4 ≤ 1024)
-time_within V6 = (omega arith, omega arith)
-time_within V7 = (omega arith, omega arith)
 
 -- the time stays where its bytes do
 pub time_kept : (edition : Edition) (old new : List ℕ) → IsCopy old new (time_place edition) (time_place edition) 4

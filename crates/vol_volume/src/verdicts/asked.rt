@@ -83,7 +83,7 @@ pub(crate) fn is_full(image: &Image, geometry: &Geometry, i: u16) -> bool
 }
 
 /// The i-number that `name` has in directory `dir`.
-#[tactic(auto, using(crate::proofs::NodeReadings::names_are, crate::proofs::FoundNames::found_in_use))]
+#[tactic(auto, using(crate::proofs::NodeReadings::names_are, vol_dir::proofs::WalkLaws::found_in_use))]
 pub(crate) fn entry(image: &Image, geometry: &Geometry, dir: u16, name: &[u8]) -> Option<u16>
     requires stands { Stands geometry.now image.now }
     requires directory { IsDirectory geometry.now image.now dir }

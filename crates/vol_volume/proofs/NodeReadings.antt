@@ -15,6 +15,7 @@ use Rattle.vol_dir.specs.Entries.{slots, IsDirectory, IsInUse}
 use Rattle.vol_dir.specs.Names.{get, names_of}
 use Rattle.vol_dir.specs.Tree.{Content, Node, State, is_number, node_of, node_with, content_of, tree}
 use Rattle.vol_dir.specs.Walk.{map_of, is_directory}
+use Rattle.vol_node.proofs.States.{node_here}
 use Rattle.vol_node.specs.Nodes.{no_node, node_at, names_at, entry_of}
 use Rattle.vol_volume.specs.Verdict.{is_device}
 
@@ -28,19 +29,14 @@ module _ (geometry : Geometry) (image : List ℕ) where
   unfolding tree
   tree_geometry = refl
 
-  -- an i-number of the volume stands for what its i-node reads as
-  pub node_from : (i : ℕ) → 1 ≤ i → i ≤ geometry.last_inode → (tree geometry image).nodes i ≡ node_of geometry image i
-  unfolding tree
-  node_from i first last =
-      let number : is_number geometry i ≡ true = grind (arith, nat_tests) in ap (λ b. cond b (node_of geometry image i) None) number
-
+  -- what an i-node of some kind reads as
   pub node_of_kind : (i : ℕ) (kind : Kind) → kind_at geometry image i ≡ kind
       → node_of geometry image i ≡ option_map (node_with (inode_of geometry.edition image i)) (content_of geometry image i kind)
   unfolding node_of
   node_of_kind i kind is = ap (λ k. option_map (node_with (inode_of geometry.edition image i)) (content_of geometry image i k)) is
 
   pub node_is : (i : ℕ) (kind : Kind) → 1 ≤ i → i ≤ geometry.last_inode → kind_at geometry image i ≡ kind → node_at (tree geometry image) i ≡ node_by geometry image i kind
-  node_is i kind first last is = ap (λ n. unwrap_or n no_node) (node_from i first last ∙ node_of_kind i kind is)
+  node_is i kind first last is = ap (λ n. unwrap_or n no_node) (node_here geometry image i first last ∙ node_of_kind i kind is)
 
   -- a node is a directory where its i-node is one
   pub directory_is : (i : ℕ) → 1 ≤ i → i ≤ geometry.last_inode → kind_at geometry image i ≡ kinds.Directory → is_directory (node_at (tree geometry image) i) ≡ true
@@ -114,7 +110,7 @@ module _ (geometry : Geometry) (image : List ℕ) where
       let stored = stored_by i kind used.allocated (files.sound.kinds.known i first used.last) in
       let is : node_of geometry image i ≡ Some (node_with (inode_of geometry.edition image i) stored.0) =
       node_of_kind i kind refl ∙ ap (option_map (node_with (inode_of geometry.edition image i))) stored.1 in
-      is ∙ sym (ap (λ n. Some (unwrap_or n no_node)) (node_from i first used.last ∙ is))
+      is ∙ sym (ap (λ n. Some (unwrap_or n no_node)) (node_here geometry image i first used.last ∙ is))
 
   -- and its node has the links that it stores
   pub links_are : (i : ℕ) → 1 ≤ i → HasSoundFiles geometry image → IsInUse geometry image i

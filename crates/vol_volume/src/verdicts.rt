@@ -7,7 +7,7 @@ ghost use Rattle.vol_volume.specs.Standing.{Stands};
 ghost use Rattle.vol_volume.specs.Verdict.{verdict};
 
 pub(crate) mod asked;
-mod body;
+pub(crate) mod body;
 mod create;
 mod link;
 mod mkdir;

@@ -28,6 +28,8 @@ use Rattle.vol_judge.specs.Directories.{Enters, IsReached, is_for, count_in, ent
 use Rattle.vol_judge.specs.Directories.IsReached.{at_root}
 use Rattle.vol_volume.specs.Mkfs.{root_mode, IsNewVolume}
 use Rattle.vol_file.proofs.Naming.{root_first}
+use Rattle.vol_file.proofs.PlaceLists.{sum_none}
+use Rattle.vol_change.proofs.DotImages.{dots_fit}
 use Rattle.vol_volume.proofs.NewFiles
 
 -- the root's first logical block stands at its first address
@@ -43,14 +45,6 @@ entry_root V6 slot name e = ap entry_in e
 entry_root V7 slot name e = ap entry_in e
 
 -- a sum whose terms are all 0 but at one number
-sum_none : (f : ℕ → ℕ) (a n : ℕ) → ((k : ℕ) → a ≤ k → k < a + n → f k ≡ 0) → sum_by f (range_with_len a n) ≡ 0
-sum_none f a zero none = refl
-sum_none f a (suc n) none =
-    let first : f a ≡ 0 = none a (omega arith) (omega arith) in
-    let rest : sum_by f (range_with_len (a + 1) n) ≡ 0 = sum_none f (a + 1) n (λ k from to. none k (omega arith) (omega arith)) in
-    let both : sum_by f (range_with_len a (suc n)) ≡ f a + sum_by f (range_with_len (a + 1) n) = sum_by-cons f a (range_with_len (a + 1) n) in
-    omega (arith, first, rest, both)
-
 sum_one : (f : ℕ → ℕ) (a n at : ℕ) → a ≤ at → at < a + n → ((k : ℕ) → a ≤ k → k < a + n → k ≢ at → f k ≡ 0) → sum_by f (range_with_len a n) ≡ f at
 sum_one f a zero at from to none = absurd (omega arith)
 sum_one f a (suc n) at from to none =
@@ -92,7 +86,7 @@ module _ (geometry : Geometry) (uid gid now : ℕ) (image : List ℕ) (new : IsN
   size_root : body_size geometry image root ≡ 32
   size_root =
       let size : size_of geometry image root ≡ 32 = NewFiles.size_root geometry uid gid now image new fits start in
-      let most : 32 ≤ (constants geometry.edition).greatest = NewFiles.size_fits geometry.edition in omega arith
+      let most : 32 ≤ (constants geometry.edition).greatest = dots_fit geometry.edition in omega arith
 
   count_root : slot_count geometry image root ≡ 2
   count_root = ap (λ n. n / 16) size_root

@@ -22,6 +22,7 @@ use Rattle.vol_file.specs.Rules.{size_of, kind_at, HasKinds, HasSizes, IsZoned, 
 use Rattle.vol_volume.specs.Mkfs.{root_mode, IsNewVolume}
 use Rattle.vol_file.proofs.Naming.{root_first}
 use Rattle.vol_node.proofs.NewInodes.{few_links}
+use Rattle.vol_change.proofs.DotImages.{dots_fit}
 use Rattle.vol_volume.proofs.NewVolumes.{addresses_above, none_below}
 
 -- the root's mode is that of a directory, and of a file that isn't large
@@ -40,11 +41,6 @@ root_addresses : (edition : Edition) → first_count (form_of edition (root_mode
 unfolding kind_of
 root_addresses V6 = omega arith
 root_addresses V7 = omega arith
-
--- the size and the links of the root
-pub size_fits : (edition : Edition) → 32 ≤ (constants edition).greatest
-size_fits V6 = omega arith
-size_fits V7 = omega arith
 
 root_some : (edition : Edition) → 0 < first_count (form_of edition (root_mode edition))
 unfolding kind_of
@@ -167,7 +163,7 @@ module _ (geometry : Geometry) (uid gid now : ℕ) (image : List ℕ) (new : IsN
   new_sizes = record {
     greatest = λ i file.
         let size : size_of geometry image i ≡ 32 = ap (size_of geometry image) (only_file i file) ∙ size_root in
-        let most : 32 ≤ (constants geometry.edition).greatest = size_fits geometry.edition in omega arith;
+        let most : 32 ≤ (constants geometry.edition).greatest = dots_fit geometry.edition in omega arith;
     small = λ i file form. let size : size_of geometry image i ≡ 32 = ap (size_of geometry image) (only_file i file) ∙ size_root in omega arith;
     links = λ i first last some.
         let links : (inode_of geometry.edition image i).links ≡ 2 =

@@ -17,7 +17,7 @@ use crate::bytes::Bytes;
 use crate::queries::{Listing, Query, Reply, Stat};
 use crate::verdicts::asked::{first_refusal, is_directory, is_granted, kind};
 use crate::verdicts::body::body_tests;
-use crate::verdicts::fits;
+use crate::verdicts::stands;
 use pdp_words::Image;
 use std::alloc::{AllocError, Global};
 use std::collections::BTreeMap;
@@ -40,7 +40,7 @@ pub(crate) fn answer(
     requires sizes { geometry.now ≡ geometry_of geometry.now.edition image.now }
     ensures { Answers (tree geometry.now image.now) query.now result }
 {
-    fits(image, geometry);
+    stands(image, geometry);
     match query {
         Query::Stat { cred, path } => answer_stat(image, geometry, *cred, path.as_slice()),
         Query::Read {

@@ -1,5 +1,5 @@
 -- Answers to queries: what is refused, what is replied, and where memory is wanted.
-use Rattle.std.proofs.Common.{◌≡◌, ℕ, ◌+◌, ◌-◌, min, true, false, List, [], ◌∷◌, ◌++◌, take, drop, length, Option, None, Some, Result, Ok, Err, refl, ap, sym, ◌∙◌, arith}
+use Rattle.std.proofs.Common.{◌≡◌, ℕ, ◌+◌, ◌-◌, min, Bool, true, false, ◌||◌, if◌then◌else◌, List, [], ◌∷◌, ◌++◌, take, drop, length, Option, None, Some, Result, Ok, Err, refl, ap, sym, ◌∙◌, arith}
 use Rattle.std.specs.Prelude.{MatchResult, slice_range}
 use Rattle.std.proofs.lemmas.List.{take_all, drop_all, take_min, append-nil, length-drop}
 use Rattle.vol_dir.specs.Access.{may_read}
@@ -22,35 +22,47 @@ use Rattle.vol_volume.specs.declared.queries.Reply.TheVariants as replies
 use Rattle.vol_volume.specs.declared.queries.Stat.{Stat}
 use Rattle.vol_volume.proofs.Refusals.{query_other}
 
--- a bad number of a user or group is refused first
-pub bad_id : (geometry : Geometry) (image : List ℕ) (cred : Cred) (path : List ℕ) → is_bad_id geometry.edition cred.uid cred.gid ≡ true
-    → IsRefused (tree geometry image) cred path refusals.BadId
-unfolding tree
-bad_id geometry image cred path bad = λ others. rw bad refl
+-- what is asked before the walk, of what is known of numbers and zero bytes
+abbrev asked_first : Bool → Bool → Option Refusal → Option Refusal
+asked_first bad zero others = if bad then Some refusals.BadId else if zero then Some refusals.Invalid else others
 
--- then a zero byte
-pub zero_byte : (geometry : Geometry) (image : List ℕ) (cred : Cred) (path : List ℕ) → is_bad_id geometry.edition cred.uid cred.gid ≡ false
-    → has_zero path ≡ true → IsRefused (tree geometry image) cred path refusals.Invalid
+refused_by : (bad zero : Bool) (others : Option Refusal) (refusal : Refusal) → Some refusal ≡ asked_first bad zero None
+    → asked_first bad (zero || false) others ≡ Some refusal
+refused_by true zero others refusal is = sym is
+refused_by false true others refusal is = sym is
+refused_by false false others refusal is = cc
+
+left_by : (bad zero : Bool) (others : Option Refusal) → None ≡ asked_first bad zero None → asked_first bad (zero || false) others ≡ others
+left_by true zero others is = cc
+left_by false true others is = cc
+left_by false false others is = refl
+
+-- a bad number of a user or group is refused first, then a zero byte
+pub first_refused : (geometry : Geometry) (image : List ℕ) (cred : Cred) (path : List ℕ) (refusal : Refusal)
+    → Some refusal ≡ (if is_bad_id geometry.edition cred.uid cred.gid then Some refusals.BadId else if has_zero path then Some refusals.Invalid else None)
+    → IsRefused (tree geometry image) cred path refusal
 unfolding tree
-zero_byte geometry image cred path good zero = λ others. rw (good, zero) refl
+first_refused geometry image cred path refusal is =
+    λ others. refused_by (is_bad_id geometry.edition cred.uid cred.gid) (has_zero path) (of_node (walk (tree geometry image) cred path) others) refusal is
 
 -- what is asked after these
 asked : (geometry : Geometry) (image : List ℕ) (cred : Cred) (path : List ℕ) (others : Option Refusal)
-    → is_bad_id geometry.edition cred.uid cred.gid ≡ false → has_zero path ≡ false
+    → None ≡ (if is_bad_id geometry.edition cred.uid cred.gid then Some refusals.BadId else if has_zero path then Some refusals.Invalid else None)
     → then_others (tree geometry image) cred (path ∷ []) others ≡ others
 unfolding tree
-asked geometry image cred path others good none = rw (good, none) refl
+asked geometry image cred path others none = left_by (is_bad_id geometry.edition cred.uid cred.gid) (has_zero path) others none
 
 -- then the path is walked
 pub walked : (geometry : Geometry) (image : List ℕ) (cred : Cred) (path : List ℕ) (result : Result ℕ Refusal)
-    → is_bad_id geometry.edition cred.uid cred.gid ≡ false → has_zero path ≡ false → result ≡ walk (tree geometry image) cred path
+    → None ≡ (if is_bad_id geometry.edition cred.uid cred.gid then Some refusals.BadId else if has_zero path then Some refusals.Invalid else None)
+    → result ≡ walk (tree geometry image) cred path
     → MatchResult result (LeadsTo (tree geometry image) cred path) (IsRefused (tree geometry image) cred path)
-walked geometry image cred path (Ok i) good none is = record {
+walked geometry image cred path (Ok i) none is = record {
   walked = sym is;
-  asked = λ others. asked geometry image cred path (of_node (walk (tree geometry image) cred path) others) good none ∙ ap (λ r. of_node r others) (sym is);
+  asked = λ others. asked geometry image cred path (of_node (walk (tree geometry image) cred path) others) none ∙ ap (λ r. of_node r others) (sym is);
 }
-walked geometry image cred path (Err refusal) good none is =
-    λ others. asked geometry image cred path (of_node (walk (tree geometry image) cred path) others) good none ∙ ap (λ r. of_node r others) (sym is)
+walked geometry image cred path (Err refusal) none is =
+    λ others. asked geometry image cred path (of_node (walk (tree geometry image) cred path) others) none ∙ ap (λ r. of_node r others) (sym is)
 
 -- a refusal is the answer
 refused : (tree : Tree) (query : Query) (refusal : Refusal) → query_refusal tree query ≡ Some refusal → Answers tree query (Err refusal)

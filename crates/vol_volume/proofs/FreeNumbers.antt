@@ -1,9 +1,9 @@
 -- Whether an i-number can be taken.
-use Rattle.std.proofs.Common.{◌≡◌, ◌≢◌, ℕ, ◌+◌, ◌<◌, ◌≤◌, ◌==◌, ◌&&◌, ◌||◌, ◌∙◌, ap, refl, sym, Bool, true, false, nat_lt, nat_le, List, zero, suc, inl, inr, arith}
+use Rattle.std.proofs.Common.{◌≡◌, ◌≢◌, ℕ, ◌+◌, ◌<◌, ◌≤◌, ◌==◌, ◌&&◌, ◌∙◌, ap, refl, sym, Bool, true, false, nat_lt, nat_le, List, zero, suc, arith}
 use Rattle.std.specs.Prelude.{IsTrue, ◌↔◌, IfSome, Option, None, Some}
 use Rattle.std.specs.Option.{option_map, is_none}
 use Rattle.std.specs.List.{list_any, range_with_len}
-use Rattle.std.proofs.lemmas.Bool.{cases_eq, or_from, and_parts, true≢false}
+use Rattle.std.proofs.lemmas.Bool.{or_from, and_parts, true≢false}
 use Rattle.std.proofs.lemmas.Bool.Decides.{nat_tests}
 use Rattle.vol_layout.specs.Edition.{constants}
 use Rattle.vol_layout.specs.Inode.{inode_of, kind_of}
@@ -14,10 +14,12 @@ use Rattle.vol_layout.specs.declared.mode.Kind.TheVariants as kinds
 use Rattle.vol_layout.proofs.KindLaws.{kind_zero}
 use Rattle.vol_free.specs.Numbers.{IsFreeNumber}
 use Rattle.vol_file.specs.Rules.{kind_at, HasSoundFiles}
+use Rattle.vol_file.proofs.MissingLaws.{any_at}
 use Rattle.vol_dir.specs.Tree.{node_with, content_of, tree}
+use Rattle.vol_node.proofs.States.{node_here}
 use Rattle.vol_volume.specs.Verdict.{is_free_number, has_free_number}
 use Rattle.vol_change.proofs.FreeKinds.{free_zero}
-use Rattle.vol_volume.proofs.NodeReadings.{node_from, node_of_kind}
+use Rattle.vol_volume.proofs.NodeReadings.{node_of_kind}
 
 regular_used : kinds.Regular ≢ kinds.Free
 regular_used e = cc
@@ -28,19 +30,7 @@ directory_used e = cc
 special_used : kinds.Special ≢ kinds.Free
 special_used e = cc
 
--- a test that a number of a range passes
-any_passes : (test : ℕ → Bool) (a n i : ℕ) → a ≤ i → i < a + n → test i ≡ true → list_any test (range_with_len a n) ≡ true
-any_passes test a zero i from to passes = absurd (omega arith)
-any_passes test a (suc n) i from to passes = elim (cases_eq i a) [
-  | inl e ↦
-      let here : test a ≡ true = ap test (sym e) ∙ passes in
-      ap (λ b. b || list_any test (range_with_len (a + 1) n)) here
-  | inr other ↦
-      let later : list_any test (range_with_len (a + 1) n) ≡ true = any_passes test (a + 1) n i (omega (arith, other)) (omega arith) passes in
-      elim (test a) as (λ b. (b || list_any test (range_with_len (a + 1) n)) ≡ true) [ true ↦ refl | false ↦ later ]
-]
-
--- and one that none passes
+-- a test that no number of a range passes
 none_passes : (test : ℕ → Bool) (a n : ℕ) → ((i : ℕ) → a ≤ i → i < a + n → test i ≡ false) → list_any test (range_with_len a n) ≡ false
 none_passes test a zero fails = refl
 none_passes test a (suc n) fails =
@@ -64,7 +54,7 @@ module _ (geometry : Geometry) (image : List ℕ) (files : HasSoundFiles geometr
   -- an i-number of the volume has no node where its mode is 0
   none_is : (i : ℕ) → 1 ≤ i → i ≤ geometry.last_inode → is_none ((tree geometry image).nodes i) ≡ (mode_of geometry image i == 0)
   none_is i first last =
-      ap is_none (node_from geometry image i first last ∙ node_of_kind geometry image i (kind_at geometry image i) refl)
+      ap is_none (node_here geometry image i first last ∙ node_of_kind geometry image i (kind_at geometry image i) refl)
       ∙ none_by i (kind_at geometry image i) refl (files.sound.kinds.known i first last)
 
   -- an i-number can be taken where its i-node is free
@@ -102,7 +92,7 @@ module _ (geometry : Geometry) (image : List ℕ) (files : HasSoundFiles geometr
   unfolding tree
   any_free true is =
       let free = is.0 refl in
-      sym (any_passes (is_free_number (tree geometry image)) 1 geometry.last_inode free.0 (omega (arith, free.1.above)) (omega (arith, free.1.within))
+      sym (any_at (is_free_number (tree geometry image)) 1 geometry.last_inode free.0 (omega (arith, free.1.above)) (omega (arith, free.1.within))
       (number_free free.0 free.1))
   any_free false is =
       sym (none_passes (is_free_number (tree geometry image)) 1 geometry.last_inode (λ i from to.

@@ -12,6 +12,7 @@ use Rattle.vol_dir.specs.Entries.{HasEntries}
 use Rattle.vol_judge.specs.Directories.{HasDots, IsTree, HasLinks}
 use Rattle.vol_judge.specs.Sound.{IsSound}
 use Rattle.vol_judge.proofs.Parts.{sound_of}
+use Rattle.vol_node.proofs.SoundVolumes.{geometry_is}
 use Rattle.vol_volume.specs.Mkfs.{IsMakeable, IsNewVolume}
 use Rattle.vol_volume.proofs.NewSizes.{fits_makeable}
 use Rattle.vol_volume.proofs.NewFiles
@@ -31,13 +32,9 @@ read_whole edition image geometry read = go (is_whole edition image) (is_bounded
   is_ok (Ok g) = true
   is_ok (Err fault) = false
 
-  read_of : Result Geometry GeometryFault → Geometry
-  read_of (Ok g) = g
-  read_of (Err fault) = geometry
-
   go : (whole bounded : Bool) → is_whole edition image ≡ whole → is_bounded edition image ≡ bounded
       → (if whole then (if bounded then Ok (geometry_of edition image) else Err Bounds) else Err Short) ≡ Ok geometry → IsRead edition image geometry
-  go true true e f r = record { whole = e; bounded = f; same = ap read_of r }
+  go true true e f r = record { whole = e; bounded = f; same = geometry_is edition image geometry read }
   go true false e f r = let clash : false ≡ true = ap is_ok r in cc
   go false bounded e f r = let clash : false ≡ true = ap is_ok r in cc
 

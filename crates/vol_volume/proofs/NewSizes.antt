@@ -5,7 +5,7 @@ use Rattle.std.proofs.lemmas.Bool.Decides.{nat_tests}
 use Rattle.std.proofs.lemmas.List.{length-replicate}
 use Rattle.pdp_words.specs.Words.{word, long, SameOutside}
 use Rattle.vol_layout.specs.Edition.{constants}
-use Rattle.vol_layout.specs.Geometry.{Fits, is_whole, is_bounded, first_data_block, block_count, geometry_of, geometry_read}
+use Rattle.vol_layout.specs.Geometry.{Fits, is_whole, is_bounded, first_data_block, block_count, geometry_read}
 use Rattle.vol_layout.specs.Inode.{inode_place}
 use Rattle.vol_layout.specs.Super.{free_head, time_place}
 use Rattle.vol_layout.proofs.CopyLaws.{IsCopy, long_copied}
@@ -14,6 +14,7 @@ use Rattle.vol_free.proofs.Stacks.{head_end}
 use Rattle.vol_file.proofs.Naming.{root_first}
 pub use Rattle.vol_node.proofs.FileStates.{time_behind as time_within}
 use Rattle.vol_volume.proofs.NewVolumes.{zeros_at}
+use Rattle.vol_volume.proofs.SoundSizes.{read_whole}
 use Rattle.vol_volume.specs.Mkfs.{is_size, IsMakeable, KeepsFirstBlocks}
 use Rattle.vol_layout.specs.declared.edition.Edition.{Edition}
 use Rattle.vol_layout.specs.declared.edition.Edition.TheVariants.{V6, V7}
@@ -34,12 +35,6 @@ fits_by V7 start end last image size low inodes len =
 pub fits_makeable : (geometry : Geometry) (image : List ℕ) → IsMakeable geometry → length image ≡ 512 * geometry.zone_end → Fits geometry image
 fits_makeable geometry image makeable len =
     fits_by geometry.edition geometry.zone_start geometry.zone_end geometry.last_inode image makeable.size makeable.start makeable.inodes len
-
--- a whole image with sizes within bounds has the geometry that it states
-read_whole : (edition : Edition) (image : List ℕ) → is_whole edition image ≡ true → is_bounded edition image ≡ true
-    → geometry_read edition image ≡ Ok (geometry_of edition image)
-unfolding geometry_read
-read_whole edition image whole bounded = rw (whole, bounded)
 
 -- an image that states the sizes of a volume that can be made has them
 read_by : (edition : Edition) (start end last : ℕ) (image : List ℕ) → is_size edition end (start - 2) ≡ true → 3 ≤ start

@@ -1,20 +1,21 @@
 -- What the tree of an image says of one i-node.
-use Rattle.std.proofs.Common.{◌≡◌, ◌≢◌, ℕ, ◌≤◌, ◌∙◌, ap, refl, sym, true, false, cond, List, [], None, Some, arith}
+use Rattle.std.proofs.Common.{◌≡◌, ◌≢◌, ℕ, ◌≤◌, ◌∙◌, ap, refl, sym, true, false, List, Some, arith}
 use Rattle.std.specs.Option.{option_map, unwrap_or}
 use Rattle.std.proofs.lemmas.Bool.{false≢true}
-use Rattle.std.proofs.lemmas.Bool.Decides.{nat_tests}
 use Rattle.vol_layout.specs.Edition.{constants}
-use Rattle.vol_layout.specs.Inode.{inode_place, inode_of}
+use Rattle.vol_layout.specs.Inode.{inode_of}
 use Rattle.vol_layout.specs.declared.geometry.Geometry.{Geometry}
 use Rattle.vol_layout.specs.declared.mode.Kind.{Kind}
 use Rattle.vol_layout.specs.declared.mode.Kind.TheVariants as kinds
-use Rattle.vol_layout.proofs.InodeLaws.{inode_size}
-use Rattle.vol_file.specs.Rules.{size_of, kind_at, HasSoundFiles}
+use Rattle.vol_file.specs.Rules.{kind_at, HasSoundFiles}
 use Rattle.vol_file.proofs.Naming.{root_first}
 use Rattle.vol_dir.specs.Entries.{slots, IsDirectory, IsInUse}
 use Rattle.vol_dir.specs.Names.{get, names_of}
-use Rattle.vol_dir.specs.Tree.{Content, Node, State, is_number, node_of, node_with, content_of, tree}
-use Rattle.vol_dir.specs.Walk.{map_of, is_directory}
+use Rattle.vol_dir.specs.Tree.{Content, Node, State, node_of, node_with, content_of, tree}
+use Rattle.vol_dir.specs.Walk.{is_directory}
+use Rattle.vol_node.proofs.EntryStates.{names_is}
+use Rattle.vol_node.proofs.States.{node_here}
+use Rattle.vol_node.proofs.WrittenStates.{IsKind}
 use Rattle.vol_node.specs.Nodes.{no_node, node_at, names_at, entry_of}
 use Rattle.vol_volume.specs.Verdict.{is_device}
 
@@ -28,19 +29,14 @@ module _ (geometry : Geometry) (image : List ℕ) where
   unfolding tree
   tree_geometry = refl
 
-  -- an i-number of the volume stands for what its i-node reads as
-  pub node_from : (i : ℕ) → 1 ≤ i → i ≤ geometry.last_inode → (tree geometry image).nodes i ≡ node_of geometry image i
-  unfolding tree
-  node_from i first last =
-      let number : is_number geometry i ≡ true = grind (arith, nat_tests) in ap (λ b. cond b (node_of geometry image i) None) number
-
+  -- what an i-node of some kind reads as
   pub node_of_kind : (i : ℕ) (kind : Kind) → kind_at geometry image i ≡ kind
       → node_of geometry image i ≡ option_map (node_with (inode_of geometry.edition image i)) (content_of geometry image i kind)
   unfolding node_of
   node_of_kind i kind is = ap (λ k. option_map (node_with (inode_of geometry.edition image i)) (content_of geometry image i k)) is
 
   pub node_is : (i : ℕ) (kind : Kind) → 1 ≤ i → i ≤ geometry.last_inode → kind_at geometry image i ≡ kind → node_at (tree geometry image) i ≡ node_by geometry image i kind
-  node_is i kind first last is = ap (λ n. unwrap_or n no_node) (node_from i first last ∙ node_of_kind i kind is)
+  node_is i kind first last is = ap (λ n. unwrap_or n no_node) (node_here geometry image i first last ∙ node_of_kind i kind is)
 
   -- a node is a directory where its i-node is one
   pub directory_is : (i : ℕ) → 1 ≤ i → i ≤ geometry.last_inode → kind_at geometry image i ≡ kinds.Directory → is_directory (node_at (tree geometry image) i) ≡ true
@@ -90,9 +86,13 @@ module _ (geometry : Geometry) (image : List ℕ) where
   device_not i first last other =
       ap (λ (n : Node). is_device n.content) (node_is i (kind_at geometry image i) first last refl) ∙ no_device_by i (kind_at geometry image i) other
 
+  -- a directory is an i-node of that kind
+  pub kind_of_directory : (d : ℕ) → IsDirectory geometry image d → IsKind geometry image d kinds.Directory
+  kind_of_directory d directory = record { first = directory.first; last = directory.last; kind = directory.kind }
+
   -- the names of a directory
   pub names_are : (d : ℕ) → IsDirectory geometry image d → names_at (tree geometry image) d ≡ names_of (slots geometry image d)
-  names_are d directory = ap (λ (n : Node). unwrap_or (map_of n.content) []) (node_is d kinds.Directory directory.first directory.last directory.kind)
+  names_are d directory = names_is geometry image d (kind_of_directory d directory)
 
   -- where the node is no special file, the i-node is none
   pub other_device : (i : ℕ) → 1 ≤ i → i ≤ geometry.last_inode → is_device (node_at (tree geometry image) i).content ≡ false → kind_at geometry image i ≢ kinds.Special
@@ -114,7 +114,7 @@ module _ (geometry : Geometry) (image : List ℕ) where
       let stored = stored_by i kind used.allocated (files.sound.kinds.known i first used.last) in
       let is : node_of geometry image i ≡ Some (node_with (inode_of geometry.edition image i) stored.0) =
       node_of_kind i kind refl ∙ ap (option_map (node_with (inode_of geometry.edition image i))) stored.1 in
-      is ∙ sym (ap (λ n. Some (unwrap_or n no_node)) (node_from i first used.last ∙ is))
+      is ∙ sym (ap (λ n. Some (unwrap_or n no_node)) (node_here geometry image i first used.last ∙ is))
 
   -- and its node has the links that it stores
   pub links_are : (i : ℕ) → 1 ≤ i → HasSoundFiles geometry image → IsInUse geometry image i
@@ -129,12 +129,6 @@ module _ (geometry : Geometry) (image : List ℕ) where
   pub in_use : (d : ℕ) → HasSoundFiles geometry image → IsDirectory geometry image d → (constants geometry.edition).root ≤ d → IsInUse geometry image d
   in_use d files directory above =
       record { first = above; last = directory.last; allocated = λ free. let e : kinds.Directory ≡ kinds.Free = sym directory.kind ∙ free in cc }
-
-  -- a directory's node has the size that its i-node stores
-  pub size_is : (d : ℕ) → IsDirectory geometry image d → (node_at (tree geometry image) d).size ≡ size_of geometry image d
-  size_is d directory =
-      ap (λ (n : Node). n.size) (node_is d kinds.Directory directory.first directory.last directory.kind)
-      ∙ inode_size geometry.edition image (inode_place geometry.edition d)
 
   -- of the kinds of what is in use, a regular file is left
   regular_by : (kind : Kind) → kind ≢ kinds.Free → kind ≢ kinds.Odd → kind ≢ kinds.Directory → kind ≢ kinds.Special → kind ≡ kinds.Regular

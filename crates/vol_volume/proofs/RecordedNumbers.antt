@@ -1,5 +1,5 @@
 -- An i-number that a record may have.
-use Rattle.std.proofs.Common.{◌≡◌, ℕ, ◌<◌, ◌≤◌, subst, refl, true, List, Ok}
+use Rattle.std.proofs.Common.{◌≡◌, ℕ, ◌<◌, ◌≤◌, subst, sym, refl, true, List, Ok}
 use Rattle.vol_layout.specs.Edition.{constants}
 use Rattle.vol_layout.specs.Geometry.{geometry_of, geometry_read, Fits}
 use Rattle.vol_layout.specs.Names.{mode_of}
@@ -8,17 +8,13 @@ use Rattle.vol_layout.specs.declared.geometry.Geometry.{Geometry}
 use Rattle.vol_free.specs.Numbers.{IsFreeNumber}
 use Rattle.vol_dir.specs.Tree.{tree}
 use Rattle.vol_judge.specs.Sound.{IsSound}
+use Rattle.vol_node.proofs.SoundVolumes.{geometry_is}
 use Rattle.vol_volume.specs.Verdict.{is_free_number}
 use Rattle.vol_volume.specs.Volume.{reads_as}
 use Rattle.vol_volume.proofs.FreeNumbers.{number_free}
-use Rattle.vol_volume.proofs.SoundSizes.{sound_read}
 use Rattle.vol_volume.proofs.StandingImages.{stands}
 
--- a geometry that was read of a sound image is its own
-read_of : (edition : Edition) (image : List ℕ) (geometry : Geometry) → IsSound edition image → geometry_read edition image ≡ Ok geometry
-    → geometry ≡ geometry_of edition image
-read_of edition image geometry sound read = let known = sound_read edition image sound in cc
-
+-- a free number of a sound image, with the geometry that is its own
 free_in_sound : (edition : Edition) (image : List ℕ) (i : ℕ) → IsSound edition image → Fits (geometry_of edition image) image
     → IsFreeNumber (geometry_of edition image) image i → is_free_number (tree (geometry_of edition image) image) i ≡ true
 free_in_sound edition image i sound fits free =
@@ -30,6 +26,6 @@ pub number_shown : (edition : Edition) (image : List ℕ) (geometry : Geometry) 
     → geometry_read edition image ≡ Ok geometry → Fits geometry image → (constants geometry.edition).root < i
     → i ≤ geometry.last_inode → mode_of geometry image i ≡ 0 → is_free_number (reads_as edition image).tree i ≡ true
 number_shown edition image geometry i sound read fits above within free =
-    let own = read_of edition image geometry sound read in
+    let own = sym (geometry_is edition image geometry read) in
     free_in_sound edition image i sound (subst (λ g. Fits g image) own fits)
     (subst (λ g. IsFreeNumber g image i) own (record { above = above; within = within; mode = free }))

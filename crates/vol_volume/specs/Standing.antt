@@ -1,4 +1,4 @@
--- What is known of an image of which a verdict on a call is asked.
+-- What is known of an image of which a verdict on a call, or the answer to a query, is asked.
 use Rattle.std.specs.Prelude.{ℕ, List}
 use Rattle.vol_layout.specs.Geometry.{Fits}
 use Rattle.vol_file.specs.Rules.{HasSoundFiles}

@@ -1,28 +1,29 @@
 //! The answers to queries.
-ghost use Rattle.std.specs.Prelude.{◌≡◌, ◌≤◌, None, MatchResult, IfOk};
+ghost use Rattle.std.specs.Prelude.{◌≡◌, None, MatchResult, IfOk};
 ghost use Rattle.vol_layout.specs.Body.{body};
-ghost use Rattle.vol_layout.specs.Geometry.{Fits, geometry_of};
+ghost use Rattle.vol_layout.specs.Geometry.{geometry_of};
 ghost use Rattle.vol_layout.specs.Names.{IsFile};
-ghost use Rattle.vol_file.specs.Rules.{kind_at, HasSoundFiles};
-ghost use Rattle.vol_dir.specs.Access.{bit_of};
-ghost use Rattle.vol_dir.specs.Entries.{slots, IsDirectory, HasEntries, IsInUse};
+ghost use Rattle.vol_dir.specs.Entries.{slots, IsDirectory, IsInUse};
 ghost use Rattle.vol_dir.specs.Names.{names_of};
 ghost use Rattle.vol_dir.specs.Tree.{tree};
 ghost use Rattle.vol_judge.specs.Sound.{IsSound};
 ghost use Rattle.vol_node.specs.Nodes.{node_at};
 ghost use Rattle.vol_volume.specs.Answer.{stat_of, list_tests, read_bytes, Answers};
 ghost use Rattle.vol_volume.specs.Answering.{IsRefused, LeadsTo, named};
-ghost use Rattle.vol_volume.specs.Verdict.{first_of, body_tests};
+ghost use Rattle.vol_volume.specs.Standing.{Stands};
+ghost use Rattle.vol_volume.specs.Verdict.{first_of};
 
 use crate::bytes::Bytes;
-use crate::making::is_bad_id;
 use crate::queries::{Listing, Query, Reply, Stat};
+use crate::verdicts::asked::{first_refusal, is_directory, is_granted, kind};
+use crate::verdicts::body::body_tests;
+use crate::verdicts::stands;
 use pdp_words::Image;
 use std::alloc::{AllocError, Global};
 use std::collections::BTreeMap;
-use vol_dir::{Access, Cred, Refusal, grants, next_entry, walk};
-use vol_layout::i_list::{mode, size};
-use vol_layout::{Geometry, Kind, inode};
+use vol_dir::{Access, Cred, Refusal, next_entry, walk};
+use vol_layout::i_list::size;
+use vol_layout::{Geometry, inode};
 
 /// The answer to a query of a sound image with this geometry: that of the tree that it reads as, and
 /// NoMemory where the reply to Read or List finds no room.
@@ -39,7 +40,7 @@ pub(crate) fn answer(
     requires sizes { geometry.now ≡ geometry_of geometry.now.edition image.now }
     ensures { Answers (tree geometry.now image.now) query.now result }
 {
-    ask_sound(image, geometry);
+    stands(image, geometry);
     match query {
         Query::Stat { cred, path } => answer_stat(image, geometry, *cred, path.as_slice()),
         Query::Read {
@@ -60,17 +61,6 @@ pub(crate) fn answer(
     }
 }
 
-/// Does nothing: what a sound image keeps that has this geometry is in the contract.
-fn ask_sound(image: &Image, geometry: &Geometry)
-    requires sound { IsSound geometry.now.edition image.now }
-    requires sizes { geometry.now ≡ geometry_of geometry.now.edition image.now }
-    ensures fits { Fits geometry.now image.now }
-    ensures files { HasSoundFiles geometry.now image.now }
-    ensures entries { HasEntries geometry.now image.now }
-{
-    let _ = Geometry::read(geometry.edition, image);
-}
-
 /// The answer to Stat.
 fn answer_stat(
     image: &Image,
@@ -78,9 +68,7 @@ fn answer_stat(
     cred: Cred,
     path: &[u8],
 ) -> Result<Reply, Refusal>
-    requires fits { Fits geometry.now image.now }
-    requires files { HasSoundFiles geometry.now image.now }
-    requires entries { HasEntries geometry.now image.now }
+    requires stands { Stands geometry.now image.now }
     ensures { Answers (tree geometry.now image.now) (Query.Stat cred path.now) result }
 {
     let i = find_node(image, geometry, cred, path)?;
@@ -97,13 +85,11 @@ fn answer_read(
     offset: u32,
     len: u32,
 ) -> Result<Reply, Refusal>
-    requires fits { Fits geometry.now image.now }
-    requires files { HasSoundFiles geometry.now image.now }
-    requires entries { HasEntries geometry.now image.now }
+    requires stands { Stands geometry.now image.now }
     ensures { Answers (tree geometry.now image.now) (Query.Read cred path.now offset len) result }
 {
     let i = find_node(image, geometry, cred, path)?;
-    if let Some(refusal) = body_refusal(image, geometry, cred, i, Access::Read) {
+    if let Some(refusal) = body_tests(image, geometry, Access::Read, cred, i) {
         return Err(refusal);
     }
     match read(alloc, image, geometry, i, offset, len) {
@@ -120,9 +106,7 @@ fn answer_list(
     cred: Cred,
     path: &[u8],
 ) -> Result<Reply, Refusal>
-    requires fits { Fits geometry.now image.now }
-    requires files { HasSoundFiles geometry.now image.now }
-    requires entries { HasEntries geometry.now image.now }
+    requires stands { Stands geometry.now image.now }
     ensures { Answers (tree geometry.now image.now) (Query.List cred path.now) result }
 {
     let i = find_node(image, geometry, cred, path)?;
@@ -137,26 +121,20 @@ fn answer_list(
 
 /// The i-number to which a path leads, or why the query is refused before anything is asked of a node.
 fn find_node(image: &Image, geometry: &Geometry, cred: Cred, path: &[u8]) -> Result<u16, Refusal>
-    requires fits { Fits geometry.now image.now }
-    requires files { HasSoundFiles geometry.now image.now }
-    requires entries { HasEntries geometry.now image.now }
+    requires stands { Stands geometry.now image.now }
     ensures found { MatchResult result (LeadsTo (tree geometry.now image.now) cred path.now)
         (IsRefused (tree geometry.now image.now) cred path.now) }
     ensures used { IfOk result (λ i. IsInUse geometry.now image.now i) }
 {
-    if is_bad_id(geometry.edition, cred.uid, cred.gid) {
-        return Err(Refusal::BadId);
+    match first_refusal(geometry, cred, path) {
+        Some(refusal) => Err(refusal),
+        None => walk(image, geometry, cred, path),
     }
-    if path.contains(&0) {
-        return Err(Refusal::Invalid);
-    }
-    walk(image, geometry, cred, path)
 }
 
 /// What is told of i-node `i`.
 fn stat(image: &Image, geometry: &Geometry, i: u16) -> Stat
-    requires fits { Fits geometry.now image.now }
-    requires files { HasSoundFiles geometry.now image.now }
+    requires stands { Stands geometry.now image.now }
     requires used { IsInUse geometry.now image.now i }
     ensures { result ≡ stat_of i (node_at (tree geometry.now image.now) i) }
 {
@@ -175,50 +153,19 @@ fn stat(image: &Image, geometry: &Geometry, i: u16) -> Stat
     }
 }
 
-/// What i-node `i` is.
-fn kind(image: &Image, geometry: &Geometry, i: u16) -> Kind
-    requires fits { Fits geometry.now image.now }
-    requires first { 1 ≤ i }
-    requires last { i ≤ geometry.now.last_inode }
-    ensures { result ≡ kind_at geometry.now image.now i }
-{
-    mode(image, geometry, i).kind(geometry.edition)
-}
-
-/// Why i-node `i` isn't a regular file that grants an access, if it isn't.
-fn body_refusal(
-    image: &Image,
-    geometry: &Geometry,
-    cred: Cred,
-    i: u16,
-    access: Access,
-) -> Option<Refusal>
-    requires fits { Fits geometry.now image.now }
-    requires files { HasSoundFiles geometry.now image.now }
-    requires used { IsInUse geometry.now image.now i }
-    ensures first { result ≡ first_of (body_tests (tree geometry.now image.now) (bit_of access) cred i) }
-    ensures regular { result ≡ None → kind_at geometry.now image.now i ≡ Kind.Regular }
-{
-    match kind(image, geometry, i) {
-        Kind::Directory => Some(Refusal::IsDirectory),
-        Kind::Regular if grants(image, geometry, i, access, cred) => None,
-        Kind::Regular => Some(Refusal::Access),
-        _ => Some(Refusal::NotRegular),
-    }
-}
-
 /// Why i-node `i` isn't a directory that may be read, if it isn't.
 fn list_refusal(image: &Image, geometry: &Geometry, cred: Cred, i: u16) -> Option<Refusal>
-    requires fits { Fits geometry.now image.now }
-    requires files { HasSoundFiles geometry.now image.now }
+    requires stands { Stands geometry.now image.now }
     requires used { IsInUse geometry.now image.now i }
     ensures first { result ≡ first_of (list_tests (tree geometry.now image.now) cred i) }
     ensures directory { result ≡ None → IsDirectory geometry.now image.now i }
 {
-    match kind(image, geometry, i) {
-        Kind::Directory if grants(image, geometry, i, Access::Read, cred) => None,
-        Kind::Directory => Some(Refusal::Access),
-        _ => Some(Refusal::NotDirectory),
+    if !is_directory(image, geometry, i) {
+        Some(Refusal::NotDirectory)
+    } else if !is_granted(image, geometry, i, Access::Read, cred) {
+        Some(Refusal::Access)
+    } else {
+        None
     }
 }
 
@@ -231,8 +178,7 @@ fn read(
     offset: u32,
     len: u32,
 ) -> Result<Vec<u8>, AllocError>
-    requires fits { Fits geometry.now image.now }
-    requires files { HasSoundFiles geometry.now image.now }
+    requires stands { Stands geometry.now image.now }
     requires file { IsFile geometry.now image.now i }
     ensures { IfOk result (λ bytes. bytes.items ≡ read_bytes (body geometry.now image.now i) offset len) }
 {
@@ -249,8 +195,7 @@ fn list(
     geometry: &Geometry,
     dir: u16,
 ) -> Result<Vec<(Bytes, u16)>, AllocError>
-    requires fits { Fits geometry.now image.now }
-    requires entries { HasEntries geometry.now image.now }
+    requires stands { Stands geometry.now image.now }
     requires directory { IsDirectory geometry.now image.now dir }
     ensures { IfOk result (λ names. names.items ≡ names_of (slots geometry.now image.now dir)) }
 {
@@ -268,8 +213,7 @@ fn collect_names(
     geometry: &Geometry,
     dir: u16,
 ) -> Result<BTreeMap<Vec<u8>, u16>, AllocError>
-    requires fits { Fits geometry.now image.now }
-    requires entries { HasEntries geometry.now image.now }
+    requires stands { Stands geometry.now image.now }
     requires directory { IsDirectory geometry.now image.now dir }
     ensures { IfOk result (λ names. named names.entries ≡ names_of (slots geometry.now image.now dir)) }
 {

@@ -1,13 +1,13 @@
 //! Which refusal a call meets, if any.
 ghost use Rattle.std.specs.Prelude.{◌≡◌};
-ghost use Rattle.vol_layout.specs.Geometry.{geometry_of, Fits};
+ghost use Rattle.vol_layout.specs.Geometry.{geometry_of};
 ghost use Rattle.vol_dir.specs.Tree.{state, free_count, shapes};
 ghost use Rattle.vol_judge.specs.Sound.{IsSound};
 ghost use Rattle.vol_volume.specs.Standing.{Stands};
 ghost use Rattle.vol_volume.specs.Verdict.{verdict};
 
 pub(crate) mod asked;
-mod body;
+pub(crate) mod body;
 mod create;
 mod link;
 mod mkdir;
@@ -36,7 +36,7 @@ pub(crate) fn verdict(image: &Image, geometry: &Geometry, free: u32, call: &Call
     requires count { free ≡ free_count geometry.now (shapes geometry.now image.now) }
     ensures { result ≡ verdict (state geometry.now image.now) call.now }
 {
-    fits(image, geometry);
+    stands(image, geometry);
     verdict_on(image, geometry, free, call)
 }
 
@@ -80,11 +80,11 @@ fn verdict_on(image: &Image, geometry: &Geometry, free: u32, call: &Call) -> Opt
     }
 }
 
-/// Does nothing: the blocks of a sound image lie within it, and are no more than block numbers can say.
-pub(crate) fn fits(image: &Image, geometry: &Geometry)
+/// Does nothing: a sound image stands, with the geometry that is its own.
+pub(crate) fn stands(image: &Image, geometry: &Geometry)
     requires sound { IsSound geometry.now.edition image.now }
     requires sizes { geometry.now ≡ geometry_of geometry.now.edition image.now }
-    ensures { Fits geometry.now image.now }
+    ensures { Stands geometry.now image.now }
 {
     let _ = image.word(514);
 }

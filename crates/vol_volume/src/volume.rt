@@ -14,7 +14,7 @@ use crate::answering::answer;
 use crate::calls::{Call, Done, Record};
 use crate::performing::perform;
 use crate::queries::{Query, Reply};
-use crate::verdicts::{fits, verdict};
+use crate::verdicts::{stands, verdict};
 use pdp_words::Image;
 use std::alloc::{AllocError, Global};
 use std::marker::Model;
@@ -251,7 +251,7 @@ fn accept(
     ensures recorded { IfSome recorded (λ done. result ≡ done) }
     ensures records { records.new.items ≡ records.old.items ++ record { call = call; done = result } ∷ [] }
 {
-    fits(image, geometry);
+    stands(image, geometry);
     let performed = perform(image, geometry, *free, &call, recorded);
     *free = performed.free;
     let done = performed.done;
@@ -268,7 +268,7 @@ fn count_free(image: &Image, geometry: &Geometry) -> u32
     requires sizes { geometry.now ≡ geometry_of geometry.now.edition image.now }
     ensures { result ≡ free_count geometry.now (shapes geometry.now image.now) }
 {
-    fits(image, geometry);
+    stands(image, geometry);
     free_count(image, geometry)
 }
 

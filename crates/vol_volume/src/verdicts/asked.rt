@@ -13,6 +13,7 @@ ghost use Rattle.vol_volume.specs.Standing.{Stands};
 ghost use Rattle.vol_volume.specs.Verdict.{has_others, is_device, has_free_number, is_too_great, is_full, is_above_free, has_zero, of_parent};
 ghost use Rattle.vol_change.specs.Ready.{entry_need};
 
+use crate::making::is_bad_id;
 use pdp_words::Image;
 use vol_dir::{Access, Cred, Refusal, find, grants, is_empty_dir, place_for, walk_parent};
 use vol_file::need;
@@ -22,7 +23,7 @@ use vol_layout::slot::SLOT;
 use vol_layout::{Geometry, Kind, inode};
 
 /// What i-node `i` is.
-fn kind(image: &Image, geometry: &Geometry, i: u16) -> Kind
+pub(crate) fn kind(image: &Image, geometry: &Geometry, i: u16) -> Kind
     requires fits { Fits geometry.now image.now }
     requires first { 1 ≤ i }
     requires last { i ≤ geometry.now.last_inode }
@@ -162,8 +163,7 @@ pub(crate) fn first_refusal(geometry: &Geometry, cred: Cred, path: &[u8]) -> Opt
     ensures { result ≡ (if is_bad_id geometry.now.edition cred.uid cred.gid then Some Refusal.BadId
         else if has_zero path.now then Some Refusal.Invalid else None) }
 {
-    let limit = geometry.edition.constants().id_limit;
-    if limit < cred.uid || limit < cred.gid {
+    if is_bad_id(geometry.edition, cred.uid, cred.gid) {
         Some(Refusal::BadId)
     } else if has_zero(path) {
         Some(Refusal::Invalid)

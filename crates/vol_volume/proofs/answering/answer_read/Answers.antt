@@ -15,15 +15,15 @@ returns-in_err-i c =
 pub returns-in-Some : goal.returns-in-Some
 returns-in-Some c =
     read_tested (tree c.args.geometry.now c.args.image.now) c.args.cred c.args.path.now c.args.offset c.args.len c.in_ok-i.i c.in-Some.refusal
-    c.in_ok-i.ensures.found c.in-Some.ensures.first
+    c.in_ok-i.ensures.found c.in-Some.ensures.exact
 
 pub returns-in-Ok : goal.returns-in-Ok
 returns-in-Ok c =
     read_replied (tree c.args.geometry.now c.args.image.now) c.args.cred c.args.path.now c.args.offset c.args.len c.in_ok-i.i c.from_vec.result
-    c.in_ok-i.ensures.found c.in_default.ensures.first
+    c.in_ok-i.ensures.found c.in_default.ensures.exact
     (c.from_vec.ensures ∙ (c.in-Ok.ensures
     ∙ ap (λ bytes. read_bytes bytes c.args.offset c.args.len) (sym (body_is c.args.geometry.now c.args.image.now c.in_ok-i.i c.in_ok-i.ensures.used (c.in_default.ensures.regular refl)))))
 
 pub returns-in-Err : goal.returns-in-Err
 returns-in-Err c =
-    read_unmade (tree c.args.geometry.now c.args.image.now) c.args.cred c.args.path.now c.args.offset c.args.len c.in_ok-i.i c.in_ok-i.ensures.found c.in_default.ensures.first
+    read_unmade (tree c.args.geometry.now c.args.image.now) c.args.cred c.args.path.now c.args.offset c.args.len c.in_ok-i.i c.in_ok-i.ensures.found c.in_default.ensures.exact

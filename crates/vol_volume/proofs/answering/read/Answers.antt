@@ -11,7 +11,7 @@ returns c =
     let geometry = c.args.geometry.now in
     let image = c.args.image.now in
     let small : size_of geometry image c.args.i ≤ (constants geometry.edition).greatest =
-    c.requires.files.sound.sizes.greatest c.args.i c.requires.file in
+    c.requires.stands.files.sound.sizes.greatest c.args.i c.requires.file in
     let items_len : c.in_ok-bytes.bytes.len ≡ length c.in_ok-bytes.bytes.items = sym c.deref_mut.ensures.len ∙ ap length c.deref_mut.ensures.value in
     let new_len : length c.read.new.buffer ≡ length c.in_ok-bytes.bytes.items = c.read.auto.buffer ∙ ap length c.deref_mut.ensures.value in
     let read_is : c.read.result ≡ min (length c.in_ok-bytes.bytes.items) (body_size geometry image c.args.i - c.args.offset) =

@@ -1,15 +1,20 @@
 -- What the words of the command line ask for.
-use Rattle.std.specs.Prelude.{◌≡◌, ◌≢◌, ◌⊎◌, ℕ, List, [], Option, Some, None, codes}
-use Rattle.std.specs.Str.Parse.{digits_value}
-use Rattle.clap.specs.Words.{found_of, first_value}
+use Rattle.std.specs.Prelude.{◌≡◌, ◌≢◌, ◌⊎◌, ◌∷◌, ℕ, List, [], Option, Some, None, codes}
+use Rattle.std.specs.Borrow.{Bor}
+use Rattle.clap.specs.Words.{App, HasKind, Row, found_of, first_of, first_value, kind_of}
+use Rattle.clap.specs.declared.error.Error.{Error}
+use Rattle.clap.specs.declared.error.kind.ErrorKind.TheVariants as kinds
 use Rattle.clap.specs.declared.parser.matches.ArgMatches.{ArgMatches}
 use Rattle.vol_layout.specs.declared.edition.Edition.{Edition}
 use Rattle.vol_layout.specs.declared.edition.Edition.TheVariants.{V6, V7}
 use Rattle.unixvol.specs.Decimal.{IsNumberUpTo, IsNumberGiven}
+use Rattle.unixvol.specs.Words.{AreEditions, command_in, faults_of, unixvol_app}
 use Rattle.unixvol.specs.declared.command_line.Invocation.{Invocation}
 use Rattle.unixvol.specs.declared.command_line.Invocation.TheVariants.{Cat, Mkfs, OnVolume}
+use Rattle.unixvol.specs.declared.command_line.Job.{Job}
 use Rattle.unixvol.specs.declared.command_line.Job.TheVariants as jobs
 use Rattle.unixvol.specs.declared.command_line.VolumeFile.{VolumeFile}
+use Rattle.unixvol.specs.declared.making.NewVolume.{NewVolume}
 
 -- the word names this edition (this project)
 abbrev pub IsEditionNamed : Edition → List ℕ → Type 0
@@ -26,12 +31,6 @@ IsNoCommand text =
     (text ≢ codes "cat") × (text ≢ codes "ls") × (text ≢ codes "get") × (text ≢ codes "mkfs") × (text ≢ codes "put")
     × (text ≢ codes "rm") × (text ≢ codes "rmdir") × (text ≢ codes "mkdir") × (text ≢ codes "ln")
 
--- the words after `cat` ask for this (this project)
-abbrev pub AsksForCat : List ℕ → List ℕ → List ℕ → Invocation → Type 0
-AsksForCat edition image ino (Cat named file number) =
-    IsEditionNamed named edition × (file.now ≡ image) × IsNumberUpTo 65535 ino × (number ≡ digits_value 10 ino)
-AsksForCat edition image ino _ = ⊥
-
 -- a word, or the empty one where there is none (this project)
 abbrev pub word_or_empty : Option (List ℕ) → List ℕ
 word_or_empty (Some word) = word
@@ -41,79 +40,119 @@ word_or_empty None = []
 abbrev pub given_in : ArgMatches → List ℕ → List ℕ
 given_in values argument = word_or_empty (first_value (found_of values) argument)
 
--- the words that were given ask for this volume in this file (this project)
-abbrev pub AsksForMkfs : ArgMatches → Invocation → Type 0
-AsksForMkfs values (Mkfs file volume) = (file.now ≡ given_in values (codes "IMAGE"))
-    × IsEditionNamed volume.edition (given_in values (codes "EDITION"))
-    × IsNumberGiven 4294967295 (given_in values (codes "FSIZE")) volume.blocks
-    × IsNumberGiven 65535 (given_in values (codes "IBLOCKS")) volume.list_blocks
-    × IsNumberGiven 65535 (given_in values (codes "UID")) volume.uid
-    × IsNumberGiven 65535 (given_in values (codes "GID")) volume.gid
-    × IsNumberGiven 4294967295 (given_in values (codes "NOW")) volume.now
-AsksForMkfs values _ = ⊥
+-- the same, from the rows that a parse makes of the words (this project)
+abbrev pub given_by : List Row → List ℕ → List ℕ
+given_by rows argument = word_or_empty (first_of argument rows)
 
--- the words that were given name this volume (this project)
-abbrev pub IsVolumeGiven : ArgMatches → VolumeFile → Type 0
-IsVolumeGiven values volume =
-    IsEditionNamed volume.edition (given_in values (codes "EDITION")) × (volume.image.now ≡ given_in values (codes "IMAGE"))
+-- the name of the job's command (this project)
+abbrev pub job_name : Job → List ℕ
+job_name (jobs.Ls path) = codes "ls"
+job_name (jobs.Get path) = codes "get"
+job_name (jobs.Put path file now) = codes "put"
+job_name (jobs.Rm path now) = codes "rm"
+job_name (jobs.Rmdir path now) = codes "rmdir"
+job_name (jobs.Mkdir path now) = codes "mkdir"
+job_name (jobs.Ln from to now) = codes "ln"
 
--- the word that was given for an argument is this one (this project)
-abbrev pub IsWordGiven : ArgMatches → List ℕ → List ℕ → Type 0
-IsWordGiven values argument word = word ≡ given_in values argument
+-- the name of the command (this project)
+abbrev pub command_name : Invocation → List ℕ
+command_name (Cat edition image ino) = codes "cat"
+command_name (Mkfs image volume) = codes "mkfs"
+command_name (OnVolume volume job) = job_name job
+
+-- the words that were given for the arguments name this volume (this project)
+abbrev pub IsVolumeGiven : (List ℕ → List ℕ) → VolumeFile → Type 0
+IsVolumeGiven given volume = IsEditionNamed volume.edition (given (codes "EDITION")) × (volume.image.now ≡ given (codes "IMAGE"))
+
+-- they describe this new volume (this project)
+abbrev pub IsNewVolumeGiven : (List ℕ → List ℕ) → NewVolume → Type 0
+IsNewVolumeGiven given volume = IsEditionNamed volume.edition (given (codes "EDITION"))
+    × IsNumberGiven 4294967295 (given (codes "FSIZE")) volume.blocks
+    × IsNumberGiven 65535 (given (codes "IBLOCKS")) volume.list_blocks
+    × IsNumberGiven 65535 (given (codes "UID")) volume.uid
+    × IsNumberGiven 65535 (given (codes "GID")) volume.gid
+    × IsNumberGiven 4294967295 (given (codes "NOW")) volume.now
 
 -- the moment that was given is this one (this project)
-abbrev pub IsMomentGiven : ArgMatches → ℕ → Type 0
-IsMomentGiven values now = IsNumberGiven 4294967295 (given_in values (codes "NOW")) now
+abbrev pub IsMomentGiven : (List ℕ → List ℕ) → ℕ → Type 0
+IsMomentGiven given now = IsNumberGiven 4294967295 (given (codes "NOW")) now
 
--- the words after `ls` ask for this (this project)
-abbrev pub AsksForLs : ArgMatches → Invocation → Type 0
-AsksForLs values (OnVolume volume (jobs.Ls path)) = IsVolumeGiven values volume × IsWordGiven values (codes "PATH") path.now
-AsksForLs values _ = ⊥
+-- the words that were given for the arguments of the job's command describe the job (this project)
+abbrev pub IsJobGiven : (List ℕ → List ℕ) → Job → Type 0
+IsJobGiven given (jobs.Ls path) = path.now ≡ given (codes "PATH")
+IsJobGiven given (jobs.Get path) = path.now ≡ given (codes "PATH")
+IsJobGiven given (jobs.Put path file now) =
+    (path.now ≡ given (codes "PATH")) × (file.now ≡ given (codes "FILE")) × IsMomentGiven given now
+IsJobGiven given (jobs.Rm path now) = (path.now ≡ given (codes "PATH")) × IsMomentGiven given now
+IsJobGiven given (jobs.Rmdir path now) = (path.now ≡ given (codes "PATH")) × IsMomentGiven given now
+IsJobGiven given (jobs.Mkdir path now) = (path.now ≡ given (codes "PATH")) × IsMomentGiven given now
+IsJobGiven given (jobs.Ln from to now) =
+    (from.now ≡ given (codes "FROM")) × (to.now ≡ given (codes "TO")) × IsMomentGiven given now
 
--- the words after `get` ask for this (this project)
-abbrev pub AsksForGet : ArgMatches → Invocation → Type 0
-AsksForGet values (OnVolume volume (jobs.Get path)) = IsVolumeGiven values volume × IsWordGiven values (codes "PATH") path.now
-AsksForGet values _ = ⊥
+-- the words that were given for the arguments of its command describe what is asked for (this project)
+abbrev pub IsGiven : (List ℕ → List ℕ) → Invocation → Type 0
+IsGiven given (Cat edition image ino) = IsEditionNamed edition (given (codes "EDITION")) × (image.now ≡ given (codes "IMAGE"))
+    × IsNumberGiven 65535 (given (codes "INO")) ino
+IsGiven given (Mkfs image volume) = (image.now ≡ given (codes "IMAGE")) × IsNewVolumeGiven given volume
+IsGiven given (OnVolume volume job) = IsVolumeGiven given volume × IsJobGiven given job
 
--- the words after `put` ask for this (this project)
-abbrev pub AsksForPut : ArgMatches → Invocation → Type 0
-AsksForPut values (OnVolume volume (jobs.Put path file now)) = IsVolumeGiven values volume × IsWordGiven values (codes "PATH") path.now
-    × IsWordGiven values (codes "FILE") file.now × IsMomentGiven values now
-AsksForPut values _ = ⊥
+-- the command of this name and the words for its arguments ask for this (this project)
+abbrev pub AsksFor : List ℕ → (List ℕ → List ℕ) → Invocation → Type 0
+AsksFor name given invocation = (name ≡ command_name invocation) × IsGiven given invocation
 
--- the words after `rm` ask for this (this project)
-abbrev pub AsksForRm : ArgMatches → Invocation → Type 0
-AsksForRm values (OnVolume volume (jobs.Rm path now)) =
-    IsVolumeGiven values volume × IsWordGiven values (codes "PATH") path.now × IsMomentGiven values now
-AsksForRm values _ = ⊥
+-- the moment is no number of 32 bits (this project)
+abbrev pub IsNoMoment : (List ℕ → List ℕ) → Type 0
+IsNoMoment given = IsNumberUpTo 4294967295 (given (codes "NOW")) → ⊥
 
--- the words after `rmdir` ask for this (this project)
-abbrev pub AsksForRmdir : ArgMatches → Invocation → Type 0
-AsksForRmdir values (OnVolume volume (jobs.Rmdir path now)) =
-    IsVolumeGiven values volume × IsWordGiven values (codes "PATH") path.now × IsMomentGiven values now
-AsksForRmdir values _ = ⊥
+-- one of the words of `cat` is no value of its argument (this project)
+abbrev pub IsNoCat : (List ℕ → List ℕ) → Type 0
+IsNoCat given = IsNoEdition (given (codes "EDITION")) ⊎ (IsNumberUpTo 65535 (given (codes "INO")) → ⊥)
 
--- the words after `mkdir` ask for this (this project)
-abbrev pub AsksForMkdir : ArgMatches → Invocation → Type 0
-AsksForMkdir values (OnVolume volume (jobs.Mkdir path now)) =
-    IsVolumeGiven values volume × IsWordGiven values (codes "PATH") path.now × IsMomentGiven values now
-AsksForMkdir values _ = ⊥
+-- one of the words of a command that changes a volume is no value of its argument (this project)
+abbrev pub IsNoChange : (List ℕ → List ℕ) → Type 0
+IsNoChange given = IsNoEdition (given (codes "EDITION")) ⊎ IsNoMoment given
 
--- the words after `ln` ask for this (this project)
-abbrev pub AsksForLn : ArgMatches → Invocation → Type 0
-AsksForLn values (OnVolume volume (jobs.Ln from to now)) = IsVolumeGiven values volume × IsWordGiven values (codes "FROM") from.now
-    × IsWordGiven values (codes "TO") to.now × IsMomentGiven values now
-AsksForLn values _ = ⊥
+-- one of the words of `mkfs` is no value of its argument (this project)
+unfoldable pub IsNoNewVolume : (List ℕ → List ℕ) → Type 0
+IsNoNewVolume given = IsNoEdition (given (codes "EDITION"))
+    ⊎ (IsNumberUpTo 4294967295 (given (codes "FSIZE")) → ⊥) ⊎ (IsNumberUpTo 65535 (given (codes "IBLOCKS")) → ⊥)
+    ⊎ (IsNumberUpTo 65535 (given (codes "UID")) → ⊥) ⊎ (IsNumberUpTo 65535 (given (codes "GID")) → ⊥) ⊎ IsNoMoment given
 
--- the command of this name and the words after it ask for this (this project)
-abbrev pub AsksFor : List ℕ → ArgMatches → Invocation → Type 0
-AsksFor verb values invocation =
-    ((verb ≡ codes "cat") × AsksForCat (given_in values (codes "EDITION")) (given_in values (codes "IMAGE")) (given_in values (codes "INO")) invocation)
-    ⊎ ((verb ≡ codes "ls") × AsksForLs values invocation)
-    ⊎ ((verb ≡ codes "get") × AsksForGet values invocation)
-    ⊎ ((verb ≡ codes "mkfs") × AsksForMkfs values invocation)
-    ⊎ ((verb ≡ codes "put") × AsksForPut values invocation)
-    ⊎ ((verb ≡ codes "rm") × AsksForRm values invocation)
-    ⊎ ((verb ≡ codes "rmdir") × AsksForRmdir values invocation)
-    ⊎ ((verb ≡ codes "mkdir") × AsksForMkdir values invocation)
-    ⊎ ((verb ≡ codes "ln") × AsksForLn values invocation)
+-- a command of this name changes a volume (this project)
+abbrev pub IsChange : List ℕ → Type 0
+IsChange name = (name ≡ codes "put") ⊎ (name ≡ codes "rm") ⊎ (name ≡ codes "rmdir") ⊎ (name ≡ codes "mkdir") ⊎ (name ≡ codes "ln")
+
+-- one of the words of the command of this name is no value of its argument (this project)
+abbrev pub IsNoValue : List ℕ → (List ℕ → List ℕ) → Type 0
+IsNoValue name given = IsNoEdition (given (codes "EDITION")) ⊎ ((name ≡ codes "cat") × IsNoCat given)
+    ⊎ ((name ≡ codes "mkfs") × IsNoNewVolume given) ⊎ (IsChange name × IsNoChange given)
+
+-- memory ran out, or the error tells of a word that is no value, of which this holds (this project)
+abbrev pub TellsOf : Type 0 → Error → Type 0
+TellsOf wrong error = (kind_of error ≡ kinds.OutOfMemory) ⊎ ((kind_of error ≡ kinds.ValueValidation) × wrong)
+
+-- the command that was met, with the rows of its words, asks for this (this project)
+abbrev pub Asks : Option (List ℕ × List Row) → Invocation → Type 0
+Asks None invocation = ⊥
+Asks (Some met) invocation = AsksFor met.0 (given_by met.1) invocation
+
+-- it asks for nothing (this project)
+unfoldable pub AsksNothing : Option (List ℕ × List Row) → Type 0
+AsksNothing met = (invocation : Invocation) → Asks met invocation → ⊥
+
+-- the command line takes these words, and they ask for this (this project)
+abbrev pub IsReadBy : App → List (List ℕ) → Invocation → Type 0
+IsReadBy app words invocation = (faults_of app words ≡ []) × Asks (command_in app words) invocation
+
+-- memory ran out, or this is what the command line refuses of the words, or it takes them and they ask for nothing (this project)
+abbrev pub IsRefusedBy : App → List (List ℕ) → Error → Type 0
+IsRefusedBy app words error = HasKind (faults_of app words) error
+    ⊎ ((faults_of app words ≡ []) × HasKind (kinds.ValueValidation ∷ kinds.MissingSubcommand ∷ []) error × AsksNothing (command_in app words))
+
+-- the command line of `unixvol` takes these words, and they ask for this (this project)
+unfoldable pub IsRead : List (List ℕ) → Invocation → Type 0
+IsRead words invocation = (editions : Bor (List (Bor (List ℕ)))) × AreEditions editions × IsReadBy (unixvol_app editions) words invocation
+
+-- memory ran out, or the command line of `unixvol` refuses the words, or they ask for nothing (this project)
+unfoldable pub IsRefused : List (List ℕ) → Error → Type 0
+IsRefused words error = (editions : Bor (List (Bor (List ℕ)))) × AreEditions editions × IsRefusedBy (unixvol_app editions) words error

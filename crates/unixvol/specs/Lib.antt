@@ -7,3 +7,4 @@ pub mod Jobs
 pub mod Laws
 pub mod Making
 pub mod Showing
+pub mod Words

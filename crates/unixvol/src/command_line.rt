@@ -1,11 +1,9 @@
 //! The words of the command line.
-ghost use Rattle.std.specs.Prelude.{◌≡◌, ◌⊎◌, None, IfOk, IfErr, IfSome, IsErrOf, codes};
-ghost use Rattle.clap.specs.Words.{kind_of};
-ghost use Rattle.clap.specs.declared.error.kind.ErrorKind.TheVariants as clap_kinds;
-ghost use Rattle.unixvol.specs.CommandLine.{IsEditionNamed, IsNoEdition, IsNoCommand, AsksFor, AsksForCat, given_in};
-ghost use Rattle.unixvol.specs.Decimal.{IsNumberUpTo};
+ghost use Rattle.std.specs.Prelude.{◌≡◌, ◌∷◌, [], None, IfOk, IfErr, IfSome, codes, map, string_bytes};
+ghost use Rattle.clap.specs.Words.{subcommand_rows_of};
+ghost use Rattle.unixvol.specs.CommandLine.{Asks, AsksFor, AsksNothing, IsEditionNamed, IsNoCat, IsNoCommand, IsNoEdition, IsNoValue, IsRead, IsRefused, TellsOf, given_in};
+ghost use Rattle.unixvol.specs.Words.{app, changing, command_shape, printing, shape, unixvol_app, with_commands};
 
-use crate::decimal::word_of;
 use crate::making::NewVolume;
 use clap::error::ErrorKind;
 use clap::{ArgMatches, Command, Error};
@@ -17,7 +15,7 @@ mod texts;
 mod volumes;
 mod words;
 
-use words::{EDITION, IMAGE, Verb, edition_argument, required, wrong_value};
+use words::{EDITIONS, IMAGE, Verb, edition_argument, edition_in, required, word_in};
 
 /// A volume in a file.
 #[derive(Clone, Copy, Debug, PartialEq, Eq)]
@@ -96,7 +94,7 @@ const INO: &str = "INO";
 /// clap's, with its text, its stream and its status; it is of the kind `OutOfMemory` where an
 /// allocation was refused.
 pub fn read<'a>(alloc: Global, words: &'a [String]) -> Result<Invocation<'a>, Error> {
-    let mut command = command_line(alloc)?;
+    let mut command = command_line(alloc, EDITIONS.as_slice())?;
     let matches = command.try_get_matches_from_mut(words)?;
     if let Some((verb, values)) = matches.subcommand() {
         if let Some(invocation) = read_command(alloc, verb, values)? {
@@ -109,13 +107,14 @@ pub fn read<'a>(alloc: Global, words: &'a [String]) -> Result<Invocation<'a>, Er
 /// Reads the words after a command. `None` where there is no command of that name.
 fn read_command<'a>(
     alloc: Global,
-    verb: &str,
+    name: &str,
     values: &ArgMatches<'a>,
 ) -> Result<Option<Invocation<'a>>, Error>
-    ensures read { IfOk result (λ found. IfSome found (AsksFor verb.now values.now)) }
-    ensures missing { IfOk result (λ found. found ≡ None → IsNoCommand verb.now) }
+    ensures read { IfOk result (λ found. IfSome found (AsksFor name.now (given_in values.now))) }
+    ensures refused { IfErr result (TellsOf (IsNoValue name.now (given_in values.now))) }
+    ensures missing { IfOk result (λ found. found ≡ None → IsNoCommand name.now) }
 {
-    let invocation = match verb {
+    let invocation = match name {
         "cat" => read_cat(alloc, values)?,
         "ls" => volumes::read_ls(alloc, values)?,
         "get" => volumes::read_get(alloc, values)?,
@@ -131,84 +130,71 @@ fn read_command<'a>(
 }
 
 /// The whole command line.
-fn command_line<'a>(alloc: Global) -> Result<Command<'a>, AllocError> {
+fn command_line<'a>(alloc: Global, editions: &'a [&'a str]) -> Result<Command<'a>, AllocError>
+    ensures { IfOk result (λ command. app command ≡ unixvol_app editions.entry) }
+{
     let command = Command::new(alloc, "unixvol")
         .version("0.1.0")
         .about(texts::ABOUT)
         .after_help(texts::STATUSES)
         .subcommand_required(true)
         .arg_required_else_help(true);
-    with_changes(alloc, with_prints(alloc, command)?)
+    let command = with_prints(alloc, editions, command)?;
+    with_changes(alloc, editions, command)
 }
 
 /// With the commands that print something of a volume.
-fn with_prints<'a>(alloc: Global, command: Command<'a>) -> Result<Command<'a>, AllocError> {
+fn with_prints<'a>(
+    alloc: Global,
+    editions: &'a [&'a str],
+    command: Command<'a>,
+) -> Result<Command<'a>, AllocError>
+    ensures { IfOk result (λ more. app more ≡ with_commands editions.entry (app command.entry) printing) }
+{
     command
-        .subcommand(cat_command(alloc)?)?
-        .subcommand(volumes::ls_command(alloc)?)?
-        .subcommand(volumes::get_command(alloc)?)
+        .subcommand(cat_command(alloc, editions)?)?
+        .subcommand(volumes::ls_command(alloc, editions)?)?
+        .subcommand(volumes::get_command(alloc, editions)?)
 }
 
 /// With the commands that make or change a volume.
-fn with_changes<'a>(alloc: Global, command: Command<'a>) -> Result<Command<'a>, AllocError> {
+fn with_changes<'a>(
+    alloc: Global,
+    editions: &'a [&'a str],
+    command: Command<'a>,
+) -> Result<Command<'a>, AllocError>
+    ensures { IfOk result (λ more. app more ≡ with_commands editions.entry (app command.entry) changing) }
+{
     let command = command
-        .subcommand(mkfs::command(alloc)?)?
-        .subcommand(volumes::put_command(alloc)?)?
-        .subcommand(volumes::rm_command(alloc)?)?;
+        .subcommand(mkfs::command(alloc, editions)?)?
+        .subcommand(volumes::put_command(alloc, editions)?)?
+        .subcommand(volumes::rm_command(alloc, editions)?)?;
     command
-        .subcommand(volumes::rmdir_command(alloc)?)?
-        .subcommand(volumes::mkdir_command(alloc)?)?
-        .subcommand(volumes::ln_command(alloc)?)
+        .subcommand(volumes::rmdir_command(alloc, editions)?)?
+        .subcommand(volumes::mkdir_command(alloc, editions)?)?
+        .subcommand(volumes::ln_command(alloc, editions)?)
 }
 
 /// The command `cat`.
-fn cat_command<'a>(alloc: Global) -> Result<Command<'a>, AllocError> {
+fn cat_command<'a>(alloc: Global, editions: &'a [&'a str]) -> Result<Command<'a>, AllocError>
+    ensures { IfOk result (λ command. shape command ≡ command_shape editions.entry (codes "cat") (codes "IMAGE" ∷ codes "INO" ∷ [])) }
+{
     Command::new(alloc, "cat")
         .about(texts::CAT_ABOUT)
         .after_help(texts::CAT_MORE)
-        .arg(edition_argument(alloc))?
+        .arg(edition_argument(alloc, editions))?
         .arg(required(alloc, IMAGE, texts::IMAGE))?
         .arg(required(alloc, INO, texts::INO))
 }
 
 /// Reads the words of `cat`.
 fn read_cat<'a>(alloc: Global, values: &ArgMatches<'a>) -> Result<Invocation<'a>, Error>
-    ensures read { IfOk result (λ invocation. AsksForCat (given_in values.now (codes "EDITION"))
-        (given_in values.now (codes "IMAGE")) (given_in values.now (codes "INO")) invocation) }
-    ensures refused { IfErr result (λ error. (kind_of error ≡ clap_kinds.OutOfMemory)
-        ⊎ IsNoEdition (given_in values.now (codes "EDITION"))
-        ⊎ (IsNumberUpTo 65535 (given_in values.now (codes "INO")) → ⊥)) }
+    ensures read { IfOk result (AsksFor (codes "cat") (given_in values.now)) }
+    ensures refused { IfErr result (TellsOf (IsNoCat (given_in values.now))) }
 {
-    let edition = values.get_str(EDITION).unwrap_or("");
+    let edition = edition_in(alloc, Verb::Cat, values)?;
     let image = values.get_str(IMAGE).unwrap_or("");
-    let ino = values.get_str(INO).unwrap_or("");
-    let (name, value, wanted) = match cat_of(edition, image, ino) {
-        Ok(invocation) => return Ok(invocation),
-        Err(WrongWord::Edition) => (EDITION, edition, texts::EDITIONS),
-        Err(WrongWord::Ino) => (INO, ino, texts::WORD),
-    };
-    Err(wrong_value(alloc, Verb::Cat, name, value, wanted)?)
-}
-
-/// A word that is no value of its argument.
-#[derive(Clone, Copy, Debug, PartialEq, Eq)]
-enum WrongWord {
-    Edition,
-    Ino,
-}
-
-/// What the words after `cat` ask for, or the first of them that is wrong.
-fn cat_of<'a>(edition: &str, image: &'a str, ino: &str) -> Result<Invocation<'a>, WrongWord>
-    ensures asked { IfOk result (λ invocation. AsksForCat edition.now image.entry.now ino.now invocation) }
-    ensures edition { IsErrOf result WrongWord.Edition → IsNoEdition edition.now }
-    ensures ino { IsErrOf result WrongWord.Ino → IsNumberUpTo 65535 ino.now → ⊥ }
-{
-    let Some(edition) = edition_of(edition) else {
-        return Err(WrongWord::Edition);
-    };
-    let Some(ino) = word_of(ino) else {
-        return Err(WrongWord::Ino);
-    };
+    let ino = word_in(alloc, Verb::Cat, values, INO)?;
     Ok(Invocation::Cat {
         edition,
         image,

@@ -1,6 +1,7 @@
 //! The words of `mkfs`.
-ghost use Rattle.std.specs.Prelude.{IfOk};
-ghost use Rattle.unixvol.specs.CommandLine.{AsksForMkfs};
+ghost use Rattle.std.specs.Prelude.{◌≡◌, ◌∷◌, [], IfOk, IfErr, codes};
+ghost use Rattle.unixvol.specs.Words.{shape, command_shape};
+ghost use Rattle.unixvol.specs.CommandLine.{AsksFor, IsNoNewVolume, TellsOf, given_in};
 
 use super::words::{IMAGE, NOW, Verb, edition_argument, edition_in, long_in, required, word_in};
 use super::{Invocation, texts};
@@ -18,11 +19,14 @@ const UID: &str = "UID";
 const GID: &str = "GID";
 
 /// The command `mkfs`.
-pub(super) fn command<'a>(alloc: Global) -> Result<Command<'a>, AllocError> {
+pub(super) fn command<'a>(alloc: Global, editions: &'a [&'a str]) -> Result<Command<'a>, AllocError>
+    ensures { IfOk result (λ command. shape command ≡ command_shape editions.entry (codes "mkfs")
+        (codes "IMAGE" ∷ codes "FSIZE" ∷ codes "IBLOCKS" ∷ codes "UID" ∷ codes "GID" ∷ codes "NOW" ∷ [])) }
+{
     Command::new(alloc, "mkfs")
         .about(texts::MKFS_ABOUT)
         .after_help(texts::MKFS_MORE)
-        .arg(edition_argument(alloc))?
+        .arg(edition_argument(alloc, editions))?
         .arg(required(alloc, IMAGE, texts::NEW_IMAGE))?
         .arg(required(alloc, BLOCKS, texts::BLOCKS))?
         .arg(required(alloc, LIST_BLOCKS, texts::LIST_BLOCKS))?
@@ -32,8 +36,10 @@ pub(super) fn command<'a>(alloc: Global) -> Result<Command<'a>, AllocError> {
 }
 
 /// Reads the words of `mkfs`.
+#[tactic(auto, unfolding(crate::specs::CommandLine::IsNoNewVolume))]
 pub(super) fn read<'a>(alloc: Global, values: &ArgMatches<'a>) -> Result<Invocation<'a>, Error>
-    ensures { IfOk result (λ invocation. AsksForMkfs values.now invocation) }
+    ensures read { IfOk result (AsksFor (codes "mkfs") (given_in values.now)) }
+    ensures refused { IfErr result (TellsOf (IsNoNewVolume (given_in values.now))) }
 {
     let image = values.get_str(IMAGE).unwrap_or("");
     let volume = NewVolume {

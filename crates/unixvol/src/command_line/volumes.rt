@@ -1,6 +1,7 @@
 //! The words of the commands on the tree of a volume.
-ghost use Rattle.std.specs.Prelude.{IfOk};
-ghost use Rattle.unixvol.specs.CommandLine.{IsVolumeGiven, AsksForLs, AsksForGet, AsksForPut, AsksForRm, AsksForRmdir, AsksForMkdir, AsksForLn};
+ghost use Rattle.std.specs.Prelude.{◌≡◌, ◌∷◌, [], IfOk, IfErr, codes};
+ghost use Rattle.unixvol.specs.Words.{shape, command_shape};
+ghost use Rattle.unixvol.specs.CommandLine.{AsksFor, IsNoChange, IsNoEdition, IsVolumeGiven, TellsOf, given_in};
 
 use super::words::{IMAGE, NOW, Verb, edition_argument, edition_in, long_in, required};
 use super::{Invocation, Job, VolumeFile, texts};
@@ -17,8 +18,13 @@ const FROM: &str = "FROM";
 const TO: &str = "TO";
 
 /// The command `ls`.
-pub(super) fn ls_command<'a>(alloc: Global) -> Result<Command<'a>, AllocError> {
-    on_volume(alloc, "ls", texts::LS_ABOUT, texts::LS_MORE)?.arg(required(
+pub(super) fn ls_command<'a>(
+    alloc: Global,
+    editions: &'a [&'a str],
+) -> Result<Command<'a>, AllocError>
+    ensures { IfOk result (λ command. shape command ≡ command_shape editions.entry (codes "ls") (codes "IMAGE" ∷ codes "PATH" ∷ [])) }
+{
+    on_volume(alloc, editions, "ls", texts::LS_ABOUT, texts::LS_MORE)?.arg(required(
         alloc,
         PATH,
         texts::DIRECTORY,
@@ -26,8 +32,13 @@ pub(super) fn ls_command<'a>(alloc: Global) -> Result<Command<'a>, AllocError> {
 }
 
 /// The command `get`.
-pub(super) fn get_command<'a>(alloc: Global) -> Result<Command<'a>, AllocError> {
-    on_volume(alloc, "get", texts::GET_ABOUT, texts::GET_MORE)?.arg(required(
+pub(super) fn get_command<'a>(
+    alloc: Global,
+    editions: &'a [&'a str],
+) -> Result<Command<'a>, AllocError>
+    ensures { IfOk result (λ command. shape command ≡ command_shape editions.entry (codes "get") (codes "IMAGE" ∷ codes "PATH" ∷ [])) }
+{
+    on_volume(alloc, editions, "get", texts::GET_ABOUT, texts::GET_MORE)?.arg(required(
         alloc,
         PATH,
         texts::REGULAR,
@@ -35,37 +46,74 @@ pub(super) fn get_command<'a>(alloc: Global) -> Result<Command<'a>, AllocError> 
 }
 
 /// The command `put`.
-pub(super) fn put_command<'a>(alloc: Global) -> Result<Command<'a>, AllocError> {
-    on_volume(alloc, "put", texts::PUT_ABOUT, texts::PUT_MORE)?
+pub(super) fn put_command<'a>(
+    alloc: Global,
+    editions: &'a [&'a str],
+) -> Result<Command<'a>, AllocError>
+    ensures { IfOk result (λ command. shape command ≡ command_shape editions.entry (codes "put") (codes "IMAGE" ∷ codes "PATH" ∷ codes "FILE" ∷ codes "NOW" ∷ [])) }
+{
+    on_volume(alloc, editions, "put", texts::PUT_ABOUT, texts::PUT_MORE)?
         .arg(required(alloc, PATH, texts::REGULAR))?
         .arg(required(alloc, FILE, texts::FILE))?
         .arg(required(alloc, NOW, texts::CALL_NOW))
 }
 
 /// The command `rm`.
-pub(super) fn rm_command<'a>(alloc: Global) -> Result<Command<'a>, AllocError> {
-    on_volume(alloc, "rm", texts::RM_ABOUT, texts::RM_MORE)?
+pub(super) fn rm_command<'a>(
+    alloc: Global,
+    editions: &'a [&'a str],
+) -> Result<Command<'a>, AllocError>
+    ensures { IfOk result (λ command. shape command ≡ command_shape editions.entry (codes "rm") (codes "IMAGE" ∷ codes "PATH" ∷ codes "NOW" ∷ [])) }
+{
+    on_volume(alloc, editions, "rm", texts::RM_ABOUT, texts::RM_MORE)?
         .arg(required(alloc, PATH, texts::NAMED))?
         .arg(required(alloc, NOW, texts::CALL_NOW))
 }
 
 /// The command `rmdir`.
-pub(super) fn rmdir_command<'a>(alloc: Global) -> Result<Command<'a>, AllocError> {
-    on_volume(alloc, "rmdir", texts::RMDIR_ABOUT, texts::RMDIR_MORE)?
-        .arg(required(alloc, PATH, texts::DIRECTORY))?
-        .arg(required(alloc, NOW, texts::CALL_NOW))
+pub(super) fn rmdir_command<'a>(
+    alloc: Global,
+    editions: &'a [&'a str],
+) -> Result<Command<'a>, AllocError>
+    ensures { IfOk result (λ command. shape command ≡ command_shape editions.entry (codes "rmdir") (codes "IMAGE" ∷ codes "PATH" ∷ codes "NOW" ∷ [])) }
+{
+    on_volume(
+        alloc,
+        editions,
+        "rmdir",
+        texts::RMDIR_ABOUT,
+        texts::RMDIR_MORE,
+    )?
+    .arg(required(alloc, PATH, texts::DIRECTORY))?
+    .arg(required(alloc, NOW, texts::CALL_NOW))
 }
 
 /// The command `mkdir`.
-pub(super) fn mkdir_command<'a>(alloc: Global) -> Result<Command<'a>, AllocError> {
-    on_volume(alloc, "mkdir", texts::MKDIR_ABOUT, texts::MKDIR_MORE)?
-        .arg(required(alloc, PATH, texts::DIRECTORY))?
-        .arg(required(alloc, NOW, texts::CALL_NOW))
+pub(super) fn mkdir_command<'a>(
+    alloc: Global,
+    editions: &'a [&'a str],
+) -> Result<Command<'a>, AllocError>
+    ensures { IfOk result (λ command. shape command ≡ command_shape editions.entry (codes "mkdir") (codes "IMAGE" ∷ codes "PATH" ∷ codes "NOW" ∷ [])) }
+{
+    on_volume(
+        alloc,
+        editions,
+        "mkdir",
+        texts::MKDIR_ABOUT,
+        texts::MKDIR_MORE,
+    )?
+    .arg(required(alloc, PATH, texts::DIRECTORY))?
+    .arg(required(alloc, NOW, texts::CALL_NOW))
 }
 
 /// The command `ln`.
-pub(super) fn ln_command<'a>(alloc: Global) -> Result<Command<'a>, AllocError> {
-    on_volume(alloc, "ln", texts::LN_ABOUT, texts::LN_MORE)?
+pub(super) fn ln_command<'a>(
+    alloc: Global,
+    editions: &'a [&'a str],
+) -> Result<Command<'a>, AllocError>
+    ensures { IfOk result (λ command. shape command ≡ command_shape editions.entry (codes "ln") (codes "IMAGE" ∷ codes "FROM" ∷ codes "TO" ∷ codes "NOW" ∷ [])) }
+{
+    on_volume(alloc, editions, "ln", texts::LN_ABOUT, texts::LN_MORE)?
         .arg(required(alloc, FROM, texts::NAMED))?
         .arg(required(alloc, TO, texts::NEW_NAME))?
         .arg(required(alloc, NOW, texts::CALL_NOW))
@@ -74,20 +122,24 @@ pub(super) fn ln_command<'a>(alloc: Global) -> Result<Command<'a>, AllocError> {
 /// A command whose first words are the edition and the image.
 fn on_volume<'a>(
     alloc: Global,
+    editions: &'a [&'a str],
     name: &'a str,
     about: &'a str,
     more: &'a str,
-) -> Result<Command<'a>, AllocError> {
+) -> Result<Command<'a>, AllocError>
+    ensures { IfOk result (λ command. shape command ≡ command_shape editions.entry name.entry.now (codes "IMAGE" ∷ [])) }
+{
     Command::new(alloc, name)
         .about(about)
         .after_help(more)
-        .arg(edition_argument(alloc))?
+        .arg(edition_argument(alloc, editions))?
         .arg(required(alloc, IMAGE, texts::IMAGE))
 }
 
 /// Reads the words of `ls`.
 pub(super) fn read_ls<'a>(alloc: Global, values: &ArgMatches<'a>) -> Result<Invocation<'a>, Error>
-    ensures { IfOk result (λ invocation. AsksForLs values.now invocation) }
+    ensures read { IfOk result (AsksFor (codes "ls") (given_in values.now)) }
+    ensures refused { IfErr result (TellsOf (IsNoEdition (given_in values.now (codes "EDITION")))) }
 {
     let volume = volume_in(alloc, Verb::Ls, values)?;
     let path = values.get_str(PATH).unwrap_or("");
@@ -97,7 +149,8 @@ pub(super) fn read_ls<'a>(alloc: Global, values: &ArgMatches<'a>) -> Result<Invo
 
 /// Reads the words of `get`.
 pub(super) fn read_get<'a>(alloc: Global, values: &ArgMatches<'a>) -> Result<Invocation<'a>, Error>
-    ensures { IfOk result (λ invocation. AsksForGet values.now invocation) }
+    ensures read { IfOk result (AsksFor (codes "get") (given_in values.now)) }
+    ensures refused { IfErr result (TellsOf (IsNoEdition (given_in values.now (codes "EDITION")))) }
 {
     let volume = volume_in(alloc, Verb::Get, values)?;
     let path = values.get_str(PATH).unwrap_or("");
@@ -107,7 +160,8 @@ pub(super) fn read_get<'a>(alloc: Global, values: &ArgMatches<'a>) -> Result<Inv
 
 /// Reads the words of `put`.
 pub(super) fn read_put<'a>(alloc: Global, values: &ArgMatches<'a>) -> Result<Invocation<'a>, Error>
-    ensures { IfOk result (λ invocation. AsksForPut values.now invocation) }
+    ensures read { IfOk result (AsksFor (codes "put") (given_in values.now)) }
+    ensures refused { IfErr result (TellsOf (IsNoChange (given_in values.now))) }
 {
     let volume = volume_in(alloc, Verb::Put, values)?;
     let path = values.get_str(PATH).unwrap_or("");
@@ -119,7 +173,8 @@ pub(super) fn read_put<'a>(alloc: Global, values: &ArgMatches<'a>) -> Result<Inv
 
 /// Reads the words of `rm`.
 pub(super) fn read_rm<'a>(alloc: Global, values: &ArgMatches<'a>) -> Result<Invocation<'a>, Error>
-    ensures { IfOk result (λ invocation. AsksForRm values.now invocation) }
+    ensures read { IfOk result (AsksFor (codes "rm") (given_in values.now)) }
+    ensures refused { IfErr result (TellsOf (IsNoChange (given_in values.now))) }
 {
     let volume = volume_in(alloc, Verb::Rm, values)?;
     let path = values.get_str(PATH).unwrap_or("");
@@ -133,7 +188,8 @@ pub(super) fn read_rmdir<'a>(
     alloc: Global,
     values: &ArgMatches<'a>,
 ) -> Result<Invocation<'a>, Error>
-    ensures { IfOk result (λ invocation. AsksForRmdir values.now invocation) }
+    ensures read { IfOk result (AsksFor (codes "rmdir") (given_in values.now)) }
+    ensures refused { IfErr result (TellsOf (IsNoChange (given_in values.now))) }
 {
     let volume = volume_in(alloc, Verb::Rmdir, values)?;
     let path = values.get_str(PATH).unwrap_or("");
@@ -147,7 +203,8 @@ pub(super) fn read_mkdir<'a>(
     alloc: Global,
     values: &ArgMatches<'a>,
 ) -> Result<Invocation<'a>, Error>
-    ensures { IfOk result (λ invocation. AsksForMkdir values.now invocation) }
+    ensures read { IfOk result (AsksFor (codes "mkdir") (given_in values.now)) }
+    ensures refused { IfErr result (TellsOf (IsNoChange (given_in values.now))) }
 {
     let volume = volume_in(alloc, Verb::Mkdir, values)?;
     let path = values.get_str(PATH).unwrap_or("");
@@ -158,7 +215,8 @@ pub(super) fn read_mkdir<'a>(
 
 /// Reads the words of `ln`.
 pub(super) fn read_ln<'a>(alloc: Global, values: &ArgMatches<'a>) -> Result<Invocation<'a>, Error>
-    ensures { IfOk result (λ invocation. AsksForLn values.now invocation) }
+    ensures read { IfOk result (AsksFor (codes "ln") (given_in values.now)) }
+    ensures refused { IfErr result (TellsOf (IsNoChange (given_in values.now))) }
 {
     let volume = volume_in(alloc, Verb::Ln, values)?;
     let from = values.get_str(FROM).unwrap_or("");
@@ -174,7 +232,8 @@ fn volume_in<'a>(
     verb: Verb,
     values: &ArgMatches<'a>,
 ) -> Result<VolumeFile<'a>, Error>
-    ensures { IfOk result (λ volume. IsVolumeGiven values.now volume) }
+    ensures read { IfOk result (IsVolumeGiven (given_in values.now)) }
+    ensures refused { IfErr result (TellsOf (IsNoEdition (given_in values.now (codes "EDITION")))) }
 {
     let edition = edition_in(alloc, verb, values)?;
     let image = values.get_str(IMAGE).unwrap_or("");

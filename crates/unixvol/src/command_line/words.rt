@@ -1,8 +1,9 @@
 //! The words that several commands have, and the faults of words.
-ghost use Rattle.std.specs.Prelude.{◌≡◌, ◌⊎◌, IfOk, IfErr, codes};
+ghost use Rattle.std.specs.Prelude.{◌≡◌, IfOk, IfErr, codes};
 ghost use Rattle.clap.specs.Words.{kind_of};
 ghost use Rattle.clap.specs.declared.error.kind.ErrorKind.TheVariants as clap_kinds;
-ghost use Rattle.unixvol.specs.CommandLine.{IsEditionNamed, IsNoEdition, given_in};
+ghost use Rattle.unixvol.specs.CommandLine.{IsEditionNamed, IsNoEdition, TellsOf, given_in};
+ghost use Rattle.unixvol.specs.Words.{rule, word_rule, edition_rule};
 ghost use Rattle.unixvol.specs.Decimal.{IsNumberUpTo, IsNumberGiven};
 
 use super::{cat_command, edition_of, mkfs, texts, volumes};
@@ -20,7 +21,7 @@ pub const IMAGE: &str = "IMAGE";
 pub const NOW: &str = "NOW";
 
 /// The editions' names on the command line.
-static EDITIONS: [&str; 2] = ["6", "7"];
+pub static EDITIONS: [&str; 2] = ["6", "7"];
 
 /// The commands.
 #[derive(Clone, Copy, Debug, PartialEq, Eq)]
@@ -39,38 +40,44 @@ pub enum Verb {
 impl Verb {
     /// The command, of which the usage shows the whole name.
     fn command<'a>(self, alloc: Global) -> Result<Command<'a>, AllocError> {
+        let editions = EDITIONS.as_slice();
         match self {
-            Verb::Cat => cat_command(alloc)?.bin_name("unixvol cat"),
-            Verb::Ls => volumes::ls_command(alloc)?.bin_name("unixvol ls"),
-            Verb::Get => volumes::get_command(alloc)?.bin_name("unixvol get"),
-            Verb::Mkfs => mkfs::command(alloc)?.bin_name("unixvol mkfs"),
-            Verb::Put => volumes::put_command(alloc)?.bin_name("unixvol put"),
-            Verb::Rm => volumes::rm_command(alloc)?.bin_name("unixvol rm"),
-            Verb::Rmdir => volumes::rmdir_command(alloc)?.bin_name("unixvol rmdir"),
-            Verb::Mkdir => volumes::mkdir_command(alloc)?.bin_name("unixvol mkdir"),
-            Verb::Ln => volumes::ln_command(alloc)?.bin_name("unixvol ln"),
+            Verb::Cat => cat_command(alloc, editions)?.bin_name("unixvol cat"),
+            Verb::Ls => volumes::ls_command(alloc, editions)?.bin_name("unixvol ls"),
+            Verb::Get => volumes::get_command(alloc, editions)?.bin_name("unixvol get"),
+            Verb::Mkfs => mkfs::command(alloc, editions)?.bin_name("unixvol mkfs"),
+            Verb::Put => volumes::put_command(alloc, editions)?.bin_name("unixvol put"),
+            Verb::Rm => volumes::rm_command(alloc, editions)?.bin_name("unixvol rm"),
+            Verb::Rmdir => volumes::rmdir_command(alloc, editions)?.bin_name("unixvol rmdir"),
+            Verb::Mkdir => volumes::mkdir_command(alloc, editions)?.bin_name("unixvol mkdir"),
+            Verb::Ln => volumes::ln_command(alloc, editions)?.bin_name("unixvol ln"),
         }
     }
 }
 
 /// The word that names the edition of the volume.
-pub fn edition_argument<'a>(alloc: Global) -> Arg<'a> {
+#[tactic(auto, unfolding(crate::specs::Words::rule, crate::specs::Words::edition_rule))]
+pub fn edition_argument<'a>(alloc: Global, editions: &'a [&'a str]) -> Arg<'a>
+    ensures { rule result ≡ edition_rule editions.entry }
+{
     Arg::new(alloc, EDITION)
         .required(true)
-        .value_parser(EDITIONS.as_slice())
+        .value_parser(editions)
         .help(texts::EDITION)
 }
 
 /// A word that is required.
-pub fn required<'a>(alloc: Global, name: &'a str, help: &'a str) -> Arg<'a> {
+#[tactic(auto, unfolding(crate::specs::Words::rule, crate::specs::Words::word_rule))]
+pub fn required<'a>(alloc: Global, name: &'a str, help: &'a str) -> Arg<'a>
+    ensures { rule result ≡ word_rule name.entry.now }
+{
     Arg::new(alloc, name).required(true).help(help)
 }
 
 /// The edition that was given.
 pub fn edition_in(alloc: Global, verb: Verb, values: &ArgMatches<'_>) -> Result<Edition, Error>
     ensures read { IfOk result (λ edition. IsEditionNamed edition (given_in values.now (codes "EDITION"))) }
-    ensures refused { IfErr result (λ error. (kind_of error ≡ clap_kinds.OutOfMemory)
-        ⊎ IsNoEdition (given_in values.now (codes "EDITION"))) }
+    ensures refused { IfErr result (TellsOf (IsNoEdition (given_in values.now (codes "EDITION")))) }
 {
     let text = values.get_str(EDITION).unwrap_or("");
     match edition_of(text) {
@@ -82,8 +89,7 @@ pub fn edition_in(alloc: Global, verb: Verb, values: &ArgMatches<'_>) -> Result<
 /// The number of 16 bits that was given for an argument.
 pub fn word_in(alloc: Global, verb: Verb, values: &ArgMatches<'_>, name: &str) -> Result<u16, Error>
     ensures read { IfOk result (λ number. IsNumberGiven 65535 (given_in values.now name.now) number) }
-    ensures refused { IfErr result (λ error. (kind_of error ≡ clap_kinds.OutOfMemory)
-        ⊎ (IsNumberUpTo 65535 (given_in values.now name.now) → ⊥)) }
+    ensures refused { IfErr result (TellsOf (IsNumberUpTo 65535 (given_in values.now name.now) → ⊥)) }
 {
     let text = values.get_str(name).unwrap_or("");
     match word_of(text) {
@@ -95,8 +101,7 @@ pub fn word_in(alloc: Global, verb: Verb, values: &ArgMatches<'_>, name: &str) -
 /// The number of 32 bits that was given for an argument.
 pub fn long_in(alloc: Global, verb: Verb, values: &ArgMatches<'_>, name: &str) -> Result<u32, Error>
     ensures read { IfOk result (λ number. IsNumberGiven 4294967295 (given_in values.now name.now) number) }
-    ensures refused { IfErr result (λ error. (kind_of error ≡ clap_kinds.OutOfMemory)
-        ⊎ (IsNumberUpTo 4294967295 (given_in values.now name.now) → ⊥)) }
+    ensures refused { IfErr result (TellsOf (IsNumberUpTo 4294967295 (given_in values.now name.now) → ⊥)) }
 {
     let text = values.get_str(name).unwrap_or("");
     match long_of(text) {

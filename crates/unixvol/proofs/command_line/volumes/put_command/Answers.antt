@@ -1,0 +1,11 @@
+use Rattle.unixvol.specs.Words.{command_shape}
+use Rattle.unixvol.proofs.Words.{adds_last, adds_word}
+use Rattle.unixvol.proofs.command_line.volumes.put_command.Goals as goal
+
+pub returns : goal.returns
+unfolding command_shape
+returns c =
+    adds_last _ _ _ _ _ c.arg-3.ensures c.required-3.ensures
+    (adds_word _ _ _ _ _ c.in_ok-arg-2.ensures c.required-2.ensures
+    (adds_word _ _ _ _ _ c.in_ok-arg.ensures c.required.ensures
+    c.in_ok-on_volume.ensures))

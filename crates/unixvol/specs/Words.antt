@@ -1,0 +1,89 @@
+-- The command line: its commands, and the words that each takes.
+use Rattle.std.specs.Prelude.{◌≡◌, ◌∷◌, ◌++◌, ℕ, List, [], Option, Some, true, false, codes, fold, map}
+use Rattle.std.specs.Borrow.{Bor}
+use Rattle.clap.specs.Simple.{new_shape}
+use Rattle.clap.specs.Words.{App, Kinds, Row, Rule, Shape, app_of, fault_of, new_rule, rule_of, shape_of, subcommand_of, with_subcommand}
+use Rattle.clap.specs.declared.builder.arg.Arg.{Arg}
+use Rattle.clap.specs.declared.builder.command.Command.{Command}
+use Rattle.clap.specs.declared.builder.value_parser.ValueParser.TheVariants as parsers
+
+-- what a parse reads of an argument (clap's contract)
+unfoldable pub rule : Arg → Rule
+rule argument = rule_of argument
+
+-- what a parse reads of a command without subcommands (clap's contract)
+unfoldable pub shape : Command → Shape
+shape command = shape_of command
+
+-- what a parse reads of a command with its subcommands (clap's contract)
+unfoldable pub app : Command → App
+app command = app_of command
+
+-- the texts behind references are the names of the editions (this project)
+abbrev pub AreEditions : Bor (List (Bor (List ℕ))) → Type 0
+AreEditions editions = map (λ name. name.now) editions.now ≡ codes "6" ∷ codes "7" ∷ []
+
+-- an argument of this name that has to be given (this project)
+unfoldable pub word_rule : List ℕ → Rule
+word_rule name = record (new_rule name) { required = true }
+
+-- the argument `EDITION`, which has to be given and is one of these texts (this project)
+unfoldable pub edition_rule : Bor (List (Bor (List ℕ))) → Rule
+edition_rule editions = record (new_rule (codes "EDITION")) { required = true; parser = Some (parsers.Names editions) }
+
+-- a command of this name without arguments (clap's contract)
+unfoldable pub named : List ℕ → Shape
+named name = new_shape name
+
+-- a command with one more argument, the last (clap's contract)
+unfoldable pub with_argument : Shape → Rule → Shape
+with_argument command argument = record command { rules = command.rules ++ argument ∷ [] }
+
+-- a command of this name, which takes an edition and then a word for each of these arguments (this project)
+unfoldable pub command_shape : Bor (List (Bor (List ℕ))) → List ℕ → List (List ℕ) → Shape
+command_shape editions name arguments =
+    fold (λ command argument. with_argument command (word_rule argument)) (with_argument (named name) (edition_rule editions)) arguments
+
+-- the program without its commands: it has a version and asks for a command (this project)
+unfoldable pub program : App
+program = record {
+  top = record (new_shape (codes "unixvol")) { has_version = true; subcommand_required = true; arg_required_else_help = true };
+  subs = [];
+}
+
+-- a program with one more command, the last (clap's contract)
+unfoldable pub with_command : App → Shape → App
+with_command old command = with_subcommand old command
+
+-- the commands that print something of a volume, with the words after the edition (this project)
+abbrev pub printing : List (List ℕ × List (List ℕ))
+printing = (codes "cat", codes "IMAGE" ∷ codes "INO" ∷ [])
+    ∷ (codes "ls", codes "IMAGE" ∷ codes "PATH" ∷ [])
+    ∷ (codes "get", codes "IMAGE" ∷ codes "PATH" ∷ [])
+    ∷ []
+
+-- the commands that make or change a volume, with the words after the edition (this project)
+abbrev pub changing : List (List ℕ × List (List ℕ))
+changing = (codes "mkfs", codes "IMAGE" ∷ codes "FSIZE" ∷ codes "IBLOCKS" ∷ codes "UID" ∷ codes "GID" ∷ codes "NOW" ∷ [])
+    ∷ (codes "put", codes "IMAGE" ∷ codes "PATH" ∷ codes "FILE" ∷ codes "NOW" ∷ [])
+    ∷ (codes "rm", codes "IMAGE" ∷ codes "PATH" ∷ codes "NOW" ∷ [])
+    ∷ (codes "rmdir", codes "IMAGE" ∷ codes "PATH" ∷ codes "NOW" ∷ [])
+    ∷ (codes "mkdir", codes "IMAGE" ∷ codes "PATH" ∷ codes "NOW" ∷ [])
+    ∷ (codes "ln", codes "IMAGE" ∷ codes "FROM" ∷ codes "TO" ∷ codes "NOW" ∷ [])
+    ∷ []
+
+-- a program with these commands more (this project)
+abbrev pub with_commands : Bor (List (Bor (List ℕ))) → App → List (List ℕ × List (List ℕ)) → App
+with_commands editions = fold (λ old command. with_command old (command_shape editions command.0 command.1))
+
+-- the command line of `unixvol` (this project)
+unfoldable pub unixvol_app : Bor (List (Bor (List ℕ))) → App
+unixvol_app editions = with_commands editions (with_commands editions program printing) changing
+
+-- what clap tells of the words, nothing where it takes them (clap's contract)
+unfoldable pub faults_of : App → List (List ℕ) → Kinds
+faults_of app words = fault_of app words
+
+-- the command that the words name, and what a parse makes of the words after it (clap's contract)
+unfoldable pub command_in : App → List (List ℕ) → Option (List ℕ × List Row)
+command_in app words = subcommand_of app words

@@ -359,6 +359,39 @@ ln -s later volumes/early
 prints none mkfs 6 volumes/early "${twenty[@]}"
 has 'a symbolic link that led to nothing' later "$(readlink volumes/early)"
 saves 'what a symbolic link leads to from now on' volumes/later made
+mkdir volumes/inner
+ln -s ../chained volumes/inner/chain
+ln -s "$folder/volumes/end" volumes/chained
+prints none mkfs 6 volumes/inner/chain "${twenty[@]}"
+has 'the first of two symbolic links that led to nothing' ../chained "$(readlink volumes/inner/chain)"
+has 'the second of two symbolic links that led to nothing' "$folder/volumes/end" "$(readlink volumes/chained)"
+saves 'what two symbolic links lead to from now on' volumes/end made
+ln -s missing/a volumes/astray
+refuses 3 'unixvol: cannot write volumes/astray' mkfs 6 volumes/astray "${twenty[@]}"
+ln -s circle volumes/circle
+refuses 3 'unixvol: cannot write volumes/circle' mkfs 6 volumes/circle "${twenty[@]}"
+has 'a symbolic link that leads to itself' circle "$(readlink volumes/circle)"
+# In a folder so deep that the system can't name it from the root: a file at the end of a link is made all the same,
+# and an old one stays. A failure leaves no new file.
+# deep WORD..: runs the program in that folder
+long_name=$(printf 'd%.0s' $(seq 250))
+deep() {
+    (descend && exec "$program" "$@") > output 2> error < /dev/null
+    echo $? > status
+}
+descend() {
+    local depth
+    for depth in $(seq 17); do { [ -d "$long_name" ] || mkdir "$long_name"; } && cd -P "$long_name" || return 9; done
+}
+(descend && ln -s nothing link && cp "$folder/hello" kept)
+deep mkfs 6 link "${twenty[@]}"
+wants 'mkfs at the end of a link in a deep folder' 0 none none
+has 'a file at the end of a link in a deep folder' same "$(descend && cmp -s nothing "$folder/made" && echo same)"
+deep mkfs 6 kept "${twenty[@]}"
+echo 'unixvol: cannot write kept' > line
+wants 'mkfs of an old file in a deep folder' 3 none line
+has 'the files of a deep folder' 'kept link nothing' "$(descend && echo *)"
+has 'an old file in a deep folder' hello "$(descend && cat kept)"
 (umask 027; runs mkfs 6 volumes/masked "${twenty[@]}")
 has 'the permissions of a new file' 640 "$(stat -c %a volumes/masked)"
 cat pipe > piped &
@@ -619,10 +652,6 @@ helps help
 helps cat --help
 helps help cat
 for command in mkfs ls get put rm mkdir rmdir ln; do
-    helps "$command" --help
-    helps help "$command"
-done
-for command in ls get put rm rmdir mkdir ln; do
     helps "$command" --help
     helps help "$command"
 done

@@ -6,4 +6,6 @@ pub mod Faults
 pub mod Jobs
 pub mod Laws
 pub mod Making
+pub mod Running
+pub mod Saving
 pub mod Showing

@@ -406,6 +406,29 @@ refuses 3 'unixvol: cannot write /proc/a' mkfs 6 /proc/a "${twenty[@]}"
 refuses 3 'unixvol: cannot write ' mkfs 6 '' "${twenty[@]}"
 refuses 3 'unixvol: cannot write hello/a' mkfs 6 hello/a "${twenty[@]}"
 
+# Who a new file belongs to: the super-user gives it to the old one's owner. For others it is their own, and it stays in the
+# old one's group where that is one of theirs.
+if [ "$(id -u)" = 0 ]; then
+    chown 12:34 volumes/linked
+    prints none mkfs 6 volumes/linked "${twenty[@]}"
+    has 'the owner and the group of an old file' 12:34 "$(stat -c %u:%g volumes/linked)"
+    chown 0:0 volumes/linked
+    if command -v setpriv > /dev/null; then
+        mkdir shared
+        cp hello shared/a
+        cp "$program" shared/program
+        chown 13:34 shared/a
+        chmod 660 shared/a
+        chmod 777 shared
+        chmod 711 .
+        (cd shared && exec setpriv --reuid=12 --regid=12 --groups=34 ./program mkfs 6 a "${twenty[@]}") > output 2> error < /dev/null
+        echo $? > status
+        wants 'mkfs of a file of a group' 0 none none
+        saves 'a file of a group' shared/a made
+        has 'the owner and the group of a file of a group' '12:34 660' "$(stat -c '%u:%g %a' shared/a)"
+    fi
+fi
+
 # A disk that is full, which a limit on the size of files stands for: the old file stays, and no new one.
 (ulimit -f 8; trap '' XFSZ; runs mkfs 6 volumes/kept "${twenty[@]}")
 echo 'unixvol: cannot write volumes/kept' > line

@@ -359,6 +359,39 @@ ln -s later volumes/early
 prints none mkfs 6 volumes/early "${twenty[@]}"
 has 'a symbolic link that led to nothing' later "$(readlink volumes/early)"
 saves 'what a symbolic link leads to from now on' volumes/later made
+mkdir volumes/inner
+ln -s ../chained volumes/inner/chain
+ln -s "$folder/volumes/end" volumes/chained
+prints none mkfs 6 volumes/inner/chain "${twenty[@]}"
+has 'the first of two symbolic links that led to nothing' ../chained "$(readlink volumes/inner/chain)"
+has 'the second of two symbolic links that led to nothing' "$folder/volumes/end" "$(readlink volumes/chained)"
+saves 'what two symbolic links lead to from now on' volumes/end made
+ln -s missing/a volumes/astray
+refuses 3 'unixvol: cannot write volumes/astray' mkfs 6 volumes/astray "${twenty[@]}"
+ln -s circle volumes/circle
+refuses 3 'unixvol: cannot write volumes/circle' mkfs 6 volumes/circle "${twenty[@]}"
+has 'a symbolic link that leads to itself' circle "$(readlink volumes/circle)"
+# In a folder so deep that the system can't name it from the root: a file at the end of a link is made all the same,
+# and an old one stays. A failure leaves no new file.
+# deep WORD..: runs the program in that folder
+long_name=$(printf 'd%.0s' $(seq 250))
+deep() {
+    (descend && exec "$program" "$@") > output 2> error < /dev/null
+    echo $? > status
+}
+descend() {
+    local depth
+    for depth in $(seq 17); do { [ -d "$long_name" ] || mkdir "$long_name"; } && cd -P "$long_name" || return 9; done
+}
+(descend && ln -s nothing link && cp "$folder/hello" kept)
+deep mkfs 6 link "${twenty[@]}"
+wants 'mkfs at the end of a link in a deep folder' 0 none none
+has 'a file at the end of a link in a deep folder' same "$(descend && cmp -s nothing "$folder/made" && echo same)"
+deep mkfs 6 kept "${twenty[@]}"
+echo 'unixvol: cannot write kept' > line
+wants 'mkfs of an old file in a deep folder' 3 none line
+has 'the files of a deep folder' 'kept link nothing' "$(descend && echo *)"
+has 'an old file in a deep folder' hello "$(descend && cat kept)"
 (umask 027; runs mkfs 6 volumes/masked "${twenty[@]}")
 has 'the permissions of a new file' 640 "$(stat -c %a volumes/masked)"
 cat pipe > piped &
@@ -372,6 +405,29 @@ refuses 3 'unixvol: cannot write missing/a' mkfs 6 missing/a "${twenty[@]}"
 refuses 3 'unixvol: cannot write /proc/a' mkfs 6 /proc/a "${twenty[@]}"
 refuses 3 'unixvol: cannot write ' mkfs 6 '' "${twenty[@]}"
 refuses 3 'unixvol: cannot write hello/a' mkfs 6 hello/a "${twenty[@]}"
+
+# Who a new file belongs to: the super-user gives it to the old one's owner. For others it is their own, and it stays in the
+# old one's group where that is one of theirs.
+if [ "$(id -u)" = 0 ]; then
+    chown 12:34 volumes/linked
+    prints none mkfs 6 volumes/linked "${twenty[@]}"
+    has 'the owner and the group of an old file' 12:34 "$(stat -c %u:%g volumes/linked)"
+    chown 0:0 volumes/linked
+    if command -v setpriv > /dev/null; then
+        mkdir shared
+        cp hello shared/a
+        cp "$program" shared/program
+        chown 13:34 shared/a
+        chmod 660 shared/a
+        chmod 777 shared
+        chmod 711 .
+        (cd shared && exec setpriv --reuid=12 --regid=12 --groups=34 ./program mkfs 6 a "${twenty[@]}") > output 2> error < /dev/null
+        echo $? > status
+        wants 'mkfs of a file of a group' 0 none none
+        saves 'a file of a group' shared/a made
+        has 'the owner and the group of a file of a group' '12:34 660' "$(stat -c '%u:%g %a' shared/a)"
+    fi
+fi
 
 # A disk that is full, which a limit on the size of files stands for: the old file stays, and no new one.
 (ulimit -f 8; trap '' XFSZ; runs mkfs 6 volumes/kept "${twenty[@]}")
@@ -619,10 +675,6 @@ helps help
 helps cat --help
 helps help cat
 for command in mkfs ls get put rm mkdir rmdir ln; do
-    helps "$command" --help
-    helps help "$command"
-done
-for command in ls get put rm rmdir mkdir ln; do
     helps "$command" --help
     helps help "$command"
 done

@@ -1,4 +1,5 @@
 pub mod Outputs
 pub mod Reasons
 pub mod Replies
+pub mod Running
 pub mod Words

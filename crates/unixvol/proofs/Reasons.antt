@@ -46,14 +46,14 @@ outcome_ruled edition image calls (Ok bytes) reason = tt
 outcome_ruled edition image calls (Err fault) reason = reason_ruled edition image calls fault reason
 
 -- the rule of an obstacle is one of the twelve
-printed_ruled : (edition : Edition) (image : List ℕ) (query : Query) (old new : Option (List ℕ)) (failed : Bool) (fault : Fault)
-    → Prints edition image query old new failed (Err fault) → IsRuled fault
-printed_ruled edition image query old new failed (faults.Unsound rule) printed = least_within true edition image rule printed.0
-printed_ruled edition image query old new failed (faults.Refused refusal) printed = tt
-printed_ruled edition image query old new failed faults.Output printed = tt
+printed_ruled : (edition : Edition) (image : List ℕ) (query : Query) (old new : Option (List ℕ)) (had_failed failed : Bool) (fault : Fault)
+    → Prints edition image query old new had_failed failed (Err fault) → IsRuled fault
+printed_ruled edition image query old new had_failed failed (faults.Unsound rule) printed = least_within true edition image rule printed.1
+printed_ruled edition image query old new had_failed failed (faults.Refused refusal) printed = tt
+printed_ruled edition image query old new had_failed failed faults.Output printed = tt
 
 -- a fault of printing names a rule of the twelve
-pub printing_ruled : (edition : Edition) (image : List ℕ) (query : Query) (old new : Option (List ℕ)) (failed : Bool) (outcome : Result (Unit {0}) Fault)
-    → Prints edition image query old new failed outcome → IfErr outcome IsRuled
-printing_ruled edition image query old new failed (Ok done) printed = tt
-printing_ruled edition image query old new failed (Err fault) printed = printed_ruled edition image query old new failed fault printed
+pub printing_ruled : (edition : Edition) (image : List ℕ) (query : Query) (old new : Option (List ℕ)) (had_failed failed : Bool) (outcome : Result (Unit {0}) Fault)
+    → Prints edition image query old new had_failed failed outcome → IfErr outcome IsRuled
+printing_ruled edition image query old new had_failed failed (Ok done) printed = tt
+printing_ruled edition image query old new had_failed failed (Err fault) printed = printed_ruled edition image query old new had_failed failed fault printed

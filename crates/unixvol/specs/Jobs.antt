@@ -1,5 +1,5 @@
 -- What the jobs of the command line come to.
-use Rattle.std.specs.Prelude.{ℕ, List, [], ◌∷◌, Option, Bool}
+use Rattle.std.specs.Prelude.{◌≡◌, ℕ, List, [], ◌∷◌, Option, Bool}
 use Rattle.std.specs.Io.KnownBytes.{Keeps}
 use Rattle.vol_volume.specs.Volume.{reads_as}
 use Rattle.unixvol.specs.Changing.{Changes, put_calls}
@@ -14,21 +14,23 @@ use Rattle.unixvol.specs.declared.answer.Answer.{Answer}
 use Rattle.unixvol.specs.declared.command_line.Job.{Job}
 use Rattle.unixvol.specs.declared.command_line.Job.TheVariants as jobs
 
--- what two streams were and are: their bytes, and whether standard output failed; and what standard error got (this project)
+-- what two streams were and are: the bytes of standard output, whether it had failed and has; and what standard error got (this project)
 pub record Streams : Type 1 where
   pub old : Option (List ℕ)
   pub new : Option (List ℕ)
+  pub had_failed : Bool
   pub failed : Bool
   pub said : List ℕ → Type 0
 
 -- a query is shown (this project)
 abbrev pub Asks : Edition → List ℕ → Streams → Answer → Query → Type 0
 Asks edition image streams answer query =
-    Shows edition image query (Prints edition image query streams.old streams.new streams.failed) streams.said answer
+    Shows edition image query (Prints edition image query streams.old streams.new streams.had_failed streams.failed) streams.said answer
 
--- calls are made, and nothing is printed (this project)
+-- calls are made, and standard output is as it was (this project)
 abbrev pub Calls : Edition → List ℕ → Streams → Answer → List Call → Type 0
-Calls edition image streams answer calls = Changes edition image calls streams.said answer × Keeps streams.old streams.new
+Calls edition image streams answer calls =
+    Changes edition image calls streams.said answer × Keeps streams.old streams.new × (streams.failed ≡ streams.had_failed)
 
 -- what a job comes to: the query or the calls that it stands for (this project)
 abbrev pub Does : Edition → List ℕ → List ℕ → Streams → Answer → Job → Type 0

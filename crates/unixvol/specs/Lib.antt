@@ -6,5 +6,7 @@ pub mod Faults
 pub mod Jobs
 pub mod Laws
 pub mod Making
+pub mod Running
+pub mod Saving
 pub mod Showing
 pub mod Words

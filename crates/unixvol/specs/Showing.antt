@@ -56,12 +56,12 @@ abbrev pub Replies : Edition → List ℕ → Query → (List ℕ → Type 0) �
 Replies edition image query printed =
     IsSound edition image × (reply : Reply) × (answer_of edition image query ≡ Ok reply) × printed (text_of reply)
 
--- what standard output gets by an outcome: the text of the reply; or, where it failed, the front of it; or nothing (this project)
-abbrev pub Prints : Edition → List ℕ → Query → Option (List ℕ) → Option (List ℕ) → Bool → Result (Unit {0}) Fault → Type 0
-Prints edition image query old new failed (Ok done) = Replies edition image query (Appends old new)
-Prints edition image query old new failed (Err faults.Output) =
+-- what standard output gets by an outcome: the text of the reply; or, where it failed, the front of it; or nothing; and whether it had failed and has (this project)
+abbrev pub Prints : Edition → List ℕ → Query → Option (List ℕ) → Option (List ℕ) → Bool → Bool → Result (Unit {0}) Fault → Type 0
+Prints edition image query old new had_failed failed (Ok done) = (failed ≡ had_failed) × Replies edition image query (Appends old new)
+Prints edition image query old new had_failed failed (Err faults.Output) =
     (failed ≡ true) × Replies edition image query (λ text. (count : ℕ) × AppendsFront old new text count)
-Prints edition image query old new failed (Err fault) = IsObstacle edition image query fault × Keeps old new
+Prints edition image query old new had_failed failed (Err fault) = (failed ≡ had_failed) × IsObstacle edition image query fault × Keeps old new
 
 -- what a command that shows a reply comes to: nothing to be saved; the text, status 0 and no line, or a fault's status and its line (this project)
 pub record Shows (edition : Edition) (image : List ℕ) (query : Query) (printed : Result (Unit {0}) Fault → Type 0)

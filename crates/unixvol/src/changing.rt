@@ -44,6 +44,7 @@ pub fn put<O: Sink, E: Sink>(
     ensures changed { Changes edition image.items (put_calls (reads_as edition image.items).tree now path.now file.items)
         (Gets (E.failed errors.new) (E.contents errors.old) (E.contents errors.new)) result }
     ensures unprinted { Keeps (O.contents _output.old) (O.contents _output.new) }
+    ensures unused { O.failed _output.new ≡ O.failed _output.old }
 {
     conclude(put_file(alloc, edition, image, path, file, now), errors)
 }
@@ -61,6 +62,7 @@ pub fn rm<O: Sink, E: Sink>(
     ensures changed { Changes edition image.items (asked.Unlink user now path.now ∷ [])
         (Gets (E.failed errors.new) (E.contents errors.old) (E.contents errors.new)) result }
     ensures unprinted { Keeps (O.contents _output.old) (O.contents _output.new) }
+    ensures unused { O.failed _output.new ≡ O.failed _output.old }
 {
     conclude(unlink(alloc, edition, image, path, now), errors)
 }
@@ -78,6 +80,7 @@ pub fn rmdir<O: Sink, E: Sink>(
     ensures changed { Changes edition image.items (asked.Rmdir user now path.now ∷ [])
         (Gets (E.failed errors.new) (E.contents errors.old) (E.contents errors.new)) result }
     ensures unprinted { Keeps (O.contents _output.old) (O.contents _output.new) }
+    ensures unused { O.failed _output.new ≡ O.failed _output.old }
 {
     conclude(remove_directory(alloc, edition, image, path, now), errors)
 }
@@ -95,6 +98,7 @@ pub fn mkdir<O: Sink, E: Sink>(
     ensures changed { Changes edition image.items (asked.Mkdir user now path.now 0o755 ∷ [])
         (Gets (E.failed errors.new) (E.contents errors.old) (E.contents errors.new)) result }
     ensures unprinted { Keeps (O.contents _output.old) (O.contents _output.new) }
+    ensures unused { O.failed _output.new ≡ O.failed _output.old }
 {
     conclude(make_directory(alloc, edition, image, path, now), errors)
 }
@@ -113,6 +117,7 @@ pub fn ln<O: Sink, E: Sink>(
     ensures changed { Changes edition image.items (asked.Link user now from.now to.now ∷ [])
         (Gets (E.failed errors.new) (E.contents errors.old) (E.contents errors.new)) result }
     ensures unprinted { Keeps (O.contents _output.old) (O.contents _output.new) }
+    ensures unused { O.failed _output.new ≡ O.failed _output.old }
 {
     conclude(link(alloc, edition, image, from, to, now), errors)
 }

@@ -1,10 +1,14 @@
 //! The commands of the program: what they open, and what they print where something fails.
-ghost use Rattle.std.specs.Prelude.{◌≡◌, ◌≢◌, ◌⊎◌, IsSome, IfErr};
+ghost use Rattle.std.specs.Prelude.{◌≡◌, ◌≢◌, ◌⊎◌, ◌≤◌, false, None, IfErr, OnOk};
+ghost use Rattle.std.specs.Io.KnownBytes.{Keeps};
 ghost use Rattle.std.specs.IoError.{error_kind};
 ghost use Rattle.std.specs.declared.io.ErrorKind.TheVariants as io_kinds;
 ghost use Rattle.clap.specs.Words.{kind_of};
 ghost use Rattle.clap.specs.declared.error.kind.ErrorKind.TheVariants as clap_kinds;
-ghost use Rattle.unixvol.specs.Cat.{status_of};
+ghost use Rattle.unixvol.specs.Cat.{Cats, status_of};
+ghost use Rattle.unixvol.specs.Faults.{Gets};
+ghost use Rattle.unixvol.specs.Running.{IsStatusOfFile, EndsSaved, RunsJob, Runs, Ends};
+ghost use Rattle.unixvol.specs.Saving.{IsTaken};
 
 use crate::answer::Answer;
 use crate::cat::{CatFault, cat};
@@ -13,7 +17,7 @@ use crate::jobs::do_job;
 use crate::making::mkfs_command;
 use crate::saving_file::save_file;
 use clap::error::ErrorKind;
-use pdp_words::{FromRead, IntoWrite, LoadFault, load};
+use pdp_words::{FromRead, LoadFault, Sink, load, write_all};
 use std::env::{self, Env};
 use std::fs::{self, Files};
 use std::io::{self, Write};
@@ -28,48 +32,82 @@ const BAD_COMMAND_LINE: u8 = 2;
 /// The status where a file can't be read or written.
 const BAD_FILE: u8 = 3;
 
-/// Does what the command line asks for, and answers the status to end with. What it prints goes to
-/// `output`, which is standard output; a fault is one line on standard error, or clap's text. `errors`
-/// writes to standard error too.
-pub fn run<R: Env + Files + Eprint + AllocGlobal, W: Write, E: Write>(
+/// Does what the command line asks for, and answers the status to end with, if [`finish`] goes well. What it
+/// prints goes to `output`, which is standard output; a fault is one line on standard error, or clap's text.
+/// `errors` writes to standard error too.
+pub fn run<R: Env + Files + Eprint + AllocGlobal, O: Sink, E: Sink>(
     rt: &R,
-    output: &mut W,
+    output: &mut O,
     errors: &mut E,
-) -> u8 {
+) -> u8
+    requires { O.failed output.old ≡ false }
+    ensures { Ends (record {
+      old = O.contents output.old;
+      new = O.contents output.new;
+      had_failed = O.failed output.old;
+      failed = O.failed output.new;
+      said = Gets (E.failed errors.new) (E.contents errors.old) (E.contents errors.new);
+    }) result }
+{
     let words = match words(rt) {
         Ok(words) => words,
         Err(error) => return explain_words(rt, &error),
     };
     match command_line::read(rt.alloc(), words.as_slice()) {
-        Ok(
-            Invocation::Cat {
-                edition,
-                image,
-                ino,
-            },
-        ) => match cat_file(rt, output, edition, image, ino) {
-            Ok(()) => finish(rt, output),
-            Err(fault) => explain_cat(rt, fault, image),
-        },
-        Ok(Invocation::Mkfs { image, volume }) => {
-            let mut output = IntoWrite::new(output);
-            let mut errors = IntoWrite::new(errors);
-            let answer = mkfs_command(rt.alloc(), volume, &mut output, &mut errors);
-            save_answer(rt, image, &answer)
-        }
-        Ok(Invocation::OnVolume { volume, job }) => run_job(rt, output, errors, volume, job),
+        Ok(invocation) => carry_out(rt, output, errors, invocation),
         Err(error) => explain_command_line(rt, output, &error),
     }
 }
 
-/// Does a job with the volume in a file, and saves the volume where it was changed.
-fn run_job<R: Files + Eprint + AllocGlobal, W: Write, E: Write>(
+/// Does what the user asks for, and answers the status to end with.
+fn carry_out<R: Files + Eprint + AllocGlobal, O: Sink, E: Sink>(
     rt: &R,
-    output: &mut W,
+    output: &mut O,
+    errors: &mut E,
+    invocation: Invocation<'_>,
+) -> u8
+    requires { O.failed output.old ≡ false }
+    ensures { Runs (record {
+      old = O.contents output.old;
+      new = O.contents output.new;
+      had_failed = O.failed output.old;
+      failed = O.failed output.new;
+      said = Gets (E.failed errors.new) (E.contents errors.old) (E.contents errors.new);
+    }) (IsTaken R.File.contents) result invocation.entry }
+{
+    match invocation {
+        Invocation::Cat {
+            edition,
+            image,
+            ino,
+        } => match cat_file(rt, output, edition, image, ino) {
+            Ok(()) => DONE,
+            Err(fault) => explain_cat(rt, fault, image),
+        },
+        Invocation::Mkfs { image, volume } => {
+            let answer = mkfs_command(rt.alloc(), volume, output, errors);
+            save_answer(rt, image, &answer)
+        }
+        Invocation::OnVolume { volume, job } => run_job(rt, output, errors, volume, job),
+    }
+}
+
+/// Does a job with the volume in a file, and saves the volume where it was changed.
+fn run_job<R: Files + Eprint + AllocGlobal, O: Sink, E: Sink>(
+    rt: &R,
+    output: &mut O,
     errors: &mut E,
     volume: VolumeFile<'_>,
     job: Job<'_>,
-) -> u8 {
+) -> u8
+    ensures { RunsJob (record {
+      old = O.contents output.old;
+      new = O.contents output.new;
+      had_failed = O.failed output.old;
+      failed = O.failed output.new;
+      said = Gets (E.failed errors.new) (E.contents errors.old) (E.contents errors.new);
+    }) (IsTaken R.File.contents) volume.entry.edition job.entry result }
+{
     let image = match read_file(rt, volume.image) {
         Ok(image) => image,
         Err(status) => return status,
@@ -78,26 +116,13 @@ fn run_job<R: Files + Eprint + AllocGlobal, W: Write, E: Write>(
         Ok(file) => file,
         Err(status) => return status,
     };
-    let mut output = IntoWrite::new(output);
-    let mut errors = IntoWrite::new(errors);
-    let answer = do_job(
-        rt.alloc(),
-        volume.edition,
-        image,
-        file,
-        job,
-        &mut output,
-        &mut errors,
-    );
-    if answer.status == DONE && answer.image.is_none() {
-        return finish(rt, output.into_inner());
-    }
+    let answer = do_job(rt.alloc(), volume.edition, image, file, job, output, errors);
     save_answer(rt, volume.image, &answer)
 }
 
 /// The bytes of the file that a job puts into a volume, or none.
 fn file_of<R: Files + Eprint + AllocGlobal>(rt: &R, job: Job<'_>) -> Result<Vec<u8>, u8>
-    ensures { IfErr result (λ status. (status ≡ 3) ⊎ (status ≡ 4)) }
+    ensures { IfErr result IsStatusOfFile }
 {
     match job {
         Job::Put { file, .. } => read_file(rt, file),
@@ -107,7 +132,7 @@ fn file_of<R: Files + Eprint + AllocGlobal>(rt: &R, job: Job<'_>) -> Result<Vec<
 
 /// The bytes of a file. Where it can't be read, prints so, and answers the status.
 fn read_file<R: Files + Eprint + AllocGlobal>(rt: &R, path: &str) -> Result<Vec<u8>, u8>
-    ensures { IfErr result (λ status. (status ≡ 3) ⊎ (status ≡ 4)) }
+    ensures { IfErr result IsStatusOfFile }
 {
     let Ok(file) = fs::open(rt, path) else {
         return Err(explain_unread(rt, path));
@@ -126,24 +151,27 @@ fn words<R: Env + AllocGlobal>(rt: &R) -> io::Result<Vec<String>> {
 }
 
 /// Prints the body of i-node `ino` of the volume in the file `image`.
-fn cat_file<R: Files + AllocGlobal, W: Write>(
+fn cat_file<R: Files + AllocGlobal, O: Sink>(
     rt: &R,
-    output: &mut W,
+    output: &mut O,
     edition: Edition,
     image: &str,
     ino: u16,
-) -> Result<(), CatFault> {
+) -> Result<(), CatFault>
+    requires { O.failed output.old ≡ false }
+    ensures shown { Cats None None (O.contents output.old) (O.contents output.new) edition ino result }
+    ensures kept { OnOk result (O.failed output.new ≡ false) }
+{
     let Ok(file) = fs::open(rt, image) else {
         return Err(CatFault::Device);
     };
     let mut source = FromRead::new(file);
-    let mut sink = IntoWrite::new(output);
-    cat(rt.alloc(), edition, ino, &mut source, &mut sink)
+    cat(rt.alloc(), edition, ino, &mut source, output)
 }
 
 /// Saves what a command made in the file `image`, if it made anything, and answers the status to end with.
 fn save_answer<R: Files + Eprint + AllocGlobal>(rt: &R, image: &str, answer: &Answer) -> u8
-    ensures { (result ≡ answer.now.status) ⊎ (IsSome answer.now.image × ((result ≡ 3) ⊎ (result ≡ 4))) }
+    ensures { EndsSaved (IsTaken R.File.contents) answer.now result }
 {
     let Some(bytes) = &answer.image else {
         return answer.status;
@@ -185,12 +213,19 @@ fn explain_cat(rt: &impl Eprint, fault: CatFault, image: &str) -> u8
 
 /// Prints the text of a command line that asks for nothing that can be done, or the help that it
 /// asks for, and answers its status.
-fn explain_command_line<W: Write>(rt: &impl Eprint, output: &mut W, error: &clap::Error) -> u8
+fn explain_command_line<R: Eprint + AllocGlobal, O: Sink>(
+    rt: &R,
+    output: &mut O,
+    error: &clap::Error,
+) -> u8
     ensures memory { kind_of error.now ≡ clap_kinds.OutOfMemory → result ≡ 4 }
     ensures mistake { kind_of error.now ≢ clap_kinds.OutOfMemory → kind_of error.now ≢ clap_kinds.DisplayHelp
         → kind_of error.now ≢ clap_kinds.DisplayVersion → result ≡ 2 }
     ensures shown { (kind_of error.now ≡ clap_kinds.DisplayHelp) ⊎ (kind_of error.now ≡ clap_kinds.DisplayVersion)
-        → (result ≡ 0) ⊎ (result ≡ 3) }
+        → (result ≡ 0) ⊎ IsStatusOfFile result }
+    ensures within { result ≤ 4 }
+    ensures silent { result ≢ 0 → result ≢ 3 → Keeps (O.contents output.old) (O.contents output.new) }
+    ensures whole { result ≡ 0 → O.failed output.new ≡ O.failed output.old }
 {
     if error.kind() == ErrorKind::OutOfMemory {
         return explain_no_memory(rt);
@@ -199,20 +234,23 @@ fn explain_command_line<W: Write>(rt: &impl Eprint, output: &mut W, error: &clap
         let _ = rt.eprint(error);
         return BAD_COMMAND_LINE;
     }
-    if write!(output, "{error}").is_err() {
-        return explain_output(rt);
-    }
-    finish(rt, output)
-}
-
-/// Sees to what `output` may have kept back, and answers the status of a run that went well.
-fn finish<W: Write>(rt: &impl Eprint, output: &mut W) -> u8
-    ensures { (result ≡ 0) ⊎ (result ≡ 3) }
-{
-    match output.flush() {
+    let Ok(text) = format!(in rt.alloc(); "{error}") else {
+        return explain_no_memory(rt);
+    };
+    match write_all(output, text.as_bytes()) {
         Ok(()) => DONE,
         Err(_) => explain_output(rt),
     }
+}
+
+/// Sees to what standard output may have kept back, and answers the status of a run that would end with `status`.
+pub fn finish<W: Write + Drop>(rt: &impl Eprint, mut output: W, status: u8) -> u8
+    ensures { (result ≡ status) ⊎ ((status ≡ 0) × (result ≡ 3)) }
+{
+    if status == DONE && output.flush().is_err() {
+        return explain_output(rt);
+    }
+    status
 }
 
 /// Prints that standard output failed, and answers the status.

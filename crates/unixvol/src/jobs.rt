@@ -23,6 +23,7 @@ pub fn do_job<O: Sink, E: Sink>(
     ensures { Does edition image.items file.items (record {
       old = O.contents output.old;
       new = O.contents output.new;
+      had_failed = O.failed output.old;
       failed = O.failed output.new;
       said = Gets (E.failed errors.new) (E.contents errors.old) (E.contents errors.new);
     }) result job.entry }

@@ -15,12 +15,14 @@ mod mounting;
 mod saving_file;
 mod showing;
 
+use pdp_words::IntoWrite;
 use std::process::ExitCode;
 
 fn main(rt: HostRuntime) -> ExitCode {
-    let mut output = rt.stdout();
-    let mut errors = rt.stderr();
-    ExitCode::from(commands::run(&rt, &mut output, &mut errors))
+    let mut output = IntoWrite::new(rt.stdout());
+    let mut errors = IntoWrite::new(rt.stderr());
+    let status = commands::run(&rt, &mut output, &mut errors);
+    ExitCode::from(commands::finish(&rt, output.into_inner(), status))
 }
 
 #[cfg(test)]

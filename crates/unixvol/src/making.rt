@@ -48,6 +48,7 @@ pub fn mkfs_command<O: Sink, E: Sink>(
     ensures line { E.failed errors.new ≡ false → Appends (E.contents errors.old) (E.contents errors.new)
         (line_of_status (is_size volume.edition volume.blocks volume.list_blocks) result.status) }
     ensures unprinted { Keeps (O.contents _output.old) (O.contents _output.new) }
+    ensures unused { O.failed _output.new ≡ O.failed _output.old }
 {
     let NewVolume {
         edition,

@@ -1,4 +1,9 @@
 //! Saving an image in a file, so that a failure leaves the file that was there.
+ghost use Rattle.std.specs.Prelude.{IfOk, OnOk};
+ghost use Rattle.std.specs.Io.KnownBytes.{Appends};
+ghost use Rattle.std.specs.Path.{path_bytes, path_buf_bytes};
+ghost use Rattle.unixvol.specs.Saving.{IsBeside, IsTaken};
+
 use pdp_words::{IntoWrite, write_all};
 use std::fs::{self, Files, Metadata, OpenFile, OpenOptions};
 use std::io::{self, ErrorKind, Write};
@@ -8,14 +13,19 @@ use std::path::{Path, PathBuf};
 /// How many names are tried for the new file.
 const TRIES: u32 = 1000;
 
+/// How many symbolic links are followed, one after another: as many as the system follows.
+const MOST_LINKS: u32 = 40;
+
 /// Permissions of a new file that is to have those of an old one: until then it is nobody else's.
 const PRIVATE: u32 = 0o600;
 
 /// Saves bytes in the file `path`. They go into a new file in the same folder, which then takes the
-/// place of the old one, and has its permissions and, where the system lets it, its owner. So a
-/// failure leaves the old file as it was, and no new one. A symbolic link is followed. What is no
+/// place of the old one, and has its permissions and, where the system lets it, its owner and its group.
+/// So a failure leaves the old file as it was, and no new one. A symbolic link is followed. What is no
 /// regular file, as a device or a pipe, is written in place.
-pub fn save_file<R: Files + AllocGlobal>(rt: &R, path: &str, bytes: &[u8]) -> io::Result<()> {
+pub fn save_file<R: Files + AllocGlobal>(rt: &R, path: &str, bytes: &[u8]) -> io::Result<()>
+    ensures { OnOk result (IsTaken R.File.contents bytes.now) }
+{
     match OpenOptions::new().write(true).open(rt, path) {
         Ok(file) => {
             let metadata = file.metadata()?;
@@ -23,27 +33,28 @@ pub fn save_file<R: Files + AllocGlobal>(rt: &R, path: &str, bytes: &[u8]) -> io
                 let place = fs::canonicalize(rt, path)?;
                 replace(rt, place.as_path(), Some(&metadata), bytes)
             } else {
-                write(file, bytes)
+                write_in_place(file, bytes)
             }
         }
-        Err(error) if error.kind() == ErrorKind::NotFound => make(rt, path, bytes),
+        Err(error) if error.kind() == ErrorKind::NotFound => {
+            let place = end_of_links(rt, path)?;
+            replace(rt, place.as_path(), None, bytes)
+        }
         Err(error) => Err(error),
     }
 }
 
-/// Saves bytes where no file is. A symbolic link may stand there that leads to none: the file is made
-/// at its end.
-fn make<R: Files + AllocGlobal>(rt: &R, path: &str, bytes: &[u8]) -> io::Result<()> {
-    if fs::symlink_metadata(rt, path).is_err() {
-        return replace(rt, Path::new(path), None, bytes);
+/// Where the symbolic links end that begin at `path` and lead to no file; `path` itself, where no link is.
+fn end_of_links<R: Files + AllocGlobal>(rt: &R, path: &str) -> io::Result<PathBuf> {
+    let mut place = PathBuf::from_str(rt.alloc(), path)?;
+    for _ in 0..MOST_LINKS {
+        match fs::read_link(rt, place.as_path()) {
+            Ok(target) => place = place.with_file_name(rt.alloc(), target.as_str())?,
+            Err(error) if error.kind() == ErrorKind::NotFound => return Ok(place),
+            Err(error) => return Err(error),
+        }
     }
-    let _ = fs::create(rt, path)?;
-    let place = fs::canonicalize(rt, path)?;
-    let result = replace(rt, place.as_path(), None, bytes);
-    if result.is_err() {
-        let _ = fs::remove_file(rt, place.as_path());
-    }
-    result
+    Err(io::Error::from(ErrorKind::FilesystemLoop))
 }
 
 /// Puts a new file with these bytes in the place of `path`, which is no symbolic link.
@@ -52,7 +63,9 @@ fn replace<R: Files + AllocGlobal>(
     path: Path<'_>,
     old: Option<&Metadata>,
     bytes: &[u8],
-) -> io::Result<()> {
+) -> io::Result<()>
+    ensures { OnOk result (IsTaken R.File.contents bytes.now) }
+{
     let (file, beside) = new_file(rt, path, old.is_some())?;
     let result = fill(rt, file, beside.as_path(), old, bytes);
     let result = result.and_then(|()| fs::rename(rt, beside.as_path(), path));
@@ -67,7 +80,9 @@ fn new_file<R: Files + AllocGlobal>(
     rt: &R,
     path: Path<'_>,
     is_private: bool,
-) -> io::Result<(R::File, PathBuf)> {
+) -> io::Result<(R::File, PathBuf)>
+    ensures { IfOk result (λ made. IsBeside (path_bytes path.entry) (path_buf_bytes made.1)) }
+{
     let mut options = OpenOptions::new();
     options.write(true).create_new(true);
     if is_private {
@@ -92,25 +107,38 @@ fn fill<R: Files>(
     beside: Path<'_>,
     old: Option<&Metadata>,
     bytes: &[u8],
-) -> io::Result<()> {
-    let mut sink = IntoWrite::new(file);
-    if write_all(&mut sink, bytes).is_err() {
-        return Err(io::Error::from(ErrorKind::WriteZero));
-    }
-    let file = sink.into_inner();
+) -> io::Result<()>
+    ensures { OnOk result (IsTaken R.File.contents bytes.now) }
+{
+    let file = write(file, bytes)?;
     if let Some(old) = old {
-        // Only the super-user may give a file away; for others it is their own.
-        let _ = chown(rt, beside, Some(old.uid()), Some(old.gid()));
+        // Only the super-user may give a file away; for others it is their own, and its group one of theirs.
+        let _ = chown(rt, beside, None, Some(old.gid()));
+        let _ = chown(rt, beside, Some(old.uid()), None);
         file.set_permissions(old.permissions())?;
     }
     file.sync_all()
 }
 
-/// Writes bytes into what is no regular file.
-fn write<W: Write + Drop>(file: W, bytes: &[u8]) -> io::Result<()> {
+/// Writes bytes into what is no regular file, and sees them on the disk that it may be.
+fn write_in_place<F: Write + OpenFile + Drop>(file: F, bytes: &[u8]) -> io::Result<()>
+    ensures { OnOk result (IsTaken F.contents bytes.now) }
+{
+    let file = write(file, bytes)?;
+    match file.sync_all() {
+        // A pipe or a terminal has no disk.
+        Err(error) if error.kind() == ErrorKind::InvalidInput => Ok(()),
+        result => result,
+    }
+}
+
+/// Writes bytes after those that a file has taken, and answers the file.
+fn write<F: Write + Drop>(file: F, bytes: &[u8]) -> io::Result<F>
+    ensures { IfOk result (λ written. Appends (F.contents file) (F.contents written) bytes.now) }
+{
     let mut sink = IntoWrite::new(file);
     match write_all(&mut sink, bytes) {
-        Ok(()) => sink.into_inner().flush(),
+        Ok(()) => Ok(sink.into_inner()),
         Err(_) => Err(io::Error::from(ErrorKind::WriteZero)),
     }
 }

@@ -27,7 +27,8 @@ pub fn ls<O: Sink, E: Sink>(
     errors: &mut E,
 ) -> Answer
     ensures { Shows edition image.items (questions.List user path.now)
-        (Prints edition image.items (questions.List user path.now) (O.contents output.old) (O.contents output.new) (O.failed output.new))
+        (Prints edition image.items (questions.List user path.now) (O.contents output.old) (O.contents output.new)
+        (O.failed output.old) (O.failed output.new))
         (Gets (E.failed errors.new) (E.contents errors.old) (E.contents errors.new)) result }
 {
     report(list(alloc, edition, image, path, output), errors)
@@ -46,7 +47,7 @@ pub fn get<O: Sink, E: Sink>(
 ) -> Answer
     ensures { Shows edition image.items (questions.Read user path.now 0 4294967295)
         (Prints edition image.items (questions.Read user path.now 0 4294967295) (O.contents output.old) (O.contents output.new)
-        (O.failed output.new))
+        (O.failed output.old) (O.failed output.new))
         (Gets (E.failed errors.new) (E.contents errors.old) (E.contents errors.new)) result }
 {
     report(read(alloc, edition, image, path, output), errors)
@@ -61,7 +62,7 @@ fn list<O: Sink>(
     output: &mut O,
 ) -> Result<(), Fault>
     ensures { Prints edition image.items (questions.List user path.now) (O.contents output.old) (O.contents output.new)
-        (O.failed output.new) result }
+        (O.failed output.old) (O.failed output.new) result }
 {
     let path = copy(alloc, path)?;
     let query = Query::List { cred: USER, path };
@@ -77,7 +78,7 @@ fn read<O: Sink>(
     output: &mut O,
 ) -> Result<(), Fault>
     ensures { Prints edition image.items (questions.Read user path.now 0 4294967295) (O.contents output.old)
-        (O.contents output.new) (O.failed output.new) result }
+        (O.contents output.new) (O.failed output.old) (O.failed output.new) result }
 {
     let path = copy(alloc, path)?;
     let query = Query::Read {
@@ -97,7 +98,8 @@ fn show<O: Sink>(
     query: Query,
     output: &mut O,
 ) -> Result<(), Fault>
-    ensures { Prints edition image.items query (O.contents output.old) (O.contents output.new) (O.failed output.new) result }
+    ensures { Prints edition image.items query (O.contents output.old) (O.contents output.new)
+        (O.failed output.old) (O.failed output.new) result }
 {
     let image = Image::from_bytes(image);
     let reply = match ask(alloc, edition, &image, &query) {

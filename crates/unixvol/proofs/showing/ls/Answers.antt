@@ -6,4 +6,4 @@ use Rattle.unixvol.proofs.showing.ls.Goals as goal
 pub report-requires : goal.report-requires
 report-requires g c =
     printing_ruled c.args.edition c.args.image.items (questions.List user c.args.path.now) (g.O.Sink.contents c.args.output.now)
-    (g.O.Sink.contents c.list.new.output) (g.O.Sink.failed c.list.new.output) c.list.result c.list.ensures
+    (g.O.Sink.contents c.list.new.output) (g.O.Sink.failed c.args.output.now) (g.O.Sink.failed c.list.new.output) c.list.result c.list.ensures

@@ -1,0 +1,63 @@
+-- What a run of the program comes to, whatever the bytes are that its files give.
+use Rattle.std.specs.Prelude.{◌≡◌, ◌≢◌, ◌⊎◌, ◌↔◌, ◌≤◌, ℕ, false, true, List, [], None, IsSome, IfSome, Result, Ok, Err}
+use Rattle.std.specs.Io.KnownBytes.{Keeps}
+use Rattle.vol_volume.specs.Mkfs.{is_size, is_bad_id, volume_of, IsNewVolume}
+use Rattle.unixvol.specs.Cat.{Cats, status_of}
+use Rattle.unixvol.specs.Jobs.{Streams, Does}
+use Rattle.vol_layout.specs.declared.edition.Edition.{Edition}
+use Rattle.unixvol.specs.declared.answer.Answer.{Answer}
+use Rattle.unixvol.specs.declared.cat.CatFault.{CatFault}
+use Rattle.unixvol.specs.declared.command_line.Invocation.{Invocation}
+use Rattle.unixvol.specs.declared.command_line.Invocation.TheVariants as invocations
+use Rattle.unixvol.specs.declared.command_line.Job.{Job}
+use Rattle.unixvol.specs.declared.making.NewVolume.{NewVolume}
+
+-- the status where a file can't be read or written, or where memory ran out (this project)
+abbrev pub IsStatusOfFile : ℕ → Type 0
+IsStatusOfFile status = (status ≡ 3) ⊎ (status ≡ 4)
+
+-- the status after `cat`: 0, or that of its fault (this project)
+abbrev pub status_after : Result (Unit {0}) CatFault → ℕ
+status_after (Ok done) = 0
+status_after (Err fault) = status_of fault
+
+-- `cat` runs on some image: what goes out, and the status, which is 0 only where standard output hasn't failed (this project)
+abbrev pub RunsCat : Streams → Edition → ℕ → ℕ → Type 0
+RunsCat streams edition i status =
+    ((result : Result (Unit {0}) CatFault) × Cats None None streams.old streams.new edition i result × (status ≡ status_after result))
+    × (status ≡ 0 → streams.failed ≡ streams.had_failed) × streams.said []
+
+-- `mkfs` runs: nothing goes out, it is refused exactly where the sizes aren't a volume's or the root's numbers are too high, and where it is done the volume was taken (this project)
+pub record RunsMkfs (streams : Streams) (taken : List ℕ → Type 0) (volume : NewVolume) (status : ℕ) : Type 0 where
+  pub unprinted : Keeps streams.old streams.new
+  pub unused : streams.failed ≡ streams.had_failed
+  pub refused : status ≡ 1 ↔ ((is_size volume.edition volume.blocks volume.list_blocks ≡ false)
+      ⊎ (is_bad_id volume.edition volume.uid volume.gid ≡ true))
+  pub within : (status ≤ 4) × (status ≢ 2)
+  pub made : status ≡ 0
+      → (bytes : List ℕ) × IsNewVolume (volume_of volume.edition volume.blocks volume.list_blocks) volume.uid volume.gid volume.now bytes
+      × taken bytes
+  pub quiet : status ≡ 0 → streams.said []
+
+-- the status after an answer: its own, where its image, if any, was taken, or that of a file (this project)
+abbrev pub EndsSaved : (List ℕ → Type 0) → Answer → ℕ → Type 0
+EndsSaved taken answer status =
+    ((status ≡ answer.status) × IfSome answer.image (λ bytes. taken bytes.items)) ⊎ (IsSome answer.image × IsStatusOfFile status)
+
+-- a job runs: a file can't be read, and nothing goes out; or it is done with some image and some bytes (this project)
+abbrev pub RunsJob : Streams → (List ℕ → Type 0) → Edition → Job → ℕ → Type 0
+RunsJob streams taken edition job status =
+    (IsStatusOfFile status × Keeps streams.old streams.new)
+    ⊎ ((image : List ℕ) × (bytes : List ℕ) × (answer : Answer) × Does edition image bytes streams answer job × EndsSaved taken answer status)
+
+-- what the user asks for runs: what goes out, what files take, and the status (this project)
+abbrev pub Runs : Streams → (List ℕ → Type 0) → ℕ → Invocation → Type 0
+Runs streams taken status (invocations.Cat edition image i) = RunsCat streams edition i status
+Runs streams taken status (invocations.Mkfs image volume) = RunsMkfs streams taken volume status
+Runs streams taken status (invocations.OnVolume volume job) = RunsJob streams taken volume.edition job status
+
+-- a run ends: its status is one of 0 to 4; unless it is 0 or 3, nothing went out; where it is 0, standard output didn't fail, and no fault was told (this project)
+pub record Ends (streams : Streams) (status : ℕ) : Type 0 where
+  pub within : status ≤ 4
+  pub silent : status ≢ 0 → status ≢ 3 → Keeps streams.old streams.new
+  pub whole : status ≡ 0 → (streams.failed ≡ streams.had_failed) × streams.said []

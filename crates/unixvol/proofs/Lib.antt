@@ -1,5 +1,2 @@
-pub mod Outputs
-pub mod Reasons
-pub mod Replies
 pub mod Running
 pub mod Words

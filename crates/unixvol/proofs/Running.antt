@@ -9,21 +9,21 @@ use Rattle.vol_dir.specs.declared.refusal.Refusal.{Refusal}
 use Rattle.vol_dir.specs.declared.refusal.Refusal.TheVariants as refusals
 use Rattle.vol_volume.specs.declared.calls.Call.{Call}
 use Rattle.vol_volume.specs.declared.queries.Query.{Query}
-use Rattle.unixvol.specs.Cat.{Cats, status_of}
-use Rattle.unixvol.specs.Cat as cat
-use Rattle.unixvol.specs.Faults.{status_at}
-use Rattle.unixvol.specs.Jobs.{Streams, Asks, Calls, Does}
+use Rattle.vol_commands.specs.Cat.{Cats, status_of}
+use Rattle.vol_commands.specs.Cat as cat
+use Rattle.vol_commands.specs.Faults.{status_at}
+use Rattle.vol_commands.specs.Jobs.{Streams, Asks, Calls, Does}
 use Rattle.unixvol.specs.Running.{IsStatusOfFile, status_after, RunsJob, Runs, Ends}
-use Rattle.unixvol.specs.Showing.{Prints}
-use Rattle.unixvol.specs.declared.answer.Answer.{Answer}
-use Rattle.unixvol.specs.declared.cat.CatFault.{CatFault}
-use Rattle.unixvol.specs.declared.cat.CatFault.TheVariants as cat_faults
+use Rattle.vol_commands.specs.Showing.{Prints}
+use Rattle.vol_commands.specs.declared.answer.Answer.{Answer}
+use Rattle.vol_commands.specs.declared.cat.CatFault.{CatFault}
+use Rattle.vol_commands.specs.declared.cat.CatFault.TheVariants as cat_faults
 use Rattle.unixvol.specs.declared.command_line.Invocation.{Invocation}
 use Rattle.unixvol.specs.declared.command_line.Invocation.TheVariants as invocations
-use Rattle.unixvol.specs.declared.command_line.Job.{Job}
-use Rattle.unixvol.specs.declared.command_line.Job.TheVariants as jobs
-use Rattle.unixvol.specs.declared.faults.Fault.{Fault}
-use Rattle.unixvol.specs.declared.faults.Fault.TheVariants as faults
+use Rattle.vol_commands.specs.declared.jobs.Job.{Job}
+use Rattle.vol_commands.specs.declared.jobs.Job.TheVariants as jobs
+use Rattle.vol_commands.specs.declared.faults.Fault.{Fault}
+use Rattle.vol_commands.specs.declared.faults.Fault.TheVariants as faults
 
 -- what `cat` does with the bytes of a file, it does with some bytes
 pub cat_of_some : (had left old new : Option (List ℕ)) (edition : Edition) (i : ℕ) (result : Result (Unit {0}) CatFault)

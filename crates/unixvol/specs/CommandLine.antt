@@ -11,10 +11,10 @@ use Rattle.unixvol.specs.Decimal.{IsNumberUpTo, IsNumberGiven}
 use Rattle.unixvol.specs.Words.{AreEditions, command_in, faults_of, unixvol_app}
 use Rattle.unixvol.specs.declared.command_line.Invocation.{Invocation}
 use Rattle.unixvol.specs.declared.command_line.Invocation.TheVariants.{Cat, Mkfs, OnVolume}
-use Rattle.unixvol.specs.declared.command_line.Job.{Job}
-use Rattle.unixvol.specs.declared.command_line.Job.TheVariants as jobs
+use Rattle.vol_commands.specs.declared.jobs.Job.{Job}
+use Rattle.vol_commands.specs.declared.jobs.Job.TheVariants as jobs
 use Rattle.unixvol.specs.declared.command_line.VolumeFile.{VolumeFile}
-use Rattle.unixvol.specs.declared.making.NewVolume.{NewVolume}
+use Rattle.vol_commands.specs.declared.making.NewVolume.{NewVolume}
 
 -- the word names this edition (this project)
 abbrev pub IsEditionNamed : Edition → List ℕ → Type 0

@@ -1,12 +1,5 @@
-pub mod Cat
-pub mod Changing
 pub mod CommandLine
 pub mod Decimal
-pub mod Faults
-pub mod Jobs
-pub mod Laws
-pub mod Making
 pub mod Running
 pub mod Saving
-pub mod Showing
 pub mod Words

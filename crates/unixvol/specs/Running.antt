@@ -2,15 +2,15 @@
 use Rattle.std.specs.Prelude.{◌≡◌, ◌≢◌, ◌⊎◌, ◌↔◌, ◌≤◌, ℕ, false, true, List, [], None, IsSome, IfSome, Result, Ok, Err}
 use Rattle.std.specs.Io.KnownBytes.{Keeps}
 use Rattle.vol_volume.specs.Mkfs.{is_size, is_bad_id, volume_of, IsNewVolume}
-use Rattle.unixvol.specs.Cat.{Cats, status_of}
-use Rattle.unixvol.specs.Jobs.{Streams, Does}
+use Rattle.vol_commands.specs.Cat.{Cats, status_of}
+use Rattle.vol_commands.specs.Jobs.{Streams, Does}
 use Rattle.vol_layout.specs.declared.edition.Edition.{Edition}
-use Rattle.unixvol.specs.declared.answer.Answer.{Answer}
-use Rattle.unixvol.specs.declared.cat.CatFault.{CatFault}
+use Rattle.vol_commands.specs.declared.answer.Answer.{Answer}
+use Rattle.vol_commands.specs.declared.cat.CatFault.{CatFault}
 use Rattle.unixvol.specs.declared.command_line.Invocation.{Invocation}
 use Rattle.unixvol.specs.declared.command_line.Invocation.TheVariants as invocations
-use Rattle.unixvol.specs.declared.command_line.Job.{Job}
-use Rattle.unixvol.specs.declared.making.NewVolume.{NewVolume}
+use Rattle.vol_commands.specs.declared.jobs.Job.{Job}
+use Rattle.vol_commands.specs.declared.making.NewVolume.{NewVolume}
 
 -- the status where a file can't be read or written, or where memory ran out (this project)
 abbrev pub IsStatusOfFile : ℕ → Type 0

@@ -4,10 +4,10 @@ ghost use Rattle.clap.specs.Words.{subcommand_rows_of};
 ghost use Rattle.unixvol.specs.CommandLine.{Asks, AsksFor, AsksNothing, IsEditionNamed, IsNoCat, IsNoCommand, IsNoEdition, IsNoValue, IsRead, IsRefused, TellsOf, given_in};
 ghost use Rattle.unixvol.specs.Words.{app, changing, command_shape, printing, shape, unixvol_app, with_commands};
 
-use crate::making::NewVolume;
 use clap::error::ErrorKind;
 use clap::{ArgMatches, Command, Error};
 use std::alloc::{AllocError, Global};
+use vol_commands::{Job, NewVolume};
 use vol_layout::Edition;
 
 mod mkfs;
@@ -44,46 +44,6 @@ pub enum Invocation<'a> {
     OnVolume {
         volume: VolumeFile<'a>,
         job: Job<'a>,
-    },
-}
-
-/// What is to be done with the tree of a volume.
-#[derive(Clone, Copy, Debug, PartialEq, Eq)]
-pub enum Job<'a> {
-    /// List the names in a directory.
-    Ls {
-        path: &'a str,
-    },
-    /// Print the bytes of a file.
-    Get {
-        path: &'a str,
-    },
-    /// Put the bytes of the file `file` into the volume.
-    Put {
-        path: &'a str,
-        file: &'a str,
-        now: u32,
-    },
-    /// Take a name away.
-    Rm {
-        path: &'a str,
-        now: u32,
-    },
-    /// Take an empty directory away.
-    Rmdir {
-        path: &'a str,
-        now: u32,
-    },
-    /// Make a directory.
-    Mkdir {
-        path: &'a str,
-        now: u32,
-    },
-    /// Give a file a further name.
-    Ln {
-        from: &'a str,
-        to: &'a str,
-        now: u32,
     },
 }
 

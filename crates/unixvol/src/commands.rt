@@ -5,22 +5,20 @@ ghost use Rattle.std.specs.IoError.{error_kind};
 ghost use Rattle.std.specs.declared.io.ErrorKind.TheVariants as io_kinds;
 ghost use Rattle.clap.specs.Words.{kind_of};
 ghost use Rattle.clap.specs.declared.error.kind.ErrorKind.TheVariants as clap_kinds;
-ghost use Rattle.unixvol.specs.Cat.{Cats, status_of};
-ghost use Rattle.unixvol.specs.Faults.{Gets};
+ghost use Rattle.vol_commands.specs.Cat.{Cats, status_of};
+ghost use Rattle.vol_commands.specs.Faults.{Gets};
 ghost use Rattle.unixvol.specs.Running.{IsStatusOfFile, EndsSaved, RunsJob, Runs, Ends};
 ghost use Rattle.unixvol.specs.Saving.{IsTaken};
 
-use crate::answer::Answer;
-use crate::cat::{CatFault, cat};
-use crate::command_line::{self, Invocation, Job, VolumeFile};
-use crate::jobs::do_job;
-use crate::making::mkfs_command;
+use crate::command_line::{self, Invocation, VolumeFile};
 use crate::saving_file::save_file;
 use clap::error::ErrorKind;
 use pdp_words::{FromRead, LoadFault, Sink, load, write_all};
 use std::env::{self, Env};
 use std::fs::{self, Files};
 use std::io::{self, Write};
+use vol_commands::cat::cat;
+use vol_commands::{Answer, CatFault, Job, do_job, mkfs_command};
 use vol_layout::Edition;
 
 /// The status where all went well.

@@ -5,9 +5,9 @@ ghost use Rattle.unixvol.specs.CommandLine.{AsksFor, IsNoNewVolume, TellsOf, giv
 
 use super::words::{IMAGE, NOW, Verb, edition_argument, edition_in, long_in, required, word_in};
 use super::{Invocation, texts};
-use crate::making::NewVolume;
 use clap::{ArgMatches, Command, Error};
 use std::alloc::{AllocError, Global};
+use vol_commands::NewVolume;
 
 /// Names of the arguments, as the help shows them.
 const BLOCKS: &str = "FSIZE";

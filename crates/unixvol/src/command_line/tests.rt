@@ -1,7 +1,9 @@
-// The words of the commands on the tree of a volume.
-use super::{Invocation, Job, VolumeFile, read};
+// The words of the command line.
+use super::{Invocation, VolumeFile, read};
+use crate::decimal::{long_of, word_of};
 use std::alloc::{AllocError, Global};
 use std::test::Fail;
+use vol_commands::{Job, NewVolume};
 use vol_layout::Edition;
 
 /// The volume of each row.
@@ -70,5 +72,61 @@ fn commands_on_volumes_are_read(rt: HostRuntime) -> Result<(), Fail> {
         };
         assert_eq!(rt; read(rt.alloc(), words.as_slice())?, wanted);
     }
+    Ok(())
+}
+
+#[test]
+fn words_of_the_command_line_are_read(rt: HostRuntime) -> Result<(), Fail> {
+    for (text, number) in [
+        ("0", Some(0)),
+        ("0017", Some(17)),
+        ("65535", Some(65_535)),
+        ("65536", None),
+        ("", None),
+        ("+1", None),
+        ("-0", None),
+        (" 1", None),
+        ("1x", None),
+    ] {
+        assert_eq!(rt; word_of(text), number, "of {text:?}");
+    }
+    let mut words = vec![in rt.alloc()]?;
+    for word in ["unixvol", "cat", "7", "disk", "017"] {
+        words.push(word.to_string(rt.alloc())?)?;
+    }
+    let invocation = read(rt.alloc(), words.as_slice())?;
+    let wanted = Invocation::Cat {
+        edition: Edition::V7,
+        image: "disk",
+        ino: 17,
+    };
+    assert_eq!(rt; invocation, wanted);
+    Ok(())
+}
+
+#[test]
+fn words_of_mkfs_are_read(rt: HostRuntime) -> Result<(), Fail> {
+    assert_eq!(rt; long_of("4294967295"), Some(4_294_967_295));
+    assert_eq!(rt; long_of("4294967296"), None);
+    assert_eq!(rt; long_of("+1"), None);
+    let mut words = vec![in rt.alloc()]?;
+    for word in [
+        "unixvol", "mkfs", "7", "disk", "65536", "65535", "1", "02", "3",
+    ] {
+        words.push(word.to_string(rt.alloc())?)?;
+    }
+    let volume = NewVolume {
+        edition: Edition::V7,
+        blocks: 65_536,
+        list_blocks: 65_535,
+        uid: 1,
+        gid: 2,
+        now: 3,
+    };
+    let wanted = Invocation::Mkfs {
+        image: "disk",
+        volume,
+    };
+    assert_eq!(rt; read(rt.alloc(), words.as_slice())?, wanted);
     Ok(())
 }

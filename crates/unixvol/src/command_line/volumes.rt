@@ -4,9 +4,10 @@ ghost use Rattle.unixvol.specs.Words.{shape, command_shape};
 ghost use Rattle.unixvol.specs.CommandLine.{AsksFor, IsNoChange, IsNoEdition, IsVolumeGiven, TellsOf, given_in};
 
 use super::words::{IMAGE, NOW, Verb, edition_argument, edition_in, long_in, required};
-use super::{Invocation, Job, VolumeFile, texts};
+use super::{Invocation, VolumeFile, texts};
 use clap::{ArgMatches, Command, Error};
 use std::alloc::{AllocError, Global};
+use vol_commands::Job;
 
 /// Names of the arguments, as the help shows them.
 const PATH: &str = "PATH";

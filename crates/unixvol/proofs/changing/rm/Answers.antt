@@ -1,8 +1,0 @@
-use Rattle.std.proofs.Common.{[], ◌∷◌}
-use Rattle.vol_volume.specs.declared.calls.Call.TheVariants as calls
-use Rattle.unixvol.specs.Faults.{user}
-use Rattle.unixvol.proofs.Reasons.{outcome_ruled}
-use Rattle.unixvol.proofs.changing.rm.Goals as goal
-
-pub conclude-requires : goal.conclude-requires
-conclude-requires g c = outcome_ruled _ _ (calls.Unlink user c.args.now c.args.path.now ∷ []) _ c.unlink.ensures.fault

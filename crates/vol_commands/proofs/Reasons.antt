@@ -1,0 +1,59 @@
+-- The faults of commands: a rule that one names is one of the twelve.
+use Rattle.std.proofs.Common.{ℕ, zero, suc, ◌≤◌, Bool, true, List, Option, Result, Ok, Err, IfErr, arith}
+use Rattle.std.specs.Global.{Vec}
+use Rattle.vol_judge.specs.Sound.{Rule, IsLeastBroken}
+use Rattle.vol_layout.specs.declared.edition.Edition.{Edition}
+use Rattle.vol_volume.specs.declared.calls.Call.{Call}
+use Rattle.vol_volume.specs.declared.queries.Query.{Query}
+use Rattle.vol_commands.specs.Changing.{IsReason}
+use Rattle.vol_commands.specs.Showing.{Prints}
+use Rattle.vol_commands.specs.Faults.{IsRuled}
+use Rattle.vol_commands.specs.declared.faults.Fault.{Fault}
+use Rattle.vol_commands.specs.declared.faults.Fault.TheVariants as faults
+
+-- a rule that is broken is one of the twelve
+rule_within : (free : Bool) (edition : Edition) (image : List ℕ) (n : ℕ) → (Rule free edition image n → ⊥) → (1 ≤ n) × (n ≤ 12)
+unfolding Rule
+rule_within free edition image zero broken = absurd (broken tt)
+rule_within free edition image (suc zero) broken = (omega arith, omega arith)
+rule_within free edition image (suc (suc zero)) broken = (omega arith, omega arith)
+rule_within free edition image (suc (suc (suc zero))) broken = (omega arith, omega arith)
+rule_within free edition image (suc (suc (suc (suc zero)))) broken = (omega arith, omega arith)
+rule_within free edition image (suc (suc (suc (suc (suc zero))))) broken = (omega arith, omega arith)
+rule_within free edition image (suc (suc (suc (suc (suc (suc zero)))))) broken = (omega arith, omega arith)
+rule_within free edition image (suc (suc (suc (suc (suc (suc (suc zero))))))) broken = (omega arith, omega arith)
+rule_within free edition image (suc (suc (suc (suc (suc (suc (suc (suc zero)))))))) broken = (omega arith, omega arith)
+rule_within free edition image (suc (suc (suc (suc (suc (suc (suc (suc (suc zero))))))))) broken = (omega arith, omega arith)
+rule_within free edition image (suc (suc (suc (suc (suc (suc (suc (suc (suc (suc zero)))))))))) broken = (omega arith, omega arith)
+rule_within free edition image (suc (suc (suc (suc (suc (suc (suc (suc (suc (suc (suc zero))))))))))) broken = (omega arith, omega arith)
+rule_within free edition image (suc (suc (suc (suc (suc (suc (suc (suc (suc (suc (suc (suc zero)))))))))))) broken = (omega arith, omega arith)
+rule_within free edition image (suc (suc (suc (suc (suc (suc (suc (suc (suc (suc (suc (suc (suc n))))))))))))) broken = absurd (broken tt)
+
+-- the least rule that is broken is one of the twelve
+pub least_within : (free : Bool) (edition : Edition) (image : List ℕ) (n : ℕ) → IsLeastBroken free edition image n → (1 ≤ n) × (n ≤ 12)
+least_within free edition image n least = rule_within free edition image n least.broken
+
+-- the rule of a reason is one of the twelve
+pub reason_ruled : (edition : Edition) (image : List ℕ) (calls : List Call) (fault : Fault) → IsReason edition image calls fault → IsRuled fault
+reason_ruled edition image calls (faults.Unsound rule) reason = least_within true edition image rule reason
+reason_ruled edition image calls (faults.Refused refusal) reason = tt
+reason_ruled edition image calls faults.Output reason = tt
+
+-- a fault of an outcome names a rule of the twelve
+pub outcome_ruled : (edition : Edition) (image : List ℕ) (calls : List Call) (outcome : Result (Vec ℕ) Fault)
+    → IfErr outcome (IsReason edition image calls) → IfErr outcome IsRuled
+outcome_ruled edition image calls (Ok bytes) reason = tt
+outcome_ruled edition image calls (Err fault) reason = reason_ruled edition image calls fault reason
+
+-- the rule of an obstacle is one of the twelve
+printed_ruled : (edition : Edition) (image : List ℕ) (query : Query) (old new : Option (List ℕ)) (had_failed failed : Bool) (fault : Fault)
+    → Prints edition image query old new had_failed failed (Err fault) → IsRuled fault
+printed_ruled edition image query old new had_failed failed (faults.Unsound rule) printed = least_within true edition image rule printed.1
+printed_ruled edition image query old new had_failed failed (faults.Refused refusal) printed = tt
+printed_ruled edition image query old new had_failed failed faults.Output printed = tt
+
+-- a fault of printing names a rule of the twelve
+pub printing_ruled : (edition : Edition) (image : List ℕ) (query : Query) (old new : Option (List ℕ)) (had_failed failed : Bool) (outcome : Result (Unit {0}) Fault)
+    → Prints edition image query old new had_failed failed outcome → IfErr outcome IsRuled
+printing_ruled edition image query old new had_failed failed (Ok done) printed = tt
+printing_ruled edition image query old new had_failed failed (Err fault) printed = printed_ruled edition image query old new had_failed failed fault printed

@@ -1,0 +1,63 @@
+-- What the commands that change a volume make, and why they don't.
+use Rattle.std.specs.Prelude.{◌≡◌, ◌⊎◌, ◌↔◌, ℕ, true, List, [], ◌∷◌, map, IsSome, IsNone, IfSome, Result, Err}
+use Rattle.vol_layout.specs.Geometry.{geometry_of}
+use Rattle.vol_dir.specs.Tree.{Tree, State}
+use Rattle.vol_judge.specs.Sound.{IsSound, IsLeastBroken}
+use Rattle.vol_volume.specs.Answer.{answer}
+use Rattle.vol_volume.specs.Journal.{Refuses, MayFollow, IsLegal, after}
+use Rattle.vol_volume.specs.Step.{step}
+use Rattle.vol_volume.specs.Volume.{reads_as, SameElsewhere}
+use Rattle.vol_commands.specs.Faults.{user, status_at, line_at}
+use Rattle.vol_dir.specs.declared.refusal.Refusal.{Refusal}
+use Rattle.vol_dir.specs.declared.refusal.Refusal.TheVariants as refusals
+use Rattle.vol_layout.specs.declared.edition.Edition.{Edition}
+use Rattle.vol_volume.specs.declared.calls.Call.{Call}
+use Rattle.vol_volume.specs.declared.calls.Call.TheVariants as calls
+use Rattle.vol_volume.specs.declared.calls.Done.{Done}
+use Rattle.vol_volume.specs.declared.calls.Record.{Record}
+use Rattle.vol_volume.specs.declared.queries.Query.TheVariants as queries
+use Rattle.vol_volume.specs.declared.queries.Reply.{Reply}
+use Rattle.vol_commands.specs.declared.answer.Answer.{Answer}
+use Rattle.vol_commands.specs.declared.faults.Fault.{Fault}
+use Rattle.vol_commands.specs.declared.faults.Fault.TheVariants as faults
+
+-- the bytes are a sound image of what calls, made in turn, leave of a sound image; no byte changes but those that calls change (this project)
+pub record Makes (edition : Edition) (image : List ℕ) (calls : List Call) (bytes : List ℕ) : Type 0 where
+  pub mounted : IsSound edition image
+  pub journal : List Record
+  pub asked : map (λ (entry : Record). entry.call) journal ≡ calls
+  pub legal : IsLegal (reads_as edition image) journal
+  pub reads : reads_as edition bytes ≡ after (reads_as edition image) journal
+  pub sound : IsSound edition bytes
+  pub sizes : geometry_of edition bytes ≡ geometry_of edition image
+  pub elsewhere : SameElsewhere edition image bytes
+
+-- of calls, made one after another, the first that isn't accepted is refused so (this project)
+abbrev pub AreRefused : State → List Call → Refusal → Type 0
+AreRefused state [] refusal = ⊥
+AreRefused state (call ∷ calls) refusal = Refuses state call refusal
+    ⊎ ((done : Done) × MayFollow state (record { call = call; done = done }) × AreRefused (step state call done) calls refusal)
+
+-- a reason not to make calls: want of memory, the least rule that the image breaks, or a refusal (this project)
+abbrev pub IsReason : Edition → List ℕ → List Call → Fault → Type 0
+IsReason edition image calls (faults.Unsound rule) = IsLeastBroken true edition image rule
+IsReason edition image calls (faults.Refused refusals.NoMemory) = Unit {0}
+IsReason edition image calls (faults.Refused refusal) = IsSound edition image × AreRefused (reads_as edition image) calls refusal
+IsReason edition image calls faults.Output = ⊥
+
+-- what a command that makes calls comes to: bytes to be saved, status 0 and no line, or the status and the line of a reason (this project)
+pub record Changes (edition : Edition) (image : List ℕ) (calls : List Call) (said : List ℕ → Type 0) (answer : Answer) : Type 0 where
+  pub saved : answer.status ≡ 0 ↔ IsSome answer.image
+  pub made : IfSome answer.image (λ bytes. Makes edition image calls bytes.items × said [])
+  pub refused : IsNone answer.image
+      → (fault : Fault) × IsReason edition image calls fault × (answer.status ≡ status_at fault) × said (line_at fault)
+
+-- what makes a file empty: a create with permissions 0644 where a question for it answers that it is missing, else a truncate (this project)
+abbrev pub emptying_by : Result Reply Refusal → ℕ → List ℕ → Call
+emptying_by (Err refusals.NoEntry) now path = calls.Create user now path 0o644
+emptying_by _ now path = calls.Truncate user now path
+
+-- the calls of `put` (this project)
+abbrev pub put_calls : Tree → ℕ → List ℕ → List ℕ → List Call
+put_calls tree now path bytes =
+    emptying_by (answer tree (queries.Stat user path)) now path ∷ calls.Write user now path 0 bytes ∷ []

@@ -1,0 +1,64 @@
+-- What the commands on a mounted volume have in common: their user, and what they answer where they fail.
+use Rattle.std.specs.Prelude.{◌≡◌, ℕ, ◌≤◌, ◌+◌, ◌/◌, ◌%◌, ◌++◌, Bool, false, nat_lt, if◌then◌else◌, List, [], ◌∷◌, Option, codes}
+use Rattle.std.specs.Io.KnownBytes.{Appends}
+use Rattle.vol_dir.specs.declared.cred.Cred.{Cred}
+use Rattle.vol_dir.specs.declared.refusal.Refusal.{Refusal}
+use Rattle.vol_dir.specs.declared.refusal.Refusal.TheVariants as refusals
+use Rattle.vol_commands.specs.declared.faults.Fault.{Fault}
+use Rattle.vol_commands.specs.declared.faults.Fault.TheVariants as faults
+
+-- who the commands act as: user 0, group 0 (this project)
+abbrev pub user : Cred
+user = record { uid = 0; gid = 0 }
+
+-- the status that the program ends with at a fault: 1 for a refusal, 3 for the output, 4 for memory (this project)
+abbrev pub status_at : Fault → ℕ
+status_at (faults.Unsound rule) = 1
+status_at (faults.Refused refusals.NoMemory) = 4
+status_at (faults.Refused _) = 1
+status_at faults.Output = 3
+
+-- the line of a refusal: its number and its name (this project)
+abbrev pub line_of_refusal : Refusal → List ℕ
+line_of_refusal refusals.NoEntry = codes "unixvol: 2 NoEntry\n"
+line_of_refusal refusals.NoMemory = codes "unixvol: 12 NoMemory\n"
+line_of_refusal refusals.Access = codes "unixvol: 13 Access\n"
+line_of_refusal refusals.Exists = codes "unixvol: 17 Exists\n"
+line_of_refusal refusals.NotDirectory = codes "unixvol: 20 NotDirectory\n"
+line_of_refusal refusals.IsDirectory = codes "unixvol: 21 IsDirectory\n"
+line_of_refusal refusals.Invalid = codes "unixvol: 22 Invalid\n"
+line_of_refusal refusals.TooBig = codes "unixvol: 27 TooBig\n"
+line_of_refusal refusals.NoSpace = codes "unixvol: 28 NoSpace\n"
+line_of_refusal refusals.TooManyLinks = codes "unixvol: 31 TooManyLinks\n"
+line_of_refusal refusals.NotEmpty = codes "unixvol: 101 NotEmpty\n"
+line_of_refusal refusals.NotRegular = codes "unixvol: 102 NotRegular\n"
+line_of_refusal refusals.NoInode = codes "unixvol: 103 NoInode\n"
+line_of_refusal refusals.BadId = codes "unixvol: 104 BadId\n"
+
+-- the digits of a number below 100 (this project)
+abbrev pub short_decimal : ℕ → List ℕ
+short_decimal n = if nat_lt n 10 then (48 + n) ∷ [] else (48 + n / 10) ∷ (48 + n % 10) ∷ []
+
+-- the line of a rule that an image breaks (this project)
+abbrev pub line_of_rule : ℕ → List ℕ
+line_of_rule rule = codes "unixvol: unsound, rule " ++ short_decimal rule ++ codes "\n"
+
+-- the line of a fault on standard error (this project)
+abbrev pub line_at : Fault → List ℕ
+line_at (faults.Unsound rule) = line_of_rule rule
+line_at (faults.Refused refusal) = line_of_refusal refusal
+line_at faults.Output = codes "unixvol: cannot write -\n"
+
+-- want of memory (this project)
+abbrev pub no_memory : Fault
+no_memory = faults.Refused refusals.NoMemory
+
+-- the rule that a fault names is one of the twelve (this project)
+abbrev pub IsRuled : Fault → Type 0
+IsRuled (faults.Unsound rule) = (1 ≤ rule) × (rule ≤ 12)
+IsRuled (faults.Refused refusal) = Unit {0}
+IsRuled faults.Output = Unit {0}
+
+-- a stream that didn't fail got these bytes (this project)
+abbrev pub Gets : Bool → Option (List ℕ) → Option (List ℕ) → List ℕ → Type 0
+Gets failed old new bytes = failed ≡ false → Appends old new bytes

@@ -1,0 +1,7 @@
+pub mod Cat
+pub mod Changing
+pub mod Faults
+pub mod Jobs
+pub mod Laws
+pub mod Making
+pub mod Showing

@@ -1,0 +1,79 @@
+//! Does what the command line asks for with the tree of a volume.
+ghost use Rattle.vol_commands.specs.Faults.{Gets};
+ghost use Rattle.vol_commands.specs.Jobs.{Does};
+
+use crate::answer::Answer;
+use crate::changing::{ln, mkdir, put, rm, rmdir};
+use crate::showing::{get, ls};
+use pdp_words::Sink;
+use std::alloc::Global;
+use vol_layout::Edition;
+
+/// What is to be done with the tree of a volume.
+#[derive(Clone, Copy, Debug, PartialEq, Eq)]
+pub enum Job<'a> {
+    /// List the names in a directory.
+    Ls {
+        path: &'a str,
+    },
+    /// Print the bytes of a file.
+    Get {
+        path: &'a str,
+    },
+    /// Put the bytes of the file `file` into the volume.
+    Put {
+        path: &'a str,
+        file: &'a str,
+        now: u32,
+    },
+    /// Take a name away.
+    Rm {
+        path: &'a str,
+        now: u32,
+    },
+    /// Take an empty directory away.
+    Rmdir {
+        path: &'a str,
+        now: u32,
+    },
+    /// Make a directory.
+    Mkdir {
+        path: &'a str,
+        now: u32,
+    },
+    /// Give a file a further name.
+    Ln {
+        from: &'a str,
+        to: &'a str,
+        now: u32,
+    },
+}
+
+/// Does a job with the volume in some bytes; `file` has the bytes that are put.
+pub fn do_job<O: Sink, E: Sink>(
+    alloc: Global,
+    edition: Edition,
+    image: Vec<u8>,
+    file: Vec<u8>,
+    job: Job<'_>,
+    output: &mut O,
+    errors: &mut E,
+) -> Answer
+    ensures { Does edition image.items file.items (record {
+      old = O.contents output.old;
+      new = O.contents output.new;
+      had_failed = O.failed output.old;
+      failed = O.failed output.new;
+      said = Gets (E.failed errors.new) (E.contents errors.old) (E.contents errors.new);
+    }) result job.entry }
+{
+    match job {
+        Job::Ls { path } => ls(alloc, edition, image, path, output, errors),
+        Job::Get { path } => get(alloc, edition, image, path, output, errors),
+        Job::Put { path, now, .. } => put(alloc, edition, image, path, file, now, output, errors),
+        Job::Rm { path, now } => rm(alloc, edition, image, path, now, output, errors),
+        Job::Rmdir { path, now } => rmdir(alloc, edition, image, path, now, output, errors),
+        Job::Mkdir { path, now } => mkdir(alloc, edition, image, path, now, output, errors),
+        Job::Ln { from, to, now } => ln(alloc, edition, image, from, to, now, output, errors),
+    }
+}

@@ -1,0 +1,22 @@
+//! The commands of the program over devices: what each prints, its status, and the bytes that are to be saved.
+#![tactic(auto)]
+
+pub mod answer;
+pub mod cat;
+pub mod changing;
+pub mod faults;
+pub mod jobs;
+pub mod laws;
+pub mod making;
+mod mounting;
+pub mod showing;
+
+pub use answer::Answer;
+pub use cat::CatFault;
+pub use jobs::{Job, do_job};
+pub use making::{NewVolume, mkfs_command};
+
+#[cfg(test)]
+mod tests;
+#[cfg(test)]
+mod worked;

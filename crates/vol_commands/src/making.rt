@@ -1,0 +1,88 @@
+//! `mkfs`: makes a new volume, and answers the bytes that are to be saved.
+ghost use Rattle.std.specs.Prelude.{◌≡◌, ◌≢◌, ◌↔◌, ◌⊎◌, false, true, IsSome, IfSome};
+ghost use Rattle.std.specs.Io.KnownBytes.{Appends, Keeps};
+ghost use Rattle.vol_volume.specs.Mkfs.{is_size, is_bad_id, volume_of, IsNewVolume};
+ghost use Rattle.vol_commands.specs.Making.{status_of_fault, line_of_fault, line_of_status};
+
+use crate::answer::Answer;
+use pdp_words::{Sink, write_all};
+use std::alloc::Global;
+use vol_layout::Edition;
+use vol_volume::{MkfsFault, mkfs};
+
+/// The volume that is to be made: its sizes, in blocks of 512 bytes, the root's user and group, and the
+/// moment, in seconds.
+#[derive(Clone, Copy, Debug, PartialEq, Eq)]
+pub struct NewVolume {
+    /// The edition of Unix.
+    pub edition: Edition,
+    /// All blocks of the volume.
+    pub blocks: u32,
+    /// The blocks of the i-list.
+    pub list_blocks: u16,
+    /// The root's user.
+    pub uid: u16,
+    /// The root's group.
+    pub gid: u16,
+    /// The time of the super-block and the root.
+    pub now: u32,
+}
+
+/// Makes a volume. There are bytes to be saved exactly where the status is 0. Else a line on `errors`
+/// says why not: where the sizes aren't a volume's or the root's numbers are too high, with status 1,
+/// and for want of memory, with status 4. Nothing goes to `output`.
+///
+/// Takes memory for the volume's bytes, once.
+pub fn mkfs_command<O: Sink, E: Sink>(
+    alloc: Global,
+    volume: NewVolume,
+    _output: &mut O,
+    errors: &mut E,
+) -> Answer
+    ensures made { IfSome result.image (λ bytes. IsNewVolume (volume_of volume.edition volume.blocks volume.list_blocks)
+        volume.uid volume.gid volume.now bytes.items) }
+    ensures done { result.status ≡ 0 ↔ IsSome result.image }
+    ensures refused { result.status ≡ 1 ↔ ((is_size volume.edition volume.blocks volume.list_blocks ≡ false)
+        ⊎ (is_bad_id volume.edition volume.uid volume.gid ≡ true)) }
+    ensures memory { result.status ≢ 0 → result.status ≢ 1 → result.status ≡ 4 }
+    ensures line { E.failed errors.new ≡ false → Appends (E.contents errors.old) (E.contents errors.new)
+        (line_of_status (is_size volume.edition volume.blocks volume.list_blocks) result.status) }
+    ensures unprinted { Keeps (O.contents _output.old) (O.contents _output.new) }
+    ensures unused { O.failed _output.new ≡ O.failed _output.old }
+{
+    let NewVolume {
+        edition,
+        blocks,
+        list_blocks,
+        uid,
+        gid,
+        now,
+    } = volume;
+    match mkfs(alloc, edition, blocks, list_blocks, uid, gid, now) {
+        Ok(bytes) => Answer {
+            status: 0,
+            image: Some(bytes),
+        },
+        Err(fault) => Answer {
+            status: explain(fault, errors),
+            image: None,
+        },
+    }
+}
+
+/// Writes the line of a fault, and answers its status. Where the line can't be written, the status tells.
+fn explain<E: Sink>(fault: MkfsFault, errors: &mut E) -> u8
+    ensures status { result ≡ status_of_fault fault }
+    ensures line { E.failed errors.new ≡ false → Appends (E.contents errors.old) (E.contents errors.new) (line_of_fault fault) }
+{
+    let (line, status) = match fault {
+        MkfsFault::Bounds => ("unixvol: bounds\n", 1),
+        MkfsFault::BadId => ("unixvol: 104 BadId\n", 1),
+        MkfsFault::NoMemory => ("unixvol: 12 NoMemory\n", 4),
+    };
+    let _ = write_all(errors, line.as_bytes());
+    status
+}
+
+#[cfg(test)]
+mod tests;

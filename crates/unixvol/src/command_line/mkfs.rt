@@ -23,16 +23,24 @@ pub(super) fn command<'a>(alloc: Global, editions: &'a [&'a str]) -> Result<Comm
     ensures { IfOk result (λ command. shape command ≡ command_shape editions.entry (codes "mkfs")
         (codes "IMAGE" ∷ codes "FSIZE" ∷ codes "IBLOCKS" ∷ codes "UID" ∷ codes "GID" ∷ codes "NOW" ∷ [])) }
 {
+    with_sizes(alloc, editions)?
+        .arg(required(alloc, UID, texts::UID))?
+        .arg(required(alloc, GID, texts::GID))?
+        .arg(required(alloc, NOW, texts::NOW))
+}
+
+/// The command up to the sizes of the volume.
+fn with_sizes<'a>(alloc: Global, editions: &'a [&'a str]) -> Result<Command<'a>, AllocError>
+    ensures { IfOk result (λ command. shape command ≡ command_shape editions.entry (codes "mkfs")
+        (codes "IMAGE" ∷ codes "FSIZE" ∷ codes "IBLOCKS" ∷ [])) }
+{
     Command::new(alloc, "mkfs")
         .about(texts::MKFS_ABOUT)
         .after_help(texts::MKFS_MORE)
         .arg(edition_argument(alloc, editions))?
         .arg(required(alloc, IMAGE, texts::NEW_IMAGE))?
         .arg(required(alloc, BLOCKS, texts::BLOCKS))?
-        .arg(required(alloc, LIST_BLOCKS, texts::LIST_BLOCKS))?
-        .arg(required(alloc, UID, texts::UID))?
-        .arg(required(alloc, GID, texts::GID))?
-        .arg(required(alloc, NOW, texts::NOW))
+        .arg(required(alloc, LIST_BLOCKS, texts::LIST_BLOCKS))
 }
 
 /// Reads the words of `mkfs`.

@@ -40,17 +40,41 @@ pub enum Verb {
 impl Verb {
     /// The command, of which the usage shows the whole name.
     fn command<'a>(self, alloc: Global) -> Result<Command<'a>, AllocError> {
-        let editions = EDITIONS.as_slice();
+        self.named(alloc, EDITIONS.as_slice())?
+            .bin_name(self.whole_name())
+    }
+
+    /// The command as it stands in the command line.
+    fn named<'a>(
+        self,
+        alloc: Global,
+        editions: &'a [&'a str],
+    ) -> Result<Command<'a>, AllocError> {
         match self {
-            Verb::Cat => cat_command(alloc, editions)?.bin_name("unixvol cat"),
-            Verb::Ls => volumes::ls_command(alloc, editions)?.bin_name("unixvol ls"),
-            Verb::Get => volumes::get_command(alloc, editions)?.bin_name("unixvol get"),
-            Verb::Mkfs => mkfs::command(alloc, editions)?.bin_name("unixvol mkfs"),
-            Verb::Put => volumes::put_command(alloc, editions)?.bin_name("unixvol put"),
-            Verb::Rm => volumes::rm_command(alloc, editions)?.bin_name("unixvol rm"),
-            Verb::Rmdir => volumes::rmdir_command(alloc, editions)?.bin_name("unixvol rmdir"),
-            Verb::Mkdir => volumes::mkdir_command(alloc, editions)?.bin_name("unixvol mkdir"),
-            Verb::Ln => volumes::ln_command(alloc, editions)?.bin_name("unixvol ln"),
+            Verb::Cat => cat_command(alloc, editions),
+            Verb::Ls => volumes::ls_command(alloc, editions),
+            Verb::Get => volumes::get_command(alloc, editions),
+            Verb::Mkfs => mkfs::command(alloc, editions),
+            Verb::Put => volumes::put_command(alloc, editions),
+            Verb::Rm => volumes::rm_command(alloc, editions),
+            Verb::Rmdir => volumes::rmdir_command(alloc, editions),
+            Verb::Mkdir => volumes::mkdir_command(alloc, editions),
+            Verb::Ln => volumes::ln_command(alloc, editions),
+        }
+    }
+
+    /// The program's name and the command's.
+    fn whole_name(self) -> &'static str {
+        match self {
+            Verb::Cat => "unixvol cat",
+            Verb::Ls => "unixvol ls",
+            Verb::Get => "unixvol get",
+            Verb::Mkfs => "unixvol mkfs",
+            Verb::Put => "unixvol put",
+            Verb::Rm => "unixvol rm",
+            Verb::Rmdir => "unixvol rmdir",
+            Verb::Mkdir => "unixvol mkdir",
+            Verb::Ln => "unixvol ln",
         }
     }
 }

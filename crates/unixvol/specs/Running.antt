@@ -1,7 +1,8 @@
 -- What a run of the program comes to, whatever the bytes are that its files give.
 use Rattle.std.specs.Prelude.{◌≡◌, ◌≢◌, ◌⊎◌, ◌↔◌, ◌≤◌, ℕ, false, true, List, [], None, IsSome, IfSome, Result, Ok, Err}
 use Rattle.std.specs.Io.KnownBytes.{Keeps}
-use Rattle.vol_volume.specs.Mkfs.{is_size, is_bad_id, volume_of, IsNewVolume}
+use Rattle.vol_volume.specs.Blank.{blank_of, IsMade}
+use Rattle.vol_volume.specs.Mkfs.{is_size, is_bad_id}
 use Rattle.vol_commands.specs.Cat.{Cats, status_of}
 use Rattle.vol_commands.specs.Jobs.{Streams, Does}
 use Rattle.vol_layout.specs.declared.edition.Edition.{Edition}
@@ -10,6 +11,7 @@ use Rattle.vol_commands.specs.declared.cat.CatFault.{CatFault}
 use Rattle.unixvol.specs.declared.command_line.Invocation.{Invocation}
 use Rattle.unixvol.specs.declared.command_line.Invocation.TheVariants as invocations
 use Rattle.vol_commands.specs.declared.jobs.Job.{Job}
+use Rattle.vol_commands.specs.declared.making.Made.{Made}
 use Rattle.vol_commands.specs.declared.making.NewVolume.{NewVolume}
 
 -- the status where a file can't be read or written, or where memory ran out (this project)
@@ -35,14 +37,20 @@ pub record RunsMkfs (streams : Streams) (taken : List ℕ → Type 0) (volume : 
       ⊎ (is_bad_id volume.edition volume.uid volume.gid ≡ true))
   pub within : (status ≤ 4) × (status ≢ 2)
   pub made : status ≡ 0
-      → (bytes : List ℕ) × IsNewVolume (volume_of volume.edition volume.blocks volume.list_blocks) volume.uid volume.gid volume.now bytes
-      × taken bytes
+      → (bytes : List ℕ)
+      × IsMade (blank_of volume.edition volume.blocks volume.list_blocks volume.uid volume.gid volume.now) bytes × taken bytes
   pub quiet : status ≡ 0 → streams.said []
 
 -- the status after an answer: its own, where its image, if any, was taken, or that of a file (this project)
 abbrev pub EndsSaved : (List ℕ → Type 0) → Answer → ℕ → Type 0
 EndsSaved taken answer status =
     ((status ≡ answer.status) × IfSome answer.image (λ bytes. taken bytes.items)) ⊎ (IsSome answer.image × IsStatusOfFile status)
+
+-- the status after `mkfs`: its own, where the volume that it made, if any, was taken, or that of a file (this project)
+abbrev pub MadeSaved : (List ℕ → Type 0) → Made → ℕ → Type 0
+MadeSaved taken made status =
+    ((status ≡ made.status) × IfSome made.volume (λ blank. (bytes : List ℕ) × IsMade blank bytes × taken bytes))
+    ⊎ (IsSome made.volume × IsStatusOfFile status)
 
 -- a job runs: a file can't be read, and nothing goes out; or it is done with some image and some bytes (this project)
 abbrev pub RunsJob : Streams → (List ℕ → Type 0) → Edition → Job → ℕ → Type 0

@@ -2,11 +2,23 @@
 use Rattle.std.specs.Prelude.{◌≡◌, ◌++◌, ℕ, List, Option, codes}
 use Rattle.std.specs.Io.KnownBytes.{Appends}
 use Rattle.std.specs.Path.{path_with_file_name}
+use Rattle.vol_volume.specs.Blank.{WritesVolume}
+use Rattle.unixvol.specs.declared.saving_file.Content.{Content}
+use Rattle.unixvol.specs.declared.saving_file.Content.TheVariants.{Bytes, Volume}
 
 -- the path is that of a new file in the folder of another path (this project)
 abbrev pub IsBeside : List ℕ → List ℕ → Type 0
 IsBeside path beside = (number : List ℕ) × (beside ≡ path_with_file_name path (codes ".unixvol-" ++ number))
 
--- some file took these bytes, all of them, after those that it held (std::io::Write)
+-- the known bytes grew by those of a content (std::io::Write)
+abbrev pub Grows : Content → Option (List ℕ) → Option (List ℕ) → Type 0
+Grows (Bytes bytes) old new = Appends old new bytes.now
+Grows (Volume blank) old new = WritesVolume blank.now old new
+
+-- some file took a content, all of it, after the bytes that it held (std::io::Write)
+abbrev pub Saves : {F : Type 0} → (F → Option (List ℕ)) → Content → Type 0
+Saves {F} contents content = (old : F) × (new : F) × Grows content (contents old) (contents new)
+
+-- some file took these bytes, all of them (std::io::Write)
 abbrev pub IsTaken : {F : Type 0} → (F → Option (List ℕ)) → List ℕ → Type 0
 IsTaken {F} contents bytes = (old : F) × (new : F) × Appends (contents old) (contents new) bytes

@@ -7,18 +7,18 @@ ghost use Rattle.clap.specs.Words.{kind_of};
 ghost use Rattle.clap.specs.declared.error.kind.ErrorKind.TheVariants as clap_kinds;
 ghost use Rattle.vol_commands.specs.Cat.{Cats, status_of};
 ghost use Rattle.vol_commands.specs.Faults.{Gets};
-ghost use Rattle.unixvol.specs.Running.{IsStatusOfFile, EndsSaved, RunsJob, Runs, Ends};
-ghost use Rattle.unixvol.specs.Saving.{IsTaken};
+ghost use Rattle.unixvol.specs.Running.{IsStatusOfFile, EndsSaved, MadeSaved, RunsJob, Runs, Ends};
+ghost use Rattle.unixvol.specs.Saving.{IsTaken, Saves};
 
 use crate::command_line::{self, Invocation, VolumeFile};
-use crate::saving_file::save_file;
+use crate::saving_file::{Content, save_file};
 use clap::error::ErrorKind;
 use pdp_words::{FromRead, LoadFault, Sink, load, write_all};
 use std::env::{self, Env};
 use std::fs::{self, Files};
 use std::io::{self, Write};
 use vol_commands::cat::cat;
-use vol_commands::{Answer, CatFault, Job, do_job, mkfs_command};
+use vol_commands::{Answer, CatFault, Job, Made, do_job, mkfs_command};
 use vol_layout::Edition;
 
 /// The status where all went well.
@@ -83,8 +83,8 @@ fn carry_out<R: Files + Eprint + AllocGlobal, O: Sink, E: Sink>(
             Err(fault) => explain_cat(rt, fault, image),
         },
         Invocation::Mkfs { image, volume } => {
-            let answer = mkfs_command(rt.alloc(), volume, output, errors);
-            save_answer(rt, image, &answer)
+            let made = mkfs_command(rt.alloc(), volume, output, errors);
+            save_made(rt, image, &made)
         }
         Invocation::OnVolume { volume, job } => run_job(rt, output, errors, volume, job),
     }
@@ -171,13 +171,35 @@ fn cat_file<R: Files + AllocGlobal, O: Sink>(
 fn save_answer<R: Files + Eprint + AllocGlobal>(rt: &R, image: &str, answer: &Answer) -> u8
     ensures { EndsSaved (IsTaken R.File.contents) answer.now result }
 {
-    let Some(bytes) = &answer.image else {
-        return answer.status;
-    };
-    match save_file(rt, image, bytes) {
-        Ok(()) => answer.status,
+    match &answer.image {
+        Some(bytes) => save(rt, image, Content::Bytes(bytes), answer.status),
+        None => answer.status,
+    }
+}
+
+/// Saves what `mkfs` made in the file `image`, if it made anything, and answers the status to end with.
+fn save_made<R: Files + Eprint + AllocGlobal>(rt: &R, image: &str, made: &Made) -> u8
+    ensures { MadeSaved (IsTaken R.File.contents) made.now result }
+{
+    match &made.volume {
+        Some(volume) => save(rt, image, Content::Volume(volume), made.status),
+        None => made.status,
+    }
+}
+
+/// Saves a content in the file `path`, and answers the status to end with: `status`, where it is saved.
+fn save<R: Files + Eprint + AllocGlobal>(
+    rt: &R,
+    path: &str,
+    content: Content<'_>,
+    status: u8,
+) -> u8
+    ensures { ((result ≡ status) × Saves R.File.contents content.entry) ⊎ IsStatusOfFile result }
+{
+    match save_file(rt, path, content) {
+        Ok(()) => status,
         Err(error) if error.kind() == io::ErrorKind::OutOfMemory => explain_no_memory(rt),
-        Err(_) => explain_file(rt, image),
+        Err(_) => explain_file(rt, path),
     }
 }
 

@@ -1,14 +1,14 @@
 //! Saving an image in a file, so that a failure leaves the file that was there.
 ghost use Rattle.std.specs.Prelude.{IfOk, OnOk};
-ghost use Rattle.std.specs.Io.KnownBytes.{Appends};
 ghost use Rattle.std.specs.Path.{path_bytes, path_buf_bytes};
-ghost use Rattle.unixvol.specs.Saving.{IsBeside, IsTaken};
+ghost use Rattle.unixvol.specs.Saving.{IsBeside, Grows, Saves};
 
-use pdp_words::{IntoWrite, write_all};
+use pdp_words::{IntoWrite, SaveFault, Sink, write_all};
 use std::fs::{self, Files, Metadata, OpenFile, OpenOptions};
 use std::io::{self, ErrorKind, Write};
 use std::os::unix::fs::{MetadataExt, OpenOptionsExt, chown};
 use std::path::{Path, PathBuf};
+use vol_volume::BlankVolume;
 
 /// How many names are tried for the new file.
 const TRIES: u32 = 1000;
@@ -19,26 +19,51 @@ const MOST_LINKS: u32 = 40;
 /// Permissions of a new file that is to have those of an old one: until then it is nobody else's.
 const PRIVATE: u32 = 0o600;
 
-/// Saves bytes in the file `path`. They go into a new file in the same folder, which then takes the
+/// What is saved in a file.
+#[derive(Clone, Copy, Debug)]
+pub enum Content<'a> {
+    /// These bytes.
+    Bytes(&'a [u8]),
+    /// A new volume, whose bytes are made as they go out.
+    Volume(&'a BlankVolume),
+}
+
+impl Content<'_> {
+    /// Writes all bytes of the content, from the first to the last.
+    fn write_to<W: Sink>(self, sink: &mut W) -> Result<(), SaveFault>
+        ensures { OnOk result (Grows self.entry (W.contents sink.old) (W.contents sink.new)) }
+    {
+        match self {
+            Content::Bytes(bytes) => write_all(sink, bytes),
+            Content::Volume(volume) => volume.write_to(sink),
+        }
+    }
+}
+
+/// Saves a content in the file `path`. Its bytes go into a new file in the same folder, which then takes the
 /// place of the old one, and has its permissions and, where the system lets it, its owner and its group.
 /// So a failure leaves the old file as it was, and no new one. A symbolic link is followed. What is no
 /// regular file, as a device or a pipe, is written in place.
-pub fn save_file<R: Files + AllocGlobal>(rt: &R, path: &str, bytes: &[u8]) -> io::Result<()>
-    ensures { OnOk result (IsTaken R.File.contents bytes.now) }
+pub fn save_file<R: Files + AllocGlobal>(
+    rt: &R,
+    path: &str,
+    content: Content<'_>,
+) -> io::Result<()>
+    ensures { OnOk result (Saves R.File.contents content.entry) }
 {
     match OpenOptions::new().write(true).open(rt, path) {
         Ok(file) => {
             let metadata = file.metadata()?;
             if metadata.is_file() {
                 let place = fs::canonicalize(rt, path)?;
-                replace(rt, place.as_path(), Some(&metadata), bytes)
+                replace(rt, place.as_path(), Some(&metadata), content)
             } else {
-                write_in_place(file, bytes)
+                write_in_place(file, content)
             }
         }
         Err(error) if error.kind() == ErrorKind::NotFound => {
             let place = end_of_links(rt, path)?;
-            replace(rt, place.as_path(), None, bytes)
+            replace(rt, place.as_path(), None, content)
         }
         Err(error) => Err(error),
     }
@@ -57,17 +82,17 @@ fn end_of_links<R: Files + AllocGlobal>(rt: &R, path: &str) -> io::Result<PathBu
     Err(io::Error::from(ErrorKind::FilesystemLoop))
 }
 
-/// Puts a new file with these bytes in the place of `path`, which is no symbolic link.
+/// Puts a new file with this content in the place of `path`, which is no symbolic link.
 fn replace<R: Files + AllocGlobal>(
     rt: &R,
     path: Path<'_>,
     old: Option<&Metadata>,
-    bytes: &[u8],
+    content: Content<'_>,
 ) -> io::Result<()>
-    ensures { OnOk result (IsTaken R.File.contents bytes.now) }
+    ensures { OnOk result (Saves R.File.contents content.entry) }
 {
     let (file, beside) = new_file(rt, path, old.is_some())?;
-    let result = fill(rt, file, beside.as_path(), old, bytes);
+    let result = fill(rt, file, beside.as_path(), old, content);
     let result = result.and_then(|()| fs::rename(rt, beside.as_path(), path));
     if result.is_err() {
         let _ = fs::remove_file(rt, beside.as_path());
@@ -106,11 +131,11 @@ fn fill<R: Files>(
     file: R::File,
     beside: Path<'_>,
     old: Option<&Metadata>,
-    bytes: &[u8],
+    content: Content<'_>,
 ) -> io::Result<()>
-    ensures { OnOk result (IsTaken R.File.contents bytes.now) }
+    ensures { OnOk result (Saves R.File.contents content.entry) }
 {
-    let file = write(file, bytes)?;
+    let file = write(file, content)?;
     if let Some(old) = old {
         // Only the super-user may give a file away; for others it is their own, and its group one of theirs.
         let _ = chown(rt, beside, None, Some(old.gid()));
@@ -120,11 +145,11 @@ fn fill<R: Files>(
     file.sync_all()
 }
 
-/// Writes bytes into what is no regular file, and sees them on the disk that it may be.
-fn write_in_place<F: Write + OpenFile + Drop>(file: F, bytes: &[u8]) -> io::Result<()>
-    ensures { OnOk result (IsTaken F.contents bytes.now) }
+/// Writes a content into what is no regular file, and sees them on the disk that it may be.
+fn write_in_place<F: Write + OpenFile + Drop>(file: F, content: Content<'_>) -> io::Result<()>
+    ensures { OnOk result (Saves F.contents content.entry) }
 {
-    let file = write(file, bytes)?;
+    let file = write(file, content)?;
     match file.sync_all() {
         // A pipe or a terminal has no disk.
         Err(error) if error.kind() == ErrorKind::InvalidInput => Ok(()),
@@ -132,12 +157,12 @@ fn write_in_place<F: Write + OpenFile + Drop>(file: F, bytes: &[u8]) -> io::Resu
     }
 }
 
-/// Writes bytes after those that a file has taken, and answers the file.
-fn write<F: Write + Drop>(file: F, bytes: &[u8]) -> io::Result<F>
-    ensures { IfOk result (λ written. Appends (F.contents file) (F.contents written) bytes.now) }
+/// Writes a content after the bytes that a file has taken, and answers the file.
+fn write<F: Write + Drop>(file: F, content: Content<'_>) -> io::Result<F>
+    ensures { IfOk result (λ written. Grows content.entry (F.contents file) (F.contents written)) }
 {
     let mut sink = IntoWrite::new(file);
-    match write_all(&mut sink, bytes) {
+    match content.write_to(&mut sink) {
         Ok(()) => Ok(sink.into_inner()),
         Err(_) => Err(io::Error::from(ErrorKind::WriteZero)),
     }

@@ -14,7 +14,7 @@ pub mod showing;
 pub use answer::Answer;
 pub use cat::CatFault;
 pub use jobs::{Job, do_job};
-pub use making::{NewVolume, mkfs_command};
+pub use making::{Made, NewVolume, mkfs_command};
 
 #[cfg(test)]
 mod tests;

@@ -1,14 +1,14 @@
-//! `mkfs`: makes a new volume, and answers the bytes that are to be saved.
+//! `mkfs`: makes a new volume, and answers it, to be saved.
 ghost use Rattle.std.specs.Prelude.{◌≡◌, ◌≢◌, ◌↔◌, ◌⊎◌, false, true, IsSome, IfSome};
 ghost use Rattle.std.specs.Io.KnownBytes.{Appends, Keeps};
-ghost use Rattle.vol_volume.specs.Mkfs.{is_size, is_bad_id, volume_of, IsNewVolume};
+ghost use Rattle.vol_volume.specs.Blank.{blank_of};
+ghost use Rattle.vol_volume.specs.Mkfs.{is_size, is_bad_id};
 ghost use Rattle.vol_commands.specs.Making.{status_of_fault, line_of_fault, line_of_status};
 
-use crate::answer::Answer;
 use pdp_words::{Sink, write_all};
 use std::alloc::Global;
 use vol_layout::Edition;
-use vol_volume::{MkfsFault, mkfs};
+use vol_volume::{BlankVolume, MkfsFault};
 
 /// The volume that is to be made: its sizes, in blocks of 512 bytes, the root's user and group, and the
 /// moment, in seconds.
@@ -28,20 +28,29 @@ pub struct NewVolume {
     pub now: u32,
 }
 
-/// Makes a volume. There are bytes to be saved exactly where the status is 0. Else a line on `errors`
+/// What `mkfs` comes to.
+#[derive(Debug, Drop)]
+pub struct Made {
+    /// The status that the program ends with, if the volume is saved.
+    pub status: u8,
+    /// The volume that is to be saved, if one is.
+    pub volume: Option<BlankVolume>,
+}
+
+/// Makes a volume. There is one to be saved exactly where the status is 0. Else a line on `errors`
 /// says why not: where the sizes aren't a volume's or the root's numbers are too high, with status 1,
 /// and for want of memory, with status 4. Nothing goes to `output`.
 ///
-/// Takes memory for the volume's bytes, once.
+/// Takes memory for four blocks: the volume's bytes are made as they are saved.
 pub fn mkfs_command<O: Sink, E: Sink>(
     alloc: Global,
     volume: NewVolume,
     _output: &mut O,
     errors: &mut E,
-) -> Answer
-    ensures made { IfSome result.image (λ bytes. IsNewVolume (volume_of volume.edition volume.blocks volume.list_blocks)
-        volume.uid volume.gid volume.now bytes.items) }
-    ensures done { result.status ≡ 0 ↔ IsSome result.image }
+) -> Made
+    ensures made { IfSome result.volume (λ blank. blank ≡ blank_of volume.edition volume.blocks volume.list_blocks
+        volume.uid volume.gid volume.now) }
+    ensures done { result.status ≡ 0 ↔ IsSome result.volume }
     ensures refused { result.status ≡ 1 ↔ ((is_size volume.edition volume.blocks volume.list_blocks ≡ false)
         ⊎ (is_bad_id volume.edition volume.uid volume.gid ≡ true)) }
     ensures memory { result.status ≢ 0 → result.status ≢ 1 → result.status ≡ 4 }
@@ -58,14 +67,14 @@ pub fn mkfs_command<O: Sink, E: Sink>(
         gid,
         now,
     } = volume;
-    match mkfs(alloc, edition, blocks, list_blocks, uid, gid, now) {
-        Ok(bytes) => Answer {
+    match BlankVolume::new(alloc, edition, blocks, list_blocks, uid, gid, now) {
+        Ok(blank) => Made {
             status: 0,
-            image: Some(bytes),
+            volume: Some(blank),
         },
-        Err(fault) => Answer {
+        Err(fault) => Made {
             status: explain(fault, errors),
-            image: None,
+            volume: None,
         },
     }
 }

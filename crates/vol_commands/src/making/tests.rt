@@ -49,13 +49,15 @@ fn check(
 ) {
     let mut output = IntoWrite::new(ScriptedWriter::new(alloc, 100));
     let mut errors = IntoWrite::new(ScriptedWriter::new(alloc, 7));
-    let answer = mkfs_command(alloc, volume, &mut output, &mut errors);
-    assert_eq!(rt;
-        answer.image.as_ref().map(|bytes| bytes.len()),
-        len,
-        "{volume:?}"
-    );
-    assert_eq!(rt; answer.status, status, "{volume:?}");
+    let made = mkfs_command(alloc, volume, &mut output, &mut errors);
+    assert_eq!(rt; made.volume.is_some(), len.is_some(), "{volume:?}");
+    let mut saved = IntoWrite::new(ScriptedWriter::new(alloc, 1000));
+    if let Some(blank) = &made.volume {
+        assert!(rt; blank.write_to(&mut saved).is_ok(), "{volume:?}");
+    }
+    let saved = saved.into_inner().taken.len();
+    assert_eq!(rt; saved, len.unwrap_or(0), "{volume:?}");
+    assert_eq!(rt; made.status, status, "{volume:?}");
     assert!(rt; output.into_inner().taken.is_empty(), "{volume:?}");
     let taken = errors.into_inner().taken;
     assert_eq!(rt; taken.as_slice(), line.as_bytes(), "{volume:?}");
@@ -71,9 +73,9 @@ fn a_line_that_is_not_taken_changes_no_status(rt: HostRuntime) -> Result<(), Fai
         blocks: 4,
         ..TWENTY
     };
-    let answer = mkfs_command(alloc, volume, &mut output, &mut errors);
-    assert_eq!(rt; answer.status, 1);
-    assert!(rt; answer.image.is_none());
+    let made = mkfs_command(alloc, volume, &mut output, &mut errors);
+    assert_eq!(rt; made.status, 1);
+    assert!(rt; made.volume.is_none());
     let taken = errors.into_inner().taken;
     assert_eq!(rt; taken.as_slice(), b"unixvol".as_slice());
     Ok(())

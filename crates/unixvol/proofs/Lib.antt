@@ -1,4 +1,5 @@
 pub mod Outputs
+pub mod Reading
 pub mod Reasons
 pub mod Replies
 pub mod Words

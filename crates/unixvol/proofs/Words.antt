@@ -1,5 +1,5 @@
 -- What the steps add by which the command line is built.
-use Rattle.std.proofs.Common.{Bool, codes, fold, Some, ◌&&◌, not, is_some, IfOk, Result, Ok, Err, ◌≡◌, ◌∙◌, ℕ, true, false, List, ◌∷◌, ◌++◌, [], refl, sym, ap, ap₂}
+use Rattle.std.proofs.Common.{Bool, codes, fold, Some, ◌&&◌, not, is_some, IfOk, Result, Ok, Err, ◌≡◌, ◌∙◌, ℕ, true, false, List, ◌∷◌, ◌++◌, [], refl, ap, ap₂}
 use Rattle.std.specs.Borrow.{Bor}
 use Rattle.clap.specs.Walk.{Rule, is_empty, is_simple_arg}
 use Rattle.clap.specs.Simple.{App, Shape, app_of_fields, shape_of_fields}

@@ -1,5 +1,5 @@
 -- The command line: its commands, and the words that each takes.
-use Rattle.std.specs.Prelude.{◌≡◌, ◌∷◌, ◌++◌, ℕ, List, [], Option, Some, true, false, codes, fold, map}
+use Rattle.std.specs.Prelude.{◌≡◌, ◌∷◌, ◌++◌, ℕ, List, [], Option, Some, true, codes, fold, map}
 use Rattle.std.specs.Borrow.{Bor}
 use Rattle.clap.specs.Simple.{new_shape}
 use Rattle.clap.specs.Words.{App, Kinds, Row, Rule, Shape, app_of, fault_of, new_rule, rule_of, shape_of, subcommand_of, with_subcommand}

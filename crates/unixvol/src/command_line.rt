@@ -53,15 +53,31 @@ const INO: &str = "INO";
 /// Reads the words of the command line, of which the first is the program's own name. The error is
 /// clap's, with its text, its stream and its status; it is of the kind `OutOfMemory` where an
 /// allocation was refused.
-pub fn read<'a>(alloc: Global, words: &'a [String]) -> Result<Invocation<'a>, Error> {
+pub fn read<'a>(alloc: Global, words: &'a [String]) -> Result<Invocation<'a>, Error>
+    ensures read { IfOk result (IsRead (map string_bytes words.entry.now)) }
+    ensures refused { IfErr result (IsRefused (map string_bytes words.entry.now)) }
+{
     let mut command = command_line(alloc, EDITIONS.as_slice())?;
     let matches = command.try_get_matches_from_mut(words)?;
-    if let Some((verb, values)) = matches.subcommand() {
-        if let Some(invocation) = read_command(alloc, verb, values)? {
-            return Ok(invocation);
-        }
+    match read_matches(alloc, &matches)? {
+        Some(invocation) => Ok(invocation),
+        None => Err(command.error(ErrorKind::MissingSubcommand, "a command is missing")?),
     }
-    Err(command.error(ErrorKind::MissingSubcommand, "a command is missing")?)
+}
+
+/// Reads what a parse found. `None` where it met no command.
+fn read_matches<'a>(
+    alloc: Global,
+    matches: &ArgMatches<'a>,
+) -> Result<Option<Invocation<'a>>, Error>
+    ensures read { IfOk result (λ found. IfSome found (Asks (subcommand_rows_of matches.now))) }
+    ensures missing { IfOk result (λ found. found ≡ None → AsksNothing (subcommand_rows_of matches.now)) }
+    ensures refused { IfErr result (TellsOf (AsksNothing (subcommand_rows_of matches.now))) }
+{
+    match matches.subcommand() {
+        Some((name, values)) => read_command(alloc, name, values),
+        None => Ok(None),
+    }
 }
 
 /// Reads the words after a command. `None` where there is no command of that name.

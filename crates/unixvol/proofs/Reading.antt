@@ -17,13 +17,13 @@ use Rattle.clap.specs.declared.parser.matches.ArgMatches.TheViews.{out-ArgMatche
 use Rattle.clap.specs.declared.parser.matches.SubCommand.{SubCommand}
 use Rattle.vol_layout.specs.declared.edition.Edition.{Edition}
 use Rattle.vol_layout.specs.declared.edition.Edition.TheVariants.{V6, V7}
-use Rattle.unixvol.specs.declared.making.NewVolume.{NewVolume}
+use Rattle.vol_commands.specs.declared.making.NewVolume.{NewVolume}
 use Rattle.unixvol.specs.Decimal.{IsNumberUpTo}
 use Rattle.unixvol.specs.CommandLine.{Asks, AsksFor, AsksNothing, TellsOf, IsChange, IsEditionNamed, IsGiven, IsNewVolumeGiven, IsNoCommand, IsNoEdition, IsNoMoment, IsNoNewVolume, IsNoValue, IsRead, IsRefused, command_name, given_by, given_in, word_or_empty}
 use Rattle.unixvol.specs.Words.{AreEditions, app, command_in, command_shape, edition_rule, faults_of, named, program, unixvol_app, with_argument, with_command, word_rule}
 use Rattle.unixvol.specs.declared.command_line.Invocation.{Invocation}
 use Rattle.unixvol.specs.declared.command_line.Invocation.TheVariants.{Cat, Mkfs, OnVolume}
-use Rattle.unixvol.specs.declared.command_line.Job.TheVariants as jobs
+use Rattle.vol_commands.specs.declared.jobs.Job.TheVariants as jobs
 
 -- clap's contract gives what a parse of this command line finds
 pub simple : (editions : Bor (List (Bor (List ℕ)))) → is_simple (unixvol_app editions) ≡ true

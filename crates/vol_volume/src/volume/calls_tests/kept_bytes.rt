@@ -1,10 +1,9 @@
 // Bytes that no call changes.
 use super::Asked::{Create, Fill, Mkdir, Rmdir, Truncate, Unlink};
 use super::Step::{self, Call};
-use super::{NOW, check_run, mount, put};
+use super::{NOW, check_run, copied, mount, put};
 use crate::Done::{Made, Plain, Wrote};
 use crate::mkfs;
-use std::test::Fail;
 use vol_layout::Edition;
 
 static COMING_AND_GOING: [Step; 6] = [
@@ -17,18 +16,20 @@ static COMING_AND_GOING: [Step; 6] = [
 ];
 
 #[test]
-fn bytes_behind_the_volume_and_flags_stay(rt: HostRuntime) -> Result<(), Fail> {
+fn bytes_behind_the_volume_and_flags_stay(rt: HostRuntime) {
     let alloc = rt.alloc();
-    let (first_block, after_time) = (vec![in alloc; 0xA5; 512]?, vec![in alloc; 0x5A; 94]?);
+    let (first_block, after_time) = ([0xA5; 512], [0x5A; 94]);
     for (edition, list_blocks, flags) in [(Edition::V6, 1, 920), (Edition::V7, 2, 922)] {
-        let mut bytes = mkfs(alloc, edition, 100, list_blocks, 0, 0, NOW)?;
+        let made = mkfs(alloc, edition, 100, list_blocks, 0, 0, NOW);
+        let mut bytes = made.expect(&rt, "a new volume");
         put(&mut bytes, 0, &first_block);
         put(&mut bytes, flags, b"\x01\x02\x03\x04");
         put(&mut bytes, 930, &after_time);
-        bytes.extend_from_slice(b"\x01\x02\x03")?;
-        let before = Vec::from_slice(alloc, &bytes)?;
-        let mut volume = mount(alloc, edition, bytes)?;
-        check_run(&rt, alloc, &mut volume, &COMING_AND_GOING)?;
+        let behind = bytes.extend_from_slice(b"\x01\x02\x03");
+        behind.expect(&rt, "memory for the bytes");
+        let before = copied(&rt, alloc, &bytes);
+        let mut volume = mount(&rt, alloc, edition, bytes);
+        check_run(&rt, alloc, &mut volume, &COMING_AND_GOING);
         assert_eq!(rt; volume.base(), before.as_slice());
         let after = volume.unmount();
         assert_eq!(rt; after.get(..512), Some(first_block.as_slice()));
@@ -37,5 +38,4 @@ fn bytes_behind_the_volume_and_flags_stay(rt: HostRuntime) -> Result<(), Fail> {
         let kept = after.iter().skip(flags).take(4);
         assert!(rt; kept.eq(&[1, 2, 3, 4]));
     }
-    Ok(())
 }

@@ -217,8 +217,8 @@ fn shown(rt: &impl Abort, alloc: Global, call: &Call) -> String {
 /// Makes a call in the name of a user, and answers what came of it. An accepted call is the journal's
 /// last, and its moment is the super-block's; a refused one leaves image and journal as they were, and
 /// comes back.
-fn make<A: Abort>(
-    rt: &A,
+fn make(
+    rt: &impl Abort,
     alloc: Global,
     volume: &mut Volume,
     cred: Cred,
@@ -228,32 +228,33 @@ fn make<A: Abort>(
     let len = volume.journal().len();
     let call = call_by(rt, alloc, cred, asked);
     let words = shown(rt, alloc, &call);
-    match volume.call(alloc, call) {
+    let (answer, added) = match volume.call(alloc, call) {
         Ok(done) => {
-            assert_eq!(rt; volume.journal().len().checked_sub(1), Some(len));
             check_last(rt, alloc, volume, &words, done);
-            check_at(
-                rt,
-                volume,
-                time_place(volume.edition()),
-                b"\x02\x01\x04\x03",
-            );
-            Ok(done)
+            (Ok(done), 1)
         }
         Err((refusal, same)) => {
-            assert_eq!(rt; volume.journal().len(), len);
             assert_eq!(rt; volume.image().as_bytes(), before.as_slice());
-            assert_eq!(rt; shown(rt, alloc, &same), words);
-            Err(refusal)
+            check_shown(rt, alloc, &same, &words);
+            (Err(refusal), 0)
         }
-    }
+    };
+    assert_eq!(rt; volume.journal().len().checked_sub(added), Some(len));
+    answer
 }
 
-/// The journal's last record is that of a call with these words, which was answered so.
-fn check_last<A: Abort>(rt: &A, alloc: Global, volume: &Volume, words: &String, done: Done) {
+/// The journal's last record is the call with these words, which was answered so, and the super-block has its moment.
+fn check_last(rt: &impl Abort, alloc: Global, volume: &Volume, words: &str, done: Done) {
     let record = volume.journal().last().expect(rt, "a record");
-    assert_eq!(rt; shown(rt, alloc, &record.call), *words);
+    check_shown(rt, alloc, &record.call, words);
     assert_eq!(rt; record.done, done);
+    let place = time_place(volume.edition());
+    check_at(rt, volume, place, b"\x02\x01\x04\x03");
+}
+
+/// These words show a call.
+fn check_shown(rt: &impl Abort, alloc: Global, call: &Call, words: &str) {
+    assert_eq!(rt; shown(rt, alloc, call).as_str(), words);
 }
 
 /// Where the super-block's time stands.
@@ -265,14 +266,14 @@ fn time_place(edition: Edition) -> usize {
 }
 
 /// Takes the steps of a run, whose calls are in the name of a user.
-fn check_steps<A: Abort>(rt: &A, alloc: Global, volume: &mut Volume, cred: Cred, steps: &[Step]) {
+fn check_steps(rt: &impl Abort, alloc: Global, volume: &mut Volume, cred: Cred, steps: &[Step]) {
     for step in steps {
         check_step(rt, alloc, volume, cred, step);
     }
 }
 
 /// Takes a step of a run.
-fn check_step<A: Abort>(rt: &A, alloc: Global, volume: &mut Volume, cred: Cred, step: &Step) {
+fn check_step(rt: &impl Abort, alloc: Global, volume: &mut Volume, cred: Cred, step: &Step) {
     match step {
         Step::Call(asked, wanted) => {
             let answer = make(rt, alloc, volume, cred, *asked);
@@ -286,7 +287,7 @@ fn check_step<A: Abort>(rt: &A, alloc: Global, volume: &mut Volume, cred: Cred, 
 }
 
 /// Takes the steps of a run in the name of user 0, and then makes the journal again.
-fn check_run<A: Abort>(rt: &A, alloc: Global, volume: &mut Volume, steps: &[Step]) {
+fn check_run(rt: &impl Abort, alloc: Global, volume: &mut Volume, steps: &[Step]) {
     check_steps(rt, alloc, volume, ROOT, steps);
     check_replays(rt, alloc, volume);
 }
@@ -327,7 +328,7 @@ fn read(rt: &impl Abort, alloc: Global, cred: Cred, path: &[u8], offset: u32, le
 
 /// The journal of a volume, made again on the bytes that were mounted, once by calls and once by its
 /// records, gives the same image and the same journal.
-fn check_replays<A: Abort>(rt: &A, alloc: Global, volume: &Volume) {
+fn check_replays(rt: &impl Abort, alloc: Global, volume: &Volume) {
     let mut called = base_of(rt, alloc, volume);
     for record in volume.journal() {
         let call = copied_call(rt, alloc, &record.call);
@@ -339,7 +340,7 @@ fn check_replays<A: Abort>(rt: &A, alloc: Global, volume: &Volume) {
 
 /// The records of a volume, made again on the bytes that were mounted, give the same image and the same
 /// journal.
-fn check_redone<A: Abort>(rt: &A, alloc: Global, volume: &Volume) {
+fn check_redone(rt: &impl Abort, alloc: Global, volume: &Volume) {
     let mut redone = base_of(rt, alloc, volume);
     for record in volume.journal() {
         redo(rt, alloc, &mut redone, record);
@@ -354,7 +355,7 @@ fn base_of(rt: &impl Abort, alloc: Global, volume: &Volume) -> Volume {
 }
 
 /// Two volumes have the same bytes and the same journal.
-fn check_same<A: Abort>(rt: &A, alloc: Global, one: &Volume, other: &Volume) {
+fn check_same(rt: &impl Abort, alloc: Global, one: &Volume, other: &Volume) {
     assert_eq!(rt; one.base(), other.base());
     assert_eq!(rt; one.image().as_bytes(), other.image().as_bytes());
     assert_eq!(rt; journal_of(rt, alloc, one), journal_of(rt, alloc, other));

@@ -146,6 +146,11 @@ fn a_directory_grows_by_a_block(rt: HostRuntime) {
     check_run(&rt, alloc, &mut volume, &GROWN);
 }
 
+/// Two letters that number `n` alone has, as `aa` and `ab`.
+fn letters(n: u8) -> [u8; 2] {
+    [b'a' + n / 26, b'a' + n % 26]
+}
+
 static ONE_NAME: [Step; 1] = [Call(Create(b"/f", 0o644), Ok(Made(32)))];
 
 static MOST_NAMES: [Step; 4] = [
@@ -161,7 +166,7 @@ fn a_file_has_up_to_127_names(rt: HostRuntime) {
     let mut volume = sixth(&rt, alloc);
     check_steps(&rt, alloc, &mut volume, ROOT, &ONE_NAME);
     for n in 0..126_u8 {
-        let name = [b'a' + n / 26, b'a' + n % 26];
+        let name = letters(n);
         let answer = make(&rt, alloc, &mut volume, ROOT, Link(b"/f", &name));
         assert_eq!(rt; answer, Ok(Plain), "name {n}");
     }
@@ -185,7 +190,8 @@ fn a_directory_has_up_to_125_directories(rt: HostRuntime) {
     let mut volume = new_volume(&rt, alloc, Edition::V6, 200, 10);
     check_steps(&rt, alloc, &mut volume, ROOT, &NO_DIRECTORY);
     for n in 0..125_u8 {
-        let path = [b'd', b'/', b'a' + n / 26, b'a' + n % 26];
+        let [first, second] = letters(n);
+        let path = [b'd', b'/', first, second];
         let answer = make(&rt, alloc, &mut volume, ROOT, Mkdir(&path, 0o755));
         // The i-numbers of the first hundred i-nodes are cached first, and then the others.
         let number = if n < 99 { 100 } else { 259 } - u16::from(n);

@@ -1,7 +1,7 @@
 // Queries of worked volumes: their replies, and each refusal.
-use crate::{Bytes, Query, Reply, Stat, Volume, mkfs};
-use std::alloc::Global;
-use std::test::Fail;
+use crate::{Bytes, Listing, Query, Reply, Stat, Volume, mkfs};
+use std::alloc::{AllocError, Global};
+use std::process::Abort;
 use vol_dir::{Cred, Refusal};
 use vol_layout::{Edition, Kind};
 
@@ -15,98 +15,109 @@ const ROOT: Cred = Cred { uid: 0, gid: 0 };
 const OTHER: Cred = Cred { uid: 7, gid: 7 };
 
 /// A new volume of 100 blocks, mounted.
-fn new_volume(alloc: Global, edition: Edition) -> Result<Volume, Fail> {
-    let bytes = mkfs(alloc, edition, 100, 2, 0, 0, NOW)?;
-    Volume::mount(alloc, edition, bytes).map_err(|_| Fail::from("a new volume is sound"))
+fn new_volume(rt: &impl Abort, alloc: Global, edition: Edition) -> Volume {
+    let bytes = mkfs(alloc, edition, 100, 2, 0, 0, NOW).expect(rt, "a new volume");
+    mount(rt, alloc, edition, bytes)
+}
+
+/// Mounts the bytes of a sound volume.
+fn mount(rt: &impl Abort, alloc: Global, edition: Edition, bytes: Vec<u8>) -> Volume {
+    match Volume::mount(alloc, edition, bytes) {
+        Ok(volume) => volume,
+        Err((fault, _)) => panic!(rt; "{fault:?}"),
+    }
 }
 
 /// A new volume of the sixth edition, 20 blocks of it, in which i-node 2 is a file `-` of the root's,
 /// with the bytes `hello`, that only its owner 3 may read.
-fn volume_with_file(alloc: Global) -> Result<Volume, Fail> {
-    let mut bytes = mkfs(alloc, Edition::V6, 20, 2, 0, 0, NOW)?;
-    let pieces: [(usize, &[u8]); 6] = [
-        // The top of the free list goes.
-        (516, b"\x0F"),
-        // The root's size, 48.
-        (1030, b"\x30"),
-        // Mode 0100400, 1 link, owner 3, group 0, size 5, block 5.
-        (1056, b"\x00\x81\x01\x03\x00\x00\x05\x00\x05\x00"),
-        // Accessed and modified at 65537.
-        (1080, b"\x01\x00\x01\x00\x01\x00\x01\x00"),
-        // The root's third entry.
-        (2080, b"\x02\x00-"),
-        (2560, b"hello"),
-    ];
-    for (at, piece) in &pieces {
+fn volume_with_file(rt: &impl Abort, alloc: Global) -> Volume {
+    let mut bytes = mkfs(alloc, Edition::V6, 20, 2, 0, 0, NOW).expect(rt, "a new volume");
+    for (at, piece) in &FILE {
         for (byte, new) in bytes.iter_mut().skip(*at).zip(*piece) {
             *byte = *new;
         }
     }
-    Volume::mount(alloc, Edition::V6, bytes).map_err(|_| Fail::from("the volume is sound"))
+    mount(rt, alloc, Edition::V6, bytes)
 }
 
+/// What the file puts into a new volume.
+static FILE: [(usize, &[u8]); 6] = [
+    // The top of the free list goes.
+    (516, b"\x0F"),
+    // The root's size, 48.
+    (1030, b"\x30"),
+    // Mode 0100400, 1 link, owner 3, group 0, size 5, block 5.
+    (1056, b"\x00\x81\x01\x03\x00\x00\x05\x00\x05\x00"),
+    // Accessed and modified at 65537.
+    (1080, b"\x01\x00\x01\x00\x01\x00\x01\x00"),
+    // The root's third entry.
+    (2080, b"\x02\x00-"),
+    (2560, b"hello"),
+];
+
 /// A path.
-fn path(alloc: Global, bytes: &[u8]) -> Result<Bytes, Fail> {
-    Ok(Bytes::from_vec(Vec::from_slice(alloc, bytes)?))
+fn path(rt: &impl Abort, alloc: Global, bytes: &[u8]) -> Bytes {
+    Bytes::from_vec(Vec::from_slice(alloc, bytes).expect(rt, "memory for the path"))
 }
 
 /// The question what a node is.
-fn stat(alloc: Global, cred: Cred, bytes: &[u8]) -> Result<Query, Fail> {
-    let path = path(alloc, bytes)?;
-    Ok(Query::Stat { cred, path })
+fn stat(rt: &impl Abort, alloc: Global, cred: Cred, bytes: &[u8]) -> Query {
+    let path = path(rt, alloc, bytes);
+    Query::Stat { cred, path }
 }
 
 /// The question for 3 bytes.
-fn read(alloc: Global, cred: Cred, bytes: &[u8], offset: u32) -> Result<Query, Fail> {
-    let path = path(alloc, bytes)?;
-    Ok(Query::Read {
+fn read(rt: &impl Abort, alloc: Global, cred: Cred, bytes: &[u8], offset: u32) -> Query {
+    let path = path(rt, alloc, bytes);
+    Query::Read {
         cred,
         path,
         offset,
         len: 3,
-    })
+    }
 }
 
 /// The question for names.
-fn list(alloc: Global, cred: Cred, bytes: &[u8]) -> Result<Query, Fail> {
-    let path = path(alloc, bytes)?;
-    Ok(Query::List { cred, path })
+fn list(rt: &impl Abort, alloc: Global, cred: Cred, bytes: &[u8]) -> Query {
+    let path = path(rt, alloc, bytes);
+    Query::List { cred, path }
+}
+
+/// What another user is told of a node.
+fn told(rt: &impl Abort, alloc: Global, volume: &Volume, bytes: &[u8]) -> Stat {
+    match volume.ask(alloc, &stat(rt, alloc, OTHER, bytes)) {
+        Ok(Reply::Stat(told)) => told,
+        _ => panic!(rt; "the path leads to a node"),
+    }
 }
 
 #[test]
-fn the_root_of_a_new_volume_is_told(rt: HostRuntime) -> Result<(), Fail> {
+fn the_root_of_a_new_volume_is_told(rt: HostRuntime) {
     let alloc = rt.alloc();
     for (edition, number, changed) in [(Edition::V6, 1, None), (Edition::V7, 2, Some(NOW))] {
-        let volume = new_volume(alloc, edition)?;
+        let volume = new_volume(&rt, alloc, edition);
+        let wanted = Stat {
+            number,
+            kind: Kind::Directory,
+            permissions: 0o777,
+            links: 2,
+            uid: 0,
+            gid: 0,
+            size: 32,
+            accessed: NOW,
+            modified: NOW,
+            changed,
+        };
         for bytes in [b"/".as_slice(), b"", b"/.", b".././/.."] {
-            let Ok(Reply::Stat(told)) = volume.ask(alloc, &stat(alloc, OTHER, bytes)?) else {
-                return Err(Fail::from("the root is told"));
-            };
-            let wanted = Stat {
-                number,
-                kind: Kind::Directory,
-                permissions: 0o777,
-                links: 2,
-                uid: 0,
-                gid: 0,
-                size: 32,
-                accessed: NOW,
-                modified: NOW,
-                changed,
-            };
-            assert_eq!(rt; told, wanted);
+            assert_eq!(rt; told(&rt, alloc, &volume, bytes), wanted);
         }
     }
-    Ok(())
 }
 
 #[test]
-fn a_file_is_told(rt: HostRuntime) -> Result<(), Fail> {
+fn a_file_is_told(rt: HostRuntime) {
     let alloc = rt.alloc();
-    let volume = volume_with_file(alloc)?;
-    let Ok(Reply::Stat(told)) = volume.ask(alloc, &stat(alloc, OTHER, b"/-")?) else {
-        return Err(Fail::from("the file is told"));
-    };
+    let volume = volume_with_file(&rt, alloc);
     let wanted = Stat {
         number: 2,
         kind: Kind::Regular,
@@ -119,15 +130,19 @@ fn a_file_is_told(rt: HostRuntime) -> Result<(), Fail> {
         modified: 65_537,
         changed: None,
     };
-    assert_eq!(rt; told, wanted);
-    Ok(())
+    assert_eq!(rt; told(&rt, alloc, &volume, b"/-"), wanted);
 }
 
 /// The names that the root of a volume is listed with, each with the low byte of its i-number behind it.
-fn names(alloc: Global, volume: &Volume) -> Result<Vec<u8>, Fail> {
-    let Ok(Reply::Names(names)) = volume.ask(alloc, &list(alloc, OTHER, b"/")?) else {
-        return Err(Fail::from("the root is listed"));
-    };
+fn names(rt: &impl Abort, alloc: Global, volume: &Volume) -> Vec<u8> {
+    match volume.ask(alloc, &list(rt, alloc, OTHER, b"/")) {
+        Ok(Reply::Names(names)) => with_numbers(alloc, &names).expect(rt, "memory for the names"),
+        _ => panic!(rt; "the root is listed"),
+    }
+}
+
+/// Names, each with the low byte of its i-number behind it.
+fn with_numbers(alloc: Global, names: &Listing) -> Result<Vec<u8>, AllocError> {
     let mut told = Vec::new(alloc);
     for (name, i) in names.as_slice() {
         told.extend_from_slice(name.as_slice())?;
@@ -137,37 +152,40 @@ fn names(alloc: Global, volume: &Volume) -> Result<Vec<u8>, Fail> {
 }
 
 #[test]
-fn names_come_in_order(rt: HostRuntime) -> Result<(), Fail> {
+fn names_come_in_order(rt: HostRuntime) {
     let alloc = rt.alloc();
-    let new = names(alloc, &new_volume(alloc, Edition::V7)?)?;
+    let new = names(&rt, alloc, &new_volume(&rt, alloc, Edition::V7));
     assert_eq!(rt; new.as_slice(), b".\x02..\x02".as_slice());
-    let with_file = names(alloc, &volume_with_file(alloc)?)?;
+    let with_file = names(&rt, alloc, &volume_with_file(&rt, alloc));
     assert_eq!(rt; with_file.as_slice(), b"-\x02.\x01..\x01".as_slice());
-    Ok(())
 }
 
+/// Where 3 bytes are asked for, and those that are read.
+static READ: [(u32, &[u8]); 5] = [
+    (0, b"hel"),
+    (1, b"ell"),
+    (3, b"lo"),
+    (5, b""),
+    (u32::MAX, b""),
+];
+
 #[test]
-fn bytes_are_read_up_to_the_end(rt: HostRuntime) -> Result<(), Fail> {
+fn bytes_are_read_up_to_the_end(rt: HostRuntime) {
     let alloc = rt.alloc();
-    let volume = volume_with_file(alloc)?;
+    let volume = volume_with_file(&rt, alloc);
     let owner = Cred { uid: 3, gid: 9 };
-    for (offset, wanted) in [
-        (0, b"hel".as_slice()),
-        (1, b"ell"),
-        (3, b"lo"),
-        (5, b""),
-        (u32::MAX, b""),
-    ] {
-        let Ok(Reply::Bytes(bytes)) = volume.ask(alloc, &read(alloc, owner, b"/-", offset)?) else {
-            return Err(Fail::from("the file is read"));
-        };
-        assert_eq!(rt; bytes.as_slice(), wanted, "from byte {offset} on");
+    for (offset, wanted) in &READ {
+        match volume.ask(alloc, &read(&rt, alloc, owner, b"/-", *offset)) {
+            Ok(Reply::Bytes(bytes)) => {
+                assert_eq!(rt; bytes.as_slice(), *wanted, "from byte {offset} on");
+            }
+            _ => panic!(rt; "the file is read"),
+        }
     }
-    Ok(())
 }
 
 /// What is asked of the node to which a path leads.
-#[derive(Clone, Copy, Debug)]
+#[derive(Clone, Copy)]
 enum Asked {
     /// What it is.
     Stat,
@@ -196,16 +214,15 @@ static REFUSED: [(Asked, Cred, &[u8], Refusal); 11] = [
 ];
 
 #[test]
-fn queries_are_refused_in_order(rt: HostRuntime) -> Result<(), Fail> {
+fn queries_are_refused_in_order(rt: HostRuntime) {
     let alloc = rt.alloc();
-    let volume = volume_with_file(alloc)?;
+    let volume = volume_with_file(&rt, alloc);
     for (asked, cred, bytes, wanted) in &REFUSED {
         let query = match asked {
-            Asked::Stat => stat(alloc, *cred, bytes)?,
-            Asked::Read => read(alloc, *cred, bytes, 0)?,
-            Asked::List => list(alloc, *cred, bytes)?,
+            Asked::Stat => stat(&rt, alloc, *cred, bytes),
+            Asked::Read => read(&rt, alloc, *cred, bytes, 0),
+            Asked::List => list(&rt, alloc, *cred, bytes),
         };
-        assert_eq!(rt; volume.ask(alloc, &query).err(), Some(*wanted), "{asked:?}");
+        assert_eq!(rt; volume.ask(alloc, &query).err(), Some(*wanted), "{query:?}");
     }
-    Ok(())
 }

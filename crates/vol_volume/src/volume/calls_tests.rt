@@ -1,5 +1,5 @@
 // Calls of worked volumes: what they answer, the bytes that they leave, and their journals made again.
-ghost use Rattle.std.specs.Prelude.{◌≡◌, true, IfOk};
+ghost use Rattle.std.specs.Prelude.{◌≡◌, true};
 ghost use Rattle.vol_volume.specs.Journal.{MayAnswer, MayFollow};
 ghost use Rattle.vol_volume.specs.Verdict.{is_free_number};
 ghost use Rattle.vol_volume.specs.Volume.{mounted, reads_as};
@@ -8,7 +8,6 @@ use super::Volume;
 use crate::{Bytes, Call, Done, Query, Record, Reply, Stat, mkfs};
 use std::alloc::Global;
 use std::process::Abort;
-use std::test::Fail;
 use vol_dir::{Cred, Refusal};
 use vol_layout::i_list::mode;
 use vol_layout::{Edition, Geometry};
@@ -61,51 +60,49 @@ enum Step {
 
 /// A new volume of user 0 and group 0.
 fn new_volume(
+    rt: &impl Abort,
     alloc: Global,
     edition: Edition,
     blocks: u32,
     list_blocks: u16,
-) -> Result<Volume, Fail> {
-    mount(
-        alloc,
-        edition,
-        mkfs(alloc, edition, blocks, list_blocks, 0, 0, NOW)?,
-    )
+) -> Volume {
+    let made = mkfs(alloc, edition, blocks, list_blocks, 0, 0, NOW);
+    mount(rt, alloc, edition, made.expect(rt, "a new volume"))
 }
 
 /// A new volume of the sixth edition: 20 blocks, two of them the i-list, of which 5 to 19 are free.
-fn sixth(alloc: Global) -> Result<Volume, Fail> {
-    new_volume(alloc, Edition::V6, 20, 2)
+fn sixth(rt: &impl Abort, alloc: Global) -> Volume {
+    new_volume(rt, alloc, Edition::V6, 20, 2)
 }
 
 /// A new volume of the seventh edition: 100 blocks, two of them the i-list, of which 5 to 99 are free.
-fn seventh(alloc: Global) -> Result<Volume, Fail> {
-    new_volume(alloc, Edition::V7, 100, 2)
+fn seventh(rt: &impl Abort, alloc: Global) -> Volume {
+    new_volume(rt, alloc, Edition::V7, 100, 2)
 }
 
 /// Mounts the bytes of a sound image.
-fn mount(alloc: Global, edition: Edition, bytes: Vec<u8>) -> Result<Volume, Fail>
-    ensures { IfOk result (λ volume. volume ≡ mounted edition bytes.items) }
+fn mount(rt: &impl Abort, alloc: Global, edition: Edition, bytes: Vec<u8>) -> Volume
+    ensures { result ≡ mounted edition bytes.items }
 {
     match Volume::mount(alloc, edition, bytes) {
-        Ok(volume) => Ok(volume),
-        Err(_) => Err(Fail::from("the volume is sound")),
+        Ok(volume) => volume,
+        Err((fault, _)) => panic!(rt; "{fault:?}"),
     }
 }
 
 /// The bytes of an image.
-fn image_of(alloc: Global, volume: &Volume) -> Result<Vec<u8>, Fail>
-    ensures { IfOk result (λ bytes. bytes.items ≡ volume.now.image) }
+fn image_of(rt: &impl Abort, alloc: Global, volume: &Volume) -> Vec<u8>
+    ensures { result.items ≡ volume.now.image }
 {
-    Ok(Vec::from_slice(alloc, volume.image().as_bytes())?)
+    copied(rt, alloc, volume.image().as_bytes())
 }
 
 /// Mounts a volume's image, in which other bytes are put at a place.
-fn edited(alloc: Global, volume: Volume, at: usize, piece: &[u8]) -> Result<Volume, Fail> {
+fn edited(rt: &impl Abort, alloc: Global, volume: Volume, at: usize, piece: &[u8]) -> Volume {
     let edition = volume.edition();
     let mut bytes = volume.unmount();
     put(&mut bytes, at, piece);
-    mount(alloc, edition, bytes)
+    mount(rt, alloc, edition, bytes)
 }
 
 /// Puts bytes at a place, as far as there is one.
@@ -125,10 +122,17 @@ fn check_at(rt: &impl Abort, volume: &Volume, place: usize, wanted: &[u8]) {
 }
 
 /// A copy of some bytes.
-fn copied(alloc: Global, bytes: &[u8]) -> Result<Bytes, Fail>
-    ensures { IfOk result (λ copy. copy ≡ bytes.now) }
+fn copied(rt: &impl Abort, alloc: Global, bytes: &[u8]) -> Vec<u8>
+    ensures { result.items ≡ bytes.now }
 {
-    Ok(Bytes::from_vec(Vec::from_slice(alloc, bytes)?))
+    Vec::from_slice(alloc, bytes).expect(rt, "memory for the bytes")
+}
+
+/// A path, or bytes that are written.
+fn bytes_of(rt: &impl Abort, alloc: Global, bytes: &[u8]) -> Bytes
+    ensures { result ≡ bytes.now }
+{
+    Bytes::from_vec(copied(rt, alloc, bytes))
 }
 
 /// A call that makes a file.
@@ -166,73 +170,91 @@ fn write(cred: Cred, path: Bytes, offset: u32, bytes: Bytes) -> Call {
 }
 
 /// A call in the name of a user.
-fn call_by(alloc: Global, cred: Cred, asked: Asked) -> Result<Call, Fail> {
+fn call_by(rt: &impl Abort, alloc: Global, cred: Cred, asked: Asked) -> Call {
     let now = LATER;
-    Ok(match asked {
-        Asked::Create(path, perm) => create(cred, copied(alloc, path)?, perm),
-        Asked::Mkdir(path, perm) => mkdir(cred, copied(alloc, path)?, perm),
+    match asked {
+        Asked::Create(path, perm) => create(cred, bytes_of(rt, alloc, path), perm),
+        Asked::Mkdir(path, perm) => mkdir(cred, bytes_of(rt, alloc, path), perm),
         Asked::Link(source, target) => Call::Link {
             cred,
             now,
-            source: copied(alloc, source)?,
-            target: copied(alloc, target)?,
+            source: bytes_of(rt, alloc, source),
+            target: bytes_of(rt, alloc, target),
         },
         Asked::Unlink(path) => {
-            let path = copied(alloc, path)?;
+            let path = bytes_of(rt, alloc, path);
             Call::Unlink { cred, now, path }
         }
         Asked::Rmdir(path) => {
-            let path = copied(alloc, path)?;
+            let path = bytes_of(rt, alloc, path);
             Call::Rmdir { cred, now, path }
         }
         Asked::Write(path, offset, bytes) => {
-            let path = copied(alloc, path)?;
-            write(cred, path, offset, copied(alloc, bytes)?)
+            let path = bytes_of(rt, alloc, path);
+            write(cred, path, offset, bytes_of(rt, alloc, bytes))
         }
         Asked::Fill(path, len, byte) => {
-            let path = copied(alloc, path)?;
-            write(cred, path, 0, Bytes::from_vec(vec![in alloc; byte; len]?))
+            let path = bytes_of(rt, alloc, path);
+            write(cred, path, 0, Bytes::from_vec(filled(rt, alloc, len, byte)))
         }
         Asked::Truncate(path) => {
-            let path = copied(alloc, path)?;
+            let path = bytes_of(rt, alloc, path);
             Call::Truncate { cred, now, path }
         }
-    })
+    }
+}
+
+/// So many of one byte.
+fn filled(rt: &impl Abort, alloc: Global, len: usize, byte: u8) -> Vec<u8> {
+    vec![in alloc; byte; len].expect(rt, "memory for the bytes")
+}
+
+/// The words that show a call.
+fn shown(rt: &impl Abort, alloc: Global, call: &Call) -> String {
+    format!(in alloc; "{call:?}").expect(rt, "memory for the words")
 }
 
 /// Makes a call in the name of a user, and answers what came of it. An accepted call is the journal's
 /// last, and its moment is the super-block's; a refused one leaves image and journal as they were, and
 /// comes back.
-fn make<A: Abort>(
-    rt: &A,
+fn make(
+    rt: &impl Abort,
     alloc: Global,
     volume: &mut Volume,
     cred: Cred,
     asked: Asked,
-) -> Result<Result<Done, Refusal>, Fail> {
-    let before = image_of(alloc, volume)?;
+) -> Result<Done, Refusal> {
+    let before = image_of(rt, alloc, volume);
     let len = volume.journal().len();
-    let call = call_by(alloc, cred, asked)?;
-    let shown = format!(in alloc; "{call:?}")?;
-    match volume.call(alloc, call) {
+    let call = call_by(rt, alloc, cred, asked);
+    let words = shown(rt, alloc, &call);
+    let (answer, added) = match volume.call(alloc, call) {
         Ok(done) => {
-            assert_eq!(rt; volume.journal().len().checked_sub(1), Some(len));
-            let Some(record) = volume.journal().last() else {
-                return Err(Fail::from("the call is in the journal"));
-            };
-            assert_eq!(rt; format!(in alloc; "{:?}", record.call)?, shown);
-            assert_eq!(rt; record.done, done);
-            let place = time_place(volume.edition());
-            check_at(rt, volume, place, b"\x02\x01\x04\x03");
-            Ok(Ok(done))
+            check_last(rt, alloc, volume, &words, done);
+            (Ok(done), 1)
         }
         Err((refusal, same)) => {
-            assert_eq!(rt; volume.journal().len(), len);
             assert_eq!(rt; volume.image().as_bytes(), before.as_slice());
-            assert_eq!(rt; format!(in alloc; "{same:?}")?, shown);
-            Ok(Err(refusal))
+            check_shown(rt, alloc, &same, &words);
+            (Err(refusal), 0)
         }
-    }
+    };
+    assert_eq!(rt; volume.journal().len().checked_sub(added), Some(len));
+    answer
+}
+
+/// The journal's last record is the call with these words, which was answered so, and the super-block has its moment.
+fn check_last(rt: &impl Abort, alloc: Global, volume: &Volume, words: &str, done: Done) {
+    let record = volume.journal().last().expect(rt, "a record");
+    check_shown(rt, alloc, &record.call, words);
+    assert_eq!(rt; record.done, done);
+    let place = time_place(volume.edition());
+    check_at(rt, volume, place, b"\x02\x01\x04\x03");
+}
+
+/// These words show a call.
+fn check_shown(rt: &impl Abort, alloc: Global, call: &Call, words: &str) {
+    assert_eq!(rt; shown(rt, alloc, call).as_str(), words);
 }
 
 /// Where the super-block's time stands.
@@ -244,141 +266,123 @@ fn time_place(edition: Edition) -> usize {
 }
 
 /// Takes the steps of a run, whose calls are in the name of a user.
-fn check_steps<A: Abort>(
-    rt: &A,
-    alloc: Global,
-    volume: &mut Volume,
-    cred: Cred,
-    steps: &[Step],
-) -> Result<(), Fail> {
+fn check_steps(rt: &impl Abort, alloc: Global, volume: &mut Volume, cred: Cred, steps: &[Step]) {
     for step in steps {
-        check_step(rt, alloc, volume, cred, step)?;
+        check_step(rt, alloc, volume, cred, step);
     }
-    Ok(())
 }
 
 /// Takes a step of a run.
-fn check_step<A: Abort>(
-    rt: &A,
-    alloc: Global,
-    volume: &mut Volume,
-    cred: Cred,
-    step: &Step,
-) -> Result<(), Fail> {
+fn check_step(rt: &impl Abort, alloc: Global, volume: &mut Volume, cred: Cred, step: &Step) {
     match step {
         Step::Call(asked, wanted) => {
-            let answer = make(rt, alloc, volume, cred, *asked)?;
+            let answer = make(rt, alloc, volume, cred, *asked);
             assert_eq!(rt; answer, *wanted, "{asked:?}");
         }
         Step::At(place, bytes) => check_at(rt, volume, *place, bytes),
         Step::All(place, len, byte) => {
-            let bytes = vec![in alloc; *byte; *len]?;
-            check_at(rt, volume, *place, &bytes);
+            check_at(rt, volume, *place, &filled(rt, alloc, *len, *byte));
         }
     }
-    Ok(())
 }
 
 /// Takes the steps of a run in the name of user 0, and then makes the journal again.
-fn check_run<A: Abort>(
-    rt: &A,
-    alloc: Global,
-    volume: &mut Volume,
-    steps: &[Step],
-) -> Result<(), Fail> {
-    check_steps(rt, alloc, volume, ROOT, steps)?;
-    check_replays(rt, alloc, volume)
+fn check_run(rt: &impl Abort, alloc: Global, volume: &mut Volume, steps: &[Step]) {
+    check_steps(rt, alloc, volume, ROOT, steps);
+    check_replays(rt, alloc, volume);
 }
 
 /// What user 0 is told of a node.
-fn stat(alloc: Global, volume: &Volume, path: &[u8]) -> Result<Stat, Fail> {
-    let path = copied(alloc, path)?;
+fn stat(rt: &impl Abort, alloc: Global, volume: &Volume, path: &[u8]) -> Stat {
+    let path = bytes_of(rt, alloc, path);
     match volume.ask(alloc, &Query::Stat { cred: ROOT, path }) {
-        Ok(Reply::Stat(told)) => Ok(told),
-        _ => Err(Fail::from("the path leads to a node")),
+        Ok(Reply::Stat(told)) => told,
+        _ => panic!(rt; "the path leads to a node"),
     }
 }
 
-/// What a user reads of a file.
-fn read(
+/// A user reads these bytes of a file, or may not.
+fn check_read(
+    rt: &impl Abort,
     alloc: Global,
     volume: &Volume,
-    cred: Cred,
-    path: &[u8],
-    offset: u32,
-    len: u32,
-) -> Result<Result<Bytes, Refusal>, Fail> {
-    let path = copied(alloc, path)?;
-    let query = Query::Read {
+    query: Query,
+    wanted: Result<&[u8], Refusal>,
+) {
+    match volume.ask(alloc, &query) {
+        Ok(Reply::Bytes(bytes)) => assert_eq!(rt; Ok(bytes.as_slice()), wanted),
+        Ok(_) => panic!(rt; "bytes are read"),
+        Err(refusal) => assert_eq!(rt; Err(refusal), wanted),
+    }
+}
+
+/// The question for bytes of a file.
+fn read(rt: &impl Abort, alloc: Global, cred: Cred, path: &[u8], offset: u32, len: u32) -> Query {
+    Query::Read {
         cred,
-        path,
+        path: bytes_of(rt, alloc, path),
         offset,
         len,
-    };
-    match volume.ask(alloc, &query) {
-        Ok(Reply::Bytes(bytes)) => Ok(Ok(bytes)),
-        Ok(_) => Err(Fail::from("bytes are read")),
-        Err(refusal) => Ok(Err(refusal)),
     }
 }
 
 /// The journal of a volume, made again on the bytes that were mounted, once by calls and once by its
 /// records, gives the same image and the same journal.
-fn check_replays<A: Abort>(rt: &A, alloc: Global, volume: &Volume) -> Result<(), Fail> {
-    let base = Vec::from_slice(alloc, volume.base())?;
-    let mut called = mount(alloc, volume.edition(), base)?;
+fn check_replays(rt: &impl Abort, alloc: Global, volume: &Volume) {
+    let mut called = base_of(rt, alloc, volume);
     for record in volume.journal() {
-        let call = copied_call(alloc, &record.call)?;
+        let call = copied_call(rt, alloc, &record.call);
         assert_eq!(rt; called.call(alloc, call).ok(), Some(record.done));
     }
-    check_same(rt, alloc, &called, volume)?;
-    check_redone(rt, alloc, volume)
+    check_same(rt, alloc, &called, volume);
+    check_redone(rt, alloc, volume);
 }
 
 /// The records of a volume, made again on the bytes that were mounted, give the same image and the same
 /// journal.
-fn check_redone<A: Abort>(rt: &A, alloc: Global, volume: &Volume) -> Result<(), Fail> {
-    let base = Vec::from_slice(alloc, volume.base())?;
-    let mut redone = mount(alloc, volume.edition(), base)?;
+fn check_redone(rt: &impl Abort, alloc: Global, volume: &Volume) {
+    let mut redone = base_of(rt, alloc, volume);
     for record in volume.journal() {
-        redo(alloc, &mut redone, record)?;
+        redo(rt, alloc, &mut redone, record);
     }
-    check_same(rt, alloc, &redone, volume)
+    check_same(rt, alloc, &redone, volume);
+}
+
+/// The bytes that were mounted as a volume, mounted once more.
+fn base_of(rt: &impl Abort, alloc: Global, volume: &Volume) -> Volume {
+    let bytes = copied(rt, alloc, volume.base());
+    mount(rt, alloc, volume.edition(), bytes)
 }
 
 /// Two volumes have the same bytes and the same journal.
-fn check_same<A: Abort>(rt: &A, alloc: Global, one: &Volume, other: &Volume) -> Result<(), Fail> {
+fn check_same(rt: &impl Abort, alloc: Global, one: &Volume, other: &Volume) {
     assert_eq!(rt; one.base(), other.base());
     assert_eq!(rt; one.image().as_bytes(), other.image().as_bytes());
-    let journal = format!(in alloc; "{:?}", other.journal())?;
-    assert_eq!(rt; format!(in alloc; "{:?}", one.journal())?, journal);
-    Ok(())
+    assert_eq!(rt; journal_of(rt, alloc, one), journal_of(rt, alloc, other));
+}
+
+/// The words that show a volume's journal.
+fn journal_of(rt: &impl Abort, alloc: Global, volume: &Volume) -> String {
+    format!(in alloc; "{:?}", volume.journal()).expect(rt, "memory for the words")
 }
 
 /// Makes a copy of a record, once it is shown that it may come next.
-fn redo(alloc: Global, volume: &mut Volume, entry: &Record) -> Result<(), Fail> {
-    show_legal(alloc, volume, entry)?;
-    let call = copied_call(alloc, &entry.call)?;
+fn redo(rt: &impl Abort, alloc: Global, volume: &mut Volume, entry: &Record) {
+    show_legal(rt, alloc, volume, entry);
+    let call = copied_call(rt, alloc, &entry.call);
     let done = entry.done;
-    match volume.redo(alloc, Record { call, done }) {
-        Ok(()) => Ok(()),
-        Err(_) => Err(Fail::from("there is memory")),
-    }
+    assert!(rt; volume.redo(alloc, Record { call, done }).is_ok());
 }
 
 /// Shows that a record may come next: a twin of the volume accepts its call, and may answer so.
-fn show_legal(alloc: Global, volume: &Volume, entry: &Record) -> Result<(), Fail>
-    ensures { IfOk result (λ _. MayFollow (reads_as volume.now.edition volume.now.image) entry.now) }
+fn show_legal(rt: &impl Abort, alloc: Global, volume: &Volume, entry: &Record)
+    ensures { MayFollow (reads_as volume.now.edition volume.now.image) entry.now }
 {
-    let mut twin = mount(alloc, volume.edition(), image_of(alloc, volume)?)?;
-    let call = copied_call(alloc, &entry.call)?;
-    let Ok(done) = twin.call(alloc, call) else {
-        return Err(Fail::from("the call is accepted"));
-    };
-    if !may_answer(volume, entry, done) {
-        return Err(Fail::from("the call may answer so"));
+    let mut twin = mount(rt, alloc, volume.edition(), image_of(rt, alloc, volume));
+    match twin.call(alloc, copied_call(rt, alloc, &entry.call)) {
+        Ok(done) => assert!(rt; may_answer(volume, entry, done)),
+        Err((refusal, _)) => panic!(rt; "{refusal:?}"),
     }
-    Ok(())
 }
 
 /// Whether a record has an answer that its call may have, where `done` is one.
@@ -409,19 +413,19 @@ fn is_free(volume: &Volume, number: u16) -> bool
 }
 
 /// A copy of a call.
-fn copied_call(alloc: Global, call: &Call) -> Result<Call, Fail>
-    ensures { IfOk result (λ copy. copy ≡ call.now) }
+fn copied_call(rt: &impl Abort, alloc: Global, call: &Call) -> Call
+    ensures { result ≡ call.now }
 {
-    Ok(match call {
+    match call {
         Call::Unlink { cred, now, path } => Call::Unlink {
             cred: *cred,
             now: *now,
-            path: copied(alloc, path.as_slice())?,
+            path: bytes_of(rt, alloc, path.as_slice()),
         },
         Call::Rmdir { cred, now, path } => Call::Rmdir {
             cred: *cred,
             now: *now,
-            path: copied(alloc, path.as_slice())?,
+            path: bytes_of(rt, alloc, path.as_slice()),
         },
         Call::Write {
             cred,
@@ -432,24 +436,24 @@ fn copied_call(alloc: Global, call: &Call) -> Result<Call, Fail>
         } => Call::Write {
             cred: *cred,
             now: *now,
-            path: copied(alloc, path.as_slice())?,
+            path: bytes_of(rt, alloc, path.as_slice()),
             offset: *offset,
-            bytes: copied(alloc, bytes.as_slice())?,
+            bytes: bytes_of(rt, alloc, bytes.as_slice()),
         },
         Call::Truncate { cred, now, path } => Call::Truncate {
             cred: *cred,
             now: *now,
-            path: copied(alloc, path.as_slice())?,
+            path: bytes_of(rt, alloc, path.as_slice()),
         },
-        _ => copied_making(alloc, call)?,
-    })
+        _ => copied_making(rt, alloc, call),
+    }
 }
 
 /// A copy of a call that makes a name.
-fn copied_making(alloc: Global, call: &Call) -> Result<Call, Fail>
-    ensures { IfOk result (λ copy. copy ≡ call.now) }
+fn copied_making(rt: &impl Abort, alloc: Global, call: &Call) -> Call
+    ensures { result ≡ call.now }
 {
-    Ok(match call {
+    match call {
         Call::Create {
             cred,
             now,
@@ -458,7 +462,7 @@ fn copied_making(alloc: Global, call: &Call) -> Result<Call, Fail>
         } => Call::Create {
             cred: *cred,
             now: *now,
-            path: copied(alloc, path.as_slice())?,
+            path: bytes_of(rt, alloc, path.as_slice()),
             perm: *perm,
         },
         Call::Mkdir {
@@ -469,7 +473,7 @@ fn copied_making(alloc: Global, call: &Call) -> Result<Call, Fail>
         } => Call::Mkdir {
             cred: *cred,
             now: *now,
-            path: copied(alloc, path.as_slice())?,
+            path: bytes_of(rt, alloc, path.as_slice()),
             perm: *perm,
         },
         Call::Link {
@@ -480,9 +484,9 @@ fn copied_making(alloc: Global, call: &Call) -> Result<Call, Fail>
         } => Call::Link {
             cred: *cred,
             now: *now,
-            source: copied(alloc, source.as_slice())?,
-            target: copied(alloc, target.as_slice())?,
+            source: bytes_of(rt, alloc, source.as_slice()),
+            target: bytes_of(rt, alloc, target.as_slice()),
         },
-        _ => return Err(Fail::from("the call makes a name")),
-    })
+        _ => panic!(rt; "the call makes a name"),
+    }
 }

@@ -1,11 +1,11 @@
 // Each of the twelve rules broken in both editions, beside images next to them that are sound; where two are broken
 // the lesser is named.
-use super::{MountFault, Volume};
+use super::MountFault;
+use super::tests::mount_and_unmount;
 use crate::{judge, mkfs};
 use pdp_words::Image;
 use std::alloc::Global;
 use std::process::Abort;
-use std::test::Fail;
 use vol_layout::Edition;
 
 /// Bytes that are put at a place.
@@ -356,72 +356,50 @@ fn put_pieces(bytes: &mut [u8], pieces: &[Piece]) {
 }
 
 /// Mounts and judges the volume of a row, and compares what is answered.
-fn check_row<A: Abort>(
-    rt: &A,
-    alloc: Global,
-    edition: Edition,
-    blocks: u32,
-    row: &Row,
-) -> Result<(), Fail> {
-    let mut bytes = mkfs(alloc, edition, blocks, 2, 0, 0, 0x0A0B_0C0D)?;
+fn check_row(rt: &impl Abort, alloc: Global, edition: Edition, blocks: u32, row: &Row) {
+    let mut bytes = mkfs(alloc, edition, blocks, 2, 0, 0, 0x0A0B_0C0D).expect(rt, "a new volume");
     put_pieces(&mut bytes, row.pieces);
-    let same = Vec::from_slice(alloc, &bytes)?;
+    let same = Vec::from_slice(alloc, &bytes).expect(rt, "memory for the bytes");
     let image = Image::from_bytes(bytes);
+    check_judged(rt, alloc, edition, &image, row);
+    let (fault, after) = mount_and_unmount(alloc, edition, image.into_bytes());
+    assert_eq!(rt; fault, row.rule.map(MountFault::Unsound), "{}", row.label);
+    assert_eq!(rt; after, same, "{}", row.label);
+}
+
+/// Judges the volume of a row, the free list asked and not, and compares what is answered.
+fn check_judged(rt: &impl Abort, alloc: Global, edition: Edition, image: &Image, row: &Row) {
+    let rule = judge(alloc, edition, image, true).expect(rt, "memory");
+    assert_eq!(rt; rule, row.rule, "{}", row.label);
+    let without_free = judge(alloc, edition, image, false).expect(rt, "memory");
     assert_eq!(rt;
-        judge(alloc, edition, &image, true)?,
-        row.rule,
-        "{}",
-        row.label
-    );
-    assert_eq!(rt;
-        judge(alloc, edition, &image, false)?,
+        without_free,
         row.without_free,
         "{}, the free list not asked",
         row.label
     );
-    match Volume::mount(alloc, edition, image.into_bytes()) {
-        Ok(volume) => {
-            assert_eq!(rt; row.rule, None, "{}", row.label);
-            assert_eq!(rt; volume.unmount(), same, "{}", row.label);
-        }
-        Err((fault, bytes)) => {
-            assert_eq!(rt;
-                Some(fault),
-                row.rule.map(MountFault::Unsound),
-                "{}",
-                row.label
-            );
-            assert_eq!(rt; bytes, same, "{}", row.label);
-        }
-    }
-    Ok(())
 }
 
 #[test]
-fn the_least_broken_rule_of_the_sixth_edition(rt: HostRuntime) -> Result<(), Fail> {
+fn the_least_broken_rule_of_the_sixth_edition(rt: HostRuntime) {
     for row in SIXTH.iter().chain(&SEVERAL) {
-        check_row(&rt, rt.alloc(), Edition::V6, 20, row)?;
+        check_row(&rt, rt.alloc(), Edition::V6, 20, row);
     }
-    Ok(())
 }
 
 #[test]
-fn the_least_broken_rule_of_the_seventh_edition(rt: HostRuntime) -> Result<(), Fail> {
+fn the_least_broken_rule_of_the_seventh_edition(rt: HostRuntime) {
     for row in &SEVENTH {
-        check_row(&rt, rt.alloc(), Edition::V7, 100, row)?;
+        check_row(&rt, rt.alloc(), Edition::V7, 100, row);
     }
-    Ok(())
 }
 
 #[test]
-fn a_volume_without_its_last_byte_is_short(rt: HostRuntime) -> Result<(), Fail> {
+fn a_volume_without_its_last_byte_is_short(rt: HostRuntime) {
     for (edition, blocks) in [(Edition::V6, 20), (Edition::V7, 100)] {
-        let mut bytes = mkfs(rt.alloc(), edition, blocks, 2, 0, 0, 0)?;
+        let mut bytes = mkfs(rt.alloc(), edition, blocks, 2, 0, 0, 0).expect(&rt, "a new volume");
         bytes.pop();
-        let Err((fault, _)) = Volume::mount(rt.alloc(), edition, bytes) else {
-            return Err(Fail::from("the last byte is missing"));
-        };
-        assert_eq!(rt; fault, MountFault::Unsound(1));
+        let (fault, _) = mount_and_unmount(rt.alloc(), edition, bytes);
+        assert_eq!(rt; fault, Some(MountFault::Unsound(1)));
     }
-    Ok(())
 }

@@ -2,6 +2,7 @@
 use super::{MountFault, Volume};
 use crate::mkfs;
 use std::alloc::Global;
+use std::process::Abort;
 use std::test::Fail;
 use vol_layout::Edition;
 
@@ -33,10 +34,9 @@ fn bytes_past_the_volume_are_kept(rt: HostRuntime) -> Result<(), Fail> {
     let mut bytes = mkfs(alloc, Edition::V6, 20, 2, 0, 0, NOW)?;
     bytes.extend_from_slice(&[1, 2, 3])?;
     let same = Vec::from_slice(alloc, &bytes)?;
-    let Ok(volume) = Volume::mount(alloc, Edition::V6, bytes) else {
-        return Err(Fail::from("the volume is sound"));
-    };
-    assert_eq!(rt; volume.unmount(), same);
+    let (fault, after) = mount_and_unmount(alloc, Edition::V6, bytes);
+    assert_eq!(rt; fault, None);
+    assert_eq!(rt; after, same);
     Ok(())
 }
 
@@ -71,53 +71,52 @@ static BROKEN: [(Edition, u32, usize, u8, Option<u8>); 13] = [
 ];
 
 #[test]
-fn the_least_rule_that_fails_is_named(rt: HostRuntime) -> Result<(), Fail> {
+fn the_least_rule_that_fails_is_named(rt: HostRuntime) {
     let alloc = rt.alloc();
     for (edition, blocks, at, byte, wanted) in &BROKEN {
-        let bytes = changed(alloc, *edition, *blocks, *at, *byte)?;
-        let same = Vec::from_slice(alloc, &bytes)?;
-        match Volume::mount(alloc, *edition, bytes) {
-            Ok(volume) => {
-                assert_eq!(rt; *wanted, None, "byte {at}");
-                assert_eq!(rt; volume.unmount(), same);
-            }
-            Err((fault, bytes)) => {
-                assert_eq!(rt; Some(fault), wanted.map(MountFault::Unsound), "byte {at}");
-                assert_eq!(rt; bytes, same);
-            }
-        }
+        let bytes = changed(&rt, alloc, *edition, *blocks, *at, *byte);
+        let same = Vec::from_slice(alloc, &bytes).expect(&rt, "memory for the bytes");
+        let (fault, after) = mount_and_unmount(alloc, *edition, bytes);
+        assert_eq!(rt; fault, wanted.map(MountFault::Unsound), "byte {at}");
+        assert_eq!(rt; after, same, "byte {at}");
     }
-    Ok(())
 }
 
 /// A new volume in which one byte is another.
 fn changed(
+    rt: &impl Abort,
     alloc: Global,
     edition: Edition,
     blocks: u32,
     at: usize,
     byte: u8,
-) -> Result<Vec<u8>, Fail> {
-    let mut bytes = mkfs(alloc, edition, blocks, 2, 0, 0, NOW)?;
-    match bytes.get_mut(at) {
-        Some(place) => *place = byte,
-        None => return Err(Fail::from("the byte is within the volume")),
+) -> Vec<u8> {
+    let mut bytes = mkfs(alloc, edition, blocks, 2, 0, 0, NOW).expect(rt, "a new volume");
+    *bytes.get_mut(at).expect(rt, "a byte of the volume") = byte;
+    bytes
+}
+
+/// Mounts bytes, and answers the fault, where there is one, and the bytes that come back.
+pub(super) fn mount_and_unmount(
+    alloc: Global,
+    edition: Edition,
+    bytes: Vec<u8>,
+) -> (Option<MountFault>, Vec<u8>) {
+    match Volume::mount(alloc, edition, bytes) {
+        Ok(volume) => (None, volume.unmount()),
+        Err((fault, bytes)) => (Some(fault), bytes),
     }
-    Ok(bytes)
 }
 
 #[test]
-fn short_bytes_are_no_volume(rt: HostRuntime) -> Result<(), Fail> {
+fn short_bytes_are_no_volume(rt: HostRuntime) {
     let alloc = rt.alloc();
     for (len, wanted) in [(0, 1), (511, 1), (1023, 1), (1024, 2)] {
-        let bytes = vec![in alloc; 0; len]?;
-        let Err((fault, bytes)) = Volume::mount(alloc, Edition::V6, bytes) else {
-            return Err(Fail::from("zeros are no volume"));
-        };
-        assert_eq!(rt; fault, MountFault::Unsound(wanted), "{len} bytes");
-        assert_eq!(rt; bytes.len(), len);
+        let bytes = vec![in alloc; 0; len].expect(&rt, "memory for the bytes");
+        let (fault, after) = mount_and_unmount(alloc, Edition::V6, bytes);
+        assert_eq!(rt; fault, Some(MountFault::Unsound(wanted)), "{len} bytes");
+        assert_eq!(rt; after.len(), len);
     }
-    Ok(())
 }
 
 #[test]

@@ -1,21 +1,25 @@
 // Directories: names that come and go, their i-numbers, and the paths that lead to them.
 use super::Asked::{Create, Fill, Link, Mkdir, Rmdir, Truncate, Unlink, Write};
 use super::Step::{self, All, At, Call};
-use super::{LATER, ROOT, check_run, check_steps, copied, make, new_volume, sixth, stat};
+use super::{LATER, ROOT, bytes_of, check_run, check_steps, make, new_volume, sixth, stat};
 use crate::Done::{Made, Plain, Wrote};
-use crate::{Query, Reply, Volume};
-use std::alloc::Global;
-use std::test::Fail;
+use crate::{Listing, Query, Reply, Stat, Volume};
+use std::alloc::{AllocError, Global};
+use std::process::Abort;
 use vol_dir::Refusal;
 use vol_layout::{Edition, Kind};
 
 /// The names that a directory is listed with, each with the low byte of its i-number behind it.
-fn names(alloc: Global, volume: &Volume, path: &[u8]) -> Result<Vec<u8>, Fail> {
-    let path = copied(alloc, path)?;
-    let query = Query::List { cred: ROOT, path };
-    let Ok(Reply::Names(names)) = volume.ask(alloc, &query) else {
-        return Err(Fail::from("the directory is listed"));
-    };
+fn names(rt: &impl Abort, alloc: Global, volume: &Volume, path: &[u8]) -> Vec<u8> {
+    let path = bytes_of(rt, alloc, path);
+    match volume.ask(alloc, &Query::List { cred: ROOT, path }) {
+        Ok(Reply::Names(names)) => with_numbers(alloc, &names).expect(rt, "memory for the names"),
+        _ => panic!(rt; "the directory is listed"),
+    }
+}
+
+/// Names, each with the low byte of its i-number behind it.
+fn with_numbers(alloc: Global, names: &Listing) -> Result<Vec<u8>, AllocError> {
     let mut told = Vec::new(alloc);
     for (name, i) in names.as_slice() {
         told.extend_from_slice(name.as_slice())?;
@@ -61,16 +65,15 @@ static GOING: [Step; 17] = [
 ];
 
 #[test]
-fn a_directory_comes_and_goes(rt: HostRuntime) -> Result<(), Fail> {
+fn a_directory_comes_and_goes(rt: HostRuntime) {
     let alloc = rt.alloc();
-    let mut volume = sixth(alloc)?;
-    check_run(&rt, alloc, &mut volume, &COMING)?;
-    let listed = names(alloc, &volume, b"/d")?;
+    let mut volume = sixth(&rt, alloc);
+    check_run(&rt, alloc, &mut volume, &COMING);
+    let listed = names(&rt, alloc, &volume, b"/d");
     assert_eq!(rt; listed.as_slice(), b".\x20..\x01f\x1F".as_slice());
-    check_run(&rt, alloc, &mut volume, &GOING)?;
-    let listed = names(alloc, &volume, b"/")?;
+    check_run(&rt, alloc, &mut volume, &GOING);
+    let listed = names(&rt, alloc, &volume, b"/");
     assert_eq!(rt; listed.as_slice(), b".\x01..\x01".as_slice());
-    Ok(())
 }
 
 static LONG_PATHS: [Step; 8] = [
@@ -85,14 +88,13 @@ static LONG_PATHS: [Step; 8] = [
 ];
 
 #[test]
-fn long_paths_lead_to_the_same_node(rt: HostRuntime) -> Result<(), Fail> {
+fn long_paths_lead_to_the_same_node(rt: HostRuntime) {
     let alloc = rt.alloc();
-    let mut volume = sixth(alloc)?;
-    check_run(&rt, alloc, &mut volume, &LONG_PATHS)?;
-    let found = stat(alloc, &volume, b"//d///abcdefghijklmnop/")?;
+    let mut volume = sixth(&rt, alloc);
+    check_run(&rt, alloc, &mut volume, &LONG_PATHS);
+    let found = stat(&rt, alloc, &volume, b"//d///abcdefghijklmnop/");
     assert_eq!(rt; found.number, 31);
-    assert_eq!(rt; stat(alloc, &volume, b"")?.number, 1);
-    Ok(())
+    assert_eq!(rt; stat(&rt, alloc, &volume, b"").number, 1);
 }
 
 static WITHOUT_NUMBERS: [Step; 4] = [
@@ -103,15 +105,15 @@ static WITHOUT_NUMBERS: [Step; 4] = [
 ];
 
 #[test]
-fn i_numbers_come_down_until_none_is_left(rt: HostRuntime) -> Result<(), Fail> {
+fn i_numbers_come_down_until_none_is_left(rt: HostRuntime) {
     let alloc = rt.alloc();
-    let mut volume = new_volume(alloc, Edition::V6, 20, 1)?;
+    let mut volume = new_volume(&rt, alloc, Edition::V6, 20, 1);
     for number in (2..17_u16).rev() {
         let path = [b'f', number as u8];
-        let answer = make(&rt, alloc, &mut volume, ROOT, Create(&path, 0o644))?;
+        let answer = make(&rt, alloc, &mut volume, ROOT, Create(&path, 0o644));
         assert_eq!(rt; answer, Ok(Made(number)));
     }
-    check_run(&rt, alloc, &mut volume, &WITHOUT_NUMBERS)
+    check_run(&rt, alloc, &mut volume, &WITHOUT_NUMBERS);
 }
 
 // The root has 528 bytes in blocks 4 and 18 then, and the new directory 32 in block 19.
@@ -132,16 +134,21 @@ static GROWN: [Step; 13] = [
 ];
 
 #[test]
-fn a_directory_grows_by_a_block(rt: HostRuntime) -> Result<(), Fail> {
+fn a_directory_grows_by_a_block(rt: HostRuntime) {
     let alloc = rt.alloc();
-    let mut volume = sixth(alloc)?;
+    let mut volume = sixth(&rt, alloc);
     for n in 1..31_u8 {
         let path = [b'/', b'f', b'0' + n / 10, b'0' + n % 10];
-        let answer = make(&rt, alloc, &mut volume, ROOT, Create(&path, 0o644))?;
+        let answer = make(&rt, alloc, &mut volume, ROOT, Create(&path, 0o644));
         assert_eq!(rt; answer, Ok(Made(33 - u16::from(n))));
     }
-    assert_eq!(rt; stat(alloc, &volume, b"/")?.size, 512);
-    check_run(&rt, alloc, &mut volume, &GROWN)
+    assert_eq!(rt; stat(&rt, alloc, &volume, b"/").size, 512);
+    check_run(&rt, alloc, &mut volume, &GROWN);
+}
+
+/// Two letters that number `n` alone has, as `aa` and `ab`.
+fn letters(n: u8) -> [u8; 2] {
+    [b'a' + n / 26, b'a' + n % 26]
 }
 
 static ONE_NAME: [Step; 1] = [Call(Create(b"/f", 0o644), Ok(Made(32)))];
@@ -154,17 +161,17 @@ static MOST_NAMES: [Step; 4] = [
 ];
 
 #[test]
-fn a_file_has_up_to_127_names(rt: HostRuntime) -> Result<(), Fail> {
+fn a_file_has_up_to_127_names(rt: HostRuntime) {
     let alloc = rt.alloc();
-    let mut volume = sixth(alloc)?;
-    check_steps(&rt, alloc, &mut volume, ROOT, &ONE_NAME)?;
+    let mut volume = sixth(&rt, alloc);
+    check_steps(&rt, alloc, &mut volume, ROOT, &ONE_NAME);
     for n in 0..126_u8 {
-        let name = [b'a' + n / 26, b'a' + n % 26];
-        let answer = make(&rt, alloc, &mut volume, ROOT, Link(b"/f", &name))?;
+        let name = letters(n);
+        let answer = make(&rt, alloc, &mut volume, ROOT, Link(b"/f", &name));
         assert_eq!(rt; answer, Ok(Plain), "name {n}");
     }
-    assert_eq!(rt; stat(alloc, &volume, b"/f")?.links, 127);
-    check_run(&rt, alloc, &mut volume, &MOST_NAMES)
+    assert_eq!(rt; stat(&rt, alloc, &volume, b"/f").links, 127);
+    check_run(&rt, alloc, &mut volume, &MOST_NAMES);
 }
 
 static NO_DIRECTORY: [Step; 1] = [Call(Mkdir(b"/d", 0o755), Ok(Made(101)))];
@@ -178,19 +185,20 @@ static MOST_DIRECTORIES: [Step; 5] = [
 ];
 
 #[test]
-fn a_directory_has_up_to_125_directories(rt: HostRuntime) -> Result<(), Fail> {
+fn a_directory_has_up_to_125_directories(rt: HostRuntime) {
     let alloc = rt.alloc();
-    let mut volume = new_volume(alloc, Edition::V6, 200, 10)?;
-    check_steps(&rt, alloc, &mut volume, ROOT, &NO_DIRECTORY)?;
+    let mut volume = new_volume(&rt, alloc, Edition::V6, 200, 10);
+    check_steps(&rt, alloc, &mut volume, ROOT, &NO_DIRECTORY);
     for n in 0..125_u8 {
-        let path = [b'd', b'/', b'a' + n / 26, b'a' + n % 26];
-        let answer = make(&rt, alloc, &mut volume, ROOT, Mkdir(&path, 0o755))?;
+        let [first, second] = letters(n);
+        let path = [b'd', b'/', first, second];
+        let answer = make(&rt, alloc, &mut volume, ROOT, Mkdir(&path, 0o755));
         // The i-numbers of the first hundred i-nodes are cached first, and then the others.
         let number = if n < 99 { 100 } else { 259 } - u16::from(n);
         assert_eq!(rt; answer, Ok(Made(number)));
     }
-    assert_eq!(rt; stat(alloc, &volume, b"/d")?.links, 127);
-    check_run(&rt, alloc, &mut volume, &MOST_DIRECTORIES)
+    assert_eq!(rt; stat(&rt, alloc, &volume, b"/d").links, 127);
+    check_run(&rt, alloc, &mut volume, &MOST_DIRECTORIES);
 }
 
 static TWO_NAMES: [Step; 5] = [
@@ -209,20 +217,23 @@ static LAST_NAME: [Step; 4] = [
 ];
 
 #[test]
-fn a_file_lives_until_its_last_name_goes(rt: HostRuntime) -> Result<(), Fail> {
+fn a_file_lives_until_its_last_name_goes(rt: HostRuntime) {
     let alloc = rt.alloc();
     for (edition, list_blocks) in [(Edition::V6, 1), (Edition::V7, 2)] {
-        let mut volume = new_volume(alloc, edition, 100, list_blocks)?;
-        check_run(&rt, alloc, &mut volume, &TWO_NAMES)?;
-        let told = stat(alloc, &volume, b"/g")?;
-        assert_eq!(rt; told.number, 16);
-        assert_eq!(rt; told.kind, Kind::Regular);
-        assert_eq!(rt; told.permissions, 0o640);
-        assert_eq!(rt; told.links, 1);
-        assert_eq!(rt; told.size, 5);
-        assert_eq!(rt; told.modified, LATER);
-        check_run(&rt, alloc, &mut volume, &LAST_NAME)?;
-        assert_eq!(rt; stat(alloc, &volume, b"/h")?.size, 0);
+        let mut volume = new_volume(&rt, alloc, edition, 100, list_blocks);
+        check_run(&rt, alloc, &mut volume, &TWO_NAMES);
+        let told = stat(&rt, alloc, &volume, b"/g");
+        let wanted = Stat {
+            number: 16,
+            kind: Kind::Regular,
+            permissions: 0o640,
+            links: 1,
+            size: 5,
+            modified: LATER,
+            ..told
+        };
+        assert_eq!(rt; told, wanted);
+        check_run(&rt, alloc, &mut volume, &LAST_NAME);
+        assert_eq!(rt; stat(&rt, alloc, &volume, b"/h").size, 0);
     }
-    Ok(())
 }

@@ -1,9 +1,10 @@
 // Files: the blocks that writes take, where they are named, and what is read back.
 use super::Asked::{Create, Fill, Truncate, Write};
 use super::Step::{self, All, At, Call};
-use super::{ROOT, check_run, check_steps, edited, new_volume, read, seventh, sixth, stat};
+use super::{
+    ROOT, check_read, check_run, check_steps, edited, new_volume, read, seventh, sixth, stat,
+};
 use crate::Done::{Made, Plain, Wrote};
-use std::test::Fail;
 use vol_dir::Refusal;
 use vol_layout::Edition;
 
@@ -31,12 +32,11 @@ static MADE_LARGE: [Step; 12] = [
 ];
 
 #[test]
-fn a_write_past_block_7_makes_a_small_file_large(rt: HostRuntime) -> Result<(), Fail> {
+fn a_write_past_block_7_makes_a_small_file_large(rt: HostRuntime) {
     let alloc = rt.alloc();
-    let mut volume = sixth(alloc)?;
-    check_run(&rt, alloc, &mut volume, &MADE_LARGE)?;
-    assert_eq!(rt; stat(alloc, &volume, b"/f")?.size, 4097);
-    Ok(())
+    let mut volume = sixth(&rt, alloc);
+    check_run(&rt, alloc, &mut volume, &MADE_LARGE);
+    assert_eq!(rt; stat(&rt, alloc, &volume, b"/f").size, 4097);
 }
 
 // Twelve blocks of bytes and the one that names them leave a block less than are needed.
@@ -61,10 +61,10 @@ static WITH_TWO_LEFT: [Step; 8] = [
 ];
 
 #[test]
-fn a_write_takes_all_blocks_or_none(rt: HostRuntime) -> Result<(), Fail> {
+fn a_write_takes_all_blocks_or_none(rt: HostRuntime) {
     let alloc = rt.alloc();
-    check_run(&rt, alloc, &mut sixth(alloc)?, &WITH_ONE_LEFT)?;
-    check_run(&rt, alloc, &mut sixth(alloc)?, &WITH_TWO_LEFT)
+    check_run(&rt, alloc, &mut sixth(&rt, alloc), &WITH_ONE_LEFT);
+    check_run(&rt, alloc, &mut sixth(&rt, alloc), &WITH_TWO_LEFT);
 }
 
 static FAR_WRITE: [Step; 10] = [
@@ -82,9 +82,9 @@ static FAR_WRITE: [Step; 10] = [
 ];
 
 #[test]
-fn a_first_write_may_lie_far_in_a_large_file(rt: HostRuntime) -> Result<(), Fail> {
+fn a_first_write_may_lie_far_in_a_large_file(rt: HostRuntime) {
     let alloc = rt.alloc();
-    check_run(&rt, alloc, &mut sixth(alloc)?, &FAR_WRITE)
+    check_run(&rt, alloc, &mut sixth(&rt, alloc), &FAR_WRITE);
 }
 
 static TWO_INDIRECT: [Step; 10] = [
@@ -105,9 +105,9 @@ static TWO_INDIRECT: [Step; 10] = [
 ];
 
 #[test]
-fn a_byte_behind_two_indirect_blocks(rt: HostRuntime) -> Result<(), Fail> {
+fn a_byte_behind_two_indirect_blocks(rt: HostRuntime) {
     let alloc = rt.alloc();
-    check_run(&rt, alloc, &mut seventh(alloc)?, &TWO_INDIRECT)
+    check_run(&rt, alloc, &mut seventh(&rt, alloc), &TWO_INDIRECT);
 }
 
 static LAST_BYTE: [Step; 13] = [
@@ -128,12 +128,11 @@ static LAST_BYTE: [Step; 13] = [
 ];
 
 #[test]
-fn the_last_byte_of_the_greatest_file(rt: HostRuntime) -> Result<(), Fail> {
+fn the_last_byte_of_the_greatest_file(rt: HostRuntime) {
     let alloc = rt.alloc();
-    let mut volume = seventh(alloc)?;
-    check_run(&rt, alloc, &mut volume, &LAST_BYTE)?;
-    assert_eq!(rt; stat(alloc, &volume, b"/f")?.size, GREATEST);
-    Ok(())
+    let mut volume = seventh(&rt, alloc);
+    check_run(&rt, alloc, &mut volume, &LAST_BYTE);
+    assert_eq!(rt; stat(&rt, alloc, &volume, b"/f").size, GREATEST);
 }
 
 static WITHIN_A_BLOCK: [Step; 2] = [
@@ -147,21 +146,17 @@ static PAST_THE_END: [Step; 2] = [
 ];
 
 #[test]
-fn bytes_behind_the_end_are_never_seen(rt: HostRuntime) -> Result<(), Fail> {
+fn bytes_behind_the_end_are_never_seen(rt: HostRuntime) {
     let alloc = rt.alloc();
-    let mut first = sixth(alloc)?;
-    check_run(&rt, alloc, &mut first, &WITHIN_A_BLOCK)?;
-    let behind = vec![in alloc; 0x7F; 412]?;
-    let mut volume = edited(alloc, first, 2660, &behind)?;
-    check_run(&rt, alloc, &mut volume, &PAST_THE_END)?;
-    assert_eq!(rt; stat(alloc, &volume, b"/a")?.size, 201);
-    let Ok(bytes) = read(alloc, &volume, ROOT, b"/a", 100, 101)? else {
-        return Err(Fail::from("the file is read"));
-    };
-    let mut wanted = vec![in alloc; 0; 100]?;
-    wanted.push(1)?;
-    assert_eq!(rt; bytes.as_slice(), wanted.as_slice());
-    Ok(())
+    let mut first = sixth(&rt, alloc);
+    check_run(&rt, alloc, &mut first, &WITHIN_A_BLOCK);
+    let mut volume = edited(&rt, alloc, first, 2660, &[0x7F; 412]);
+    check_run(&rt, alloc, &mut volume, &PAST_THE_END);
+    assert_eq!(rt; stat(&rt, alloc, &volume, b"/a").size, 201);
+    let mut wanted = [0; 101];
+    wanted[100] = 1;
+    let query = read(&rt, alloc, ROOT, b"/a", 100, 101);
+    check_read(&rt, alloc, &volume, query, Ok(&wanted));
 }
 
 static A_FILE: [Step; 1] = [Call(Create(b"/f", 0o600), Ok(Made(16)))];
@@ -173,17 +168,16 @@ static NO_BYTES: [Step; 2] = [
 ];
 
 #[test]
-fn a_write_of_no_bytes_is_recorded(rt: HostRuntime) -> Result<(), Fail> {
+fn a_write_of_no_bytes_is_recorded(rt: HostRuntime) {
     let alloc = rt.alloc();
     for (edition, list_blocks) in [(Edition::V6, 1), (Edition::V7, 2)] {
-        let mut volume = new_volume(alloc, edition, 100, list_blocks)?;
-        check_steps(&rt, alloc, &mut volume, ROOT, &A_FILE)?;
-        let before = stat(alloc, &volume, b"/f")?;
-        check_run(&rt, alloc, &mut volume, &NO_BYTES)?;
-        assert_eq!(rt; stat(alloc, &volume, b"/f")?, before);
+        let mut volume = new_volume(&rt, alloc, edition, 100, list_blocks);
+        check_steps(&rt, alloc, &mut volume, ROOT, &A_FILE);
+        let before = stat(&rt, alloc, &volume, b"/f");
+        check_run(&rt, alloc, &mut volume, &NO_BYTES);
+        assert_eq!(rt; stat(&rt, alloc, &volume, b"/f"), before);
         assert_eq!(rt; volume.journal().len(), 3);
     }
-    Ok(())
 }
 
 static EMPTIED: [Step; 8] = [
@@ -198,7 +192,7 @@ static EMPTIED: [Step; 8] = [
 ];
 
 #[test]
-fn an_emptied_file_gives_its_blocks_back(rt: HostRuntime) -> Result<(), Fail> {
+fn an_emptied_file_gives_its_blocks_back(rt: HostRuntime) {
     let alloc = rt.alloc();
-    check_run(&rt, alloc, &mut sixth(alloc)?, &EMPTIED)
+    check_run(&rt, alloc, &mut sixth(&rt, alloc), &EMPTIED);
 }

@@ -1,10 +1,11 @@
 // What is refused to whom.
-use super::Asked::{Create, Link, Mkdir, Rmdir, Truncate, Unlink, Write};
+use super::Asked::{self, Create, Link, Mkdir, Rmdir, Truncate, Unlink, Write};
 use super::Step::{self, Call};
-use super::{ROOT, check_replays, check_run, check_steps, new_volume, read, sixth};
+use super::{
+    ROOT, check_read, check_replays, check_run, check_steps, make, new_volume, read, sixth,
+};
 use crate::Done::{Made, Plain, Wrote};
-use crate::{MountFault, Volume, mkfs};
-use std::test::Fail;
+use crate::{Done, MountFault, Volume, mkfs};
 use vol_dir::{Cred, Refusal};
 use vol_layout::Edition;
 
@@ -17,32 +18,35 @@ const MEMBER: Cred = Cred { uid: 6, gid: 7 };
 /// A user of another group.
 const OTHER: Cred = Cred { uid: 6, gid: 6 };
 
-static MADE: [Step; 1] = [Call(Create(b"/f", 0o047), Ok(Made(32)))];
+static BY_CLASS: [(Cred, Asked, Result<Done, Refusal>); 6] = [
+    (OWNER, Create(b"/f", 0o047), Ok(Made(32))),
+    (OWNER, Write(b"/f", 0, b"xyz"), Err(Refusal::Access)),
+    (OWNER, Truncate(b"/f"), Err(Refusal::Access)),
+    (MEMBER, Write(b"/f", 0, b"xyz"), Err(Refusal::Access)),
+    (MEMBER, Truncate(b"/f"), Err(Refusal::Access)),
+    (OTHER, Write(b"/f", 0, b"abc"), Ok(Wrote(3))),
+];
 
-static WROTE: [Step; 1] = [Call(Write(b"/f", 0, b"abc"), Ok(Wrote(3)))];
-
-static DENIED: [Step; 2] = [
-    Call(Write(b"/f", 0, b"xyz"), Err(Refusal::Access)),
-    Call(Truncate(b"/f"), Err(Refusal::Access)),
+static READ_BY_CLASS: [(Cred, Result<&[u8], Refusal>); 4] = [
+    (OWNER, Err(Refusal::Access)),
+    (MEMBER, Ok(b"abc")),
+    (OTHER, Ok(b"abc")),
+    (ROOT, Ok(b"abc")),
 ];
 
 #[test]
-fn the_class_of_a_user_decides(rt: HostRuntime) -> Result<(), Fail> {
+fn the_class_of_a_user_decides(rt: HostRuntime) {
     let alloc = rt.alloc();
-    let mut volume = sixth(alloc)?;
-    check_steps(&rt, alloc, &mut volume, OWNER, &MADE)?;
-    check_steps(&rt, alloc, &mut volume, OWNER, &DENIED)?;
-    check_steps(&rt, alloc, &mut volume, MEMBER, &DENIED)?;
-    check_steps(&rt, alloc, &mut volume, OTHER, &WROTE)?;
-    let denied = read(alloc, &volume, OWNER, b"/f", 0, 9)?;
-    assert_eq!(rt; denied.err(), Some(Refusal::Access));
-    for cred in [MEMBER, OTHER, ROOT] {
-        let Ok(bytes) = read(alloc, &volume, cred, b"/f", 0, 9)? else {
-            return Err(Fail::from("the user may read"));
-        };
-        assert_eq!(rt; bytes.as_slice(), b"abc".as_slice());
+    let mut volume = sixth(&rt, alloc);
+    for (cred, asked, wanted) in &BY_CLASS {
+        let answer = make(&rt, alloc, &mut volume, *cred, *asked);
+        assert_eq!(rt; answer, *wanted, "{asked:?} of {cred:?}");
     }
-    check_replays(&rt, alloc, &volume)
+    for (cred, wanted) in &READ_BY_CLASS {
+        let query = read(&rt, alloc, *cred, b"/f", 0, 9);
+        check_read(&rt, alloc, &volume, query, *wanted);
+    }
+    check_replays(&rt, alloc, &volume);
 }
 
 static BY_A_KNOWN_USER: [Step; 1] = [Call(Mkdir(b"/d/e", 0o755), Err(Refusal::NoEntry))];
@@ -60,21 +64,20 @@ static BY_AN_UNKNOWN_USER: [Step; 8] = [
 ];
 
 #[test]
-fn users_and_groups_have_limits(rt: HostRuntime) -> Result<(), Fail> {
+fn users_and_groups_have_limits(rt: HostRuntime) {
     let alloc = rt.alloc();
     for (edition, known, unknown) in [(Edition::V6, 255, 256), (Edition::V7, 32_767, 32_768)] {
-        let mut volume = new_volume(alloc, edition, 100, 2)?;
+        let mut volume = new_volume(&rt, alloc, edition, 100, 2);
         for (uid, gid) in [(known, 0), (0, known), (known, known)] {
             let cred = Cred { uid, gid };
-            check_steps(&rt, alloc, &mut volume, cred, &BY_A_KNOWN_USER)?;
+            check_steps(&rt, alloc, &mut volume, cred, &BY_A_KNOWN_USER);
         }
         for (uid, gid) in [(unknown, 0), (0, unknown), (u16::MAX, u16::MAX)] {
             let cred = Cred { uid, gid };
-            check_steps(&rt, alloc, &mut volume, cred, &BY_AN_UNKNOWN_USER)?;
+            check_steps(&rt, alloc, &mut volume, cred, &BY_AN_UNKNOWN_USER);
         }
         assert_eq!(rt; volume.journal().len(), 0);
     }
-    Ok(())
 }
 
 static WITH_A_ZERO_BYTE: [Step; 9] = [
@@ -90,9 +93,9 @@ static WITH_A_ZERO_BYTE: [Step; 9] = [
 ];
 
 #[test]
-fn a_path_with_a_zero_byte_is_invalid(rt: HostRuntime) -> Result<(), Fail> {
+fn a_path_with_a_zero_byte_is_invalid(rt: HostRuntime) {
     let alloc = rt.alloc();
-    check_run(&rt, alloc, &mut sixth(alloc)?, &WITH_A_ZERO_BYTE)
+    check_run(&rt, alloc, &mut sixth(&rt, alloc), &WITH_A_ZERO_BYTE);
 }
 
 static OF_ROOT: [Step; 3] = [
@@ -124,26 +127,26 @@ static BY_ROOT: [Step; 3] = [
 ];
 
 #[test]
-fn who_may_not_write_changes_nothing(rt: HostRuntime) -> Result<(), Fail> {
+fn who_may_not_write_changes_nothing(rt: HostRuntime) {
     let alloc = rt.alloc();
     for (edition, list_blocks) in [(Edition::V6, 1), (Edition::V7, 2)] {
-        let mut volume = new_volume(alloc, edition, 100, list_blocks)?;
-        check_steps(&rt, alloc, &mut volume, ROOT, &OF_ROOT)?;
-        check_steps(&rt, alloc, &mut volume, OTHER, &BY_OTHERS)?;
-        check_run(&rt, alloc, &mut volume, &BY_ROOT)?;
+        let mut volume = new_volume(&rt, alloc, edition, 100, list_blocks);
+        check_steps(&rt, alloc, &mut volume, ROOT, &OF_ROOT);
+        check_steps(&rt, alloc, &mut volume, OTHER, &BY_OTHERS);
+        check_run(&rt, alloc, &mut volume, &BY_ROOT);
     }
-    Ok(())
 }
 
 #[test]
-fn the_first_two_blocks_alone_are_short(rt: HostRuntime) -> Result<(), Fail> {
+fn the_first_two_blocks_alone_are_short(rt: HostRuntime) {
     let alloc = rt.alloc();
-    let mut bytes = mkfs(alloc, Edition::V6, 20, 2, 0, 0, 0)?;
+    let mut bytes = mkfs(alloc, Edition::V6, 20, 2, 0, 0, 0).expect(&rt, "a new volume");
     bytes.truncate(1024);
-    let Err((fault, bytes)) = Volume::mount(alloc, Edition::V6, bytes) else {
-        return Err(Fail::from("the i-list is missing"));
-    };
-    assert_eq!(rt; fault, MountFault::Unsound(1));
-    assert_eq!(rt; bytes.len(), 1024);
-    Ok(())
+    match Volume::mount(alloc, Edition::V6, bytes) {
+        Ok(_) => panic!(rt; "the i-list is missing"),
+        Err((fault, bytes)) => {
+            assert_eq!(rt; fault, MountFault::Unsound(1));
+            assert_eq!(rt; bytes.len(), 1024);
+        }
+    }
 }

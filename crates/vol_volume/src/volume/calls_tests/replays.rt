@@ -5,15 +5,15 @@ use super::{ROOT, call_by, check_redone, check_steps, make, new_volume, redo, si
 use crate::Done::{Made, Plain};
 use crate::{Record, Volume};
 use std::alloc::Global;
-use std::test::Fail;
+use std::process::Abort;
 use vol_dir::Refusal;
 use vol_layout::Edition;
 
 /// Makes the record of a call that made this i-number.
-fn redo_made(alloc: Global, volume: &mut Volume, asked: Asked, number: u16) -> Result<(), Fail> {
-    let call = call_by(alloc, ROOT, asked)?;
+fn redo_made(rt: &impl Abort, alloc: Global, volume: &mut Volume, asked: Asked, number: u16) {
+    let call = call_by(rt, alloc, ROOT, asked);
     let done = Made(number);
-    redo(alloc, volume, &Record { call, done })
+    redo(rt, alloc, volume, &Record { call, done });
 }
 
 // I-nodes 2, 20 and 32, and the blocks of the root and of the new directory.
@@ -30,21 +30,21 @@ static RECORDED: [Step; 9] = [
 ];
 
 #[test]
-fn a_recorded_i_number_is_the_one_used(rt: HostRuntime) -> Result<(), Fail> {
+fn a_recorded_i_number_is_the_one_used(rt: HostRuntime) {
     let alloc = rt.alloc();
-    let mut volume = sixth(alloc)?;
-    redo_made(alloc, &mut volume, Create(b"/f", 0o640), 20)?;
-    redo_made(alloc, &mut volume, Mkdir(b"/d", 0o755), 2)?;
-    redo_made(alloc, &mut volume, Create(b"/d/g", 0o600), 32)?;
+    let mut volume = sixth(&rt, alloc);
+    redo_made(&rt, alloc, &mut volume, Create(b"/f", 0o640), 20);
+    redo_made(&rt, alloc, &mut volume, Mkdir(b"/d", 0o755), 2);
+    redo_made(&rt, alloc, &mut volume, Create(b"/d/g", 0o600), 32);
     for (made, number) in volume.journal().iter().zip([20, 2, 32]) {
         assert_eq!(rt; made.done, Made(number));
     }
     assert_eq!(rt; volume.journal().len(), 3);
-    check_steps(&rt, alloc, &mut volume, ROOT, &RECORDED)?;
-    assert_eq!(rt; stat(alloc, &volume, b"/f")?.number, 20);
-    assert_eq!(rt; stat(alloc, &volume, b"/d/.")?.number, 2);
-    assert_eq!(rt; stat(alloc, &volume, b"/d/g")?.number, 32);
-    check_redone(&rt, alloc, &volume)
+    check_steps(&rt, alloc, &mut volume, ROOT, &RECORDED);
+    assert_eq!(rt; stat(&rt, alloc, &volume, b"/f").number, 20);
+    assert_eq!(rt; stat(&rt, alloc, &volume, b"/d/.").number, 2);
+    assert_eq!(rt; stat(&rt, alloc, &volume, b"/d/g").number, 32);
+    check_redone(&rt, alloc, &volume);
 }
 
 static ALL_GIVEN: [Step; 3] = [
@@ -54,17 +54,17 @@ static ALL_GIVEN: [Step; 3] = [
 ];
 
 #[test]
-fn each_i_number_is_given_once(rt: HostRuntime) -> Result<(), Fail> {
+fn each_i_number_is_given_once(rt: HostRuntime) {
     let alloc = rt.alloc();
-    let mut volume = new_volume(alloc, Edition::V6, 20, 1)?;
+    let mut volume = new_volume(&rt, alloc, Edition::V6, 20, 1);
     // A call would take 16, which leaves the cache unused; and 5 is still in it.
-    redo_made(alloc, &mut volume, Create(b"/f", 0o644), 5)?;
+    redo_made(&rt, alloc, &mut volume, Create(b"/f", 0o644), 5);
     for number in [15_u16, 14, 13, 12, 11, 10, 9, 8, 7, 6, 4, 3, 2, 16] {
         let path = [b'n', number as u8];
-        let answer = make(&rt, alloc, &mut volume, ROOT, Create(&path, 0o644))?;
+        let answer = make(&rt, alloc, &mut volume, ROOT, Create(&path, 0o644));
         assert_eq!(rt; answer, Ok(Made(number)));
     }
-    check_steps(&rt, alloc, &mut volume, ROOT, &ALL_GIVEN)?;
+    check_steps(&rt, alloc, &mut volume, ROOT, &ALL_GIVEN);
     // Made again by calls, the journal would have other i-numbers.
-    check_redone(&rt, alloc, &volume)
+    check_redone(&rt, alloc, &volume);
 }

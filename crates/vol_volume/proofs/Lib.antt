@@ -1,6 +1,11 @@
 pub mod Accepted
 pub mod AcceptedCalls
 mod AnsweredQueries
+pub mod BlankBlocks
+pub mod BlankHeads
+pub mod BlankStacks
+pub mod BlankVolumes
+pub mod BlankWrites
 pub mod Journals
 mod ListedNames
 pub mod NewDirectories

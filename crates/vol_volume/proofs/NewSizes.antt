@@ -15,7 +15,7 @@ use Rattle.vol_file.proofs.Naming.{root_first}
 pub use Rattle.vol_node.proofs.FileStates.{time_behind as time_within}
 use Rattle.vol_volume.proofs.NewVolumes.{zeros_at}
 use Rattle.vol_volume.proofs.SoundSizes.{read_whole}
-use Rattle.vol_volume.specs.Mkfs.{is_size, IsMakeable, KeepsFirstBlocks}
+use Rattle.vol_volume.specs.Mkfs.{is_size, IsMakeable}
 use Rattle.vol_layout.specs.declared.edition.Edition.{Edition}
 use Rattle.vol_layout.specs.declared.edition.Edition.TheVariants.{V6, V7}
 use Rattle.vol_layout.specs.declared.geometry.Geometry.{Geometry}
@@ -35,6 +35,15 @@ fits_by V7 start end last image size low inodes len =
 pub fits_makeable : (geometry : Geometry) (image : List ℕ) → IsMakeable geometry → length image ≡ 512 * geometry.zone_end → Fits geometry image
 fits_makeable geometry image makeable len =
     fits_by geometry.edition geometry.zone_start geometry.zone_end geometry.last_inode image makeable.size makeable.start makeable.inodes len
+
+-- the data zone of a volume that can be made begins below the edition's limit of block numbers
+start_by : (edition : Edition) (start end : ℕ) → is_size edition end (start - 2) ≡ true → 3 ≤ start → start < (constants edition).number_limit
+start_by V6 start end size low = let sizes : (start < end) × (end ≤ 65535) = grind (arith, nat_tests) in omega arith
+start_by V7 start end size low = let sizes : (start < end) × (end ≤ 16777216) = grind (arith, nat_tests) in omega arith
+
+-- the same of a geometry
+pub start_limit : (geometry : Geometry) → IsMakeable geometry → geometry.zone_start < (constants geometry.edition).number_limit
+start_limit geometry makeable = start_by geometry.edition geometry.zone_start geometry.zone_end makeable.size makeable.start
 
 -- an image that states the sizes of a volume that can be made has them
 read_by : (edition : Edition) (start end last : ℕ) (image : List ℕ) → is_size edition end (start - 2) ≡ true → 3 ≤ start
@@ -73,68 +82,3 @@ pub time_kept : (edition : Edition) (old new : List ℕ) → IsCopy old new (tim
     → long new (time_place edition) ≡ long old (time_place edition)
 time_kept edition old new copy =
     long_copied old new (time_place edition) (time_place edition) 4 0 (time_place edition) (time_place edition) copy (omega arith) (omega arith) (omega arith)
-
--- the steps of making a volume: zeros, a super-block put over them, the root put, all other data blocks given
-module _ (geometry : Geometry) (zeros blank rooted full : List ℕ)
-    (makeable : IsMakeable geometry) (are_zeros : zeros ≡ replicate (512 * geometry.zone_end) 0) (super : SameOutside zeros blank 512 1024)
-    (len : length rooted ≡ length blank)
-    (before : (k : ℕ) → k < inode_place geometry.edition (constants geometry.edition).root → get_or rooted k 0 ≡ get_or blank k 0)
-    (between : (k : ℕ) → inode_place geometry.edition (constants geometry.edition).root + (constants geometry.edition).inode_bytes ≤ k
-    → k < 512 * geometry.zone_start → get_or rooted k 0 ≡ get_or blank k 0) where
-  -- the image has all blocks from the start
-  pub len_blank : length blank ≡ 512 * geometry.zone_end
-  len_blank =
-      let whole : length zeros ≡ 512 * geometry.zone_end = ap length are_zeros ∙ length-replicate (512 * geometry.zone_end) 0 in
-      super.len ∙ whole
-
-  -- the geometry fits it
-  pub fits_blank : Fits geometry blank
-  fits_blank = fits_makeable geometry blank makeable len_blank
-
-  -- it fits it with the root, too
-  pub fits_rooted : Fits geometry rooted
-  fits_rooted = fits_makeable geometry rooted makeable (len ∙ len_blank)
-
-  -- the super-block stands before the root's i-node
-  pub super_rooted : (k : ℕ) → k < 1024 → get_or rooted k 0 ≡ get_or blank k 0
-  super_rooted k h =
-      let from : 1024 ≤ inode_place geometry.edition (constants geometry.edition).root = place_from geometry.edition (constants geometry.edition).root in
-      before k (omega arith)
-
-  -- the free list is empty when the root is put
-  pub free_rooted : word blank (free_head geometry.edition) ≡ word zeros (free_head geometry.edition) → word rooted (free_head geometry.edition) ≡ 0
-  free_rooted same =
-      let end : free_head geometry.edition + 202 ≤ 720 = head_end geometry.edition in
-      let first : get_or rooted (free_head geometry.edition) 0 ≡ get_or blank (free_head geometry.edition) 0 = super_rooted (free_head geometry.edition) (omega arith) in
-      let second : get_or rooted (free_head geometry.edition + 1) 0 ≡ get_or blank (free_head geometry.edition + 1) 0 =
-      super_rooted (free_head geometry.edition + 1) (omega arith) in
-      let none : get_or zeros (free_head geometry.edition) 0 ≡ 0 =
-      ap (λ xs. get_or xs (free_head geometry.edition) 0) are_zeros ∙ zeros_at (512 * geometry.zone_end) (free_head geometry.edition) in
-      let no_more : get_or zeros (free_head geometry.edition + 1) 0 ≡ 0 =
-      ap (λ xs. get_or xs (free_head geometry.edition + 1) 0) are_zeros ∙ zeros_at (512 * geometry.zone_end) (free_head geometry.edition + 1) in
-      omega arith
-
-  -- a byte of another i-node than the root's is zero
-  pub others_zero : KeepsFirstBlocks geometry rooted full → (i k : ℕ) → 1 ≤ i → i ≤ geometry.last_inode → i ≢ (constants geometry.edition).root
-      → k < (constants geometry.edition).inode_bytes → get_or full (inode_place geometry.edition i + k) 0 ≡ 0
-  others_zero kept i k first last other within =
-      let at = inode_place geometry.edition i + k in
-      let end : free_head geometry.edition + 202 ≤ 720 = head_end geometry.edition in
-      let from : 1024 ≤ inode_place geometry.edition i = place_from geometry.edition i in
-      let room : inode_place geometry.edition i + (constants geometry.edition).inode_bytes ≤ 512 * geometry.zone_start =
-      place_room geometry blank i fits_blank first last in
-      let root : 1 ≤ (constants geometry.edition).root = root_first geometry.edition in
-      let zero : get_or zeros at 0 ≡ 0 = ap (λ xs. get_or xs at 0) are_zeros ∙ zeros_at (512 * geometry.zone_end) at in
-      let stays : get_or rooted at 0 ≡ get_or blank at 0 =
-      elim (cases_lt i (constants geometry.edition).root) [
-        | inl low ↦
-            let apart : inode_place geometry.edition i + (constants geometry.edition).inode_bytes ≤ inode_place geometry.edition (constants geometry.edition).root =
-            place_apart geometry.edition i (constants geometry.edition).root first low in
-            before at (omega arith)
-        | inr high ↦
-            let above : (constants geometry.edition).root < i = omega (arith, other) in
-            let apart : inode_place geometry.edition (constants geometry.edition).root + (constants geometry.edition).inode_bytes ≤ inode_place geometry.edition i =
-            place_apart geometry.edition (constants geometry.edition).root i root above in
-            between at (omega arith) (omega arith)
-      ] in
-      kept.between at (omega arith) (omega arith) ∙ (stays ∙ (super.above at (omega arith) ∙ zero))

@@ -10,9 +10,9 @@ use Rattle.vol_layout.specs.Inode.IsStorable.{in_v6, in_v7}
 use Rattle.vol_layout.specs.declared.edition.Edition.{Edition}
 use Rattle.vol_layout.specs.declared.edition.Edition.TheVariants.{V6, V7}
 use Rattle.vol_layout.specs.Edition.{constants}
-use Rattle.vol_free.specs.Stack.{IsIn, IsFree, StaysBut}
+use Rattle.vol_free.specs.Stack.{IsIn, IsFree}
 use Rattle.vol_free.proofs.Stacks.{IsFree_unique}
-use Rattle.vol_volume.specs.Mkfs.{is_bad_id, root_inode, KeepsFirstBlocks}
+use Rattle.vol_volume.specs.Mkfs.{is_bad_id, root_inode}
 use Rattle.vol_layout.specs.declared.geometry.Geometry.{Geometry}
 
 -- the numbers from a on are none below a
@@ -34,15 +34,6 @@ pub range_before : (a b e : ℕ) → b + 1 ≡ a → a ≤ e → range_with_len 
 range_before a b e next room =
     let longer : e - b ≡ suc (e - a) = omega arith in
     ap (range_with_len b) longer ∙ ap (λ c. b ∷ range_with_len c (e - a)) next
-
--- giving a block past the first of the data zone keeps what stands up to that one
-pub kept_on : (geometry : Geometry) (old mid new : List ℕ) (b : ℕ) → geometry.zone_start + 1 ≤ b
-    → KeepsFirstBlocks geometry old mid → StaysBut geometry mid new b 202 → KeepsFirstBlocks geometry old new
-kept_on geometry old mid new b above kept stays = record {
-  len = stays.len ∙ kept.len;
-  below = λ k h. stays.below k h ∙ kept.below k h;
-  between = λ k from to. stays.between k from (omega arith) ∙ kept.between k from to;
-}
 
 -- a byte of a list of zeros is zero, also past its end
 pub zeros_at : (n k : ℕ) → get_or {A = ℕ} (replicate n 0) k 0 ≡ 0

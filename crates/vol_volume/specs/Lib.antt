@@ -1,5 +1,6 @@
 pub mod Answer
 pub mod Answering
+pub mod Blank
 pub mod Faults
 pub mod Journal
 pub mod Laws

@@ -73,9 +73,3 @@ pub record IsNewVolume (geometry : Geometry) (uid gid now : ℕ) (image : List �
   pub others : (i k : ℕ) → 1 ≤ i → i ≤ geometry.last_inode → i ≢ (constants geometry.edition).root
       → k < (constants geometry.edition).inode_bytes → slice_index image (inode_place geometry.edition i + k) ≡ 0
   pub free : IsFree geometry image (range_with_len (geometry.zone_start + 1) (geometry.zone_end - (geometry.zone_start + 1)))
-
--- the blocks up to the first of the data zone have the same bytes, but for the count and array of the free list (a frame)
-pub record KeepsFirstBlocks (geometry : Geometry) (old new : List ℕ) : Type 0 where
-  pub len : length new ≡ length old
-  pub below : (k : ℕ) → k < free_head geometry.edition → slice_index new k ≡ slice_index old k
-  pub between : (k : ℕ) → free_head geometry.edition + 202 ≤ k → k < 512 * (geometry.zone_start + 1) → slice_index new k ≡ slice_index old k

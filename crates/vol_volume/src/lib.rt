@@ -3,6 +3,7 @@
 
 mod answering;
 pub mod asking;
+pub mod blank;
 pub mod bytes;
 pub mod calls;
 pub mod laws;
@@ -13,6 +14,7 @@ mod verdicts;
 pub mod volume;
 
 pub use asking::ask;
+pub use blank::BlankVolume;
 pub use bytes::Bytes;
 pub use calls::{Call, Done, Record};
 pub use making::{MkfsFault, mkfs};

@@ -1,9 +1,9 @@
-use Rattle.std.proofs.Common.{◌≡◌, ◌+◌, ◌-◌, refl, arith, sym, subst, ap, []}
+use Rattle.std.proofs.Common.{◌≡◌, ◌+◌, ◌-◌, arith, sym, subst, ap, []}
 use Rattle.std.specs.List.{range_with_len}
 use Rattle.vol_free.specs.Stack.{IsFree}
 use Rattle.vol_free.proofs.Frames.{IsFree-none}
-use Rattle.vol_volume.proofs.NewVolumes.{none_below, range_before, kept_on}
-use Rattle.vol_volume.proofs.making.give_all.Goals as goal
+use Rattle.vol_volume.proofs.NewVolumes.{none_below, range_before}
+use Rattle.vol_volume.proofs.blank.tests.give_all.Goals as goal
 
 pub loop-next-init : goal.loop-next-init
 loop-next-init c =
@@ -14,7 +14,6 @@ loop-next-init c =
       omega arith,
       c.requires.fits,
       subst (IsFree geometry c.args.image.now) empty (IsFree-none geometry c.args.image.now c.requires.empty),
-      record { len = refl; below = λ k h. refl; between = λ k a b. refl },
     )
 
 pub give-requires-clause-fresh : goal.give-requires-clause-fresh
@@ -33,5 +32,4 @@ loop-next-preserved c =
       c.give.ensures.fits,
       subst (IsFree geometry c.give.new.image) (sym longer)
           (c.give.ensures.pushed (range_with_len c.loop-next.next (geometry.zone_end - c.loop-next.next)) c.loop-next.invariant.3),
-      kept_on geometry c.args.image.now c.loop-next.image c.give.new.image (c.loop-next.next - 1) (omega arith) c.loop-next.invariant.4 c.give.ensures.others,
     )

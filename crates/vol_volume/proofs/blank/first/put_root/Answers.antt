@@ -1,0 +1,46 @@
+use Rattle.std.proofs.Common.{rules, ◌≡◌, ℕ, ◌+◌, ◌∙◌, arith, subst, ap}
+use Rattle.pdp_words.specs.Words.{SameOutside}
+use Rattle.vol_layout.specs.Edition.{constants}
+use Rattle.vol_layout.specs.Inode.{inode_place, inode_of}
+use Rattle.vol_layout.specs.declared.edition.Edition.{Edition}
+use Rattle.vol_layout.proofs.CopyLaws.{copy_below}
+use Rattle.vol_layout.proofs.InodeLaws.{inode_copied}
+use Rattle.vol_layout.proofs.SlotLaws.{slot_copied}
+use Rattle.vol_volume.proofs.BlankVolumes.{root_end}
+use Rattle.vol_volume.proofs.blank.first.put_root.Goals as goal
+
+pub returns-clause-root : goal.returns-clause-root
+returns-clause-root c =
+    let root = (constants c.args.edition).root in
+    let at = inode_place c.args.edition root in
+    let size = (constants c.args.edition).inode_bytes in
+    let end = root_end c.args.edition in
+    let is : c.constants-root.result.root ≡ root = ap (λ k. k.root) c.constants-root.ensures in
+    let same : c.volume_of.result.edition ≡ c.args.edition = ap (λ g. g.edition) c.volume_of.ensures.value in
+    let node = c.put_inode.new.image in
+    let put : inode_of c.args.edition node root ≡ c.args.node.now =
+    subst (λ (e : Edition). inode_of e node root ≡ c.args.node.now) same
+    (subst (λ (i : ℕ). inode_of c.volume_of.result.edition node i ≡ c.args.node.now) is c.put_inode.ensures.put) in
+    inode_copied c.args.edition c.put_in.new.image c.put_in-2.new.image at at
+    (copy_below c.put_in.new.image c.put_in-2.new.image _ _ at size c.put_in-2.ensures.others (omega arith))
+    ∙ (inode_copied c.args.edition node c.put_in.new.image at at (copy_below node c.put_in.new.image _ _ at size c.put_in.ensures.others (omega arith)) ∙ put)
+
+pub returns-clause-dot : goal.returns-clause-dot
+returns-clause-dot c =
+    slot_copied c.put_in.new.image c.put_in-2.new.image 1536 1536
+    (copy_below c.put_in.new.image c.put_in-2.new.image _ _ 1536 16 c.put_in-2.ensures.others (omega arith)) (omega arith) (omega arith)
+    ∙ search rules
+
+pub returns-clause-before : goal.returns-clause-before
+returns-clause-before c k h =
+    let root = (constants c.args.edition).root in
+    let end = root_end c.args.edition in
+    let is : c.constants-root.result.root ≡ root = ap (λ k. k.root) c.constants-root.ensures in
+    let same : c.volume_of.result.edition ≡ c.args.edition = ap (λ g. g.edition) c.volume_of.ensures.value in
+    let old = c.args.image.now in
+    let node = c.put_inode.new.image in
+    let others : SameOutside old node (inode_place c.args.edition root) (inode_place c.args.edition root + (constants c.args.edition).inode_bytes) =
+    subst (λ (e : Edition). SameOutside old node (inode_place e root) (inode_place e root + (constants e).inode_bytes)) same
+    (subst (λ (i : ℕ). SameOutside old node (inode_place c.volume_of.result.edition i)
+    (inode_place c.volume_of.result.edition i + (constants c.volume_of.result.edition).inode_bytes)) is c.put_inode.ensures.others) in
+    c.put_in-2.ensures.others.below k (omega arith) ∙ (c.put_in.ensures.others.below k (omega arith) ∙ others.below k h)

@@ -1,0 +1,103 @@
+//! A new volume that isn't written yet.
+ghost use Rattle.std.specs.Prelude.{◌≡◌, ◌↔◌, true, false, IfOk, IfErr, OnOk, OnErr, IsErrOf};
+ghost use Rattle.vol_volume.specs.Blank.{blank_of, IsMade, WritesVolume, WritesFront};
+ghost use Rattle.vol_volume.specs.Mkfs.{is_size, is_bad_id};
+
+mod blocks;
+mod first;
+
+use crate::making::{MkfsFault, is_bad_id, is_size, volume_of};
+use blocks::{gather, write_blocks};
+use first::{FIRST_BYTES, fill};
+use pdp_words::{BLOCK, Image, SaveFault, Sink};
+use std::alloc::{AllocError, Global};
+use std::marker::Model;
+use vol_layout::{Edition, Geometry};
+
+/// A new volume whose bytes aren't in memory: the root alone is on it, and all other data blocks are
+/// free. Only its blocks 0, 1 and 2 and the root's are kept; all others follow from its sizes.
+#[derive(Debug, Drop)]
+pub struct BlankVolume {
+    geometry: Geometry,
+    first: Image,
+}
+
+impl Model for BlankVolume {
+    ghost use Rattle.vol_volume.specs.Blank.{Blank, blank_in, IsBlank};
+
+    ghost Value = { Blank };
+
+    ghost view = { λ v. blank_in v.geometry v.first };
+
+    ghost invariant = { λ v. IsBlank v.geometry v.first };
+}
+
+impl BlankVolume {
+    /// A new volume of `blocks` blocks of 512 bytes, of which `list_blocks` are the i-list. The root, a
+    /// directory with permissions 0777, belongs to `uid` and `gid`; all times are `now`, in seconds.
+    /// `Bounds` comes before `BadId`, and `NoMemory` last.
+    ///
+    /// Takes memory for four blocks.
+    pub fn new(
+        alloc: Global,
+        edition: Edition,
+        blocks: u32,
+        list_blocks: u16,
+        uid: u16,
+        gid: u16,
+        now: u32,
+    ) -> Result<BlankVolume, MkfsFault>
+        ensures blank { IfOk result (λ blank. blank ≡ blank_of edition blocks list_blocks uid gid now) }
+        ensures size { OnOk result (is_size edition blocks list_blocks ≡ true) }
+        ensures id { OnOk result (is_bad_id edition uid gid ≡ false) }
+        ensures bounds { IsErrOf result MkfsFault.Bounds ↔ (is_size edition blocks list_blocks ≡ false) }
+        ensures bad_id { IsErrOf result MkfsFault.BadId ↔ ((is_size edition blocks list_blocks ≡ true) × (is_bad_id edition uid gid ≡ true)) }
+    {
+        if !is_size(edition, blocks, list_blocks) {
+            return Err(MkfsFault::Bounds);
+        }
+        if is_bad_id(edition, uid, gid) {
+            return Err(MkfsFault::BadId);
+        }
+        let Ok(zeros) = vec![in alloc; 0; FIRST_BYTES] else {
+            return Err(MkfsFault::NoMemory);
+        };
+        let mut first = Image::from_bytes(zeros);
+        let geometry = volume_of(edition, blocks, list_blocks);
+        fill(&mut first, &geometry, uid, gid, now);
+        Ok(BlankVolume { geometry, first })
+    }
+
+    /// All bytes of the volume.
+    ///
+    /// Takes memory for them, once.
+    pub fn to_bytes(&self, alloc: Global) -> Result<Vec<u8>, AllocError>
+        ensures { IfOk result (λ bytes. IsMade self.now bytes.items) }
+    {
+        let mut bytes = vec![in alloc; 0; self.geometry.zone_end as usize * BLOCK]?;
+        gather(
+            &self.first,
+            &self.geometry,
+            0,
+            self.geometry.zone_end,
+            &mut bytes,
+        );
+        Ok(bytes)
+    }
+
+    /// Writes the volume to `sink`, in the order of its bytes. A fault only where the sink failed, and
+    /// then the sink took exactly the first `written` bytes.
+    ///
+    /// Takes no memory: the bytes go out through a buffer of 64 KiB.
+    pub fn write_to<W: Sink>(&self, sink: &mut W) -> Result<(), SaveFault>
+        ensures ok { OnOk result (WritesVolume self.now (W.contents sink.old) (W.contents sink.new)) }
+        ensures working { OnOk result (W.failed sink.new ≡ W.failed sink.old) }
+        ensures part { IfErr result (λ e. WritesFront self.now (W.contents sink.old) (W.contents sink.new) e.written) }
+        ensures fault { OnErr result (W.failed sink.new ≡ true) }
+    {
+        write_blocks(sink, &self.first, &self.geometry)
+    }
+}
+
+#[cfg(test)]
+mod tests;

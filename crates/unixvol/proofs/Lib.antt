@@ -1,4 +1,3 @@
 pub mod Outputs
 pub mod Reasons
 pub mod Replies
-pub mod Running

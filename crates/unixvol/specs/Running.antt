@@ -23,13 +23,13 @@ abbrev pub status_after : Result (Unit {0}) CatFault → ℕ
 status_after (Ok done) = 0
 status_after (Err fault) = status_of fault
 
--- `cat` runs on some image: what goes out, and the status, which is 0 only where standard output hasn't failed (this project)
+-- `cat` runs on some image: what goes out, and the status, which is 0 only where standard output didn't fail (this project)
 abbrev pub RunsCat : Streams → Edition → ℕ → ℕ → Type 0
 RunsCat streams edition i status =
     ((result : Result (Unit {0}) CatFault) × Cats None None streams.old streams.new edition i result × (status ≡ status_after result))
     × (status ≡ 0 → streams.failed ≡ streams.had_failed) × streams.said []
 
--- `mkfs` runs: nothing goes out, it is refused exactly where the sizes aren't a volume's or the root's numbers are too high, and where it is done the volume was taken (this project)
+-- `mkfs` runs: nothing goes out; it is refused exactly where its numbers are no volume's; and a file took the volume, where it is done (this project)
 pub record RunsMkfs (streams : Streams) (taken : List ℕ → Type 0) (volume : NewVolume) (status : ℕ) : Type 0 where
   pub unprinted : Keeps streams.old streams.new
   pub unused : streams.failed ≡ streams.had_failed
@@ -64,7 +64,7 @@ Runs streams taken status (invocations.Cat edition image i) = RunsCat streams ed
 Runs streams taken status (invocations.Mkfs image volume) = RunsMkfs streams taken volume status
 Runs streams taken status (invocations.OnVolume volume job) = RunsJob streams taken volume.edition job status
 
--- a run ends: its status is one of 0 to 4; unless it is 0 or 3, nothing went out; where it is 0, standard output didn't fail, and no fault was told (this project)
+-- a run ends: the status is at most 4; nothing went out, unless it is 0 or 3; where it is 0, no output failed and no fault was told (this project)
 pub record Ends (streams : Streams) (status : ℕ) : Type 0 where
   pub within : status ≤ 4
   pub silent : status ≢ 0 → status ≢ 3 → Keeps streams.old streams.new

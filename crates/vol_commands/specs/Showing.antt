@@ -56,7 +56,7 @@ abbrev pub Replies : Edition → List ℕ → Query → (List ℕ → Type 0) �
 Replies edition image query printed =
     IsSound edition image × (reply : Reply) × (answer_of edition image query ≡ Ok reply) × printed (text_of reply)
 
--- what standard output gets by an outcome: the text of the reply; or, where it failed, the front of it; or nothing; and whether it had failed and has (this project)
+-- what standard output gets by an outcome, and whether it fails: the text of the reply; or, where it failed, the front of it; or nothing (this project)
 abbrev pub Prints : Edition → List ℕ → Query → Option (List ℕ) → Option (List ℕ) → Bool → Bool → Result (Unit {0}) Fault → Type 0
 Prints edition image query old new had_failed failed (Ok done) = (failed ≡ had_failed) × Replies edition image query (Appends old new)
 Prints edition image query old new had_failed failed (Err faults.Output) =

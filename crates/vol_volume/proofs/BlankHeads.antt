@@ -1,5 +1,5 @@
 -- The heads of the free list of a new volume, word by word and number by number.
-use Rattle.std.proofs.Common.{◌≡◌, ◌≢◌, ℕ, zero, suc, ◌+◌, ◌-◌, ◌*◌, ◌/◌, ◌%◌, ◌<◌, ◌≤◌, ◌==◌, List, refl, sym, ap, ◌∙◌, arith, inl, inr, get_or, true, false, nat_lt}
+use Rattle.std.proofs.Common.{◌≡◌, ℕ, zero, suc, ◌+◌, ◌-◌, ◌*◌, ◌/◌, ◌%◌, ◌<◌, ◌≤◌, ◌==◌, List, sym, ap, ◌∙◌, arith, inl, inr, get_or, true, false, nat_lt}
 use Rattle.std.proofs.lemmas.Bool.{cases_eq}
 use Rattle.std.proofs.lemmas.Bool.Decides.{nat_tests}
 use Rattle.pdp_words.specs.Words.{word, long, SameOutside}
@@ -94,6 +94,7 @@ number_v7 start end last image at top count j head h =
     ∙ (word_after geometry top count (2 * j + 1) ∙ low_word (listed geometry top count) j)) in
     omega (arith, high, low)
 
+-- the same of either edition
 number_by : (edition : Edition) (start end last : ℕ) (image : List ℕ) (at top count j : ℕ)
     → HasHead (record { edition = edition; zone_start = start; zone_end = end; last_inode = last }) image at top count
     → j < (constants edition).free_slots

@@ -1,5 +1,5 @@
 -- The free list of a new volume: its heads, one after another, have the numbers of all data blocks but the root's.
-use Rattle.std.proofs.Common.{◌≡◌, ℕ, zero, suc, ◌+◌, ◌-◌, ◌*◌, ◌/◌, ◌%◌, ◌<◌, ◌≤◌, ◌==◌, List, [], ◌∷◌, refl, sym, ap, subst, ◌∙◌, arith, inl, inr, true, nat_lt}
+use Rattle.std.proofs.Common.{◌≡◌, ℕ, zero, suc, ◌+◌, ◌-◌, ◌*◌, ◌/◌, ◌%◌, ◌<◌, ◌≤◌, List, refl, sym, subst, ◌∙◌, arith, inl, inr, true, nat_lt}
 use Rattle.std.specs.List.{range_with_len}
 use Rattle.std.proofs.lemmas.Bool.{cases_lt}
 use Rattle.std.proofs.lemmas.Bool.Decides.{nat_tests}
@@ -10,12 +10,12 @@ use Rattle.vol_layout.specs.Super.{free_head}
 use Rattle.vol_layout.specs.declared.edition.Edition.{Edition}
 use Rattle.vol_layout.specs.declared.edition.Edition.TheVariants.{V6, V7}
 use Rattle.vol_layout.specs.declared.geometry.Geometry.{Geometry}
-use Rattle.vol_free.specs.Stack.{IsIn, Once, IsStack, IsFree}
+use Rattle.vol_free.specs.Stack.{Once, IsStack, IsFree}
 use Rattle.vol_free.proofs.Stacks.{stack_above, stack_chained, stack_zero}
 use Rattle.vol_free.proofs.Frames.{IsFree-none}
 use Rattle.vol_volume.proofs.NewVolumes.{IsIn-range_with_len, range_before}
 use Rattle.vol_volume.proofs.BlankHeads.{head_count, head_number, listed_chain, listed_last, listed_below}
-use Rattle.vol_volume.specs.Blank.{listed, HasHead, is_chain, first_chain}
+use Rattle.vol_volume.specs.Blank.{HasHead, is_chain, first_chain}
 
 -- an array has 50 numbers at least
 pub slots_some : (edition : Edition) → 50 ≤ (constants edition).free_slots

@@ -1,19 +1,12 @@
 -- Lemmas on the sizes and the fields of a new volume.
-use Rattle.std.proofs.Common.{◌≡◌, ◌≢◌, ℕ, ◌+◌, ◌-◌, ◌*◌, ◌<◌, ◌≤◌, List, length, true, ap, ◌∙◌, arith, inl, inr, get_or, replicate, Ok}
-use Rattle.std.proofs.lemmas.Bool.{cases_lt}
+use Rattle.std.proofs.Common.{◌≡◌, ℕ, ◌-◌, ◌*◌, ◌<◌, ◌≤◌, List, length, true, ◌∙◌, arith, get_or, Ok}
 use Rattle.std.proofs.lemmas.Bool.Decides.{nat_tests}
-use Rattle.std.proofs.lemmas.List.{length-replicate}
-use Rattle.pdp_words.specs.Words.{word, long, SameOutside}
+use Rattle.pdp_words.specs.Words.{long}
 use Rattle.vol_layout.specs.Edition.{constants}
 use Rattle.vol_layout.specs.Geometry.{Fits, is_whole, is_bounded, first_data_block, block_count, geometry_read}
-use Rattle.vol_layout.specs.Inode.{inode_place}
 use Rattle.vol_layout.specs.Super.{free_head, time_place}
 use Rattle.vol_layout.proofs.CopyLaws.{IsCopy, long_copied}
-use Rattle.vol_layout.proofs.InodeLaws.{place_from, place_room, place_apart}
-use Rattle.vol_free.proofs.Stacks.{head_end}
-use Rattle.vol_file.proofs.Naming.{root_first}
 pub use Rattle.vol_node.proofs.FileStates.{time_behind as time_within}
-use Rattle.vol_volume.proofs.NewVolumes.{zeros_at}
 use Rattle.vol_volume.proofs.SoundSizes.{read_whole}
 use Rattle.vol_volume.specs.Mkfs.{is_size, IsMakeable}
 use Rattle.vol_layout.specs.declared.edition.Edition.{Edition}

@@ -5,7 +5,7 @@ use Rattle.pdp_words.specs.Words.{long}
 use Rattle.vol_layout.specs.Edition.{constants}
 use Rattle.vol_layout.specs.Geometry.{geometry_read}
 use Rattle.vol_layout.specs.Inode.{inode_place, inode_of}
-use Rattle.vol_layout.specs.Super.{free_head, time_place}
+use Rattle.vol_layout.specs.Super.{time_place}
 use Rattle.vol_layout.specs.Slot.{padded_name, slot_at}
 use Rattle.vol_free.specs.Stack.{IsFree}
 use Rattle.vol_node.specs.Edits.{first_change}

@@ -1,4 +1,4 @@
-use Rattle.std.proofs.Common.{◌≡◌, ℕ, ap, ◌∙◌, get_or}
+use Rattle.std.proofs.Common.{ap, ◌∙◌, get_or}
 use Rattle.vol_volume.proofs.BlankVolumes.{blank_stands}
 use Rattle.vol_volume.proofs.NewVolumes.{zeros_at}
 use Rattle.vol_volume.proofs.blank.BlankVolume.new.Goals as goal

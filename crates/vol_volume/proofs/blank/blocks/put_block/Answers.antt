@@ -1,6 +1,5 @@
-use Rattle.std.proofs.Common.{◌≡◌, ◌+◌, ap, sym, ◌∙◌, true, false, arith}
+use Rattle.std.proofs.Common.{◌≡◌, ◌+◌, ap, sym, ◌∙◌, arith}
 use Rattle.vol_layout.specs.Edition.{constants}
-use Rattle.vol_volume.specs.Blank.{is_chain}
 use Rattle.vol_volume.proofs.BlankBlocks.{chain_room, early_put, root_put, chain_put, zero_put}
 use Rattle.vol_volume.proofs.blank.blocks.put_block.Goals as goal
 

@@ -1,6 +1,5 @@
-use Rattle.std.proofs.Common.{◌≡◌, ℕ, ◌+◌, ◌<◌, ap, ◌∙◌, arith}
-use Rattle.vol_layout.specs.Edition.{constants, number}
-use Rattle.vol_volume.specs.Blank.{listed}
+use Rattle.std.proofs.Common.{◌≡◌, ap, arith}
+use Rattle.vol_layout.specs.Edition.{constants}
 use Rattle.vol_volume.proofs.BlankHeads.{head_stands}
 use Rattle.vol_volume.proofs.blank.blocks.put_free_head.Goals as goal
 

@@ -28,11 +28,11 @@ fn a_new_volume_is_mounted_and_comes_back(rt: HostRuntime) {
 
 /// A volume is of an edition, has these bytes, and was not yet changed.
 fn check_new(rt: &impl Abort, volume: &Volume, edition: Edition, bytes: &[u8]) {
-    volume.check();
     assert_eq!(rt; volume.edition(), edition);
     assert_eq!(rt; volume.base(), bytes);
     assert_eq!(rt; volume.image().as_bytes(), bytes);
     assert_eq!(rt; volume.journal().len(), 0);
+    volume.check();
 }
 
 /// Mounts bytes, which is accepted or breaks this rule, and compares those that come back.

@@ -213,16 +213,21 @@ static REFUSED: [(Asked, Cred, &[u8], Refusal); 11] = [
     (Asked::List, ROOT, b"\0", Refusal::Invalid),
 ];
 
+/// A question.
+fn query(rt: &impl Abort, alloc: Global, asked: Asked, cred: Cred, bytes: &[u8]) -> Query {
+    match asked {
+        Asked::Stat => stat(rt, alloc, cred, bytes),
+        Asked::Read => read(rt, alloc, cred, bytes, 0),
+        Asked::List => list(rt, alloc, cred, bytes),
+    }
+}
+
 #[test]
 fn queries_are_refused_in_order(rt: HostRuntime) {
     let alloc = rt.alloc();
     let volume = volume_with_file(&rt, alloc);
     for (asked, cred, bytes, wanted) in &REFUSED {
-        let query = match asked {
-            Asked::Stat => stat(&rt, alloc, *cred, bytes),
-            Asked::Read => read(&rt, alloc, *cred, bytes, 0),
-            Asked::List => list(&rt, alloc, *cred, bytes),
-        };
+        let query = query(&rt, alloc, *asked, *cred, bytes);
         assert_eq!(rt; volume.ask(alloc, &query).err(), Some(*wanted), "{query:?}");
     }
 }

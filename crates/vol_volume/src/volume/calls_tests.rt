@@ -5,6 +5,7 @@ ghost use Rattle.vol_volume.specs.Verdict.{is_free_number};
 ghost use Rattle.vol_volume.specs.Volume.{mounted, reads_as};
 
 use super::Volume;
+use super::tests::put;
 use crate::{Bytes, Call, Done, Query, Record, Reply, Stat, mkfs};
 use std::alloc::Global;
 use std::process::Abort;
@@ -105,16 +106,13 @@ fn edited(rt: &impl Abort, alloc: Global, volume: Volume, at: usize, piece: &[u8
     mount(rt, alloc, edition, bytes)
 }
 
-/// Puts bytes at a place, as far as there is one.
-fn put(bytes: &mut [u8], at: usize, piece: &[u8]) {
-    for (byte, new) in bytes.iter_mut().skip(at).zip(piece) {
-        *byte = *new;
-    }
-}
-
 /// The bytes of a volume's image from a place on are these.
 fn check_at(rt: &impl Abort, volume: &Volume, place: usize, wanted: &[u8]) {
-    let bytes = volume.image().as_bytes();
+    check_bytes(rt, volume.image().as_bytes(), place, wanted);
+}
+
+/// Bytes have these at a place.
+fn check_bytes(rt: &impl Abort, bytes: &[u8], place: usize, wanted: &[u8]) {
     for (offset, byte) in wanted.iter().enumerate() {
         let found = bytes.get(place.saturating_add(offset));
         assert_eq!(rt; found, Some(byte), "byte {offset} from byte {place}");
@@ -214,9 +212,8 @@ fn shown(rt: &impl Abort, alloc: Global, call: &Call) -> String {
     format!(in alloc; "{call:?}").expect(rt, "memory for the words")
 }
 
-/// Makes a call in the name of a user, and answers what came of it. An accepted call is the journal's
-/// last, and its moment is the super-block's; a refused one leaves image and journal as they were, and
-/// comes back.
+/// Makes a call in the name of a user, and answers what came of it. By an accepted call the journal has one
+/// more; a refused one leaves image and journal as they were.
 fn make(
     rt: &impl Abort,
     alloc: Global,
@@ -226,21 +223,36 @@ fn make(
 ) -> Result<Done, Refusal> {
     let before = image_of(rt, alloc, volume);
     let len = volume.journal().len();
-    let call = call_by(rt, alloc, cred, asked);
+    let answer = answer_to(rt, alloc, volume, call_by(rt, alloc, cred, asked));
+    match answer {
+        Ok(_) => assert_eq!(rt; volume.journal().len().checked_sub(1), Some(len)),
+        Err(_) => {
+            assert_eq!(rt; volume.journal().len(), len);
+            assert_eq!(rt; volume.image().as_bytes(), before.as_slice());
+        }
+    }
+    answer
+}
+
+/// Makes a call, and answers what came of it. An accepted call is the journal's last, and its moment is the
+/// super-block's; a refused one comes back.
+fn answer_to(
+    rt: &impl Abort,
+    alloc: Global,
+    volume: &mut Volume,
+    call: Call,
+) -> Result<Done, Refusal> {
     let words = shown(rt, alloc, &call);
-    let (answer, added) = match volume.call(alloc, call) {
+    match volume.call(alloc, call) {
         Ok(done) => {
             check_last(rt, alloc, volume, &words, done);
-            (Ok(done), 1)
+            Ok(done)
         }
         Err((refusal, same)) => {
-            assert_eq!(rt; volume.image().as_bytes(), before.as_slice());
             check_shown(rt, alloc, &same, &words);
-            (Err(refusal), 0)
+            Err(refusal)
         }
-    };
-    assert_eq!(rt; volume.journal().len().checked_sub(added), Some(len));
-    answer
+    }
 }
 
 /// The journal's last record is the call with these words, which was answered so, and the super-block has its moment.
@@ -301,7 +313,7 @@ fn stat(rt: &impl Abort, alloc: Global, volume: &Volume, path: &[u8]) -> Stat {
     }
 }
 
-/// A user reads these bytes of a file, or may not.
+/// A query for bytes is answered by these, or is refused so.
 fn check_read(
     rt: &impl Abort,
     alloc: Global,

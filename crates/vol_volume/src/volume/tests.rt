@@ -2,6 +2,7 @@
 use super::{MountFault, Volume};
 use crate::mkfs;
 use std::alloc::Global;
+use std::fmt::Display;
 use std::process::Abort;
 use std::test::Fail;
 use vol_layout::Edition;
@@ -10,34 +11,55 @@ use vol_layout::Edition;
 const NOW: u32 = 0x0A0B_0C0D;
 
 #[test]
-fn a_new_volume_is_mounted_and_comes_back(rt: HostRuntime) -> Result<(), Fail> {
+fn a_new_volume_is_mounted_and_comes_back(rt: HostRuntime) {
     let alloc = rt.alloc();
     for (edition, blocks) in [(Edition::V6, 20), (Edition::V7, 100)] {
-        let bytes = mkfs(alloc, edition, blocks, 2, 0, 0, NOW)?;
-        let same = Vec::from_slice(alloc, &bytes)?;
-        let Ok(volume) = Volume::mount(alloc, edition, bytes) else {
-            return Err(Fail::from("a new volume is sound"));
-        };
-        volume.check();
-        assert_eq!(rt; volume.edition(), edition);
-        assert_eq!(rt; volume.base(), same.as_slice());
-        assert_eq!(rt; volume.image().as_bytes(), same.as_slice());
-        assert_eq!(rt; volume.journal().len(), 0);
-        assert_eq!(rt; volume.unmount(), same);
+        let bytes = mkfs(alloc, edition, blocks, 2, 0, 0, NOW).expect(&rt, "a new volume");
+        let same = Vec::from_slice(alloc, &bytes).expect(&rt, "memory for the bytes");
+        match Volume::mount(alloc, edition, bytes) {
+            Ok(volume) => {
+                check_new(&rt, &volume, edition, &same);
+                assert_eq!(rt; volume.unmount(), same);
+            }
+            Err((fault, _)) => panic!(rt; "{fault}"),
+        }
     }
-    Ok(())
+}
+
+/// A volume is of an edition, has these bytes, and was not yet changed.
+fn check_new(rt: &impl Abort, volume: &Volume, edition: Edition, bytes: &[u8]) {
+    assert_eq!(rt; volume.edition(), edition);
+    assert_eq!(rt; volume.base(), bytes);
+    assert_eq!(rt; volume.image().as_bytes(), bytes);
+    assert_eq!(rt; volume.journal().len(), 0);
+    volume.check();
+}
+
+/// Mounts bytes, which is accepted or breaks this rule, and compares those that come back.
+pub(super) fn check_mount(
+    rt: &impl Abort,
+    alloc: Global,
+    edition: Edition,
+    bytes: Vec<u8>,
+    rule: Option<u8>,
+    label: &impl Display,
+) {
+    let same = Vec::from_slice(alloc, &bytes).expect(rt, "memory for the bytes");
+    let (fault, after) = match Volume::mount(alloc, edition, bytes) {
+        Ok(volume) => (None, volume.unmount()),
+        Err((fault, bytes)) => (Some(fault), bytes),
+    };
+    assert_eq!(rt; fault, rule.map(MountFault::Unsound), "{label}");
+    assert_eq!(rt; after, same, "{label}");
 }
 
 #[test]
-fn bytes_past_the_volume_are_kept(rt: HostRuntime) -> Result<(), Fail> {
+fn bytes_past_the_volume_are_kept(rt: HostRuntime) {
     let alloc = rt.alloc();
-    let mut bytes = mkfs(alloc, Edition::V6, 20, 2, 0, 0, NOW)?;
-    bytes.extend_from_slice(&[1, 2, 3])?;
-    let same = Vec::from_slice(alloc, &bytes)?;
-    let (fault, after) = mount_and_unmount(alloc, Edition::V6, bytes);
-    assert_eq!(rt; fault, None);
-    assert_eq!(rt; after, same);
-    Ok(())
+    let mut bytes = mkfs(alloc, Edition::V6, 20, 2, 0, 0, NOW).expect(&rt, "a new volume");
+    let behind = bytes.extend_from_slice(&[1, 2, 3]);
+    behind.expect(&rt, "memory for the bytes");
+    check_mount(&rt, alloc, Edition::V6, bytes, None, &"three bytes more");
 }
 
 /// New volumes of so many blocks, in which the byte at a place is another, and the rule that each breaks.
@@ -73,49 +95,28 @@ static BROKEN: [(Edition, u32, usize, u8, Option<u8>); 13] = [
 #[test]
 fn the_least_rule_that_fails_is_named(rt: HostRuntime) {
     let alloc = rt.alloc();
-    for (edition, blocks, at, byte, wanted) in &BROKEN {
-        let bytes = changed(&rt, alloc, *edition, *blocks, *at, *byte);
-        let same = Vec::from_slice(alloc, &bytes).expect(&rt, "memory for the bytes");
-        let (fault, after) = mount_and_unmount(alloc, *edition, bytes);
-        assert_eq!(rt; fault, wanted.map(MountFault::Unsound), "byte {at}");
-        assert_eq!(rt; after, same, "byte {at}");
+    for (edition, blocks, at, byte, rule) in &BROKEN {
+        let mut bytes = mkfs(alloc, *edition, *blocks, 2, 0, 0, NOW).expect(&rt, "a new volume");
+        *bytes.get_mut(*at).expect(&rt, "a byte of the volume") = *byte;
+        let label = format_args!("byte {at}");
+        check_mount(&rt, alloc, *edition, bytes, *rule, &label);
     }
 }
 
-/// A new volume in which one byte is another.
-fn changed(
-    rt: &impl Abort,
-    alloc: Global,
-    edition: Edition,
-    blocks: u32,
-    at: usize,
-    byte: u8,
-) -> Vec<u8> {
-    let mut bytes = mkfs(alloc, edition, blocks, 2, 0, 0, NOW).expect(rt, "a new volume");
-    *bytes.get_mut(at).expect(rt, "a byte of the volume") = byte;
-    bytes
-}
-
-/// Mounts bytes, and answers the fault, where there is one, and the bytes that come back.
-pub(super) fn mount_and_unmount(
-    alloc: Global,
-    edition: Edition,
-    bytes: Vec<u8>,
-) -> (Option<MountFault>, Vec<u8>) {
-    match Volume::mount(alloc, edition, bytes) {
-        Ok(volume) => (None, volume.unmount()),
-        Err((fault, bytes)) => (Some(fault), bytes),
+/// Puts bytes at a place, as far as there is one.
+pub(super) fn put(bytes: &mut [u8], at: usize, piece: &[u8]) {
+    for (byte, new) in bytes.iter_mut().skip(at).zip(piece) {
+        *byte = *new;
     }
 }
 
 #[test]
 fn short_bytes_are_no_volume(rt: HostRuntime) {
     let alloc = rt.alloc();
-    for (len, wanted) in [(0, 1), (511, 1), (1023, 1), (1024, 2)] {
+    for (len, rule) in [(0, 1), (511, 1), (1023, 1), (1024, 2)] {
         let bytes = vec![in alloc; 0; len].expect(&rt, "memory for the bytes");
-        let (fault, after) = mount_and_unmount(alloc, Edition::V6, bytes);
-        assert_eq!(rt; fault, Some(MountFault::Unsound(wanted)), "{len} bytes");
-        assert_eq!(rt; after.len(), len);
+        let label = format_args!("{len} bytes");
+        check_mount(&rt, alloc, Edition::V6, bytes, Some(rule), &label);
     }
 }
 

@@ -1,7 +1,7 @@
 // Bytes that no call changes.
 use super::Asked::{Create, Fill, Mkdir, Rmdir, Truncate, Unlink};
 use super::Step::{self, Call};
-use super::{NOW, check_run, copied, mount, put};
+use super::{NOW, check_bytes, check_run, copied, mount, put};
 use crate::Done::{Made, Plain, Wrote};
 use crate::mkfs;
 use std::alloc::Global;
@@ -17,8 +17,17 @@ static COMING_AND_GOING: [Step; 6] = [
     Call(Rmdir(b"/d"), Ok(Plain)),
 ];
 
-/// A new volume with bytes of ours in the first block, the flags, behind the super-block's time, and behind
-/// the last block.
+/// Bytes of ours in the first block, behind the super-block's time, and behind the last block.
+static OURS: [(usize, &[u8]); 3] = [
+    (0, &[0xA5; 512]),
+    (930, &[0x5A; 94]),
+    (51_200, b"\x01\x02\x03"),
+];
+
+/// The flags of the super-block.
+static FLAGS: [u8; 4] = [1, 2, 3, 4];
+
+/// A new volume with these bytes and flags, and three bytes more than its blocks have.
 fn marked(
     rt: &impl Abort,
     alloc: Global,
@@ -28,21 +37,22 @@ fn marked(
 ) -> Vec<u8> {
     let made = mkfs(alloc, edition, 100, list_blocks, 0, 0, NOW);
     let mut bytes = made.expect(rt, "a new volume");
-    put(&mut bytes, 0, &[0xA5; 512]);
-    put(&mut bytes, flags, b"\x01\x02\x03\x04");
-    put(&mut bytes, 930, &[0x5A; 94]);
-    let behind = bytes.extend_from_slice(b"\x01\x02\x03");
+    let behind = bytes.extend_from_slice(&[0; 3]);
     behind.expect(rt, "memory for the bytes");
+    for (at, piece) in &OURS {
+        put(&mut bytes, *at, piece);
+    }
+    put(&mut bytes, flags, &FLAGS);
     bytes
 }
 
-/// The bytes of ours are all there.
+/// These bytes and flags are all there.
 fn check_marked(rt: &impl Abort, bytes: &[u8], flags: usize) {
-    assert_eq!(rt; bytes.get(..512), Some([0xA5; 512].as_slice()));
-    assert_eq!(rt; bytes.get(930..1024), Some([0x5A; 94].as_slice()));
-    assert_eq!(rt; bytes.get(51_200..), Some(b"\x01\x02\x03".as_slice()));
-    let kept = bytes.iter().skip(flags).take(4);
-    assert!(rt; kept.eq(&[1, 2, 3, 4]));
+    for (at, piece) in &OURS {
+        check_bytes(rt, bytes, *at, piece);
+    }
+    check_bytes(rt, bytes, flags, &FLAGS);
+    assert_eq!(rt; bytes.len(), 51_203);
 }
 
 #[test]

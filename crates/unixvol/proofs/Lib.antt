@@ -1,3 +1,4 @@
+pub mod Listings
 pub mod Outputs
 pub mod Reading
 pub mod Reasons

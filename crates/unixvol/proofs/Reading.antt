@@ -73,7 +73,7 @@ edition_given given (Mkfs image volume) none is = named_edition volume.edition _
 edition_given given (OnVolume volume job) none is = named_edition volume.edition _ none is.0.0
 
 -- texts that are one pass the test for that
-same : (one other : List ℕ) → one ≡ other → bytes_eq one other ≡ true
+pub same : (one other : List ℕ) → one ≡ other → bytes_eq one other ≡ true
 same one other is = (bytes_eq-Decides one other).1 is
 
 -- `cat` has an i-number

@@ -4,6 +4,7 @@
 mod command_line;
 mod commands;
 mod decimal;
+mod laws;
 mod saving_file;
 
 use pdp_words::IntoWrite;

@@ -1,3 +1,4 @@
 pub mod Listings
+pub mod MadeVolumes
 pub mod Reading
 pub mod Words

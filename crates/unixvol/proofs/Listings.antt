@@ -6,7 +6,7 @@ use Rattle.std.proofs.lemmas.Bool.{ne_eqb}
 use Rattle.clap.proofs.OnLiterals.{clap_on_literals}
 use Rattle.clap.specs.Words.{Row}
 use Rattle.unixvol.specs.CommandLine.{Asks, IsEditionNamed, IsGiven, command_name, given_by}
-use Rattle.vol_commands.specs.Laws.{IsListing, IsPlainWord, ReadsListing}
+use Rattle.unixvol.specs.Laws.{IsListing, IsPlainWord, ReadsListing}
 use Rattle.unixvol.specs.Words.{AreEditions, command_in, command_shape, edition_rule, faults_of, named, program, unixvol_app, with_argument, with_command, word_rule}
 use Rattle.unixvol.specs.declared.command_line.Invocation.{Invocation}
 use Rattle.unixvol.specs.declared.command_line.Invocation.TheVariants.{Cat, Mkfs, OnVolume}

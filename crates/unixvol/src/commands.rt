@@ -188,12 +188,7 @@ fn save_made<R: Files + Eprint + AllocGlobal>(rt: &R, image: &str, made: &Made) 
 }
 
 /// Saves a content in the file `path`, and answers the status to end with: `status`, where it is saved.
-fn save<R: Files + Eprint + AllocGlobal>(
-    rt: &R,
-    path: &str,
-    content: Content<'_>,
-    status: u8,
-) -> u8
+fn save<R: Files + Eprint + AllocGlobal>(rt: &R, path: &str, content: Content<'_>, status: u8) -> u8
     ensures { ((result ≡ status) × Saves R.File.contents content.entry) ⊎ IsStatusOfFile result }
 {
     match save_file(rt, path, content) {

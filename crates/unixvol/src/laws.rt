@@ -1,6 +1,6 @@
 //! Laws about what the words of the command line ask for. A call does nothing: what matters is the contract,
 //! which is proved.
-ghost use Rattle.vol_commands.specs.Laws.{ReadsListing};
+ghost use Rattle.unixvol.specs.Laws.{ReadsListing};
 
 /// `unixvol ls EDITION IMAGE PATH` asks for the names in that directory of the volume in that file, and
 /// for nothing else, where neither word begins with a hyphen.

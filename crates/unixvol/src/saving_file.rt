@@ -44,11 +44,7 @@ impl Content<'_> {
 /// place of the old one, and has its permissions and, where the system lets it, its owner and its group.
 /// So a failure leaves the old file as it was, and no new one. A symbolic link is followed. What is no
 /// regular file, as a device or a pipe, is written in place.
-pub fn save_file<R: Files + AllocGlobal>(
-    rt: &R,
-    path: &str,
-    content: Content<'_>,
-) -> io::Result<()>
+pub fn save_file<R: Files + AllocGlobal>(rt: &R, path: &str, content: Content<'_>) -> io::Result<()>
     ensures { OnOk result (Saves R.File.contents content.entry) }
 {
     match OpenOptions::new().write(true).open(rt, path) {

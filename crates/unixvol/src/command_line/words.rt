@@ -45,11 +45,7 @@ impl Verb {
     }
 
     /// The command as it stands in the command line.
-    fn named<'a>(
-        self,
-        alloc: Global,
-        editions: &'a [&'a str],
-    ) -> Result<Command<'a>, AllocError> {
+    fn named<'a>(self, alloc: Global, editions: &'a [&'a str]) -> Result<Command<'a>, AllocError> {
         match self {
             Verb::Cat => cat_command(alloc, editions),
             Verb::Ls => volumes::ls_command(alloc, editions),

@@ -1,4 +1,14 @@
+use Rattle.unixvol.proofs.MadeVolumes.{runs_by, silent}
 use Rattle.unixvol.proofs.commands.carry_out.Goals as goal
 
 pub returns-in-OnVolume : goal.returns-in-OnVolume
 returns-in-OnVolume g c = rw c.in-OnVolume.is c.run_job.ensures
+
+pub returns-in-Mkfs : goal.returns-in-Mkfs
+returns-in-Mkfs g c =
+    let volume = c.in-Mkfs.volume in
+    let made = c.mkfs_command-made in
+    rw c.in-Mkfs.is (runs_by _ _ volume made.result c.save_made.result made.ensures.made made.ensures.done made.ensures.refused made.ensures.memory
+    made.ensures.unprinted made.ensures.unused
+    (silent volume made.result.status (g.E.Sink.failed made.new.errors) (g.E.Sink.contents c.args.errors.now) (g.E.Sink.contents made.new.errors)
+    made.ensures.line) c.save_made.ensures)

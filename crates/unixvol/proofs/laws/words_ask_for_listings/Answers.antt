@@ -1,5 +1,5 @@
 use Rattle.unixvol.proofs.Listings.{reads_listing}
-use Rattle.vol_commands.proofs.laws.words_ask_for_listings.Goals as goal
+use Rattle.unixvol.proofs.laws.words_ask_for_listings.Goals as goal
 
 pub returns : goal.returns
 returns c = reads_listing

@@ -1,0 +1,64 @@
+-- What a run of `mkfs` comes to, by what it made and by whether that was saved.
+use Rattle.std.proofs.Common.{◌≡◌, ◌≢◌, ◌↔◌, ◌⊎◌, ◌∙◌, ℕ, zero, suc, ◌≤◌, Bool, true≢false, true, false, List, [], Option, None, Some, IsSome, IfSome, inl, inr, sym, subst, arith}
+use Rattle.std.specs.Io.KnownBytes.{Appends, Keeps}
+use Rattle.vol_volume.specs.Blank.{Blank, blank_of, IsMade}
+use Rattle.vol_volume.specs.Mkfs.{is_size, is_bad_id}
+use Rattle.vol_commands.specs.Faults.{Gets}
+use Rattle.vol_commands.specs.Jobs.{Streams}
+use Rattle.vol_commands.specs.Making.{line_of_status}
+use Rattle.vol_commands.specs.declared.making.Made.{Made}
+use Rattle.vol_commands.specs.declared.making.NewVolume.{NewVolume}
+use Rattle.unixvol.specs.Running.{IsStatusOfFile, MadeSaved, RunsMkfs}
+
+-- the volume asked for was taken, where one was made and taken
+taken_whole : (made : Option Blank) (wanted : Blank) (taken : List ℕ → Type 0) → IfSome made (λ blank. blank ≡ wanted)
+    → IfSome made (λ blank. (bytes : List ℕ) × IsMade blank bytes × taken bytes) → IsSome made
+    → (bytes : List ℕ) × IsMade wanted bytes × taken bytes
+taken_whole None wanted taken is took some = absurd (true≢false (sym some))
+taken_whole (Some blank) wanted taken is took some = (took.0, subst (λ b. IsMade b took.0) is took.1, took.2)
+
+-- the statuses of `mkfs` are 0, 1 and 4
+own_within : (status : ℕ) → (status ≢ 0 → status ≢ 1 → status ≡ 4) → (status ≤ 4) × (status ≢ 2)
+own_within zero other = (omega arith, λ e. omega arith)
+own_within (suc zero) other = (omega arith, λ e. omega arith)
+own_within (suc (suc n)) other =
+    let four : suc (suc n) ≡ 4 = other (λ e. omega arith) (λ e. omega arith) in (omega arith, λ e. omega arith)
+
+-- those of a file are 3 and 4
+file_within : (status : ℕ) → IsStatusOfFile status → (3 ≤ status) × (status ≤ 4)
+file_within status file = elim file [ inl e ↦ (omega arith, omega arith) | inr e ↦ (omega arith, omega arith) ]
+
+-- no line is told where the status is 0
+pub silent : (volume : NewVolume) (status : ℕ) (failed : Bool) (old new : Option (List ℕ))
+    → Gets failed old new (line_of_status (is_size volume.edition volume.blocks volume.list_blocks) status) → status ≡ 0 → Gets failed old new []
+silent volume status failed old new line done working =
+    subst (λ n. Appends old new (line_of_status (is_size volume.edition volume.blocks volume.list_blocks) n)) done (line working)
+
+-- what `mkfs` comes to, where what it made was saved or wasn't
+pub runs_by : (streams : Streams) (taken : List ℕ → Type 0) (volume : NewVolume) (made : Made) (status : ℕ)
+    → IfSome made.volume (λ blank. blank ≡ blank_of volume.edition volume.blocks volume.list_blocks volume.uid volume.gid volume.now)
+    → (made.status ≡ 0 ↔ IsSome made.volume)
+    → (made.status ≡ 1 ↔ ((is_size volume.edition volume.blocks volume.list_blocks ≡ false) ⊎ (is_bad_id volume.edition volume.uid volume.gid ≡ true)))
+    → (made.status ≢ 0 → made.status ≢ 1 → made.status ≡ 4) → Keeps streams.old streams.new → streams.failed ≡ streams.had_failed
+    → (made.status ≡ 0 → streams.said []) → MadeSaved taken made status → RunsMkfs streams taken volume status
+runs_by streams taken volume made status is done refused memory unprinted unused quiet saved = elim saved [
+  | inl own ↦ record {
+    unprinted = unprinted;
+    unused = unused;
+    refused = (λ e. refused.0 (sym own.0 ∙ e), λ wrong. own.0 ∙ refused.1 wrong);
+    within = subst (λ n. (n ≤ 4) × (n ≢ 2)) (sym own.0) (own_within made.status memory);
+    made = λ e. taken_whole made.volume _ taken is own.1 (done.0 (sym own.0 ∙ e));
+    quiet = λ e. quiet (sym own.0 ∙ e);
+  }
+  | inr file ↦
+      let whole : made.status ≡ 0 = done.1 file.0 in
+      let range = file_within status file.1 in
+      record {
+        unprinted = unprinted;
+        unused = unused;
+        refused = (λ e. absurd (omega (arith, range.0)), λ wrong. let one : made.status ≡ 1 = refused.1 wrong in absurd (omega arith));
+        within = (range.1, λ e. omega (arith, range.0));
+        made = λ e. absurd (omega (arith, range.0));
+        quiet = λ e. absurd (omega (arith, range.0));
+      }
+]

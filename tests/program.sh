@@ -342,10 +342,12 @@ refuses 1 'unixvol: 104 BadId' mkfs 7 volumes/kept 100 2 32768 0 0
 saves 'a file where no volume was made' volumes/kept hello
 refuses 1 'unixvol: bounds' mkfs 6 volumes/none 4 2 0 0 0
 has 'a file where none was made' no "$([ -e volumes/none ] && echo yes || echo no)"
-(ulimit -v 1000000; runs mkfs 7 volumes/kept 16777216 2 0 0 0)
-echo 'unixvol: 12 NoMemory' > line
-wants 'mkfs of 8 GiB in less memory' 4 none line
-saves 'a file for whose volume there was no memory' volumes/kept hello
+(ulimit -v 40000; runs mkfs 7 volumes/large 131072 2 0 0 0)
+wants 'mkfs of 64 MiB in less memory' 0 none none
+has 'the size of a volume that was greater than memory' 67108864 "$(stat -c %s volumes/large)"
+printf '%5d %s\n' 2 . 2 .. > listed
+prints listed ls 7 volumes/large /
+rm volumes/large
 
 # Files that are replaced: what stands at the end of a link, permissions, and what is no regular file.
 cp hello volumes/linked

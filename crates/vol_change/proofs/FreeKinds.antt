@@ -75,3 +75,8 @@ pub chosen_free : (geometry : Geometry) (old new : List ℕ) (recorded : Option 
     → IsFreeNumber geometry new taken → IsFreeNumber geometry new (unwrap_or recorded taken)
 chosen_free geometry old new None taken same free other = other
 chosen_free geometry old new (Some i) taken same free other = free_kept geometry old new i (same.kind i) free
+
+-- the number that was recorded is the one that is chosen
+pub chosen_recorded : (recorded : Option ℕ) (taken number : ℕ) → number ≡ unwrap_or recorded taken → IfSome recorded (λ i. number ≡ i)
+chosen_recorded None taken number chosen = tt
+chosen_recorded (Some i) taken number chosen = chosen

@@ -91,7 +91,7 @@ word_is V7 word named = named
 -- what `ls` asks for, by the words for its arguments
 asks_listing : (given : List ℕ → List ℕ) (edition : Edition) (image path : List ℕ) (invocation : Invocation) → bytes_eq (codes "ls") (command_name invocation) ≡ true
     → given (codes "EDITION") ≡ word_of edition → given (codes "IMAGE") ≡ image → given (codes "PATH") ≡ path → IsGiven given invocation → IsListing edition image path invocation
-asks_listing given edition image path (Cat e i ino) test e_is i_is p_is is = absurd (true≢false (sym test))
+asks_listing given edition image path (Cat volume ino) test e_is i_is p_is is = absurd (true≢false (sym test))
 asks_listing given edition image path (Mkfs i volume) test e_is i_is p_is is = absurd (true≢false (sym test))
 asks_listing given edition image path (OnVolume volume (jobs.Ls directory)) test e_is i_is p_is is =
     (edition_is volume.edition edition (subst (IsEditionNamed volume.edition) e_is is.0.0), is.0.1 ∙ i_is, is.1 ∙ p_is)
@@ -120,7 +120,7 @@ word_names V7 = refl
 listing_asks : (met : Option (List ℕ × List Row)) (edition : Edition) (image path : List ℕ) (invocation : Invocation)
     → seen met ≡ codes "ls" ∷ word_of edition ∷ image ∷ path ∷ [] → IsListing edition image path invocation → Asks met invocation
 listing_asks None edition image path invocation is listed = absurd (cc)
-listing_asks (Some met) edition image path (Cat e i ino) is listed = absurd listed
+listing_asks (Some met) edition image path (Cat volume ino) is listed = absurd listed
 listing_asks (Some met) edition image path (Mkfs i volume) is listed = absurd listed
 listing_asks (Some met) edition image path (OnVolume volume (jobs.Ls directory)) is listed =
     let name : met.0 ≡ codes "ls" = ap (λ (l : List (List ℕ)). slice_index_or l 0 []) is in

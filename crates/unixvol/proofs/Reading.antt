@@ -19,7 +19,7 @@ use Rattle.vol_layout.specs.declared.edition.Edition.{Edition}
 use Rattle.vol_layout.specs.declared.edition.Edition.TheVariants.{V6, V7}
 use Rattle.vol_commands.specs.declared.making.NewVolume.{NewVolume}
 use Rattle.unixvol.specs.Decimal.{IsNumberUpTo}
-use Rattle.unixvol.specs.CommandLine.{Asks, AsksFor, AsksNothing, TellsOf, IsChange, IsEditionNamed, IsGiven, IsNewVolumeGiven, IsNoCommand, IsNoEdition, IsNoMoment, IsNoNewVolume, IsNoValue, IsRead, IsRefused, command_name, given_by, given_in, word_or_empty}
+use Rattle.unixvol.specs.CommandLine.{Asks, AsksFor, AsksNothing, TellsOf, IsChange, IsEditionNamed, IsGiven, IsNewVolumeGiven, IsNoCat, IsNoCommand, IsNoEdition, IsNoMoment, IsNoNewVolume, IsNoValue, IsRead, IsRefused, command_name, given_by, given_in, word_or_empty}
 use Rattle.unixvol.specs.Words.{AreEditions, app, command_in, command_shape, edition_rule, faults_of, named, program, unixvol_app, with_argument, with_command, word_rule}
 use Rattle.unixvol.specs.declared.command_line.Invocation.{Invocation}
 use Rattle.unixvol.specs.declared.command_line.Invocation.TheVariants.{Cat, Mkfs, OnVolume}
@@ -68,7 +68,7 @@ named_edition V7 text none is = none.1 is
 
 -- each command has an edition
 edition_given : (given : List ℕ → List ℕ) (invocation : Invocation) → IsNoEdition (given (codes "EDITION")) → IsGiven given invocation → ⊥
-edition_given given (Cat edition image ino) none is = named_edition edition _ none is.0
+edition_given given (Cat volume ino) none is = named_edition volume.edition _ none is.0.0
 edition_given given (Mkfs image volume) none is = named_edition volume.edition _ none is.1.0
 edition_given given (OnVolume volume job) none is = named_edition volume.edition _ none is.0.0
 
@@ -79,7 +79,7 @@ same one other is = (bytes_eq-Decides one other).1 is
 -- `cat` has an i-number
 number_given : (given : List ℕ → List ℕ) (invocation : Invocation) → bytes_eq (codes "cat") (command_name invocation) ≡ true
     → (IsNumberUpTo 65535 (given (codes "INO")) → ⊥) → IsGiven given invocation → ⊥
-number_given given (Cat edition image ino) test none is = none is.2.0
+number_given given (Cat volume ino) test none is = none is.1.0
 number_given given (Mkfs image volume) test none is = absurd (true≢false (sym test))
 number_given given (OnVolume volume (jobs.Ls path)) test none is = absurd (true≢false (sym test))
 number_given given (OnVolume volume (jobs.Get path)) test none is = absurd (true≢false (sym test))
@@ -102,7 +102,7 @@ sizes_given given volume (inr (inr (inr (inr (inr none))))) is = none is.5.0
 -- and `mkfs` has a new volume
 new_volume_given : (given : List ℕ → List ℕ) (invocation : Invocation) → bytes_eq (codes "mkfs") (command_name invocation) ≡ true → IsNoNewVolume given
     → IsGiven given invocation → ⊥
-new_volume_given given (Cat edition image ino) test none is = absurd (true≢false (sym test))
+new_volume_given given (Cat volume ino) test none is = absurd (true≢false (sym test))
 new_volume_given given (Mkfs image volume) test none is = sizes_given given volume none is.1
 new_volume_given given (OnVolume volume (jobs.Ls path)) test none is = absurd (true≢false (sym test))
 new_volume_given given (OnVolume volume (jobs.Get path)) test none is = absurd (true≢false (sym test))
@@ -125,7 +125,7 @@ change_test name (inr (inr (inr (inr is)))) = rw is refl
 
 -- a change has a moment
 moment_given : (given : List ℕ → List ℕ) (invocation : Invocation) → is_change (command_name invocation) ≡ true → IsNoMoment given → IsGiven given invocation → ⊥
-moment_given given (Cat edition image ino) test none is = absurd (true≢false (sym test))
+moment_given given (Cat volume ino) test none is = absurd (true≢false (sym test))
 moment_given given (Mkfs image volume) test none is = none is.1.5.0
 moment_given given (OnVolume volume (jobs.Ls path)) test none is = absurd (true≢false (sym test))
 moment_given given (OnVolume volume (jobs.Get path)) test none is = absurd (true≢false (sym test))
@@ -137,6 +137,7 @@ moment_given given (OnVolume volume (jobs.Ln from to now)) test none is = none i
 
 -- where one of the words is no value, nothing is asked for
 no_value : (name : List ℕ) (given : List ℕ → List ℕ) → IsNoValue name given → (invocation : Invocation) → AsksFor name given invocation → ⊥
+unfolding IsNoCat
 no_value name given (inl none) invocation asks = edition_given given invocation none asks.1
 no_value name given (inr (inl (is, inl none))) invocation asks = edition_given given invocation none asks.1
 no_value name given (inr (inl (is, inr none))) invocation asks = number_given given invocation (same _ _ (sym is ∙ asks.0)) none asks.1
@@ -146,7 +147,7 @@ no_value name given (inr (inr (inr (change, inr none)))) invocation asks = momen
 
 -- nor where the name is that of no command
 no_command : (name : List ℕ) (given : List ℕ → List ℕ) → IsNoCommand name → (invocation : Invocation) → AsksFor name given invocation → ⊥
-no_command name given none (Cat edition image ino) asks = none.0 asks.0
+no_command name given none (Cat volume ino) asks = none.0 asks.0
 no_command name given none (Mkfs image volume) asks = none.3 asks.0
 no_command name given none (OnVolume volume (jobs.Ls path)) asks = none.1 asks.0
 no_command name given none (OnVolume volume (jobs.Get path)) asks = none.2 asks.0

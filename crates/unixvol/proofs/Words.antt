@@ -45,7 +45,7 @@ adds_word old new argument name before added is known =
     adds_rule old new argument (word_rule name) added is refl ∙ ap (λ (s : Shape). with_argument s (word_rule name)) known
 
 -- one more argument, which is the edition
-pub adds_edition : (old new : Command) (argument : Arg) (editions : Bor (List (Bor (List ℕ)))) (before : Shape) → AddsArg old argument new
+adds_edition : (old new : Command) (argument : Arg) (editions : Bor (List (Bor (List ℕ)))) (before : Shape) → AddsArg old argument new
     → rule argument ≡ edition_rule editions → shape old ≡ before → shape new ≡ with_argument before (edition_rule editions)
 unfolding rule edition_rule
 adds_edition old new argument editions before added is known =
@@ -56,6 +56,13 @@ pub adds_last : {E : Type 0} (result : Result Command E) (old : Command) (argume
     → rule argument ≡ word_rule name → shape old ≡ before → IfOk result (λ new. shape new ≡ with_argument before (word_rule name))
 adds_last (Ok new) old argument name before added is known = adds_word old new argument name before added is known
 adds_last (Err e) old argument name before added is known = tt
+
+-- the edition as the first argument, where the memory for it was there
+pub adds_edition_last : {E : Type 0} (result : Result Command E) (old : Command) (argument : Arg) (editions : Bor (List (Bor (List ℕ)))) (before : Shape)
+    → IfOk result (AddsArg old argument) → rule argument ≡ edition_rule editions → shape old ≡ before
+    → IfOk result (λ new. shape new ≡ with_argument before (edition_rule editions))
+adds_edition_last (Ok new) old argument editions before added is known = adds_edition old new argument editions before added is known
+adds_edition_last (Err e) old argument editions before added is known = tt
 
 -- a command with its texts, and no argument
 pub starts : (new texts more : Command) (about after_help : Bor (List ℕ)) (name : List ℕ) → app_of new ≡ new_app name

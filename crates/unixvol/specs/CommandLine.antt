@@ -56,7 +56,7 @@ job_name (jobs.Ln from to now) = codes "ln"
 
 -- the name of the command (this project)
 abbrev pub command_name : Invocation → List ℕ
-command_name (Cat edition image ino) = codes "cat"
+command_name (Cat volume ino) = codes "cat"
 command_name (Mkfs image volume) = codes "mkfs"
 command_name (OnVolume volume job) = job_name job
 
@@ -91,8 +91,7 @@ IsJobGiven given (jobs.Ln from to now) =
 
 -- the words that were given for the arguments of its command describe what is asked for (this project)
 abbrev pub IsGiven : (List ℕ → List ℕ) → Invocation → Type 0
-IsGiven given (Cat edition image ino) = IsEditionNamed edition (given (codes "EDITION")) × (image.now ≡ given (codes "IMAGE"))
-    × IsNumberGiven 65535 (given (codes "INO")) ino
+IsGiven given (Cat volume ino) = IsVolumeGiven given volume × IsNumberGiven 65535 (given (codes "INO")) ino
 IsGiven given (Mkfs image volume) = (image.now ≡ given (codes "IMAGE")) × IsNewVolumeGiven given volume
 IsGiven given (OnVolume volume job) = IsVolumeGiven given volume × IsJobGiven given job
 
@@ -105,7 +104,7 @@ abbrev pub IsNoMoment : (List ℕ → List ℕ) → Type 0
 IsNoMoment given = IsNumberUpTo 4294967295 (given (codes "NOW")) → ⊥
 
 -- one of the words of `cat` is no value of its argument (this project)
-abbrev pub IsNoCat : (List ℕ → List ℕ) → Type 0
+unfoldable pub IsNoCat : (List ℕ → List ℕ) → Type 0
 IsNoCat given = IsNoEdition (given (codes "EDITION")) ⊎ (IsNumberUpTo 65535 (given (codes "INO")) → ⊥)
 
 -- one of the words of a command that changes a volume is no value of its argument (this project)

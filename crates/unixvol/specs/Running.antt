@@ -1,5 +1,5 @@
 -- What a run of the program comes to, whatever the bytes are that its files give.
-use Rattle.std.specs.Prelude.{◌≡◌, ◌≢◌, ◌⊎◌, ◌↔◌, ◌≤◌, ℕ, false, true, List, [], None, IsSome, IfSome, Result, Ok, Err}
+use Rattle.std.specs.Prelude.{◌≡◌, ◌≢◌, ◌⊎◌, ◌↔◌, ◌≤◌, ℕ, false, true, List, [], Option, None, IsSome, IfSome, Result, Ok, Err}
 use Rattle.std.specs.Io.KnownBytes.{Keeps}
 use Rattle.vol_volume.specs.Blank.{blank_of, IsMade}
 use Rattle.vol_volume.specs.Mkfs.{is_size, is_bad_id}
@@ -23,11 +23,15 @@ abbrev pub status_after : Result (Unit {0}) CatFault → ℕ
 status_after (Ok done) = 0
 status_after (Err fault) = status_of fault
 
--- `cat` runs on some image: what goes out, and the status, which is 0 only where standard output didn't fail (this project)
+-- `cat` prints of some image: what goes out, and the status (this project)
+abbrev pub PrintsBody : Option (List ℕ) → Option (List ℕ) → Edition → ℕ → ℕ → Type 0
+PrintsBody old new edition i status =
+    (result : Result (Unit {0}) CatFault) × Cats None None old new edition i result × (status ≡ status_after result)
+
+-- `cat` runs: what goes out, and the status, which is 0 only where standard output didn't fail (this project)
 abbrev pub RunsCat : Streams → Edition → ℕ → ℕ → Type 0
 RunsCat streams edition i status =
-    ((result : Result (Unit {0}) CatFault) × Cats None None streams.old streams.new edition i result × (status ≡ status_after result))
-    × (status ≡ 0 → streams.failed ≡ streams.had_failed) × streams.said []
+    PrintsBody streams.old streams.new edition i status × (status ≡ 0 → streams.failed ≡ streams.had_failed) × streams.said []
 
 -- `mkfs` runs: nothing goes out; it is refused exactly where its numbers are no volume's; and a file took the volume, where it is done (this project)
 pub record RunsMkfs (streams : Streams) (taken : List ℕ → Type 0) (volume : NewVolume) (status : ℕ) : Type 0 where
@@ -60,7 +64,7 @@ RunsJob streams taken edition job status =
 
 -- what the user asks for runs: what goes out, what files take, and the status (this project)
 abbrev pub Runs : Streams → (List ℕ → Type 0) → ℕ → Invocation → Type 0
-Runs streams taken status (invocations.Cat edition image i) = RunsCat streams edition i status
+Runs streams taken status (invocations.Cat volume i) = RunsCat streams volume.edition i status
 Runs streams taken status (invocations.Mkfs image volume) = RunsMkfs streams taken volume status
 Runs streams taken status (invocations.OnVolume volume job) = RunsJob streams taken volume.edition job status
 

@@ -15,7 +15,7 @@ mod texts;
 mod volumes;
 mod words;
 
-use words::{EDITIONS, IMAGE, Verb, edition_argument, edition_in, required, word_in};
+use words::{EDITIONS, Verb, on_volume, required, word_in};
 
 /// A volume in a file.
 #[derive(Clone, Copy, Debug, PartialEq, Eq)]
@@ -29,10 +29,9 @@ pub struct VolumeFile<'a> {
 /// What the user asks for.
 #[derive(Clone, Copy, Debug, PartialEq, Eq)]
 pub enum Invocation<'a> {
-    /// Print the body of i-node `ino` of the volume in the file `image`.
+    /// Print the body of i-node `ino` of the volume in a file.
     Cat {
-        edition: Edition,
-        image: &'a str,
+        volume: VolumeFile<'a>,
         ino: u16,
     },
     /// Make a volume in the file `image`.
@@ -155,27 +154,22 @@ fn with_changes<'a>(
 fn cat_command<'a>(alloc: Global, editions: &'a [&'a str]) -> Result<Command<'a>, AllocError>
     ensures { IfOk result (λ command. shape command ≡ command_shape editions.entry (codes "cat") (codes "IMAGE" ∷ codes "INO" ∷ [])) }
 {
-    Command::new(alloc, "cat")
-        .about(texts::CAT_ABOUT)
-        .after_help(texts::CAT_MORE)
-        .arg(edition_argument(alloc, editions))?
-        .arg(required(alloc, IMAGE, texts::IMAGE))?
-        .arg(required(alloc, INO, texts::INO))
+    on_volume(alloc, editions, "cat", texts::CAT_ABOUT, texts::CAT_MORE)?.arg(required(
+        alloc,
+        INO,
+        texts::INO,
+    ))
 }
 
 /// Reads the words of `cat`.
+#[tactic(auto, unfolding(crate::specs::CommandLine::IsNoCat))]
 fn read_cat<'a>(alloc: Global, values: &ArgMatches<'a>) -> Result<Invocation<'a>, Error>
     ensures read { IfOk result (AsksFor (codes "cat") (given_in values.now)) }
     ensures refused { IfErr result (TellsOf (IsNoCat (given_in values.now))) }
 {
-    let edition = edition_in(alloc, Verb::Cat, values)?;
-    let image = values.get_str(IMAGE).unwrap_or("");
+    let volume = volumes::volume_in(alloc, Verb::Cat, values)?;
     let ino = word_in(alloc, Verb::Cat, values, INO)?;
-    Ok(Invocation::Cat {
-        edition,
-        image,
-        ino,
-    })
+    Ok(Invocation::Cat { volume, ino })
 }
 
 /// The edition that a word names.

@@ -7,7 +7,7 @@ ghost use Rattle.clap.specs.Words.{kind_of};
 ghost use Rattle.clap.specs.declared.error.kind.ErrorKind.TheVariants as clap_kinds;
 ghost use Rattle.vol_commands.specs.Cat.{Cats, status_of};
 ghost use Rattle.vol_commands.specs.Faults.{Gets};
-ghost use Rattle.unixvol.specs.Running.{IsStatusOfFile, EndsSaved, MadeSaved, RunsJob, Runs, Ends};
+ghost use Rattle.unixvol.specs.Running.{PrintsBody, IsStatusOfFile, EndsSaved, MadeSaved, RunsJob, Runs, Ends};
 ghost use Rattle.unixvol.specs.Saving.{IsTaken, Saves};
 
 use crate::command_line::{self, Invocation, VolumeFile};
@@ -74,19 +74,29 @@ fn carry_out<R: Files + Eprint + AllocGlobal, O: Sink, E: Sink>(
     }) (IsTaken R.File.contents) result invocation.entry }
 {
     match invocation {
-        Invocation::Cat {
-            edition,
-            image,
-            ino,
-        } => match cat_file(rt, output, edition, image, ino) {
-            Ok(()) => DONE,
-            Err(fault) => explain_cat(rt, fault, image),
-        },
+        Invocation::Cat { volume, ino } => run_cat(rt, output, volume, ino),
         Invocation::Mkfs { image, volume } => {
             let made = mkfs_command(rt.alloc(), volume, output, errors);
             save_made(rt, image, &made)
         }
         Invocation::OnVolume { volume, job } => run_job(rt, output, errors, volume, job),
+    }
+}
+
+/// Prints the body of i-node `ino` of the volume in a file, and answers the status to end with.
+fn run_cat<R: Files + Eprint + AllocGlobal, O: Sink>(
+    rt: &R,
+    output: &mut O,
+    volume: VolumeFile<'_>,
+    ino: u16,
+) -> u8
+    requires { O.failed output.old ≡ false }
+    ensures shown { PrintsBody (O.contents output.old) (O.contents output.new) volume.entry.edition ino result }
+    ensures whole { result ≡ 0 → O.failed output.new ≡ false }
+{
+    match cat_file(rt, output, volume, ino) {
+        Ok(()) => DONE,
+        Err(fault) => explain_cat(rt, fault, volume.image),
     }
 }
 
@@ -152,19 +162,18 @@ fn words<R: Env + AllocGlobal>(rt: &R) -> io::Result<Vec<String>> {
 fn cat_file<R: Files + AllocGlobal, O: Sink>(
     rt: &R,
     output: &mut O,
-    edition: Edition,
-    image: &str,
+    volume: VolumeFile<'_>,
     ino: u16,
 ) -> Result<(), CatFault>
     requires { O.failed output.old ≡ false }
-    ensures shown { Cats None None (O.contents output.old) (O.contents output.new) edition ino result }
+    ensures shown { Cats None None (O.contents output.old) (O.contents output.new) volume.entry.edition ino result }
     ensures kept { OnOk result (O.failed output.new ≡ false) }
 {
-    let Ok(file) = fs::open(rt, image) else {
+    let Ok(file) = fs::open(rt, volume.image) else {
         return Err(CatFault::Device);
     };
     let mut source = FromRead::new(file);
-    cat(rt.alloc(), edition, ino, &mut source, output)
+    cat(rt.alloc(), volume.edition, ino, &mut source, output)
 }
 
 /// Saves what a command made in the file `image`, if it made anything, and answers the status to end with.

@@ -3,7 +3,7 @@ ghost use Rattle.std.specs.Prelude.{◌≡◌, ◌∷◌, [], IfOk, IfErr, codes
 ghost use Rattle.unixvol.specs.Words.{shape, command_shape};
 ghost use Rattle.unixvol.specs.CommandLine.{AsksFor, IsNoNewVolume, TellsOf, given_in};
 
-use super::words::{IMAGE, NOW, Verb, edition_argument, edition_in, long_in, required, word_in};
+use super::words::{IMAGE, NOW, Verb, edition_in, long_in, of_edition, required, word_in};
 use super::{Invocation, texts};
 use clap::{ArgMatches, Command, Error};
 use std::alloc::{AllocError, Global};
@@ -34,10 +34,7 @@ fn with_sizes<'a>(alloc: Global, editions: &'a [&'a str]) -> Result<Command<'a>,
     ensures { IfOk result (λ command. shape command ≡ command_shape editions.entry (codes "mkfs")
         (codes "IMAGE" ∷ codes "FSIZE" ∷ codes "IBLOCKS" ∷ [])) }
 {
-    Command::new(alloc, "mkfs")
-        .about(texts::MKFS_ABOUT)
-        .after_help(texts::MKFS_MORE)
-        .arg(edition_argument(alloc, editions))?
+    of_edition(alloc, editions, "mkfs", texts::MKFS_ABOUT, texts::MKFS_MORE)?
         .arg(required(alloc, IMAGE, texts::NEW_IMAGE))?
         .arg(required(alloc, BLOCKS, texts::BLOCKS))?
         .arg(required(alloc, LIST_BLOCKS, texts::LIST_BLOCKS))

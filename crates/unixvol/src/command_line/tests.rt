@@ -96,8 +96,7 @@ fn words_of_the_command_line_are_read(rt: HostRuntime) -> Result<(), Fail> {
     }
     let invocation = read(rt.alloc(), words.as_slice())?;
     let wanted = Invocation::Cat {
-        edition: Edition::V7,
-        image: "disk",
+        volume: VOLUME,
         ino: 17,
     };
     assert_eq!(rt; invocation, wanted);

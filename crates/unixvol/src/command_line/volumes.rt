@@ -3,7 +3,7 @@ ghost use Rattle.std.specs.Prelude.{◌≡◌, ◌∷◌, [], IfOk, IfErr, codes
 ghost use Rattle.unixvol.specs.Words.{shape, command_shape};
 ghost use Rattle.unixvol.specs.CommandLine.{AsksFor, IsNoChange, IsNoEdition, IsVolumeGiven, TellsOf, given_in};
 
-use super::words::{IMAGE, NOW, Verb, edition_argument, edition_in, long_in, required};
+use super::words::{IMAGE, NOW, Verb, edition_in, long_in, on_volume, required};
 use super::{Invocation, VolumeFile, texts};
 use clap::{ArgMatches, Command, Error};
 use std::alloc::{AllocError, Global};
@@ -120,23 +120,6 @@ pub(super) fn ln_command<'a>(
         .arg(required(alloc, NOW, texts::CALL_NOW))
 }
 
-/// A command whose first words are the edition and the image.
-fn on_volume<'a>(
-    alloc: Global,
-    editions: &'a [&'a str],
-    name: &'a str,
-    about: &'a str,
-    more: &'a str,
-) -> Result<Command<'a>, AllocError>
-    ensures { IfOk result (λ command. shape command ≡ command_shape editions.entry name.entry.now (codes "IMAGE" ∷ [])) }
-{
-    Command::new(alloc, name)
-        .about(about)
-        .after_help(more)
-        .arg(edition_argument(alloc, editions))?
-        .arg(required(alloc, IMAGE, texts::IMAGE))
-}
-
 /// Reads the words of `ls`.
 pub(super) fn read_ls<'a>(alloc: Global, values: &ArgMatches<'a>) -> Result<Invocation<'a>, Error>
     ensures read { IfOk result (AsksFor (codes "ls") (given_in values.now)) }
@@ -228,7 +211,7 @@ pub(super) fn read_ln<'a>(alloc: Global, values: &ArgMatches<'a>) -> Result<Invo
 }
 
 /// The edition and the file of the volume that were given.
-fn volume_in<'a>(
+pub(super) fn volume_in<'a>(
     alloc: Global,
     verb: Verb,
     values: &ArgMatches<'a>,

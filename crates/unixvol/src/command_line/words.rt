@@ -1,9 +1,9 @@
 //! The words that several commands have, and the faults of words.
-ghost use Rattle.std.specs.Prelude.{◌≡◌, IfOk, IfErr, codes};
+ghost use Rattle.std.specs.Prelude.{◌≡◌, ◌∷◌, [], IfOk, IfErr, codes};
 ghost use Rattle.clap.specs.Words.{kind_of};
 ghost use Rattle.clap.specs.declared.error.kind.ErrorKind.TheVariants as clap_kinds;
 ghost use Rattle.unixvol.specs.CommandLine.{IsEditionNamed, IsNoEdition, TellsOf, given_in};
-ghost use Rattle.unixvol.specs.Words.{rule, word_rule, edition_rule};
+ghost use Rattle.unixvol.specs.Words.{command_shape, rule, shape, word_rule, edition_rule};
 ghost use Rattle.unixvol.specs.Decimal.{IsNumberUpTo, IsNumberGiven};
 
 use super::{cat_command, edition_of, mkfs, texts, volumes};
@@ -73,6 +73,35 @@ impl Verb {
             Verb::Ln => "unixvol ln",
         }
     }
+}
+
+/// A command whose first words are the edition and the image.
+pub fn on_volume<'a>(
+    alloc: Global,
+    editions: &'a [&'a str],
+    name: &'a str,
+    about: &'a str,
+    more: &'a str,
+) -> Result<Command<'a>, AllocError>
+    ensures { IfOk result (λ command. shape command ≡ command_shape editions.entry name.entry.now (codes "IMAGE" ∷ [])) }
+{
+    of_edition(alloc, editions, name, about, more)?.arg(required(alloc, IMAGE, texts::IMAGE))
+}
+
+/// A command whose first word is the edition.
+pub fn of_edition<'a>(
+    alloc: Global,
+    editions: &'a [&'a str],
+    name: &'a str,
+    about: &'a str,
+    more: &'a str,
+) -> Result<Command<'a>, AllocError>
+    ensures { IfOk result (λ command. shape command ≡ command_shape editions.entry name.entry.now []) }
+{
+    Command::new(alloc, name)
+        .about(about)
+        .after_help(more)
+        .arg(edition_argument(alloc, editions))
 }
 
 /// The word that names the edition of the volume.

@@ -1,3 +1,5 @@
+use Rattle.std.proofs.KnownBytes.{Appends-nil}
+use Rattle.std.proofs.Common.{sym, ◌∙◌}
 use Rattle.unixvol.proofs.MadeVolumes.{runs_by, silent}
 use Rattle.unixvol.proofs.commands.carry_out.Goals as goal
 
@@ -12,3 +14,6 @@ returns-in-Mkfs g c =
     made.ensures.unprinted made.ensures.unused
     (silent volume made.result.status (g.E.Sink.failed made.new.errors) (g.E.Sink.contents c.args.errors.now) (g.E.Sink.contents made.new.errors)
     made.ensures.line) c.save_made.ensures)
+
+pub returns-in-Cat : goal.returns-in-Cat
+returns-in-Cat g c = rw c.in-Cat.is (c.run_cat.ensures.shown, (λ done. c.run_cat.ensures.whole done ∙ sym c.requires), (λ working. Appends-nil (g.E.Sink.contents c.args.errors.now)))

@@ -1,3 +1,2 @@
-pub mod Outputs
 pub mod Reasons
 pub mod Replies

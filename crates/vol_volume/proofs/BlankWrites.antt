@@ -1,33 +1,16 @@
 -- Writing the blocks of a new volume, some at a time.
 use Rattle.std.specs.Prelude.{slice_range, Option, Result, Ok, Err, OnOk}
 use Rattle.std.specs.Io.KnownBytes.{Appends}
-use Rattle.std.proofs.KnownBytes.{Appends-trans}
-use Rattle.std.proofs.Common.{◌≡◌, ℕ, ◌+◌, ◌-◌, ◌*◌, ◌<◌, ◌≤◌, ◌++◌, List, length, take, drop, sym, ap, subst, ◌∙◌, arith, get_or}
+use Rattle.std.proofs.Common.{◌≡◌, ℕ, ◌+◌, ◌-◌, ◌*◌, ◌<◌, ◌≤◌, List, length, take, sym, ap, subst, ◌∙◌, arith, get_or}
 use Rattle.std.proofs.lemmas.Grind.{same_number_lists}
 use Rattle.std.proofs.lemmas.List.{take-take, take_all, get_or-take, length-take-le}
 use Rattle.std.proofs.lemmas.List.FromFn.{get_or-map-range_with_len}
-use Rattle.std.proofs.Math.Seq.{take-add}
 use Rattle.pdp_words.specs.Devices.{AppendsFront}
 use Rattle.vol_layout.specs.declared.geometry.Geometry.{Geometry}
 use Rattle.vol_layout.proofs.BodyLaws.{length-slice_range, get_or-slice_range}
 use Rattle.vol_volume.proofs.BlankVolumes.{volume_len, blank_is}
+use Rattle.vol_volume.proofs.Outputs.{Appends-more}
 use Rattle.vol_volume.specs.Blank.{blank_in, volume_byte, volume_bytes, IsBlank, WritesVolume, WritesFront}
-
--- the first m bytes of a piece that begins after n bytes follow these
-take_on : (bytes : List ℕ) (n count m : ℕ) → m ≤ count
-    → take (n + m) bytes ≡ take n bytes ++ take m (slice_range bytes n (n + count))
-take_on bytes n count m h =
-    let whole : m ≤ n + count - n = omega arith in
-    take-add n m bytes ∙ ap (λ xs. take n bytes ++ xs) (sym (take-take m (n + count - n) (drop n bytes) whole))
-
--- where the first n bytes went out, and then the first m of the piece after them, the first n + m did
-pub Appends-more : (a b c : Option (List ℕ)) (bytes piece : List ℕ) (n count m : ℕ) → m ≤ count
-    → piece ≡ slice_range bytes n (n + count) → Appends a b (take n bytes) → Appends b c (take m piece)
-    → Appends a c (take (n + m) bytes)
-Appends-more a b c bytes piece n count m h part front more =
-    let whole : take (n + m) bytes ≡ take n bytes ++ take m piece =
-    take_on bytes n count m h ∙ ap (λ xs. take n bytes ++ take m xs) (sym part) in
-    subst (Appends a c) (sym whole) (Appends-trans a b c _ _ front more)
 
 -- a byte of a volume
 pub byte_at : (geometry : Geometry) (first : List ℕ) (k : ℕ) → k < 512 * geometry.zone_end

@@ -16,6 +16,7 @@ pub mod NewVolumes
 pub mod FreeNumbers
 pub mod NeedReadings
 pub mod NodeReadings
+pub mod Outputs
 pub mod PerformedCalls
 mod QueriedNodes
 pub mod RecordedNumbers

@@ -212,8 +212,7 @@ fn check_failed_load(
     let mut source = FromRead::new(reader);
     let fault = load(alloc, &mut source).err();
     check(rt, fault, Some(LoadFault::Device), label);
-    check(rt, source.failed(), true, label);
-    check_bytes(rt, source.into_inner().rest, left, label);
+    check_source(rt, source, true, left, label);
 }
 
 // A load gives these bytes, and none is left in its source then.
@@ -227,8 +226,19 @@ fn check_whole_load(
     let mut source = FromRead::new(reader);
     let image = load(alloc, &mut source).expect(rt, label);
     check_bytes(rt, image.as_bytes(), bytes, label);
-    check(rt, source.failed(), false, label);
-    check_bytes(rt, source.into_inner().rest, &[], label);
+    check_source(rt, source, false, &[], label);
+}
+
+// A source has failed or not, and these bytes are left in it.
+fn check_source(
+    rt: &impl Abort,
+    source: FromRead<ScriptedReader>,
+    has_failed: bool,
+    left: &[u8],
+    label: &str,
+) {
+    check(rt, source.failed(), has_failed, label);
+    check_bytes(rt, source.into_inner().rest, left, label);
 }
 
 #[test]
@@ -270,7 +280,18 @@ fn check_save(
 ) {
     let mut sink = IntoWrite::new(writer);
     check(rt, save(image, &mut sink), wanted, label);
-    check(rt, sink.failed(), wanted.is_err(), label);
+    check_sink(rt, sink, wanted.is_err(), taken, label);
+}
+
+// A sink has failed or not, and has taken these bytes.
+fn check_sink(
+    rt: &impl Abort,
+    sink: IntoWrite<ScriptedWriter>,
+    has_failed: bool,
+    taken: &[u8],
+    label: &str,
+) {
+    check(rt, sink.failed(), has_failed, label);
     check_bytes(rt, &sink.into_inner().taken, taken, label);
 }
 
@@ -306,8 +327,7 @@ fn reads_of_no_byte_and_of_one_do_their_work(rt: HostRuntime) {
     let mut source = FromRead::new(ScriptedReader::new(&[5, 6], 7));
     check_read(&rt, &mut source, &[]);
     check_read(&rt, &mut source, &[5]);
-    check(&rt, source.failed(), false, "failed");
-    check_bytes(&rt, source.into_inner().rest, &[6], "left");
+    check_source(&rt, source, false, &[6], "after two reads");
 }
 
 // A read into room for so many bytes gives these.
@@ -323,8 +343,7 @@ fn writes_of_no_byte_and_of_one_do_their_work(rt: HostRuntime) {
     let mut sink = IntoWrite::new(ScriptedWriter::new(rt.alloc(), 7));
     check_write(&rt, &mut sink, &[]);
     check_write(&rt, &mut sink, &[8]);
-    check(&rt, sink.failed(), false, "failed");
-    check_bytes(&rt, &sink.into_inner().taken, &[8], "taken");
+    check_sink(&rt, sink, false, &[8], "after two writes");
 }
 
 // A write takes all of these bytes.
@@ -358,8 +377,7 @@ fn check_refused_load(rt: &impl Abort, alloc: Global, bytes: &[u8]) {
     let mut source = FromRead::new(ScriptedReader::new(bytes, 4));
     let fault = load_with_capacity(alloc, usize::MAX, &mut source).err();
     check(rt, fault, Some(LoadFault::NoMemory), "the fault");
-    check(rt, source.failed(), false, "failed");
-    check_bytes(rt, source.into_inner().rest, bytes, "left");
+    check_source(rt, source, false, bytes, "after the refusal");
 }
 
 #[test]

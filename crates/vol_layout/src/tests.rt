@@ -1,4 +1,5 @@
-ghost use Rattle.std.specs.Prelude.{◌≡◌, IfOk, length};
+ghost use Rattle.std.specs.Prelude.{◌≡◌, ◌≤◌, length};
+ghost use Rattle.vol_layout.specs.Geometry.{Fits};
 
 use crate::i_list::{address, mode, size};
 use crate::{
@@ -6,48 +7,70 @@ use crate::{
     clear_inode, inode, number, put_inode, put_number,
 };
 use pdp_words::Image;
-use std::alloc::{AllocError, Global};
-use std::test::Fail;
+use std::alloc::Global;
+use std::fmt::Debug;
+use std::process::Abort;
+
+/// A value is the one that is wanted.
+fn check<T: PartialEq + Debug + Copy>(rt: &impl Abort, found: T, wanted: T, label: &str) {
+    assert_eq!(rt; found, wanted, "{label}");
+}
+
+/// Bytes are those that are wanted.
+fn check_bytes(rt: &impl Abort, found: &[u8], wanted: &[u8], label: &str) {
+    check(rt, found, wanted, label);
+}
 
 /// An image of zero bytes.
-fn zeros(alloc: Global, len: usize) -> Result<Image, AllocError>
-    ensures { IfOk result (λ image. length image ≡ len) }
+fn zeros(rt: &impl Abort, alloc: Global, len: usize) -> Image
+    ensures { length result ≡ len }
 {
-    Ok(Image::from_bytes(vec![in alloc; 0; len]?))
+    let bytes = vec![in alloc; 0; len];
+    Image::from_bytes(bytes.expect(rt, "memory for an image"))
 }
 
 /// A volume of five blocks, zero but for its sizes: one block of i-nodes, and two of data.
-fn volume(alloc: Global, edition: Edition) -> Result<Image, AllocError>
-    ensures { IfOk result (λ image. length image ≡ 2560) }
+fn volume(rt: &impl Abort, alloc: Global, edition: Edition) -> Image
+    ensures { length result ≡ 2560 }
 {
-    let mut image = zeros(alloc, 2560)?;
+    let mut image = zeros(rt, alloc, 2560);
     match edition {
         Edition::V6 => image.put_bytes(512, &[1, 0, 5, 0]),
         Edition::V7 => image.put_bytes(512, &[3, 0, 0, 0, 5, 0]),
     }
-    Ok(image)
+    image
+}
+
+/// The geometry of an image that has so many i-nodes.
+fn geometry_of(rt: &impl Abort, edition: Edition, image: &Image, inodes: u16) -> Geometry
+    ensures fits { Fits result image.now }
+    ensures last { result.last_inode ≡ inodes }
+{
+    let geometry = Geometry::read(edition, image).expect(rt, "a geometry");
+    assert!(rt; geometry.last_inode == inodes);
+    geometry
 }
 
 /// A super-block of the sixth edition, of which the first and the last item of each array are set.
-fn super_v6(alloc: Global) -> Result<Image, AllocError>
-    ensures { IfOk result (λ image. length image ≡ 1024) }
+fn super_v6(rt: &impl Abort, alloc: Global) -> Image
+    ensures { length result ≡ 1024 }
 {
-    let mut image = zeros(alloc, 1024)?;
+    let mut image = zeros(rt, alloc, 1024);
     image.put_bytes(512, &[1, 2, 3, 4, 5, 6, 7, 8]);
     image.put_bytes(716, &[9, 10, 11, 12, 13, 14]);
     image.put_bytes(918, &[15, 16, 17, 18, 19, 20, 21, 22, 23, 24]);
-    Ok(image)
+    image
 }
 
 /// A super-block of the seventh edition, of which the first and the last item of each array are set.
-fn super_v7(alloc: Global) -> Result<Image, AllocError>
-    ensures { IfOk result (λ image. length image ≡ 1024) }
+fn super_v7(rt: &impl Abort, alloc: Global) -> Image
+    ensures { length result ≡ 1024 }
 {
-    let mut image = zeros(alloc, 1024)?;
+    let mut image = zeros(rt, alloc, 1024);
     image.put_bytes(512, &[1, 2, 3, 4, 5, 6, 7, 8, 9, 10, 11, 12]);
     image.put_bytes(716, &[13, 14, 15, 16, 17, 18, 19, 20]);
     image.put_bytes(920, &[21, 22, 23, 24, 25, 26, 27, 28, 29, 30]);
-    Ok(image)
+    image
 }
 
 #[test]
@@ -64,7 +87,7 @@ fn knows_the_numbers_of_each_edition(rt: HostRuntime) {
         link_limit: 0o177,
         id_limit: 0o377,
     };
-    assert_eq!(rt; Edition::V6.constants(), sixth);
+    check(&rt, Edition::V6.constants(), sixth, "the sixth");
     let seventh = Constants {
         root: 2,
         inode_bytes: 512 / 8,
@@ -77,64 +100,66 @@ fn knows_the_numbers_of_each_edition(rt: HostRuntime) {
         link_limit: 0o77777,
         id_limit: 0o77777,
     };
-    assert_eq!(rt; Edition::V7.constants(), seventh);
+    check(&rt, Edition::V7.constants(), seventh, "the seventh");
 }
 
 #[test]
-fn reads_the_super_block_of_the_sixth_edition(rt: HostRuntime) -> Result<(), Fail> {
-    let image = super_v6(rt.alloc())?;
+fn reads_the_super_block_of_the_sixth_edition(rt: HostRuntime) {
+    let image = super_v6(&rt, rt.alloc());
     let block = Super {
         edition: Edition::V6,
     };
-    assert_eq!(rt; block.list_size(&image), 0x0201);
-    assert_eq!(rt; block.block_count(&image), 0x0403);
-    assert_eq!(rt; block.free_count(&image), 0x0605);
-    assert_eq!(rt;
-        [block.free(&image, 0), block.free(&image, 99)],
-        [0x0807, 0x0A09]
-    );
-    assert_eq!(rt; block.cache_count(&image), 0x0C0B);
-    assert_eq!(rt;
-        [block.cached(&image, 0), block.cached(&image, 99)],
-        [0x0E0D, 0x100F]
-    );
-    assert_eq!(rt; block.flag(&image, Flag::FreeLock), 17);
-    assert_eq!(rt; block.flag(&image, Flag::InodeLock), 18);
-    assert_eq!(rt; block.flag(&image, Flag::Modified), 19);
-    assert_eq!(rt; block.flag(&image, Flag::ReadOnly), 20);
-    assert_eq!(rt; block.time(&image), 0x1615_1817);
-    Ok(())
+    check(&rt, block.list_size(&image), 0x0201, "the i-list");
+    check(&rt, block.block_count(&image), 0x0403, "the blocks");
+    check(&rt, block.free_count(&image), 0x0605, "the free numbers");
+    check(&rt, block.free(&image, 0), 0x0807, "the first of them");
+    check(&rt, block.free(&image, 99), 0x0A09, "the last of them");
+    check_cache(&rt, &image, block, [0x0C0B, 0x0E0D, 0x100F]);
+    check_flags(&rt, &image, block, [17, 18, 19, 20]);
+    check(&rt, block.time(&image), 0x1615_1817, "the time");
 }
 
 #[test]
-fn reads_the_super_block_of_the_seventh_edition(rt: HostRuntime) -> Result<(), Fail> {
-    let image = super_v7(rt.alloc())?;
+fn reads_the_super_block_of_the_seventh_edition(rt: HostRuntime) {
+    let image = super_v7(&rt, rt.alloc());
     let block = Super {
         edition: Edition::V7,
     };
-    assert_eq!(rt; block.list_size(&image), 0x0201);
-    assert_eq!(rt; block.block_count(&image), 0x0403_0605);
-    assert_eq!(rt; block.free_count(&image), 0x0807);
-    assert_eq!(rt;
-        [block.free(&image, 0), block.free(&image, 49)],
-        [0x0A09_0C0B, 0x0E0D_100F]
-    );
-    assert_eq!(rt; block.cache_count(&image), 0x1211);
-    assert_eq!(rt;
-        [block.cached(&image, 0), block.cached(&image, 99)],
-        [0x1413, 0x1615]
-    );
-    assert_eq!(rt; block.flag(&image, Flag::FreeLock), 23);
-    assert_eq!(rt; block.flag(&image, Flag::InodeLock), 24);
-    assert_eq!(rt; block.flag(&image, Flag::Modified), 25);
-    assert_eq!(rt; block.flag(&image, Flag::ReadOnly), 26);
-    assert_eq!(rt; block.time(&image), 0x1C1B_1E1D);
-    Ok(())
+    check(&rt, block.list_size(&image), 0x0201, "the i-list");
+    check(&rt, block.block_count(&image), 0x0403_0605, "the blocks");
+    check(&rt, block.free_count(&image), 0x0807, "the free numbers");
+    check(&rt, block.free(&image, 0), 0x0A09_0C0B, "the first of them");
+    check(&rt, block.free(&image, 49), 0x0E0D_100F, "the last of them");
+    check_cache(&rt, &image, block, [0x1211, 0x1413, 0x1615]);
+    check_flags(&rt, &image, block, [23, 24, 25, 26]);
+    check(&rt, block.time(&image), 0x1C1B_1E1D, "the time");
+}
+
+/// The i-number cache has this count, first number and last number.
+fn check_cache(rt: &impl Abort, image: &Image, block: Super, wanted: [u16; 3])
+    requires { 1024 ≤ length image.now }
+{
+    let count = block.cache_count(image);
+    let found = [count, block.cached(image, 0), block.cached(image, 99)];
+    check(rt, found, wanted, "the cache");
+}
+
+/// The flags are these, in the order of their bytes.
+fn check_flags(rt: &impl Abort, image: &Image, block: Super, wanted: [u8; 4])
+    requires { 1024 ≤ length image.now }
+{
+    let locks = [
+        block.flag(image, Flag::FreeLock),
+        block.flag(image, Flag::InodeLock),
+        block.flag(image, Flag::Modified),
+        block.flag(image, Flag::ReadOnly),
+    ];
+    check(rt, locks, wanted, "the flags");
 }
 
 #[test]
-fn puts_the_super_block_of_the_sixth_edition(rt: HostRuntime) -> Result<(), Fail> {
-    let mut image = zeros(rt.alloc(), 1024)?;
+fn puts_the_super_block_of_the_sixth_edition(rt: HostRuntime) {
+    let mut image = zeros(&rt, rt.alloc(), 1024);
     let block = Super {
         edition: Edition::V6,
     };
@@ -151,13 +176,13 @@ fn puts_the_super_block_of_the_sixth_edition(rt: HostRuntime) -> Result<(), Fail
     block.put_flag(&mut image, Flag::Modified, 19);
     block.put_flag(&mut image, Flag::ReadOnly, 20);
     block.put_time(&mut image, 0x1615_1817);
-    assert_eq!(rt; image.as_bytes(), super_v6(rt.alloc())?.as_bytes());
-    Ok(())
+    let wanted = super_v6(&rt, rt.alloc());
+    check_bytes(&rt, image.as_bytes(), wanted.as_bytes(), "the bytes");
 }
 
 #[test]
-fn puts_the_super_block_of_the_seventh_edition(rt: HostRuntime) -> Result<(), Fail> {
-    let mut image = zeros(rt.alloc(), 1024)?;
+fn puts_the_super_block_of_the_seventh_edition(rt: HostRuntime) {
+    let mut image = zeros(&rt, rt.alloc(), 1024);
     let block = Super {
         edition: Edition::V7,
     };
@@ -174,63 +199,73 @@ fn puts_the_super_block_of_the_seventh_edition(rt: HostRuntime) -> Result<(), Fa
     block.put_flag(&mut image, Flag::Modified, 25);
     block.put_flag(&mut image, Flag::ReadOnly, 26);
     block.put_time(&mut image, 0x1C1B_1E1D);
-    assert_eq!(rt; image.as_bytes(), super_v7(rt.alloc())?.as_bytes());
-    Ok(())
+    let wanted = super_v7(&rt, rt.alloc());
+    check_bytes(&rt, image.as_bytes(), wanted.as_bytes(), "the bytes");
 }
 
 #[test]
-fn refuses_images_without_sizes(rt: HostRuntime) -> Result<(), Fail> {
+fn refuses_images_without_sizes(rt: HostRuntime) {
     for edition in [Edition::V6, Edition::V7] {
-        for len in [0, 511, 1023] {
-            let image = zeros(rt.alloc(), len)?;
-            assert_eq!(rt;
-                Geometry::read(edition, &image),
-                Err(GeometryFault::Short),
-                "{len}"
-            );
-        }
-        let image = zeros(rt.alloc(), 1024)?;
-        assert_eq!(rt; Geometry::read(edition, &image), Err(GeometryFault::Bounds));
+        check_fault(&rt, rt.alloc(), edition, 0, GeometryFault::Short);
+        check_fault(&rt, rt.alloc(), edition, 511, GeometryFault::Short);
+        check_fault(&rt, rt.alloc(), edition, 1023, GeometryFault::Short);
+        check_fault(&rt, rt.alloc(), edition, 1024, GeometryFault::Bounds);
     }
-    Ok(())
+}
+
+/// So many zero bytes have no geometry.
+fn check_fault(rt: &impl Abort, alloc: Global, edition: Edition, len: usize, fault: GeometryFault) {
+    let found = Geometry::read(edition, &zeros(rt, alloc, len));
+    assert_eq!(rt; found, Err(fault), "{len}");
 }
 
 #[test]
-fn reads_the_sizes(rt: HostRuntime) -> Result<(), Fail> {
-    let mut image = volume(rt.alloc(), Edition::V6)?;
+fn reads_the_sizes_of_the_sixth_edition(rt: HostRuntime) {
+    let mut image = volume(&rt, rt.alloc(), Edition::V6);
     let sizes = Geometry {
         edition: Edition::V6,
         zone_start: 3,
         zone_end: 5,
         last_inode: 16,
     };
-    assert_eq!(rt; Geometry::read(Edition::V6, &image), Ok(sizes));
-    let data = [2, 3, 4, 5].map(|k| sizes.in_zone(k));
-    assert_eq!(rt; data, [false, true, true, false]);
+    check_geometry(&rt, &image, Edition::V6, Ok(sizes));
+    check(&rt, sizes.in_zone(2), false, "block 2");
+    check(&rt, sizes.in_zone(3), true, "block 3");
+    check(&rt, sizes.in_zone(4), true, "block 4");
+    check(&rt, sizes.in_zone(5), false, "block 5");
     image.put_byte(512, 3);
-    assert_eq!(rt;
-        Geometry::read(Edition::V6, &image),
-        Err(GeometryFault::Bounds)
-    );
-    let mut image = volume(rt.alloc(), Edition::V7)?;
+    check_geometry(&rt, &image, Edition::V6, Err(GeometryFault::Bounds));
+}
+
+#[test]
+fn reads_the_sizes_of_the_seventh_edition(rt: HostRuntime) {
+    let mut image = volume(&rt, rt.alloc(), Edition::V7);
     let sizes = Geometry {
         edition: Edition::V7,
         zone_start: 3,
         zone_end: 5,
         last_inode: 8,
     };
-    assert_eq!(rt; Geometry::read(Edition::V7, &image), Ok(sizes));
+    check_geometry(&rt, &image, Edition::V7, Ok(sizes));
     image.put_byte(512, 2);
-    assert_eq!(rt;
-        Geometry::read(Edition::V7, &image),
-        Err(GeometryFault::Bounds)
-    );
+    check_geometry(&rt, &image, Edition::V7, Err(GeometryFault::Bounds));
     image.put_byte(516, 6);
-    assert_eq!(rt;
-        Geometry::read(Edition::V7, &image),
-        Err(GeometryFault::Short)
-    );
-    Ok(())
+    check_geometry(&rt, &image, Edition::V7, Err(GeometryFault::Short));
+}
+
+/// An image has these sizes, or this is why it has none.
+fn check_geometry(
+    rt: &impl Abort,
+    image: &Image,
+    edition: Edition,
+    wanted: Result<Geometry, GeometryFault>,
+) {
+    let label = match wanted {
+        Ok(_) => "sizes",
+        Err(GeometryFault::Short) => "short",
+        Err(GeometryFault::Bounds) => "bounds",
+    };
+    check(rt, Geometry::read(edition, image), wanted, label);
 }
 
 /// The bytes of i-node 1 of a volume of the sixth edition that has just been made: the root.
@@ -240,12 +275,10 @@ const ROOT_V6: [u8; 32] = [
 ];
 
 #[test]
-fn reads_the_root_of_the_sixth_edition(rt: HostRuntime) -> Result<(), Fail> {
-    let mut image = volume(rt.alloc(), Edition::V6)?;
+fn reads_the_root_of_the_sixth_edition(rt: HostRuntime) {
+    let mut image = volume(&rt, rt.alloc(), Edition::V6);
     image.put_bytes(1024, &ROOT_V6);
-    let geometry = Geometry::read(Edition::V6, &image)?;
-    assert_eq!(rt; geometry.last_inode, 16);
-    let root = inode(&image, &geometry, 1);
+    let geometry = geometry_of(&rt, Edition::V6, &image, 16);
     let wanted = Inode {
         mode: Mode { bits: 0o140777 },
         links: 2,
@@ -257,11 +290,11 @@ fn reads_the_root_of_the_sixth_edition(rt: HostRuntime) -> Result<(), Fail> {
         modified: 0x0A0B_0C0D,
         changed: None,
     };
-    assert_eq!(rt; root, wanted);
-    assert_eq!(rt; mode(&image, &geometry, 1), wanted.mode);
-    assert_eq!(rt; size(&image, &geometry, 1), 32);
-    assert_eq!(rt; address(&image, &geometry, 1, 0), 4);
-    Ok(())
+    check(&rt, inode(&image, &geometry, 1), wanted, "the root");
+    check(&rt, mode(&image, &geometry, 1), wanted.mode, "its mode");
+    check(&rt, size(&image, &geometry, 1), 32, "its size");
+    let first = address(&image, &geometry, 1, 0);
+    check(&rt, first, 4, "its first address");
 }
 
 /// The bytes of i-node 2, the root, of a volume of the seventh edition that has just been made.
@@ -272,12 +305,10 @@ const ROOT_V7: [u8; 64] = [
 ];
 
 #[test]
-fn reads_the_root_of_the_seventh_edition(rt: HostRuntime) -> Result<(), Fail> {
-    let mut image = volume(rt.alloc(), Edition::V7)?;
+fn reads_the_root_of_the_seventh_edition(rt: HostRuntime) {
+    let mut image = volume(&rt, rt.alloc(), Edition::V7);
     image.put_bytes(1088, &ROOT_V7);
-    let geometry = Geometry::read(Edition::V7, &image)?;
-    assert_eq!(rt; geometry.last_inode, 8);
-    let root = inode(&image, &geometry, 2);
+    let geometry = geometry_of(&rt, Edition::V7, &image, 8);
     let wanted = Inode {
         mode: Mode { bits: 0o040777 },
         links: 2,
@@ -289,8 +320,7 @@ fn reads_the_root_of_the_seventh_edition(rt: HostRuntime) -> Result<(), Fail> {
         modified: 0x0A0B_0C0D,
         changed: Some(0x0A0B_0C0D),
     };
-    assert_eq!(rt; root, wanted);
-    Ok(())
+    check(&rt, inode(&image, &geometry, 2), wanted, "the root");
 }
 
 /// An i-node of the sixth edition, no two bytes of which are the same.
@@ -300,12 +330,16 @@ const NODE_V6: [u8; 32] = [
 ];
 
 #[test]
-fn keeps_each_field_of_the_sixth_edition(rt: HostRuntime) -> Result<(), Fail> {
-    let mut image = volume(rt.alloc(), Edition::V6)?;
+fn keeps_each_field_of_the_sixth_edition(rt: HostRuntime) {
+    let mut image = volume(&rt, rt.alloc(), Edition::V6);
     image.put_bytes(1056, &NODE_V6);
-    let geometry = Geometry::read(Edition::V6, &image)?;
-    assert_eq!(rt; geometry.last_inode, 16);
-    let node = inode(&image, &geometry, 2);
+    check_node_v6(&rt, &image);
+    copy_node_v6(&rt, &mut image);
+}
+
+/// I-node 2 has the fields of `NODE_V6`.
+fn check_node_v6(rt: &impl Abort, image: &Image) {
+    let geometry = geometry_of(rt, Edition::V6, image, 16);
     let wanted = Inode {
         mode: Mode { bits: 0x0201 },
         links: 3,
@@ -319,12 +353,19 @@ fn keeps_each_field_of_the_sixth_edition(rt: HostRuntime) -> Result<(), Fail> {
         modified: 0x1E1D_201F,
         changed: None,
     };
-    assert_eq!(rt; node, wanted);
-    put_inode(&mut image, &geometry, 4, &node);
-    assert_eq!(rt; &image.as_bytes()[1088..1120], [0; 32].as_slice());
-    assert_eq!(rt; &image.as_bytes()[1120..1152], NODE_V6.as_slice());
-    assert_eq!(rt; &image.as_bytes()[1152..1184], [0; 32].as_slice());
-    Ok(())
+    check(rt, inode(image, &geometry, 2), wanted, "the i-node");
+}
+
+/// Puts i-node 2 where i-node 4 stands, and nothing beside it.
+fn copy_node_v6(rt: &impl Abort, image: &mut Image) {
+    assert!(rt; image.len() == 2560);
+    let geometry = geometry_of(rt, Edition::V6, image, 16);
+    let node = inode(image, &geometry, 2);
+    put_inode(image, &geometry, 4, &node);
+    let bytes = image.as_bytes();
+    check_bytes(rt, &bytes[1088..1120], &[0; 32], "i-node 3");
+    check_bytes(rt, &bytes[1120..1152], &NODE_V6, "i-node 4");
+    check_bytes(rt, &bytes[1152..1184], &[0; 32], "i-node 5");
 }
 
 /// An i-node of the seventh edition, no two bytes of which are the same.
@@ -335,13 +376,19 @@ const NODE_V7: [u8; 64] = [
 ];
 
 #[test]
-fn keeps_each_field_of_the_seventh_edition(rt: HostRuntime) -> Result<(), Fail> {
-    let mut image = volume(rt.alloc(), Edition::V7)?;
+fn keeps_each_field_of_the_seventh_edition(rt: HostRuntime) {
+    let mut image = volume(&rt, rt.alloc(), Edition::V7);
     image.put_bytes(1088, &NODE_V7);
     image.put_byte(1216 + 51, 0x5A);
-    let geometry = Geometry::read(Edition::V7, &image)?;
-    assert_eq!(rt; geometry.last_inode, 8);
-    let node = inode(&image, &geometry, 2);
+    check_node_v7(&rt, &image);
+    check_fields_v7(&rt, &image);
+    copy_node_v7(&rt, &mut image);
+    check_copy_v7(&rt, &mut image);
+}
+
+/// I-node 2 has the fields of `NODE_V7`.
+fn check_node_v7(rt: &impl Abort, image: &Image) {
+    let geometry = geometry_of(rt, Edition::V7, image, 8);
     let wanted = Inode {
         mode: Mode { bits: 0x0201 },
         links: 0x0403,
@@ -356,133 +403,191 @@ fn keeps_each_field_of_the_seventh_edition(rt: HostRuntime) -> Result<(), Fail> 
         modified: 0x3A39_3C3B,
         changed: Some(0x3E3D_403F),
     };
-    assert_eq!(rt; node, wanted);
-    assert_eq!(rt; mode(&image, &geometry, 2).bits, 0x0201);
-    assert_eq!(rt; size(&image, &geometry, 2), 0x0A09_0C0B);
-    assert_eq!(rt; address(&image, &geometry, 2, 12), 0x31_3332);
-    put_inode(&mut image, &geometry, 4, &node);
-    assert_eq!(rt; image.byte(1216 + 51), 0x5A);
+    check(rt, inode(image, &geometry, 2), wanted, "the i-node");
+}
+
+/// Fields of i-node 2 that are read alone.
+fn check_fields_v7(rt: &impl Abort, image: &Image) {
+    let geometry = geometry_of(rt, Edition::V7, image, 8);
+    check(rt, mode(image, &geometry, 2).bits, 0x0201, "its mode");
+    check(rt, size(image, &geometry, 2), 0x0A09_0C0B, "its size");
+    let last = address(image, &geometry, 2, 12);
+    check(rt, last, 0x31_3332, "its last address");
+}
+
+/// Puts i-node 2 where i-node 4 stands too.
+fn copy_node_v7(rt: &impl Abort, image: &mut Image) {
+    let geometry = geometry_of(rt, Edition::V7, image, 8);
+    let node = inode(image, &geometry, 2);
+    put_inode(image, &geometry, 4, &node);
+}
+
+/// I-node 4 has the bytes of `NODE_V7`, but for the byte that is no field's, and those beside it none.
+fn check_copy_v7(rt: &impl Abort, image: &mut Image) {
+    assert!(rt; image.len() == 2560);
+    check(rt, image.byte(1216 + 51), 0x5A, "the byte of no field");
     image.put_byte(1216 + 51, 52);
-    assert_eq!(rt; &image.as_bytes()[1152..1216], [0; 64].as_slice());
-    assert_eq!(rt; &image.as_bytes()[1216..1280], NODE_V7.as_slice());
-    assert_eq!(rt; &image.as_bytes()[1280..1344], [0; 64].as_slice());
-    Ok(())
+    let bytes = image.as_bytes();
+    check_bytes(rt, &bytes[1152..1216], &[0; 64], "i-node 3");
+    check_bytes(rt, &bytes[1216..1280], &NODE_V7, "i-node 4");
+    check_bytes(rt, &bytes[1280..1344], &[0; 64], "i-node 5");
 }
 
 #[test]
-fn clears_an_inode(rt: HostRuntime) -> Result<(), Fail> {
-    let mut image = volume(rt.alloc(), Edition::V6)?;
+fn clears_an_inode(rt: HostRuntime) {
+    let mut image = volume(&rt, rt.alloc(), Edition::V6);
     image.put_bytes(1024, &[0xFF; 96]);
-    let geometry = Geometry::read(Edition::V6, &image)?;
-    assert_eq!(rt; geometry.last_inode, 16);
+    let geometry = geometry_of(&rt, Edition::V6, &image, 16);
     clear_inode(&mut image, &geometry, 2);
-    assert_eq!(rt; &image.as_bytes()[1024..1056], [0xFF; 32].as_slice());
-    assert_eq!(rt; &image.as_bytes()[1056..1088], [0; 32].as_slice());
-    assert_eq!(rt; &image.as_bytes()[1088..1120], [0xFF; 32].as_slice());
-    Ok(())
+    let bytes = image.as_bytes();
+    check_bytes(&rt, &bytes[1024..1056], &[0xFF; 32], "i-node 1");
+    check_bytes(&rt, &bytes[1056..1088], &[0; 32], "i-node 2");
+    check_bytes(&rt, &bytes[1088..1120], &[0xFF; 32], "i-node 3");
 }
+
+/// Modes of the sixth edition, and what an i-node with each is.
+static KINDS_V6: [(u16, Kind); 12] = [
+    (0, Kind::Free),
+    (0o100644, Kind::Regular),
+    (0o110777, Kind::Regular),
+    (0o140777, Kind::Directory),
+    (0o150000, Kind::Directory),
+    (0o120000, Kind::Special),
+    (0o130000, Kind::Special),
+    (0o160000, Kind::Special),
+    (0o170000, Kind::Special),
+    (1, Kind::Odd),
+    (0o040777, Kind::Odd),
+    (0o077777, Kind::Odd),
+];
+
+/// Modes of the seventh edition, and what an i-node with each is.
+static KINDS_V7: [(u16, Kind); 14] = [
+    (0, Kind::Free),
+    (0o100644, Kind::Regular),
+    (0o040777, Kind::Directory),
+    (0o020600, Kind::Special),
+    (0o060600, Kind::Special),
+    (0o030600, Kind::Special),
+    (0o070600, Kind::Special),
+    (0o000777, Kind::Odd),
+    (0o010000, Kind::Odd),
+    (0o050000, Kind::Odd),
+    (0o110000, Kind::Odd),
+    (0o120000, Kind::Odd),
+    (0o140000, Kind::Odd),
+    (0o170000, Kind::Odd),
+];
 
 #[test]
 fn tells_the_kind_of_a_mode(rt: HostRuntime) {
-    for (bits, kind) in [
-        (0, Kind::Free),
-        (0o100644, Kind::Regular),
-        (0o110777, Kind::Regular),
-        (0o140777, Kind::Directory),
-        (0o150000, Kind::Directory),
-        (0o120000, Kind::Special),
-        (0o130000, Kind::Special),
-        (0o160000, Kind::Special),
-        (0o170000, Kind::Special),
-        (1, Kind::Odd),
-        (0o040777, Kind::Odd),
-        (0o077777, Kind::Odd),
-    ] {
-        assert_eq!(rt; Mode { bits }.kind(Edition::V6), kind, "{bits}");
-    }
-    for (bits, kind) in [
-        (0, Kind::Free),
-        (0o100644, Kind::Regular),
-        (0o040777, Kind::Directory),
-        (0o020600, Kind::Special),
-        (0o060600, Kind::Special),
-        (0o030600, Kind::Special),
-        (0o070600, Kind::Special),
-        (0o000777, Kind::Odd),
-        (0o010000, Kind::Odd),
-        (0o050000, Kind::Odd),
-        (0o110000, Kind::Odd),
-        (0o120000, Kind::Odd),
-        (0o140000, Kind::Odd),
-        (0o170000, Kind::Odd),
-    ] {
-        assert_eq!(rt; Mode { bits }.kind(Edition::V7), kind, "{bits}");
+    check_kinds(&rt, Edition::V6, &KINDS_V6);
+    check_kinds(&rt, Edition::V7, &KINDS_V7);
+}
+
+fn check_kinds(rt: &impl Abort, edition: Edition, kinds: &[(u16, Kind)]) {
+    for (bits, kind) in kinds {
+        let found = Mode { bits: *bits }.kind(edition);
+        assert_eq!(rt; found, *kind, "{bits}");
     }
 }
 
+/// Modes, with the form of a file of each, and how many blocks such a file has at most.
+static FORMS: [(Edition, u16, Form, u32); 9] = [
+    (Edition::V6, 0o100644, Form::Small, 8),
+    (Edition::V6, 0o140777, Form::Small, 8),
+    (Edition::V6, 0o110644, Form::Large, 32_768),
+    (Edition::V6, 0o130644, Form::Bare, 0),
+    (Edition::V7, 0o100644, Form::Deep, 2_113_674),
+    (Edition::V7, 0o040777, Form::Deep, 2_113_674),
+    (Edition::V7, 0o020644, Form::Bare, 0),
+    (Edition::V7, 0o110644, Form::Bare, 0),
+    (Edition::V7, 0, Form::Bare, 0),
+];
+
 #[test]
 fn tells_the_form_of_a_file(rt: HostRuntime) {
-    for (edition, bits, form, blocks) in [
-        (Edition::V6, 0o100644, Form::Small, 8),
-        (Edition::V6, 0o140777, Form::Small, 8),
-        (Edition::V6, 0o110644, Form::Large, 32_768),
-        (Edition::V6, 0o130644, Form::Bare, 0),
-        (Edition::V7, 0o100644, Form::Deep, 2_113_674),
-        (Edition::V7, 0o040777, Form::Deep, 2_113_674),
-        (Edition::V7, 0o020644, Form::Bare, 0),
-        (Edition::V7, 0o110644, Form::Bare, 0),
-        (Edition::V7, 0, Form::Bare, 0),
-    ] {
-        let found = Form::of(edition, Mode { bits });
-        assert_eq!(rt; found, form, "{bits}");
-        assert_eq!(rt; found.block_limit(), blocks, "{bits}");
+    for (edition, bits, form, blocks) in &FORMS {
+        let found = Form::of(*edition, Mode { bits: *bits });
+        assert_eq!(rt; (found, found.block_limit()), (*form, *blocks), "{bits}");
     }
 }
 
 #[test]
 fn makes_modes(rt: HostRuntime) {
-    assert_eq!(rt; Mode::regular(Edition::V6, 0o010644).bits, 0o100644);
-    assert_eq!(rt; Mode::regular(Edition::V7, 0o177777).bits, 0o107777);
-    assert_eq!(rt; Mode::directory(Edition::V6, 0o777).bits, 0o140777);
-    assert_eq!(rt; Mode::directory(Edition::V7, 0o777).bits, 0o040777);
+    let file = Mode::regular(Edition::V6, 0o010644);
+    check(&rt, file.bits, 0o100644, "a file of the sixth edition");
+    let file = Mode::regular(Edition::V7, 0o177777);
+    check(&rt, file.bits, 0o107777, "a file of the seventh");
+    let directory = Mode::directory(Edition::V6, 0o777);
+    check(&rt, directory.bits, 0o140777, "a directory of the sixth");
+    let directory = Mode::directory(Edition::V7, 0o777);
+    check(&rt, directory.bits, 0o040777, "a directory of the seventh");
+}
+
+#[test]
+fn changes_modes(rt: HostRuntime) {
     let set = Mode { bits: 0o107654 };
-    assert_eq!(rt; set.permissions(), 0o7654);
-    assert!(rt; !set.is_large(Edition::V6));
-    assert_eq!(rt; set.with_large(true).bits, 0o117654);
-    assert!(rt; set.with_large(true).is_large(Edition::V6));
-    assert!(rt; !set.with_large(true).is_large(Edition::V7));
-    assert_eq!(rt; set.with_large(true).with_large(false), set);
+    check(&rt, set.permissions(), 0o7654, "permissions");
+    check(&rt, set.is_large(Edition::V6), false, "not large");
+    let large = set.with_large(true);
+    check(&rt, large.bits, 0o117654, "with the large flag");
+    check(&rt, large.is_large(Edition::V6), true, "large");
+    check(
+        &rt,
+        large.is_large(Edition::V7),
+        false,
+        "not in the seventh",
+    );
+    check(&rt, large.with_large(false), set, "small again");
 }
 
 #[test]
 fn keeps_slots(rt: HostRuntime) {
     let mut bytes = [0; 48];
-    Slot::new(1, b".").put(&mut bytes, 0);
-    Slot::new(0x0201, b"abcdefghijklmn").put(&mut bytes, 16);
-    assert_eq!(rt; &bytes[0..4], [1, 0, b'.', 0].as_slice());
-    assert_eq!(rt; &bytes[16..32], b"\x01\x02abcdefghijklmn".as_slice());
-    assert_eq!(rt; &bytes[32..48], [0; 16].as_slice());
-    let slot = Slot::read(&bytes, 16);
-    assert_eq!(rt; slot.inode, 0x0201);
-    assert_eq!(rt; slot.name(), b"abcdefghijklmn".as_slice());
+    put_slots(&rt, &mut bytes);
+    check_slots(&rt, &bytes);
+}
+
+/// Puts two slots in front of an empty one.
+fn put_slots(rt: &impl Abort, bytes: &mut [u8; 48]) {
+    Slot::new(1, b".").put(bytes, 0);
+    Slot::new(0x0201, b"abcdefghijklmn").put(bytes, 16);
+    check_bytes(rt, &bytes[0..4], &[1, 0, b'.', 0], "a short name");
+    check_bytes(rt, &bytes[16..32], b"\x01\x02abcdefghijklmn", "a long name");
+    check_bytes(rt, &bytes[32..48], &[0; 16], "an empty slot");
+}
+
+/// Reads the second slot and the third.
+fn check_slots(rt: &impl Abort, bytes: &[u8; 48]) {
+    let slot = Slot::read(bytes, 16);
+    check(rt, slot.inode, 0x0201, "the i-number");
+    check_bytes(rt, slot.name(), b"abcdefghijklmn", "a long name");
     let mut cut = slot;
     cut.name = *b"ab\0defghijklmn";
-    assert_eq!(rt; cut.name(), b"ab".as_slice());
-    assert_eq!(rt; Slot::read(&bytes, 32), Slot::new(0, b""));
+    check_bytes(rt, cut.name(), b"ab", "a name up to a zero byte");
+    let empty = Slot::read(bytes, 32);
+    check(rt, empty, Slot::new(0, b""), "an empty slot");
 }
 
 #[test]
-fn keeps_block_numbers(rt: HostRuntime) -> Result<(), Fail> {
-    let mut image = zeros(rt.alloc(), 1024)?;
+fn keeps_block_numbers_of_the_sixth_edition(rt: HostRuntime) {
+    let mut image = zeros(&rt, rt.alloc(), 1024);
     put_number(&mut image, Edition::V6, 512, 0, 5);
     put_number(&mut image, Edition::V6, 512, 8, 0x0807);
-    assert_eq!(rt;
-        [image.byte(512), image.byte(528), image.byte(529)],
-        [5, 7, 8]
-    );
-    assert_eq!(rt; number(&image, Edition::V6, 512, 8), 0x0807);
+    check(&rt, image.byte(512), 5, "number 0");
+    check(&rt, image.byte(528), 7, "number 8, its low byte");
+    check(&rt, image.byte(529), 8, "number 8, its high byte");
+    let last = number(&image, Edition::V6, 512, 8);
+    check(&rt, last, 0x0807, "number 8, read");
+}
+
+#[test]
+fn keeps_block_numbers_of_the_seventh_edition(rt: HostRuntime) {
+    let mut image = zeros(&rt, rt.alloc(), 1024);
     put_number(&mut image, Edition::V7, 514, 49, 51);
-    assert_eq!(rt; &image.as_bytes()[710..714], [0, 0, 51, 0].as_slice());
-    assert_eq!(rt; number(&image, Edition::V7, 514, 49), 51);
-    Ok(())
+    let bytes = &image.as_bytes()[710..714];
+    check_bytes(&rt, bytes, &[0, 0, 51, 0], "number 49");
+    let last = number(&image, Edition::V7, 514, 49);
+    check(&rt, last, 51, "number 49, read");
 }

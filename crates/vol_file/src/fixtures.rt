@@ -9,8 +9,10 @@ ghost use Rattle.vol_file.specs.Rules.{HasSoundFiles};
 use crate::{need, write};
 use pdp_words::{BLOCK, Image};
 use std::alloc::{AllocError, Global};
+use std::process::Abort;
 use vol_free::{free_count, give};
-use vol_layout::{Edition, Geometry, Mode, put_mode};
+use vol_layout::i_list::{address, mode, size};
+use vol_layout::{Edition, Geometry, Mode, Super, put_mode};
 
 /// A sixth edition volume of 20 blocks, with i-nodes 1 to 32.
 pub const SIXTH: Geometry = Geometry {
@@ -28,9 +30,43 @@ pub const SEVENTH: Geometry = Geometry {
     last_inode: 16,
 };
 
-/// A volume with an empty root directory and an empty regular file `i`. Its blocks from 5 on are free,
-/// and come in ascending order.
-pub fn volume(alloc: Global, geometry: &Geometry, i: u16) -> Result<Image, AllocError>
+/// A number that stands in a volume, or is counted there.
+pub enum Number {
+    /// The bits of the file's mode.
+    ModeBits,
+    /// The file's size.
+    Size,
+    /// An address of the file.
+    Address(usize),
+    /// How many numbers of the free array are in use.
+    ArrayCount,
+    /// A number of the free array.
+    Free(usize),
+    /// How many blocks are free.
+    FreeCount,
+}
+
+/// Volume `SIXTH` with an empty root directory and the empty regular file 32. Its blocks from 5 on are
+/// free, and come in ascending order.
+pub fn sixth(rt: &impl Abort, alloc: Global) -> Image
+    ensures sound { HasSoundFiles SIXTH result }
+    ensures file { IsFile SIXTH result 32 }
+    ensures fits { Fits SIXTH result }
+{
+    volume(alloc, &SIXTH, 32).expect(rt, "memory for the volume")
+}
+
+/// The same of volume `SEVENTH`, with file 16.
+pub fn seventh(rt: &impl Abort, alloc: Global) -> Image
+    ensures sound { HasSoundFiles SEVENTH result }
+    ensures file { IsFile SEVENTH result 16 }
+    ensures fits { Fits SEVENTH result }
+{
+    volume(alloc, &SEVENTH, 16).expect(rt, "memory for the volume")
+}
+
+/// A volume with an empty root directory and an empty regular file `i`.
+fn volume(alloc: Global, geometry: &Geometry, i: u16) -> Result<Image, AllocError>
     requires fits { (image : List ℕ) → length image ≡ 512 * geometry.now.zone_end → Fits geometry.now image }
     requires low { geometry.now.zone_start ≤ 5 }
     requires high { 5 ≤ geometry.now.zone_end }
@@ -47,8 +83,90 @@ pub fn volume(alloc: Global, geometry: &Geometry, i: u16) -> Result<Image, Alloc
     Ok(image)
 }
 
+/// Writes into the file, where so many blocks are needed.
+pub fn check_put(
+    rt: &impl Abort,
+    image: &mut Image,
+    geometry: &Geometry,
+    i: u16,
+    offset: u32,
+    text: &[u8],
+    needed: u32,
+)
+    requires file { IsFile geometry.now image.old i }
+    requires sound { HasSoundFiles geometry.now image.old }
+    requires fits { Fits geometry.now image.old }
+    ensures file { IsFile geometry.now image.new i }
+    ensures sound { HasSoundFiles geometry.now image.new }
+    ensures fits { Fits geometry.now image.new }
+{
+    let greatest = geometry.edition.constants().greatest;
+    assert!(rt; offset as usize + text.len() <= greatest as usize);
+    assert_eq!(rt; put(image, geometry, i, offset, text), needed);
+}
+
+/// These numbers stand in a volume, or are counted there.
+pub fn check_numbers(
+    rt: &impl Abort,
+    image: &Image,
+    geometry: &Geometry,
+    i: u16,
+    numbers: &[(Number, u32)],
+)
+    requires sound { HasSoundFiles geometry.now image.now }
+    requires fits { Fits geometry.now image.now }
+    requires first { 1 ≤ i }
+    requires last { i ≤ geometry.now.last_inode }
+{
+    for (row, (number, wanted)) in numbers.iter().enumerate() {
+        assert_eq!(rt; found(rt, image, geometry, i, number), *wanted, "row {row}");
+    }
+}
+
+/// A number of a volume.
+fn found(rt: &impl Abort, image: &Image, geometry: &Geometry, i: u16, number: &Number) -> u32
+    requires sound { HasSoundFiles geometry.now image.now }
+    requires fits { Fits geometry.now image.now }
+    requires first { 1 ≤ i }
+    requires last { i ≤ geometry.now.last_inode }
+{
+    let super_block = Super {
+        edition: geometry.edition,
+    };
+    match number {
+        Number::ModeBits => u32::from(mode(image, geometry, i).bits),
+        Number::Size => size(image, geometry, i),
+        Number::Address(k) => {
+            assert!(rt; *k < 13);
+            address(image, geometry, i, *k)
+        }
+        Number::ArrayCount => u32::from(super_block.free_count(image)),
+        Number::Free(j) => {
+            assert!(rt; *j < 50);
+            super_block.free(image, *j)
+        }
+        Number::FreeCount => free_count(image, geometry),
+    }
+}
+
+/// Bytes have these at a place.
+pub fn check_bytes(rt: &impl Abort, bytes: &[u8], place: usize, wanted: &[u8]) {
+    for (offset, byte) in wanted.iter().enumerate() {
+        let found = bytes.get(place.saturating_add(offset));
+        assert_eq!(rt; found, Some(byte), "byte {offset} from byte {place}");
+    }
+}
+
+/// Bytes have so many zeros at a place.
+pub fn check_zeros(rt: &impl Abort, bytes: &[u8], place: usize, count: usize) {
+    for offset in 0..count {
+        let found = bytes.get(place.saturating_add(offset));
+        assert_eq!(rt; found, Some(&0), "byte {offset} from byte {place}");
+    }
+}
+
 /// Writes, if there are blocks enough; answers how many are needed.
-pub fn put(image: &mut Image, geometry: &Geometry, i: u16, offset: u32, text: &[u8]) -> u32
+fn put(image: &mut Image, geometry: &Geometry, i: u16, offset: u32, text: &[u8]) -> u32
     requires file { IsFile geometry.now image.old i }
     requires sound { HasSoundFiles geometry.now image.old }
     requires fits { Fits geometry.now image.old }

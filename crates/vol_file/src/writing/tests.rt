@@ -4,73 +4,95 @@ ghost use Rattle.vol_layout.specs.Geometry.{Fits};
 ghost use Rattle.vol_layout.specs.Names.{IsFile};
 ghost use Rattle.vol_file.specs.Rules.{HasSoundFiles};
 
-use crate::fixtures::{SEVENTH, SIXTH, put, volume};
+use crate::fixtures::Number::{self, Address, ModeBits, Size};
+use crate::fixtures::{
+    SEVENTH, SIXTH, check_bytes, check_numbers, check_put, check_zeros, seventh, sixth,
+};
 use crate::read;
 use pdp_words::Image;
-use std::test::Fail;
-use vol_layout::i_list::{address, mode, size};
+use std::process::Abort;
 use vol_layout::{Geometry, put_size};
 
-#[test]
-fn the_ninth_block_makes_a_file_large(rt: HostRuntime) -> Result<(), Fail> {
-    let mut image = volume(rt.alloc(), &SIXTH, 32)?;
-    assert_eq!(rt; put(&mut image, &SIXTH, 32, 0, &[1]), 1);
-    assert_eq!(rt; address(&image, &SIXTH, 32, 0), 5);
-    assert_eq!(rt; put(&mut image, &SIXTH, 32, 4096, &[1]), 2);
-    assert_eq!(rt; mode(&image, &SIXTH, 32).bits, 0o110644);
-    assert_eq!(rt; address(&image, &SIXTH, 32, 0), 6);
-    assert_eq!(rt; &image.block(6)[..2], [5, 0].as_slice());
-    assert_eq!(rt; &image.block(6)[16..18], [7, 0].as_slice());
-    assert_eq!(rt; size(&image, &SIXTH, 32), 4097);
-    Ok(())
-}
+static SMALL: [(Number, u32); 1] = [(Address(0), 5)];
+
+static LARGE: [(Number, u32); 3] = [(ModeBits, 0o110644), (Address(0), 6), (Size, 4097)];
 
 #[test]
-fn the_doubly_indirect_block_of_the_sixth_edition(rt: HostRuntime) -> Result<(), Fail> {
-    let mut image = volume(rt.alloc(), &SIXTH, 32)?;
-    assert_eq!(rt; put(&mut image, &SIXTH, 32, 917_504, &[1]), 4);
-    assert_eq!(rt; address(&image, &SIXTH, 32, 0), 5);
-    assert_eq!(rt; image.block(5), [0; 512].as_slice());
-    assert_eq!(rt; address(&image, &SIXTH, 32, 7), 6);
-    assert_eq!(rt; &image.block(6)[..2], [7, 0].as_slice());
-    assert_eq!(rt; &image.block(7)[..2], [8, 0].as_slice());
-    Ok(())
+fn the_ninth_block_makes_a_file_large(rt: HostRuntime) {
+    let mut image = sixth(&rt, rt.alloc());
+    check_put(&rt, &mut image, &SIXTH, 32, 0, &[1], 1);
+    check_numbers(&rt, &image, &SIXTH, 32, &SMALL);
+    check_put(&rt, &mut image, &SIXTH, 32, 4096, &[1], 2);
+    check_numbers(&rt, &image, &SIXTH, 32, &LARGE);
+    check_bytes(&rt, image.as_bytes(), 6 * 512, b"\x05\x00");
+    check_bytes(&rt, image.as_bytes(), 6 * 512 + 16, b"\x07\x00");
 }
 
-#[test]
-fn the_pointer_blocks_of_the_seventh_edition(rt: HostRuntime) -> Result<(), Fail> {
-    let mut image = volume(rt.alloc(), &SEVENTH, 16)?;
-    assert_eq!(rt; put(&mut image, &SEVENTH, 16, 70_656, &[1]), 3);
-    assert_eq!(rt; address(&image, &SEVENTH, 16, 11), 5);
-    assert_eq!(rt; &image.block(5)[..4], [0, 0, 6, 0].as_slice());
-    assert_eq!(rt; &image.block(6)[..4], [0, 0, 7, 0].as_slice());
-    let mut image = volume(rt.alloc(), &SEVENTH, 16)?;
-    assert_eq!(rt; put(&mut image, &SEVENTH, 16, 5118, &[1, 2, 3, 4]), 3);
-    assert_eq!(rt; address(&image, &SEVENTH, 16, 9), 5);
-    assert_eq!(rt; address(&image, &SEVENTH, 16, 10), 6);
-    assert_eq!(rt; &image.block(6)[..4], [0, 0, 7, 0].as_slice());
-    assert_eq!(rt; size(&image, &SEVENTH, 16), 5122);
-    let mut image = volume(rt.alloc(), &SEVENTH, 16)?;
-    assert_eq!(rt; put(&mut image, &SEVENTH, 16, 1_082_201_087, &[1]), 4);
-    assert_eq!(rt; address(&image, &SEVENTH, 16, 12), 5);
-    assert_eq!(rt; &image.block(7)[508..], [0, 0, 8, 0].as_slice());
-    Ok(())
-}
+static TWICE_INDIRECT: [(Number, u32); 2] = [(Address(0), 5), (Address(7), 6)];
 
 #[test]
-fn what_lay_past_the_size_reads_as_zeros(rt: HostRuntime) -> Result<(), Fail> {
-    let mut image = volume(rt.alloc(), &SIXTH, 32)?;
-    assert_eq!(rt; put(&mut image, &SIXTH, 32, 0, &[0x7F; 512]), 1);
+fn the_doubly_indirect_block_of_the_sixth_edition(rt: HostRuntime) {
+    let mut image = sixth(&rt, rt.alloc());
+    check_put(&rt, &mut image, &SIXTH, 32, 917_504, &[1], 4);
+    check_numbers(&rt, &image, &SIXTH, 32, &TWICE_INDIRECT);
+    check_zeros(&rt, image.as_bytes(), 5 * 512, 512);
+    check_bytes(&rt, image.as_bytes(), 6 * 512, b"\x07\x00");
+    check_bytes(&rt, image.as_bytes(), 7 * 512, b"\x08\x00");
+}
+
+static AT_ADDRESS_11: [(Number, u32); 1] = [(Address(11), 5)];
+
+#[test]
+fn the_doubly_indirect_block_of_the_seventh_edition(rt: HostRuntime) {
+    let mut image = seventh(&rt, rt.alloc());
+    check_put(&rt, &mut image, &SEVENTH, 16, 70_656, &[1], 3);
+    check_numbers(&rt, &image, &SEVENTH, 16, &AT_ADDRESS_11);
+    check_bytes(&rt, image.as_bytes(), 5 * 512, b"\x00\x00\x06\x00");
+    check_bytes(&rt, image.as_bytes(), 6 * 512, b"\x00\x00\x07\x00");
+}
+
+static AT_ADDRESS_10: [(Number, u32); 3] = [(Address(9), 5), (Address(10), 6), (Size, 5122)];
+
+#[test]
+fn the_indirect_block_of_the_seventh_edition(rt: HostRuntime) {
+    let mut image = seventh(&rt, rt.alloc());
+    check_put(&rt, &mut image, &SEVENTH, 16, 5118, &[1, 2, 3, 4], 3);
+    check_numbers(&rt, &image, &SEVENTH, 16, &AT_ADDRESS_10);
+    check_bytes(&rt, image.as_bytes(), 6 * 512, b"\x00\x00\x07\x00");
+}
+
+static AT_ADDRESS_12: [(Number, u32); 1] = [(Address(12), 5)];
+
+#[test]
+fn the_triply_indirect_block_of_the_seventh_edition(rt: HostRuntime) {
+    let mut image = seventh(&rt, rt.alloc());
+    check_put(&rt, &mut image, &SEVENTH, 16, 1_082_201_087, &[1], 4);
+    check_numbers(&rt, &image, &SEVENTH, 16, &AT_ADDRESS_12);
+    check_bytes(&rt, image.as_bytes(), 7 * 512 + 508, b"\x00\x00\x08\x00");
+}
+
+static LENGTHENED: [(Number, u32); 1] = [(Size, 201)];
+
+#[test]
+fn what_lay_past_the_size_reads_as_zeros(rt: HostRuntime) {
+    let mut image = sixth(&rt, rt.alloc());
+    check_put(&rt, &mut image, &SIXTH, 32, 0, &[0x7F; 512], 1);
     shorten(&mut image, &SIXTH, 32, 100);
-    assert_eq!(rt; put(&mut image, &SIXTH, 32, 200, &[1]), 0);
-    assert_eq!(rt; size(&image, &SIXTH, 32), 201);
+    check_put(&rt, &mut image, &SIXTH, 32, 200, &[1], 0);
+    check_numbers(&rt, &image, &SIXTH, 32, &LENGTHENED);
+    check_tail(&rt, &image, &SIXTH, 32);
+}
+
+/// The file's bytes from 100 on are a hundred zeros and a one, and none comes behind them.
+fn check_tail(rt: &impl Abort, image: &Image, geometry: &Geometry, i: u16)
+    requires fits { Fits geometry.now image.now }
+    requires first { 1 ≤ i }
+    requires last { i ≤ geometry.now.last_inode }
+{
     let mut bytes = [9; 102];
-    assert_eq!(rt; read(&image, &SIXTH, 32, 100, &mut bytes), 101);
-    let mut expected = [0; 102];
-    expected[100] = 1;
-    expected[101] = 9;
-    assert_eq!(rt; bytes.as_slice(), expected.as_slice());
-    Ok(())
+    assert_eq!(rt; read(image, geometry, i, 100, &mut bytes), 101);
+    check_zeros(rt, &bytes, 0, 100);
+    check_bytes(rt, &bytes, 100, b"\x01\x09");
 }
 
 /// Makes the file end sooner, without a change of its blocks.

@@ -197,9 +197,9 @@ fn take_out(image: &mut Image, geometry: &Geometry, dir: u16, name: &[u8])
     ensures whole { size_of geometry.now image.new dir % 16 ≡ 0 }
     ensures once { HasNamesOnce geometry.now image.new dir }
 {
-    if find(image, geometry, dir, name).is_none() {
+    let Some(_) = find(image, geometry, dir, name) else {
         return;
-    }
+    };
     remove(image, geometry, dir, name);
 }
 

@@ -8,14 +8,14 @@ use crate::{
 };
 use pdp_words::Image;
 use std::alloc::{AllocError, Global};
-use std::test::Fail;
+use std::process::Abort;
 use vol_dir::Cred;
 use vol_judge::judge;
 use vol_layout::i_list::{inode, mode};
 use vol_layout::{Edition, Geometry, Kind};
 
 /// Bytes that stand at a place.
-type Piece = (usize, &'static [u8]);
+pub(crate) type Piece = (usize, &'static [u8]);
 
 /// Twenty blocks of the sixth edition, two of them the i-list: the root with `sub`, a directory, and with
 /// `file` and `link`, two names of one regular file. The blocks from 6 on are free.
@@ -41,17 +41,24 @@ static VOLUME: [Piece; 13] = [
     (2576, b"\x01\x00.."),
 ];
 
-/// The volume, and its sizes; None if it breaks a rule.
-fn volume(alloc: Global) -> Result<Option<(Geometry, Image)>, AllocError>
-    ensures { IfOk result (λ found. IfSome found (λ volume. IsWhole volume.0 volume.1)) }
+/// The volume, which is sound, and its sizes.
+fn volume(rt: &impl Abort, alloc: Global) -> (Geometry, Image)
+    ensures { IsWhole result.0 result.1 }
 {
-    let mut bytes = vec![in alloc; 0; 10_240]?;
-    for (at, piece) in VOLUME {
-        for (byte, new) in bytes.iter_mut().skip(at).zip(piece) {
+    let found = whole(alloc, filled(rt, alloc, 10_240, &VOLUME));
+    let volume = found.expect(rt, "memory for the check");
+    volume.expect(rt, "a sound volume")
+}
+
+/// An image of so many zeros, in which pieces are put.
+pub(crate) fn filled(rt: &impl Abort, alloc: Global, len: usize, pieces: &[Piece]) -> Image {
+    let mut bytes = vec![in alloc; 0; len].expect(rt, "memory for the volume");
+    for (at, piece) in pieces {
+        for (byte, new) in bytes.iter_mut().skip(*at).zip(*piece) {
             *byte = *new;
         }
     }
-    whole(alloc, Image::from_bytes(bytes))
+    Image::from_bytes(bytes)
 }
 
 /// The image, and its sizes, if all rules hold.
@@ -96,30 +103,22 @@ fn change_back(image: &mut Image, geometry: &Geometry)
 }
 
 #[test]
-fn times_and_links_are_put(rt: HostRuntime) -> Result<(), Fail> {
-    let Some((geometry, mut image)) = volume(rt.alloc())? else {
-        return Err(Fail::from("the volume is sound"));
-    };
+fn times_and_links_are_put(rt: HostRuntime) {
+    let (geometry, mut image) = volume(&rt, rt.alloc());
     change_two(&mut image, &geometry);
     assert_eq!(rt; image.long(924), 9);
     assert_eq!(rt; image.long(1084), 10);
     assert_eq!(rt; image.byte(1090), 6);
     change_back(&mut image, &geometry);
     assert_eq!(rt; image.byte(1090), 5);
-    Ok(())
 }
 
 #[test]
-fn blocks_are_counted(rt: HostRuntime) -> Result<(), Fail> {
-    let Some((geometry, image)) = volume(rt.alloc())? else {
-        return Err(Fail::from("the volume is sound"));
-    };
-    if geometry.last_inode < 3 {
-        return Err(Fail::from("the volume has 32 i-nodes"));
-    }
+fn blocks_are_counted(rt: HostRuntime) {
+    let (geometry, image) = volume(&rt, rt.alloc());
+    assert!(rt; 3 <= geometry.last_inode);
     assert_eq!(rt; block_count(&image, &geometry, 1), 1);
     assert_eq!(rt; block_count(&image, &geometry, 3), 0);
-    Ok(())
 }
 
 /// Makes a file and a directory, and frees the file; answers their i-numbers.
@@ -135,23 +134,26 @@ fn make_two(image: &mut Image, geometry: &Geometry) -> Option<(u16, u16)>
     Some((file, directory))
 }
 
+/// Compares the bytes from a place on.
+pub(crate) fn check_at(rt: &impl Abort, image: &Image, at: usize, wanted: &[u8]) {
+    let found = image.as_bytes().get(at..at.saturating_add(wanted.len()));
+    assert_eq!(rt; found, Some(wanted));
+}
+
+/// Compares the word at a place.
+fn check_word(rt: &impl Abort, image: &Image, at: usize, wanted: u16) {
+    assert!(rt; at.saturating_add(1) < image.len());
+    assert_eq!(rt; image.word(at), wanted);
+}
+
 #[test]
-fn nodes_are_made_and_freed(rt: HostRuntime) -> Result<(), Fail> {
-    let Some((geometry, mut image)) = volume(rt.alloc())? else {
-        return Err(Fail::from("the volume is sound"));
-    };
+fn nodes_are_made_and_freed(rt: HostRuntime) {
+    let (geometry, mut image) = volume(&rt, rt.alloc());
     assert_eq!(rt; make_two(&mut image, &geometry), Some((32, 31)));
     assert_eq!(rt; image.len(), 10_240);
     // The i-number 32 lies in the cache again, behind the 27 that are left of its filling.
-    assert_eq!(rt; image.word(718), 28);
-    assert_eq!(rt; image.word(720 + 2 * 27), 32);
-    assert_eq!(rt;
-        &image.as_bytes()[1024 + 32 * 31..1024 + 32 * 32],
-        [0; 32].as_slice()
-    );
-    assert_eq!(rt;
-        &image.as_bytes()[1984..1992],
-        b"\xED\xC1\x02\x03\x04\x00\x00\x00".as_slice()
-    );
-    Ok(())
+    check_word(&rt, &image, 718, 28);
+    check_word(&rt, &image, 720 + 2 * 27, 32);
+    check_at(&rt, &image, 1024 + 32 * 31, &[0; 32]);
+    check_at(&rt, &image, 1984, b"\xED\xC1\x02\x03\x04\x00\x00\x00");
 }

@@ -1,5 +1,5 @@
 // Worked values: where paths lead in a small volume, and the order of the refusals.
-ghost use Rattle.std.specs.Prelude.{◌≡◌, ◌+◌, ◌*◌, ◌<◌, ◌≤◌, length, IfOk};
+ghost use Rattle.std.specs.Prelude.{◌≡◌, ◌+◌, ◌*◌, ◌<◌, ◌≤◌, length};
 ghost use Rattle.vol_layout.specs.Geometry.{Fits};
 
 use super::{walk, walk_parent};
@@ -7,8 +7,8 @@ use crate::access::{Access, grants};
 use crate::cred::Cred;
 use crate::refusal::Refusal;
 use pdp_words::{BLOCK, Image};
-use std::alloc::{AllocError, Global};
-use std::test::Fail;
+use std::alloc::Global;
+use std::process::Abort;
 use vol_layout::{Edition, Geometry, Slot};
 
 /// A sixth edition volume of 20 blocks, with i-nodes 1 to 32.
@@ -27,79 +27,86 @@ const MEMBER: Cred = Cred { uid: 9, gid: 6 };
 
 const STRANGER: Cred = Cred { uid: 7, gid: 7 };
 
+static PATHS: [(&[u8], Result<u16, Refusal>); 10] = [
+    (b"", Ok(1)),
+    (b"/", Ok(1)),
+    (b"//d///abcdefghijklmnop/", Ok(3)),
+    (b"d/abcdefghijklmn", Ok(3)),
+    (b"/d/abcdefghijklm", Err(Refusal::NoEntry)),
+    (b"/private//", Ok(4)),
+    (b"/private/x", Err(Refusal::Access)),
+    (b"/private/none", Err(Refusal::Access)),
+    (b"/file/x", Err(Refusal::NotDirectory)),
+    (b"/none/x", Err(Refusal::NoEntry)),
+];
+
 #[test]
-fn where_paths_lead(rt: HostRuntime) -> Result<(), Fail> {
-    let image = volume(rt.alloc())?;
-    for (path, want) in [
-        (b"".as_slice(), Ok(1)),
-        (b"/".as_slice(), Ok(1)),
-        (b"//d///abcdefghijklmnop/".as_slice(), Ok(3)),
-        (b"d/abcdefghijklmn".as_slice(), Ok(3)),
-        (b"/d/abcdefghijklm".as_slice(), Err(Refusal::NoEntry)),
-        (b"/private//".as_slice(), Ok(4)),
-        (b"/private/x".as_slice(), Err(Refusal::Access)),
-        (b"/private/none".as_slice(), Err(Refusal::Access)),
-        (b"/file/x".as_slice(), Err(Refusal::NotDirectory)),
-        (b"/none/x".as_slice(), Err(Refusal::NoEntry)),
-    ] {
-        assert_eq!(rt; walk(&image, &GEOMETRY, STRANGER, path), want);
+fn where_paths_lead(rt: HostRuntime) {
+    let image = volume(&rt, rt.alloc());
+    for (path, want) in &PATHS {
+        assert_eq!(rt; &walk(&image, &GEOMETRY, STRANGER, path), want);
     }
-    Ok(())
+}
+
+static PARENTS: [(&[u8], Option<Result<(u16, &[u8]), Refusal>>); 8] = [
+    (b"", None),
+    (b"//", None),
+    (b"new", Some(Ok((1, b"new")))),
+    (b"//d///abcdefghijklmnop/", Some(Ok((2, b"abcdefghijklmn")))),
+    (b"/private/new", Some(Err(Refusal::Access))),
+    (b"/private/x/new", Some(Err(Refusal::Access))),
+    (b"/file/new", Some(Err(Refusal::NotDirectory))),
+    (b"/none/new", Some(Err(Refusal::NoEntry))),
+];
+
+#[test]
+fn where_the_parent_lies(rt: HostRuntime) {
+    let image = volume(&rt, rt.alloc());
+    for (path, want) in &PARENTS {
+        assert_eq!(rt; &walk_parent(&image, &GEOMETRY, STRANGER, path), want);
+    }
+}
+
+/// Users, and whether `/private` grants them each access.
+static GRANTED: [(Cred, Access, bool); 12] = [
+    (SUPER_USER, Access::Read, true),
+    (SUPER_USER, Access::Write, true),
+    (SUPER_USER, Access::Execute, true),
+    (OWNER, Access::Read, true),
+    (OWNER, Access::Write, true),
+    (OWNER, Access::Execute, false),
+    (MEMBER, Access::Read, false),
+    (MEMBER, Access::Write, false),
+    (MEMBER, Access::Execute, true),
+    (STRANGER, Access::Read, false),
+    (STRANGER, Access::Write, false),
+    (STRANGER, Access::Execute, false),
+];
+
+#[test]
+fn who_may_do_what(rt: HostRuntime) {
+    let image = volume(&rt, rt.alloc());
+    for (cred, access, want) in &GRANTED {
+        assert_eq!(rt; grants(&image, &GEOMETRY, 4, *access, *cred), *want);
+    }
 }
 
 #[test]
-fn where_the_parent_lies(rt: HostRuntime) -> Result<(), Fail> {
-    let image = volume(rt.alloc())?;
-    for (path, want) in [
-        (b"".as_slice(), None),
-        (b"//".as_slice(), None),
-        (b"new".as_slice(), Some(Ok((1, b"new".as_slice())))),
-        (
-            b"//d///abcdefghijklmnop/".as_slice(),
-            Some(Ok((2, b"abcdefghijklmn".as_slice()))),
-        ),
-        (b"/private/new".as_slice(), Some(Err(Refusal::Access))),
-        (b"/private/x/new".as_slice(), Some(Err(Refusal::Access))),
-        (b"/file/new".as_slice(), Some(Err(Refusal::NotDirectory))),
-        (b"/none/new".as_slice(), Some(Err(Refusal::NoEntry))),
-    ] {
-        assert_eq!(rt; walk_parent(&image, &GEOMETRY, STRANGER, path), want);
-    }
-    Ok(())
-}
-
-#[test]
-fn who_may_do_what(rt: HostRuntime) -> Result<(), Fail> {
-    let image = volume(rt.alloc())?;
-    for (cred, want) in [
-        (SUPER_USER, [true, true, true]),
-        (OWNER, [true, true, false]),
-        (MEMBER, [false, false, true]),
-        (STRANGER, [false, false, false]),
-    ] {
-        assert_eq!(rt; grants(&image, &GEOMETRY, 4, Access::Read, cred), want[0]);
-        assert_eq!(rt; grants(&image, &GEOMETRY, 4, Access::Write, cred), want[1]);
-        assert_eq!(rt;
-            grants(&image, &GEOMETRY, 4, Access::Execute, cred),
-            want[2]
-        );
-    }
-    assert_eq!(rt; walk(&image, &GEOMETRY, MEMBER, b"/private/x"), Ok(3));
-    assert_eq!(rt;
-        walk(&image, &GEOMETRY, OWNER, b"/private/x"),
-        Err(Refusal::Access)
-    );
-    Ok(())
+fn the_private_directory_is_searched_by_its_group(rt: HostRuntime) {
+    let image = volume(&rt, rt.alloc());
+    let path = b"/private/x";
+    assert_eq!(rt; walk(&image, &GEOMETRY, MEMBER, path), Ok(3));
+    assert_eq!(rt; walk(&image, &GEOMETRY, OWNER, path), Err(Refusal::Access));
 }
 
 /// A volume with `/d`, of i-number 2, `/file` and `/d/abcdefghijklmn`, both of i-number 3, and
 /// `/private`, of i-number 4, with an entry `x` for 3. It may be read and written by its owner 5, and
 /// searched by its group 6.
-fn volume(alloc: Global) -> Result<Image, AllocError>
-    ensures { IfOk result (λ image. Fits GEOMETRY image) }
+fn volume(rt: &impl Abort, alloc: Global) -> Image
+    ensures { Fits GEOMETRY result }
 {
-    let bytes = vec![in alloc; 0; 20 * BLOCK]?;
-    let mut image = Image::from_bytes(bytes);
+    let bytes = vec![in alloc; 0; 20 * BLOCK];
+    let mut image = Image::from_bytes(bytes.expect(rt, "memory for the volume"));
     put_node(&mut image, 1, 0o140755, 48, 4);
     put_node(&mut image, 2, 0o140755, 16, 5);
     put_node(&mut image, 3, 0o100644, 0, 0);
@@ -109,7 +116,7 @@ fn volume(alloc: Global) -> Result<Image, AllocError>
     put_slot(&mut image, 4 * BLOCK + 32, 4, b"private");
     put_slot(&mut image, 5 * BLOCK, 3, b"abcdefghijklmn");
     put_slot(&mut image, 6 * BLOCK, 3, b"x");
-    Ok(image)
+    image
 }
 
 /// Puts an i-node of owner 5 and group 6, with a size and a first address.

@@ -1,5 +1,5 @@
 // A volume of the sixth edition by hand, in which a file is written and emptied, and names come and go.
-ghost use Rattle.std.specs.Prelude.{◌≡◌, ◌+◌, ◌%◌, ◌<◌, ◌≤◌, IfOk, IfSome, IsTrue, length};
+ghost use Rattle.std.specs.Prelude.{◌≡◌, ◌%◌, ◌≤◌, IfOk, IfSome, IsTrue};
 ghost use Rattle.vol_layout.specs.Geometry.{Fits};
 ghost use Rattle.vol_file.specs.Rules.{kind_at};
 ghost use Rattle.vol_layout.specs.declared.mode.Kind.TheVariants as kinds;
@@ -8,11 +8,11 @@ ghost use Rattle.vol_dir.specs.Entries.{HasEntries};
 ghost use Rattle.vol_node.specs.Whole.{IsWhole};
 
 use super::{add_name, remove_name};
+use crate::tests::{Piece, check_at, filled};
 use crate::{empty_file, write_bytes};
 use pdp_words::Image;
 use std::alloc::{AllocError, Global};
 use std::process::Abort;
-use std::test::Fail;
 use vol_dir::{find, place_for};
 use vol_file::need;
 use vol_free::free_count;
@@ -22,21 +22,17 @@ use vol_layout::{Edition, Geometry, Kind};
 
 /// Twelve blocks: i-numbers 1 to 16, the root's entries in block 3, an empty file with the name `file`,
 /// and blocks 4 to 11 free.
-fn volume(alloc: Global) -> Result<Image, AllocError>
-    ensures { IfOk result (λ image. length image ≡ 6144) }
-{
-    let mut image = Image::from_bytes(vec![in alloc; 0; 6144]?);
-    image.put_bytes(
+static VOLUME: [Piece; 6] = [
+    (
         512,
         b"\x01\0\x0C\0\x09\0\0\0\x0B\0\x0A\0\x09\0\x08\0\x07\0\x06\0\x05\0\x04\0",
-    );
-    image.put_bytes(1024, b"\xED\xC1\x02\0\0\0\x30\0\x03\0");
-    image.put_bytes(1056, b"\xA4\x81\x01");
-    image.put_bytes(1536, b"\x01\0.");
-    image.put_bytes(1552, b"\x01\0..");
-    image.put_bytes(1568, b"\x02\0file");
-    Ok(image)
-}
+    ),
+    (1024, b"\xED\xC1\x02\0\0\0\x30\0\x03\0"),
+    (1056, b"\xA4\x81\x01"),
+    (1536, b"\x01\0."),
+    (1552, b"\x01\0.."),
+    (1568, b"\x02\0file"),
+];
 
 /// The geometry of a volume of the sixth edition, if the volume is sound.
 fn sound_geometry(alloc: Global, image: &Image) -> Result<Option<Geometry>, AllocError>
@@ -138,61 +134,43 @@ fn take_out(image: &mut Image, geometry: &Geometry, dir: u16, name: &[u8]) -> bo
     if !is_kind(image, geometry, dir, Kind::Directory) || size(image, geometry, dir) % 16 != 0 {
         return false;
     }
-    if find(image, geometry, dir, name).is_none() {
+    let Some(_) = find(image, geometry, dir, name) else {
         return false;
-    }
+    };
     remove_name(image, geometry, dir, name);
     true
 }
 
 #[test]
-fn a_file_is_written_and_emptied(rt: HostRuntime) -> Result<(), Fail> {
-    let mut image = volume(rt.alloc())?;
-    let geometry = sound_geometry(rt.alloc(), &image)?.ok_or("the volume isn't sound")?;
-    assert_eq!(rt; put(&mut image, &geometry, 2, 510, b"abc"), true);
-    assert_eq!(rt;
-        image.as_bytes().get(1056..1068),
-        Some(b"\xA4\x81\x01\0\0\0\x01\x02\x04\0\x05\0".as_slice())
-    );
-    assert_eq!(rt; image.as_bytes().get(2558..2561), Some(b"abc".as_slice()));
+fn a_file_is_written_and_emptied(rt: HostRuntime) {
+    let mut image = filled(&rt, rt.alloc(), 6144, &VOLUME);
+    let found = sound_geometry(rt.alloc(), &image).expect(&rt, "memory for the check");
+    let geometry = found.expect(&rt, "a sound volume");
+    assert!(rt; put(&mut image, &geometry, 2, 510, b"abc"));
+    check_at(&rt, &image, 1056, b"\xA4\x81\x01\0\0\0\x01\x02\x04\0\x05\0");
+    check_at(&rt, &image, 2558, b"abc");
     assert_eq!(rt; free_count(&image, &geometry), 6);
-    assert_eq!(rt; put(&mut image, &geometry, 2, 0, b""), true);
+    assert!(rt; put(&mut image, &geometry, 2, 0, b""));
     assert_eq!(rt; free_count(&image, &geometry), 6);
-    assert_eq!(rt; empty(&mut image, &geometry, 2), true);
-    assert_eq!(rt;
-        image.as_bytes().get(1056..1068),
-        Some(b"\xA4\x81\x01\0\0\0\0\0\0\0\0\0".as_slice())
-    );
+    assert!(rt; empty(&mut image, &geometry, 2));
+    check_at(&rt, &image, 1056, b"\xA4\x81\x01\0\0\0\0\0\0\0\0\0");
     assert_eq!(rt; free_count(&image, &geometry), 8);
-    Ok(())
 }
 
 #[test]
-fn names_come_and_go(rt: HostRuntime) -> Result<(), Fail> {
-    let mut image = volume(rt.alloc())?;
-    let geometry = sound_geometry(rt.alloc(), &image)?.ok_or("the volume isn't sound")?;
-    if is_kind(&image, &geometry, 1, Kind::Directory) {
-        begin(&image, &geometry, 1);
-        assert_eq!(rt; enter(&mut image, &geometry, 1, b"link", 2), true);
-        assert_eq!(rt;
-            image.as_bytes().get(1584..1592),
-            Some(b"\x02\0link\0\0".as_slice())
-        );
-        assert_eq!(rt;
-            image.as_bytes().get(1024..1034),
-            Some(b"\xED\xC1\x02\0\0\0\x40\0\x03\0".as_slice())
-        );
-        assert_eq!(rt; take_out(&mut image, &geometry, 1, b"file"), true);
-        assert_eq!(rt;
-            image.as_bytes().get(1568..1574),
-            Some(b"\0\0file".as_slice())
-        );
-        assert_eq!(rt; enter(&mut image, &geometry, 1, b"new", 2), true);
-        assert_eq!(rt;
-            image.as_bytes().get(1568..1574),
-            Some(b"\x02\0new\0".as_slice())
-        );
-        assert_eq!(rt; image.word(1030), 64);
-    }
-    Ok(())
+fn names_come_and_go(rt: HostRuntime) {
+    let mut image = filled(&rt, rt.alloc(), 6144, &VOLUME);
+    let found = sound_geometry(rt.alloc(), &image).expect(&rt, "memory for the check");
+    let geometry = found.expect(&rt, "a sound volume");
+    assert!(rt; is_kind(&image, &geometry, 1, Kind::Directory));
+    begin(&image, &geometry, 1);
+    assert!(rt; enter(&mut image, &geometry, 1, b"link", 2));
+    check_at(&rt, &image, 1584, b"\x02\0link\0\0");
+    check_at(&rt, &image, 1024, b"\xED\xC1\x02\0\0\0\x40\0\x03\0");
+    assert!(rt; take_out(&mut image, &geometry, 1, b"file"));
+    check_at(&rt, &image, 1568, b"\0\0file");
+    assert!(rt; enter(&mut image, &geometry, 1, b"new", 2));
+    check_at(&rt, &image, 1568, b"\x02\0new\0");
+    assert!(rt; 1031 < image.len());
+    assert_eq!(rt; image.word(1030), 64);
 }

@@ -3,7 +3,7 @@ ghost use Rattle.std.specs.Prelude.{◌≡◌, length};
 ghost use Rattle.vol_layout.specs.Geometry.{Fits};
 
 use super::{Places, mark_places};
-use crate::tests::{Word, put_words};
+use crate::tests::{Word, put_words, with_pieces};
 use pdp_words::{BLOCK, Image};
 use std::alloc::Global;
 use std::process::Abort;
@@ -146,7 +146,7 @@ fn a_block_is_followed_in_more_levels_the_second_time(rt: HostRuntime) {
 
 #[test]
 fn many_ways_to_a_pointer_block_cost_no_more_than_one_for_each_level(rt: HostRuntime) {
-    let mut bytes = vec![in rt.alloc(); 0; BLOCK * 1010].expect(&rt, "memory for the bytes");
+    let mut bytes = with_pieces(&rt, rt.alloc(), BLOCK * 1010, &[]);
     put_many_ways(&mut bytes);
     check_places(&rt, rt.alloc(), &WIDE, bytes, Places::Twice);
 }
@@ -154,14 +154,14 @@ fn many_ways_to_a_pointer_block_cost_no_more_than_one_for_each_level(rt: HostRun
 /// What the places of a sixth edition volume name that has some words, each at its byte, and else
 /// zeros. Answers the marks.
 fn check_sixth(rt: &impl Abort, alloc: Global, words: &[Word], wanted: Places) -> Vec<u8> {
-    let mut bytes = vec![in alloc; 0; BLOCK * 12].expect(rt, "memory for the bytes");
+    let mut bytes = with_pieces(rt, alloc, BLOCK * 12, &[]);
     put_words(&mut bytes, words);
     check_places(rt, alloc, &SIXTH, bytes, wanted)
 }
 
 /// The same of a seventh edition volume.
 fn check_seventh(rt: &impl Abort, alloc: Global, words: &[Word], wanted: Places) {
-    let mut bytes = vec![in alloc; 0; BLOCK * 12].expect(rt, "memory for the bytes");
+    let mut bytes = with_pieces(rt, alloc, BLOCK * 12, &[]);
     put_words(&mut bytes, words);
     check_places(rt, alloc, &SEVENTH, bytes, wanted);
 }

@@ -151,18 +151,8 @@ fn found(rt: &impl Abort, image: &Image, geometry: &Geometry, i: u16, number: &N
 
 /// Bytes have these at a place.
 pub fn check_bytes(rt: &impl Abort, bytes: &[u8], place: usize, wanted: &[u8]) {
-    for (offset, byte) in wanted.iter().enumerate() {
-        let found = bytes.get(place.saturating_add(offset));
-        assert_eq!(rt; found, Some(byte), "byte {offset} from byte {place}");
-    }
-}
-
-/// Bytes have so many zeros at a place.
-pub fn check_zeros(rt: &impl Abort, bytes: &[u8], place: usize, count: usize) {
-    for offset in 0..count {
-        let found = bytes.get(place.saturating_add(offset));
-        assert_eq!(rt; found, Some(&0), "byte {offset} from byte {place}");
-    }
+    let found = bytes.get(place..place.saturating_add(wanted.len()));
+    assert_eq!(rt; found, Some(wanted), "from byte {place}");
 }
 
 /// Writes, if there are blocks enough; answers how many are needed.
@@ -194,7 +184,9 @@ fn give_down(image: &mut Image, geometry: &Geometry)
     ensures zero { (k : ℕ) → 1024 ≤ k → k < 512 * geometry.now.zone_start → slice_index image.new k ≡ 0 }
     ensures len { length image.new ≡ length image.old }
 {
-    for b in (5..geometry.zone_end).rev() {
+    let mut b = geometry.zone_end;
+    while b > 5 {
+        b -= 1;
         give(image, geometry, b);
     }
 }

@@ -1,12 +1,18 @@
 // Volumes by hand that keep the rules on directories, or break one of them.
+ghost use Rattle.std.specs.Prelude.{◌≡◌, length};
+
 use crate::judge;
 use pdp_words::Image;
-use std::alloc::{AllocError, Global};
-use std::test::Fail;
+use pdp_words::words::{put_bytes, put_word};
+use std::alloc::Global;
+use std::process::Abort;
 use vol_layout::Edition;
 
 /// Bytes that stand at a place.
-type Piece = (usize, &'static [u8]);
+pub type Piece = (usize, &'static [u8]);
+
+/// A word that stands at a place.
+pub type Word = (usize, u16);
 
 /// Twenty blocks of the sixth edition, two of them the i-list: the root with `sub`, a directory, and with
 /// `file` and `link`, two names of one regular file.
@@ -24,78 +30,114 @@ static VOLUME: [Piece; 11] = [
     (2576, b"\x01\x00.."),
 ];
 
-/// Puts bytes at their places, as far as there are such.
-fn put_pieces(bytes: &mut [u8], pieces: &[Piece]) {
+/// Bytes that are zeros, but for these at their places.
+pub fn with_pieces(rt: &impl Abort, alloc: Global, len: usize, pieces: &[Piece]) -> Vec<u8>
+    ensures { length result.items ≡ len }
+{
+    let mut bytes = vec![in alloc; 0; len].expect(rt, "memory for the bytes");
+    put_pieces(&mut bytes, pieces);
+    bytes
+}
+
+/// Puts bytes at their places, where there is room.
+fn put_pieces(bytes: &mut [u8], pieces: &[Piece])
+    ensures { length bytes.new ≡ length bytes.old }
+{
     for (at, piece) in pieces {
-        for (byte, new) in bytes.iter_mut().skip(*at).zip(*piece) {
-            *byte = *new;
+        if at.saturating_add(piece.len()) <= bytes.len() {
+            put_bytes(bytes, *at, piece);
         }
     }
 }
 
-/// What is answered of the volume once bytes are changed, where the free list isn't asked.
-fn judged(alloc: Global, change: &[Piece]) -> Result<Option<u8>, AllocError> {
-    let mut bytes = vec![in alloc; 0; 10_240]?;
-    put_pieces(&mut bytes, &VOLUME);
+/// Puts words, each at its byte, where there is room.
+pub fn put_words(bytes: &mut [u8], words: &[Word])
+    ensures { length bytes.new ≡ length bytes.old }
+{
+    for (at, value) in words {
+        if bytes.len().saturating_sub(*at) >= 2 {
+            put_word(bytes, *at, *value);
+        }
+    }
+}
+
+/// What is answered of a volume, where memory isn't refused.
+pub fn judged(
+    rt: &impl Abort,
+    alloc: Global,
+    edition: Edition,
+    bytes: Vec<u8>,
+    free: bool,
+) -> Option<u8> {
+    let least = judge(alloc, edition, &Image::from_bytes(bytes), free);
+    least.expect(rt, "memory for the marks")
+}
+
+/// What breaks the volume once bytes are changed, where the free list isn't asked.
+fn check_change(rt: &impl Abort, alloc: Global, change: &[Piece], least: Option<u8>) {
+    let mut bytes = with_pieces(rt, alloc, 10_240, &VOLUME);
     put_pieces(&mut bytes, change);
-    judge(alloc, Edition::V6, &Image::from_bytes(bytes), false)
+    assert_eq!(rt; judged(rt, alloc, Edition::V6, bytes, false), least);
 }
 
-#[test]
-fn a_volume_with_a_directory_and_links_is_sound(rt: HostRuntime) -> Result<(), Fail> {
-    assert_eq!(rt; judged(rt.alloc(), &[])?, None);
-    Ok(())
-}
-
-#[test]
-fn entries_break_rule_9(rt: HostRuntime) -> Result<(), Fail> {
-    let broken: [Piece; 7] = [
-        (1030, b"\x51"),
-        (2114, b"file"),
-        (2114, b"li/k"),
-        (2114, b"\x00"),
-        (2112, b"\x04"),
-        (2112, b"\x21"),
-        (2114, b"sub\x00k"),
-    ];
-    for piece in broken {
-        assert_eq!(rt; judged(rt.alloc(), &[piece])?, Some(9));
+/// Each of these pieces breaks a rule.
+fn check_breaks(rt: &impl Abort, alloc: Global, pieces: &[Piece], rule: u8) {
+    for piece in pieces {
+        check_change(rt, alloc, &[*piece], Some(rule));
     }
-    Ok(())
 }
 
 #[test]
-fn dots_break_rule_10(rt: HostRuntime) -> Result<(), Fail> {
-    let broken: [Piece; 5] = [
-        (2560, b"\x01"),
-        (2560, b"\x00"),
-        (2064, b"\x02"),
-        (2576, b"\x02"),
-        (2576, b"\x00"),
-    ];
-    for piece in broken {
-        assert_eq!(rt; judged(rt.alloc(), &[piece])?, Some(10));
-    }
-    Ok(())
+fn a_volume_with_a_directory_and_links_is_sound(rt: HostRuntime) {
+    check_change(&rt, rt.alloc(), &[], None);
 }
 
-#[test]
-fn a_second_entry_and_a_ring_break_rule_11(rt: HostRuntime) -> Result<(), Fail> {
-    assert_eq!(rt; judged(rt.alloc(), &[(2112, b"\x02")])?, Some(11));
-    let ring: [Piece; 4] = [
-        (2080, b"\x00"),
-        (1062, b"\x30"),
-        (2576, b"\x02"),
-        (2592, b"\x02\x00self"),
-    ];
-    assert_eq!(rt; judged(rt.alloc(), &ring)?, Some(11));
-    Ok(())
-}
+static BAD_ENTRIES: [Piece; 7] = [
+    (1030, b"\x51"),
+    (2114, b"file"),
+    (2114, b"li/k"),
+    (2114, b"\x00"),
+    (2112, b"\x04"),
+    (2112, b"\x21"),
+    (2114, b"sub\x00k"),
+];
 
 #[test]
-fn link_counts_break_rule_12(rt: HostRuntime) -> Result<(), Fail> {
-    assert_eq!(rt; judged(rt.alloc(), &[(1090, b"\x01")])?, Some(12));
-    assert_eq!(rt; judged(rt.alloc(), &[(1026, b"\x02")])?, Some(12));
-    assert_eq!(rt; judged(rt.alloc(), &[(1120, b"\xA4\x81\x00")])?, Some(12));
-    Ok(())
+fn entries_break_rule_9(rt: HostRuntime) {
+    check_breaks(&rt, rt.alloc(), &BAD_ENTRIES, 9);
+}
+
+static BAD_DOTS: [Piece; 5] = [
+    (2560, b"\x01"),
+    (2560, b"\x00"),
+    (2064, b"\x02"),
+    (2576, b"\x02"),
+    (2576, b"\x00"),
+];
+
+#[test]
+fn dots_break_rule_10(rt: HostRuntime) {
+    check_breaks(&rt, rt.alloc(), &BAD_DOTS, 10);
+}
+
+static SECOND_ENTRY: [Piece; 1] = [(2112, b"\x02")];
+
+static RING: [Piece; 4] = [
+    (2080, b"\x00"),
+    (1062, b"\x30"),
+    (2576, b"\x02"),
+    (2592, b"\x02\x00self"),
+];
+
+#[test]
+fn a_second_entry_and_a_ring_break_rule_11(rt: HostRuntime) {
+    check_change(&rt, rt.alloc(), &SECOND_ENTRY, Some(11));
+    check_change(&rt, rt.alloc(), &RING, Some(11));
+}
+
+static BAD_COUNTS: [Piece; 3] = [(1090, b"\x01"), (1026, b"\x02"), (1120, b"\xA4\x81\x00")];
+
+#[test]
+fn link_counts_break_rule_12(rt: HostRuntime) {
+    check_breaks(&rt, rt.alloc(), &BAD_COUNTS, 12);
 }

@@ -5,9 +5,7 @@ ghost use Rattle.vol_layout.specs.Names.{IsFile};
 ghost use Rattle.vol_file.specs.Rules.{HasSoundFiles};
 
 use crate::fixtures::Number::{self, Address, ModeBits, Size};
-use crate::fixtures::{
-    SEVENTH, SIXTH, check_bytes, check_numbers, check_put, check_zeros, seventh, sixth,
-};
+use crate::fixtures::{SEVENTH, SIXTH, check_bytes, check_numbers, check_put, seventh, sixth};
 use crate::read;
 use pdp_words::Image;
 use std::process::Abort;
@@ -35,7 +33,7 @@ fn the_doubly_indirect_block_of_the_sixth_edition(rt: HostRuntime) {
     let mut image = sixth(&rt, rt.alloc());
     check_put(&rt, &mut image, &SIXTH, 32, 917_504, &[1], 4);
     check_numbers(&rt, &image, &SIXTH, 32, &TWICE_INDIRECT);
-    check_zeros(&rt, image.as_bytes(), 5 * 512, 512);
+    check_bytes(&rt, image.as_bytes(), 5 * 512, &[0; 512]);
     check_bytes(&rt, image.as_bytes(), 6 * 512, b"\x07\x00");
     check_bytes(&rt, image.as_bytes(), 7 * 512, b"\x08\x00");
 }
@@ -91,7 +89,7 @@ fn check_tail(rt: &impl Abort, image: &Image, geometry: &Geometry, i: u16)
 {
     let mut bytes = [9; 102];
     assert_eq!(rt; read(image, geometry, i, 100, &mut bytes), 101);
-    check_zeros(rt, &bytes, 0, 100);
+    check_bytes(rt, &bytes, 0, &[0; 100]);
     check_bytes(rt, &bytes, 100, b"\x01\x09");
 }
 

@@ -1,12 +1,12 @@
 // Worked values: what the places of small volumes name, written into them word by word.
-ghost use Rattle.std.specs.Prelude.{◌≡◌, ℕ, ◌*◌, List, length};
+ghost use Rattle.std.specs.Prelude.{◌≡◌, length};
 ghost use Rattle.vol_layout.specs.Geometry.{Fits};
 
 use super::{Places, mark_places};
-use pdp_words::words::put_word;
+use crate::tests::{Word, put_words, with_pieces};
 use pdp_words::{BLOCK, Image};
-use std::alloc::{AllocError, Global};
-use std::test::Fail;
+use std::alloc::Global;
+use std::process::Abort;
 use vol_layout::{Edition, Geometry};
 
 /// A sixth edition volume of 12 blocks, with i-nodes 1 to 32.
@@ -44,158 +44,164 @@ const LAST: usize = 2016;
 const ROOT: usize = 1088;
 
 #[test]
-fn no_file_names_nothing(rt: HostRuntime) -> Result<(), Fail> {
-    let (places, marks) = walk(rt.alloc(), &SIXTH, &[])?;
-    assert_eq!(rt; places, Places::Once);
-    assert_eq!(rt; marks.as_slice(), [0; 12].as_slice());
-    Ok(())
+fn no_file_names_nothing(rt: HostRuntime) {
+    let marks = check_sixth(&rt, rt.alloc(), &[], Places::Once);
+    assert_eq!(rt; marks.as_slice(), b"\0\0\0\0\0\0\0\0\0\0\0\0".as_slice());
 }
 
+static ALL_PLACES: [Word; 11] = [
+    (FIRST, 0o140755),
+    (FIRST + 8, 4),
+    // A large file with an indirect block, and a doubly indirect one.
+    (LAST, 0o110644),
+    (LAST + 8, 5),
+    (LAST + 22, 7),
+    (BLOCK * 5 + 510, 6),
+    (BLOCK * 7, 8),
+    (BLOCK * 8 + 2, 9),
+    // Data isn't followed.
+    (BLOCK * 9, 9),
+    // A special file has a device number in place of an address.
+    (SECOND, 0o160644),
+    (SECOND + 8, 0x0203),
+];
+
 #[test]
-fn each_block_is_marked_where_it_is_named(rt: HostRuntime) -> Result<(), Fail> {
-    let words = [
-        (FIRST, 0o140755),
-        (FIRST + 8, 4),
-        // A large file with an indirect block, and a doubly indirect one.
-        (LAST, 0o110644),
-        (LAST + 8, 5),
-        (LAST + 22, 7),
-        (BLOCK * 5 + 510, 6),
-        (BLOCK * 7, 8),
-        (BLOCK * 8 + 2, 9),
-        // Data isn't followed.
-        (BLOCK * 9, 9),
-        // A special file has a device number in place of an address.
-        (SECOND, 0o160644),
-        (SECOND + 8, 0x0203),
-    ];
-    let (places, marks) = walk(rt.alloc(), &SIXTH, &words)?;
-    assert_eq!(rt; places, Places::Once);
+fn each_block_is_marked_where_it_is_named(rt: HostRuntime) {
+    let marks = check_sixth(&rt, rt.alloc(), &ALL_PLACES, Places::Once);
     assert_eq!(rt;
         marks.as_slice(),
-        [0, 0, 0, 0, 1, 1, 1, 1, 1, 1, 0, 0].as_slice()
+        b"\0\0\0\0\x01\x01\x01\x01\x01\x01\0\0".as_slice()
     );
-    Ok(())
+}
+
+static TWO_FILES: [Word; 4] = [
+    (FIRST, 0o140755),
+    (FIRST + 8, 4),
+    (LAST, 0o100644),
+    (LAST + 22, 4),
+];
+
+#[test]
+fn two_files_name_one_block(rt: HostRuntime) {
+    check_sixth(&rt, rt.alloc(), &TWO_FILES, Places::Twice);
+}
+
+static ITSELF: [Word; 3] = [(FIRST, 0o150755), (FIRST + 8, 4), (BLOCK * 4, 4)];
+
+#[test]
+fn a_pointer_block_names_itself(rt: HostRuntime) {
+    check_sixth(&rt, rt.alloc(), &ITSELF, Places::Twice);
+}
+
+static RING: [Word; 4] = [
+    (ROOT, 0o040755),
+    // The triply indirect block, the last of the thirteen addresses of three bytes.
+    (ROOT + 12 + 36 + 1, 4),
+    (BLOCK * 4 + 2, 5),
+    (BLOCK * 5 + 2, 4),
+];
+
+#[test]
+fn pointer_blocks_name_one_another_in_a_ring(rt: HostRuntime) {
+    check_seventh(&rt, rt.alloc(), &RING, Places::Twice);
+}
+
+static OUTSIDE: [Word; 5] = [
+    (ROOT, 0o040755),
+    (ROOT + 12 + 36 + 1, 4),
+    (BLOCK * 4 + 2, 5),
+    (BLOCK * 5 + 2, 6),
+    (BLOCK * 6 + 510, 12),
+];
+
+#[test]
+fn numbers_outside_the_data_zone(rt: HostRuntime) {
+    check_outside(&rt, rt.alloc(), 1);
+    check_outside(&rt, rt.alloc(), 3);
+    check_outside(&rt, rt.alloc(), 12);
+    check_outside(&rt, rt.alloc(), 0xFFFF);
+    check_seventh(&rt, rt.alloc(), &OUTSIDE, Places::OutOfZone);
+}
+
+/// An address of the root of the sixth edition is no data block's.
+fn check_outside(rt: &impl Abort, alloc: Global, number: u16) {
+    let words = [(FIRST, 0o140755), (FIRST + 22, number)];
+    check_sixth(rt, alloc, &words, Places::OutOfZone);
+}
+
+static IN_MORE_LEVELS: [Word; 5] = [
+    (FIRST, 0o150755),
+    (FIRST + 8, 4),
+    (FIRST + 22, 4),
+    (BLOCK * 4, 5),
+    // Data below the indirect block, and a pointer below the doubly indirect one.
+    (BLOCK * 5, 12),
+];
+
+#[test]
+fn a_block_is_followed_in_more_levels_the_second_time(rt: HostRuntime) {
+    check_sixth(&rt, rt.alloc(), &IN_MORE_LEVELS, Places::OutOfZone);
 }
 
 #[test]
-fn two_files_name_one_block(rt: HostRuntime) -> Result<(), Fail> {
-    let words = [
-        (FIRST, 0o140755),
-        (FIRST + 8, 4),
-        (LAST, 0o100644),
-        (LAST + 22, 4),
-    ];
-    let (places, _) = walk(rt.alloc(), &SIXTH, &words)?;
-    assert_eq!(rt; places, Places::Twice);
-    Ok(())
-}
-
-#[test]
-fn a_pointer_block_names_itself(rt: HostRuntime) -> Result<(), Fail> {
-    let words = [(FIRST, 0o150755), (FIRST + 8, 4), (BLOCK * 4, 4)];
-    let (places, _) = walk(rt.alloc(), &SIXTH, &words)?;
-    assert_eq!(rt; places, Places::Twice);
-    Ok(())
-}
-
-#[test]
-fn pointer_blocks_name_one_another_in_a_ring(rt: HostRuntime) -> Result<(), Fail> {
-    let words = [
-        (ROOT, 0o040755),
-        // The triply indirect block, the last of the thirteen addresses of three bytes.
-        (ROOT + 12 + 36 + 1, 4),
-        (BLOCK * 4 + 2, 5),
-        (BLOCK * 5 + 2, 4),
-    ];
-    let (places, _) = walk(rt.alloc(), &SEVENTH, &words)?;
-    assert_eq!(rt; places, Places::Twice);
-    Ok(())
-}
-
-#[test]
-fn numbers_outside_the_data_zone(rt: HostRuntime) -> Result<(), Fail> {
-    for number in [1, 3, 12, 0xFFFF] {
-        let words = [(FIRST, 0o140755), (FIRST + 22, number)];
-        let (places, _) = walk(rt.alloc(), &SIXTH, &words)?;
-        assert_eq!(rt; places, Places::OutOfZone, "at {number}");
-    }
-    let words = [
-        (ROOT, 0o040755),
-        (ROOT + 12 + 36 + 1, 4),
-        (BLOCK * 4 + 2, 5),
-        (BLOCK * 5 + 2, 6),
-        (BLOCK * 6 + 510, 12),
-    ];
-    let (places, _) = walk(rt.alloc(), &SEVENTH, &words)?;
-    assert_eq!(rt; places, Places::OutOfZone);
-    Ok(())
-}
-
-#[test]
-fn a_block_is_followed_in_more_levels_the_second_time(rt: HostRuntime) -> Result<(), Fail> {
-    let words = [
-        (FIRST, 0o150755),
-        (FIRST + 8, 4),
-        (FIRST + 22, 4),
-        (BLOCK * 4, 5),
-        // Data below the indirect block, and a pointer below the doubly indirect one.
-        (BLOCK * 5, 12),
-    ];
-    let (places, _) = walk(rt.alloc(), &SIXTH, &words)?;
-    assert_eq!(rt; places, Places::OutOfZone);
-    Ok(())
-}
-
-#[test]
-fn many_ways_to_a_pointer_block_cost_no_more_than_one_for_each_level(
-    rt: HostRuntime,
-) -> Result<(), Fail> {
-    let mut bytes = vec![in rt.alloc(); 0; BLOCK * 1010]?;
+fn many_ways_to_a_pointer_block_cost_no_more_than_one_for_each_level(rt: HostRuntime) {
+    let mut bytes = with_pieces(&rt, rt.alloc(), BLOCK * 1010, &[]);
     put_many_ways(&mut bytes);
-    let image = Image::from_bytes(bytes);
-    let mut marks = vec![in rt.alloc(); 0; 1010]?;
-    assert_eq!(rt; mark_places(&image, &WIDE, &mut marks), Places::Twice);
-    Ok(())
+    check_places(&rt, rt.alloc(), &WIDE, bytes, Places::Twice);
 }
 
-/// What the places of a volume name that has some words, each at its byte, and else zeros.
-fn walk(
+/// What the places of a sixth edition volume name that has some words, each at its byte, and else
+/// zeros. Answers the marks.
+fn check_sixth(rt: &impl Abort, alloc: Global, words: &[Word], wanted: Places) -> Vec<u8> {
+    let mut bytes = with_pieces(rt, alloc, BLOCK * 12, &[]);
+    put_words(&mut bytes, words);
+    check_places(rt, alloc, &SIXTH, bytes, wanted)
+}
+
+/// The same of a seventh edition volume.
+fn check_seventh(rt: &impl Abort, alloc: Global, words: &[Word], wanted: Places) {
+    let mut bytes = with_pieces(rt, alloc, BLOCK * 12, &[]);
+    put_words(&mut bytes, words);
+    check_places(rt, alloc, &SEVENTH, bytes, wanted);
+}
+
+/// What the places of a volume name. Answers the marks, which are 7 at first.
+fn check_places(
+    rt: &impl Abort,
     alloc: Global,
     geometry: &Geometry,
-    words: &[(usize, u16)],
-) -> Result<(Places, Vec<u8>), AllocError>
-    requires { (image : List ℕ) → length image ≡ 512 * geometry.now.zone_end → Fits geometry.now image }
+    bytes: Vec<u8>,
+    wanted: Places,
+) -> Vec<u8>
+    requires { Fits geometry.now bytes.items }
 {
-    let mut bytes = vec![in alloc; 0; BLOCK * geometry.zone_end as usize]?;
-    put_words(&mut bytes, words);
     let image = Image::from_bytes(bytes);
-    let mut marks = vec![in alloc; 7; geometry.zone_end as usize]?;
-    let places = mark_places(&image, geometry, &mut marks);
-    Ok((places, marks))
+    let marks = vec![in alloc; 7; geometry.zone_end as usize];
+    let mut marks = marks.expect(rt, "memory for the marks");
+    assert_eq!(rt; mark_places(&image, geometry, &mut marks), wanted);
+    marks
 }
 
 /// Lets 8000 files each name a triply indirect block whose entries, and theirs, all name one block:
 /// there are some 17 thousand million places.
-fn put_many_ways(bytes: &mut [u8]) {
-    for i in 0..8000 {
-        put_words(
-            bytes,
-            &[(1024 + 64 * i, 0o100644), (1024 + 64 * i + 49, 1002)],
-        );
-    }
-    for j in 0..128 {
-        put_words(bytes, &[(BLOCK * 1002 + 4 * j + 2, 1003)]);
-        put_words(bytes, &[(BLOCK * 1003 + 4 * j + 2, 1004)]);
-        put_words(bytes, &[(BLOCK * 1004 + 4 * j + 2, 1005)]);
-    }
+fn put_many_ways(bytes: &mut [u8])
+    ensures { length bytes.new ≡ length bytes.old }
+{
+    put_each(bytes, 1024, 64, 8000, 0o100644);
+    put_each(bytes, 1024 + 49, 64, 8000, 1002);
+    put_each(bytes, BLOCK * 1002 + 2, 4, 128, 1003);
+    put_each(bytes, BLOCK * 1003 + 2, 4, 128, 1004);
+    put_each(bytes, BLOCK * 1004 + 2, 4, 128, 1005);
 }
 
-/// Puts words, each at its byte, where there is room.
-fn put_words(bytes: &mut [u8], words: &[(usize, u16)]) {
-    for (at, value) in words {
-        if *at < bytes.len() && bytes.len() - *at >= 2 {
-            put_word(bytes, *at, *value);
-        }
+/// Puts one word at so many bytes, some steps apart.
+fn put_each(bytes: &mut [u8], first: usize, step: usize, count: usize, value: u16)
+    ensures { length bytes.new ≡ length bytes.old }
+{
+    let mut at = first;
+    for _ in 0..count {
+        put_words(bytes, &[(at, value)]);
+        at = at.saturating_add(step);
     }
 }

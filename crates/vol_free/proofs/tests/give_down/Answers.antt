@@ -8,6 +8,7 @@ loop-block-init c =
     let low : 2 ≤ c.args.geometry.now.zone_start = zone_behind c.requires.fits in
     record {
       low = omega arith;
+      high = omega arith;
       fits = c.requires.fits;
       stack = record { blocks = []; free = c.requires.free };
       above = λ blocks free b i. absurd (none_free (omega arith) c.requires.free free b i);
@@ -18,6 +19,7 @@ loop-block-preserved c =
     let low : 2 ≤ c.args.geometry.now.zone_start = zone_behind c.requires.fits in
     record {
       low = omega arith;
+      high = omega arith;
       fits = c.give.ensures.fits;
       stack = c.give.ensures.stack;
       above = given_from (c.loop-block.block - 1) (omega arith) c.loop-block.invariant.stack c.give.ensures.pushed

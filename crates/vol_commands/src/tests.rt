@@ -2,12 +2,13 @@
 ghost use Rattle.std.specs.Prelude.{◌<◌};
 
 use crate::cat::{CatFault, cat};
+use crate::worked::put;
 use pdp_words::testing::{ScriptedReader, ScriptedWriter, WriteMishap};
 use pdp_words::{FromRead, IntoWrite, Sink, Source};
-use std::alloc::{AllocError, Global};
+use std::alloc::Global;
+use std::fmt::Display;
 use std::io::ErrorKind;
 use std::process::Abort;
-use std::test::Fail;
 use vol_layout::{Edition, GeometryFault};
 
 /// Bytes to be put at a place.
@@ -70,7 +71,7 @@ static SEVENTH_LARGE: [Edit; 10] = [
 static SEVENTH_TEXTS: [Edit; 3] = [(5120, b"first"), (70_144, b"single"), (70_656, b"double")];
 
 /// What `cat` is to do.
-#[derive(Clone, Copy, Debug)]
+#[derive(Clone, Copy)]
 enum Wanted {
     /// Write these bytes, and zeros up to a length.
     Bytes(&'static str, usize),
@@ -131,15 +132,14 @@ static SEVENTH_ROWS: [(u16, Edit, Wanted); 14] = [
 ];
 
 #[test]
-fn cat_prints_or_refuses(rt: HostRuntime) -> Result<(), Fail> {
+fn cat_prints_or_refuses(rt: HostRuntime) {
     let alloc = rt.alloc();
     for (ino, edit, wanted) in &SIXTH_ROWS {
-        check(&rt, alloc, Edition::V6, &SIXTH, *edit, *ino, *wanted)?;
+        check(&rt, alloc, Edition::V6, &SIXTH, *edit, *ino, *wanted);
     }
     for (ino, edit, wanted) in &SEVENTH_ROWS {
-        check(&rt, alloc, Edition::V7, &SEVENTH, *edit, *ino, *wanted)?;
+        check(&rt, alloc, Edition::V7, &SEVENTH, *edit, *ino, *wanted);
     }
-    Ok(())
 }
 
 /// Runs `cat` on a volume with an edit, and compares all that it writes and answers.
@@ -151,41 +151,104 @@ fn check(
     edit: Edit,
     ino: u16,
     wanted: Wanted,
-) -> Result<(), Fail> {
-    let bytes = image(alloc, volume, edit)?;
-    let mut source = FromRead::new(ScriptedReader::new(&bytes, 1000));
-    let mut sink = IntoWrite::new(ScriptedWriter::new(alloc, 100));
-    let result = cat(alloc, edition, ino, &mut source, &mut sink);
-    let taken = sink.into_inner().taken;
+) {
+    let bytes = image(rt, alloc, volume, edit);
+    let reader = ScriptedReader::new(&bytes, 1000);
+    let outcome = run(alloc, edition, ino, reader, ScriptedWriter::new(alloc, 100));
+    let label = format_args!("{edition:?} {ino} {edit:?}");
     match wanted {
         Wanted::Bytes(text, len) => {
-            assert_eq!(rt; result, Ok(()), "{edition:?} {ino} {edit:?}");
-            let body = padded(alloc, text, len)?;
-            assert_eq!(rt; taken, body, "{edition:?} {ino} {edit:?}");
+            outcome.check(rt, Ok(()), &padded(rt, alloc, text, len), &label);
         }
-        Wanted::Line(line, status) => {
-            let Err(fault) = result else {
-                return Err(Fail::from("a refusal is due"));
-            };
-            let text = format!(in alloc; "{fault}")?;
-            assert_eq!(rt; text.as_str(), line, "{edition:?} {ino} {edit:?}");
-            assert_eq!(rt; fault.status(), status, "{edition:?} {ino} {edit:?}");
-            assert!(rt; taken.is_empty(), "{edition:?} {ino} {edit:?}");
-        }
+        Wanted::Line(line, status) => outcome.check_line(rt, alloc, line, status, &label),
     }
-    Ok(())
+}
+
+/// What `cat` came to.
+#[derive(Drop)]
+struct Outcome {
+    /// Its answer.
+    answer: Result<(), CatFault>,
+    /// Whether a read failed.
+    has_read_failed: bool,
+    /// Whether a write failed.
+    has_write_failed: bool,
+    /// What its writer took.
+    taken: Vec<u8>,
+}
+
+/// Runs `cat` with a reader and a writer.
+fn run(
+    alloc: Global,
+    edition: Edition,
+    ino: u16,
+    reader: ScriptedReader<'_>,
+    writer: ScriptedWriter,
+) -> Outcome {
+    let mut source = FromRead::new(reader);
+    let mut sink = IntoWrite::new(writer);
+    let answer = cat(alloc, edition, ino, &mut source, &mut sink);
+    Outcome {
+        answer,
+        has_read_failed: source.failed(),
+        has_write_failed: sink.failed(),
+        taken: sink.into_inner().taken,
+    }
+}
+
+impl Outcome {
+    /// Compares the answer, and what the writer took.
+    fn check(
+        &self,
+        rt: &impl Abort,
+        answer: Result<(), CatFault>,
+        taken: &[u8],
+        label: &impl Display,
+    ) {
+        assert_eq!(rt; self.answer, answer, "{label}");
+        assert_eq!(rt; self.taken.as_slice(), taken, "{label}");
+    }
+
+    /// Compares the line and the status of a refusal, with which nothing was written.
+    fn check_line(
+        &self,
+        rt: &impl Abort,
+        alloc: Global,
+        line: &str,
+        status: u8,
+        label: &impl Display,
+    ) {
+        match &self.answer {
+            Ok(()) => panic!(rt; "a refusal is due: {label}"),
+            Err(fault) => check_fault(rt, alloc, fault, line, status, label),
+        }
+        assert!(rt; self.taken.is_empty(), "{label}");
+    }
+}
+
+/// Compares the line and the status of a fault.
+fn check_fault(
+    rt: &impl Abort,
+    alloc: Global,
+    fault: &CatFault,
+    line: &str,
+    status: u8,
+    label: &impl Display,
+) {
+    let text = format!(in alloc; "{fault}").expect(rt, "memory for the line");
+    assert_eq!(rt; text.as_str(), line, "{label}");
+    assert_eq!(rt; fault.status(), status, "{label}");
 }
 
 #[test]
-fn cat_follows_indirect_blocks(rt: HostRuntime) -> Result<(), Fail> {
+fn cat_follows_indirect_blocks(rt: HostRuntime) {
     let alloc = rt.alloc();
-    let volume = edited(alloc, 5120, &SIXTH_LARGE)?;
-    let body = edited(alloc, 918_016, &SIXTH_TEXTS)?;
+    let volume = edited(&rt, alloc, 5120, &SIXTH_LARGE);
+    let body = edited(&rt, alloc, 918_016, &SIXTH_TEXTS);
     check_body(&rt, alloc, Edition::V6, 1, &volume, &body);
-    let volume = edited(alloc, 5120, &SEVENTH_LARGE)?;
-    let body = edited(alloc, 71_168, &SEVENTH_TEXTS)?;
+    let volume = edited(&rt, alloc, 5120, &SEVENTH_LARGE);
+    let body = edited(&rt, alloc, 71_168, &SEVENTH_TEXTS);
     check_body(&rt, alloc, Edition::V7, 2, &volume, &body);
-    Ok(())
 }
 
 /// Runs `cat` on an image, and compares what it writes with a file's body.
@@ -197,61 +260,54 @@ fn check_body(
     image: &[u8],
     body: &[u8],
 ) {
-    let mut source = FromRead::new(ScriptedReader::new(image, 65_536));
-    let mut sink = IntoWrite::new(ScriptedWriter::new(alloc, 65_536));
-    let result = cat(alloc, edition, ino, &mut source, &mut sink);
-    assert_eq!(rt; result, Ok(()), "{edition:?}");
-    assert_eq!(rt; sink.into_inner().taken.as_slice(), body, "{edition:?}");
+    let reader = ScriptedReader::new(image, 65_536);
+    let writer = ScriptedWriter::new(alloc, 65_536);
+    let outcome = run(alloc, edition, ino, reader, writer);
+    outcome.check(rt, Ok(()), body, &format_args!("{edition:?}"));
 }
 
 #[test]
-fn short_images_break_the_first_rule(rt: HostRuntime) -> Result<(), Fail> {
-    let bytes = image(rt.alloc(), &SIXTH, (0, b""))?;
-    for len in [0, 1, 512, 1023, 1024, 2559] {
-        let mut source = FromRead::new(ScriptedReader::new(&bytes[..bytes.len().min(len)], 512));
-        let mut sink = IntoWrite::new(ScriptedWriter::new(rt.alloc(), 512));
-        let result = cat(rt.alloc(), Edition::V6, 1, &mut source, &mut sink);
-        let short = CatFault::Unsound(GeometryFault::Short);
-        assert_eq!(rt; result, Err(short), "of {len} bytes");
-        assert!(rt; sink.into_inner().taken.is_empty());
-    }
-    Ok(())
-}
-
-#[test]
-fn a_read_that_fails_is_the_devices(rt: HostRuntime) -> Result<(), Fail> {
+fn short_images_break_the_first_rule(rt: HostRuntime) {
     let alloc = rt.alloc();
-    let bytes = image(alloc, &SIXTH, (0, b""))?;
+    let bytes = image(&rt, alloc, &SIXTH, (0, b""));
+    for len in [0, 1, 512, 1023, 1024, 2559] {
+        let reader = ScriptedReader::new(&bytes[..bytes.len().min(len)], 512);
+        let writer = ScriptedWriter::new(alloc, 512);
+        let outcome = run(alloc, Edition::V6, 1, reader, writer);
+        let short = CatFault::Unsound(GeometryFault::Short);
+        outcome.check(&rt, Err(short), b"", &format_args!("of {len} bytes"));
+    }
+}
+
+#[test]
+fn a_read_that_fails_is_the_devices(rt: HostRuntime) {
+    let alloc = rt.alloc();
+    let bytes = image(&rt, alloc, &SIXTH, (0, b""));
     // Five reads give the bytes, and the sixth says that these were all.
     for at in 0..8 {
         let reader = ScriptedReader::new(&bytes, 512).failing_at(at, ErrorKind::Other);
-        let mut source = FromRead::new(reader);
-        let mut sink = IntoWrite::new(ScriptedWriter::new(alloc, 512));
-        let result = cat(alloc, Edition::V6, 1, &mut source, &mut sink);
-        let taken = sink.into_inner().taken;
-        assert_eq!(rt; source.failed(), at < 6, "read {at}");
+        let writer = ScriptedWriter::new(alloc, 512);
+        let outcome = run(alloc, Edition::V6, 1, reader, writer);
+        let label = format_args!("read {at}");
+        assert_eq!(rt; outcome.has_read_failed, at < 6, "{label}");
         if at < 6 {
-            assert_eq!(rt; result, Err(CatFault::Device), "read {at}");
-            assert!(rt; taken.is_empty(), "read {at}");
+            outcome.check(&rt, Err(CatFault::Device), b"", &label);
         } else {
-            assert_eq!(rt; result, Ok(()), "read {at}");
-            assert_eq!(rt; taken.as_slice(), b"hello".as_slice(), "read {at}");
+            outcome.check(&rt, Ok(()), b"hello", &label);
         }
     }
-    Ok(())
 }
 
 #[test]
-fn a_write_that_fails_counts_what_was_taken(rt: HostRuntime) -> Result<(), Fail> {
+fn a_write_that_fails_counts_what_was_taken(rt: HostRuntime) {
     let alloc = rt.alloc();
-    let bytes = image(alloc, &SIXTH, (1030, b"\x08\x02"))?;
-    let body = padded(alloc, "hello", 520)?;
+    let bytes = image(&rt, alloc, &SIXTH, (1030, b"\x08\x02"));
+    let body = padded(&rt, alloc, "hello", 520);
     for mishap in [WriteMishap::Error(ErrorKind::Other), WriteMishap::TakesNone] {
         for piece in [1, 7, 104, 520] {
             check_writes(&rt, alloc, &bytes, &body, piece, mishap);
         }
     }
-    Ok(())
 }
 
 /// Prints file 1, once for each write that can go wrong, and twice more, where that write never comes.
@@ -267,77 +323,65 @@ fn check_writes(
 {
     let writes = body.len().div_ceil(piece);
     for at in 0..writes.saturating_add(2) {
-        let mut source = FromRead::new(ScriptedReader::new(bytes, 65_536));
         let writer = ScriptedWriter::new(alloc, piece).failing_at(at as u64, mishap);
-        let mut sink = IntoWrite::new(writer);
-        let result = cat(alloc, Edition::V6, 1, &mut source, &mut sink);
-        let has_failed = sink.failed();
-        let taken = sink.into_inner().taken;
+        let reader = ScriptedReader::new(bytes, 65_536);
+        let outcome = run(alloc, Edition::V6, 1, reader, writer);
+        let label = format_args!("write {at} by {piece}");
+        assert_eq!(rt; outcome.has_write_failed, at < writes, "{label}");
         let written = at.saturating_mul(piece).min(body.len());
-        assert_eq!(rt; has_failed, at < writes, "write {at} by {piece}");
-        if has_failed {
-            let fault = CatFault::Writer(written as u64);
-            assert_eq!(rt; result, Err(fault), "write {at} by {piece}");
+        let answer = if at < writes {
+            Err(CatFault::Writer(written as u64))
         } else {
-            assert_eq!(rt; result, Ok(()), "write {at} by {piece}");
-        }
-        assert_eq!(rt; taken.as_slice(), &body[..written], "write {at} by {piece}");
+            Ok(())
+        };
+        outcome.check(rt, answer, &body[..written], &label);
     }
 }
 
+static FAULTS: [(CatFault, &str, u8); 7] = [
+    (CatFault::Device, "unixvol: cannot read the image", 3),
+    (CatFault::NoMemory, "unixvol: 12 NoMemory", 4),
+    (
+        CatFault::Unsound(GeometryFault::Short),
+        "unixvol: unsound, rule 1",
+        1,
+    ),
+    (
+        CatFault::Unsound(GeometryFault::Bounds),
+        "unixvol: unsound, rule 2",
+        1,
+    ),
+    (CatFault::NoEntry, "unixvol: 2 NoEntry", 1),
+    (CatFault::NotRegular, "unixvol: 102 NotRegular", 1),
+    (CatFault::Writer(7), "unixvol: cannot write -", 3),
+];
+
 #[test]
-fn faults_have_their_line_and_status(rt: HostRuntime) -> Result<(), Fail> {
-    for (fault, line, status) in [
-        (CatFault::Device, "unixvol: cannot read the image", 3),
-        (CatFault::NoMemory, "unixvol: 12 NoMemory", 4),
-        (
-            CatFault::Unsound(GeometryFault::Short),
-            "unixvol: unsound, rule 1",
-            1,
-        ),
-        (
-            CatFault::Unsound(GeometryFault::Bounds),
-            "unixvol: unsound, rule 2",
-            1,
-        ),
-        (CatFault::NoEntry, "unixvol: 2 NoEntry", 1),
-        (CatFault::NotRegular, "unixvol: 102 NotRegular", 1),
-        (CatFault::Writer(7), "unixvol: cannot write -", 3),
-    ] {
-        let text = format!(in rt.alloc(); "{fault}")?;
-        assert_eq!(rt; text.as_str(), line);
-        assert_eq!(rt; fault.status(), status, "of {fault:?}");
+fn faults_have_their_line_and_status(rt: HostRuntime) {
+    for (fault, line, status) in &FAULTS {
+        let label = format_args!("of {fault:?}");
+        check_fault(&rt, rt.alloc(), fault, line, *status, &label);
     }
-    Ok(())
 }
 
 /// The bytes of a volume of five blocks with an edit.
-fn image(alloc: Global, volume: &[Edit], edit: Edit) -> Result<Vec<u8>, AllocError> {
-    let mut bytes = edited(alloc, 2560, volume)?;
+fn image(rt: &impl Abort, alloc: Global, volume: &[Edit], edit: Edit) -> Vec<u8> {
+    let mut bytes = edited(rt, alloc, 2560, volume);
     let (at, new) = edit;
     put(&mut bytes, at, new);
-    Ok(bytes)
+    bytes
 }
 
 /// Zeros with edits.
-fn edited(alloc: Global, len: usize, edits: &[Edit]) -> Result<Vec<u8>, AllocError> {
-    let mut bytes = vec![in alloc; 0; len]?;
+fn edited(rt: &impl Abort, alloc: Global, len: usize, edits: &[Edit]) -> Vec<u8> {
+    let mut bytes = vec![in alloc; 0; len].expect(rt, "memory for the bytes");
     for (at, new) in edits {
         put(&mut bytes, *at, new);
     }
-    Ok(bytes)
-}
-
-/// Puts bytes at a place.
-fn put(bytes: &mut [u8], at: usize, new: &[u8]) {
-    for (byte, new) in bytes.iter_mut().skip(at).zip(new) {
-        *byte = *new;
-    }
+    bytes
 }
 
 /// The bytes of a text, and zeros up to a length.
-fn padded(alloc: Global, text: &str, len: usize) -> Result<Vec<u8>, AllocError> {
-    let mut bytes = vec![in alloc; 0; len]?;
-    put(&mut bytes, 0, text.as_bytes());
-    Ok(bytes)
+fn padded(rt: &impl Abort, alloc: Global, text: &'static str, len: usize) -> Vec<u8> {
+    edited(rt, alloc, len, &[(0, text.as_bytes())])
 }

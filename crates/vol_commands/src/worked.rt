@@ -1,10 +1,10 @@
 //! A worked volume, and runs of commands on it, for tests.
 use crate::answer::Answer;
+use crate::showing::{get, ls};
 use pdp_words::IntoWrite;
 use pdp_words::testing::ScriptedWriter;
 use std::alloc::Global;
 use std::process::Abort;
-use std::test::Fail;
 use vol_layout::Edition;
 use vol_volume::mkfs;
 
@@ -31,18 +31,24 @@ static PIECES: [(usize, &[u8]); 12] = [
 ];
 
 /// The bytes of the worked volume.
-pub fn image(alloc: Global) -> Result<Vec<u8>, Fail> {
-    let mut bytes = mkfs(alloc, Edition::V6, 20, 2, 0, 0, NOW)?;
+pub(crate) fn image(rt: &impl Abort, alloc: Global) -> Vec<u8> {
+    let made = mkfs(alloc, Edition::V6, 20, 2, 0, 0, NOW);
+    let mut bytes = made.expect(rt, "a new volume");
     for (at, piece) in &PIECES {
-        for (byte, new) in bytes.iter_mut().skip(*at).zip(*piece) {
-            *byte = *new;
-        }
+        put(&mut bytes, *at, piece);
     }
-    Ok(bytes)
+    bytes
+}
+
+/// Puts bytes at a place.
+pub(crate) fn put(bytes: &mut [u8], at: usize, new: &[u8]) {
+    for (byte, new) in bytes.iter_mut().skip(at).zip(new) {
+        *byte = *new;
+    }
 }
 
 /// What a command came to: its answer, and what its two writers took.
-#[derive(Debug, Drop)]
+#[derive(Drop)]
 pub struct Outcome {
     /// Its answer.
     pub answer: Answer,
@@ -54,15 +60,26 @@ pub struct Outcome {
 
 impl Outcome {
     /// Compares the status, standard output and standard error.
-    pub fn check(&self, rt: &impl Abort, status: u8, output: &[u8], errors: &str) {
-        assert_eq!(rt; self.errors.as_slice(), errors.as_bytes());
+    pub(crate) fn check(&self, rt: &impl Abort, status: u8, output: &[u8], errors: &str) {
+        check_bytes(rt, &self.errors, errors.as_bytes());
         assert_eq!(rt; self.answer.status, status, "{errors}");
-        assert_eq!(rt; self.output.as_slice(), output);
+        check_bytes(rt, &self.output, output);
+    }
+
+    /// The same, of a command that saves nothing. Its status is 1 if it writes an error, and else 0.
+    pub(crate) fn check_unsaved(&self, rt: &impl Abort, output: &[u8], errors: &str) {
+        self.check(rt, u8::from(!errors.is_empty()), output, errors);
+        assert!(rt; self.answer.image.is_none(), "{errors}");
     }
 }
 
+/// Compares bytes that were written.
+pub(crate) fn check_bytes(rt: &impl Abort, found: &[u8], wanted: &[u8]) {
+    assert_eq!(rt; found, wanted);
+}
+
 /// Runs a command with two writers.
-pub fn run<F>(alloc: Global, command: F) -> Outcome
+pub(crate) fn run<F>(alloc: Global, command: F) -> Outcome
 where
     F: FnOnce(&mut IntoWrite<ScriptedWriter>, &mut IntoWrite<ScriptedWriter>) -> Answer,
     requires { F.IsAlwaysCallable command }
@@ -75,4 +92,18 @@ where
         output: output.into_inner().taken,
         errors: errors.into_inner().taken,
     }
+}
+
+/// Lists a directory of the volume in some bytes.
+pub(crate) fn listed(alloc: Global, edition: Edition, image: Vec<u8>, path: &str) -> Outcome {
+    run(alloc, |output, errors| {
+        ls(alloc, edition, image, path, output, errors)
+    })
+}
+
+/// Prints a file of the volume in some bytes.
+pub(crate) fn printed(alloc: Global, edition: Edition, image: Vec<u8>, path: &str) -> Outcome {
+    run(alloc, |output, errors| {
+        get(alloc, edition, image, path, output, errors)
+    })
 }

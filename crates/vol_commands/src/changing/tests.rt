@@ -1,11 +1,8 @@
 // `put`, `rm`, `rmdir`, `mkdir` and `ln` from a volume's bytes to those that are saved, their lines and their statuses.
-use crate::answer::Answer;
 use crate::changing::{ln, mkdir, put, rm, rmdir};
-use crate::showing::{get, ls};
-use crate::worked::{self, NOW, Outcome};
+use crate::worked::{self, NOW, Outcome, listed, printed};
 use std::alloc::Global;
 use std::process::Abort;
-use std::test::Fail;
 use vol_layout::Edition;
 
 /// A command that changes a volume, with its paths, and what is put.
@@ -49,33 +46,41 @@ static REFUSED: [(Change, &str); 26] = [
 ];
 
 /// Runs a command on the volume in some bytes.
-fn run(alloc: Global, image: Vec<u8>, change: Change) -> Result<Outcome, Fail> {
+fn run(rt: &impl Abort, alloc: Global, image: Vec<u8>, change: Change) -> Outcome {
     let edition = Edition::V6;
     let file = match change {
-        Change::Put(_, bytes) => Vec::from_slice(alloc, bytes.as_bytes())?,
+        Change::Put(_, bytes) => copied(rt, alloc, bytes.as_bytes()),
         _ => Vec::new(alloc),
     };
-    Ok(worked::run(alloc, |output, errors| match change {
+    worked::run(alloc, |output, errors| match change {
         Change::Put(path, _) => put(alloc, edition, image, path, file, NOW, output, errors),
         Change::Rm(path) => rm(alloc, edition, image, path, NOW, output, errors),
         Change::Rmdir(path) => rmdir(alloc, edition, image, path, NOW, output, errors),
         Change::Mkdir(path) => mkdir(alloc, edition, image, path, NOW, output, errors),
         Change::Ln(from, to) => ln(alloc, edition, image, from, to, NOW, output, errors),
-    }))
+    })
+}
+
+/// A copy of some bytes.
+fn copied(rt: &impl Abort, alloc: Global, bytes: &[u8]) -> Vec<u8> {
+    Vec::from_slice(alloc, bytes).expect(rt, "memory for the bytes")
 }
 
 #[test]
-fn refused_commands_save_nothing(rt: HostRuntime) -> Result<(), Fail> {
+fn refused_commands_save_nothing(rt: HostRuntime) {
     let alloc = rt.alloc();
     for (change, line) in &REFUSED {
-        let run = run(alloc, worked::image(alloc)?, *change)?;
-        run.check(&rt, 1, b"", line);
-        assert!(rt; run.answer.image.is_none(), "{change:?}");
+        check_refused(&rt, alloc, worked::image(&rt, alloc), *change, line);
     }
-    let run = run(alloc, Vec::new(alloc), Change::Rm("/hello"))?;
-    run.check(&rt, 1, b"", "unixvol: unsound, rule 1\n");
-    assert!(rt; run.answer.image.is_none());
-    Ok(())
+    let line = "unixvol: unsound, rule 1\n";
+    check_refused(&rt, alloc, Vec::new(alloc), Change::Rm("/hello"), line);
+}
+
+/// Runs a command that is refused with this line.
+fn check_refused(rt: &impl Abort, alloc: Global, image: Vec<u8>, change: Change, line: &str) {
+    let run = run(rt, alloc, image, change);
+    run.check(rt, 1, b"", line);
+    assert!(rt; run.answer.image.is_none(), "{change:?}");
 }
 
 /// Commands that are accepted one after another, and the root's names after each.
@@ -116,27 +121,22 @@ static ACCEPTED: [(Change, &str); 9] = [
 ];
 
 #[test]
-fn accepted_commands_answer_the_changed_volume(rt: HostRuntime) -> Result<(), Fail> {
+fn accepted_commands_answer_the_changed_volume(rt: HostRuntime) {
     let alloc = rt.alloc();
-    let mut image = worked::image(alloc)?;
+    let mut image = worked::image(&rt, alloc);
     for (change, names) in &ACCEPTED {
-        let outcome = run(alloc, image, *change)?;
-        outcome.check(&rt, 0, b"", "");
-        let Outcome { answer, .. } = outcome;
-        let Answer { image: saved, .. } = answer;
-        let Some(bytes) = saved else {
-            return Err(Fail::from("a volume is to be saved"));
-        };
-        let copy = Vec::from_slice(alloc, &bytes)?;
-        let listed = worked::run(alloc, |output, errors| {
-            ls(alloc, Edition::V6, copy, "/", output, errors)
-        });
+        image = accepted(&rt, alloc, image, *change);
+        let listed = listed(alloc, Edition::V6, copied(&rt, alloc, &image), "/");
         listed.check(&rt, 0, names.as_bytes(), "");
-        image = bytes;
     }
-    let got = worked::run(alloc, |output, errors| {
-        get(alloc, Edition::V6, image, "/again", output, errors)
-    });
+    let got = printed(alloc, Edition::V6, image, "/again");
     got.check(&rt, 0, b"bye", "");
-    Ok(())
+}
+
+/// Runs a command that is accepted, and answers the volume that is saved.
+fn accepted(rt: &impl Abort, alloc: Global, image: Vec<u8>, change: Change) -> Vec<u8> {
+    let outcome = run(rt, alloc, image, change);
+    outcome.check(rt, 0, b"", "");
+    let Outcome { answer, .. } = outcome;
+    answer.image.expect(rt, "a volume is to be saved")
 }

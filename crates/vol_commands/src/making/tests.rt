@@ -1,11 +1,11 @@
 // `mkfs` from its numbers to its bytes, its lines and its statuses, and writers that go wrong.
-use crate::making::{NewVolume, mkfs_command};
+use crate::making::{Made, NewVolume, mkfs_command};
+use crate::worked::check_bytes;
 use pdp_words::IntoWrite;
 use pdp_words::testing::{ScriptedWriter, WriteMishap};
 use std::alloc::Global;
 use std::io::ErrorKind;
 use std::process::Abort;
-use std::test::Fail;
 use vol_layout::Edition;
 
 /// A volume of the sixth edition of twenty blocks.
@@ -19,7 +19,7 @@ const TWENTY: NewVolume = NewVolume {
 };
 
 #[test]
-fn mkfs_makes_or_refuses(rt: HostRuntime) -> Result<(), Fail> {
+fn mkfs_makes_or_refuses(rt: HostRuntime) {
     check(&rt, rt.alloc(), TWENTY, Some(10_240), 0, "");
     let least = NewVolume {
         blocks: 4,
@@ -35,7 +35,6 @@ fn mkfs_makes_or_refuses(rt: HostRuntime) -> Result<(), Fail> {
         ..stranger
     };
     check(&rt, rt.alloc(), seventh, Some(10_240), 0, "");
-    Ok(())
 }
 
 /// Runs `mkfs` with two writers, and compares how many bytes are to be saved, the status and the line.
@@ -50,21 +49,24 @@ fn check(
     let mut output = IntoWrite::new(ScriptedWriter::new(alloc, 100));
     let mut errors = IntoWrite::new(ScriptedWriter::new(alloc, 7));
     let made = mkfs_command(alloc, volume, &mut output, &mut errors);
-    assert_eq!(rt; made.volume.is_some(), len.is_some(), "{volume:?}");
-    let mut saved = IntoWrite::new(ScriptedWriter::new(alloc, 1000));
-    if let Some(blank) = &made.volume {
-        assert!(rt; blank.write_to(&mut saved).is_ok(), "{volume:?}");
-    }
-    let saved = saved.into_inner().taken.len();
-    assert_eq!(rt; saved, len.unwrap_or(0), "{volume:?}");
     assert_eq!(rt; made.status, status, "{volume:?}");
-    assert!(rt; output.into_inner().taken.is_empty(), "{volume:?}");
-    let taken = errors.into_inner().taken;
-    assert_eq!(rt; taken.as_slice(), line.as_bytes(), "{volume:?}");
+    assert_eq!(rt; saved_len(rt, alloc, &made), len, "{volume:?}");
+    check_bytes(rt, &output.into_inner().taken, b"");
+    check_bytes(rt, &errors.into_inner().taken, line.as_bytes());
+}
+
+/// How many bytes are saved of a new volume, if there is one.
+fn saved_len(rt: &impl Abort, alloc: Global, made: &Made) -> Option<usize> {
+    let Some(volume) = &made.volume else {
+        return None;
+    };
+    let mut saved = IntoWrite::new(ScriptedWriter::new(alloc, 1000));
+    assert!(rt; volume.write_to(&mut saved).is_ok());
+    Some(saved.into_inner().taken.len())
 }
 
 #[test]
-fn a_line_that_is_not_taken_changes_no_status(rt: HostRuntime) -> Result<(), Fail> {
+fn a_line_that_is_not_taken_changes_no_status(rt: HostRuntime) {
     let alloc = rt.alloc();
     let mut output = IntoWrite::new(ScriptedWriter::new(alloc, 100));
     let mishap = WriteMishap::Error(ErrorKind::Other);
@@ -76,7 +78,5 @@ fn a_line_that_is_not_taken_changes_no_status(rt: HostRuntime) -> Result<(), Fai
     let made = mkfs_command(alloc, volume, &mut output, &mut errors);
     assert_eq!(rt; made.status, 1);
     assert!(rt; made.volume.is_none());
-    let taken = errors.into_inner().taken;
-    assert_eq!(rt; taken.as_slice(), b"unixvol".as_slice());
-    Ok(())
+    check_bytes(&rt, &errors.into_inner().taken, b"unixvol");
 }

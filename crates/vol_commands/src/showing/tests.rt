@@ -1,12 +1,10 @@
 // `ls` and `get` from a volume's bytes to their output, their lines and their statuses.
-use crate::answer::Answer;
-use crate::showing::{get, ls};
-use crate::worked::{self, Outcome};
+use crate::showing::ls;
+use crate::worked::{self, check_bytes, listed, printed};
 use pdp_words::IntoWrite;
 use pdp_words::testing::{ScriptedWriter, WriteMishap};
-use std::alloc::Global;
 use std::io::ErrorKind;
-use std::test::Fail;
+use std::process::Abort;
 use vol_layout::Edition;
 
 /// Paths, and what is printed of them: on standard output, and on standard error.
@@ -44,64 +42,53 @@ static PRINTED: [Row; 7] = [
     ("/tty/none", "", "unixvol: 20 NotDirectory\n"),
 ];
 
-/// Lists a directory of the volume in some bytes.
-fn listed(alloc: Global, edition: Edition, image: Vec<u8>, path: &str) -> Outcome {
-    worked::run(alloc, |output, errors| {
-        ls(alloc, edition, image, path, output, errors)
-    })
-}
-
 #[test]
-fn directories_are_listed_and_files_printed(rt: HostRuntime) -> Result<(), Fail> {
+fn directories_are_listed_and_files_printed(rt: HostRuntime) {
     let alloc = rt.alloc();
     for (path, output, line) in &LISTED {
-        let run = listed(alloc, Edition::V6, worked::image(alloc)?, path);
-        run.check(&rt, u8::from(!line.is_empty()), output.as_bytes(), line);
-        assert!(rt; run.answer.image.is_none());
+        let run = listed(alloc, Edition::V6, worked::image(&rt, alloc), path);
+        run.check_unsaved(&rt, output.as_bytes(), line);
     }
     for (path, output, line) in &PRINTED {
-        let image = worked::image(alloc)?;
-        let run = worked::run(alloc, |output, errors| {
-            get(alloc, Edition::V6, image, path, output, errors)
-        });
-        run.check(&rt, u8::from(!line.is_empty()), output.as_bytes(), line);
-        assert!(rt; run.answer.image.is_none());
+        let run = printed(alloc, Edition::V6, worked::image(&rt, alloc), path);
+        run.check_unsaved(&rt, output.as_bytes(), line);
     }
-    Ok(())
 }
 
+/// Bytes of the worked volume that are another, and the line of the rule that each breaks.
+static BROKEN: [(usize, u8, &str); 2] = [
+    // The root's links.
+    (1026, 2, "unixvol: unsound, rule 12\n"),
+    // The blocks of the i-list.
+    (512, 0, "unixvol: unsound, rule 2\n"),
+];
+
 #[test]
-fn unsound_volumes_are_named(rt: HostRuntime) -> Result<(), Fail> {
+fn unsound_volumes_are_named(rt: HostRuntime) {
     let alloc = rt.alloc();
-    let mut image = worked::image(alloc)?;
-    if let Some(links) = image.get_mut(1026) {
-        *links = 2;
+    for (at, byte, line) in &BROKEN {
+        let mut image = worked::image(&rt, alloc);
+        *image.get_mut(*at).expect(&rt, "a byte of the volume") = *byte;
+        listed(alloc, Edition::V6, image, "/").check(&rt, 1, b"", line);
     }
-    let run = listed(alloc, Edition::V6, image, "/");
-    run.check(&rt, 1, b"", "unixvol: unsound, rule 12\n");
-    let mut image = worked::image(alloc)?;
-    if let Some(list_blocks) = image.get_mut(512) {
-        *list_blocks = 0;
-    }
-    let run = listed(alloc, Edition::V6, image, "/");
-    run.check(&rt, 1, b"", "unixvol: unsound, rule 2\n");
     let run = listed(alloc, Edition::V7, Vec::new(alloc), "/");
     run.check(&rt, 1, b"", "unixvol: unsound, rule 1\n");
-    Ok(())
 }
 
 #[test]
-fn an_output_that_fails_is_named(rt: HostRuntime) -> Result<(), Fail> {
+fn an_output_that_fails_is_named(rt: HostRuntime) {
     let alloc = rt.alloc();
     let mishap = WriteMishap::Error(ErrorKind::Other);
     let mut output = IntoWrite::new(ScriptedWriter::new(alloc, 7).failing_at(1, mishap));
     let mut errors = IntoWrite::new(ScriptedWriter::new(alloc, 100));
-    let image = worked::image(alloc)?;
-    let Answer { status, image } = ls(alloc, Edition::V6, image, "/", &mut output, &mut errors);
-    assert_eq!(rt; status, 3);
-    assert!(rt; image.is_none());
-    assert_eq!(rt; output.into_inner().taken.as_slice(), b"    1 .".as_slice());
-    let taken = errors.into_inner().taken;
-    assert_eq!(rt; taken.as_slice(), b"unixvol: cannot write -\n".as_slice());
-    Ok(())
+    let image = worked::image(&rt, alloc);
+    let answer = ls(alloc, Edition::V6, image, "/", &mut output, &mut errors);
+    assert_eq!(rt; answer.status, 3);
+    assert!(rt; answer.image.is_none());
+    check_bytes(&rt, &output.into_inner().taken, b"    1 .");
+    check_bytes(
+        &rt,
+        &errors.into_inner().taken,
+        b"unixvol: cannot write -\n",
+    );
 }

@@ -1,6 +1,6 @@
 // Worked values: the bytes of the free list in both editions, the order in which blocks and i-numbers
 // come, and the cache of i-numbers.
-ghost use Rattle.std.specs.Prelude.{◌≡◌, ℕ, ◌+◌, ◌*◌, ◌≤◌, List, [], length, IfOk};
+ghost use Rattle.std.specs.Prelude.{◌≡◌, ℕ, ◌*◌, ◌≤◌, List, [], length, IfOk};
 ghost use Rattle.vol_layout.specs.Geometry.{Fits};
 ghost use Rattle.vol_free.specs.Stack.{IsIn, IsFree, HasStack};
 

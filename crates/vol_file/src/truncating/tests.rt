@@ -1,5 +1,4 @@
 // Worked values: the free list once a file is truncated, and the i-node that is left.
-ghost use Rattle.vol_layout.specs.Geometry.{Fits};
 ghost use Rattle.vol_layout.specs.Names.{IsFile};
 ghost use Rattle.vol_file.specs.Rules.{HasSoundFiles};
 

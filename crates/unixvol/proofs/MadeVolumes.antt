@@ -1,6 +1,6 @@
 -- What a run of `mkfs` comes to, by what it made and by whether that was saved.
 use Rattle.std.proofs.Common.{◌≡◌, ◌≢◌, ◌↔◌, ◌⊎◌, ◌∙◌, ℕ, zero, suc, ◌≤◌, Bool, true≢false, true, false, List, [], Option, None, Some, IsSome, IfSome, inl, inr, sym, subst, arith}
-use Rattle.std.specs.Io.KnownBytes.{Appends, Keeps}
+use Rattle.std.specs.Io.KnownBytes.{Keeps}
 use Rattle.vol_volume.specs.Blank.{Blank, blank_of, IsMade}
 use Rattle.vol_volume.specs.Mkfs.{is_size, is_bad_id}
 use Rattle.vol_commands.specs.Faults.{Gets}
@@ -8,7 +8,7 @@ use Rattle.vol_commands.specs.Jobs.{Streams}
 use Rattle.vol_commands.specs.Making.{line_of_status}
 use Rattle.vol_commands.specs.declared.making.Made.{Made}
 use Rattle.vol_commands.specs.declared.making.NewVolume.{NewVolume}
-use Rattle.unixvol.specs.Running.{IsStatusOfFile, MadeSaved, RunsMkfs}
+use Rattle.unixvol.specs.Running.{IsStatusOfFileOrMemory, MadeSaved, RunsMkfs}
 
 -- the volume asked for was taken, where one was made and taken
 taken_whole : (made : Option Blank) (wanted : Blank) (taken : List ℕ → Type 0) → IfSome made (λ blank. blank ≡ wanted)
@@ -25,14 +25,15 @@ own_within (suc (suc n)) other =
     let four : suc (suc n) ≡ 4 = other (λ e. omega arith) (λ e. omega arith) in (omega arith, λ e. omega arith)
 
 -- those of a file are 3 and 4
-file_within : (status : ℕ) → IsStatusOfFile status → (3 ≤ status) × (status ≤ 4)
+file_within : (status : ℕ) → IsStatusOfFileOrMemory status → (3 ≤ status) × (status ≤ 4)
 file_within status file = elim file [ inl e ↦ (omega arith, omega arith) | inr e ↦ (omega arith, omega arith) ]
 
--- no line is told where the status is 0
-pub silent : (volume : NewVolume) (status : ℕ) (failed : Bool) (old new : Option (List ℕ))
-    → Gets failed old new (line_of_status (is_size volume.edition volume.blocks volume.list_blocks) status) → status ≡ 0 → Gets failed old new []
-silent volume status failed old new line done working =
-    subst (λ n. Appends old new (line_of_status (is_size volume.edition volume.blocks volume.list_blocks) n)) done (line working)
+-- the line that is told is that of the status
+pub told_at : (volume : NewVolume) (status known : ℕ) (failed : Bool) (old new : Option (List ℕ))
+    → Gets failed old new (line_of_status (is_size volume.edition volume.blocks volume.list_blocks) status) → status ≡ known
+    → Gets failed old new (line_of_status (is_size volume.edition volume.blocks volume.list_blocks) known)
+told_at volume status known failed old new line is =
+    subst (λ n. Gets failed old new (line_of_status (is_size volume.edition volume.blocks volume.list_blocks) n)) is line
 
 -- what `mkfs` comes to, where what it made was saved or wasn't
 pub runs_by : (streams : Streams) (taken : List ℕ → Type 0) (volume : NewVolume) (made : Made) (status : ℕ)
@@ -40,8 +41,9 @@ pub runs_by : (streams : Streams) (taken : List ℕ → Type 0) (volume : NewVol
     → (made.status ≡ 0 ↔ IsSome made.volume)
     → (made.status ≡ 1 ↔ ((is_size volume.edition volume.blocks volume.list_blocks ≡ false) ⊎ (is_bad_id volume.edition volume.uid volume.gid ≡ true)))
     → (made.status ≢ 0 → made.status ≢ 1 → made.status ≡ 4) → Keeps streams.old streams.new → streams.failed ≡ streams.had_failed
-    → (made.status ≡ 0 → streams.said []) → MadeSaved taken made status → RunsMkfs streams taken volume status
-runs_by streams taken volume made status is done refused memory unprinted unused quiet saved = elim saved [
+    → (made.status ≡ 0 → streams.said []) → (made.status ≡ 1 → streams.said (line_of_status (is_size volume.edition volume.blocks volume.list_blocks) 1))
+    → MadeSaved taken made status → RunsMkfs streams taken volume status
+runs_by streams taken volume made status is done refused memory unprinted unused quiet told saved = elim saved [
   | inl own ↦ record {
     unprinted = unprinted;
     unused = unused;
@@ -49,6 +51,7 @@ runs_by streams taken volume made status is done refused memory unprinted unused
     within = subst (λ n. (n ≤ 4) × (n ≢ 2)) (sym own.0) (own_within made.status memory);
     made = λ e. taken_whole made.volume _ taken is own.1 (done.0 (sym own.0 ∙ e));
     quiet = λ e. quiet (sym own.0 ∙ e);
+    told = λ e. told (sym own.0 ∙ e);
   }
   | inr file ↦
       let whole : made.status ≡ 0 = done.1 file.0 in
@@ -60,5 +63,6 @@ runs_by streams taken volume made status is done refused memory unprinted unused
         within = (range.1, λ e. omega (arith, range.0));
         made = λ e. absurd (omega (arith, range.0));
         quiet = λ e. absurd (omega (arith, range.0));
+        told = λ e. absurd (omega (arith, range.0));
       }
 ]

@@ -1,13 +1,20 @@
 -- What a run of the program comes to, whatever the bytes are that its files give.
-use Rattle.std.specs.Prelude.{◌≡◌, ◌≢◌, ◌⊎◌, ◌↔◌, ◌≤◌, ℕ, false, true, List, [], Option, None, IsSome, IfSome, Result, Ok, Err}
+use Rattle.std.specs.Prelude.{◌≡◌, ◌≢◌, ◌⊎◌, ◌↔◌, ◌≤◌, ℕ, false, true, List, [], Option, None, IsSome, IfSome, Result, Ok, Err, IsErrAnd, Bool}
 use Rattle.std.specs.Io.KnownBytes.{Keeps}
+use Rattle.clap.specs.Words.{kind_of}
+use Rattle.clap.specs.declared.error.Error.{Error}
+use Rattle.clap.specs.declared.error.kind.ErrorKind.{ErrorKind}
+use Rattle.clap.specs.declared.error.kind.ErrorKind.TheVariants as kinds
 use Rattle.vol_volume.specs.Blank.{blank_of, IsMade}
 use Rattle.vol_volume.specs.Mkfs.{is_size, is_bad_id}
 use Rattle.vol_commands.specs.Cat.{Cats, status_of}
 use Rattle.vol_commands.specs.Jobs.{Streams, Does}
+use Rattle.vol_commands.specs.Making.{line_of_status}
 use Rattle.vol_layout.specs.declared.edition.Edition.{Edition}
 use Rattle.vol_commands.specs.declared.answer.Answer.{Answer}
 use Rattle.vol_commands.specs.declared.cat.CatFault.{CatFault}
+use Rattle.vol_commands.specs.declared.cat.CatFault.TheVariants.{Writer}
+use Rattle.unixvol.specs.CommandLine.{IsRead, IsRefused}
 use Rattle.unixvol.specs.declared.command_line.Invocation.{Invocation}
 use Rattle.unixvol.specs.declared.command_line.Invocation.TheVariants as invocations
 use Rattle.vol_commands.specs.declared.jobs.Job.{Job}
@@ -15,25 +22,26 @@ use Rattle.vol_commands.specs.declared.making.Made.{Made}
 use Rattle.vol_commands.specs.declared.making.NewVolume.{NewVolume}
 
 -- the status where a file can't be read or written, or where memory ran out (this project)
-abbrev pub IsStatusOfFile : ℕ → Type 0
-IsStatusOfFile status = (status ≡ 3) ⊎ (status ≡ 4)
+abbrev pub IsStatusOfFileOrMemory : ℕ → Type 0
+IsStatusOfFileOrMemory status = (status ≡ 3) ⊎ (status ≡ 4)
 
 -- the status after `cat`: 0, or that of its fault (this project)
 abbrev pub status_after : Result (Unit {0}) CatFault → ℕ
 status_after (Ok done) = 0
 status_after (Err fault) = status_of fault
 
--- `cat` prints of some image: what goes out, and the status (this project)
-abbrev pub PrintsBody : Option (List ℕ) → Option (List ℕ) → Edition → ℕ → ℕ → Type 0
-PrintsBody old new edition i status =
-    (result : Result (Unit {0}) CatFault) × Cats None None old new edition i result × (status ≡ status_after result)
+-- `cat` prints of some image: what goes out, that standard output failed where its fault is a writer's, and the status (this project)
+abbrev pub PrintsBody : Option (List ℕ) → Option (List ℕ) → Bool → Edition → ℕ → ℕ → Type 0
+PrintsBody old new failed edition i status =
+    (result : Result (Unit {0}) CatFault) × Cats None None old new edition i result
+    × (IsErrAnd result (λ fault. (count : ℕ) × (fault ≡ Writer count)) → failed ≡ true) × (status ≡ status_after result)
 
 -- `cat` runs: what goes out, and the status, which is 0 only where standard output didn't fail (this project)
 abbrev pub RunsCat : Streams → Edition → ℕ → ℕ → Type 0
 RunsCat streams edition i status =
-    PrintsBody streams.old streams.new edition i status × (status ≡ 0 → streams.failed ≡ streams.had_failed) × streams.said []
+    PrintsBody streams.old streams.new streams.failed edition i status × (status ≡ 0 → streams.failed ≡ streams.had_failed) × streams.said []
 
--- `mkfs` runs: nothing goes out; it is refused exactly where its numbers are no volume's; and a file took the volume, where it is done (this project)
+-- `mkfs` runs: nothing goes out; it is refused exactly where its numbers are no volume's, with the line of that; and a file took the volume, where it is done (this project)
 pub record RunsMkfs (streams : Streams) (taken : List ℕ → Type 0) (volume : NewVolume) (status : ℕ) : Type 0 where
   pub unprinted : Keeps streams.old streams.new
   pub unused : streams.failed ≡ streams.had_failed
@@ -44,22 +52,23 @@ pub record RunsMkfs (streams : Streams) (taken : List ℕ → Type 0) (volume : 
       → (bytes : List ℕ)
       × IsMade (blank_of volume.edition volume.blocks volume.list_blocks volume.uid volume.gid volume.now) bytes × taken bytes
   pub quiet : status ≡ 0 → streams.said []
+  pub told : status ≡ 1 → streams.said (line_of_status (is_size volume.edition volume.blocks volume.list_blocks) 1)
 
 -- the status after an answer: its own, where its image, if any, was taken, or that of a file (this project)
 abbrev pub EndsSaved : (List ℕ → Type 0) → Answer → ℕ → Type 0
 EndsSaved taken answer status =
-    ((status ≡ answer.status) × IfSome answer.image (λ bytes. taken bytes.items)) ⊎ (IsSome answer.image × IsStatusOfFile status)
+    ((status ≡ answer.status) × IfSome answer.image (λ bytes. taken bytes.items)) ⊎ (IsSome answer.image × IsStatusOfFileOrMemory status)
 
 -- the status after `mkfs`: its own, where the volume that it made, if any, was taken, or that of a file (this project)
 abbrev pub MadeSaved : (List ℕ → Type 0) → Made → ℕ → Type 0
 MadeSaved taken made status =
     ((status ≡ made.status) × IfSome made.volume (λ blank. (bytes : List ℕ) × IsMade blank bytes × taken bytes))
-    ⊎ (IsSome made.volume × IsStatusOfFile status)
+    ⊎ (IsSome made.volume × IsStatusOfFileOrMemory status)
 
 -- a job runs: a file can't be read, and nothing goes out; or it is done with some image and some bytes (this project)
 abbrev pub RunsJob : Streams → (List ℕ → Type 0) → Edition → Job → ℕ → Type 0
 RunsJob streams taken edition job status =
-    (IsStatusOfFile status × Keeps streams.old streams.new)
+    (IsStatusOfFileOrMemory status × Keeps streams.old streams.new × (streams.failed ≡ streams.had_failed) × streams.said [])
     ⊎ ((image : List ℕ) × (bytes : List ℕ) × (answer : Answer) × Does edition image bytes streams answer job × EndsSaved taken answer status)
 
 -- what the user asks for runs: what goes out, what files take, and the status (this project)
@@ -67,6 +76,18 @@ abbrev pub Runs : Streams → (List ℕ → Type 0) → ℕ → Invocation → T
 Runs streams taken status (invocations.Cat volume i) = RunsCat streams volume.edition i status
 Runs streams taken status (invocations.Mkfs image volume) = RunsMkfs streams taken volume status
 Runs streams taken status (invocations.OnVolume volume job) = RunsJob streams taken volume.edition job status
+
+-- what is told of an error of the command line: the status by its kind; help is what goes out with 0, and 3 is a failed output (this project)
+pub record Tells (streams : Streams) (kind : ErrorKind) (status : ℕ) : Type 0 where
+  pub memory : kind ≡ kinds.OutOfMemory → status ≡ 4
+  pub mistake : kind ≢ kinds.OutOfMemory → kind ≢ kinds.DisplayHelp → kind ≢ kinds.DisplayVersion → status ≡ 2
+  pub shown : (kind ≡ kinds.DisplayHelp) ⊎ (kind ≡ kinds.DisplayVersion) → (status ≡ 0) ⊎ IsStatusOfFileOrMemory status
+  pub failed : status ≡ 3 → streams.failed ≡ true
+
+-- the words run: what they ask for is carried out, or it is told why they are refused (this project)
+abbrev pub RunsWords : Streams → (List ℕ → Type 0) → ℕ → List (List ℕ) → Type 0
+RunsWords streams taken status words = ((invocation : Invocation) × IsRead words invocation × Runs streams taken status invocation)
+    ⊎ ((error : Error) × IsRefused words error × Tells streams (kind_of error) status)
 
 -- a run ends: the status is at most 4; nothing went out, unless it is 0 or 3; where it is 0, no output failed and no fault was told (this project)
 pub record Ends (streams : Streams) (status : ℕ) : Type 0 where

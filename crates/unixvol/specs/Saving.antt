@@ -1,14 +1,14 @@
 -- Where an image is saved.
-use Rattle.std.specs.Prelude.{◌≡◌, ◌++◌, ℕ, List, Option, codes}
+use Rattle.std.specs.Prelude.{◌≡◌, ◌<◌, ◌++◌, ℕ, List, Option, codes, decimal}
 use Rattle.std.specs.Io.KnownBytes.{Appends}
 use Rattle.std.specs.Path.{path_with_file_name}
 use Rattle.vol_volume.specs.Blank.{WritesVolume}
 use Rattle.unixvol.specs.declared.saving_file.Content.{Content}
 use Rattle.unixvol.specs.declared.saving_file.Content.TheVariants.{Bytes, Volume}
 
--- the path is that of a new file in the folder of another path (this project)
+-- the path is that of a new file in the folder of another path: `.unixvol-` and a number below 1000 (this project)
 abbrev pub IsBeside : List ℕ → List ℕ → Type 0
-IsBeside path beside = (number : List ℕ) × (beside ≡ path_with_file_name path (codes ".unixvol-" ++ number))
+IsBeside path beside = (number : ℕ) × (number < 1000) × (beside ≡ path_with_file_name path (codes ".unixvol-" ++ decimal number))
 
 -- the known bytes grew by those of a content (std::io::Write)
 abbrev pub Grows : Content → Option (List ℕ) → Option (List ℕ) → Type 0

@@ -1,5 +1,5 @@
 //! The commands of the program: what they open, and what they print where something fails.
-ghost use Rattle.std.specs.Prelude.{◌≡◌, ◌≢◌, ◌⊎◌, ◌≤◌, false, None, IfErr, OnOk};
+ghost use Rattle.std.specs.Prelude.{◌≡◌, ◌≢◌, ◌⊎◌, ◌≤◌, false, true, ℕ, List, None, IfErr, IsErrAnd, OnOk, map, string_bytes};
 ghost use Rattle.std.specs.Io.KnownBytes.{Keeps};
 ghost use Rattle.std.specs.IoError.{error_kind};
 ghost use Rattle.std.specs.declared.io.ErrorKind.TheVariants as io_kinds;
@@ -7,7 +7,8 @@ ghost use Rattle.clap.specs.Words.{kind_of};
 ghost use Rattle.clap.specs.declared.error.kind.ErrorKind.TheVariants as clap_kinds;
 ghost use Rattle.vol_commands.specs.Cat.{Cats, status_of};
 ghost use Rattle.vol_commands.specs.Faults.{Gets};
-ghost use Rattle.unixvol.specs.Running.{PrintsBody, IsStatusOfFile, EndsSaved, MadeSaved, RunsJob, Runs, Ends};
+ghost use Rattle.vol_commands.specs.declared.cat.CatFault.TheVariants as faults;
+ghost use Rattle.unixvol.specs.Running.{IsStatusOfFileOrMemory, EndsSaved, MadeSaved, PrintsBody, RunsJob, Runs, RunsWords, Ends};
 ghost use Rattle.unixvol.specs.Saving.{IsTaken, Saves};
 
 use crate::command_line::{self, Invocation, VolumeFile};
@@ -39,7 +40,14 @@ pub fn run<R: Env + Files + Eprint + AllocGlobal, O: Sink, E: Sink>(
     errors: &mut E,
 ) -> u8
     requires { O.failed output.old ≡ false }
-    ensures { Ends (record {
+    ensures runs { ((words : List (List ℕ)) × RunsWords (record {
+      old = O.contents output.old;
+      new = O.contents output.new;
+      had_failed = O.failed output.old;
+      failed = O.failed output.new;
+      said = Gets (E.failed errors.new) (E.contents errors.old) (E.contents errors.new);
+    }) (IsTaken R.File.contents) result words) ⊎ (result ≡ 2) ⊎ (result ≡ 4) }
+    ensures ends { Ends (record {
       old = O.contents output.old;
       new = O.contents output.new;
       had_failed = O.failed output.old;
@@ -51,7 +59,33 @@ pub fn run<R: Env + Files + Eprint + AllocGlobal, O: Sink, E: Sink>(
         Ok(words) => words,
         Err(error) => return explain_words(rt, &error),
     };
-    match command_line::read(rt.alloc(), words.as_slice()) {
+    run_words(rt, output, errors, words.as_slice())
+}
+
+/// Does what these words ask for, of which the first is the program's own name, and answers the status to end with.
+fn run_words<R: Files + Eprint + AllocGlobal, O: Sink, E: Sink>(
+    rt: &R,
+    output: &mut O,
+    errors: &mut E,
+    words: &[String],
+) -> u8
+    requires { O.failed output.old ≡ false }
+    ensures runs { RunsWords (record {
+      old = O.contents output.old;
+      new = O.contents output.new;
+      had_failed = O.failed output.old;
+      failed = O.failed output.new;
+      said = Gets (E.failed errors.new) (E.contents errors.old) (E.contents errors.new);
+    }) (IsTaken R.File.contents) result (map string_bytes words.entry.now) }
+    ensures ends { Ends (record {
+      old = O.contents output.old;
+      new = O.contents output.new;
+      had_failed = O.failed output.old;
+      failed = O.failed output.new;
+      said = Gets (E.failed errors.new) (E.contents errors.old) (E.contents errors.new);
+    }) result }
+{
+    match command_line::read(rt.alloc(), words) {
         Ok(invocation) => carry_out(rt, output, errors, invocation),
         Err(error) => explain_command_line(rt, output, &error),
     }
@@ -91,7 +125,7 @@ fn run_cat<R: Files + Eprint + AllocGlobal, O: Sink>(
     ino: u16,
 ) -> u8
     requires { O.failed output.old ≡ false }
-    ensures shown { PrintsBody (O.contents output.old) (O.contents output.new) volume.entry.edition ino result }
+    ensures shown { PrintsBody (O.contents output.old) (O.contents output.new) (O.failed output.new) volume.entry.edition ino result }
     ensures whole { result ≡ 0 → O.failed output.new ≡ false }
 {
     match cat_file(rt, output, volume, ino) {
@@ -130,7 +164,7 @@ fn run_job<R: Files + Eprint + AllocGlobal, O: Sink, E: Sink>(
 
 /// The bytes of the file that a job puts into a volume, or none.
 fn file_of<R: Files + Eprint + AllocGlobal>(rt: &R, job: Job<'_>) -> Result<Vec<u8>, u8>
-    ensures { IfErr result IsStatusOfFile }
+    ensures { IfErr result IsStatusOfFileOrMemory }
 {
     match job {
         Job::Put { file, .. } => read_file(rt, file),
@@ -140,7 +174,7 @@ fn file_of<R: Files + Eprint + AllocGlobal>(rt: &R, job: Job<'_>) -> Result<Vec<
 
 /// The bytes of a file. Where it can't be read, prints so, and answers the status.
 fn read_file<R: Files + Eprint + AllocGlobal>(rt: &R, path: &str) -> Result<Vec<u8>, u8>
-    ensures { IfErr result IsStatusOfFile }
+    ensures { IfErr result IsStatusOfFileOrMemory }
 {
     let Ok(file) = fs::open(rt, path) else {
         return Err(explain_unread(rt, path));
@@ -167,6 +201,7 @@ fn cat_file<R: Files + AllocGlobal, O: Sink>(
 ) -> Result<(), CatFault>
     requires { O.failed output.old ≡ false }
     ensures shown { Cats None None (O.contents output.old) (O.contents output.new) volume.entry.edition ino result }
+    ensures writer { IsErrAnd result (λ fault. (count : ℕ) × (fault ≡ faults.Writer count)) → O.failed output.new ≡ true }
     ensures kept { OnOk result (O.failed output.new ≡ false) }
 {
     let Ok(file) = fs::open(rt, volume.image) else {
@@ -198,7 +233,7 @@ fn save_made<R: Files + Eprint + AllocGlobal>(rt: &R, image: &str, made: &Made) 
 
 /// Saves a content in the file `path`, and answers the status to end with: `status`, where it is saved.
 fn save<R: Files + Eprint + AllocGlobal>(rt: &R, path: &str, content: Content<'_>, status: u8) -> u8
-    ensures { ((result ≡ status) × Saves R.File.contents content.entry) ⊎ IsStatusOfFile result }
+    ensures { ((result ≡ status) × Saves R.File.contents content.entry) ⊎ IsStatusOfFileOrMemory result }
 {
     match save_file(rt, path, content) {
         Ok(()) => status,
@@ -246,7 +281,8 @@ fn explain_command_line<R: Eprint + AllocGlobal, O: Sink>(
     ensures mistake { kind_of error.now ≢ clap_kinds.OutOfMemory → kind_of error.now ≢ clap_kinds.DisplayHelp
         → kind_of error.now ≢ clap_kinds.DisplayVersion → result ≡ 2 }
     ensures shown { (kind_of error.now ≡ clap_kinds.DisplayHelp) ⊎ (kind_of error.now ≡ clap_kinds.DisplayVersion)
-        → (result ≡ 0) ⊎ IsStatusOfFile result }
+        → (result ≡ 0) ⊎ IsStatusOfFileOrMemory result }
+    ensures failed { result ≡ 3 → O.failed output.new ≡ true }
     ensures within { result ≤ 4 }
     ensures silent { result ≢ 0 → result ≢ 3 → Keeps (O.contents output.old) (O.contents output.new) }
     ensures whole { result ≡ 0 → O.failed output.new ≡ O.failed output.old }

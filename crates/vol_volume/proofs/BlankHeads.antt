@@ -1,13 +1,12 @@
 -- The heads of the free list of a new volume, word by word and number by number.
-use Rattle.std.proofs.Common.{◌≡◌, ℕ, zero, suc, ◌+◌, ◌-◌, ◌*◌, ◌/◌, ◌%◌, ◌<◌, ◌≤◌, ◌==◌, List, sym, ap, ◌∙◌, arith, inl, inr, get_or, true, false, nat_lt}
+use Rattle.std.proofs.Common.{◌≡◌, ℕ, zero, suc, ◌+◌, ◌-◌, ◌*◌, ◌/◌, ◌%◌, ◌<◌, ◌==◌, List, sym, ap, ◌∙◌, arith, inl, inr, get_or, true, false, nat_lt}
 use Rattle.std.proofs.lemmas.Bool.{cases_eq}
 use Rattle.std.proofs.lemmas.Bool.Decides.{nat_tests}
-use Rattle.pdp_words.specs.Words.{word, long, SameOutside}
+use Rattle.pdp_words.specs.Words.{word, long}
 use Rattle.vol_layout.specs.Edition.{constants, number}
 use Rattle.vol_layout.specs.declared.edition.Edition.{Edition}
 use Rattle.vol_layout.specs.declared.edition.Edition.TheVariants.{V6, V7}
 use Rattle.vol_layout.specs.declared.geometry.Geometry.{Geometry}
-use Rattle.vol_layout.proofs.CopyLaws.{copy_below, number_copied}
 use Rattle.vol_volume.specs.Blank.{listed, array_word, head_word, head_byte, HasHead}
 
 -- the low byte of a word
@@ -127,20 +126,6 @@ listed_below geometry top count j some few =
     let low : nat_lt 0 j ≡ true = grind (arith, nat_tests) in
     let high : nat_lt j count ≡ true = grind (arith, nat_tests) in
     rw (low, high)
-
--- a number of an array ends before a later one begins
-number_apart : (edition : Edition) (i j : ℕ) → i < j
-    → (constants edition).number_bytes * i + (constants edition).number_bytes ≤ (constants edition).number_bytes * j
-number_apart V6 i j h = omega arith
-number_apart V7 i j h = omega arith
-
--- putting number j keeps those before it
-pub number_before : (edition : Edition) (old new : List ℕ) (at i j to : ℕ)
-    → SameOutside old new (at + (constants edition).number_bytes * j) to → i < j → number edition new at i ≡ number edition old at i
-number_before edition old new at i j to same h =
-    number_copied edition old new at at ((constants edition).number_bytes * j) i
-    (copy_below old new (at + (constants edition).number_bytes * j) to at ((constants edition).number_bytes * j) same (omega arith))
-    (number_apart edition i j h)
 
 module _ (geometry : Geometry) (head : List ℕ) (at top count : ℕ) (small : (k : ℕ) → get_or head k 0 < 256) (counted : word head at ≡ count)
     (numbers : (j : ℕ) → j < (constants geometry.edition).free_slots → number geometry.edition head (at + 2) j ≡ listed geometry top count j) where

@@ -15,7 +15,7 @@ use Rattle.vol_layout.specs.declared.mode.Kind.TheVariants as kinds
 use Rattle.vol_layout.proofs.InodeLaws.{inode_mode, inode_size, inode_address}
 use Rattle.vol_layout.proofs.NameLaws.{named_stops, zero_out, named_holds}
 use Rattle.vol_layout.proofs.KindLaws.{kind_zero}
-use Rattle.vol_free.specs.Stack.{IsIn, IsFree, HasStack}
+use Rattle.vol_free.specs.Stack.{IsIn, IsFree}
 use Rattle.vol_free.proofs.Frames.{free_from}
 use Rattle.vol_free.proofs.Stacks.{zone_from, zone_below, IsFree_unique}
 use Rattle.vol_file.specs.Rules.{size_of, kind_at, HasKinds, HasSizes, IsZoned, IsApart, IsOutside, IsCovered}
@@ -172,10 +172,6 @@ module _ (geometry : Geometry) (uid gid now : ℕ) (image : List ℕ) (new : IsN
   -- rule 5
   pub new_zoned : IsZoned geometry image
   new_zoned i p place some = ap (in_zone geometry) (only_place i p place some).2 ∙ zone_first
-
-  -- rule 6
-  pub new_stack : HasStack geometry image
-  new_stack = record { blocks = range_with_len (geometry.zone_start + 1) (geometry.zone_end - (geometry.zone_start + 1)); free = new.free }
 
   -- rule 7, of files
   pub new_apart : IsApart geometry image

@@ -1,6 +1,6 @@
 use Rattle.std.proofs.KnownBytes.{Appends-nil}
 use Rattle.std.proofs.Common.{sym, ◌∙◌}
-use Rattle.unixvol.proofs.MadeVolumes.{runs_by, silent}
+use Rattle.unixvol.proofs.MadeVolumes.{runs_by, told_at}
 use Rattle.unixvol.proofs.commands.carry_out.Goals as goal
 
 pub returns-in-OnVolume : goal.returns-in-OnVolume
@@ -12,7 +12,9 @@ returns-in-Mkfs g c =
     let made = c.mkfs_command-made in
     rw c.in-Mkfs.is (runs_by _ _ volume made.result c.save_made.result made.ensures.made made.ensures.done made.ensures.refused made.ensures.memory
     made.ensures.unprinted made.ensures.unused
-    (silent volume made.result.status (g.E.Sink.failed made.new.errors) (g.E.Sink.contents c.args.errors.now) (g.E.Sink.contents made.new.errors)
+    (told_at volume made.result.status 0 (g.E.Sink.failed made.new.errors) (g.E.Sink.contents c.args.errors.now) (g.E.Sink.contents made.new.errors)
+    made.ensures.line)
+    (told_at volume made.result.status 1 (g.E.Sink.failed made.new.errors) (g.E.Sink.contents c.args.errors.now) (g.E.Sink.contents made.new.errors)
     made.ensures.line) c.save_made.ensures)
 
 pub returns-in-Cat : goal.returns-in-Cat

@@ -1,4 +1,4 @@
--- What the words of the command line ask for.
+-- What the words of `ls` ask for.
 use Rattle.std.specs.Prelude.{◌≡◌, ◌≢◌, ◌↔◌, ◌∷◌, ℕ, List, [], slice_index, codes}
 use Rattle.std.specs.Borrow.{Bor}
 use Rattle.unixvol.specs.CommandLine.{Asks, IsEditionNamed}

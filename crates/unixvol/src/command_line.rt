@@ -50,8 +50,9 @@ pub enum Invocation<'a> {
 const INO: &str = "INO";
 
 /// Reads the words of the command line, of which the first is the program's own name. The error is
-/// clap's, with its text, its stream and its status; it is of the kind `OutOfMemory` where an
-/// allocation was refused.
+/// clap's, with its text, its stream and its status: of the kind `ValueValidation` where a word is no value of its
+/// argument, `MissingSubcommand` where there is no command, `OutOfMemory` where an allocation was refused, and else
+/// what clap itself tells of the words.
 pub fn read<'a>(alloc: Global, words: &'a [String]) -> Result<Invocation<'a>, Error>
     ensures read { IfOk result (IsRead (map string_bytes words.entry.now)) }
     ensures refused { IfErr result (IsRefused (map string_bytes words.entry.now)) }

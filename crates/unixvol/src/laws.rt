@@ -1,4 +1,4 @@
-//! Laws about what the words of the command line ask for. A call does nothing: what matters is the contract,
+//! A law about what the words of `ls` ask for. A call does nothing: what matters is the contract,
 //! which is proved.
 ghost use Rattle.unixvol.specs.Laws.{ReadsListing};
 

@@ -44,6 +44,10 @@ impl Content<'_> {
 /// place of the old one, and has its permissions and, where the system lets it, its owner and its group.
 /// So a failure leaves the old file as it was, and no new one. A symbolic link is followed. What is no
 /// regular file, as a device or a pipe, is written in place.
+///
+/// The error is the system's where a file can't be opened, synchronised or renamed; `WriteZero` where not all
+/// bytes could be written; `FilesystemLoop` past 40 symbolic links; `AlreadyExists` where a thousand names of
+/// new files were taken; `OutOfMemory` where an allocation was refused.
 pub fn save_file<R: Files + AllocGlobal>(rt: &R, path: &str, content: Content<'_>) -> io::Result<()>
     ensures { OnOk result (Saves R.File.contents content.entry) }
 {

@@ -9,7 +9,8 @@ use pdp_words::Sink;
 use std::alloc::Global;
 use vol_layout::Edition;
 
-/// What is to be done with the tree of a volume.
+/// What is to be done with the tree of a volume. Paths lead on from the root, with `/` between their names;
+/// `now` is the moment of the call, in seconds since the beginning of 1970.
 #[derive(Clone, Copy, Debug, PartialEq, Eq)]
 pub enum Job<'a> {
     /// List the names in a directory.
@@ -20,7 +21,7 @@ pub enum Job<'a> {
     Get {
         path: &'a str,
     },
-    /// Put the bytes of the file `file` into the volume.
+    /// Put the bytes of the file `file`, which lies outside the volume, into the file `path` of the volume.
     Put {
         path: &'a str,
         file: &'a str,
@@ -49,7 +50,9 @@ pub enum Job<'a> {
     },
 }
 
-/// Does a job with the volume in some bytes; `file` has the bytes that are put.
+/// Does a job with the volume in some bytes; `file` has the bytes that are put. The answer's status is 0, or 1
+/// where the image is unsound or the call or query is refused, or 4 where memory ran out; for `ls` and `get` it
+/// is 3 where `output` failed.
 pub fn do_job<O: Sink, E: Sink>(
     alloc: Global,
     edition: Edition,

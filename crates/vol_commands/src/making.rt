@@ -11,7 +11,7 @@ use vol_layout::Edition;
 use vol_volume::{BlankVolume, MkfsFault};
 
 /// The volume that is to be made: its sizes, in blocks of 512 bytes, the root's user and group, and the
-/// moment, in seconds.
+/// moment, in seconds since the beginning of 1970.
 #[derive(Clone, Copy, Debug, PartialEq, Eq)]
 pub struct NewVolume {
     /// The edition of Unix.

@@ -34,8 +34,8 @@ impl Model for BlankVolume {
 
 impl BlankVolume {
     /// A new volume of `blocks` blocks of 512 bytes, of which `list_blocks` are the i-list. The root, a
-    /// directory with permissions 0777, belongs to `uid` and `gid`; all times are `now`, in seconds.
-    /// `Bounds` comes before `BadId`, and `NoMemory` last.
+    /// directory with permissions 0777, belongs to `uid` and `gid`; all times are `now`, in seconds since
+    /// the beginning of 1970. `Bounds` comes before `BadId`, and `NoMemory` last.
     ///
     /// Takes memory for four blocks.
     pub fn new(

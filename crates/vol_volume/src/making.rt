@@ -25,7 +25,8 @@ pub enum MkfsFault {
 
 /// Makes a volume of `blocks` blocks of 512 bytes, of which `list_blocks` are the i-list, and answers its
 /// bytes. The root, a directory with permissions 0777, belongs to `uid` and `gid`; all times are `now`,
-/// in seconds. `Bounds` comes before `BadId`, and `NoMemory` where the volume's bytes found no room.
+/// in seconds since the beginning of 1970. `Bounds` comes before `BadId`, and `NoMemory` where the volume's
+/// bytes found no room.
 ///
 /// Takes memory for the bytes, once, and for four blocks. [`BlankVolume`] writes them with no such memory.
 pub fn mkfs(

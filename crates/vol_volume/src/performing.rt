@@ -46,7 +46,7 @@ pub(crate) struct Performed {
 pub(crate) struct Caller {
     /// The user and group.
     pub cred: Cred,
-    /// The moment, in seconds.
+    /// The moment, in seconds since the beginning of 1970.
     pub moment: u32,
 }
 

@@ -47,7 +47,7 @@ pub enum Reply {
     Names(Listing),
 }
 
-/// What a node is. Times are in seconds.
+/// What a node is. Times are in seconds since the beginning of 1970.
 #[derive(Clone, Copy, Debug, PartialEq, Eq)]
 pub struct Stat {
     /// The i-number.

@@ -42,7 +42,7 @@ pub fn image(alloc: Global) -> Result<Vec<u8>, Fail> {
 }
 
 /// What a command came to: its answer, and what its two writers took.
-#[derive(Debug, Drop)]
+#[derive(Drop)]
 pub struct Outcome {
     /// Its answer.
     pub answer: Answer,

@@ -1,3 +1,4 @@
 pub mod Outputs
 pub mod Reasons
 pub mod Replies
+pub mod TwoCalls

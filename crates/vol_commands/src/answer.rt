@@ -6,7 +6,7 @@ use crate::faults::Fault;
 use pdp_words::{Sink, write_all};
 
 /// What a command that makes, changes or shows a volume comes to.
-#[derive(Debug, Drop)]
+#[derive(Drop)]
 pub struct Answer {
     /// The status that the program ends with, if the image is saved.
     pub status: u8,

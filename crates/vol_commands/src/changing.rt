@@ -2,6 +2,7 @@
 //! bytes that are to be saved.
 ghost use Rattle.std.specs.Prelude.{◌≡◌, IfOk, IfErr, OnOk, [], ◌∷◌};
 ghost use Rattle.std.specs.Io.KnownBytes.{Keeps};
+ghost use Rattle.vol_judge.specs.Sound.{IsSound};
 ghost use Rattle.vol_volume.specs.Answer.{answer};
 ghost use Rattle.vol_volume.specs.Journal.{Refuses};
 ghost use Rattle.vol_volume.specs.Volume.{Accepts, IsConsistent, reads_as};
@@ -135,20 +136,35 @@ fn put_file(
     ensures fault { IfErr result (IsReason edition image.items (put_calls (reads_as edition image.items).tree now path.now file.items)) }
 {
     let mut volume = mount(alloc, edition, image)?;
-    let first = emptying(alloc, &volume, path, now)?;
-    let path = copy(alloc, path)?;
-    perform(alloc, &mut volume, first)?;
-    let cred = USER;
-    let bytes = Bytes::from_vec(file);
-    let write = Call::Write {
-        cred,
-        now,
-        path,
-        offset: 0,
-        bytes,
-    };
-    perform(alloc, &mut volume, write)?;
+    fill(alloc, &mut volume, path, file, now)?;
     Ok(unmount(volume))
+}
+
+/// Makes the calls of `put` on a volume.
+fn fill(
+    alloc: Global,
+    volume: &mut Volume,
+    path: &str,
+    file: Vec<u8>,
+    now: u32,
+) -> Result<(), Fault>
+    requires sound { IsSound volume.old.edition volume.old.image }
+    ensures made { OnOk result (Makes volume.old.edition volume.old.image
+        (put_calls (reads_as volume.old.edition volume.old.image).tree now path.now file.items) volume.new.image) }
+    ensures fault { IfErr result (IsReason volume.old.edition volume.old.image
+        (put_calls (reads_as volume.old.edition volume.old.image).tree now path.now file.items)) }
+{
+    let target = copy(alloc, path)?;
+    let first = emptying(alloc, volume, path, now)?;
+    perform(alloc, volume, first)?;
+    let write = Call::Write {
+        cred: USER,
+        now,
+        path: target,
+        offset: 0,
+        bytes: Bytes::from_vec(file),
+    };
+    perform(alloc, volume, write)
 }
 
 /// The call that makes a file empty, or makes an empty one where it is missing.

@@ -29,7 +29,7 @@ pub struct NewVolume {
 }
 
 /// What `mkfs` comes to.
-#[derive(Debug, Drop)]
+#[derive(Drop)]
 pub struct Made {
     /// The status that the program ends with, if the volume is saved.
     pub status: u8,

@@ -1,0 +1,122 @@
+-- Two calls, made one after the other.
+use Rattle.std.proofs.Common.{◌≡◌, ℕ, ◌+◌, ◌*◌, ◌&&◌, ◌||◌, nat_le, nat_lt, Bool, List, [], ◌∷◌, Result, Ok, Err, IfErr, OnOk, inl, inr, refl, sym, ap, subst, ◌∙◌, None}
+use Rattle.vol_dir.specs.Tree.{State}
+use Rattle.vol_layout.specs.Geometry.{geometry_of, block_count}
+use Rattle.vol_layout.specs.Super.{free_head, time_place}
+use Rattle.vol_judge.specs.Sound.{IsSound}
+use Rattle.vol_volume.specs.Journal.{MayAnswer, MayFollow, Refuses}
+use Rattle.vol_volume.specs.Step.{step}
+use Rattle.vol_volume.specs.Verdict.{verdict}
+use Rattle.vol_volume.specs.Volume.{Mounted, Accepts, Performs, SameElsewhere, reads_as}
+use Rattle.vol_commands.specs.Changing.{Makes, AreRefused, IsReason}
+use Rattle.vol_layout.specs.declared.edition.Edition.{Edition}
+use Rattle.vol_layout.specs.declared.geometry.Geometry.{Geometry}
+use Rattle.vol_volume.specs.declared.calls.Call.{Call}
+use Rattle.vol_volume.specs.declared.calls.Done.{Done}
+use Rattle.vol_dir.specs.declared.refusal.Refusal.{Refusal}
+use Rattle.vol_dir.specs.declared.refusal.Refusal.TheVariants as refusals
+use Rattle.vol_commands.specs.declared.faults.Fault.{Fault}
+use Rattle.vol_commands.specs.declared.faults.Fault.TheVariants as faults
+
+-- what calls may change goes by the volume's size
+changeable_by : (edition : Edition) (k blocks : ℕ) → Bool
+changeable_by edition k blocks =
+    (nat_le (free_head edition) k && nat_lt k (free_head edition + 404))
+    || ((nat_le (time_place edition) k && nat_lt k (time_place edition + 4))
+    || (nat_le 1024 k && nat_lt k (512 * blocks)))
+
+-- what two calls leave, the one after the other, stays
+elsewhere_both : (edition : Edition) (one two three : List ℕ) → geometry_of edition two ≡ geometry_of edition one
+    → SameElsewhere edition one two → SameElsewhere edition two three → SameElsewhere edition one three
+unfolding changeable_by
+elsewhere_both edition one two three sizes first second =
+    let blocks : block_count edition two ≡ block_count edition one = ap (λ (g : Geometry). g.zone_end) sizes in
+    record {
+      len = second.len ∙ first.len;
+      same = λ k stays. second.same k (ap (λ n. changeable_by edition k n) blocks ∙ stays) ∙ first.same k stays;
+    }
+
+-- a call that may be made of a state may be made of the same one
+follows_at : (at to : State) (call : Call) (done : Done) → at ≡ to → verdict at call ≡ None → MayAnswer at call done
+    → MayFollow to (record { call = call; done = done })
+follows_at at to call done same accepted answered = record {
+  accepted = subst (λ state. verdict state call ≡ None) same accepted;
+  answered = subst (λ state. MayAnswer state call done) same answered;
+}
+
+-- the bytes that two calls made
+made_by : (edition : Edition) (one two three : List ℕ) (first second : Call) (done last : Done)
+    → IsSound edition one → verdict (reads_as edition one) first ≡ None → Performs edition one two first done
+    → verdict (reads_as edition two) second ≡ None → Performs edition two three second last
+    → Makes edition one (first ∷ second ∷ []) three
+made_by edition one two three first second done last sound accepted performed accepted_then performed_then = record {
+  mounted = sound;
+  journal = record { call = first; done = done } ∷ record { call = second; done = last } ∷ [];
+  asked = refl;
+  legal = (
+    record { accepted = accepted; answered = performed.answered },
+    (follows_at (reads_as edition two) (step (reads_as edition one) first done) second last performed.makes accepted_then performed_then.answered, tt),
+  );
+  reads = performed_then.makes ∙ ap (λ state. step state second last) performed.makes;
+  sound = performed_then.sound;
+  sizes = performed_then.sizes ∙ performed.sizes;
+  elsewhere = elsewhere_both edition one two three performed.sizes performed.elsewhere performed_then.elsewhere;
+}
+
+-- the same of a volume
+pub two_made : (old mid new : Mounted) (first second : Call) (done last : Done) → IsSound old.edition old.image
+    → Accepts old mid first done → Accepts mid new second last → Makes old.edition old.image (first ∷ second ∷ []) new.image
+two_made old mid new first second done last sound one two =
+    made_by old.edition old.image mid.image new.image first second done last sound one.accepted one.performed
+    (subst (λ edition. verdict (reads_as edition mid.image) second ≡ None) one.edition two.accepted)
+    (subst (λ edition. Performs edition mid.image new.image second last) one.edition two.performed)
+
+-- a refusal of calls is a reason not to make them
+pub refused_reason : (edition : Edition) (image : List ℕ) (calls : List Call) (refusal : Refusal) → IsSound edition image
+    → AreRefused (reads_as edition image) calls refusal → IsReason edition image calls (faults.Refused refusal)
+refused_reason edition image calls refusals.NoEntry sound refused = (sound, refused)
+refused_reason edition image calls refusals.NoMemory sound refused = tt
+refused_reason edition image calls refusals.Access sound refused = (sound, refused)
+refused_reason edition image calls refusals.Exists sound refused = (sound, refused)
+refused_reason edition image calls refusals.NotDirectory sound refused = (sound, refused)
+refused_reason edition image calls refusals.IsDirectory sound refused = (sound, refused)
+refused_reason edition image calls refusals.Invalid sound refused = (sound, refused)
+refused_reason edition image calls refusals.TooBig sound refused = (sound, refused)
+refused_reason edition image calls refusals.NoSpace sound refused = (sound, refused)
+refused_reason edition image calls refusals.TooManyLinks sound refused = (sound, refused)
+refused_reason edition image calls refusals.NotEmpty sound refused = (sound, refused)
+refused_reason edition image calls refusals.NotRegular sound refused = (sound, refused)
+refused_reason edition image calls refusals.NoInode sound refused = (sound, refused)
+refused_reason edition image calls refusals.BadId sound refused = (sound, refused)
+
+-- after an accepted call, what makes another is made of both
+pub made_then : (result : Result (Unit {0}) Fault) (old mid new : Mounted) (first second asked wanted : Call) → first ≡ asked → second ≡ wanted
+    → IsSound old.edition old.image → (done : Done) × Accepts old mid first done → OnOk result ((last : Done) × Accepts mid new second last)
+    → OnOk result (Makes old.edition old.image (asked ∷ wanted ∷ []) new.image)
+made_then (Ok made) old mid new first second asked wanted same_first same_second sound one two =
+    subst (λ call. Makes old.edition old.image (call ∷ wanted ∷ []) new.image) same_first
+    (subst (λ call. Makes old.edition old.image (first ∷ call ∷ []) new.image) same_second
+    (two_made old mid new first second one.0 two.0 sound one.1 two.1))
+made_then (Err fault) old mid new first second asked wanted same_first same_second sound one two = tt
+
+-- after an accepted call, a refusal of another is a reason
+refused_second : (old mid : Mounted) (first second : Call) (done : Done) (refusal : Refusal) → IsSound old.edition old.image → Accepts old mid first done
+    → Refuses (reads_as mid.edition mid.image) second refusal → IsReason old.edition old.image (first ∷ second ∷ []) (faults.Refused refusal)
+refused_second old mid first second done refusal sound one refuses =
+    let here : Refuses (reads_as old.edition mid.image) second refusal = subst (λ edition. Refuses (reads_as edition mid.image) second refusal) one.edition refuses in
+    let there : Refuses (step (reads_as old.edition old.image) first done) second refusal =
+    subst (λ state. Refuses state second refusal) one.performed.makes here in
+    refused_reason old.edition old.image (first ∷ second ∷ []) refusal sound
+    (inr (done, record { accepted = one.accepted; answered = one.performed.answered }, inl there))
+
+-- the same of an outcome
+pub refused_then : (result : Result (Unit {0}) Fault) (old mid : Mounted) (first second asked wanted : Call) → first ≡ asked → second ≡ wanted
+    → IsSound old.edition old.image → (done : Done) × Accepts old mid first done
+    → IfErr result (λ fault. (refusal : Refusal) × (fault ≡ faults.Refused refusal) × Refuses (reads_as mid.edition mid.image) second refusal)
+    → IfErr result (IsReason old.edition old.image (asked ∷ wanted ∷ []))
+refused_then (Ok made) old mid first second asked wanted same_first same_second sound one refused = tt
+refused_then (Err fault) old mid first second asked wanted same_first same_second sound one refused =
+    subst (λ call. IsReason old.edition old.image (call ∷ wanted ∷ []) fault) same_first
+    (subst (λ call. IsReason old.edition old.image (first ∷ call ∷ []) fault) same_second
+    (subst (IsReason old.edition old.image (first ∷ second ∷ [])) (sym refused.1)
+    (refused_second old mid first second one.0 refused.0 sound one.1 refused.2)))

@@ -71,11 +71,16 @@ fn a_sixth_edition_volume_has_these_bytes(rt: HostRuntime) {
 fn put_together(rt: &impl Abort, alloc: Global, pieces: &[Piece]) -> Vec<u8> {
     let mut bytes = vec![in alloc; 0; 10_240].expect(rt, "memory for the bytes");
     for (at, piece) in pieces {
-        for (byte, new) in bytes.iter_mut().skip(*at).zip(*piece) {
-            *byte = *new;
-        }
+        put(bytes.as_mut_slice(), *at, piece);
     }
     bytes
+}
+
+/// Puts bytes at a place, as far as there is one.
+pub(crate) fn put(bytes: &mut [u8], at: usize, piece: &[u8]) {
+    for (byte, new) in bytes.iter_mut().skip(at).zip(piece) {
+        *byte = *new;
+    }
 }
 
 /// Bytes are these, from the first to the last.

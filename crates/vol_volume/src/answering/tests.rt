@@ -1,4 +1,5 @@
 // Queries of worked volumes: their replies, and each refusal.
+use crate::tests::put;
 use crate::{Bytes, Listing, Query, Reply, Stat, Volume, mkfs};
 use std::alloc::{AllocError, Global};
 use std::process::Abort;
@@ -33,9 +34,7 @@ fn mount(rt: &impl Abort, alloc: Global, edition: Edition, bytes: Vec<u8>) -> Vo
 fn volume_with_file(rt: &impl Abort, alloc: Global) -> Volume {
     let mut bytes = mkfs(alloc, Edition::V6, 20, 2, 0, 0, NOW).expect(rt, "a new volume");
     for (at, piece) in &FILE {
-        for (byte, new) in bytes.iter_mut().skip(*at).zip(*piece) {
-            *byte = *new;
-        }
+        put(bytes.as_mut_slice(), *at, piece);
     }
     mount(rt, alloc, Edition::V6, bytes)
 }
@@ -93,7 +92,8 @@ fn told(rt: &impl Abort, alloc: Global, volume: &Volume, bytes: &[u8]) -> Stat {
 
 /// This is what another user is told of a node.
 fn check_told(rt: &impl Abort, alloc: Global, volume: &Volume, bytes: &[u8], wanted: &Stat) {
-    assert_eq!(rt; told(rt, alloc, volume, bytes), *wanted);
+    let found = told(rt, alloc, volume, bytes);
+    assert_eq!(rt; found, *wanted);
 }
 
 #[test]

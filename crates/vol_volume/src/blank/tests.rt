@@ -69,8 +69,10 @@ fn blank(
 /// What is written of a blank volume.
 fn written(rt: &impl Abort, alloc: Global, blank: &BlankVolume) -> Vec<u8> {
     let mut sink = IntoWrite::new(ScriptedWriter::new(alloc, 50_000));
-    blank.write_to(&mut sink).expect(rt, "a volume is written");
-    sink.into_inner().taken
+    match blank.write_to(&mut sink) {
+        Ok(()) => sink.into_inner().taken,
+        Err(_) => panic!(rt; "a volume is written"),
+    }
 }
 
 #[test]

@@ -5,7 +5,7 @@ ghost use Rattle.vol_volume.specs.Verdict.{is_free_number};
 ghost use Rattle.vol_volume.specs.Volume.{mounted, reads_as};
 
 use super::Volume;
-use super::tests::put;
+use crate::tests::put;
 use crate::{Bytes, Call, Done, Query, Record, Reply, Stat, mkfs};
 use std::alloc::Global;
 use std::process::Abort;
@@ -233,7 +233,7 @@ fn make(
 
 /// The journal of a volume has one record more than so many.
 fn check_longer(rt: &impl Abort, volume: &Volume, len: usize) {
-    assert_eq!(rt; volume.journal().len().checked_sub(1), Some(len));
+    check_len(rt, volume, len.checked_add(1).expect(rt, "a record more"));
 }
 
 /// The journal of a volume has so many records, and its image these bytes.

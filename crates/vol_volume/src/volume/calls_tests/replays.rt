@@ -22,9 +22,17 @@ fn redo_made(rt: &impl Abort, alloc: Global, volume: &mut Volume, asked: Asked, 
 /// The calls of a volume's journal made these i-numbers, and no others.
 fn check_journal(rt: &impl Abort, volume: &Volume, numbers: &[u16]) {
     for (made, number) in volume.journal().iter().zip(numbers) {
-        assert_eq!(rt; made.done, Made(*number));
+        check_made(rt, made, *number);
     }
     check_len(rt, volume, numbers.len());
+}
+
+/// The call of a record made this i-number.
+fn check_made(rt: &impl Abort, record: &Record, number: u16) {
+    match record.done {
+        Made(made) => assert_eq!(rt; made, number),
+        _ => panic!(rt; "the call makes an i-number"),
+    }
 }
 
 // The i-numbers that are made.

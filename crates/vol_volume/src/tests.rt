@@ -60,22 +60,54 @@ static SEVENTH: [Piece; 13] = [
 ];
 
 #[test]
-fn a_sixth_edition_volume_has_these_bytes(rt: HostRuntime) -> Result<(), Fail> {
+fn a_sixth_edition_volume_has_these_bytes(rt: HostRuntime) {
     let alloc = rt.alloc();
-    let bytes = mkfs(alloc, Edition::V6, 20, 2, 0, 0, NOW)?;
-    let mut wanted = vec![in alloc; 0; 10_240]?;
-    for (at, piece) in &SIXTH {
-        for (byte, new) in wanted.iter_mut().skip(*at).zip(*piece) {
-            *byte = *new;
-        }
+    let bytes = mkfs(alloc, Edition::V6, 20, 2, 0, 0, NOW).expect(&rt, "a new volume");
+    let wanted = put_together(&rt, alloc, &SIXTH);
+    check_whole(&rt, bytes.as_slice(), wanted.as_slice());
+}
+
+/// Twenty blocks that are zero but for these pieces.
+fn put_together(rt: &impl Abort, alloc: Global, pieces: &[Piece]) -> Vec<u8> {
+    let mut bytes = vec![in alloc; 0; 10_240].expect(rt, "memory for the bytes");
+    for (at, piece) in pieces {
+        put(bytes.as_mut_slice(), *at, piece);
     }
-    assert_eq!(rt; bytes, wanted);
-    let (mut image, geometry) = volume(alloc, Edition::V6, 20, 2, NOW)?;
-    assert_eq!(rt; geometry.zone_start, 4);
-    assert_eq!(rt; geometry.zone_end, 20);
-    assert_eq!(rt; free_count(&image, &geometry), 15);
-    assert_eq!(rt; take(&mut image, &geometry), Some(5));
+    bytes
+}
+
+/// Puts bytes at a place, as far as there is one.
+pub(crate) fn put(bytes: &mut [u8], at: usize, piece: &[u8]) {
+    for (byte, new) in bytes.iter_mut().skip(at).zip(piece) {
+        *byte = *new;
+    }
+}
+
+/// Bytes are these, from the first to the last.
+fn check_whole(rt: &impl Abort, found: &[u8], wanted: &[u8]) {
+    assert_eq!(rt; found, wanted);
+}
+
+#[test]
+fn a_sixth_edition_volume_has_these_free_blocks(rt: HostRuntime) -> Result<(), Fail> {
+    let (mut image, geometry) = volume(rt.alloc(), Edition::V6, 20, 2, NOW)?;
+    check_zone(&rt, &geometry, 4, 20);
+    check_free(&rt, &image, &geometry, 15);
+    check_taken(&rt, &mut image, &geometry, 5, 6);
     Ok(())
+}
+
+/// The data blocks of a volume are those from `start` up to `end`.
+fn check_zone(rt: &impl Abort, geometry: &Geometry, start: u32, end: u32) {
+    assert_eq!(rt; (geometry.zone_start, geometry.zone_end), (start, end));
+}
+
+/// So many blocks of a volume are free.
+fn check_free(rt: &impl Abort, image: &Image, geometry: &Geometry, wanted: u32)
+    requires fits { Fits geometry.now image.now }
+    requires stack { HasStack geometry.now image.now }
+{
+    assert_eq!(rt; free_count(image, geometry), wanted);
 }
 
 #[test]

@@ -1,4 +1,5 @@
 // Queries of worked volumes: their replies, and each refusal.
+use crate::tests::put;
 use crate::{Bytes, Listing, Query, Reply, Stat, Volume, mkfs};
 use std::alloc::{AllocError, Global};
 use std::process::Abort;
@@ -16,8 +17,8 @@ const OTHER: Cred = Cred { uid: 7, gid: 7 };
 
 /// A new volume of 100 blocks, mounted.
 fn new_volume(rt: &impl Abort, alloc: Global, edition: Edition) -> Volume {
-    let bytes = mkfs(alloc, edition, 100, 2, 0, 0, NOW).expect(rt, "a new volume");
-    mount(rt, alloc, edition, bytes)
+    let made = mkfs(alloc, edition, 100, 2, 0, 0, NOW);
+    mount(rt, alloc, edition, made.expect(rt, "a new volume"))
 }
 
 /// Mounts the bytes of a sound volume.
@@ -33,9 +34,7 @@ fn mount(rt: &impl Abort, alloc: Global, edition: Edition, bytes: Vec<u8>) -> Vo
 fn volume_with_file(rt: &impl Abort, alloc: Global) -> Volume {
     let mut bytes = mkfs(alloc, Edition::V6, 20, 2, 0, 0, NOW).expect(rt, "a new volume");
     for (at, piece) in &FILE {
-        for (byte, new) in bytes.iter_mut().skip(*at).zip(*piece) {
-            *byte = *new;
-        }
+        put(bytes.as_mut_slice(), *at, piece);
     }
     mount(rt, alloc, Edition::V6, bytes)
 }
@@ -91,6 +90,12 @@ fn told(rt: &impl Abort, alloc: Global, volume: &Volume, bytes: &[u8]) -> Stat {
     }
 }
 
+/// This is what another user is told of a node.
+fn check_told(rt: &impl Abort, alloc: Global, volume: &Volume, bytes: &[u8], wanted: &Stat) {
+    let found = told(rt, alloc, volume, bytes);
+    assert_eq!(rt; found, *wanted);
+}
+
 #[test]
 fn the_root_of_a_new_volume_is_told(rt: HostRuntime) {
     let alloc = rt.alloc();
@@ -109,7 +114,7 @@ fn the_root_of_a_new_volume_is_told(rt: HostRuntime) {
             changed,
         };
         for bytes in [b"/".as_slice(), b"", b"/.", b".././/.."] {
-            assert_eq!(rt; told(&rt, alloc, &volume, bytes), wanted);
+            check_told(&rt, alloc, &volume, bytes, &wanted);
         }
     }
 }
@@ -130,7 +135,7 @@ fn a_file_is_told(rt: HostRuntime) {
         modified: 65_537,
         changed: None,
     };
-    assert_eq!(rt; told(&rt, alloc, &volume, b"/-"), wanted);
+    check_told(&rt, alloc, &volume, b"/-", &wanted);
 }
 
 /// The names that the root of a volume is listed with, each with the low byte of its i-number behind it.
@@ -154,10 +159,24 @@ fn with_numbers(alloc: Global, names: &Listing) -> Result<Vec<u8>, AllocError> {
 #[test]
 fn names_come_in_order(rt: HostRuntime) {
     let alloc = rt.alloc();
-    let new = names(&rt, alloc, &new_volume(&rt, alloc, Edition::V7));
-    assert_eq!(rt; new.as_slice(), b".\x02..\x02".as_slice());
-    let with_file = names(&rt, alloc, &volume_with_file(&rt, alloc));
-    assert_eq!(rt; with_file.as_slice(), b"-\x02.\x01..\x01".as_slice());
+    check_names(
+        &rt,
+        alloc,
+        &new_volume(&rt, alloc, Edition::V7),
+        b".\x02..\x02",
+    );
+    check_names(
+        &rt,
+        alloc,
+        &volume_with_file(&rt, alloc),
+        b"-\x02.\x01..\x01",
+    );
+}
+
+/// The root of a volume is listed with these names, each with the low byte of its i-number behind it.
+fn check_names(rt: &impl Abort, alloc: Global, volume: &Volume, wanted: &[u8]) {
+    let found = names(rt, alloc, volume);
+    assert_eq!(rt; found.as_slice(), wanted);
 }
 
 /// Where 3 bytes are asked for, and those that are read.

@@ -10,6 +10,7 @@ use pdp_words::testing::{ScriptedWriter, WriteMishap};
 use pdp_words::{BLOCK, Image, IntoWrite};
 use std::alloc::Global;
 use std::io::ErrorKind;
+use std::process::Abort;
 use std::test::Fail;
 use vol_free::give;
 use vol_layout::{Edition, Geometry, Super};
@@ -34,41 +35,77 @@ static SIZES: [(u32, u16); 12] = [
 ];
 
 #[test]
-fn what_is_written_is_what_mkfs_makes(rt: HostRuntime) -> Result<(), Fail> {
+fn what_is_written_is_what_mkfs_makes(rt: HostRuntime) {
     let alloc = rt.alloc();
-    for edition in [Edition::V6, Edition::V7] {
-        for (blocks, list_blocks) in &SIZES {
-            let wanted = mkfs(alloc, edition, *blocks, *list_blocks, 7, 9, NOW)?;
-            let blank = BlankVolume::new(alloc, edition, *blocks, *list_blocks, 7, 9, NOW)?;
-            let mut sink = IntoWrite::new(ScriptedWriter::new(alloc, 50_000));
-            blank.write_to(&mut sink)?;
-            assert_eq!(rt;
-                sink.into_inner().taken,
-                wanted,
-                "{edition:?} {blocks} {list_blocks}"
-            );
-        }
+    for (blocks, list_blocks) in &SIZES {
+        check_written(&rt, alloc, Edition::V6, *blocks, *list_blocks);
+        check_written(&rt, alloc, Edition::V7, *blocks, *list_blocks);
     }
-    Ok(())
+}
+
+/// What is written of a blank volume of this size is what `mkfs` makes.
+fn check_written(rt: &impl Abort, alloc: Global, edition: Edition, blocks: u32, list_blocks: u16) {
+    let wanted = mkfs(alloc, edition, blocks, list_blocks, 7, 9, NOW).expect(rt, "a new volume");
+    let written = written(rt, alloc, &blank(rt, alloc, edition, blocks, list_blocks));
+    assert_eq!(rt;
+        written.as_slice(),
+        wanted.as_slice(),
+        "{edition:?} {blocks} {list_blocks}"
+    );
+}
+
+/// A blank volume of user 7 and group 9.
+fn blank(
+    rt: &impl Abort,
+    alloc: Global,
+    edition: Edition,
+    blocks: u32,
+    list_blocks: u16,
+) -> BlankVolume {
+    let made = BlankVolume::new(alloc, edition, blocks, list_blocks, 7, 9, NOW);
+    made.expect(rt, "a blank volume")
+}
+
+/// What is written of a blank volume.
+fn written(rt: &impl Abort, alloc: Global, blank: &BlankVolume) -> Vec<u8> {
+    let mut sink = IntoWrite::new(ScriptedWriter::new(alloc, 50_000));
+    match blank.write_to(&mut sink) {
+        Ok(()) => sink.into_inner().taken,
+        Err(_) => panic!(rt; "a volume is written"),
+    }
 }
 
 #[test]
-fn a_fault_counts_the_bytes_that_were_taken(rt: HostRuntime) -> Result<(), Fail> {
+fn a_fault_counts_the_bytes_that_were_taken(rt: HostRuntime) {
     let alloc = rt.alloc();
-    let wanted = mkfs(alloc, Edition::V6, 300, 3, 7, 9, NOW)?;
-    let blank = BlankVolume::new(alloc, Edition::V6, 300, 3, 7, 9, NOW)?;
+    let wanted = mkfs(alloc, Edition::V6, 300, 3, 7, 9, NOW).expect(&rt, "a new volume");
+    let blank = blank(&rt, alloc, Edition::V6, 300, 3);
     for at in [0, 1, 3, 4, 7] {
-        let writer = ScriptedWriter::new(alloc, 20_000);
-        let mishap = WriteMishap::Error(ErrorKind::Other);
-        let mut sink = IntoWrite::new(writer.failing_at(at, mishap));
-        let Err(fault) = blank.write_to(&mut sink) else {
-            return Err(Fail::from("a fault is due"));
-        };
-        let taken = sink.into_inner().taken;
-        assert_eq!(rt; fault.written, taken.len() as u64);
-        assert_eq!(rt; Some(taken.as_slice()), wanted.get(..taken.len()));
+        let (counted, taken) = written_up_to(&rt, alloc, &blank, at);
+        check_taken(&rt, counted, taken.as_slice(), wanted.as_slice());
     }
-    Ok(())
+}
+
+/// Writes a blank volume to where call number `at` fails: the bytes that the fault counts, and those taken.
+fn written_up_to(rt: &impl Abort, alloc: Global, blank: &BlankVolume, at: u64) -> (u64, Vec<u8>) {
+    let writer = ScriptedWriter::new(alloc, 20_000);
+    let mishap = WriteMishap::Error(ErrorKind::Other);
+    let mut sink = IntoWrite::new(writer.failing_at(at, mishap));
+    match blank.write_to(&mut sink) {
+        Ok(()) => panic!(rt; "a fault is due"),
+        Err(fault) => (fault.written, sink.into_inner().taken),
+    }
+}
+
+/// So many bytes were taken, with which a volume begins.
+fn check_taken(rt: &impl Abort, counted: u64, taken: &[u8], volume: &[u8]) {
+    assert_eq!(rt; counted, taken.len() as u64);
+    check_begins(rt, volume, taken);
+}
+
+/// A volume begins with these bytes.
+fn check_begins(rt: &impl Abort, volume: &[u8], taken: &[u8]) {
+    assert_eq!(rt; volume.get(..taken.len()), Some(taken));
 }
 
 #[test]

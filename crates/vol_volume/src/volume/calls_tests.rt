@@ -5,7 +5,7 @@ ghost use Rattle.vol_volume.specs.Verdict.{is_free_number};
 ghost use Rattle.vol_volume.specs.Volume.{mounted, reads_as};
 
 use super::Volume;
-use super::tests::put;
+use crate::tests::put;
 use crate::{Bytes, Call, Done, Query, Record, Reply, Stat, mkfs};
 use std::alloc::Global;
 use std::process::Abort;
@@ -225,13 +225,31 @@ fn make(
     let len = volume.journal().len();
     let answer = answer_to(rt, alloc, volume, call_by(rt, alloc, cred, asked));
     match answer {
-        Ok(_) => assert_eq!(rt; volume.journal().len().checked_sub(1), Some(len)),
-        Err(_) => {
-            assert_eq!(rt; volume.journal().len(), len);
-            assert_eq!(rt; volume.image().as_bytes(), before.as_slice());
-        }
+        Ok(_) => check_longer(rt, volume, len),
+        Err(_) => check_unchanged(rt, volume, len, before.as_slice()),
     }
     answer
+}
+
+/// The journal of a volume has one record more than so many.
+fn check_longer(rt: &impl Abort, volume: &Volume, len: usize) {
+    check_len(rt, volume, len.checked_add(1).expect(rt, "a record more"));
+}
+
+/// The journal of a volume has so many records, and its image these bytes.
+fn check_unchanged(rt: &impl Abort, volume: &Volume, len: usize, bytes: &[u8]) {
+    check_len(rt, volume, len);
+    check_whole(rt, volume.image().as_bytes(), bytes);
+}
+
+/// The journal of a volume has so many records.
+fn check_len(rt: &impl Abort, volume: &Volume, len: usize) {
+    assert_eq!(rt; volume.journal().len(), len);
+}
+
+/// Bytes are these, from the first to the last.
+fn check_whole(rt: &impl Abort, found: &[u8], wanted: &[u8]) {
+    assert_eq!(rt; found, wanted);
 }
 
 /// Makes a call, and answers what came of it. An accepted call is the journal's last, and its moment is the
@@ -288,14 +306,26 @@ fn check_steps(rt: &impl Abort, alloc: Global, volume: &mut Volume, cred: Cred, 
 fn check_step(rt: &impl Abort, alloc: Global, volume: &mut Volume, cred: Cred, step: &Step) {
     match step {
         Step::Call(asked, wanted) => {
-            let answer = make(rt, alloc, volume, cred, *asked);
-            assert_eq!(rt; answer, *wanted, "{asked:?}");
+            check_call(rt, alloc, volume, cred, *asked, *wanted);
         }
         Step::At(place, bytes) => check_at(rt, volume, *place, bytes),
         Step::All(place, len, byte) => {
             check_at(rt, volume, *place, &filled(rt, alloc, *len, *byte));
         }
     }
+}
+
+/// A call in the name of a user is answered so.
+fn check_call(
+    rt: &impl Abort,
+    alloc: Global,
+    volume: &mut Volume,
+    cred: Cred,
+    asked: Asked,
+    wanted: Result<Done, Refusal>,
+) {
+    let answer = make(rt, alloc, volume, cred, asked);
+    assert_eq!(rt; answer, wanted, "{asked:?}");
 }
 
 /// Takes the steps of a run in the name of user 0, and then makes the journal again.
@@ -311,6 +341,11 @@ fn stat(rt: &impl Abort, alloc: Global, volume: &Volume, path: &[u8]) -> Stat {
         Ok(Reply::Stat(told)) => told,
         _ => panic!(rt; "the path leads to a node"),
     }
+}
+
+/// A path leads to the node with this i-number.
+fn check_number(rt: &impl Abort, alloc: Global, volume: &Volume, path: &[u8], wanted: u16) {
+    assert_eq!(rt; stat(rt, alloc, volume, path).number, wanted);
 }
 
 /// A query for bytes is answered by these, or is refused so.

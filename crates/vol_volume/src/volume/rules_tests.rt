@@ -1,6 +1,7 @@
 // Each of the twelve rules broken in both editions, beside images next to them that are sound; where two are broken
 // the lesser is named.
-use super::tests::{check_mount, put};
+use super::tests::check_mount;
+use crate::tests::put;
 use crate::{judge, mkfs};
 use pdp_words::Image;
 use std::alloc::Global;

@@ -103,13 +103,6 @@ fn the_least_rule_that_fails_is_named(rt: HostRuntime) {
     }
 }
 
-/// Puts bytes at a place, as far as there is one.
-pub(super) fn put(bytes: &mut [u8], at: usize, piece: &[u8]) {
-    for (byte, new) in bytes.iter_mut().skip(at).zip(piece) {
-        *byte = *new;
-    }
-}
-
 #[test]
 fn short_bytes_are_no_volume(rt: HostRuntime) {
     let alloc = rt.alloc();

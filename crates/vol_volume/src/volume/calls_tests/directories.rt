@@ -1,7 +1,10 @@
 // Directories: names that come and go, their i-numbers, and the paths that lead to them.
 use super::Asked::{Create, Fill, Link, Mkdir, Rmdir, Truncate, Unlink, Write};
 use super::Step::{self, All, At, Call};
-use super::{LATER, ROOT, bytes_of, check_run, check_steps, make, new_volume, sixth, stat};
+use super::{
+    LATER, ROOT, bytes_of, check_call, check_run, check_steps, check_whole, make, new_volume,
+    sixth, stat,
+};
 use crate::Done::{Made, Plain, Wrote};
 use crate::{Listing, Query, Reply, Stat, Volume};
 use std::alloc::{AllocError, Global};
@@ -26,6 +29,12 @@ fn with_numbers(alloc: Global, names: &Listing) -> Result<Vec<u8>, AllocError> {
         told.push((*i % 256) as u8)?;
     }
     Ok(told)
+}
+
+/// A directory is listed with these names, each with the low byte of its i-number behind it.
+fn check_names(rt: &impl Abort, alloc: Global, volume: &Volume, path: &[u8], wanted: &[u8]) {
+    let listed = names(rt, alloc, volume, path);
+    check_whole(rt, listed.as_slice(), wanted);
 }
 
 static COMING: [Step; 12] = [
@@ -69,11 +78,9 @@ fn a_directory_comes_and_goes(rt: HostRuntime) {
     let alloc = rt.alloc();
     let mut volume = sixth(&rt, alloc);
     check_run(&rt, alloc, &mut volume, &COMING);
-    let listed = names(&rt, alloc, &volume, b"/d");
-    assert_eq!(rt; listed.as_slice(), b".\x20..\x01f\x1F".as_slice());
+    check_names(&rt, alloc, &volume, b"/d", b".\x20..\x01f\x1F");
     check_run(&rt, alloc, &mut volume, &GOING);
-    let listed = names(&rt, alloc, &volume, b"/");
-    assert_eq!(rt; listed.as_slice(), b".\x01..\x01".as_slice());
+    check_names(&rt, alloc, &volume, b"/", b".\x01..\x01");
 }
 
 static LONG_PATHS: [Step; 8] = [
@@ -174,6 +181,29 @@ fn a_file_has_up_to_127_names(rt: HostRuntime) {
     check_run(&rt, alloc, &mut volume, &MOST_NAMES);
 }
 
+/// Makes the directory number `n` in a directory that was made first.
+fn make_directory(rt: &impl Abort, alloc: Global, volume: &mut Volume, n: u8) {
+    let [first, second] = letters(n);
+    let path = [b'd', b'/', first, second];
+    let wanted = Ok(Made(given_number(n)));
+    check_call(rt, alloc, volume, ROOT, Mkdir(&path, 0o755), wanted);
+}
+
+/// The i-number that directory number `n` takes: those of the first hundred i-nodes are cached first, and
+/// then the others.
+fn given_number(n: u8) -> u16 {
+    if n < 99 {
+        100 - u16::from(n)
+    } else {
+        259 - u16::from(n)
+    }
+}
+
+/// The node to which a path leads has so many links.
+fn check_links(rt: &impl Abort, alloc: Global, volume: &Volume, path: &[u8], wanted: u16) {
+    assert_eq!(rt; stat(rt, alloc, volume, path).links, wanted);
+}
+
 static NO_DIRECTORY: [Step; 1] = [Call(Mkdir(b"/d", 0o755), Ok(Made(101)))];
 
 static MOST_DIRECTORIES: [Step; 5] = [
@@ -190,14 +220,9 @@ fn a_directory_has_up_to_125_directories(rt: HostRuntime) {
     let mut volume = new_volume(&rt, alloc, Edition::V6, 200, 10);
     check_steps(&rt, alloc, &mut volume, ROOT, &NO_DIRECTORY);
     for n in 0..125_u8 {
-        let [first, second] = letters(n);
-        let path = [b'd', b'/', first, second];
-        let answer = make(&rt, alloc, &mut volume, ROOT, Mkdir(&path, 0o755));
-        // The i-numbers of the first hundred i-nodes are cached first, and then the others.
-        let number = if n < 99 { 100 } else { 259 } - u16::from(n);
-        assert_eq!(rt; answer, Ok(Made(number)));
+        make_directory(&rt, alloc, &mut volume, n);
     }
-    assert_eq!(rt; stat(&rt, alloc, &volume, b"/d").links, 127);
+    check_links(&rt, alloc, &volume, b"/d", 127);
     check_run(&rt, alloc, &mut volume, &MOST_DIRECTORIES);
 }
 

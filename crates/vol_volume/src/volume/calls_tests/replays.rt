@@ -1,7 +1,10 @@
 // Records whose i-numbers are other free ones than calls would take.
 use super::Asked::{self, Create, Mkdir, Unlink};
 use super::Step::{self, All, At, Call};
-use super::{ROOT, call_by, check_redone, check_steps, make, new_volume, redo, sixth, stat};
+use super::{
+    ROOT, call_by, check_len, check_number, check_redone, check_steps, make, new_volume, redo,
+    sixth,
+};
 use crate::Done::{Made, Plain};
 use crate::{Record, Volume};
 use std::alloc::Global;
@@ -15,6 +18,25 @@ fn redo_made(rt: &impl Abort, alloc: Global, volume: &mut Volume, asked: Asked, 
     let done = Made(number);
     redo(rt, alloc, volume, &Record { call, done });
 }
+
+/// The calls of a volume's journal made these i-numbers, and no others.
+fn check_journal(rt: &impl Abort, volume: &Volume, numbers: &[u16]) {
+    for (made, number) in volume.journal().iter().zip(numbers) {
+        check_made(rt, made, *number);
+    }
+    check_len(rt, volume, numbers.len());
+}
+
+/// The call of a record made this i-number.
+fn check_made(rt: &impl Abort, record: &Record, number: u16) {
+    match record.done {
+        Made(made) => assert_eq!(rt; made, number),
+        _ => panic!(rt; "the call makes an i-number"),
+    }
+}
+
+// The i-numbers that are made.
+static NUMBERS: [u16; 3] = [20, 2, 32];
 
 // I-nodes 2, 20 and 32, and the blocks of the root and of the new directory.
 static RECORDED: [Step; 9] = [
@@ -36,14 +58,11 @@ fn a_recorded_i_number_is_the_one_used(rt: HostRuntime) {
     redo_made(&rt, alloc, &mut volume, Create(b"/f", 0o640), 20);
     redo_made(&rt, alloc, &mut volume, Mkdir(b"/d", 0o755), 2);
     redo_made(&rt, alloc, &mut volume, Create(b"/d/g", 0o600), 32);
-    for (made, number) in volume.journal().iter().zip([20, 2, 32]) {
-        assert_eq!(rt; made.done, Made(number));
-    }
-    assert_eq!(rt; volume.journal().len(), 3);
+    check_journal(&rt, &volume, &NUMBERS);
     check_steps(&rt, alloc, &mut volume, ROOT, &RECORDED);
-    assert_eq!(rt; stat(&rt, alloc, &volume, b"/f").number, 20);
-    assert_eq!(rt; stat(&rt, alloc, &volume, b"/d/.").number, 2);
-    assert_eq!(rt; stat(&rt, alloc, &volume, b"/d/g").number, 32);
+    check_number(&rt, alloc, &volume, b"/f", 20);
+    check_number(&rt, alloc, &volume, b"/d/.", 2);
+    check_number(&rt, alloc, &volume, b"/d/g", 32);
     check_redone(&rt, alloc, &volume);
 }
 

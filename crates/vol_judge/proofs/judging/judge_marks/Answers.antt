@@ -1,8 +1,20 @@
-use Rattle.std.proofs.Common.{inl, inr, refl}
+use Rattle.std.proofs.Common.{inl, inr, refl, arith}
 use Rattle.vol_judge.specs.Marks.{IsMarked}
 use Rattle.vol_judge.proofs.Comparing.{free_apart, apart_marks, none_lost, covered_marks, found_once}
 use Rattle.vol_judge.proofs.judging.judge_marks.Goals as goal
 use Rattle.vol_judge.proofs.judging.judge_marks.Goals.{in-Twice, in_default, then-matches-via-then-matches, then-matches-via-else-matches+then-not-are_apart}
+
+pub mark_free-requires-clause-clear : goal.mark_free-requires-clause-clear
+mark_free-requires-clause-clear c = c.requires.clear
+
+pub returns-then-not-mark_free : goal.returns-then-not-mark_free
+returns-then-not-mark_free c = inl (refl, c.mark_free.ensures.broken c.if-not-mark_free.true)
+
+pub are_apart-requires : goal.are_apart-requires
+are_apart-requires c = omega (arith, c.mark_free.auto.marks, c.requires.free_room, c.requires.room)
+
+pub are_covered-requires : goal.are_covered-requires
+are_covered-requires c = omega (arith, c.mark_free.auto.marks, c.requires.free_room, c.requires.room)
 
 pub returns-then-matches : goal.returns-then-matches
 returns-then-matches c =

@@ -3,9 +3,9 @@ ghost use Rattle.std.specs.Prelude.{IfOk};
 ghost use Rattle.vol_layout.specs.Geometry.{Fits};
 ghost use Rattle.vol_free.specs.Stack.{HasStack};
 
-use crate::{MkfsFault, mkfs};
+use crate::{Listing, MkfsFault, mkfs};
 use pdp_words::Image;
-use std::alloc::Global;
+use std::alloc::{AllocError, Global};
 use std::process::Abort;
 use std::test::Fail;
 use vol_free::{free_count, take, take_inode};
@@ -74,6 +74,16 @@ fn put_together(rt: &impl Abort, alloc: Global, pieces: &[Piece]) -> Vec<u8> {
         put(bytes.as_mut_slice(), *at, piece);
     }
     bytes
+}
+
+/// Names, each with the low byte of its i-number behind it.
+pub(crate) fn with_numbers(alloc: Global, names: &Listing) -> Result<Vec<u8>, AllocError> {
+    let mut told = Vec::new(alloc);
+    for (name, i) in names.as_slice() {
+        told.extend_from_slice(name.as_slice())?;
+        told.push((*i % 256) as u8)?;
+    }
+    Ok(told)
 }
 
 /// Puts bytes at a place, as far as there is one.

@@ -1,7 +1,7 @@
 // Queries of worked volumes: their replies, and each refusal.
-use crate::tests::put;
-use crate::{Bytes, Listing, Query, Reply, Stat, Volume, mkfs};
-use std::alloc::{AllocError, Global};
+use crate::tests::{put, with_numbers};
+use crate::{Bytes, Query, Reply, Stat, Volume, mkfs};
+use std::alloc::Global;
 use std::process::Abort;
 use vol_dir::{Cred, Refusal};
 use vol_layout::{Edition, Kind};
@@ -144,16 +144,6 @@ fn names(rt: &impl Abort, alloc: Global, volume: &Volume) -> Vec<u8> {
         Ok(Reply::Names(names)) => with_numbers(alloc, &names).expect(rt, "memory for the names"),
         _ => panic!(rt; "the root is listed"),
     }
-}
-
-/// Names, each with the low byte of its i-number behind it.
-fn with_numbers(alloc: Global, names: &Listing) -> Result<Vec<u8>, AllocError> {
-    let mut told = Vec::new(alloc);
-    for (name, i) in names.as_slice() {
-        told.extend_from_slice(name.as_slice())?;
-        told.push((*i % 256) as u8)?;
-    }
-    Ok(told)
 }
 
 #[test]

@@ -6,8 +6,9 @@ use super::{
     sixth, stat,
 };
 use crate::Done::{Made, Plain, Wrote};
-use crate::{Listing, Query, Reply, Stat, Volume};
-use std::alloc::{AllocError, Global};
+use crate::tests::with_numbers;
+use crate::{Query, Reply, Stat, Volume};
+use std::alloc::Global;
 use std::process::Abort;
 use vol_dir::Refusal;
 use vol_layout::{Edition, Kind};
@@ -19,16 +20,6 @@ fn names(rt: &impl Abort, alloc: Global, volume: &Volume, path: &[u8]) -> Vec<u8
         Ok(Reply::Names(names)) => with_numbers(alloc, &names).expect(rt, "memory for the names"),
         _ => panic!(rt; "the directory is listed"),
     }
-}
-
-/// Names, each with the low byte of its i-number behind it.
-fn with_numbers(alloc: Global, names: &Listing) -> Result<Vec<u8>, AllocError> {
-    let mut told = Vec::new(alloc);
-    for (name, i) in names.as_slice() {
-        told.extend_from_slice(name.as_slice())?;
-        told.push((*i % 256) as u8)?;
-    }
-    Ok(told)
 }
 
 /// A directory is listed with these names, each with the low byte of its i-number behind it.

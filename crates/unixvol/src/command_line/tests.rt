@@ -2,7 +2,7 @@
 use super::{Invocation, VolumeFile, read};
 use crate::decimal::{long_of, word_of};
 use std::alloc::{AllocError, Global};
-use std::test::Fail;
+use std::process::Abort;
 use vol_commands::{Job, NewVolume};
 use vol_layout::Edition;
 
@@ -52,6 +52,8 @@ static ROWS: [Row; 7] = [
     ),
 ];
 
+static MKFS: [&str; 8] = ["mkfs", "7", "disk", "65536", "65535", "1", "02", "3"];
+
 /// The words of a command line.
 fn words(alloc: Global, rest: &[&str]) -> Result<Vec<String>, AllocError> {
     let mut words = vec![in alloc]?;
@@ -62,21 +64,54 @@ fn words(alloc: Global, rest: &[&str]) -> Result<Vec<String>, AllocError> {
     Ok(words)
 }
 
+/// What is read of the words of a command line.
+fn check(rt: &impl Abort, alloc: Global, rest: &[&str], wanted: Invocation<'_>) {
+    let words = words(alloc, rest).expect(rt, "memory for the words");
+    match read(alloc, words.as_slice()) {
+        Ok(invocation) => assert_eq!(rt; invocation, wanted),
+        Err(_) => panic!(rt; "the words are read"),
+    }
+}
+
 #[test]
-fn commands_on_volumes_are_read(rt: HostRuntime) -> Result<(), Fail> {
+fn commands_on_volumes_are_read(rt: HostRuntime) {
     for (rest, job) in &ROWS {
-        let words = words(rt.alloc(), rest)?;
         let wanted = Invocation::OnVolume {
             volume: VOLUME,
             job: *job,
         };
-        assert_eq!(rt; read(rt.alloc(), words.as_slice())?, wanted);
+        check(&rt, rt.alloc(), rest, wanted);
     }
-    Ok(())
 }
 
 #[test]
-fn words_of_the_command_line_are_read(rt: HostRuntime) -> Result<(), Fail> {
+fn words_of_cat_are_read(rt: HostRuntime) {
+    let wanted = Invocation::Cat {
+        volume: VOLUME,
+        ino: 17,
+    };
+    check(&rt, rt.alloc(), &["cat", "7", "disk", "017"], wanted);
+}
+
+#[test]
+fn words_of_mkfs_are_read(rt: HostRuntime) {
+    let volume = NewVolume {
+        edition: Edition::V7,
+        blocks: 65_536,
+        list_blocks: 65_535,
+        uid: 1,
+        gid: 2,
+        now: 3,
+    };
+    let wanted = Invocation::Mkfs {
+        image: "disk",
+        volume,
+    };
+    check(&rt, rt.alloc(), &MKFS, wanted);
+}
+
+#[test]
+fn words_of_numbers_are_read(rt: HostRuntime) {
     for (text, number) in [
         ("0", Some(0)),
         ("0017", Some(17)),
@@ -90,42 +125,7 @@ fn words_of_the_command_line_are_read(rt: HostRuntime) -> Result<(), Fail> {
     ] {
         assert_eq!(rt; word_of(text), number, "of {text:?}");
     }
-    let mut words = vec![in rt.alloc()]?;
-    for word in ["unixvol", "cat", "7", "disk", "017"] {
-        words.push(word.to_string(rt.alloc())?)?;
-    }
-    let invocation = read(rt.alloc(), words.as_slice())?;
-    let wanted = Invocation::Cat {
-        volume: VOLUME,
-        ino: 17,
-    };
-    assert_eq!(rt; invocation, wanted);
-    Ok(())
-}
-
-#[test]
-fn words_of_mkfs_are_read(rt: HostRuntime) -> Result<(), Fail> {
     assert_eq!(rt; long_of("4294967295"), Some(4_294_967_295));
     assert_eq!(rt; long_of("4294967296"), None);
     assert_eq!(rt; long_of("+1"), None);
-    let mut words = vec![in rt.alloc()]?;
-    for word in [
-        "unixvol", "mkfs", "7", "disk", "65536", "65535", "1", "02", "3",
-    ] {
-        words.push(word.to_string(rt.alloc())?)?;
-    }
-    let volume = NewVolume {
-        edition: Edition::V7,
-        blocks: 65_536,
-        list_blocks: 65_535,
-        uid: 1,
-        gid: 2,
-        now: 3,
-    };
-    let wanted = Invocation::Mkfs {
-        image: "disk",
-        volume,
-    };
-    assert_eq!(rt; read(rt.alloc(), words.as_slice())?, wanted);
-    Ok(())
 }

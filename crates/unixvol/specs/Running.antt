@@ -77,7 +77,7 @@ Runs streams taken status (invocations.Cat volume i) = RunsCat streams volume.ed
 Runs streams taken status (invocations.Mkfs image volume) = RunsMkfs streams taken volume status
 Runs streams taken status (invocations.OnVolume volume job) = RunsJob streams taken volume.edition job status
 
--- what is told of an error of the command line: the status by its kind; help is what goes out with 0, and 3 is a failed output (this project)
+-- what an error of the command line comes to: the status by its kind, which is 3 only where standard output failed (this project)
 pub record Tells (streams : Streams) (kind : ErrorKind) (status : ℕ) : Type 0 where
   pub memory : kind ≡ kinds.OutOfMemory → status ≡ 4
   pub mistake : kind ≢ kinds.OutOfMemory → kind ≢ kinds.DisplayHelp → kind ≢ kinds.DisplayVersion → status ≡ 2

@@ -48,7 +48,7 @@ pub enum Number {
 
 /// Volume `SIXTH` with an empty root directory and the empty regular file 32. Its blocks from 5 on are
 /// free, and come in ascending order.
-pub fn sixth(rt: &impl Abort, alloc: Global) -> Image
+pub(crate) fn sixth(rt: &impl Abort, alloc: Global) -> Image
     ensures sound { HasSoundFiles SIXTH result }
     ensures file { IsFile SIXTH result 32 }
     ensures fits { Fits SIXTH result }
@@ -57,7 +57,7 @@ pub fn sixth(rt: &impl Abort, alloc: Global) -> Image
 }
 
 /// The same of volume `SEVENTH`, with file 16.
-pub fn seventh(rt: &impl Abort, alloc: Global) -> Image
+pub(crate) fn seventh(rt: &impl Abort, alloc: Global) -> Image
     ensures sound { HasSoundFiles SEVENTH result }
     ensures file { IsFile SEVENTH result 16 }
     ensures fits { Fits SEVENTH result }
@@ -84,7 +84,7 @@ fn volume(alloc: Global, geometry: &Geometry, i: u16) -> Result<Image, AllocErro
 }
 
 /// Writes into the file, where so many blocks are needed.
-pub fn check_put(
+pub(crate) fn check_put(
     rt: &impl Abort,
     image: &mut Image,
     geometry: &Geometry,
@@ -106,7 +106,7 @@ pub fn check_put(
 }
 
 /// These numbers stand in a volume, or are counted there.
-pub fn check_numbers(
+pub(crate) fn check_numbers(
     rt: &impl Abort,
     image: &Image,
     geometry: &Geometry,
@@ -150,7 +150,7 @@ fn found(rt: &impl Abort, image: &Image, geometry: &Geometry, i: u16, number: &N
 }
 
 /// Bytes have these at a place.
-pub fn check_bytes(rt: &impl Abort, bytes: &[u8], place: usize, wanted: &[u8]) {
+pub(crate) fn check_bytes(rt: &impl Abort, bytes: &[u8], place: usize, wanted: &[u8]) {
     let found = bytes.get(place..place.saturating_add(wanted.len()));
     assert_eq!(rt; found, Some(wanted), "from byte {place}");
 }

@@ -31,7 +31,7 @@ static VOLUME: [Piece; 11] = [
 ];
 
 /// Bytes that are zeros, but for these at their places.
-pub fn with_pieces(rt: &impl Abort, alloc: Global, len: usize, pieces: &[Piece]) -> Vec<u8>
+pub(crate) fn with_pieces(rt: &impl Abort, alloc: Global, len: usize, pieces: &[Piece]) -> Vec<u8>
     ensures { length result.items ≡ len }
 {
     let mut bytes = vec![in alloc; 0; len].expect(rt, "memory for the bytes");
@@ -51,7 +51,7 @@ fn put_pieces(bytes: &mut [u8], pieces: &[Piece])
 }
 
 /// Puts words, each at its byte, where there is room.
-pub fn put_words(bytes: &mut [u8], words: &[Word])
+pub(crate) fn put_words(bytes: &mut [u8], words: &[Word])
     ensures { length bytes.new ≡ length bytes.old }
 {
     for (at, value) in words {
@@ -62,7 +62,7 @@ pub fn put_words(bytes: &mut [u8], words: &[Word])
 }
 
 /// What is answered of a volume, where memory isn't refused.
-pub fn judged(
+pub(crate) fn judged(
     rt: &impl Abort,
     alloc: Global,
     edition: Edition,

@@ -32,6 +32,11 @@ IsOfImage (faults.Unsound fault) = Unit {0}
 IsOfImage faults.NoEntry = Unit {0}
 IsOfImage faults.NotRegular = Unit {0}
 
+-- an outcome that is no fault of the writer (this project)
+abbrev pub IsNoWriters : Result (Unit {0}) CatFault → Type 0
+IsNoWriters (Err (faults.Writer written)) = ⊥
+IsNoWriters _ = Unit {0}
+
 -- the geometry of an image in which i-node i, of some kind, can be printed, or the first refusal that applies (this project)
 abbrev pub printable : Geometry → Kind → Result Geometry CatFault
 printable geometry kinds.Regular = Ok geometry

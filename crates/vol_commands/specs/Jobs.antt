@@ -14,7 +14,7 @@ use Rattle.vol_commands.specs.declared.answer.Answer.{Answer}
 use Rattle.vol_commands.specs.declared.jobs.Job.{Job}
 use Rattle.vol_commands.specs.declared.jobs.Job.TheVariants as jobs
 
--- what two streams were and are: the bytes of standard output, whether it had failed and has; and what standard error got (this project)
+-- what two streams were and are: the bytes of standard output, whether it had failed and has; and what the writer to standard error got, beside which the program prints by itself (this project)
 pub record Streams : Type 1 where
   pub old : Option (List ℕ)
   pub new : Option (List ℕ)

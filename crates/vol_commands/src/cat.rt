@@ -4,7 +4,7 @@ ghost use Rattle.std.specs.Io.KnownBytes.{Appends};
 ghost use Rattle.pdp_words.specs.Devices.{AppendsFront};
 ghost use Rattle.vol_layout.specs.Geometry.{Fits};
 ghost use Rattle.vol_layout.specs.Body.{body};
-ghost use Rattle.vol_commands.specs.Cat.{file_of, Cats, status_of, IsOfImage};
+ghost use Rattle.vol_commands.specs.Cat.{file_of, Cats, status_of, IsNoWriters, IsOfImage};
 
 use pdp_words::{Image, LoadFault, Sink, Source, load, write_all};
 use std::alloc::Global;
@@ -65,13 +65,12 @@ pub fn cat<R: Source, W: Sink>(
     writer: &mut W,
 ) -> Result<(), CatFault>
     requires reads { R.failed reader.old ≡ false }
-    requires writes { W.failed writer.old ≡ false }
     ensures shown { Cats (R.remaining reader.old) (R.remaining reader.new)
         (W.contents writer.old) (W.contents writer.new) edition ino result }
     ensures device { IsErrOf result CatFault.Device → R.failed reader.new ≡ true }
     ensures working { result ≢ Err CatFault.Device → R.failed reader.new ≡ false }
     ensures writer { IsErrAnd result (λ fault. (count : ℕ) × (fault ≡ CatFault.Writer count)) → W.failed writer.new ≡ true }
-    ensures kept { OnOk result (W.failed writer.new ≡ false) }
+    ensures kept { IsNoWriters result → W.failed writer.new ≡ W.failed writer.old }
 {
     let image = match load(alloc, reader) {
         Ok(image) => image,
@@ -115,12 +114,11 @@ fn show<W: Sink>(
     requires fits { Fits geometry.now image.now }
     requires first { 1 ≤ ino }
     requires last { ino ≤ geometry.now.last_inode }
-    requires writes { W.failed writer.old ≡ false }
     ensures ok { OnOk result (Appends (W.contents writer.old) (W.contents writer.new) (body geometry.now image.now ino)) }
     ensures part { IfErr result (λ fault. (count : ℕ) × (fault ≡ CatFault.Writer count)
         × AppendsFront (W.contents writer.old) (W.contents writer.new) (body geometry.now image.now ino) count) }
     ensures fault { OnErr result (W.failed writer.new ≡ true) }
-    ensures kept { OnOk result (W.failed writer.new ≡ false) }
+    ensures kept { OnOk result (W.failed writer.new ≡ W.failed writer.old) }
 {
     let mut buffer = [0; BUFFER];
     let mut written = 0;

@@ -1,8 +1,9 @@
 //! `mkfs`: makes a new volume, and answers it, to be saved.
 ghost use Rattle.std.specs.Prelude.{◌≡◌, ◌≢◌, ◌↔◌, ◌⊎◌, false, true, IsSome, IfSome};
-ghost use Rattle.std.specs.Io.KnownBytes.{Appends, Keeps};
+ghost use Rattle.std.specs.Io.KnownBytes.{Keeps};
 ghost use Rattle.vol_volume.specs.Blank.{blank_of};
 ghost use Rattle.vol_volume.specs.Mkfs.{is_size, is_bad_id};
+ghost use Rattle.vol_commands.specs.Faults.{Gets};
 ghost use Rattle.vol_commands.specs.Making.{status_of_fault, line_of_fault, line_of_status};
 
 use pdp_words::{Sink, write_all};
@@ -54,7 +55,7 @@ pub fn mkfs_command<O: Sink, E: Sink>(
     ensures refused { result.status ≡ 1 ↔ ((is_size volume.edition volume.blocks volume.list_blocks ≡ false)
         ⊎ (is_bad_id volume.edition volume.uid volume.gid ≡ true)) }
     ensures memory { result.status ≢ 0 → result.status ≢ 1 → result.status ≡ 4 }
-    ensures line { E.failed errors.new ≡ false → Appends (E.contents errors.old) (E.contents errors.new)
+    ensures line { Gets (E.failed errors.new) (E.contents errors.old) (E.contents errors.new)
         (line_of_status (is_size volume.edition volume.blocks volume.list_blocks) result.status) }
     ensures unprinted { Keeps (O.contents _output.old) (O.contents _output.new) }
     ensures unused { O.failed _output.new ≡ O.failed _output.old }
@@ -82,7 +83,7 @@ pub fn mkfs_command<O: Sink, E: Sink>(
 /// Writes the line of a fault, and answers its status. Where the line can't be written, the status tells.
 fn explain<E: Sink>(fault: MkfsFault, errors: &mut E) -> u8
     ensures status { result ≡ status_of_fault fault }
-    ensures line { E.failed errors.new ≡ false → Appends (E.contents errors.old) (E.contents errors.new) (line_of_fault fault) }
+    ensures line { Gets (E.failed errors.new) (E.contents errors.old) (E.contents errors.new) (line_of_fault fault) }
 {
     let (line, status) = match fault {
         MkfsFault::Bounds => ("unixvol: bounds\n", 1),

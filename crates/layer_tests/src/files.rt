@@ -1,19 +1,18 @@
 //! Worked values of files: volumes on which the tests begin, and what is found in them.
-ghost use Rattle.std.specs.Prelude.{◌≡◌, ℕ, ◌+◌, ◌*◌, ◌<◌, ◌≤◌, List, length, slice_index, IfOk};
+ghost use Rattle.std.specs.Prelude.{◌+◌, ◌≤◌, length};
 ghost use Rattle.vol_layout.specs.Edition.{constants};
 ghost use Rattle.vol_layout.specs.Geometry.{Fits};
 ghost use Rattle.vol_layout.specs.Names.{IsFile};
-ghost use Rattle.vol_free.specs.Stack.{HasStack};
 ghost use Rattle.vol_file.specs.Rules.{HasSoundFiles};
 
 use crate::volumes::{SEVENTH, SIXTH, volume};
 use pdp_words::Image;
-use std::alloc::{AllocError, Global};
+use std::alloc::Global;
 use std::process::Abort;
 use vol_file::{need, write};
-use vol_free::{free_count, give};
+use vol_free::free_count;
 use vol_layout::i_list::{address, mode, size};
-use vol_layout::{Edition, Geometry, Mode, Super, put_mode};
+use vol_layout::{Geometry, Super};
 
 mod needing;
 mod truncating;

@@ -9,6 +9,8 @@ mod files;
 #[cfg(test)]
 mod free_list;
 #[cfg(test)]
+mod judging;
+#[cfg(test)]
 mod layout;
 #[cfg(test)]
 mod nodes;

@@ -3,7 +3,7 @@ use Rattle.vol_layout.specs.Geometry.{Fits}
 use Rattle.vol_layout.specs.Names.{IsFile}
 use Rattle.vol_file.specs.Rules.{size_of, HasSoundFiles}
 use Rattle.vol_dir.specs.Editing.{HasNamesOnce}
-use Rattle.vol_dir.specs.declared.volumes.TheConstants.{SIXTH}
+use Rattle.layer_tests.specs.declared.volumes.TheConstants.{SIXTH}
 use Rattle.layer_tests.proofs.directories.adding.entries_come_and_go.Given as goal
 
 -- the root is a directory of whole entries, with each name once

@@ -1,18 +1,21 @@
 // Volumes by hand that keep the rules on directories, or break one of them.
 ghost use Rattle.std.specs.Prelude.{◌≡◌, length};
 
-use crate::judge;
 use pdp_words::Image;
 use pdp_words::words::{put_bytes, put_word};
 use std::alloc::Global;
 use std::process::Abort;
+use vol_judge::judge;
 use vol_layout::Edition;
 
+mod places;
+mod rules;
+
 /// Bytes that stand at a place.
-pub type Piece = (usize, &'static [u8]);
+pub(crate) type Piece = (usize, &'static [u8]);
 
 /// A word that stands at a place.
-pub type Word = (usize, u16);
+pub(crate) type Word = (usize, u16);
 
 /// Twenty blocks of the sixth edition, two of them the i-list: the root with `sub`, a directory, and with
 /// `file` and `link`, two names of one regular file.

@@ -1,37 +1,20 @@
 // Worked values: what the places of small volumes name, written into them word by word.
 ghost use Rattle.std.specs.Prelude.{◌≡◌, length};
-ghost use Rattle.vol_layout.specs.Geometry.{Fits};
 
-use super::{Places, mark_places};
-use crate::tests::{Word, put_words, with_pieces};
-use pdp_words::{BLOCK, Image};
+use crate::judging::{Word, judged, put_words, with_pieces};
+use pdp_words::BLOCK;
 use std::alloc::Global;
 use std::process::Abort;
-use vol_layout::{Edition, Geometry};
+use vol_layout::Edition;
 
-/// A sixth edition volume of 12 blocks, with i-nodes 1 to 32.
-const SIXTH: Geometry = Geometry {
-    edition: Edition::V6,
-    zone_start: 4,
-    zone_end: 12,
-    last_inode: 32,
-};
+/// The sizes of a sixth edition volume of 12 blocks, with i-nodes 1 to 32 and its data from block 4 on.
+static SIXTH: [Word; 2] = [(512, 2), (514, 12)];
 
-/// A seventh edition volume of 12 blocks, with i-nodes 1 to 16.
-const SEVENTH: Geometry = Geometry {
-    edition: Edition::V7,
-    zone_start: 4,
-    zone_end: 12,
-    last_inode: 16,
-};
+/// The sizes of a seventh edition volume of 12 blocks, with i-nodes 1 to 16 and its data from block 4 on.
+static SEVENTH: [Word; 2] = [(512, 4), (516, 12)];
 
-/// A seventh edition volume of 1010 blocks, with i-nodes 1 to 8000.
-const WIDE: Geometry = Geometry {
-    edition: Edition::V7,
-    zone_start: 1002,
-    zone_end: 1010,
-    last_inode: 8000,
-};
+/// The sizes of a seventh edition volume of 1010 blocks, with i-nodes 1 to 8000 and its data from block 1002 on.
+static WIDE: [Word; 2] = [(512, 1002), (516, 1010)];
 
 /// Where i-nodes 1, 2 and 32 of the sixth edition begin.
 const FIRST: usize = 1024;
@@ -43,10 +26,23 @@ const LAST: usize = 2016;
 /// Where i-node 2 of the seventh edition begins.
 const ROOT: usize = 1088;
 
+/// A root without entries, and a free list of all data blocks.
+static NO_PLACES: [Word; 10] = [
+    (FIRST, 0o140755),
+    (516, 9),
+    (520, 4),
+    (522, 5),
+    (524, 6),
+    (526, 7),
+    (528, 8),
+    (530, 9),
+    (532, 10),
+    (534, 11),
+];
+
 #[test]
 fn no_file_names_nothing(rt: HostRuntime) {
-    let marks = check_sixth(&rt, rt.alloc(), &[], Places::Once);
-    assert_eq!(rt; marks.as_slice(), b"\0\0\0\0\0\0\0\0\0\0\0\0".as_slice());
+    check_sixth(&rt, rt.alloc(), &NO_PLACES, true, 10);
 }
 
 static ALL_PLACES: [Word; 11] = [
@@ -66,13 +62,21 @@ static ALL_PLACES: [Word; 11] = [
     (SECOND + 8, 0x0203),
 ];
 
+/// The free lists of that volume, and the least rule that is broken with each: blocks 10 and 11 are free, or
+/// one of them is lost, or block 9 is free too.
+static FREE_LISTS: [([Word; 4], u8); 3] = [
+    ([(516, 3), (520, 10), (522, 11), (524, 0)], 10),
+    ([(516, 2), (520, 10), (522, 0), (524, 0)], 8),
+    ([(516, 4), (520, 10), (522, 11), (524, 9)], 7),
+];
+
 #[test]
 fn each_block_is_marked_where_it_is_named(rt: HostRuntime) {
-    let marks = check_sixth(&rt, rt.alloc(), &ALL_PLACES, Places::Once);
-    assert_eq!(rt;
-        marks.as_slice(),
-        b"\0\0\0\0\x01\x01\x01\x01\x01\x01\0\0".as_slice()
-    );
+    for (free, rule) in &FREE_LISTS {
+        let mut bytes = volume(&rt, rt.alloc(), 12, &SIXTH, &ALL_PLACES);
+        put_words(&mut bytes, free);
+        check_judged(&rt, rt.alloc(), Edition::V6, bytes, true, *rule);
+    }
 }
 
 static TWO_FILES: [Word; 4] = [
@@ -84,14 +88,14 @@ static TWO_FILES: [Word; 4] = [
 
 #[test]
 fn two_files_name_one_block(rt: HostRuntime) {
-    check_sixth(&rt, rt.alloc(), &TWO_FILES, Places::Twice);
+    check_sixth(&rt, rt.alloc(), &TWO_FILES, false, 7);
 }
 
 static ITSELF: [Word; 3] = [(FIRST, 0o150755), (FIRST + 8, 4), (BLOCK * 4, 4)];
 
 #[test]
 fn a_pointer_block_names_itself(rt: HostRuntime) {
-    check_sixth(&rt, rt.alloc(), &ITSELF, Places::Twice);
+    check_sixth(&rt, rt.alloc(), &ITSELF, false, 7);
 }
 
 static RING: [Word; 4] = [
@@ -104,7 +108,7 @@ static RING: [Word; 4] = [
 
 #[test]
 fn pointer_blocks_name_one_another_in_a_ring(rt: HostRuntime) {
-    check_seventh(&rt, rt.alloc(), &RING, Places::Twice);
+    check_seventh(&rt, rt.alloc(), &RING, 7);
 }
 
 static OUTSIDE: [Word; 5] = [
@@ -121,13 +125,13 @@ fn numbers_outside_the_data_zone(rt: HostRuntime) {
     check_outside(&rt, rt.alloc(), 3);
     check_outside(&rt, rt.alloc(), 12);
     check_outside(&rt, rt.alloc(), 0xFFFF);
-    check_seventh(&rt, rt.alloc(), &OUTSIDE, Places::OutOfZone);
+    check_seventh(&rt, rt.alloc(), &OUTSIDE, 5);
 }
 
 /// An address of the root of the sixth edition is no data block's.
 fn check_outside(rt: &impl Abort, alloc: Global, number: u16) {
     let words = [(FIRST, 0o140755), (FIRST + 22, number)];
-    check_sixth(rt, alloc, &words, Places::OutOfZone);
+    check_sixth(rt, alloc, &words, false, 5);
 }
 
 static IN_MORE_LEVELS: [Word; 5] = [
@@ -141,46 +145,47 @@ static IN_MORE_LEVELS: [Word; 5] = [
 
 #[test]
 fn a_block_is_followed_in_more_levels_the_second_time(rt: HostRuntime) {
-    check_sixth(&rt, rt.alloc(), &IN_MORE_LEVELS, Places::OutOfZone);
+    check_sixth(&rt, rt.alloc(), &IN_MORE_LEVELS, false, 5);
 }
 
 #[test]
 fn many_ways_to_a_pointer_block_cost_no_more_than_one_for_each_level(rt: HostRuntime) {
-    let mut bytes = with_pieces(&rt, rt.alloc(), BLOCK * 1010, &[]);
+    let mut bytes = volume(&rt, rt.alloc(), 1010, &WIDE, &[]);
     put_many_ways(&mut bytes);
-    check_places(&rt, rt.alloc(), &WIDE, bytes, Places::Twice);
+    put_words(&mut bytes, &[(ROOT, 0o040755)]);
+    check_judged(&rt, rt.alloc(), Edition::V7, bytes, false, 7);
 }
 
-/// What the places of a sixth edition volume name that has some words, each at its byte, and else
-/// zeros. Answers the marks.
-fn check_sixth(rt: &impl Abort, alloc: Global, words: &[Word], wanted: Places) -> Vec<u8> {
-    let mut bytes = with_pieces(rt, alloc, BLOCK * 12, &[]);
+/// The least rule that is broken by a sixth edition volume with these words.
+fn check_sixth(rt: &impl Abort, alloc: Global, words: &[Word], free: bool, rule: u8) {
+    let bytes = volume(rt, alloc, 12, &SIXTH, words);
+    check_judged(rt, alloc, Edition::V6, bytes, free, rule);
+}
+
+/// The same of a seventh edition volume, where the free list isn't asked.
+fn check_seventh(rt: &impl Abort, alloc: Global, words: &[Word], rule: u8) {
+    let bytes = volume(rt, alloc, 12, &SEVENTH, words);
+    check_judged(rt, alloc, Edition::V7, bytes, false, rule);
+}
+
+/// So many blocks, with these sizes and words, each at its byte, and else zeros.
+fn volume(rt: &impl Abort, alloc: Global, blocks: u16, sizes: &[Word], words: &[Word]) -> Vec<u8> {
+    let mut bytes = with_pieces(rt, alloc, BLOCK * usize::from(blocks), &[]);
+    put_words(&mut bytes, sizes);
     put_words(&mut bytes, words);
-    check_places(rt, alloc, &SIXTH, bytes, wanted)
+    bytes
 }
 
-/// The same of a seventh edition volume.
-fn check_seventh(rt: &impl Abort, alloc: Global, words: &[Word], wanted: Places) {
-    let mut bytes = with_pieces(rt, alloc, BLOCK * 12, &[]);
-    put_words(&mut bytes, words);
-    check_places(rt, alloc, &SEVENTH, bytes, wanted);
-}
-
-/// What the places of a volume name. Answers the marks, which are 7 at first.
-fn check_places(
+/// The least rule that a volume breaks.
+fn check_judged(
     rt: &impl Abort,
     alloc: Global,
-    geometry: &Geometry,
+    edition: Edition,
     bytes: Vec<u8>,
-    wanted: Places,
-) -> Vec<u8>
-    requires { Fits geometry.now bytes.items }
-{
-    let image = Image::from_bytes(bytes);
-    let marks = vec![in alloc; 7; geometry.zone_end as usize];
-    let mut marks = marks.expect(rt, "memory for the marks");
-    assert_eq!(rt; mark_places(&image, geometry, &mut marks), wanted);
-    marks
+    free: bool,
+    rule: u8,
+) {
+    assert_eq!(rt; judged(rt, alloc, edition, bytes, free), Some(rule));
 }
 
 /// Lets 8000 files each name a triply indirect block whose entries, and theirs, all name one block:

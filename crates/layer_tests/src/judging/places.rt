@@ -62,21 +62,25 @@ static ALL_PLACES: [Word; 11] = [
     (SECOND + 8, 0x0203),
 ];
 
-/// The free lists of that volume, and the least rule that is broken with each: blocks 10 and 11 are free, or
-/// one of them is lost, or block 9 is free too.
-static FREE_LISTS: [([Word; 4], u8); 3] = [
-    ([(516, 3), (520, 10), (522, 11), (524, 0)], 10),
-    ([(516, 2), (520, 10), (522, 0), (524, 0)], 8),
-    ([(516, 4), (520, 10), (522, 11), (524, 9)], 7),
-];
+/// Free lists of that volume: blocks 10 and 11, the first of them alone, and block 9 too.
+static BOTH_FREE: [Word; 3] = [(516, 3), (520, 10), (522, 11)];
+
+static ONE_FREE: [Word; 2] = [(516, 2), (520, 10)];
+
+static NAMED_FREE: [Word; 4] = [(516, 4), (520, 10), (522, 11), (524, 9)];
 
 #[test]
 fn each_block_is_marked_where_it_is_named(rt: HostRuntime) {
-    for (free, rule) in &FREE_LISTS {
-        let mut bytes = volume(&rt, rt.alloc(), 12, &SIXTH, &ALL_PLACES);
-        put_words(&mut bytes, free);
-        check_judged(&rt, rt.alloc(), Edition::V6, bytes, true, *rule);
-    }
+    check_free(&rt, rt.alloc(), &BOTH_FREE, 10);
+    check_free(&rt, rt.alloc(), &ONE_FREE, 8);
+    check_free(&rt, rt.alloc(), &NAMED_FREE, 7);
+}
+
+/// The least rule that the volume with all places breaks with this free list.
+fn check_free(rt: &impl Abort, alloc: Global, free: &[Word], rule: u8) {
+    let mut bytes = volume(rt, alloc, 12, &SIXTH, &ALL_PLACES);
+    put_words(&mut bytes, free);
+    check_judged(rt, alloc, Edition::V6, bytes, true, rule);
 }
 
 static TWO_FILES: [Word; 4] = [

@@ -17,6 +17,3 @@ pub use image::{BLOCK, Image};
 pub use into_write::IntoWrite;
 pub use loading::{LoadFault, load, load_with_capacity};
 pub use saving::{SaveFault, save, write_all};
-
-#[cfg(test)]
-mod tests;

@@ -62,6 +62,3 @@ pub fn add(image: &mut Image, geometry: &Geometry, dir: u16, name: &[u8], i: u16
     let at = place_for(image, geometry, dir);
     write(image, geometry, dir, at, &slot_bytes(name, i));
 }
-
-#[cfg(test)]
-mod tests;

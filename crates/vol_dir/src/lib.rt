@@ -21,6 +21,3 @@ pub use refusal::Refusal;
 pub use removing::remove;
 pub use scanning::next_entry;
 pub use walking::{walk, walk_parent};
-
-#[cfg(test)]
-mod volumes;

@@ -51,6 +51,3 @@ fn first_slash(path: &[u8]) -> usize
     }
     path.len()
 }
-
-#[cfg(test)]
-mod tests;

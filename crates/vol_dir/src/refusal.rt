@@ -76,6 +76,3 @@ impl Refusal {
         }
     }
 }
-
-#[cfg(test)]
-mod tests;

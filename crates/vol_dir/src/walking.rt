@@ -143,6 +143,3 @@ fn kind(image: &Image, geometry: &Geometry, i: u16) -> Kind
 {
     mode(image, geometry, i).kind(geometry.edition)
 }
-
-#[cfg(test)]
-mod tests;

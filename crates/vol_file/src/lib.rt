@@ -15,6 +15,3 @@ pub use needing::need;
 pub use reading::read;
 pub use truncating::truncate;
 pub use writing::write;
-
-#[cfg(test)]
-mod fixtures;

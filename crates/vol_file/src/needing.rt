@@ -254,6 +254,3 @@ fn absent_with(named: bool, counts: bool, above: u32) -> u32
 {
     absent(named) + if counts { above } else { 0 }
 }
-
-#[cfg(test)]
-mod tests;

@@ -91,6 +91,3 @@ fn drop_address(image: &mut Image, geometry: &Geometry, i: u16, k: usize, b: u32
     put_address(image, geometry, i, k, 0);
     give(image, geometry, b);
 }
-
-#[cfg(test)]
-mod tests;

@@ -106,6 +106,3 @@ pub fn write(image: &mut Image, geometry: &Geometry, i: u16, offset: u32, text: 
     name_blocks(image, geometry, i, offset / 512, (end - 1) / 512 + 1);
     put_in_blocks(image, geometry, i, offset, text);
 }
-
-#[cfg(test)]
-mod tests;

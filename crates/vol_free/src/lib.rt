@@ -6,6 +6,3 @@ pub mod i_numbers;
 
 pub use free_list::{free_count, give, take};
 pub use i_numbers::{any_inode, give_inode, take_inode};
-
-#[cfg(test)]
-mod tests;

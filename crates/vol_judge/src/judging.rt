@@ -121,6 +121,3 @@ fn judge_marks(
     }
     None
 }
-
-#[cfg(test)]
-mod tests;

@@ -12,6 +12,3 @@ mod marking;
 mod reading;
 
 pub use judging::judge;
-
-#[cfg(test)]
-mod tests;

@@ -183,6 +183,3 @@ fn mark_from(image: &Image, geometry: &Geometry, b: u32, level: u8, marks: &mut 
     }
     true
 }
-
-#[cfg(test)]
-mod tests;

@@ -24,6 +24,3 @@ pub use numbers::{number, put_number};
 pub use places::Form;
 pub use slot::Slot;
 pub use super_block::{Flag, Super};
-
-#[cfg(test)]
-mod tests;

@@ -73,6 +73,3 @@ pub fn remove_name(image: &mut Image, geometry: &Geometry, dir: u16, name: &[u8]
 {
     remove(image, geometry, dir, name);
 }
-
-#[cfg(test)]
-mod tests;

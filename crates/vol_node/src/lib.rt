@@ -16,6 +16,3 @@ pub use freeing::free_node;
 pub use links::{add_link, drop_link, put_links};
 pub use making::{make_directory, make_file, take_number};
 pub use times::{put_time, touch};
-
-#[cfg(test)]
-mod tests;

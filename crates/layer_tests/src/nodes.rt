@@ -1,0 +1,161 @@
+// A small volume by hand, on which each change of a node is made once.
+ghost use Rattle.std.specs.Prelude.{IfOk, IfSome};
+ghost use Rattle.vol_node.specs.Whole.{IsWhole};
+
+use pdp_words::Image;
+use std::alloc::{AllocError, Global};
+use std::process::Abort;
+use vol_dir::Cred;
+use vol_judge::judge;
+use vol_layout::i_list::{inode, mode};
+use vol_layout::{Edition, Geometry, Kind};
+use vol_node::{
+    add_link, block_count, drop_link, free_node, make_directory, make_file, put_links, put_time,
+    take_number, touch,
+};
+
+mod entries;
+
+/// Bytes that stand at a place.
+pub(crate) type Piece = (usize, &'static [u8]);
+
+/// Twenty blocks of the sixth edition, two of them the i-list: the root with `sub`, a directory, and with
+/// `file` and `link`, two names of one regular file. The blocks from 6 on are free.
+static VOLUME: [Piece; 13] = [
+    (512, b"\x02\x00\x14\x00\x0F\x00\x00\x00"),
+    (
+        520,
+        b"\x13\x00\x12\x00\x11\x00\x10\x00\x0F\x00\x0E\x00\x0D\x00",
+    ),
+    (
+        534,
+        b"\x0C\x00\x0B\x00\x0A\x00\x09\x00\x08\x00\x07\x00\x06\x00",
+    ),
+    (1024, b"\xFF\xC1\x03\x00\x00\x00\x50\x00\x04\x00"),
+    (1056, b"\xED\xC1\x02\x00\x00\x00\x20\x00\x05\x00"),
+    (1088, b"\xA4\x81\x02"),
+    (2048, b"\x01\x00."),
+    (2064, b"\x01\x00.."),
+    (2080, b"\x02\x00sub"),
+    (2096, b"\x03\x00file"),
+    (2112, b"\x03\x00link"),
+    (2560, b"\x02\x00."),
+    (2576, b"\x01\x00.."),
+];
+
+/// The volume, which is sound, and its sizes.
+fn volume(rt: &impl Abort, alloc: Global) -> (Geometry, Image)
+    ensures { IsWhole result.0 result.1 }
+{
+    let found = whole(alloc, filled(rt, alloc, 10_240, &VOLUME));
+    let volume = found.expect(rt, "memory for the check");
+    volume.expect(rt, "a sound volume")
+}
+
+/// An image of so many zeros, in which pieces are put.
+pub(crate) fn filled(rt: &impl Abort, alloc: Global, len: usize, pieces: &[Piece]) -> Image {
+    let mut bytes = vec![in alloc; 0; len].expect(rt, "memory for the volume");
+    for (at, piece) in pieces {
+        for (byte, new) in bytes.iter_mut().skip(*at).zip(*piece) {
+            *byte = *new;
+        }
+    }
+    Image::from_bytes(bytes)
+}
+
+/// The image, and its sizes, if all rules hold.
+#[tactic(auto, using(vol_node::proofs::WholeLaws::whole_read))]
+fn whole(alloc: Global, image: Image) -> Result<Option<(Geometry, Image)>, AllocError>
+    ensures { IfOk result (λ found. IfSome found (λ volume. IsWhole volume.0 volume.1)) }
+{
+    let least = judge(alloc, Edition::V6, &image, true)?;
+    match Geometry::read(Edition::V6, &image) {
+        Ok(geometry) if least.is_none() => Ok(Some((geometry, image))),
+        _ => Ok(None),
+    }
+}
+
+/// Changes times and links of nodes 2 and 3, where there are such.
+fn change_two(image: &mut Image, geometry: &Geometry)
+    requires { IsWhole geometry.now image.old }
+    ensures { IsWhole geometry.now image.new }
+{
+    put_time(image, geometry, 9);
+    if geometry.last_inode < 3 || mode(image, geometry, 2).kind(geometry.edition) == Kind::Free {
+        return;
+    }
+    touch(image, geometry, 2, 10);
+    put_links(image, geometry, 3, 5, 11);
+    if inode(image, geometry, 3).links < geometry.edition.constants().link_limit {
+        add_link(image, geometry, 3, 12);
+    }
+}
+
+/// Takes a link from node 3, where there is one.
+fn change_back(image: &mut Image, geometry: &Geometry)
+    requires { IsWhole geometry.now image.old }
+    ensures { IsWhole geometry.now image.new }
+{
+    if geometry.last_inode >= 3
+        && mode(image, geometry, 3).kind(geometry.edition) != Kind::Free
+        && inode(image, geometry, 3).links >= 1
+    {
+        drop_link(image, geometry, 3, 12);
+    }
+}
+
+#[test]
+fn times_and_links_are_put(rt: HostRuntime) {
+    let (geometry, mut image) = volume(&rt, rt.alloc());
+    change_two(&mut image, &geometry);
+    assert_eq!(rt; image.long(924), 9);
+    assert_eq!(rt; image.long(1084), 10);
+    assert_eq!(rt; image.byte(1090), 6);
+    change_back(&mut image, &geometry);
+    assert_eq!(rt; image.byte(1090), 5);
+}
+
+#[test]
+fn blocks_are_counted(rt: HostRuntime) {
+    let (geometry, image) = volume(&rt, rt.alloc());
+    assert!(rt; 3 <= geometry.last_inode);
+    assert_eq!(rt; block_count(&image, &geometry, 1), 1);
+    assert_eq!(rt; block_count(&image, &geometry, 3), 0);
+}
+
+/// Makes a file and a directory, and frees the file; answers their i-numbers.
+fn make_two(image: &mut Image, geometry: &Geometry) -> Option<(u16, u16)>
+    requires { IsWhole geometry.now image.old }
+{
+    let owner = Cred { uid: 3, gid: 4 };
+    let file = take_number(image, geometry)?;
+    make_file(image, geometry, file, owner, 0o644, 13);
+    let directory = take_number(image, geometry)?;
+    make_directory(image, geometry, directory, owner, 0o755, 14);
+    free_node(image, geometry, file);
+    Some((file, directory))
+}
+
+/// Compares the bytes from a place on.
+pub(crate) fn check_at(rt: &impl Abort, image: &Image, at: usize, wanted: &[u8]) {
+    let found = image.as_bytes().get(at..at.saturating_add(wanted.len()));
+    assert_eq!(rt; found, Some(wanted));
+}
+
+/// Compares the word at a place.
+fn check_word(rt: &impl Abort, image: &Image, at: usize, wanted: u16) {
+    assert!(rt; at.saturating_add(1) < image.len());
+    assert_eq!(rt; image.word(at), wanted);
+}
+
+#[test]
+fn nodes_are_made_and_freed(rt: HostRuntime) {
+    let (geometry, mut image) = volume(&rt, rt.alloc());
+    assert_eq!(rt; make_two(&mut image, &geometry), Some((32, 31)));
+    assert_eq!(rt; image.len(), 10_240);
+    // The i-number 32 lies in the cache again, behind the 27 that are left of its filling.
+    check_word(&rt, &image, 718, 28);
+    check_word(&rt, &image, 720 + 2 * 27, 32);
+    check_at(&rt, &image, 1024 + 32 * 31, &[0; 32]);
+    check_at(&rt, &image, 1984, b"\xED\xC1\x02\x03\x04\x00\x00\x00");
+}

@@ -1,0 +1,175 @@
+// A volume of the sixth edition by hand, in which a file is written and emptied, and names come and go.
+ghost use Rattle.std.specs.Prelude.{◌≡◌, ◌%◌, ◌≤◌, IfOk, IfSome, IsTrue};
+ghost use Rattle.vol_layout.specs.Geometry.{Fits};
+ghost use Rattle.vol_file.specs.Rules.{kind_at};
+ghost use Rattle.vol_layout.specs.declared.mode.Kind.TheVariants as kinds;
+ghost use Rattle.vol_dir.specs.Editing.{HasNamesOnce};
+ghost use Rattle.vol_dir.specs.Entries.{HasEntries};
+ghost use Rattle.vol_node.specs.Whole.{IsWhole};
+
+use crate::nodes::{Piece, check_at, filled};
+use pdp_words::Image;
+use std::alloc::{AllocError, Global};
+use std::process::Abort;
+use vol_dir::{find, place_for};
+use vol_file::need;
+use vol_free::free_count;
+use vol_judge::judge;
+use vol_layout::i_list::{mode, size};
+use vol_layout::{Edition, Geometry, Kind};
+use vol_node::{add_name, empty_file, remove_name, write_bytes};
+
+/// Twelve blocks: i-numbers 1 to 16, the root's entries in block 3, an empty file with the name `file`,
+/// and blocks 4 to 11 free.
+static VOLUME: [Piece; 6] = [
+    (
+        512,
+        b"\x01\0\x0C\0\x09\0\0\0\x0B\0\x0A\0\x09\0\x08\0\x07\0\x06\0\x05\0\x04\0",
+    ),
+    (1024, b"\xED\xC1\x02\0\0\0\x30\0\x03\0"),
+    (1056, b"\xA4\x81\x01"),
+    (1536, b"\x01\0."),
+    (1552, b"\x01\0.."),
+    (1568, b"\x02\0file"),
+];
+
+/// The geometry of a volume of the sixth edition, if the volume is sound.
+fn sound_geometry(alloc: Global, image: &Image) -> Result<Option<Geometry>, AllocError>
+    ensures whole { IfOk result (λ found. IfSome found (λ geometry. IsWhole geometry image.now)) }
+    ensures entries { IfOk result (λ found. IfSome found (λ geometry. HasEntries geometry image.now)) }
+{
+    match Geometry::read(Edition::V6, image) {
+        Ok(geometry) => match judge(alloc, Edition::V6, image, true)? {
+            None => Ok(Some(geometry)),
+            Some(_) => Ok(None),
+        },
+        Err(_) => Ok(None),
+    }
+}
+
+/// Whether `i` is an i-number of the volume, of an i-node of some kind.
+fn is_kind(image: &Image, geometry: &Geometry, i: u16, kind: Kind) -> bool
+    requires { Fits geometry.now image.now }
+    ensures first { IsTrue result → 1 ≤ i }
+    ensures last { IsTrue result → i ≤ geometry.now.last_inode }
+    ensures kind { IsTrue result → kind_at geometry.now image.now i ≡ kind }
+{
+    1 <= i && i <= geometry.last_inode && mode(image, geometry, i).kind(geometry.edition) == kind
+}
+
+/// The names of a directory of a sound volume come once.
+#[tactic(auto, using(vol_node::proofs::EntryStates::names_once))]
+fn begin(image: &Image, geometry: &Geometry, dir: u16)
+    requires entries { HasEntries geometry.now image.now }
+    requires first { 1 ≤ dir }
+    requires last { dir ≤ geometry.now.last_inode }
+    requires kind { kind_at geometry.now image.now dir ≡ kinds.Directory }
+    ensures { HasNamesOnce geometry.now image.now dir }
+{}
+
+/// Writes a short text near the front of a file, if there are blocks enough; answers whether it did.
+fn put(image: &mut Image, geometry: &Geometry, i: u16, offset: u16, text: &[u8]) -> bool
+    requires whole { IsWhole geometry.now image.old }
+    ensures { IsWhole geometry.now image.new }
+{
+    if !is_kind(image, geometry, i, Kind::Regular) || 512 < text.len() {
+        return false;
+    }
+    let (offset, len) = (u32::from(offset), text.len() as u32);
+    if geometry.edition.constants().greatest < offset + len
+        || free_count(image, geometry) < need(image, geometry, i, offset, len)
+    {
+        return false;
+    }
+    write_bytes(image, geometry, i, offset, text);
+    true
+}
+
+/// Empties a file, if it is one; answers whether it did.
+fn empty(image: &mut Image, geometry: &Geometry, i: u16) -> bool
+    requires { IsWhole geometry.now image.old }
+    ensures { IsWhole geometry.now image.new }
+{
+    if !is_kind(image, geometry, i, Kind::Regular) {
+        return false;
+    }
+    empty_file(image, geometry, i);
+    true
+}
+
+/// Adds an entry, if that may be done; answers whether it did.
+fn enter(image: &mut Image, geometry: &Geometry, dir: u16, name: &[u8], i: u16) -> bool
+    requires whole { IsWhole geometry.now image.old }
+    requires once { HasNamesOnce geometry.now image.old dir }
+    ensures whole { IsWhole geometry.now image.new }
+    ensures once { HasNamesOnce geometry.now image.new dir }
+{
+    if !is_kind(image, geometry, dir, Kind::Directory) || 14 < name.len() || name.contains(&0) {
+        return false;
+    }
+    if i == 0
+        || size(image, geometry, dir) % 16 != 0
+        || find(image, geometry, dir, name).is_some()
+    {
+        return false;
+    }
+    let at = place_for(image, geometry, dir);
+    if geometry.edition.constants().greatest - 16 < at
+        || free_count(image, geometry) < need(image, geometry, dir, at, 16)
+    {
+        return false;
+    }
+    add_name(image, geometry, dir, name, i);
+    true
+}
+
+/// Removes an entry, if it is there; answers whether it did.
+fn take_out(image: &mut Image, geometry: &Geometry, dir: u16, name: &[u8]) -> bool
+    requires whole { IsWhole geometry.now image.old }
+    requires once { HasNamesOnce geometry.now image.old dir }
+    ensures whole { IsWhole geometry.now image.new }
+    ensures once { HasNamesOnce geometry.now image.new dir }
+{
+    if !is_kind(image, geometry, dir, Kind::Directory) || size(image, geometry, dir) % 16 != 0 {
+        return false;
+    }
+    let Some(_) = find(image, geometry, dir, name) else {
+        return false;
+    };
+    remove_name(image, geometry, dir, name);
+    true
+}
+
+#[test]
+fn a_file_is_written_and_emptied(rt: HostRuntime) {
+    let mut image = filled(&rt, rt.alloc(), 6144, &VOLUME);
+    let found = sound_geometry(rt.alloc(), &image).expect(&rt, "memory for the check");
+    let geometry = found.expect(&rt, "a sound volume");
+    assert!(rt; put(&mut image, &geometry, 2, 510, b"abc"));
+    check_at(&rt, &image, 1056, b"\xA4\x81\x01\0\0\0\x01\x02\x04\0\x05\0");
+    check_at(&rt, &image, 2558, b"abc");
+    assert_eq!(rt; free_count(&image, &geometry), 6);
+    assert!(rt; put(&mut image, &geometry, 2, 0, b""));
+    assert_eq!(rt; free_count(&image, &geometry), 6);
+    assert!(rt; empty(&mut image, &geometry, 2));
+    check_at(&rt, &image, 1056, b"\xA4\x81\x01\0\0\0\0\0\0\0\0\0");
+    assert_eq!(rt; free_count(&image, &geometry), 8);
+}
+
+#[test]
+fn names_come_and_go(rt: HostRuntime) {
+    let mut image = filled(&rt, rt.alloc(), 6144, &VOLUME);
+    let found = sound_geometry(rt.alloc(), &image).expect(&rt, "memory for the check");
+    let geometry = found.expect(&rt, "a sound volume");
+    assert!(rt; is_kind(&image, &geometry, 1, Kind::Directory));
+    begin(&image, &geometry, 1);
+    assert!(rt; enter(&mut image, &geometry, 1, b"link", 2));
+    check_at(&rt, &image, 1584, b"\x02\0link\0\0");
+    check_at(&rt, &image, 1024, b"\xED\xC1\x02\0\0\0\x40\0\x03\0");
+    assert!(rt; take_out(&mut image, &geometry, 1, b"file"));
+    check_at(&rt, &image, 1568, b"\0\0file");
+    assert!(rt; enter(&mut image, &geometry, 1, b"new", 2));
+    check_at(&rt, &image, 1568, b"\x02\0new\0");
+    assert!(rt; 1031 < image.len());
+    assert_eq!(rt; image.word(1030), 64);
+}

@@ -548,12 +548,8 @@ for numbers in '6 1 32 31' '7 2 16 15'; do
     lists "$tree" / "${dots[@]}"
     has 'the permissions of a volume that was changed' 640 "$(stat -c %a "$tree")"
     has 'the size of a volume that was changed' 51200 "$(wc -c < "$tree")"
-    # All blocks but the root's are free again: a file takes them, down to the last.
-    case $edition in
-        6) blocks=94 ;; # of 95, one names the others
-        7) blocks=94 ;;
-    esac
-    body all $((blocks * 512))
+    # The 95 blocks but the root's are free again: a file takes them all, one of them to name the others.
+    body all $((94 * 512))
     prints none put "$edition" "$tree" /all all 1011
     prints all get "$edition" "$tree" /all
     refuses 1 'unixvol: 28 NoSpace' put "$edition" "$tree" /more hello 1012

@@ -1,4 +1,1 @@
-pub mod Listings
 pub mod MadeVolumes
-pub mod Reading
-pub mod Words

@@ -14,9 +14,9 @@ use Rattle.vol_layout.specs.declared.edition.Edition.{Edition}
 use Rattle.vol_commands.specs.declared.answer.Answer.{Answer}
 use Rattle.vol_commands.specs.declared.cat.CatFault.{CatFault}
 use Rattle.vol_commands.specs.declared.cat.CatFault.TheVariants.{Writer}
-use Rattle.unixvol.specs.CommandLine.{IsRead, IsRefused}
-use Rattle.unixvol.specs.declared.command_line.Invocation.{Invocation}
-use Rattle.unixvol.specs.declared.command_line.Invocation.TheVariants as invocations
+use Rattle.command_line.specs.CommandLine.{IsRead, IsRefused}
+use Rattle.command_line.specs.declared.Invocation.{Invocation}
+use Rattle.command_line.specs.declared.Invocation.TheVariants as invocations
 use Rattle.vol_commands.specs.declared.jobs.Job.{Job}
 use Rattle.vol_commands.specs.declared.making.Made.{Made}
 use Rattle.vol_commands.specs.declared.making.NewVolume.{NewVolume}

@@ -11,9 +11,9 @@ ghost use Rattle.vol_commands.specs.declared.cat.CatFault.TheVariants as faults;
 ghost use Rattle.unixvol.specs.Running.{IsStatusOfFileOrMemory, EndsSaved, MadeSaved, PrintsBody, RunsJob, Runs, RunsWords, Ends};
 ghost use Rattle.unixvol.specs.Saving.{IsTaken, Saves};
 
-use crate::command_line::{self, Invocation, VolumeFile};
 use crate::saving_file::{Content, save_file};
 use clap::error::ErrorKind;
+use command_line::{Invocation, VolumeFile};
 use pdp_words::{FromRead, LoadFault, Sink, load, write_all};
 use std::env::{self, Env};
 use std::fs::{self, Files};

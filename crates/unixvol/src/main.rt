@@ -1,10 +1,7 @@
 //! Reads, checks, makes and changes disk images of Sixth and Seventh Edition Unix.
 #![tactic(auto)]
 
-mod command_line;
 mod commands;
-mod decimal;
-mod laws;
 mod saving_file;
 
 use pdp_words::IntoWrite;

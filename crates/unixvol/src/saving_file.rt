@@ -1,5 +1,5 @@
 //! Saving an image in a file, so that a failure leaves the file that was there.
-ghost use Rattle.std.specs.Prelude.{IfOk, OnOk};
+ghost use Rattle.std.specs.Prelude.{◌≡◌, true, IfOk, OnErr, OnOk};
 ghost use Rattle.std.specs.Path.{path_bytes, path_buf_bytes};
 ghost use Rattle.unixvol.specs.Saving.{IsBeside, Grows, Saves};
 
@@ -31,7 +31,8 @@ pub enum Content<'a> {
 impl Content<'_> {
     /// Writes all bytes of the content, from the first to the last.
     fn write_to<W: Sink>(self, sink: &mut W) -> Result<(), SaveFault>
-        ensures { OnOk result (Grows self.entry (W.contents sink.old) (W.contents sink.new)) }
+        ensures ok { OnOk result (Grows self.entry (W.contents sink.old) (W.contents sink.new)) }
+        ensures fault { OnErr result (W.failed sink.new ≡ true) }
     {
         match self {
             Content::Bytes(bytes) => write_all(sink, bytes),

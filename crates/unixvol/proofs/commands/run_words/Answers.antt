@@ -1,6 +1,6 @@
 use Rattle.std.proofs.Common.{inl, inr, subst, IfOk, IfErr, map}
 use Rattle.std.specs.Prelude.{string_bytes}
-use Rattle.unixvol.specs.CommandLine.{IsRead, IsRefused}
+use Rattle.command_line.specs.CommandLine.{IsRead, IsRefused}
 use Rattle.unixvol.proofs.commands.run_words.Goals as goal
 
 pub returns-in-Ok-clause-runs : goal.returns-in-Ok-clause-runs

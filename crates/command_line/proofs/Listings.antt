@@ -1,0 +1,163 @@
+-- What the words of `ls` ask for.
+use Rattle.std.proofs.Common.{◌≡◌, ◌↔◌, ◌==◌, ◌∙◌, ℕ, true≢false, true, false, List, ◌∷◌, [], map, slice_index_or, Option, Some, None, refl, sym, ap, subst, codes}
+use Rattle.std.specs.Borrow.{Bor}
+use Rattle.std.specs.Str.{bytes_eq}
+use Rattle.std.proofs.lemmas.Bool.{ne_eqb}
+use Rattle.clap.proofs.OnLiterals.{clap_on_literals}
+use Rattle.clap.specs.Words.{Row}
+use Rattle.command_line.specs.CommandLine.{Asks, IsEditionNamed, IsGiven, command_name, given_by}
+use Rattle.command_line.specs.Laws.{IsListing, IsPlainWord, ReadsListing}
+use Rattle.command_line.specs.Words.{AreEditions, command_in, command_shape, edition_rule, faults_of, named, program, unixvol_app, with_argument, with_command, word_rule}
+use Rattle.command_line.specs.declared.Invocation.{Invocation}
+use Rattle.command_line.specs.declared.Invocation.TheVariants.{Cat, Mkfs, OnVolume}
+use Rattle.vol_commands.specs.declared.jobs.Job.TheVariants as jobs
+use Rattle.vol_layout.specs.declared.edition.Edition.{Edition}
+use Rattle.vol_layout.specs.declared.edition.Edition.TheVariants.{V6, V7}
+use Rattle.command_line.proofs.Reading.{same}
+
+-- the word of an edition
+abbrev word_of : Edition → List ℕ
+word_of V6 = codes "6"
+word_of V7 = codes "7"
+
+-- the names of the editions, behind these references
+abbrev names_at : ℕ × ℕ → ℕ × ℕ → ℕ × ℕ → Bor (List (Bor (List ℕ)))
+names_at p q r = record { ref_ptr = p; now = record { ref_ptr = q; now = codes "6" } ∷ record { ref_ptr = r; now = codes "7" } ∷ [] }
+
+-- what holds behind any references holds of all names of the editions
+at_names : (P : Bor (List (Bor (List ℕ))) → Type 0) → ((p q r : ℕ × ℕ) → P (names_at p q r)) → (editions : Bor (List (Bor (List ℕ)))) → AreEditions editions → P editions
+at_names P holds editions are = go editions.ref_ptr editions.now are
+  where
+    go : (p : ℕ × ℕ) (names : List (Bor (List ℕ))) → map (λ name. name.now) names ≡ codes "6" ∷ codes "7" ∷ [] → P (record { ref_ptr = p; now = names })
+    go p [] is = absurd (cc)
+    go p (a ∷ []) is = absurd (cc)
+    go p (a ∷ b ∷ []) is =
+        let six : a.now ≡ codes "6" = cc in
+        let seven : b.now ≡ codes "7" = cc in
+        subst (λ (t : List ℕ). P (record { ref_ptr = p; now = record { ref_ptr = a.ref_ptr; now = t } ∷ b ∷ [] })) (sym six)
+        (subst (λ (t : List ℕ). P (record { ref_ptr = p; now = record { ref_ptr = a.ref_ptr; now = codes "6" } ∷ record { ref_ptr = b.ref_ptr; now = t } ∷ [] })) (sym seven)
+        (holds p a.ref_ptr b.ref_ptr))
+    go p (a ∷ b ∷ c ∷ rest) is = absurd (cc)
+
+-- the name of the command that was met, and the words for the arguments of `ls`
+abbrev seen : Option (List ℕ × List Row) → List (List ℕ)
+seen None = []
+seen (Some met) = met.0 ∷ given_by met.1 (codes "EDITION") ∷ given_by met.1 (codes "IMAGE") ∷ given_by met.1 (codes "PATH") ∷ []
+
+-- the command line takes the words of `ls`, and has them for its arguments
+abbrev IsTaken : Bor (List (Bor (List ℕ))) → Edition → List ℕ → List ℕ → List ℕ → Type 0
+IsTaken editions edition program image path =
+    (faults_of (unixvol_app editions) (program ∷ codes "ls" ∷ word_of edition ∷ image ∷ path ∷ []) ≡ [])
+    × (seen (command_in (unixvol_app editions) (program ∷ codes "ls" ∷ word_of edition ∷ image ∷ path ∷ [])) ≡ codes "ls" ∷ word_of edition ∷ image ∷ path ∷ [])
+
+-- it does so of words that begin with no hyphen
+taken : (p q r : ℕ × ℕ) (edition : Edition) (name image path : List ℕ) → IsPlainWord image → IsPlainWord path → IsTaken (names_at p q r) edition name image path
+unfolding clap_on_literals faults_of command_in unixvol_app program with_command command_shape with_argument named word_rule edition_rule
+taken p q r V6 name [] [] image path = (refl, refl)
+taken p q r V6 name (x ∷ xs) [] image path =
+    let e : (x == 45) ≡ false = ne_eqb _ _ image in
+    (rw (e, e) refl, rw (e, e) refl)
+taken p q r V6 name [] (y ∷ ys) image path =
+    let f : (y == 45) ≡ false = ne_eqb _ _ path in
+    (rw (f, f) refl, rw (f, f) refl)
+taken p q r V6 name (x ∷ xs) (y ∷ ys) image path =
+    let e : (x == 45) ≡ false = ne_eqb _ _ image in
+    let f : (y == 45) ≡ false = ne_eqb _ _ path in
+    (rw (e, e, f, f) refl, rw (e, e, f, f) refl)
+taken p q r V7 name [] [] image path = (refl, refl)
+taken p q r V7 name (x ∷ xs) [] image path =
+    let e : (x == 45) ≡ false = ne_eqb _ _ image in
+    (rw (e, e) refl, rw (e, e) refl)
+taken p q r V7 name [] (y ∷ ys) image path =
+    let f : (y == 45) ≡ false = ne_eqb _ _ path in
+    (rw (f, f) refl, rw (f, f) refl)
+taken p q r V7 name (x ∷ xs) (y ∷ ys) image path =
+    let e : (x == 45) ≡ false = ne_eqb _ _ image in
+    let f : (y == 45) ≡ false = ne_eqb _ _ path in
+    (rw (e, e, f, f) refl, rw (e, e, f, f) refl)
+
+-- an edition is the one that its word names
+edition_is : (one other : Edition) → IsEditionNamed one (word_of other) → one ≡ other
+edition_is V6 V6 named = refl
+edition_is V6 V7 named = absurd (true≢false (sym (same _ _ named)))
+edition_is V7 V6 named = absurd (true≢false (sym (same _ _ named)))
+edition_is V7 V7 named = refl
+
+-- and its word is the one that names it
+word_is : (edition : Edition) (word : List ℕ) → IsEditionNamed edition word → word ≡ word_of edition
+word_is V6 word named = named
+word_is V7 word named = named
+
+-- what `ls` asks for, by the words for its arguments
+asks_listing : (given : List ℕ → List ℕ) (edition : Edition) (image path : List ℕ) (invocation : Invocation) → bytes_eq (codes "ls") (command_name invocation) ≡ true
+    → given (codes "EDITION") ≡ word_of edition → given (codes "IMAGE") ≡ image → given (codes "PATH") ≡ path → IsGiven given invocation → IsListing edition image path invocation
+asks_listing given edition image path (Cat volume ino) test e_is i_is p_is is = absurd (true≢false (sym test))
+asks_listing given edition image path (Mkfs i volume) test e_is i_is p_is is = absurd (true≢false (sym test))
+asks_listing given edition image path (OnVolume volume (jobs.Ls directory)) test e_is i_is p_is is =
+    (edition_is volume.edition edition (subst (IsEditionNamed volume.edition) e_is is.0.0), is.0.1 ∙ i_is, is.1 ∙ p_is)
+asks_listing given edition image path (OnVolume volume (jobs.Get p)) test e_is i_is p_is is = absurd (true≢false (sym test))
+asks_listing given edition image path (OnVolume volume (jobs.Put p file now)) test e_is i_is p_is is = absurd (true≢false (sym test))
+asks_listing given edition image path (OnVolume volume (jobs.Rm p now)) test e_is i_is p_is is = absurd (true≢false (sym test))
+asks_listing given edition image path (OnVolume volume (jobs.Rmdir p now)) test e_is i_is p_is is = absurd (true≢false (sym test))
+asks_listing given edition image path (OnVolume volume (jobs.Mkdir p now)) test e_is i_is p_is is = absurd (true≢false (sym test))
+asks_listing given edition image path (OnVolume volume (jobs.Ln from to now)) test e_is i_is p_is is = absurd (true≢false (sym test))
+
+-- and by what was met
+listed : (met : Option (List ℕ × List Row)) (edition : Edition) (image path : List ℕ) (invocation : Invocation) → seen met ≡ codes "ls" ∷ word_of edition ∷ image ∷ path ∷ []
+    → Asks met invocation → IsListing edition image path invocation
+listed None edition image path invocation is asks = absurd asks
+listed (Some met) edition image path invocation is asks =
+    let name : met.0 ≡ codes "ls" = ap (λ (l : List (List ℕ)). slice_index_or l 0 []) is in
+    asks_listing (given_by met.1) edition image path invocation (same _ _ (sym name ∙ asks.0)) (ap (λ (l : List (List ℕ)). slice_index_or l 1 []) is)
+    (ap (λ (l : List (List ℕ)). slice_index_or l 2 []) is) (ap (λ (l : List (List ℕ)). slice_index_or l 3 []) is) asks.1
+
+-- an edition is named by its word
+word_names : (edition : Edition) → IsEditionNamed edition (word_of edition)
+word_names V6 = refl
+word_names V7 = refl
+
+-- and a listing is asked for by such words
+listing_asks : (met : Option (List ℕ × List Row)) (edition : Edition) (image path : List ℕ) (invocation : Invocation)
+    → seen met ≡ codes "ls" ∷ word_of edition ∷ image ∷ path ∷ [] → IsListing edition image path invocation → Asks met invocation
+listing_asks None edition image path invocation is listed = absurd (cc)
+listing_asks (Some met) edition image path (Cat volume ino) is listed = absurd listed
+listing_asks (Some met) edition image path (Mkfs i volume) is listed = absurd listed
+listing_asks (Some met) edition image path (OnVolume volume (jobs.Ls directory)) is listed =
+    let name : met.0 ≡ codes "ls" = ap (λ (l : List (List ℕ)). slice_index_or l 0 []) is in
+    let word : given_by met.1 (codes "EDITION") ≡ word_of edition = ap (λ (l : List (List ℕ)). slice_index_or l 1 []) is in
+    let file : given_by met.1 (codes "IMAGE") ≡ image = ap (λ (l : List (List ℕ)). slice_index_or l 2 []) is in
+    let end : given_by met.1 (codes "PATH") ≡ path = ap (λ (l : List (List ℕ)). slice_index_or l 3 []) is in (
+      name,
+      (
+        (
+          subst (λ (e : Edition). IsEditionNamed e (given_by met.1 (codes "EDITION"))) (sym listed.0) (subst (IsEditionNamed edition) (sym word) (word_names edition)),
+          listed.1 ∙ sym file,
+        ),
+        listed.2 ∙ sym end,
+      ),
+    )
+listing_asks (Some met) edition image path (OnVolume volume (jobs.Get p)) is listed = absurd listed
+listing_asks (Some met) edition image path (OnVolume volume (jobs.Put p file now)) is listed = absurd listed
+listing_asks (Some met) edition image path (OnVolume volume (jobs.Rm p now)) is listed = absurd listed
+listing_asks (Some met) edition image path (OnVolume volume (jobs.Rmdir p now)) is listed = absurd listed
+listing_asks (Some met) edition image path (OnVolume volume (jobs.Mkdir p now)) is listed = absurd listed
+listing_asks (Some met) edition image path (OnVolume volume (jobs.Ln from to now)) is listed = absurd listed
+
+-- the words of `ls` ask for a listing, where they have its edition's word
+abbrev AsksListing : Bor (List (Bor (List ℕ))) → Edition → List ℕ → List ℕ → List ℕ → List ℕ → Type 0
+AsksListing editions edition program image path word = (faults_of (unixvol_app editions) (program ∷ codes "ls" ∷ word ∷ image ∷ path ∷ []) ≡ [])
+    × ((invocation : Invocation) → Asks (command_in (unixvol_app editions) (program ∷ codes "ls" ∷ word ∷ image ∷ path ∷ [])) invocation
+    ↔ IsListing edition image path invocation)
+
+asks : (editions : Bor (List (Bor (List ℕ)))) (edition : Edition) (program image path : List ℕ) → IsTaken editions edition program image path
+    → AsksListing editions edition program image path (word_of edition)
+asks editions edition program image path t =
+    let met = command_in (unixvol_app editions) (program ∷ codes "ls" ∷ word_of edition ∷ image ∷ path ∷ []) in
+    (t.0, λ invocation. (listed met edition image path invocation t.1, listing_asks met edition image path invocation t.1))
+
+-- what the words of `ls` ask for
+pub reads_listing : ReadsListing
+reads_listing editions are edition program word image path named plain_image plain_path =
+    subst (AsksListing editions edition program image path) (sym (word_is edition word named))
+    (asks editions edition program image path
+    (at_names (λ e. IsTaken e edition program image path) (λ p q r. taken p q r edition program image path plain_image plain_path) editions are))

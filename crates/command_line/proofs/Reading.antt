@@ -1,0 +1,255 @@
+-- What is read of the words that the command line takes.
+use Rattle.std.proofs.Common.{◌≡◌, ◌∙◌, true≢false, is_some, Bool, ℕ, true, false, List, ◌∷◌, [], Option, Some, None, Ok, Err, Result, IfErr, IfOk, IsErrAnd, IfSome, refl, sym, ap, subst, inl, inr, codes}
+use Rattle.std.specs.Option.{option_map}
+use Rattle.std.specs.Borrow.{Bor}
+use Rattle.clap.proofs.WalkLemmas.{first_value-rows}
+use Rattle.std.specs.Prelude.{Box}
+use Rattle.std.specs.List.{list_any}
+use Rattle.std.specs.Str.{bytes_eq}
+use Rattle.std.proofs.lemmas.Slice.Eq.{bytes_eq-Decides}
+use Rattle.clap.specs.declared.builder.command.Command.{Command}
+use Rattle.clap.specs.declared.error.Error.{Error}
+use Rattle.clap.specs.declared.error.kind.ErrorKind.TheVariants as kinds
+use Rattle.std.specs.Box.{box_value}
+use Rattle.clap.specs.Words.{App, HasKind, HasMatchesOf, Row, app_of, fault_of, found_of, has_subcommand, kind_of, is_simple, is_simple_and_free, rows_of, subcommand_name_of, subcommand_of, subcommand_rows, subcommand_rows_of}
+use Rattle.clap.specs.declared.parser.matches.ArgMatches.{ArgMatches}
+use Rattle.clap.specs.declared.parser.matches.ArgMatches.TheViews.{out-ArgMatches, out-SubCommand}
+use Rattle.clap.specs.declared.parser.matches.SubCommand.{SubCommand}
+use Rattle.vol_layout.specs.declared.edition.Edition.{Edition}
+use Rattle.vol_layout.specs.declared.edition.Edition.TheVariants.{V6, V7}
+use Rattle.vol_commands.specs.declared.making.NewVolume.{NewVolume}
+use Rattle.command_line.specs.Decimal.{IsNumberUpTo}
+use Rattle.command_line.specs.CommandLine.{Asks, AsksFor, AsksNothing, TellsOf, IsChange, IsEditionNamed, IsGiven, IsNewVolumeGiven, IsNoCat, IsNoCommand, IsNoEdition, IsNoMoment, IsNoNewVolume, IsNoValue, IsRead, IsRefused, command_name, given_by, given_in, word_or_empty}
+use Rattle.command_line.specs.Words.{AreEditions, app, command_in, command_shape, edition_rule, faults_of, named, program, unixvol_app, with_argument, with_command, word_rule}
+use Rattle.command_line.specs.declared.Invocation.{Invocation}
+use Rattle.command_line.specs.declared.Invocation.TheVariants.{Cat, Mkfs, OnVolume}
+use Rattle.vol_commands.specs.declared.jobs.Job.TheVariants as jobs
+
+-- clap's contract gives what a parse of this command line finds
+pub simple : (editions : Bor (List (Bor (List ℕ)))) → is_simple (unixvol_app editions) ≡ true
+unfolding unixvol_app program with_command command_shape with_argument named word_rule edition_rule
+simple editions = refl
+
+-- and what it refuses
+pub simple_and_free : (editions : Bor (List (Bor (List ℕ)))) → is_simple_and_free (unixvol_app editions) ≡ true
+unfolding unixvol_app program with_command command_shape with_argument named word_rule edition_rule
+simple_and_free editions = refl
+
+-- the words for the arguments are those of the rows that a parse makes
+given_same : (values : ArgMatches) → given_in values ≡ given_by (rows_of (found_of values))
+given_same values i argument = word_or_empty (first_value-rows (found_of values) argument i)
+
+-- a command that was met, by its name and the rows of its words
+met : {Z : Type 0} (found : Option (Box SubCommand Z)) (name : List ℕ) (rows : List Row)
+    → option_map (λ b. (out-SubCommand (box_value b)).name.now) found ≡ Some name → option_map (λ p. p.1) (subcommand_rows found) ≡ Some rows
+    → subcommand_rows found ≡ Some (name, rows)
+met None name rows named rows_are = absurd (cc)
+met (Some b) name rows named rows_are = cc
+
+-- what the command asks for, it asks for by its rows
+pub asks_by_rows : (matches values : ArgMatches) (name : List ℕ) (invocation : Invocation) → subcommand_name_of matches ≡ Some name
+    → option_map (λ p. p.1) (subcommand_rows_of matches) ≡ Some (rows_of (found_of values))
+    → AsksFor name (given_in values) invocation → Asks (subcommand_rows_of matches) invocation
+asks_by_rows matches values name invocation named rows_are asks =
+    rw (met (out-ArgMatches matches).subcommand name (rows_of (found_of values)) named rows_are)
+    (subst (λ (given : List ℕ → List ℕ). AsksFor name given invocation) (given_same values) asks)
+
+pub asked_by_rows : (matches values : ArgMatches) (name : List ℕ) (invocation : Invocation) → subcommand_name_of matches ≡ Some name
+    → option_map (λ p. p.1) (subcommand_rows_of matches) ≡ Some (rows_of (found_of values))
+    → Asks (subcommand_rows_of matches) invocation → AsksFor name (given_in values) invocation
+asked_by_rows matches values name invocation named rows_are asks =
+    subst (λ (given : List ℕ → List ℕ). AsksFor name given invocation) (sym (given_same values))
+    (rw (met (out-ArgMatches matches).subcommand name (rows_of (found_of values)) named rows_are) at asks)
+
+-- a word that names an edition is none that names none
+named_edition : (edition : Edition) (text : List ℕ) → IsNoEdition text → IsEditionNamed edition text → ⊥
+named_edition V6 text none is = none.0 is
+named_edition V7 text none is = none.1 is
+
+-- each command has an edition
+edition_given : (given : List ℕ → List ℕ) (invocation : Invocation) → IsNoEdition (given (codes "EDITION")) → IsGiven given invocation → ⊥
+edition_given given (Cat volume ino) none is = named_edition volume.edition _ none is.0.0
+edition_given given (Mkfs image volume) none is = named_edition volume.edition _ none is.1.0
+edition_given given (OnVolume volume job) none is = named_edition volume.edition _ none is.0.0
+
+-- texts that are one pass the test for that
+pub same : (one other : List ℕ) → one ≡ other → bytes_eq one other ≡ true
+same one other is = (bytes_eq-Decides one other).1 is
+
+-- `cat` has an i-number
+number_given : (given : List ℕ → List ℕ) (invocation : Invocation) → bytes_eq (codes "cat") (command_name invocation) ≡ true
+    → (IsNumberUpTo 65535 (given (codes "INO")) → ⊥) → IsGiven given invocation → ⊥
+number_given given (Cat volume ino) test none is = none is.1.0
+number_given given (Mkfs image volume) test none is = absurd (true≢false (sym test))
+number_given given (OnVolume volume (jobs.Ls path)) test none is = absurd (true≢false (sym test))
+number_given given (OnVolume volume (jobs.Get path)) test none is = absurd (true≢false (sym test))
+number_given given (OnVolume volume (jobs.Put path file now)) test none is = absurd (true≢false (sym test))
+number_given given (OnVolume volume (jobs.Rm path now)) test none is = absurd (true≢false (sym test))
+number_given given (OnVolume volume (jobs.Rmdir path now)) test none is = absurd (true≢false (sym test))
+number_given given (OnVolume volume (jobs.Mkdir path now)) test none is = absurd (true≢false (sym test))
+number_given given (OnVolume volume (jobs.Ln from to now)) test none is = absurd (true≢false (sym test))
+
+-- a new volume has its sizes, its owner and a moment
+sizes_given : (given : List ℕ → List ℕ) (volume : NewVolume) → IsNoNewVolume given → IsNewVolumeGiven given volume → ⊥
+unfolding IsNoNewVolume
+sizes_given given volume (inl none) is = named_edition volume.edition _ none is.0
+sizes_given given volume (inr (inl none)) is = none is.1.0
+sizes_given given volume (inr (inr (inl none))) is = none is.2.0
+sizes_given given volume (inr (inr (inr (inl none)))) is = none is.3.0
+sizes_given given volume (inr (inr (inr (inr (inl none))))) is = none is.4.0
+sizes_given given volume (inr (inr (inr (inr (inr none))))) is = none is.5.0
+
+-- and `mkfs` has a new volume
+new_volume_given : (given : List ℕ → List ℕ) (invocation : Invocation) → bytes_eq (codes "mkfs") (command_name invocation) ≡ true → IsNoNewVolume given
+    → IsGiven given invocation → ⊥
+new_volume_given given (Cat volume ino) test none is = absurd (true≢false (sym test))
+new_volume_given given (Mkfs image volume) test none is = sizes_given given volume none is.1
+new_volume_given given (OnVolume volume (jobs.Ls path)) test none is = absurd (true≢false (sym test))
+new_volume_given given (OnVolume volume (jobs.Get path)) test none is = absurd (true≢false (sym test))
+new_volume_given given (OnVolume volume (jobs.Put path file now)) test none is = absurd (true≢false (sym test))
+new_volume_given given (OnVolume volume (jobs.Rm path now)) test none is = absurd (true≢false (sym test))
+new_volume_given given (OnVolume volume (jobs.Rmdir path now)) test none is = absurd (true≢false (sym test))
+new_volume_given given (OnVolume volume (jobs.Mkdir path now)) test none is = absurd (true≢false (sym test))
+new_volume_given given (OnVolume volume (jobs.Ln from to now)) test none is = absurd (true≢false (sym test))
+
+-- a command that changes a volume, as a test
+abbrev is_change : List ℕ → Bool
+is_change name = list_any (bytes_eq name) (codes "put" ∷ codes "rm" ∷ codes "rmdir" ∷ codes "mkdir" ∷ codes "ln" ∷ [])
+
+change_test : (name : List ℕ) → IsChange name → is_change name ≡ true
+change_test name (inl is) = rw is refl
+change_test name (inr (inl is)) = rw is refl
+change_test name (inr (inr (inl is))) = rw is refl
+change_test name (inr (inr (inr (inl is)))) = rw is refl
+change_test name (inr (inr (inr (inr is)))) = rw is refl
+
+-- a change has a moment
+moment_given : (given : List ℕ → List ℕ) (invocation : Invocation) → is_change (command_name invocation) ≡ true → IsNoMoment given → IsGiven given invocation → ⊥
+moment_given given (Cat volume ino) test none is = absurd (true≢false (sym test))
+moment_given given (Mkfs image volume) test none is = none is.1.5.0
+moment_given given (OnVolume volume (jobs.Ls path)) test none is = absurd (true≢false (sym test))
+moment_given given (OnVolume volume (jobs.Get path)) test none is = absurd (true≢false (sym test))
+moment_given given (OnVolume volume (jobs.Put path file now)) test none is = none is.1.2.0
+moment_given given (OnVolume volume (jobs.Rm path now)) test none is = none is.1.1.0
+moment_given given (OnVolume volume (jobs.Rmdir path now)) test none is = none is.1.1.0
+moment_given given (OnVolume volume (jobs.Mkdir path now)) test none is = none is.1.1.0
+moment_given given (OnVolume volume (jobs.Ln from to now)) test none is = none is.1.2.0
+
+-- where one of the words is no value, nothing is asked for
+no_value : (name : List ℕ) (given : List ℕ → List ℕ) → IsNoValue name given → (invocation : Invocation) → AsksFor name given invocation → ⊥
+unfolding IsNoCat
+no_value name given (inl none) invocation asks = edition_given given invocation none asks.1
+no_value name given (inr (inl (is, inl none))) invocation asks = edition_given given invocation none asks.1
+no_value name given (inr (inl (is, inr none))) invocation asks = number_given given invocation (same _ _ (sym is ∙ asks.0)) none asks.1
+no_value name given (inr (inr (inl (is, none)))) invocation asks = new_volume_given given invocation (same _ _ (sym is ∙ asks.0)) none asks.1
+no_value name given (inr (inr (inr (change, inl none)))) invocation asks = edition_given given invocation none asks.1
+no_value name given (inr (inr (inr (change, inr none)))) invocation asks = moment_given given invocation (change_test _ (subst IsChange asks.0 change)) none asks.1
+
+-- nor where the name is that of no command
+no_command : (name : List ℕ) (given : List ℕ → List ℕ) → IsNoCommand name → (invocation : Invocation) → AsksFor name given invocation → ⊥
+no_command name given none (Cat volume ino) asks = none.0 asks.0
+no_command name given none (Mkfs image volume) asks = none.3 asks.0
+no_command name given none (OnVolume volume (jobs.Ls path)) asks = none.1 asks.0
+no_command name given none (OnVolume volume (jobs.Get path)) asks = none.2 asks.0
+no_command name given none (OnVolume volume (jobs.Put path file now)) asks = none.4 asks.0
+no_command name given none (OnVolume volume (jobs.Rm path now)) asks = none.5 asks.0
+no_command name given none (OnVolume volume (jobs.Rmdir path now)) asks = none.6 asks.0
+no_command name given none (OnVolume volume (jobs.Mkdir path now)) asks = none.7 asks.0
+no_command name given none (OnVolume volume (jobs.Ln from to now)) asks = none.8 asks.0
+
+-- what a parse found asks for what its command asks for
+pub asked : {E : Type 0} (matches values : ArgMatches) (name : List ℕ) (result : Result (Option Invocation) E) → Some name ≡ subcommand_name_of matches
+    → Some (rows_of (found_of values)) ≡ option_map (λ p. p.1) (subcommand_rows_of matches)
+    → IfOk result (λ found. IfSome found (AsksFor name (given_in values))) → IfOk result (λ found. IfSome found (Asks (subcommand_rows_of matches)))
+asked matches values name (Ok (Some invocation)) named rows_are asks = asks_by_rows matches values name invocation (sym named) (sym rows_are) asks
+asked matches values name (Ok None) named rows_are asks = tt
+asked matches values name (Err e) named rows_are asks = tt
+
+-- and for nothing where that is no command
+pub missed : {E : Type 0} (matches values : ArgMatches) (name : List ℕ) (result : Result (Option Invocation) E) → Some name ≡ subcommand_name_of matches
+    → Some (rows_of (found_of values)) ≡ option_map (λ p. p.1) (subcommand_rows_of matches)
+    → IfOk result (λ found. found ≡ None → IsNoCommand name) → IfOk result (λ found. found ≡ None → AsksNothing (subcommand_rows_of matches))
+unfolding AsksNothing
+missed matches values name (Ok found) named rows_are none = λ is invocation asks.
+    no_command name (given_in values) (none is) invocation (asked_by_rows matches values name invocation (sym named) (sym rows_are) asks)
+missed matches values name (Err e) named rows_are none = tt
+
+-- nor where one of its words is no value
+pub refused : {T : Type 0} (matches values : ArgMatches) (name : List ℕ) (result : Result T Error) → Some name ≡ subcommand_name_of matches
+    → Some (rows_of (found_of values)) ≡ option_map (λ p. p.1) (subcommand_rows_of matches)
+    → IfErr result (TellsOf (IsNoValue name (given_in values))) → IfErr result (TellsOf (AsksNothing (subcommand_rows_of matches)))
+unfolding AsksNothing
+refused matches values name (Ok found) named rows_are tells = tt
+refused matches values name (Err e) named rows_are (inl memory) = inl memory
+refused matches values name (Err e) named rows_are (inr (kind, none)) = inr (
+  kind,
+  λ invocation asks.
+      no_value name (given_in values) none invocation (asked_by_rows matches values name invocation (sym named) (sym rows_are) asks),
+)
+
+-- a parse that met no command asks for nothing
+pub none_met : (matches : ArgMatches) → has_subcommand matches ≡ false → AsksNothing (subcommand_rows_of matches)
+unfolding AsksNothing
+none_met matches none = go (out-ArgMatches matches).subcommand none
+  where
+    go : {Z : Type 0} (found : Option (Box SubCommand Z)) → is_some found ≡ false → (invocation : Invocation) → Asks (subcommand_rows found) invocation → ⊥
+    go None none invocation asks = asks
+    go (Some b) none invocation asks = absurd (true≢false none)
+
+-- what a parse of the command line met
+pub met_by : (command : Command) (editions : Bor (List (Bor (List ℕ)))) (words : List (List ℕ)) (matches : ArgMatches) → app command ≡ unixvol_app editions
+    → HasMatchesOf (app_of command) words matches → subcommand_rows_of matches ≡ command_in (unixvol_app editions) words
+unfolding app command_in
+met_by command editions words matches is has = (has (ap is_simple is ∙ simple editions)).1 ∙ ap (λ (a : App). subcommand_of a words) is
+
+-- what it tells of the words that it refuses
+pub tells : (command : Command) (editions : Bor (List (Bor (List ℕ)))) (words : List (List ℕ)) (error : Error) → app command ≡ unixvol_app editions
+    → (is_simple_and_free (app_of command) ≡ true → HasKind (fault_of (app_of command) words) error) → HasKind (faults_of (unixvol_app editions) words) error
+unfolding app faults_of
+tells command editions words error is fails =
+    subst (λ (a : App). HasKind (fault_of a words) error) is (fails (ap is_simple_and_free is ∙ simple_and_free editions))
+
+-- and that it tells nothing of those that it takes
+pub takes : (command : Command) (editions : Bor (List (Bor (List ℕ)))) (words : List (List ℕ)) → app command ≡ unixvol_app editions
+    → (is_simple_and_free (app_of command) ≡ true → fault_of (app_of command) words ≡ []) → faults_of (unixvol_app editions) words ≡ []
+unfolding app faults_of
+takes command editions words is none =
+    subst (λ (a : App). fault_of a words ≡ []) is (none (ap is_simple_and_free is ∙ simple_and_free editions))
+
+-- the words are read
+pub reads : (editions : Bor (List (Bor (List ℕ)))) (words : List (List ℕ)) (matches : ArgMatches) (invocation : Invocation) → AreEditions editions
+    → faults_of (unixvol_app editions) words ≡ [] → subcommand_rows_of matches ≡ command_in (unixvol_app editions) words → Asks (subcommand_rows_of matches) invocation
+    → IsRead words invocation
+unfolding IsRead
+reads editions words matches invocation are taken is asks = (editions, are, (taken, rw is at asks))
+
+-- the command line refuses the words
+pub refuses : (editions : Bor (List (Bor (List ℕ)))) (words : List (List ℕ)) (error : Error) → AreEditions editions → HasKind (faults_of (unixvol_app editions) words) error
+    → IsRefused words error
+unfolding IsRefused
+refuses editions words error are kind = (editions, are, inl kind)
+
+-- the words that it takes ask for nothing
+pub asks_nothing : (editions : Bor (List (Bor (List ℕ)))) (words : List (List ℕ)) (matches : ArgMatches) (error : Error) → AreEditions editions
+    → faults_of (unixvol_app editions) words ≡ [] → subcommand_rows_of matches ≡ command_in (unixvol_app editions) words
+    → HasKind (kinds.ValueValidation ∷ kinds.MissingSubcommand ∷ []) error → AsksNothing (subcommand_rows_of matches) → IsRefused words error
+unfolding IsRefused
+asks_nothing editions words matches error are taken is kind none = (editions, are, inr (taken, kind, subst AsksNothing is none))
+
+-- a word is no value
+pub tells_of : (editions : Bor (List (Bor (List ℕ)))) (words : List (List ℕ)) (matches : ArgMatches) (error : Error) → AreEditions editions
+    → faults_of (unixvol_app editions) words ≡ [] → subcommand_rows_of matches ≡ command_in (unixvol_app editions) words
+    → TellsOf (AsksNothing (subcommand_rows_of matches)) error → IsRefused words error
+tells_of editions words matches error are taken is (inl memory) = refuses editions words error are (inl memory)
+tells_of editions words matches error are taken is (inr (kind, none)) = asks_nothing editions words matches error are taken is (inr (inl kind)) none
+
+-- what holds of an error that is handed on
+pub handed_on : {T : Type 0} (result : Result T Error) (error : Error) (P : Error → Type 0) → IsErrAnd result (λ e. e ≡ error) → P error → IfErr result P
+handed_on (Ok value) error P is holds = tt
+handed_on (Err e) error P is holds = rw is holds
+
+-- where memory ran out
+pub memory_ran_out : {T : Type 0} (result : Result T Error) (editions : Bor (List (Bor (List ℕ)))) (words : List (List ℕ)) → AreEditions editions
+    → IsErrAnd result (λ e. kind_of e ≡ kinds.OutOfMemory) → IfErr result (IsRefused words)
+memory_ran_out (Ok value) editions words are is = tt
+memory_ran_out (Err e) editions words are is = refuses editions words e are (inl is)

@@ -1,0 +1,13 @@
+use Rattle.std.proofs.Common.{◌∙◌, ap}
+use Rattle.clap.specs.Words.{App}
+use Rattle.command_line.specs.Words.{printing, with_commands}
+use Rattle.command_line.proofs.Shapes.{continues, starts_program}
+use Rattle.command_line.proofs.command_line.Goals as goal
+
+pub returns : goal.returns
+returns c =
+    continues _ _ _
+    (c.in_ok-command.ensures
+    ∙ ap (λ (before : App). with_commands c.args.editions before printing)
+    (starts_program _ _ _ _ _ _ _ _ _ c.new.ensures.app c.version.ensures c.about.ensures c.after_help.ensures c.subcommand_required.ensures c.arg_required_else_help-command.ensures))
+    c.with_changes.ensures

@@ -1,0 +1,157 @@
+-- What the words of the command line ask for.
+use Rattle.std.specs.Prelude.{◌≡◌, ◌≢◌, ◌⊎◌, ◌∷◌, ℕ, List, [], Option, Some, None, codes}
+use Rattle.std.specs.Borrow.{Bor}
+use Rattle.clap.specs.Words.{App, HasKind, Row, found_of, first_of, first_value, kind_of}
+use Rattle.clap.specs.declared.error.Error.{Error}
+use Rattle.clap.specs.declared.error.kind.ErrorKind.TheVariants as kinds
+use Rattle.clap.specs.declared.parser.matches.ArgMatches.{ArgMatches}
+use Rattle.vol_layout.specs.declared.edition.Edition.{Edition}
+use Rattle.vol_layout.specs.declared.edition.Edition.TheVariants.{V6, V7}
+use Rattle.command_line.specs.Decimal.{IsNumberUpTo, IsNumberGiven}
+use Rattle.command_line.specs.Words.{AreEditions, command_in, faults_of, unixvol_app}
+use Rattle.command_line.specs.declared.Invocation.{Invocation}
+use Rattle.command_line.specs.declared.Invocation.TheVariants.{Cat, Mkfs, OnVolume}
+use Rattle.vol_commands.specs.declared.jobs.Job.{Job}
+use Rattle.vol_commands.specs.declared.jobs.Job.TheVariants as jobs
+use Rattle.command_line.specs.declared.VolumeFile.{VolumeFile}
+use Rattle.vol_commands.specs.declared.making.NewVolume.{NewVolume}
+
+-- the word names this edition (this project)
+abbrev pub IsEditionNamed : Edition → List ℕ → Type 0
+IsEditionNamed V6 text = text ≡ codes "6"
+IsEditionNamed V7 text = text ≡ codes "7"
+
+-- the word names no edition (this project)
+abbrev pub IsNoEdition : List ℕ → Type 0
+IsNoEdition text = (text ≢ codes "6") × (text ≢ codes "7")
+
+-- the word names no command (this project)
+abbrev pub IsNoCommand : List ℕ → Type 0
+IsNoCommand text =
+    (text ≢ codes "cat") × (text ≢ codes "ls") × (text ≢ codes "get") × (text ≢ codes "mkfs") × (text ≢ codes "put")
+    × (text ≢ codes "rm") × (text ≢ codes "rmdir") × (text ≢ codes "mkdir") × (text ≢ codes "ln")
+
+-- a word, or the empty one where there is none (this project)
+abbrev pub word_or_empty : Option (List ℕ) → List ℕ
+word_or_empty (Some word) = word
+word_or_empty None = []
+
+-- the first word that was given for an argument, or the empty one (this project)
+abbrev pub given_in : ArgMatches → List ℕ → List ℕ
+given_in values argument = word_or_empty (first_value (found_of values) argument)
+
+-- the same, from the rows that a parse makes of the words (this project)
+abbrev pub given_by : List Row → List ℕ → List ℕ
+given_by rows argument = word_or_empty (first_of argument rows)
+
+-- the name of the job's command (this project)
+abbrev pub job_name : Job → List ℕ
+job_name (jobs.Ls path) = codes "ls"
+job_name (jobs.Get path) = codes "get"
+job_name (jobs.Put path file now) = codes "put"
+job_name (jobs.Rm path now) = codes "rm"
+job_name (jobs.Rmdir path now) = codes "rmdir"
+job_name (jobs.Mkdir path now) = codes "mkdir"
+job_name (jobs.Ln from to now) = codes "ln"
+
+-- the name of the command (this project)
+abbrev pub command_name : Invocation → List ℕ
+command_name (Cat volume ino) = codes "cat"
+command_name (Mkfs image volume) = codes "mkfs"
+command_name (OnVolume volume job) = job_name job
+
+-- the words that were given for the arguments name this volume (this project)
+abbrev pub IsVolumeGiven : (List ℕ → List ℕ) → VolumeFile → Type 0
+IsVolumeGiven given volume = IsEditionNamed volume.edition (given (codes "EDITION")) × (volume.image.now ≡ given (codes "IMAGE"))
+
+-- they describe this new volume (this project)
+abbrev pub IsNewVolumeGiven : (List ℕ → List ℕ) → NewVolume → Type 0
+IsNewVolumeGiven given volume = IsEditionNamed volume.edition (given (codes "EDITION"))
+    × IsNumberGiven 4294967295 (given (codes "FSIZE")) volume.blocks
+    × IsNumberGiven 65535 (given (codes "IBLOCKS")) volume.list_blocks
+    × IsNumberGiven 65535 (given (codes "UID")) volume.uid
+    × IsNumberGiven 65535 (given (codes "GID")) volume.gid
+    × IsNumberGiven 4294967295 (given (codes "NOW")) volume.now
+
+-- the moment that was given is this one (this project)
+abbrev pub IsMomentGiven : (List ℕ → List ℕ) → ℕ → Type 0
+IsMomentGiven given now = IsNumberGiven 4294967295 (given (codes "NOW")) now
+
+-- the words that were given for the arguments of the job's command describe the job (this project)
+abbrev pub IsJobGiven : (List ℕ → List ℕ) → Job → Type 0
+IsJobGiven given (jobs.Ls path) = path.now ≡ given (codes "PATH")
+IsJobGiven given (jobs.Get path) = path.now ≡ given (codes "PATH")
+IsJobGiven given (jobs.Put path file now) =
+    (path.now ≡ given (codes "PATH")) × (file.now ≡ given (codes "FILE")) × IsMomentGiven given now
+IsJobGiven given (jobs.Rm path now) = (path.now ≡ given (codes "PATH")) × IsMomentGiven given now
+IsJobGiven given (jobs.Rmdir path now) = (path.now ≡ given (codes "PATH")) × IsMomentGiven given now
+IsJobGiven given (jobs.Mkdir path now) = (path.now ≡ given (codes "PATH")) × IsMomentGiven given now
+IsJobGiven given (jobs.Ln from to now) =
+    (from.now ≡ given (codes "FROM")) × (to.now ≡ given (codes "TO")) × IsMomentGiven given now
+
+-- the words that were given for the arguments of its command describe what is asked for (this project)
+abbrev pub IsGiven : (List ℕ → List ℕ) → Invocation → Type 0
+IsGiven given (Cat volume ino) = IsVolumeGiven given volume × IsNumberGiven 65535 (given (codes "INO")) ino
+IsGiven given (Mkfs image volume) = (image.now ≡ given (codes "IMAGE")) × IsNewVolumeGiven given volume
+IsGiven given (OnVolume volume job) = IsVolumeGiven given volume × IsJobGiven given job
+
+-- the command of this name and the words for its arguments ask for this (this project)
+abbrev pub AsksFor : List ℕ → (List ℕ → List ℕ) → Invocation → Type 0
+AsksFor name given invocation = (name ≡ command_name invocation) × IsGiven given invocation
+
+-- the moment is no number of 32 bits (this project)
+abbrev pub IsNoMoment : (List ℕ → List ℕ) → Type 0
+IsNoMoment given = IsNumberUpTo 4294967295 (given (codes "NOW")) → ⊥
+
+-- one of the words of `cat` is no value of its argument (this project)
+unfoldable pub IsNoCat : (List ℕ → List ℕ) → Type 0
+IsNoCat given = IsNoEdition (given (codes "EDITION")) ⊎ (IsNumberUpTo 65535 (given (codes "INO")) → ⊥)
+
+-- one of the words of a command that changes a volume is no value of its argument (this project)
+abbrev pub IsNoChange : (List ℕ → List ℕ) → Type 0
+IsNoChange given = IsNoEdition (given (codes "EDITION")) ⊎ IsNoMoment given
+
+-- one of the words of `mkfs` is no value of its argument (this project)
+unfoldable pub IsNoNewVolume : (List ℕ → List ℕ) → Type 0
+IsNoNewVolume given = IsNoEdition (given (codes "EDITION"))
+    ⊎ (IsNumberUpTo 4294967295 (given (codes "FSIZE")) → ⊥) ⊎ (IsNumberUpTo 65535 (given (codes "IBLOCKS")) → ⊥)
+    ⊎ (IsNumberUpTo 65535 (given (codes "UID")) → ⊥) ⊎ (IsNumberUpTo 65535 (given (codes "GID")) → ⊥) ⊎ IsNoMoment given
+
+-- a command of this name changes a volume (this project)
+abbrev pub IsChange : List ℕ → Type 0
+IsChange name = (name ≡ codes "put") ⊎ (name ≡ codes "rm") ⊎ (name ≡ codes "rmdir") ⊎ (name ≡ codes "mkdir") ⊎ (name ≡ codes "ln")
+
+-- one of the words of the command of this name is no value of its argument (this project)
+abbrev pub IsNoValue : List ℕ → (List ℕ → List ℕ) → Type 0
+IsNoValue name given = IsNoEdition (given (codes "EDITION")) ⊎ ((name ≡ codes "cat") × IsNoCat given)
+    ⊎ ((name ≡ codes "mkfs") × IsNoNewVolume given) ⊎ (IsChange name × IsNoChange given)
+
+-- memory ran out, or the error tells of a word that is no value, of which this holds (this project)
+abbrev pub TellsOf : Type 0 → Error → Type 0
+TellsOf wrong error = (kind_of error ≡ kinds.OutOfMemory) ⊎ ((kind_of error ≡ kinds.ValueValidation) × wrong)
+
+-- the command that was met, with the rows of its words, asks for this (this project)
+abbrev pub Asks : Option (List ℕ × List Row) → Invocation → Type 0
+Asks None invocation = ⊥
+Asks (Some met) invocation = AsksFor met.0 (given_by met.1) invocation
+
+-- it asks for nothing (this project)
+unfoldable pub AsksNothing : Option (List ℕ × List Row) → Type 0
+AsksNothing met = (invocation : Invocation) → Asks met invocation → ⊥
+
+-- the command line takes these words, and they ask for this (this project)
+abbrev pub IsReadBy : App → List (List ℕ) → Invocation → Type 0
+IsReadBy app words invocation = (faults_of app words ≡ []) × Asks (command_in app words) invocation
+
+-- memory ran out, or this is what the command line refuses of the words, or it takes them and they ask for nothing (this project)
+abbrev pub IsRefusedBy : App → List (List ℕ) → Error → Type 0
+IsRefusedBy app words error = HasKind (faults_of app words) error
+    ⊎ ((faults_of app words ≡ []) × HasKind (kinds.ValueValidation ∷ kinds.MissingSubcommand ∷ []) error × AsksNothing (command_in app words))
+
+-- the command line of `unixvol` takes these words, and they ask for this (this project)
+unfoldable pub IsRead : List (List ℕ) → Invocation → Type 0
+IsRead words invocation = (editions : Bor (List (Bor (List ℕ)))) × AreEditions editions × IsReadBy (unixvol_app editions) words invocation
+
+-- memory ran out, or the command line of `unixvol` refuses the words, or they ask for nothing (this project)
+unfoldable pub IsRefused : List (List ℕ) → Error → Type 0
+IsRefused words error = (editions : Bor (List (Bor (List ℕ)))) × AreEditions editions × IsRefusedBy (unixvol_app editions) words error

@@ -1,0 +1,4 @@
+pub mod CommandLine
+pub mod Decimal
+pub mod Laws
+pub mod Words

@@ -1,0 +1,32 @@
+//! Numbers as they are written on the command line.
+ghost use Rattle.std.specs.Prelude.{◌≡◌, ◌==◌, SomeIff, slice_index};
+ghost use Rattle.std.specs.Str.Parse.{digits_value};
+ghost use Rattle.command_line.specs.Decimal.{IsNumberUpTo};
+
+/// The number of 16 bits that `text` writes: one or more decimal digits, of which the first may be
+/// zeros, and no sign. `None` where the text is anything else, or the number has more bits.
+pub fn word_of(text: &str) -> Option<u16>
+    ensures { SomeIff result (IsNumberUpTo 65535 text.now) (digits_value 10 text.now) }
+{
+    if is_signed(text) {
+        return None;
+    }
+    text.parse().ok()
+}
+
+/// The number of 32 bits that `text` writes, as [`word_of`] reads one of 16 bits.
+pub fn long_of(text: &str) -> Option<u32>
+    ensures { SomeIff result (IsNumberUpTo 4294967295 text.now) (digits_value 10 text.now) }
+{
+    if is_signed(text) {
+        return None;
+    }
+    text.parse::<u32>().ok()
+}
+
+/// Whether a text begins with a plus sign, which Rust's numbers may.
+fn is_signed(text: &str) -> bool
+    ensures { result ≡ (slice_index text.now 0 == 43) }
+{
+    text.as_bytes().first() == Some(&b'+')
+}

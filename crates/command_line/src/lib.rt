@@ -1,0 +1,193 @@
+//! The words of the command line.
+#![tactic(auto)]
+
+ghost use Rattle.std.specs.Prelude.{◌≡◌, ◌∷◌, [], None, IfOk, IfErr, IfSome, codes, map, string_bytes};
+ghost use Rattle.clap.specs.Words.{subcommand_rows_of};
+ghost use Rattle.command_line.specs.CommandLine.{Asks, AsksFor, AsksNothing, IsEditionNamed, IsNoCat, IsNoCommand, IsNoEdition, IsNoValue, IsRead, IsRefused, TellsOf, given_in};
+ghost use Rattle.command_line.specs.Words.{app, changing, command_shape, printing, shape, unixvol_app, with_commands};
+
+use clap::error::ErrorKind;
+use clap::{ArgMatches, Command, Error};
+use std::alloc::{AllocError, Global};
+use vol_commands::{Job, NewVolume};
+use vol_layout::Edition;
+
+mod decimal;
+pub mod laws;
+mod mkfs;
+mod texts;
+mod volumes;
+mod words;
+
+use words::{EDITIONS, Verb, on_volume, required, word_in};
+
+/// A volume in a file.
+#[derive(Clone, Copy, Debug, PartialEq, Eq)]
+pub struct VolumeFile<'a> {
+    /// The edition of Unix.
+    pub edition: Edition,
+    /// The file.
+    pub image: &'a str,
+}
+
+/// What the user asks for.
+#[derive(Clone, Copy, Debug, PartialEq, Eq)]
+pub enum Invocation<'a> {
+    /// Print the body of i-node `ino` of the volume in a file.
+    Cat {
+        volume: VolumeFile<'a>,
+        ino: u16,
+    },
+    /// Make a volume in the file `image`.
+    Mkfs {
+        image: &'a str,
+        volume: NewVolume,
+    },
+    /// Do something with the volume in a file.
+    OnVolume {
+        volume: VolumeFile<'a>,
+        job: Job<'a>,
+    },
+}
+
+/// Name of an argument, as the help shows it.
+const INO: &str = "INO";
+
+/// Reads the words of the command line, of which the first is the program's own name. The error is
+/// clap's, with its text, its stream and its status: of the kind `ValueValidation` where a word is no value of its
+/// argument, `MissingSubcommand` where there is no command, `OutOfMemory` where an allocation was refused, and else
+/// what clap itself tells of the words.
+pub fn read<'a>(alloc: Global, words: &'a [String]) -> Result<Invocation<'a>, Error>
+    ensures read { IfOk result (IsRead (map string_bytes words.entry.now)) }
+    ensures refused { IfErr result (IsRefused (map string_bytes words.entry.now)) }
+{
+    let mut command = command_line(alloc, EDITIONS.as_slice())?;
+    let matches = command.try_get_matches_from_mut(words)?;
+    match read_matches(alloc, &matches)? {
+        Some(invocation) => Ok(invocation),
+        None => Err(command.error(ErrorKind::MissingSubcommand, "a command is missing")?),
+    }
+}
+
+/// Reads what a parse found. `None` where it met no command.
+fn read_matches<'a>(
+    alloc: Global,
+    matches: &ArgMatches<'a>,
+) -> Result<Option<Invocation<'a>>, Error>
+    ensures read { IfOk result (λ found. IfSome found (Asks (subcommand_rows_of matches.now))) }
+    ensures missing { IfOk result (λ found. found ≡ None → AsksNothing (subcommand_rows_of matches.now)) }
+    ensures refused { IfErr result (TellsOf (AsksNothing (subcommand_rows_of matches.now))) }
+{
+    match matches.subcommand() {
+        Some((name, values)) => read_command(alloc, name, values),
+        None => Ok(None),
+    }
+}
+
+/// Reads the words after a command. `None` where there is no command of that name.
+fn read_command<'a>(
+    alloc: Global,
+    name: &str,
+    values: &ArgMatches<'a>,
+) -> Result<Option<Invocation<'a>>, Error>
+    ensures read { IfOk result (λ found. IfSome found (AsksFor name.now (given_in values.now))) }
+    ensures refused { IfErr result (TellsOf (IsNoValue name.now (given_in values.now))) }
+    ensures missing { IfOk result (λ found. found ≡ None → IsNoCommand name.now) }
+{
+    let invocation = match name {
+        "cat" => read_cat(alloc, values)?,
+        "ls" => volumes::read_ls(alloc, values)?,
+        "get" => volumes::read_get(alloc, values)?,
+        "mkfs" => mkfs::read(alloc, values)?,
+        "put" => volumes::read_put(alloc, values)?,
+        "rm" => volumes::read_rm(alloc, values)?,
+        "rmdir" => volumes::read_rmdir(alloc, values)?,
+        "mkdir" => volumes::read_mkdir(alloc, values)?,
+        "ln" => volumes::read_ln(alloc, values)?,
+        _ => return Ok(None),
+    };
+    Ok(Some(invocation))
+}
+
+/// The whole command line.
+fn command_line<'a>(alloc: Global, editions: &'a [&'a str]) -> Result<Command<'a>, AllocError>
+    ensures { IfOk result (λ command. app command ≡ unixvol_app editions.entry) }
+{
+    let command = Command::new(alloc, "unixvol")
+        .version("0.1.0")
+        .about(texts::ABOUT)
+        .after_help(texts::STATUSES)
+        .subcommand_required(true)
+        .arg_required_else_help(true);
+    let command = with_prints(alloc, editions, command)?;
+    with_changes(alloc, editions, command)
+}
+
+/// With the commands that print something of a volume.
+fn with_prints<'a>(
+    alloc: Global,
+    editions: &'a [&'a str],
+    command: Command<'a>,
+) -> Result<Command<'a>, AllocError>
+    ensures { IfOk result (λ more. app more ≡ with_commands editions.entry (app command.entry) printing) }
+{
+    command
+        .subcommand(cat_command(alloc, editions)?)?
+        .subcommand(volumes::ls_command(alloc, editions)?)?
+        .subcommand(volumes::get_command(alloc, editions)?)
+}
+
+/// With the commands that make or change a volume.
+fn with_changes<'a>(
+    alloc: Global,
+    editions: &'a [&'a str],
+    command: Command<'a>,
+) -> Result<Command<'a>, AllocError>
+    ensures { IfOk result (λ more. app more ≡ with_commands editions.entry (app command.entry) changing) }
+{
+    let command = command
+        .subcommand(mkfs::command(alloc, editions)?)?
+        .subcommand(volumes::put_command(alloc, editions)?)?
+        .subcommand(volumes::rm_command(alloc, editions)?)?;
+    command
+        .subcommand(volumes::rmdir_command(alloc, editions)?)?
+        .subcommand(volumes::mkdir_command(alloc, editions)?)?
+        .subcommand(volumes::ln_command(alloc, editions)?)
+}
+
+/// The command `cat`.
+fn cat_command<'a>(alloc: Global, editions: &'a [&'a str]) -> Result<Command<'a>, AllocError>
+    ensures { IfOk result (λ command. shape command ≡ command_shape editions.entry (codes "cat") (codes "IMAGE" ∷ codes "INO" ∷ [])) }
+{
+    on_volume(alloc, editions, "cat", texts::CAT_ABOUT, texts::CAT_MORE)?.arg(required(
+        alloc,
+        INO,
+        texts::INO,
+    ))
+}
+
+/// Reads the words of `cat`.
+#[tactic(auto, unfolding(crate::specs::CommandLine::IsNoCat))]
+fn read_cat<'a>(alloc: Global, values: &ArgMatches<'a>) -> Result<Invocation<'a>, Error>
+    ensures read { IfOk result (AsksFor (codes "cat") (given_in values.now)) }
+    ensures refused { IfErr result (TellsOf (IsNoCat (given_in values.now))) }
+{
+    let volume = volumes::volume_in(alloc, Verb::Cat, values)?;
+    let ino = word_in(alloc, Verb::Cat, values, INO)?;
+    Ok(Invocation::Cat { volume, ino })
+}
+
+/// The edition that a word names.
+fn edition_of(text: &str) -> Option<Edition>
+    ensures some { IfSome result (λ edition. IsEditionNamed edition text.now) }
+    ensures none { result ≡ None → IsNoEdition text.now }
+{
+    match text {
+        "6" => Some(Edition::V6),
+        "7" => Some(Edition::V7),
+        _ => None,
+    }
+}
+
+#[cfg(test)]
+mod tests;

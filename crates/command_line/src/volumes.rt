@@ -1,0 +1,225 @@
+//! The words of the commands on the tree of a volume.
+ghost use Rattle.std.specs.Prelude.{◌≡◌, ◌∷◌, [], IfOk, IfErr, codes};
+ghost use Rattle.command_line.specs.Words.{shape, command_shape};
+ghost use Rattle.command_line.specs.CommandLine.{AsksFor, IsNoChange, IsNoEdition, IsVolumeGiven, TellsOf, given_in};
+
+use super::words::{IMAGE, NOW, Verb, edition_in, long_in, on_volume, required};
+use super::{Invocation, VolumeFile, texts};
+use clap::{ArgMatches, Command, Error};
+use std::alloc::{AllocError, Global};
+use vol_commands::Job;
+
+/// Names of the arguments, as the help shows them.
+const PATH: &str = "PATH";
+
+const FILE: &str = "FILE";
+
+const FROM: &str = "FROM";
+
+const TO: &str = "TO";
+
+/// The command `ls`.
+pub(super) fn ls_command<'a>(
+    alloc: Global,
+    editions: &'a [&'a str],
+) -> Result<Command<'a>, AllocError>
+    ensures { IfOk result (λ command. shape command ≡ command_shape editions.entry (codes "ls") (codes "IMAGE" ∷ codes "PATH" ∷ [])) }
+{
+    on_volume(alloc, editions, "ls", texts::LS_ABOUT, texts::LS_MORE)?.arg(required(
+        alloc,
+        PATH,
+        texts::DIRECTORY,
+    ))
+}
+
+/// The command `get`.
+pub(super) fn get_command<'a>(
+    alloc: Global,
+    editions: &'a [&'a str],
+) -> Result<Command<'a>, AllocError>
+    ensures { IfOk result (λ command. shape command ≡ command_shape editions.entry (codes "get") (codes "IMAGE" ∷ codes "PATH" ∷ [])) }
+{
+    on_volume(alloc, editions, "get", texts::GET_ABOUT, texts::GET_MORE)?.arg(required(
+        alloc,
+        PATH,
+        texts::REGULAR,
+    ))
+}
+
+/// The command `put`.
+pub(super) fn put_command<'a>(
+    alloc: Global,
+    editions: &'a [&'a str],
+) -> Result<Command<'a>, AllocError>
+    ensures { IfOk result (λ command. shape command ≡ command_shape editions.entry (codes "put") (codes "IMAGE" ∷ codes "PATH" ∷ codes "FILE" ∷ codes "NOW" ∷ [])) }
+{
+    on_volume(alloc, editions, "put", texts::PUT_ABOUT, texts::PUT_MORE)?
+        .arg(required(alloc, PATH, texts::REGULAR))?
+        .arg(required(alloc, FILE, texts::FILE))?
+        .arg(required(alloc, NOW, texts::CALL_NOW))
+}
+
+/// The command `rm`.
+pub(super) fn rm_command<'a>(
+    alloc: Global,
+    editions: &'a [&'a str],
+) -> Result<Command<'a>, AllocError>
+    ensures { IfOk result (λ command. shape command ≡ command_shape editions.entry (codes "rm") (codes "IMAGE" ∷ codes "PATH" ∷ codes "NOW" ∷ [])) }
+{
+    on_volume(alloc, editions, "rm", texts::RM_ABOUT, texts::RM_MORE)?
+        .arg(required(alloc, PATH, texts::NAMED))?
+        .arg(required(alloc, NOW, texts::CALL_NOW))
+}
+
+/// The command `rmdir`.
+pub(super) fn rmdir_command<'a>(
+    alloc: Global,
+    editions: &'a [&'a str],
+) -> Result<Command<'a>, AllocError>
+    ensures { IfOk result (λ command. shape command ≡ command_shape editions.entry (codes "rmdir") (codes "IMAGE" ∷ codes "PATH" ∷ codes "NOW" ∷ [])) }
+{
+    on_volume(
+        alloc,
+        editions,
+        "rmdir",
+        texts::RMDIR_ABOUT,
+        texts::RMDIR_MORE,
+    )?
+    .arg(required(alloc, PATH, texts::DIRECTORY))?
+    .arg(required(alloc, NOW, texts::CALL_NOW))
+}
+
+/// The command `mkdir`.
+pub(super) fn mkdir_command<'a>(
+    alloc: Global,
+    editions: &'a [&'a str],
+) -> Result<Command<'a>, AllocError>
+    ensures { IfOk result (λ command. shape command ≡ command_shape editions.entry (codes "mkdir") (codes "IMAGE" ∷ codes "PATH" ∷ codes "NOW" ∷ [])) }
+{
+    on_volume(
+        alloc,
+        editions,
+        "mkdir",
+        texts::MKDIR_ABOUT,
+        texts::MKDIR_MORE,
+    )?
+    .arg(required(alloc, PATH, texts::DIRECTORY))?
+    .arg(required(alloc, NOW, texts::CALL_NOW))
+}
+
+/// The command `ln`.
+pub(super) fn ln_command<'a>(
+    alloc: Global,
+    editions: &'a [&'a str],
+) -> Result<Command<'a>, AllocError>
+    ensures { IfOk result (λ command. shape command ≡ command_shape editions.entry (codes "ln") (codes "IMAGE" ∷ codes "FROM" ∷ codes "TO" ∷ codes "NOW" ∷ [])) }
+{
+    on_volume(alloc, editions, "ln", texts::LN_ABOUT, texts::LN_MORE)?
+        .arg(required(alloc, FROM, texts::NAMED))?
+        .arg(required(alloc, TO, texts::NEW_NAME))?
+        .arg(required(alloc, NOW, texts::CALL_NOW))
+}
+
+/// Reads the words of `ls`.
+pub(super) fn read_ls<'a>(alloc: Global, values: &ArgMatches<'a>) -> Result<Invocation<'a>, Error>
+    ensures read { IfOk result (AsksFor (codes "ls") (given_in values.now)) }
+    ensures refused { IfErr result (TellsOf (IsNoEdition (given_in values.now (codes "EDITION")))) }
+{
+    let volume = volume_in(alloc, Verb::Ls, values)?;
+    let path = values.get_str(PATH).unwrap_or("");
+    let job = Job::Ls { path };
+    Ok(Invocation::OnVolume { volume, job })
+}
+
+/// Reads the words of `get`.
+pub(super) fn read_get<'a>(alloc: Global, values: &ArgMatches<'a>) -> Result<Invocation<'a>, Error>
+    ensures read { IfOk result (AsksFor (codes "get") (given_in values.now)) }
+    ensures refused { IfErr result (TellsOf (IsNoEdition (given_in values.now (codes "EDITION")))) }
+{
+    let volume = volume_in(alloc, Verb::Get, values)?;
+    let path = values.get_str(PATH).unwrap_or("");
+    let job = Job::Get { path };
+    Ok(Invocation::OnVolume { volume, job })
+}
+
+/// Reads the words of `put`.
+pub(super) fn read_put<'a>(alloc: Global, values: &ArgMatches<'a>) -> Result<Invocation<'a>, Error>
+    ensures read { IfOk result (AsksFor (codes "put") (given_in values.now)) }
+    ensures refused { IfErr result (TellsOf (IsNoChange (given_in values.now))) }
+{
+    let volume = volume_in(alloc, Verb::Put, values)?;
+    let path = values.get_str(PATH).unwrap_or("");
+    let file = values.get_str(FILE).unwrap_or("");
+    let now = long_in(alloc, Verb::Put, values, NOW)?;
+    let job = Job::Put { path, file, now };
+    Ok(Invocation::OnVolume { volume, job })
+}
+
+/// Reads the words of `rm`.
+pub(super) fn read_rm<'a>(alloc: Global, values: &ArgMatches<'a>) -> Result<Invocation<'a>, Error>
+    ensures read { IfOk result (AsksFor (codes "rm") (given_in values.now)) }
+    ensures refused { IfErr result (TellsOf (IsNoChange (given_in values.now))) }
+{
+    let volume = volume_in(alloc, Verb::Rm, values)?;
+    let path = values.get_str(PATH).unwrap_or("");
+    let now = long_in(alloc, Verb::Rm, values, NOW)?;
+    let job = Job::Rm { path, now };
+    Ok(Invocation::OnVolume { volume, job })
+}
+
+/// Reads the words of `rmdir`.
+pub(super) fn read_rmdir<'a>(
+    alloc: Global,
+    values: &ArgMatches<'a>,
+) -> Result<Invocation<'a>, Error>
+    ensures read { IfOk result (AsksFor (codes "rmdir") (given_in values.now)) }
+    ensures refused { IfErr result (TellsOf (IsNoChange (given_in values.now))) }
+{
+    let volume = volume_in(alloc, Verb::Rmdir, values)?;
+    let path = values.get_str(PATH).unwrap_or("");
+    let now = long_in(alloc, Verb::Rmdir, values, NOW)?;
+    let job = Job::Rmdir { path, now };
+    Ok(Invocation::OnVolume { volume, job })
+}
+
+/// Reads the words of `mkdir`.
+pub(super) fn read_mkdir<'a>(
+    alloc: Global,
+    values: &ArgMatches<'a>,
+) -> Result<Invocation<'a>, Error>
+    ensures read { IfOk result (AsksFor (codes "mkdir") (given_in values.now)) }
+    ensures refused { IfErr result (TellsOf (IsNoChange (given_in values.now))) }
+{
+    let volume = volume_in(alloc, Verb::Mkdir, values)?;
+    let path = values.get_str(PATH).unwrap_or("");
+    let now = long_in(alloc, Verb::Mkdir, values, NOW)?;
+    let job = Job::Mkdir { path, now };
+    Ok(Invocation::OnVolume { volume, job })
+}
+
+/// Reads the words of `ln`.
+pub(super) fn read_ln<'a>(alloc: Global, values: &ArgMatches<'a>) -> Result<Invocation<'a>, Error>
+    ensures read { IfOk result (AsksFor (codes "ln") (given_in values.now)) }
+    ensures refused { IfErr result (TellsOf (IsNoChange (given_in values.now))) }
+{
+    let volume = volume_in(alloc, Verb::Ln, values)?;
+    let from = values.get_str(FROM).unwrap_or("");
+    let to = values.get_str(TO).unwrap_or("");
+    let now = long_in(alloc, Verb::Ln, values, NOW)?;
+    let job = Job::Ln { from, to, now };
+    Ok(Invocation::OnVolume { volume, job })
+}
+
+/// The edition and the file of the volume that were given.
+pub(super) fn volume_in<'a>(
+    alloc: Global,
+    verb: Verb,
+    values: &ArgMatches<'a>,
+) -> Result<VolumeFile<'a>, Error>
+    ensures read { IfOk result (IsVolumeGiven (given_in values.now)) }
+    ensures refused { IfErr result (TellsOf (IsNoEdition (given_in values.now (codes "EDITION")))) }
+{
+    let edition = edition_in(alloc, verb, values)?;
+    let image = values.get_str(IMAGE).unwrap_or("");
+    Ok(VolumeFile { edition, image })
+}

@@ -1,8 +1,0 @@
-use Rattle.unixvol.specs.Words.{command_shape}
-use Rattle.unixvol.proofs.Words.{adds_edition_last, starts}
-use Rattle.unixvol.proofs.command_line.words.of_edition.Goals as goal
-
-pub returns : goal.returns
-unfolding command_shape
-returns c =
-    adds_edition_last _ _ _ _ _ c.arg.ensures c.edition_argument.ensures (starts _ _ _ _ _ _ c.new.ensures.app c.about.ensures c.after_help.ensures)

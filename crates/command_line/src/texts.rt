@@ -3,9 +3,9 @@
 pub const ABOUT: &str = "Works on disk images of Sixth and Seventh Edition Unix.";
 
 pub const STATUSES: &str = "\
-A fault is one line on standard error; one of the command line is told with its usage. The status is 0 where
-all went well, 1 for a refusal, 2 for a fault of the command line, 3 where a file can't be read or written,
-and 4 for want of memory.";
+A fault is one line on standard error; one of the command line says what is wrong, mostly with the usage
+below it. The status is 0 where all went well, 1 for a refusal, 2 for a fault of the command line, 3 where a
+file can't be read or written, and 4 for want of memory.";
 
 pub const CAT_ABOUT: &str =
     "Prints the bytes of a file or directory of a volume, found by its i-number.";
@@ -22,6 +22,7 @@ Status:
   0  the body was printed
   1  `unixvol: unsound, rule 1`: the image is shorter than its super-block says
      `unixvol: unsound, rule 2`: the super-block's sizes don't fit one another
+     (one of these two mostly comes where the volume is of the other edition)
      `unixvol: 2 NoEntry`: there is no such i-node, or it is free
      `unixvol: 102 NotRegular`: it is a special file, or its mode is none of the edition's
   2  the command line can't be read
@@ -124,8 +125,8 @@ Example:
 
 A name that is missing is made, with permissions 0644, of user 0 and group 0; a file that is there is made
 empty first, and keeps its i-number, links and permissions. IMAGE is written only where all went well: a new
-file is written beside it and then takes its place, with its permissions. Where IMAGE is a device, the bytes
-are written into it.
+file is written beside it and then takes its place, with its permissions. Where IMAGE is a device or a pipe,
+the bytes are written into it.
 
 A path starts at the root, with or without a slash. Repeated slashes count as one, and each name is cut to
 14 bytes. The volume must be sound: its twelve rules are asked first.

@@ -42,8 +42,9 @@ pub runs_by : (streams : Streams) (taken : List ℕ → Type 0) (volume : NewVol
     → (made.status ≡ 1 ↔ ((is_size volume.edition volume.blocks volume.list_blocks ≡ false) ⊎ (is_bad_id volume.edition volume.uid volume.gid ≡ true)))
     → (made.status ≢ 0 → made.status ≢ 1 → made.status ≡ 4) → Keeps streams.old streams.new → streams.failed ≡ streams.had_failed
     → (made.status ≡ 0 → streams.said []) → (made.status ≡ 1 → streams.said (line_of_status (is_size volume.edition volume.blocks volume.list_blocks) 1))
+    → (made.status ≡ 4 → streams.said (line_of_status (is_size volume.edition volume.blocks volume.list_blocks) 4))
     → MadeSaved taken made status → RunsMkfs streams taken volume status
-runs_by streams taken volume made status is done refused memory unprinted unused quiet told saved = elim saved [
+runs_by streams taken volume made status is done refused memory unprinted unused quiet told wanting saved = elim saved [
   | inl own ↦ record {
     unprinted = unprinted;
     unused = unused;
@@ -52,6 +53,7 @@ runs_by streams taken volume made status is done refused memory unprinted unused
     made = λ e. taken_whole made.volume _ taken is own.1 (done.0 (sym own.0 ∙ e));
     quiet = λ e. quiet (sym own.0 ∙ e);
     told = λ e. told (sym own.0 ∙ e);
+    other = λ not_done not_refused. inr (wanting (memory (λ e. not_done (own.0 ∙ e)) (λ e. not_refused (own.0 ∙ e))));
   }
   | inr file ↦
       let whole : made.status ≡ 0 = done.1 file.0 in
@@ -64,5 +66,6 @@ runs_by streams taken volume made status is done refused memory unprinted unused
         made = λ e. absurd (omega (arith, range.0));
         quiet = λ e. absurd (omega (arith, range.0));
         told = λ e. absurd (omega (arith, range.0));
+        other = λ not_done not_refused. inl (quiet whole);
       }
 ]

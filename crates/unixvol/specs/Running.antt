@@ -7,7 +7,7 @@ use Rattle.clap.specs.declared.error.kind.ErrorKind.{ErrorKind}
 use Rattle.clap.specs.declared.error.kind.ErrorKind.TheVariants as kinds
 use Rattle.vol_volume.specs.Blank.{blank_of, IsMade}
 use Rattle.vol_volume.specs.Mkfs.{is_size, is_bad_id}
-use Rattle.vol_commands.specs.Cat.{Cats, status_of}
+use Rattle.vol_commands.specs.Cat.{Cats, IsNoWriters, status_of}
 use Rattle.vol_commands.specs.Jobs.{Streams, Does}
 use Rattle.vol_commands.specs.Making.{line_of_status}
 use Rattle.vol_layout.specs.declared.edition.Edition.{Edition}
@@ -30,18 +30,19 @@ abbrev pub status_after : Result (Unit {0}) CatFault → ℕ
 status_after (Ok done) = 0
 status_after (Err fault) = status_of fault
 
--- `cat` prints of some image: what goes out, that standard output failed where its fault is a writer's, and the status (this project)
-abbrev pub PrintsBody : Option (List ℕ) → Option (List ℕ) → Bool → Edition → ℕ → ℕ → Type 0
-PrintsBody old new failed edition i status =
+-- `cat` prints of some image: what goes out, that standard output failed where its fault is a writer's and else no more than before, and the status (this project)
+abbrev pub PrintsBody : Option (List ℕ) → Option (List ℕ) → Bool → Bool → Edition → ℕ → ℕ → Type 0
+PrintsBody old new had_failed failed edition i status =
     (result : Result (Unit {0}) CatFault) × Cats None None old new edition i result
-    × (IsErrAnd result (λ fault. (count : ℕ) × (fault ≡ Writer count)) → failed ≡ true) × (status ≡ status_after result)
+    × (IsErrAnd result (λ fault. (count : ℕ) × (fault ≡ Writer count)) → failed ≡ true) × (IsNoWriters result → failed ≡ had_failed)
+    × (status ≡ status_after result)
 
 -- `cat` runs: what goes out, and the status, which is 0 only where standard output didn't fail (this project)
 abbrev pub RunsCat : Streams → Edition → ℕ → ℕ → Type 0
 RunsCat streams edition i status =
-    PrintsBody streams.old streams.new streams.failed edition i status × (status ≡ 0 → streams.failed ≡ streams.had_failed) × streams.said []
+    PrintsBody streams.old streams.new streams.had_failed streams.failed edition i status × (status ≡ 0 → streams.failed ≡ streams.had_failed) × streams.said []
 
--- `mkfs` runs: nothing goes out; it is refused exactly where its numbers are no volume's, with the line of that; and a file took the volume, where it is done (this project)
+-- `mkfs` runs: nothing goes out; it is refused exactly where its numbers are no volume's, with the line of that; another line is that of memory; and a file took the volume, where it is done (this project)
 pub record RunsMkfs (streams : Streams) (taken : List ℕ → Type 0) (volume : NewVolume) (status : ℕ) : Type 0 where
   pub unprinted : Keeps streams.old streams.new
   pub unused : streams.failed ≡ streams.had_failed
@@ -53,6 +54,8 @@ pub record RunsMkfs (streams : Streams) (taken : List ℕ → Type 0) (volume : 
       × IsMade (blank_of volume.edition volume.blocks volume.list_blocks volume.uid volume.gid volume.now) bytes × taken bytes
   pub quiet : status ≡ 0 → streams.said []
   pub told : status ≡ 1 → streams.said (line_of_status (is_size volume.edition volume.blocks volume.list_blocks) 1)
+  pub other : status ≢ 0 → status ≢ 1
+      → streams.said [] ⊎ streams.said (line_of_status (is_size volume.edition volume.blocks volume.list_blocks) 4)
 
 -- the status after an answer: its own, where its image, if any, was taken, or that of a file (this project)
 abbrev pub EndsSaved : (List ℕ → Type 0) → Answer → ℕ → Type 0
@@ -77,12 +80,13 @@ Runs streams taken status (invocations.Cat volume i) = RunsCat streams volume.ed
 Runs streams taken status (invocations.Mkfs image volume) = RunsMkfs streams taken volume status
 Runs streams taken status (invocations.OnVolume volume job) = RunsJob streams taken volume.edition job status
 
--- what an error of the command line comes to: the status by its kind, which is 3 only where standard output failed (this project)
+-- what an error of the command line comes to: the status by its kind, which is 3 only where standard output failed, and no line of a command (this project)
 pub record Tells (streams : Streams) (kind : ErrorKind) (status : ℕ) : Type 0 where
   pub memory : kind ≡ kinds.OutOfMemory → status ≡ 4
   pub mistake : kind ≢ kinds.OutOfMemory → kind ≢ kinds.DisplayHelp → kind ≢ kinds.DisplayVersion → status ≡ 2
   pub shown : (kind ≡ kinds.DisplayHelp) ⊎ (kind ≡ kinds.DisplayVersion) → (status ≡ 0) ⊎ IsStatusOfFileOrMemory status
   pub failed : status ≡ 3 → streams.failed ≡ true
+  pub quiet : streams.said []
 
 -- the words run: what they ask for is carried out, or it is told why they are refused (this project)
 abbrev pub RunsWords : Streams → (List ℕ → Type 0) → ℕ → List (List ℕ) → Type 0

@@ -1,11 +1,11 @@
 //! The commands of the program: what they open, and what they print where something fails.
-ghost use Rattle.std.specs.Prelude.{◌≡◌, ◌≢◌, ◌⊎◌, ◌≤◌, false, true, ℕ, List, None, IfErr, IsErrAnd, OnOk, map, string_bytes};
+ghost use Rattle.std.specs.Prelude.{◌≡◌, ◌≢◌, ◌⊎◌, [], ◌≤◌, false, true, ℕ, List, None, IfErr, IsErrAnd, OnOk, map, string_bytes};
 ghost use Rattle.std.specs.Io.KnownBytes.{Keeps};
 ghost use Rattle.std.specs.IoError.{error_kind};
 ghost use Rattle.std.specs.declared.io.ErrorKind.TheVariants as io_kinds;
 ghost use Rattle.clap.specs.Words.{kind_of};
 ghost use Rattle.clap.specs.declared.error.kind.ErrorKind.TheVariants as clap_kinds;
-ghost use Rattle.vol_commands.specs.Cat.{Cats, status_of};
+ghost use Rattle.vol_commands.specs.Cat.{Cats, IsNoWriters, status_of};
 ghost use Rattle.vol_commands.specs.Faults.{Gets};
 ghost use Rattle.vol_commands.specs.declared.cat.CatFault.TheVariants as faults;
 ghost use Rattle.unixvol.specs.Running.{IsStatusOfFileOrMemory, EndsSaved, MadeSaved, PrintsBody, RunsJob, Runs, RunsWords, Ends};
@@ -31,6 +31,9 @@ const BAD_COMMAND_LINE: u8 = 2;
 /// The status where a file can't be read or written.
 const BAD_FILE: u8 = 3;
 
+/// What the line of a fault calls standard output.
+const STANDARD_OUTPUT: &str = "-";
+
 /// Does what the command line asks for, and answers the status to end with, if [`finish`] goes well. What it
 /// prints goes to `output`, which is standard output; a fault is one line on standard error, or clap's text.
 /// `errors` writes to standard error too.
@@ -39,14 +42,14 @@ pub fn run<R: Env + Files + Eprint + AllocGlobal, O: Sink, E: Sink>(
     output: &mut O,
     errors: &mut E,
 ) -> u8
-    requires { O.failed output.old ≡ false }
     ensures runs { ((words : List (List ℕ)) × RunsWords (record {
       old = O.contents output.old;
       new = O.contents output.new;
       had_failed = O.failed output.old;
       failed = O.failed output.new;
       said = Gets (E.failed errors.new) (E.contents errors.old) (E.contents errors.new);
-    }) (IsTaken R.File.contents) result words) ⊎ (result ≡ 2) ⊎ (result ≡ 4) }
+    }) (IsTaken R.File.contents) result words) ⊎ (((result ≡ 2) ⊎ (result ≡ 4))
+        × Gets (E.failed errors.new) (E.contents errors.old) (E.contents errors.new) []) }
     ensures ends { Ends (record {
       old = O.contents output.old;
       new = O.contents output.new;
@@ -69,7 +72,6 @@ fn run_words<R: Files + Eprint + AllocGlobal, O: Sink, E: Sink>(
     errors: &mut E,
     words: &[String],
 ) -> u8
-    requires { O.failed output.old ≡ false }
     ensures runs { RunsWords (record {
       old = O.contents output.old;
       new = O.contents output.new;
@@ -98,7 +100,6 @@ fn carry_out<R: Files + Eprint + AllocGlobal, O: Sink, E: Sink>(
     errors: &mut E,
     invocation: Invocation<'_>,
 ) -> u8
-    requires { O.failed output.old ≡ false }
     ensures { Runs (record {
       old = O.contents output.old;
       new = O.contents output.new;
@@ -124,9 +125,9 @@ fn run_cat<R: Files + Eprint + AllocGlobal, O: Sink>(
     volume: VolumeFile<'_>,
     ino: u16,
 ) -> u8
-    requires { O.failed output.old ≡ false }
-    ensures shown { PrintsBody (O.contents output.old) (O.contents output.new) (O.failed output.new) volume.entry.edition ino result }
-    ensures whole { result ≡ 0 → O.failed output.new ≡ false }
+    ensures shown { PrintsBody (O.contents output.old) (O.contents output.new) (O.failed output.old) (O.failed output.new)
+        volume.entry.edition ino result }
+    ensures whole { result ≡ 0 → O.failed output.new ≡ O.failed output.old }
 {
     match cat_file(rt, output, volume, ino) {
         Ok(()) => DONE,
@@ -199,10 +200,9 @@ fn cat_file<R: Files + AllocGlobal, O: Sink>(
     volume: VolumeFile<'_>,
     ino: u16,
 ) -> Result<(), CatFault>
-    requires { O.failed output.old ≡ false }
     ensures shown { Cats None None (O.contents output.old) (O.contents output.new) volume.entry.edition ino result }
     ensures writer { IsErrAnd result (λ fault. (count : ℕ) × (fault ≡ faults.Writer count)) → O.failed output.new ≡ true }
-    ensures kept { OnOk result (O.failed output.new ≡ false) }
+    ensures kept { IsNoWriters result → O.failed output.new ≡ O.failed output.old }
 {
     let Ok(file) = fs::open(rt, volume.image) else {
         return Err(CatFault::Device);
@@ -238,7 +238,7 @@ fn save<R: Files + Eprint + AllocGlobal>(rt: &R, path: &str, content: Content<'_
     match save_file(rt, path, content) {
         Ok(()) => status,
         Err(error) if error.kind() == io::ErrorKind::OutOfMemory => explain_no_memory(rt),
-        Err(_) => explain_file(rt, path),
+        Err(_) => explain_unwritten(rt, path),
     }
 }
 
@@ -251,7 +251,7 @@ fn explain_unread(rt: &impl Eprint, path: &str) -> u8
 }
 
 /// Prints that a file can't be written, and answers the status.
-fn explain_file(rt: &impl Eprint, path: &str) -> u8
+fn explain_unwritten(rt: &impl Eprint, path: &str) -> u8
     ensures { result ≡ 3 }
 {
     let _ = eprintln!(rt; "unixvol: cannot write {path}");
@@ -299,7 +299,7 @@ fn explain_command_line<R: Eprint + AllocGlobal, O: Sink>(
     };
     match write_all(output, text.as_bytes()) {
         Ok(()) => DONE,
-        Err(_) => explain_output(rt),
+        Err(_) => explain_unwritten(rt, STANDARD_OUTPUT),
     }
 }
 
@@ -308,23 +308,16 @@ pub fn finish<W: Write + Drop>(rt: &impl Eprint, mut output: W, status: u8) -> u
     ensures { (result ≡ status) ⊎ ((status ≡ 0) × (result ≡ 3)) }
 {
     if status == DONE && output.flush().is_err() {
-        return explain_output(rt);
+        return explain_unwritten(rt, STANDARD_OUTPUT);
     }
     status
-}
-
-/// Prints that standard output failed, and answers the status.
-fn explain_output(rt: &impl Eprint) -> u8
-    ensures { result ≡ 3 }
-{
-    let _ = eprintln!(rt; "unixvol: cannot write -");
-    BAD_FILE
 }
 
 /// Prints why the words of the command line can't be had, and answers the status.
 fn explain_words(rt: &impl Eprint, error: &io::Error) -> u8
     ensures memory { error_kind error.now ≡ io_kinds.OutOfMemory → result ≡ 4 }
     ensures mistake { error_kind error.now ≢ io_kinds.OutOfMemory → result ≡ 2 }
+    ensures status { (result ≡ 2) ⊎ (result ≡ 4) }
 {
     if error.kind() == io::ErrorKind::OutOfMemory {
         return explain_no_memory(rt);

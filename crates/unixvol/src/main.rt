@@ -1,4 +1,4 @@
-//! Reads, checks, makes and changes disk images of Sixth and Seventh Edition Unix.
+//! Lists, reads, changes and makes disk images of Sixth and Seventh Edition Unix.
 #![tactic(auto)]
 
 mod commands;

@@ -15,7 +15,9 @@ returns-in-Mkfs g c =
     (told_at volume made.result.status 0 (g.E.Sink.failed made.new.errors) (g.E.Sink.contents c.args.errors.now) (g.E.Sink.contents made.new.errors)
     made.ensures.line)
     (told_at volume made.result.status 1 (g.E.Sink.failed made.new.errors) (g.E.Sink.contents c.args.errors.now) (g.E.Sink.contents made.new.errors)
+    made.ensures.line)
+    (told_at volume made.result.status 4 (g.E.Sink.failed made.new.errors) (g.E.Sink.contents c.args.errors.now) (g.E.Sink.contents made.new.errors)
     made.ensures.line) c.save_made.ensures)
 
 pub returns-in-Cat : goal.returns-in-Cat
-returns-in-Cat g c = rw c.in-Cat.is (c.run_cat.ensures.shown, (λ done. c.run_cat.ensures.whole done ∙ sym c.requires), (λ working. Appends-nil (g.E.Sink.contents c.args.errors.now)))
+returns-in-Cat g c = rw c.in-Cat.is (c.run_cat.ensures.shown, c.run_cat.ensures.whole, (λ working. Appends-nil (g.E.Sink.contents c.args.errors.now)))

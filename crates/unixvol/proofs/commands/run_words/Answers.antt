@@ -1,4 +1,5 @@
 use Rattle.std.proofs.Common.{inl, inr, subst, IfOk, IfErr, map}
+use Rattle.std.proofs.KnownBytes.{Appends-nil}
 use Rattle.std.specs.Prelude.{string_bytes}
 use Rattle.command_line.specs.CommandLine.{IsRead, IsRefused}
 use Rattle.unixvol.proofs.commands.run_words.Goals as goal
@@ -19,5 +20,6 @@ returns-in-Err-clause-runs g c =
         mistake = c.explain_command_line.ensures.mistake;
         shown = c.explain_command_line.ensures.shown;
         failed = c.explain_command_line.ensures.failed;
+        quiet = λ working. Appends-nil (g.E.Sink.contents c.args.errors.now);
       },
     )

@@ -4,6 +4,7 @@ ghost use Rattle.std.specs.Prelude.{◌≡◌, ℕ, ◌*◌, ◌≤◌, List, []
 ghost use Rattle.vol_layout.specs.Geometry.{Fits};
 ghost use Rattle.vol_free.specs.Stack.{IsIn, IsFree, HasStack};
 
+use crate::pieces::Piece;
 use pdp_words::{BLOCK, Image};
 use std::alloc::{AllocError, Global};
 use std::process::Abort;
@@ -41,9 +42,6 @@ const SMALL: Geometry = Geometry {
     zone_end: 20,
     last_inode: 16,
 };
-
-/// Bytes that stand at a place.
-type Piece = (usize, &'static [u8]);
 
 static WORDS: [Piece; 2] = [
     (516, b"\x10\x00\x14\x00\x13\x00"),

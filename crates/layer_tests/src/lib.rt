@@ -15,6 +15,8 @@ mod layout;
 #[cfg(test)]
 mod nodes;
 #[cfg(test)]
+mod pieces;
+#[cfg(test)]
 mod volumes;
 #[cfg(test)]
 mod words;

@@ -2,6 +2,7 @@
 ghost use Rattle.std.specs.Prelude.{IfOk, IfSome};
 ghost use Rattle.vol_node.specs.Whole.{IsWhole};
 
+use crate::pieces::{SMALL_VOLUME, filled};
 use pdp_words::Image;
 use std::alloc::{AllocError, Global};
 use std::process::Abort;
@@ -16,51 +17,13 @@ use vol_node::{
 
 mod entries;
 
-/// Bytes that stand at a place.
-pub(crate) type Piece = (usize, &'static [u8]);
-
-/// Twenty blocks of the sixth edition, two of them the i-list: the root with `sub`, a directory, and with
-/// `file` and `link`, two names of one regular file. The blocks from 6 on are free.
-static VOLUME: [Piece; 13] = [
-    (512, b"\x02\x00\x14\x00\x0F\x00\x00\x00"),
-    (
-        520,
-        b"\x13\x00\x12\x00\x11\x00\x10\x00\x0F\x00\x0E\x00\x0D\x00",
-    ),
-    (
-        534,
-        b"\x0C\x00\x0B\x00\x0A\x00\x09\x00\x08\x00\x07\x00\x06\x00",
-    ),
-    (1024, b"\xFF\xC1\x03\x00\x00\x00\x50\x00\x04\x00"),
-    (1056, b"\xED\xC1\x02\x00\x00\x00\x20\x00\x05\x00"),
-    (1088, b"\xA4\x81\x02"),
-    (2048, b"\x01\x00."),
-    (2064, b"\x01\x00.."),
-    (2080, b"\x02\x00sub"),
-    (2096, b"\x03\x00file"),
-    (2112, b"\x03\x00link"),
-    (2560, b"\x02\x00."),
-    (2576, b"\x01\x00.."),
-];
-
 /// The volume, which is sound, and its sizes.
 fn volume(rt: &impl Abort, alloc: Global) -> (Geometry, Image)
     ensures { IsWhole result.0 result.1 }
 {
-    let found = whole(alloc, filled(rt, alloc, 10_240, &VOLUME));
+    let found = whole(alloc, filled(rt, alloc, 10_240, &SMALL_VOLUME));
     let volume = found.expect(rt, "memory for the check");
     volume.expect(rt, "a sound volume")
-}
-
-/// An image of so many zeros, in which pieces are put.
-pub(crate) fn filled(rt: &impl Abort, alloc: Global, len: usize, pieces: &[Piece]) -> Image {
-    let mut bytes = vec![in alloc; 0; len].expect(rt, "memory for the volume");
-    for (at, piece) in pieces {
-        for (byte, new) in bytes.iter_mut().skip(*at).zip(*piece) {
-            *byte = *new;
-        }
-    }
-    Image::from_bytes(bytes)
 }
 
 /// The image, and its sizes, if all rules hold.

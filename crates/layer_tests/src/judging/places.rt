@@ -1,7 +1,8 @@
 // Worked values: what the places of small volumes name, written into them word by word.
 ghost use Rattle.std.specs.Prelude.{◌≡◌, length};
 
-use crate::judging::{Word, judged, put_words, with_pieces};
+use crate::judging::judged;
+use crate::pieces::{Word, put_words, with_pieces};
 use pdp_words::BLOCK;
 use std::alloc::Global;
 use std::process::Abort;

@@ -1,5 +1,6 @@
 // The rules, each broken by one word of a volume that is sound but for it.
-use crate::judging::{Piece, Word, judged, put_words, with_pieces};
+use crate::judging::judged;
+use crate::pieces::{Piece, Word, put_words, with_pieces};
 use std::alloc::Global;
 use std::process::Abort;
 use vol_layout::Edition;

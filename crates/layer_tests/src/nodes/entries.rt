@@ -7,7 +7,8 @@ ghost use Rattle.vol_dir.specs.Editing.{HasNamesOnce};
 ghost use Rattle.vol_dir.specs.Entries.{HasEntries};
 ghost use Rattle.vol_node.specs.Whole.{IsWhole};
 
-use crate::nodes::{Piece, check_at, filled};
+use crate::nodes::check_at;
+use crate::pieces::{Piece, filled};
 use pdp_words::Image;
 use std::alloc::{AllocError, Global};
 use std::process::Abort;

@@ -18,7 +18,7 @@ use Rattle.vol_dir.proofs.NameMaps.{get_first, get_none}
 use Rattle.vol_dir.proofs.SlotReading.{slot_is}
 use Rattle.vol_judge.specs.Directories.{root_of, HasDots}
 use Rattle.vol_judge.specs.InodeMarks.{is_marked, IsNamed, HasUpsBelow, HasUps, MarksChildren}
-use Rattle.vol_judge.specs.Stepping.{rank, IsNext, IsEnd}
+use Rattle.vol_judge.specs.Stepping.{rank, IsNext, IsPastEntries}
 use Rattle.vol_judge.proofs.EachDirectory.{directories_more, directories_all}
 use Rattle.vol_judge.proofs.Passing.{entry_within, entry_low, split}
 
@@ -111,7 +111,7 @@ children_passed is next other = record {
 
 -- where no entry is left, all are gone over
 pub children_all : {geometry : Geometry} {image : List ℕ} {marks : List Bool} {ups : List (Option ℕ)} {place : ℕ} (end : ℕ)
-    → MarksChildren geometry image ups place marks → IsEnd geometry image place → MarksChildren geometry image ups end marks
+    → MarksChildren geometry image ups place marks → IsPastEntries geometry image place → MarksChildren geometry image ups end marks
 children_all end is none = record {
   room = is.room;
   root = is.root;

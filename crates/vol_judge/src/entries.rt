@@ -5,7 +5,7 @@ ghost use Rattle.vol_layout.specs.Slot.{name_of, padded_name};
 ghost use Rattle.vol_dir.specs.Entries.{IsDirectory, HasEntries};
 ghost use Rattle.vol_judge.specs.Naming.{IsEntry, HasEntriesIn};
 
-use crate::reading::{is_directory, last_number, next_in};
+use crate::reading::{is_directory, last_number};
 use pdp_words::Image;
 use std::alloc::{AllocError, Global};
 use std::collections::BTreeSet;
@@ -51,7 +51,7 @@ fn has_entries_in(
     }
     let mut names = BTreeSet::new(alloc);
     let mut from = 0;
-    while let Some((s, slot)) = next_in(image, geometry, d, from) {
+    while let Some((s, slot)) = vol_dir::next_entry(image, geometry, d, from) {
         if !is_entry(image, geometry, &slot) || !names.insert(stored_name(&slot))? {
             return Ok(false);
         }

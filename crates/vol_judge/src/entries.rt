@@ -10,10 +10,8 @@ use pdp_words::Image;
 use std::alloc::{AllocError, Global};
 use std::collections::BTreeSet;
 use vol_layout::i_list::{mode, size};
+use vol_layout::slot::{NAME, SLOT};
 use vol_layout::{Geometry, Kind, Slot};
-
-/// Bytes in a slot.
-const SLOT: u32 = 16;
 
 /// Whether rule 9 holds.
 ///
@@ -46,7 +44,7 @@ fn has_entries_in(
     requires directory { IsDirectory geometry.now image.now d }
     ensures { IfOk result (λ holds. IsTrue holds ↔ HasEntriesIn geometry.now image.now d) }
 {
-    if size(image, geometry, d) % SLOT != 0 {
+    if size(image, geometry, d) % SLOT as u32 != 0 {
         return Ok(false);
     }
     let mut names = BTreeSet::new(alloc);
@@ -75,7 +73,7 @@ fn is_entry(image: &Image, geometry: &Geometry, slot: &Slot) -> bool
 }
 
 /// The name of a slot with zero bytes behind it: what stands behind the first zero byte doesn't count.
-fn stored_name(slot: &Slot) -> [u8; 14]
+fn stored_name(slot: &Slot) -> [u8; NAME]
     ensures { result ≡ padded_name (name_of slot.now.name) }
 {
     Slot::new(slot.inode, slot.name()).name

@@ -94,7 +94,8 @@ fn judge_free(
     Ok(judge_marks(image, geometry, places, named, &mut free))
 }
 
-/// The same, with the marks of the free blocks, of which none is set before.
+/// The least of rules 6 to 8 that fails, by what the places of files were found to name. Marks the free blocks
+/// in `free`, of which no mark is set before.
 fn judge_marks(
     image: &Image,
     geometry: &Geometry,

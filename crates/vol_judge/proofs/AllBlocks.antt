@@ -12,10 +12,14 @@ use Rattle.vol_free.specs.Stack.{IsIn, Once}
 use Rattle.vol_file.specs.Rules.{IsZoned, IsApart}
 use Rattle.vol_file.specs.Changes.{blocks_of}
 use Rattle.vol_file.proofs.PlaceLists.{places_once, places_among, among_places}
-use Rattle.vol_judge.specs.Marks.{marked, all_blocks, MarksNamed}
+use Rattle.vol_judge.specs.Marks.{marked, MarksNamed}
 use Rattle.vol_judge.proofs.FileBlocks.{blocks_at_all}
 use Rattle.vol_judge.proofs.MarkLists.{marked_none, marked_more, marked_fails, marked_marks, marked_refused}
 use Rattle.vol_judge.proofs.NamedOnce.{in_flat, flat_in, once_each, once_same, once_flat, in_at, at_in, at_same_place, once_at}
+
+-- the blocks that the places of all files name, by i-number and in the order of the places
+abbrev pub all_blocks : Geometry → List ℕ → List ℕ
+all_blocks geometry image = flat_map (blocks_of geometry image) (range_with_len 1 geometry.last_inode)
 
 -- place p of file i names block b
 pub record NamedBy (geometry : Geometry) (image : List ℕ) (i : ℕ) (p : List ℕ) (b : ℕ) : Type 0 where

@@ -15,9 +15,10 @@ use Rattle.vol_layout.specs.declared.edition.Edition.TheVariants.{V6, V7}
 use Rattle.vol_layout.specs.declared.geometry.Geometry.{Geometry}
 use Rattle.vol_layout.specs.declared.slot.Slot.{Slot}
 use Rattle.vol_file.specs.Rules.{size_of}
-use Rattle.vol_dir.specs.Entries.{entry_at, IsDirectory, HasEntry, HasEntries}
-use Rattle.vol_judge.specs.Stepping.{IsNextIn}
+use Rattle.vol_dir.specs.Entries.{entry_at, slot_count, IsDirectory, HasEntry, HasEntries}
+use Rattle.vol_dir.specs.Scanning.{IsNextEntry}
 use Rattle.vol_judge.specs.Naming.{IsEntry, HasEntriesBelow, HasEntriesIn, is_in, HoldsNames}
+use Rattle.vol_judge.proofs.NextEntries.{entry_next, none_from}
 
 -- zero bytes are no name
 zeros : (k : ℕ) → name_of (replicate k 0) ≡ []
@@ -69,20 +70,20 @@ count_low V6 size = omega arith
 count_low V7 size = omega arith
 
 -- so are they numbered
-pub next_low : {geometry : Geometry} {image : List ℕ} {d from s : ℕ} {slot : Slot} → IsNextIn geometry image d from s slot → s < 67637568
-next_low {geometry = geometry} {image = image} {d = d} next =
+pub next_low : (geometry : Geometry) (image : List ℕ) (d : ℕ) {from s : ℕ} {slot : Slot} → IsNextEntry (entry_at geometry image d) from (slot_count geometry image d) s slot → s < 67637568
+next_low geometry image d next =
     omega (arith, count_low geometry.edition (size_of geometry image d), next.within)
 
 -- a slot below the one after the next entry is below where the search began, or is the next entry's
-entry_split : {geometry : Geometry} {image : List ℕ} {d from s : ℕ} {slot : Slot} (t i : ℕ) (name : List ℕ) → IsNextIn geometry image d from s slot
+entry_split : (geometry : Geometry) (image : List ℕ) (d : ℕ) {from s : ℕ} {slot : Slot} (t i : ℕ) (name : List ℕ) → IsNextEntry (entry_at geometry image d) from (slot_count geometry image d) s slot
     → t < s + 1 → entry_at geometry image d t ≡ Some (name, i) → (t < from) ⊎ ((t ≡ s) × (name ≡ name_of slot.name) × (i ≡ slot.inode))
-entry_split {geometry = geometry} {image = image} {d = d} {from = from} {s = s} {slot = slot} t i name next low entry =
+entry_split geometry image d {from = from} {s = s} {slot = slot} t i name next low entry =
     elim (cases_lt t from) [
       | inl below ↦ inl below
       | inr above ↦ elim (cases_eq t s) [
         | inl same ↦
             let here = rw same at entry in
-            let both = same_entry (entry_at geometry image d s) name (name_of slot.name) i slot.inode here next.entry in
+            let both = same_entry (entry_at geometry image d s) name (name_of slot.name) i slot.inode here (entry_next next) in
             inr (same, both.0, both.1)
         | inr apart ↦
             let none : entry_at geometry image d t ≡ None = next.none t above (omega arith) in
@@ -99,21 +100,21 @@ below_in {names = names} name other held low entry same new =
 
 -- the next entry, of a name that isn't in the set, keeps rule 9
 pub below_next : {geometry : Geometry} {image : List ℕ} {d from s : ℕ} {slot : Slot} {names : BTreeSet (List ℕ)} → HasEntriesBelow geometry image d from
-    → HoldsNames geometry image d from names → IsNextIn geometry image d from s slot → IsEntry geometry image (name_of slot.name) slot.inode
+    → HoldsNames geometry image d from names → IsNextEntry (entry_at geometry image d) from (slot_count geometry image d) s slot → IsEntry geometry image (name_of slot.name) slot.inode
     → is_in names (padded_name (name_of slot.name)) ≡ false → HasEntriesBelow geometry image d (s + 1)
-below_next {geometry = geometry} {image = image} {slot = slot} {names = names} below held next good new = record {
+below_next {geometry = geometry} {image = image} {d = d} {slot = slot} {names = names} below held next good new = record {
   entries = λ t i name low entry.
-      elim (entry_split t i name next low entry) [
+      elim (entry_split geometry image d t i name next low entry) [
         | inl before ↦ below.entries t i name before entry
         | inr here ↦ rw (here.1, here.2) good
       ];
   once = λ u t i j name low low' entry entry'.
-      elim (entry_split u i name next low entry) [
-        | inl before ↦ elim (entry_split t j name next low' entry') [
+      elim (entry_split geometry image d u i name next low entry) [
+        | inl before ↦ elim (entry_split geometry image d t j name next low' entry') [
           | inl before' ↦ below.once u t i j name before before' entry entry'
           | inr here ↦ absurd (below_in name (name_of slot.name) held before entry here.1 new)
         ]
-        | inr here ↦ elim (entry_split t j name next low' entry') [
+        | inr here ↦ elim (entry_split geometry image d t j name next low' entry') [
           | inl before' ↦ absurd (below_in name (name_of slot.name) held before' entry' here.1 new)
           | inr here' ↦ here.0 ∙ sym here'.0
         ]
@@ -122,13 +123,13 @@ below_next {geometry = geometry} {image = image} {slot = slot} {names = names} b
 
 -- once its name is in the set
 pub names_next : {geometry : Geometry} {image : List ℕ} {d from s : ℕ} {slot : Slot} {names after : BTreeSet (List ℕ)}
-    → HoldsNames geometry image d from names → IsNextIn geometry image d from s slot
+    → HoldsNames geometry image d from names → IsNextEntry (entry_at geometry image d) from (slot_count geometry image d) s slot
     → Updates (slice_cmp nat_cmp) names after (padded_name (name_of slot.name)) true → HoldsNames geometry image d (s + 1) after
 names_next {geometry = geometry} {image = image} {d = d} {from = from} {s = s} {slot = slot} {names = names} {after = after} held next updates =
     let key = padded_name (name_of slot.name) in
     record {
       all = λ t i name low entry.
-          elim (entry_split t i name next low entry) [
+          elim (entry_split geometry image d t i name next low entry) [
             | inl before ↦
                 let there : is_in names (padded_name name) ≡ true = held.all t i name before entry in
                 let now : is_in after (padded_name name) ≡ cond (eq_by_cmp (slice_cmp nat_cmp) key (padded_name name)) true (is_in names (padded_name name)) = updates.0 (padded_name name) in
@@ -145,7 +146,7 @@ names_next {geometry = geometry} {image = image} {d = d} {from = from} {s = s} {
                   slot = s;
                   inode = slot.inode;
                   below = omega arith;
-                  entry = next.entry ∙ ap (λ n. Some (n, slot.inode)) (sym read);
+                  entry = entry_next next ∙ ap (λ n. Some (n, slot.inode)) (sym read);
                 }
             | inr apart ↦
                 let before : is_in names name ≡ true = sym (now ∙ rw apart refl) ∙ there in
@@ -156,21 +157,21 @@ names_next {geometry = geometry} {image = image} {d = d} {from = from} {s = s} {
 
 -- a name that is in the set comes twice
 pub twice : {geometry : Geometry} {image : List ℕ} {d from s : ℕ} {slot : Slot} {names : BTreeSet (List ℕ)} → HoldsNames geometry image d from names
-    → IsNextIn geometry image d from s slot → is_in names (padded_name (name_of slot.name)) ≡ true → HasEntriesIn geometry image d → ⊥
+    → IsNextEntry (entry_at geometry image d) from (slot_count geometry image d) s slot → is_in names (padded_name (name_of slot.name)) ≡ true → HasEntriesIn geometry image d → ⊥
 twice {slot = slot} held next there rule =
     let had = held.only (padded_name (name_of slot.name)) there in
     let entry = rw name_of-padded at had.entry in
-    let same : had.slot ≡ _ = rule.once had.slot _ had.inode slot.inode (name_of slot.name) entry next.entry in
+    let same : had.slot ≡ _ = rule.once had.slot _ had.inode slot.inode (name_of slot.name) entry (entry_next next) in
     omega (arith, had.below, next.reached, same)
 
 -- where no slot is left, rule 9 holds of the directory
 pub all_below : {geometry : Geometry} {image : List ℕ} {d from : ℕ} → size_of geometry image d % 16 ≡ 0 → HasEntriesBelow geometry image d from
-    → ((t : ℕ) → from ≤ t → entry_at geometry image d t ≡ None) → HasEntriesIn geometry image d
+    → ((t : ℕ) → from ≤ t → t < slot_count geometry image d → entry_at geometry image d t ≡ None) → HasEntriesIn geometry image d
 all_below {geometry = geometry} {image = image} {d = d} {from = from} whole below none =
     let low : (t i : ℕ) (name : List ℕ) → entry_at geometry image d t ≡ Some (name, i) → t < from = λ t i name entry.
     elim (cases_lt t from) [
       | inl l ↦ l
-      | inr above ↦ absurd (none_some (entry_at geometry image d t) (name, i) entry (none t above))
+      | inr above ↦ absurd (none_some (entry_at geometry image d t) (name, i) entry (none_from geometry image d from none t above))
     ] in
     record {
       whole = whole;

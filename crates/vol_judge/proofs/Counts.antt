@@ -18,7 +18,7 @@ use Rattle.vol_file.proofs.PlaceLists.{sum_none}
 use Rattle.vol_dir.specs.Entries.{entry_at, slot_count, slots, IsDirectory, HasEntry}
 use Rattle.vol_judge.specs.Directories.{is_for, count_in, entry_count}
 use Rattle.vol_judge.specs.Counting.{is_before, count_before_in, count_before, CountsBefore, HasCounts}
-use Rattle.vol_judge.specs.Stepping.{rank, IsNext, IsEnd}
+use Rattle.vol_judge.specs.Stepping.{rank, IsNext, IsPastEntries}
 use Rattle.vol_judge.proofs.GraphCounts.{sum_same}
 use Rattle.vol_judge.proofs.Passing.{entry_within, split}
 
@@ -185,7 +185,7 @@ count_first geometry image place i low =
     in_none e first kinds.Odd = refl
 
 -- where no entry is left, all are counted
-count_all : (geometry : Geometry) (image : List ℕ) (place i : ℕ) → IsEnd geometry image place
+count_all : (geometry : Geometry) (image : List ℕ) (place i : ℕ) → IsPastEntries geometry image place
     → count_before geometry image place i ≡ entry_count geometry image i
 unfolding count_before entry_count slots
 count_all geometry image place i none =
@@ -241,7 +241,7 @@ counts_next {geometry = geometry} {image = image} {counts = counts} {place = pla
     }
 
 -- where no entry is left, the counts are whole
-pub counts_all : {geometry : Geometry} {image counts : List ℕ} {place : ℕ} → CountsBefore geometry image place counts → IsEnd geometry image place
+pub counts_all : {geometry : Geometry} {image counts : List ℕ} {place : ℕ} → CountsBefore geometry image place counts → IsPastEntries geometry image place
     → HasCounts geometry image counts
 counts_all {geometry = geometry} {image = image} {place = place} is none = record {
   room = is.room;

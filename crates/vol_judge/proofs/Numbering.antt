@@ -7,8 +7,8 @@ use Rattle.vol_layout.specs.declared.edition.Edition.{Edition}
 use Rattle.vol_layout.specs.declared.geometry.Geometry.{Geometry}
 use Rattle.vol_layout.specs.declared.geometry.GeometryFault.TheVariants.{Short, Bounds}
 use Rattle.vol_file.specs.Rules.{IsZoned}
-use Rattle.vol_judge.specs.Judging.{IsFirstBroken, free_rules, block_rules, volume_rules}
-use Rattle.vol_judge.specs.Sound.{nth_fact, rules, Rule, IsJudged}
+use Rattle.vol_judge.specs.Judging.{IsFirstBroken}
+use Rattle.vol_judge.specs.Sound.{free_rules, block_rules, volume_rules, nth_fact, rules, Rule, IsJudged}
 
 -- where a fact holds, and each of some others, each of them all holds
 each_fact : (fact : Type 0) (facts : List (Type 0)) → fact → ((m : ℕ) → nth_fact facts m) → (m : ℕ) → nth_fact (fact ∷ facts) m
@@ -87,7 +87,7 @@ judged_volume free edition image geometry (Err refused) e first = tt
 
 -- where rule 5 holds, the first broken of rules 5 to 8 is that of 6 to 8
 pub first_behind_zoned : (free : Bool) (geometry : Geometry) (image : List ℕ) (result : Result (Option ℕ) AllocError) → free ≡ true
-    → IsZoned geometry image → IfOk result (IsFirstBroken 6 (free_rules geometry image)) → IfOk result (IsFirstBroken 5 (block_rules free geometry image))
+    → IsZoned geometry image → IfOk result (IsFirstBroken 6 (free_rules true geometry image)) → IfOk result (IsFirstBroken 5 (block_rules free geometry image))
 first_behind_zoned true geometry image (Ok answer) asked zoned first = inr (zoned, first)
 first_behind_zoned true geometry image (Err refused) asked zoned first = tt
 first_behind_zoned false geometry image result asked zoned first = absurd (cc)

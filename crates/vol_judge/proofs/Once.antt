@@ -9,7 +9,7 @@ use Rattle.vol_dir.specs.Entries.{IsDirectory}
 use Rattle.vol_dir.specs.Names.{is_dots}
 use Rattle.vol_judge.specs.Directories.{root_of, Enters}
 use Rattle.vol_judge.specs.InodeMarks.{is_marked, IsEnteredBefore, MarksOnce, IsOnce}
-use Rattle.vol_judge.specs.Stepping.{rank, IsNext, IsEnd}
+use Rattle.vol_judge.specs.Stepping.{rank, IsNext, IsPastEntries}
 use Rattle.vol_judge.proofs.Passing.{split}
 
 -- a mark that is set stays set
@@ -120,7 +120,7 @@ once_broken {geometry = geometry} {image = image} {d = d} {s = s} {slot = slot} 
     ]
 
 -- where no entry is left, each directory is entered once
-pub once_all : {geometry : Geometry} {image : List ℕ} {marks : List Bool} {place : ℕ} → MarksOnce geometry image place marks → IsEnd geometry image place
+pub once_all : {geometry : Geometry} {image : List ℕ} {marks : List Bool} {place : ℕ} → MarksOnce geometry image place marks → IsPastEntries geometry image place
     → IsOnce geometry image
 once_all is none = record {
   one = λ i e s f t directory enters enters'.

@@ -1,61 +1,70 @@
 -- What directories name by `.` and `..`, and where they are entered.
-use Rattle.std.proofs.Common.{◌≡◌, ◌≢◌, ℕ, ◌+◌, ◌<◌, ◌≤◌, inl, inr, Bool, true, false, List, Option, None, Some, length, get_or, refl, sym, ap, ◌∙◌, arith, get_or-set_other, get_or-set_same}
+use Rattle.std.proofs.Common.{◌≡◌, ℕ, ◌+◌, ◌<◌, ◌≤◌, inl, inr, Bool, true, false, List, Option, None, Some, length, get_or, refl, sym, ap, ◌∙◌, arith, get_or-set_other, get_or-set_same}
 use Rattle.std.proofs.Math.ListN.{set, length-set}
-use Rattle.std.proofs.lemmas.Bool.{cases_lt, cases_eq}
+use Rattle.std.proofs.lemmas.Bool.{cases_lt, cases_eq, cases_Bool}
+use Rattle.std.proofs.lemmas.List.Sums.{passes_at_first, fails_before_first}
 use Rattle.vol_layout.specs.Geometry.{Fits}
 use Rattle.vol_layout.specs.Slot.{name_of}
 use Rattle.vol_layout.specs.declared.geometry.Geometry.{Geometry}
 use Rattle.vol_layout.specs.declared.slot.Slot.{Slot}
 use Rattle.vol_file.specs.Rules.{HasKinds}
 use Rattle.vol_file.proofs.Naming.{root_first}
-use Rattle.vol_dir.specs.Entries.{entry_at, IsDirectory, HasEntry, HasEntries}
-use Rattle.vol_dir.specs.Names.{dot, dot_dot, is_dots}
+use Rattle.vol_file.proofs.PlaceLists.{bytes_same, same_bytes}
+use Rattle.vol_dir.specs.Entries.{entry_at, slots, IsDirectory, HasEntry, HasEntries}
+use Rattle.vol_dir.specs.Names.{dot, dot_dot, is_dots, get, names_of}
+use Rattle.vol_dir.specs.Searching.{holds, slot_named}
+use Rattle.vol_dir.proofs.Finding.{found_number}
+use Rattle.vol_dir.proofs.NameMaps.{get_first, get_none}
+use Rattle.vol_dir.proofs.SlotReading.{slot_is}
 use Rattle.vol_judge.specs.Directories.{root_of, HasDots}
 use Rattle.vol_judge.specs.InodeMarks.{is_marked, IsNamed, HasUpsBelow, HasUps, MarksChildren}
-use Rattle.vol_judge.specs.Stepping.{rank, IsNextIn, IsNext, IsEnd}
-use Rattle.vol_judge.proofs.Collecting.{same_entry, none_some}
+use Rattle.vol_judge.specs.Stepping.{rank, IsNext, IsPastEntries}
 use Rattle.vol_judge.proofs.EachDirectory.{directories_more, directories_all}
-use Rattle.vol_judge.proofs.Passing.{entry_low, split}
+use Rattle.vol_judge.proofs.Passing.{entry_within, entry_low, split}
 
--- the first entry of a name is the only one
-pub named_here : {geometry : Geometry} {image : List ℕ} {d from s : ℕ} {slot : Slot} (name : List ℕ) → HasEntries geometry image → IsDirectory geometry image d
-    → IsNextIn geometry image d from s slot → name_of slot.name ≡ name → IsNamed geometry image d name (Some slot.inode)
-named_here {geometry = geometry} {image = image} {d = d} {s = s} {slot = slot} name rule is next same =
-    let has : HasEntry geometry image d s name slot.inode = record { directory = is; entry = rw (sym same) next.entry } in
-    record {
-      all = λ t i other.
-          let slots : s ≡ t = rule.once d s t slot.inode i name has other in
-          let here = rw (sym slots) at other.entry in
-          ap Some (same_entry (entry_at geometry image d s) name name slot.inode i has.entry here).1;
-      only = λ i number.
-          let same_number : slot.inode ≡ i = cc in
-          (s, rw (sym same_number) has);
-    }
+-- a slot that holds a name has an entry of it
+held_some : (name : List ℕ) (slot : Option (List ℕ × ℕ)) → holds name slot ≡ true → (i : ℕ) × (slot ≡ Some (name, i))
+held_some name None held = absurd (cc)
+held_some name (Some entry) held = let same = sym (same_bytes name entry.0 held) in (entry.1, (λ k. Some (same k, entry.1)))
 
--- an entry of another name is passed
-pub named_later : {geometry : Geometry} {image : List ℕ} {d from s : ℕ} {slot : Slot} (name : List ℕ) → IsNextIn geometry image d from s slot
-    → name_of slot.name ≢ name → ((t i : ℕ) → t < from → HasEntry geometry image d t name i → ⊥)
-    → (t i : ℕ) → t < s + 1 → HasEntry geometry image d t name i → ⊥
-named_later {geometry = geometry} {image = image} {d = d} {from = from} {s = s} {slot = slot} name next other none t i low has =
-    elim (cases_lt t from) [
-      | inl before ↦ none t i before has
-      | inr above ↦ elim (cases_eq t s) [
-        | inl same ↦
-            let here = rw same at has.entry in
-            other (same_entry (entry_at geometry image d s) (name_of slot.name) name slot.inode i next.entry here).0
-        | inr apart ↦ none_some (entry_at geometry image d t) (name, i) has.entry (next.none t above (omega arith))
-      ]
+-- an entry of a name is the first of its name
+first_named : {geometry : Geometry} {image : List ℕ} {d s i : ℕ} {name : List ℕ} → HasEntries geometry image → HasEntry geometry image d s name i
+    → (t : ℕ) → t < s → holds name (entry_at geometry image d t) ≡ false
+first_named {geometry = geometry} {image = image} {d = d} {s = s} {i = i} {name = name} rule has t low =
+    elim (cases_Bool (holds name (entry_at geometry image d t))) [
+      | inl held ↦
+          let found = held_some name (entry_at geometry image d t) held in
+          let same : t ≡ s = rule.once d t s found.0 i name (record { directory = has.directory; entry = found.1 }) has in
+          absurd (omega (arith, same))
+      | inr other ↦ other
     ]
 
--- where no slot is left, the directory doesn't have the name
-pub named_none : {geometry : Geometry} {image : List ℕ} {d from : ℕ} (name : List ℕ) → ((t : ℕ) → from ≤ t → entry_at geometry image d t ≡ None)
-    → ((t i : ℕ) → t < from → HasEntry geometry image d t name i → ⊥) → IsNamed geometry image d name None
-named_none {geometry = geometry} {image = image} {d = d} {from = from} name end none = record {
-  all = λ t i has. absurd (elim (cases_lt t from) [
-    | inl before ↦ none t i before has
-    | inr above ↦ none_some (entry_at geometry image d t) (name, i) has.entry (end t above)
-  ]);
-  only = λ i number. absurd (cc);
+-- the i-number of a name is that of an entry of this name
+entry_named : {geometry : Geometry} {image : List ℕ} {d i : ℕ} (name : List ℕ) → IsDirectory geometry image d
+    → get (names_of (slots geometry image d)) name ≡ Some i → (s : ℕ) × HasEntry geometry image d s name i
+entry_named {geometry = geometry} {image = image} {d = d} {i = i} name is number =
+    let list = slots geometry image d in
+    let s = slot_named name list in
+    let fails : (t : ℕ) → t < s → holds name (get_or list t None) ≡ false = λ t low. fails_before_first (holds name) list t None low in
+    let within : s < length list = elim (cases_lt s (length list)) [
+      | inl low ↦ low
+      | inr past ↦ absurd (let none = get_none list name (λ t low. fails t (omega (arith, low, past))) in cc)
+    ] in
+    let held = passes_at_first (holds name) list None within in
+    let found = held_some name (get_or list s None) held in
+    let first = get_first list name s within held fails in
+    let same : found.0 ≡ i = cc in
+    (s, record { directory = is; entry = sym (slot_is geometry image d s) ∙ rw same at found.1 })
+
+-- what a directory's map has for a name is what the directory names by it
+pub named_by_map : (geometry : Geometry) (image : List ℕ) (d : ℕ) (name : List ℕ) (number : Option ℕ) → HasEntries geometry image
+    → IsDirectory geometry image d → number ≡ get (names_of (slots geometry image d)) name → IsNamed geometry image d name number
+named_by_map geometry image d name number rule is found = record {
+  all = λ s i has.
+      found
+      ∙ found_number geometry image d s i name (entry_within geometry image d s (name, i) has.entry)
+      (ap (holds name) has.entry ∙ bytes_same name name refl) (first_named rule has) (rw has.entry refl);
+  only = λ i same. entry_named name is (sym found ∙ same);
 }
 
 -- an entry in the directory that it names by `..` is marked
@@ -102,7 +111,7 @@ children_passed is next other = record {
 
 -- where no entry is left, all are gone over
 pub children_all : {geometry : Geometry} {image : List ℕ} {marks : List Bool} {ups : List (Option ℕ)} {place : ℕ} (end : ℕ)
-    → MarksChildren geometry image ups place marks → IsEnd geometry image place → MarksChildren geometry image ups end marks
+    → MarksChildren geometry image ups place marks → IsPastEntries geometry image place → MarksChildren geometry image ups end marks
 children_all end is none = record {
   room = is.room;
   root = is.root;

@@ -6,9 +6,11 @@ use Rattle.vol_layout.specs.declared.geometry.Geometry.{Geometry}
 use Rattle.vol_layout.specs.declared.slot.Slot.{Slot}
 use Rattle.vol_file.specs.Rules.{size_of}
 use Rattle.vol_dir.specs.Entries.{entry_at, slot_count, IsDirectory, HasEntry}
+use Rattle.vol_dir.specs.Scanning.{IsNextEntry}
 use Rattle.vol_dir.proofs.SlotReading.{entry_at_past}
-use Rattle.vol_judge.specs.Stepping.{rank, IsNextIn, IsNext, IsEnd}
+use Rattle.vol_judge.specs.Stepping.{rank, IsNext, IsPastEntries}
 use Rattle.vol_judge.proofs.Collecting.{count_low, next_low, same_entry, none_some}
+use Rattle.vol_judge.proofs.NextEntries.{entry_next, none_from}
 
 -- the slot of an entry is one of the directory
 pub entry_within : (geometry : Geometry) (image : List ℕ) (d s : ℕ) (entry : List ℕ × ℕ) → entry_at geometry image d s ≡ Some entry → s < slot_count geometry image d
@@ -43,9 +45,9 @@ passed_next from d start passed none e t i name has before =
 
 -- in a directory without entries from `start` on
 pub passed_none : {geometry : Geometry} {image : List ℕ} (from d start : ℕ) → IsPassed geometry image from d start
-    → ((t : ℕ) → start ≤ t → entry_at geometry image d t ≡ None) → IsPassed geometry image from (d + 1) 0
+    → ((t : ℕ) → start ≤ t → t < slot_count geometry image d → entry_at geometry image d t ≡ None) → IsPassed geometry image from (d + 1) 0
 passed_none {geometry = geometry} {image = image} from d start passed none =
-    passed_next from d start passed (λ t i name has above. none_some (entry_at geometry image d t) (name, i) has.entry (none t above))
+    passed_next from d start passed (λ t i name has above. none_some (entry_at geometry image d t) (name, i) has.entry (none_from geometry image d start none t above))
 
 -- in what is no directory
 pub passed_other : {geometry : Geometry} {image : List ℕ} (from d start : ℕ) → IsPassed geometry image from d start
@@ -53,19 +55,19 @@ pub passed_other : {geometry : Geometry} {image : List ℕ} (from d start : ℕ)
 passed_other from d start passed none = passed_next from d start passed (λ t i name has above. none has.directory)
 
 -- past the last directory there is no entry
-pub passed_all : {geometry : Geometry} {image : List ℕ} (from d : ℕ) → IsPassed geometry image from d 0 → geometry.last_inode < d → IsEnd geometry image from
+pub passed_all : {geometry : Geometry} {image : List ℕ} (from d : ℕ) → IsPassed geometry image from d 0 → geometry.last_inode < d → IsPastEntries geometry image from
 passed_all from d passed last e t i name has = passed e t i name has (omega (arith, entry_low has, has.directory.last))
 
 -- the next entry of a directory is the next of all
 pub next_of : {geometry : Geometry} {image : List ℕ} {from d start s : ℕ} {slot : Slot} → IsPassed geometry image from d start → from ≤ rank d start
-    → IsDirectory geometry image d → IsNextIn geometry image d start s slot → IsNext geometry image from d s slot
+    → IsDirectory geometry image d → IsNextEntry (entry_at geometry image d) start (slot_count geometry image d) s slot → IsNext geometry image from d s slot
 next_of {geometry = geometry} {image = image} {from = from} {d = d} {start = start} {s = s} passed reached is next = record {
   reached = omega (arith, next.reached, reached);
-  low = next_low next;
-  entry = record { directory = is; entry = next.entry };
+  low = next_low geometry image d next;
+  entry = record { directory = is; entry = entry_next next };
   before = λ e t i name has before.
       let low : t < 67637568 = entry_low has in
-      let low' : s < 67637568 = next_low next in
+      let low' : s < 67637568 = next_low geometry image d next in
       elim (cases_lt (rank e t) (rank d start)) [
         | inl early ↦ passed e t i name has early
         | inr past ↦

@@ -8,13 +8,14 @@ use Rattle.std.proofs.lemmas.List.Sums.{sum_by-set}
 use Rattle.vol_layout.specs.Slot.{name_of}
 use Rattle.vol_layout.specs.declared.geometry.Geometry.{Geometry}
 use Rattle.vol_layout.specs.declared.slot.Slot.{Slot}
-use Rattle.vol_dir.specs.Entries.{entry_at, IsDirectory}
+use Rattle.vol_dir.specs.Entries.{entry_at, slot_count, IsDirectory}
 use Rattle.vol_dir.specs.Names.{is_dots}
+use Rattle.vol_dir.specs.Scanning.{IsNextEntry}
 use Rattle.vol_judge.specs.Directories.{root_of, Enters, IsReached, at_root, below, IsTree}
 use Rattle.vol_judge.specs.InodeMarks.{is_marked, HasRoot, IsOnce}
 use Rattle.vol_judge.specs.Reaching.{MarksReached, Explores, ExploresBelow, load}
-use Rattle.vol_judge.specs.Stepping.{IsNextIn}
 use Rattle.vol_judge.proofs.Collecting.{same_entry, none_some}
+use Rattle.vol_judge.proofs.NextEntries.{entry_next, none_from}
 use Rattle.vol_judge.proofs.Once.{mark_kept, mark_here, mark_before}
 
 -- a list of one has that one alone
@@ -69,7 +70,7 @@ explores_taken {geometry = geometry} {image = image} {marks = marks} {work = wor
     )
 
 -- what an entry at or after slot `from` is: the next one, or one after it
-later : {geometry : Geometry} {image : List ℕ} {d from s : ℕ} {slot : Slot} (t i : ℕ) → IsNextIn geometry image d from s slot
+later : {geometry : Geometry} {image : List ℕ} {d from s : ℕ} {slot : Slot} (t i : ℕ) → IsNextEntry (entry_at geometry image d) from (slot_count geometry image d) s slot
     → Enters geometry image d t i → from ≤ t → ((i ≡ slot.inode) × (is_dots (name_of slot.name) ≡ false)) ⊎ (s + 1 ≤ t)
 later {geometry = geometry} {image = image} {d = d} {from = from} {s = s} {slot = slot} t i next enters above =
     elim (cases_lt t s) [
@@ -77,7 +78,7 @@ later {geometry = geometry} {image = image} {d = d} {from = from} {s = s} {slot 
       | inr high ↦ elim (cases_eq t s) [
         | inl same ↦
             let here = rw same at enters.1.entry in
-            let both = same_entry (entry_at geometry image d s) enters.0 (name_of slot.name) i slot.inode here next.entry in
+            let both = same_entry (entry_at geometry image d s) enters.0 (name_of slot.name) i slot.inode here (entry_next next) in
             inl (both.1, ap is_dots (sym both.0) ∙ enters.2)
         | inr apart ↦ inr (omega arith)
       ]
@@ -85,7 +86,7 @@ later {geometry = geometry} {image = image} {d = d} {from = from} {s = s} {slot 
 
 -- an entry for a directory that isn't marked marks it, and it is to be entered
 pub explores_marked : {geometry : Geometry} {image : List ℕ} {marks : List Bool} {work : List ℕ} {d from s : ℕ} {slot : Slot}
-    → ExploresBelow geometry image d from marks work → IsDirectory geometry image d → IsNextIn geometry image d from s slot
+    → ExploresBelow geometry image d from marks work → IsDirectory geometry image d → IsNextEntry (entry_at geometry image d) from (slot_count geometry image d) s slot
     → slot.inode < length marks → (is_dots (name_of slot.name) ≡ false) × IsDirectory geometry image slot.inode
     → ExploresBelow geometry image d (s + 1) (set marks slot.inode true) (work ++ slot.inode ∷ [])
 explores_marked {geometry = geometry} {image = image} {marks = marks} {work = work} {d = d} {from = from} {s = s} {slot = slot} is directory next room enters =
@@ -97,7 +98,7 @@ explores_marked {geometry = geometry} {image = image} {marks = marks} {work = wo
       reached = λ i marked.
           elim (cases_eq i slot.inode) [
             | inl same ↦ rw same (below d s slot.inode (is.reached d is.current)
-                (name_of slot.name, record { directory = directory; entry = next.entry }, enters.0))
+                (name_of slot.name, record { directory = directory; entry = entry_next next }, enters.0))
             | inr apart ↦ is.reached i (mark_before marks slot.inode i apart marked)
           ];
       waiting = λ e has.
@@ -125,7 +126,7 @@ explores_marked {geometry = geometry} {image = image} {marks = marks} {work = wo
 
 -- an entry for what is no directory or is marked, or of `.` or `..`, is passed
 pub explores_passed : {geometry : Geometry} {image : List ℕ} {marks : List Bool} {work : List ℕ} {d from s : ℕ} {slot : Slot}
-    → ExploresBelow geometry image d from marks work → IsNextIn geometry image d from s slot
+    → ExploresBelow geometry image d from marks work → IsNextEntry (entry_at geometry image d) from (slot_count geometry image d) s slot
     → ((is_dots (name_of slot.name) ≡ false) × IsDirectory geometry image slot.inode → is_marked marks slot.inode ≡ true)
     → ExploresBelow geometry image d (s + 1) marks work
 explores_passed {geometry = geometry} {image = image} {marks = marks} {slot = slot} is next known = record {
@@ -153,8 +154,9 @@ explores_passed {geometry = geometry} {image = image} {marks = marks} {slot = sl
 
 -- where no slot is left, the directory is entered
 pub explores_entered : {geometry : Geometry} {image : List ℕ} {marks : List Bool} {work : List ℕ} {d from : ℕ}
-    → ExploresBelow geometry image d from marks work → ((t : ℕ) → from ≤ t → entry_at geometry image d t ≡ None) → Explores geometry image marks work
-explores_entered {geometry = geometry} {image = image} {d = d} is none = record {
+    → ExploresBelow geometry image d from marks work → ((t : ℕ) → from ≤ t → t < slot_count geometry image d → entry_at geometry image d t ≡ None)
+    → Explores geometry image marks work
+explores_entered {geometry = geometry} {image = image} {d = d} {from = from} is none = record {
   room = is.room;
   root = is.root;
   reached = is.reached;
@@ -166,7 +168,7 @@ explores_entered {geometry = geometry} {image = image} {d = d} is none = record 
           | inl has ↦ inr has
           | inr left ↦
               let entered' = rw left.0 at entered in
-              absurd (none_some (entry_at geometry image d t) (entered'.0, i) entered'.1.entry (none t left.1))
+              absurd (none_some (entry_at geometry image d t) (entered'.0, i) entered'.1.entry (none_from geometry image d from none t left.1))
         ]
       ];
 }

@@ -19,7 +19,7 @@ root_of geometry = (constants geometry.edition).root
 abbrev pub Enters : Geometry → List ℕ → ℕ → ℕ → ℕ → Type 0
 Enters geometry image d s i = (name : List ℕ) × HasEntry geometry image d s name i × (is_dots name ≡ false)
 
--- such entries lead from the root to i-number i (ncheck)
+-- entries of names other than `.` and `..` lead from the root to i-number i (ncheck)
 pub data IsReached (geometry : Geometry) (image : List ℕ) : ℕ → Type 0 where
   at_root : IsReached geometry image (root_of geometry)
   below : (d s i : ℕ) → IsReached geometry image d → Enters geometry image d s i → IsReached geometry image i

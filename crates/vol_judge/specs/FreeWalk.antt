@@ -33,12 +33,12 @@ pub record IsBefore (geometry : Geometry) (image : List ℕ) (rest : Rest) (b : 
   pub from : (blocks : List ℕ) → IsRest geometry image rest blocks
       → (later : List ℕ) × (blocks ≡ b ∷ later) × IsRest geometry image next later
 
--- what comes behind block b, or nothing where there is no such stack (Lions on alloc)
+-- what is left behind block b, the first of what was left, or None where what was left is no stack (Lions on alloc)
 abbrev pub IsBehind : Geometry → List ℕ → Rest → ℕ → Option Rest → Type 0
 IsBehind geometry image rest b None = (blocks : List ℕ) → IsRest geometry image rest blocks → ⊥
 IsBehind geometry image rest b (Some next) = IsBefore geometry image rest b next
 
--- nothing is left (filsys.h)
+-- no block of the free stack is left (filsys.h)
 pub record IsEnd (geometry : Geometry) (image : List ℕ) (rest : Rest) : Type 0 where
   pub empty : IsRest geometry image rest []
   pub none : (blocks : List ℕ) → IsRest geometry image rest blocks → blocks ≡ []

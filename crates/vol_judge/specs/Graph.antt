@@ -50,7 +50,7 @@ pub record IsGraphWithin (graph : Graph) (last : ℕ) : Type 0 where
 abbrev pub Leads : Graph → ℕ → ℕ → ℕ → Type 0
 Leads graph d s i = (name : List ℕ) × (graph.entry d s ≡ Some (name, i)) × (is_dots name ≡ false)
 
--- such entries lead from the root to i (ncheck)
+-- entries of names other than `.` and `..` lead from the root to i (ncheck)
 pub data IsBelow (graph : Graph) (root : ℕ) : ℕ → Type 0 where
   at_root : IsBelow graph root root
   below : (d s i : ℕ) → IsBelow graph root d → Leads graph d s i → IsBelow graph root i

@@ -11,4 +11,3 @@ pub mod Naming
 pub mod Reaching
 pub mod Sound
 pub mod Stepping
-pub mod Verdicts

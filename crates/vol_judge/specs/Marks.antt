@@ -5,7 +5,6 @@ use Rattle.vol_layout.specs.Edition.{constants}
 use Rattle.vol_layout.specs.Geometry.{in_zone}
 use Rattle.vol_layout.specs.Names.{IsPlaceOf, named, entry_of, Names}
 use Rattle.vol_file.specs.Rules.{IsZoned, IsApart}
-use Rattle.vol_file.specs.Changes.{blocks_of}
 use Rattle.vol_layout.specs.declared.geometry.Geometry.{Geometry}
 use Rattle.vol_judge.specs.declared.marking.Places.{Places}
 use Rattle.vol_judge.specs.declared.marking.Places.TheVariants.{OutOfZone, Twice, Once}
@@ -36,10 +35,6 @@ blocks_from geometry image (suc d) b = if b == 0 then [] else
 unfoldable pub marked : List ℕ → List ℕ → Option (List ℕ)
 marked marks [] = Some marks
 marked marks (b ∷ blocks) = if slice_index marks b == 0 then marked (slice_set marks b 1) blocks else None
-
--- the blocks that the places of all files name, by i-number and in the order of the places (icheck)
-abbrev pub all_blocks : Geometry → List ℕ → List ℕ
-all_blocks geometry image = flat_map (blocks_of geometry image) (range_with_len 1 geometry.last_inode)
 
 -- the blocks with a mark that isn't 0 are those that a place names (icheck)
 abbrev pub MarksNamed : Geometry → List ℕ → List ℕ → Type 0

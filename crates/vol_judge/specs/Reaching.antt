@@ -6,14 +6,15 @@ use Rattle.vol_layout.specs.declared.geometry.Geometry.{Geometry}
 use Rattle.vol_judge.specs.Directories.{root_of, Enters, IsReached}
 use Rattle.vol_judge.specs.InodeMarks.{is_marked}
 
--- the root is marked, what is marked is reached, and what a marked directory enters is marked (ncheck)
+-- the root is marked, what is marked is reached from the root, and each directory that a marked one enters is marked (ncheck)
 pub record MarksReached (geometry : Geometry) (image : List ℕ) (marks : List Bool) : Type 0 where
   pub room : length marks ≡ geometry.last_inode + 1
   pub root : is_marked marks (root_of geometry) ≡ true
   pub reached : (i : ℕ) → is_marked marks i ≡ true → IsReached geometry image i
   pub closed : (e t i : ℕ) → is_marked marks e ≡ true → Enters geometry image e t i → IsDirectory geometry image i → is_marked marks i ≡ true
 
--- the same, but for what the directories yet to be entered enter (this project)
+-- the root is marked, what is marked is reached from the root, the directories yet to be entered are marked, and each directory
+-- that a marked one enters is marked, or that one is yet to be entered (this project)
 pub record Explores (geometry : Geometry) (image : List ℕ) (marks : List Bool) (work : List ℕ) : Type 0 where
   pub room : length marks ≡ geometry.last_inode + 1
   pub root : is_marked marks (root_of geometry) ≡ true
@@ -22,7 +23,8 @@ pub record Explores (geometry : Geometry) (image : List ℕ) (marks : List Bool)
   pub closed : (e t i : ℕ) → is_marked marks e ≡ true → Enters geometry image e t i → IsDirectory geometry image i
       → (is_marked marks i ≡ true) ⊎ Contains work e
 
--- the same, while directory d is entered, from one slot on (this project)
+-- the root and directory d are marked, what is marked is reached from the root, the directories yet to be entered are marked, and
+-- each directory that a marked one enters is marked, or that one is yet to be entered, or is d and enters it by slot `from` or a later one (this project)
 pub record ExploresBelow (geometry : Geometry) (image : List ℕ) (d from : ℕ) (marks : List Bool) (work : List ℕ) : Type 0 where
   pub room : length marks ≡ geometry.last_inode + 1
   pub root : is_marked marks (root_of geometry) ≡ true

@@ -1,5 +1,5 @@
 -- When an image is sound: twelve rules, of which the least that fails is named.
-use Rattle.std.specs.Prelude.{◌≡◌, ℕ, zero, suc, ◌<◌, Bool, true, false, List, [], ◌∷◌, Option, None, Some}
+use Rattle.std.specs.Prelude.{◌≡◌, ℕ, zero, suc, ◌<◌, Bool, true, false, List, [], ◌∷◌, ◌++◌, Option, None, Some}
 use Rattle.vol_layout.specs.Geometry.{geometry_of, is_whole, is_bounded}
 use Rattle.vol_free.specs.Stack.{IsFree, HasStack}
 use Rattle.vol_file.specs.Rules.{HasKinds, HasSizes, IsZoned, IsApart, IsOutside, IsCovered}
@@ -21,23 +21,41 @@ abbrev pub Asked : Bool → Type 0 → Type 0
 Asked true fact = fact
 Asked false fact = Unit {0}
 
+-- rules 6 to 8; where the free list isn't asked, what concerns it asks nothing (icheck)
+abbrev pub free_rules : Bool → Geometry → List ℕ → List (Type 0)
+free_rules free geometry image =
+    Asked free (HasStack geometry image)
+    ∷ (IsApart geometry image × Asked free (IsFreeApart geometry image))
+    ∷ Asked free (IsNoneLost geometry image)
+    ∷ []
+
+-- rules 5 to 8 (icheck)
+abbrev pub block_rules : Bool → Geometry → List ℕ → List (Type 0)
+block_rules free geometry image = IsZoned geometry image ∷ free_rules free geometry image
+
+-- rules 9 to 12 (dcheck, ncheck)
+abbrev pub directory_rules : Geometry → List ℕ → List (Type 0)
+directory_rules geometry image =
+    HasEntries geometry image
+    ∷ HasDots geometry image
+    ∷ IsTree geometry image
+    ∷ HasLinks geometry image
+    ∷ []
+
+-- rules 3 to 12 (this project)
+abbrev pub volume_rules : Bool → Geometry → List ℕ → List (Type 0)
+volume_rules free geometry image =
+    HasKinds geometry image
+    ∷ HasSizes geometry image
+    ∷ (block_rules free geometry image ++ directory_rules geometry image)
+
 -- the rules, from number 0, which asks nothing; where the free list isn't asked, what concerns it asks nothing (this project)
 abbrev pub rules : Bool → Edition → List ℕ → Geometry → List (Type 0)
 rules free edition image geometry =
     Unit {0}
     ∷ (is_whole edition image ≡ true)
     ∷ (is_bounded edition image ≡ true)
-    ∷ HasKinds geometry image
-    ∷ HasSizes geometry image
-    ∷ IsZoned geometry image
-    ∷ Asked free (HasStack geometry image)
-    ∷ (IsApart geometry image × Asked free (IsFreeApart geometry image))
-    ∷ Asked free (IsNoneLost geometry image)
-    ∷ HasEntries geometry image
-    ∷ HasDots geometry image
-    ∷ IsTree geometry image
-    ∷ HasLinks geometry image
-    ∷ []
+    ∷ volume_rules free geometry image
 
 -- fact n of a list; there is nothing to ask past its end (this project)
 abbrev pub nth_fact : List (Type 0) → ℕ → Type 0

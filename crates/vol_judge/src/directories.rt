@@ -2,7 +2,8 @@
 ghost use Rattle.std.specs.Prelude.{IfOk};
 ghost use Rattle.vol_layout.specs.Geometry.{Fits};
 ghost use Rattle.vol_file.specs.Rules.{HasKinds};
-ghost use Rattle.vol_judge.specs.Verdicts.{JudgesDirectories};
+ghost use Rattle.vol_judge.specs.Judging.{IsFirstBroken};
+ghost use Rattle.vol_judge.specs.Sound.{directory_rules};
 
 mod dots;
 mod links;
@@ -29,7 +30,7 @@ pub fn judge_directories(
 ) -> Result<Option<u8>, AllocError>
     requires fits { Fits geometry.now image.now }
     requires kinds { HasKinds geometry.now image.now }
-    ensures { IfOk result (λ least. JudgesDirectories geometry.now image.now least) }
+    ensures { IfOk result (λ least. IsFirstBroken 9 (directory_rules geometry.now image.now) least) }
 {
     if !has_entries(alloc, image, geometry)? {
         return Ok(Some(9));

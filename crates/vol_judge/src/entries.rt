@@ -5,15 +5,13 @@ ghost use Rattle.vol_layout.specs.Slot.{name_of, padded_name};
 ghost use Rattle.vol_dir.specs.Entries.{IsDirectory, HasEntries};
 ghost use Rattle.vol_judge.specs.Naming.{IsEntry, HasEntriesIn};
 
-use crate::reading::{is_directory, last_number, next_in};
+use crate::reading::{is_directory, last_number};
 use pdp_words::Image;
 use std::alloc::{AllocError, Global};
 use std::collections::BTreeSet;
 use vol_layout::i_list::{mode, size};
+use vol_layout::slot::{NAME, SLOT};
 use vol_layout::{Geometry, Kind, Slot};
-
-/// Bytes in a slot.
-const SLOT: u32 = 16;
 
 /// Whether rule 9 holds.
 ///
@@ -46,12 +44,12 @@ fn has_entries_in(
     requires directory { IsDirectory geometry.now image.now d }
     ensures { IfOk result (λ holds. IsTrue holds ↔ HasEntriesIn geometry.now image.now d) }
 {
-    if size(image, geometry, d) % SLOT != 0 {
+    if size(image, geometry, d) % SLOT as u32 != 0 {
         return Ok(false);
     }
     let mut names = BTreeSet::new(alloc);
     let mut from = 0;
-    while let Some((s, slot)) = next_in(image, geometry, d, from) {
+    while let Some((s, slot)) = vol_dir::next_entry(image, geometry, d, from) {
         if !is_entry(image, geometry, &slot) || !names.insert(stored_name(&slot))? {
             return Ok(false);
         }
@@ -75,7 +73,7 @@ fn is_entry(image: &Image, geometry: &Geometry, slot: &Slot) -> bool
 }
 
 /// The name of a slot with zero bytes behind it: what stands behind the first zero byte doesn't count.
-fn stored_name(slot: &Slot) -> [u8; 14]
+fn stored_name(slot: &Slot) -> [u8; NAME]
     ensures { result ≡ padded_name (name_of slot.now.name) }
 {
     Slot::new(slot.inode, slot.name()).name

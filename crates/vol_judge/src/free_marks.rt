@@ -65,7 +65,7 @@ fn step(image: &Image, geometry: &Geometry, marks: &mut [bool], rest: Rest) -> O
     if rest.count == 0 {
         return Outcome::End;
     }
-    let b = last_number(image, geometry, rest);
+    let b = top_number(image, geometry, rest);
     if b == 0 && rest.count == 1 {
         return Outcome::End;
     }
@@ -81,8 +81,8 @@ fn step(image: &Image, geometry: &Geometry, marks: &mut [bool], rest: Rest) -> O
     }
 }
 
-/// The last number of what is left, which has one.
-fn last_number(image: &Image, geometry: &Geometry, rest: Rest) -> u32
+/// The number at the top of what is left, which has one: the last in the array.
+fn top_number(image: &Image, geometry: &Geometry, rest: Rest) -> u32
     requires readable { IsReadable geometry.now image.now rest }
     requires some { 1 ≤ rest.count }
     ensures { result ≡ number geometry.now.edition image.now (rest.head + 2) (rest.count - 1) }

@@ -5,6 +5,7 @@ ghost use Rattle.vol_layout.specs.Geometry.{Fits};
 ghost use Rattle.vol_file.specs.Rules.{HasKinds, HasSizes, kind_at};
 ghost use Rattle.vol_judge.specs.Limits.{IsSized, IsLinked};
 
+use crate::reading::last_number;
 use pdp_words::Image;
 use vol_layout::i_list::{mode, size};
 use vol_layout::{Edition, Form, Geometry, Kind, inode};
@@ -95,11 +96,4 @@ fn is_linked(image: &Image, geometry: &Geometry, i: u16) -> bool
         Kind::Free => true,
         _ => inode(image, geometry, i).links <= geometry.edition.constants().link_limit,
     }
-}
-
-/// The last i-number of the volume.
-fn last_number(geometry: &Geometry) -> u16
-    ensures value { result ≡ geometry.now.last_inode }
-{
-    geometry.last_inode
 }

@@ -1,9 +1,9 @@
 //! The twelve rules in their order, up to the first that fails.
-ghost use Rattle.std.specs.Prelude.{◌≡◌, ◌≢◌, ℕ, false, IfOk, length, slice_index_or};
+ghost use Rattle.std.specs.Prelude.{◌≡◌, ◌≢◌, ℕ, false, true, IfOk, length, slice_index_or};
 ghost use Rattle.vol_layout.specs.Geometry.{Fits};
-ghost use Rattle.vol_judge.specs.Judging.{IsFirstBroken, free_rules, block_rules, volume_rules};
+ghost use Rattle.vol_judge.specs.Judging.{IsFirstBroken};
 ghost use Rattle.vol_judge.specs.Marks.{Finds};
-ghost use Rattle.vol_judge.specs.Sound.{IsJudged};
+ghost use Rattle.vol_judge.specs.Sound.{IsJudged, free_rules, block_rules, volume_rules};
 
 use crate::blocks::{are_apart, are_covered};
 use crate::directories::judge_directories;
@@ -88,13 +88,14 @@ fn judge_free(
     requires room { length named.now ≡ geometry.now.zone_end }
     requires places { Finds geometry.now image.now named.now places }
     requires zoned { places ≢ Places.OutOfZone }
-    ensures { IfOk result (λ least. IsFirstBroken 6 (free_rules geometry.now image.now) least) }
+    ensures { IfOk result (λ least. IsFirstBroken 6 (free_rules true geometry.now image.now) least) }
 {
     let mut free = vec![in alloc; false; geometry.zone_end as usize]?;
     Ok(judge_marks(image, geometry, places, named, &mut free))
 }
 
-/// The same, with the marks of the free blocks, of which none is set before.
+/// The least of rules 6 to 8 that fails, by what the places of files were found to name. Marks the free blocks
+/// in `free`, of which no mark is set before.
 fn judge_marks(
     image: &Image,
     geometry: &Geometry,
@@ -108,7 +109,7 @@ fn judge_marks(
     requires clear { (k : ℕ) → slice_index_or free.old k false ≡ false }
     requires places { Finds geometry.now image.now named.now places }
     requires zoned { places ≢ Places.OutOfZone }
-    ensures { IsFirstBroken 6 (free_rules geometry.now image.now) result }
+    ensures { IsFirstBroken 6 (free_rules true geometry.now image.now) result }
 {
     if !mark_free(image, geometry, free) {
         return Some(6);

@@ -1,10 +1,10 @@
 //! Reading the entries of directories, one after the other.
-ghost use Rattle.std.specs.Prelude.{◌≡◌, ℕ, ◌+◌, ◌<◌, ◌≤◌, None, MatchOption, IsTrue, ◌↔◌};
+ghost use Rattle.std.specs.Prelude.{◌≡◌, ◌+◌, ◌<◌, ◌≤◌, MatchOption, IsTrue, ◌↔◌};
 ghost use Rattle.vol_layout.specs.Geometry.{Fits};
 ghost use Rattle.vol_layout.specs.Slot.{name_of};
-ghost use Rattle.vol_dir.specs.Entries.{entry_at, IsDirectory};
+ghost use Rattle.vol_dir.specs.Entries.{IsDirectory};
 ghost use Rattle.vol_dir.specs.Names.{is_dots};
-ghost use Rattle.vol_judge.specs.Stepping.{IsNextIn, IsNext, IsEnd, rank};
+ghost use Rattle.vol_judge.specs.Stepping.{IsNext, IsPastEntries, rank};
 
 use pdp_words::Image;
 use vol_layout::i_list::mode;
@@ -25,17 +25,6 @@ pub(crate) fn is_directory(image: &Image, geometry: &Geometry, i: u16) -> bool
     ensures { IsTrue result ↔ IsDirectory geometry.now image.now i }
 {
     mode(image, geometry, i).kind(geometry.edition) == Kind::Directory
-}
-
-/// The first slot from `from` on of directory `d` that has an entry.
-#[tactic(auto, using(crate::proofs::NextEntries::next_is))]
-pub(crate) fn next_in(image: &Image, geometry: &Geometry, d: u16, from: u32) -> Option<(u32, Slot)>
-    requires fits { Fits geometry.now image.now }
-    requires directory { IsDirectory geometry.now image.now d }
-    ensures { MatchOption result ((t : ℕ) → from ≤ t → entry_at geometry.now image.now d t ≡ None)
-        (λ found. IsNextIn geometry.now image.now d from found.0 found.1) }
-{
-    vol_dir::next_entry(image, geometry, d, from)
 }
 
 /// A place among the slots of all directories, directory after directory.
@@ -99,13 +88,13 @@ impl Entry {
 pub(crate) fn next_entry(image: &Image, geometry: &Geometry, from: Place) -> Option<Entry>
     requires fits { Fits geometry.now image.now }
     requires first { 1 ≤ from.directory }
-    ensures { MatchOption result (IsEnd geometry.now image.now (rank from.directory from.slot))
+    ensures { MatchOption result (IsPastEntries geometry.now image.now (rank from.directory from.slot))
         (λ entry. IsNext geometry.now image.now (rank from.directory from.slot) entry.directory entry.number entry.slot) }
 {
     let mut start = from.slot;
     for d in from.directory..=last_number(geometry) {
         if is_directory(image, geometry, d) {
-            if let Some((number, slot)) = next_in(image, geometry, d, start) {
+            if let Some((number, slot)) = vol_dir::next_entry(image, geometry, d, start) {
                 return Some(Entry {
                     directory: d,
                     number,

@@ -30,8 +30,7 @@ use Rattle.vol_file.specs.Rules.{IsSoundWith, IsCovered, kind_at}
 use Rattle.vol_file.proofs.BlockLists.{at_nil, at_zero, at_some}
 use Rattle.vol_file.proofs.PlaceLists.{count_among, count_none, among_places}
 use Rattle.vol_dir.specs.Tree.{no_shape, form_in, is_place, is_named_place, place_count, free_count, is_number, shape_of, shapes}
-use Rattle.vol_judge.specs.Marks.{all_blocks}
-use Rattle.vol_judge.proofs.AllBlocks.{all_named, all_zoned, apart_once, named_all}
+use Rattle.vol_judge.proofs.AllBlocks.{all_blocks, all_named, all_zoned, apart_once, named_all}
 use Rattle.vol_judge.proofs.GraphCounts.{sum_same}
 use Rattle.vol_judge.proofs.NamedOnce.{in_append, in_left, in_right, once_append}
 

@@ -9,9 +9,10 @@ ghost use Rattle.vol_judge.specs.InodeMarks.{IsNamed, HasUps, MarksChildren};
 ghost use Rattle.vol_judge.specs.Stepping.{rank};
 
 use crate::inode_marks::{are_marked, root_marked};
-use crate::reading::{Place, is_directory, last_number, next_entry, next_in};
+use crate::reading::{Place, is_directory, last_number, next_entry};
 use pdp_words::Image;
 use std::alloc::{AllocError, Global};
+use vol_dir::find;
 use vol_layout::Geometry;
 
 /// Whether rule 10 holds of a volume on which rules 3 and 9 hold.
@@ -56,20 +57,14 @@ fn name_themselves(image: &Image, geometry: &Geometry) -> bool
 }
 
 /// The i-number that directory `d` names by a name.
+#[tactic(auto, using(crate::proofs::Parents::named_by_map))]
 fn named_in(image: &Image, geometry: &Geometry, d: u16, name: &[u8]) -> Option<u16>
     requires fits { Fits geometry.now image.now }
     requires directory { IsDirectory geometry.now image.now d }
     requires entries { HasEntries geometry.now image.now }
     ensures { IsNamed geometry.now image.now d name.now result }
 {
-    let mut from = 0;
-    while let Some((s, slot)) = next_in(image, geometry, d, from) {
-        if slot.name() == name {
-            return Some(slot.inode);
-        }
-        from = s + 1;
-    }
-    None
+    find(image, geometry, d, name)
 }
 
 /// What each directory names by `..`.

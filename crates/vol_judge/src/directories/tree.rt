@@ -10,7 +10,7 @@ ghost use Rattle.vol_judge.specs.InodeMarks.{IsOnce};
 ghost use Rattle.vol_judge.specs.Reaching.{load, Explores, ExploresBelow, MarksReached};
 
 use crate::inode_marks::{are_marked, root_marked};
-use crate::reading::{Entry, Place, is_directory, next_entry, next_in};
+use crate::reading::{Entry, Place, is_directory, next_entry};
 use pdp_words::Image;
 use std::alloc::{AllocError, Global};
 use vol_layout::Geometry;
@@ -96,7 +96,7 @@ fn enter(
     ensures fewer { OnOk result (load marks.new work.new.items ≤ load marks.old work.old.items) }
 {
     let mut from = 0;
-    while let Some((number, slot)) = next_in(image, geometry, d, from) {
+    while let Some((number, slot)) = vol_dir::next_entry(image, geometry, d, from) {
         let entry = Entry {
             directory: d,
             number,

@@ -3,6 +3,7 @@ use Rattle.vol_layout.specs.Slot.{name_of, padded_name}
 use Rattle.vol_judge.specs.Naming.{is_in}
 use Rattle.vol_judge.proofs.Deciding.{refuted, shown, holds, fails, not_true, not_false}
 use Rattle.vol_judge.proofs.Collecting.{below_next, names_next, twice, all_below}
+use Rattle.vol_judge.proofs.NextEntries.{entry_next}
 use Rattle.vol_judge.proofs.entries.has_entries_in.Goals as goal
 use Rattle.vol_judge.proofs.entries.has_entries_in.Goals.{then-not-is_entry-via-then-not-is_entry, then-not-is_entry-via-else-not-is_entry+in_ok-insert+then-not-branch}
 
@@ -12,7 +13,7 @@ returns-then-not-is_entry c =
     elim c.then-not-is_entry.branch [
       | then-not-is_entry-via-then-not-is_entry w ↦
           refuted (λ rule. fails c.is_entry.result c.is_entry.ensures w.if-not-is_entry.true
-          (rule.entries c.in-Some.s c.in-Some.slot.inode name c.in-Some.ensures.entry))
+          (rule.entries c.in-Some.s c.in-Some.slot.inode name (entry_next c.in-Some.ensures)))
       | then-not-is_entry-via-else-not-is_entry+in_ok-insert+then-not-branch w ↦
           let key : w.stored_name.result ≡ padded_name name = w.stored_name.ensures in
           let there = not_false w.in_ok-insert.field-0 (is_in c.loop-s.names w.stored_name.result) w.in_ok-insert.ensures.added w.if-not-branch.true in

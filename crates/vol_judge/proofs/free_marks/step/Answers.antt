@@ -8,11 +8,11 @@ pub returns-then-rest-eq0 : goal.returns-then-rest-eq0
 returns-then-rest-eq0 c = (end_none c.requires.fits c.if-rest-eq0.true, refl)
 
 pub returns-then-rest-eq1 : goal.returns-then-rest-eq1
-returns-then-rest-eq1 c = (end_zero c.requires.fits c.if-rest-eq1.true c.last_number-b.ensures c.if-b-eq0.true, refl)
+returns-then-rest-eq1 c = (end_zero c.requires.fits c.if-rest-eq1.true c.top_number-b.ensures c.if-b-eq0.true, refl)
 
 pub returns-then-not-in_zone : goal.returns-then-not-in_zone
 returns-then-not-in_zone c =
-    broken_by c.args.geometry.now c.args.image.now c.args.rest c.args.marks.now c.last_number-b.result (omega arith) c.last_number-b.ensures
+    broken_by c.args.geometry.now c.args.image.now c.args.rest c.args.marks.now c.top_number-b.result (omega arith) c.top_number-b.ensures
     (elim c.else-b-eq0.branch [
       | else-b-eq0-via-then-b-eq0+else-rest-eq1 w ↦ λ zero one. w.if-rest-eq1.false one
       | else-b-eq0-via-else-b-eq0 w ↦ λ zero one. w.if-b-eq0.false zero

@@ -1,8 +1,8 @@
 use Rattle.std.proofs.Common.{◌≡◌, ◌+◌, ◌-◌, sym, ap, arith, ◌∙◌, Some, None}
 use Rattle.vol_file.specs.Rules.{IsApart}
-use Rattle.vol_judge.specs.Marks.{marked, all_blocks}
+use Rattle.vol_judge.specs.Marks.{marked}
 use Rattle.vol_judge.proofs.Insides.{says_yes, says_no}
-use Rattle.vol_judge.proofs.AllBlocks.{files_from, files_all, files_none, files_more, files_fail, all_marked, all_refused}
+use Rattle.vol_judge.proofs.AllBlocks.{all_blocks, files_from, files_all, files_none, files_more, files_fail, all_marked, all_refused}
 use Rattle.vol_judge.proofs.marking.is_apart.Goals as goal
 
 pub loop-i-init : goal.loop-i-init

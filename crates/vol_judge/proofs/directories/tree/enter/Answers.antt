@@ -2,6 +2,7 @@ use Rattle.std.proofs.Common.{◌<◌, length, arith}
 use Rattle.vol_dir.specs.Entries.{HasEntry}
 use Rattle.vol_layout.specs.Slot.{name_of}
 use Rattle.vol_judge.proofs.Deciding.{holds, fails}
+use Rattle.vol_judge.proofs.NextEntries.{entry_next}
 use Rattle.vol_judge.proofs.Parents.{number_within}
 use Rattle.vol_judge.proofs.Reaches.{explores_marked, explores_passed, explores_entered, load_marked}
 use Rattle.vol_judge.proofs.directories.tree.enter.Goals as goal
@@ -10,13 +11,13 @@ use Rattle.vol_judge.proofs.directories.tree.enter.Goals.{then-enters_directory+
 pub enters_directory-requires-clause-first : goal.enters_directory-requires-clause-first
 enters_directory-requires-clause-first c =
     let has : HasEntry c.args.geometry.now c.args.image.now c.args.d c.in-Some.number (name_of c.in-Some.slot.name) c.in-Some.slot.inode =
-    record { directory = c.requires.directory; entry = c.in-Some.ensures.entry } in
+    record { directory = c.requires.directory; entry = entry_next c.in-Some.ensures } in
     (number_within c.requires.entries has).0
 
 pub enters_directory-requires-clause-last : goal.enters_directory-requires-clause-last
 enters_directory-requires-clause-last c =
     let has : HasEntry c.args.geometry.now c.args.image.now c.args.d c.in-Some.number (name_of c.in-Some.slot.name) c.in-Some.slot.inode =
-    record { directory = c.requires.directory; entry = c.in-Some.ensures.entry } in
+    record { directory = c.requires.directory; entry = entry_next c.in-Some.ensures } in
     (number_within c.requires.entries has).1
 
 pub loop-number-preserved : goal.loop-number-preserved

@@ -1,5 +1,5 @@
 -- What the steps add by which the command line is built.
-use Rattle.std.proofs.Common.{Bool, codes, fold, Some, ◌&&◌, not, is_some, IfOk, Result, Ok, Err, ◌≡◌, ◌∙◌, ℕ, true, false, List, ◌∷◌, ◌++◌, [], refl, ap, ap₂}
+use Rattle.std.proofs.Common.{Bool, codes, fold, Some, IsOkAnd, ◌&&◌, not, is_some, IfOk, Result, Ok, Err, ◌≡◌, ◌∙◌, ℕ, true, false, List, ◌∷◌, ◌++◌, [], refl, ap, ap₂}
 use Rattle.std.specs.Borrow.{Bor}
 use Rattle.clap.specs.Walk.{Rule, is_empty, is_simple_arg}
 use Rattle.clap.specs.Simple.{App, Shape, app_of_fields, shape_of_fields}
@@ -94,12 +94,20 @@ unfolding shape app with_command
 adds_command old command new before editions name arguments added is was =
     added.shape (no_globals command (ap (λ (s : Shape). s.is_plain) is ∙ command_plain editions name arguments)) ∙ ap₂ with_subcommand was is
 
+-- the same of a command that was made
+pub adds_made : {E : Type 0} (old new : Command) (one : Result Command E) (before : App) (editions : Bor (List (Bor (List ℕ)))) (name : List ℕ)
+    (arguments : List (List ℕ)) → IsOkAnd one (λ made. AddsSubcommand old made new) → IfOk one (λ made. shape made ≡ command_shape editions name arguments)
+    → app old ≡ before → app new ≡ with_command before (command_shape editions name arguments)
+adds_made old new (Ok made) before editions name arguments added is was = adds_command old made new before editions name arguments added is was
+adds_made old new (Err e) before editions name arguments added is was = absurd added
+
 -- the same, where the memory for it was there
-pub adds_last_command : {E : Type 0} (result : Result Command E) (old command : Command) (before : App) (editions : Bor (List (Bor (List ℕ)))) (name : List ℕ)
-    (arguments : List (List ℕ)) → IfOk result (AddsSubcommand old command) → shape command ≡ command_shape editions name arguments → app old ≡ before
+pub adds_last_made : {E : Type 0} (result : Result Command E) (old : Command) (one : Result Command E) (before : App) (editions : Bor (List (Bor (List ℕ))))
+    (name : List ℕ) (arguments : List (List ℕ)) → IfOk result (λ new. IsOkAnd one (λ made. AddsSubcommand old made new))
+    → IfOk one (λ made. shape made ≡ command_shape editions name arguments) → app old ≡ before
     → IfOk result (λ new. app new ≡ with_command before (command_shape editions name arguments))
-adds_last_command (Ok new) old command before editions name arguments added is was = adds_command old command new before editions name arguments added is was
-adds_last_command (Err e) old command before editions name arguments added is was = tt
+adds_last_made (Ok new) old one before editions name arguments added is was = adds_made old new one before editions name arguments added is was
+adds_last_made (Err e) old one before editions name arguments added is was = tt
 
 -- the program with its texts, and no command
 pub starts_program : (new versioned about more asking whole : Command) (version about_text after_help : Bor (List ℕ)) → app_of new ≡ new_app (codes "unixvol")

@@ -1,8 +1,8 @@
 //! The words of the command line.
 #![tactic(auto)]
 
-ghost use Rattle.std.specs.Prelude.{◌≡◌, ◌∷◌, [], None, IfOk, IfErr, IfSome, codes, map, string_bytes};
-ghost use Rattle.clap.specs.Words.{subcommand_rows_of};
+ghost use Rattle.std.specs.Prelude.{◌≡◌, ◌∷◌, [], None, IfOk, IfErr, IfSome, IsOkAnd, codes, map, string_bytes};
+ghost use Rattle.clap.specs.Words.{AddsSubcommand, subcommand_rows_of};
 ghost use Rattle.command_line.specs.CommandLine.{Asks, AsksFor, AsksNothing, IsEditionNamed, IsNoCat, IsNoCommand, IsNoEdition, IsNoValue, IsRead, IsRefused, TellsOf, given_in};
 ghost use Rattle.command_line.specs.Words.{app, changing, command_shape, printing, shape, unixvol_app, with_commands};
 
@@ -131,10 +131,9 @@ fn with_prints<'a>(
 ) -> Result<Command<'a>, AllocError>
     ensures { IfOk result (λ more. app more ≡ with_commands editions.entry (app command.entry) printing) }
 {
-    command
-        .subcommand(cat_command(alloc, editions)?)?
-        .subcommand(volumes::ls_command(alloc, editions)?)?
-        .subcommand(volumes::get_command(alloc, editions)?)
+    let command = with_one_more(command, cat_command(alloc, editions))?;
+    let command = with_one_more(command, volumes::ls_command(alloc, editions))?;
+    with_one_more(command, volumes::get_command(alloc, editions))
 }
 
 /// With the commands that make or change a volume.
@@ -145,14 +144,22 @@ fn with_changes<'a>(
 ) -> Result<Command<'a>, AllocError>
     ensures { IfOk result (λ more. app more ≡ with_commands editions.entry (app command.entry) changing) }
 {
-    let command = command
-        .subcommand(mkfs::command(alloc, editions)?)?
-        .subcommand(volumes::put_command(alloc, editions)?)?
-        .subcommand(volumes::rm_command(alloc, editions)?)?;
-    command
-        .subcommand(volumes::rmdir_command(alloc, editions)?)?
-        .subcommand(volumes::mkdir_command(alloc, editions)?)?
-        .subcommand(volumes::ln_command(alloc, editions)?)
+    let command = with_one_more(command, mkfs::command(alloc, editions))?;
+    let command = with_one_more(command, volumes::put_command(alloc, editions))?;
+    let command = with_one_more(command, volumes::rm_command(alloc, editions))?;
+    let command = with_one_more(command, volumes::rmdir_command(alloc, editions))?;
+    let command = with_one_more(command, volumes::mkdir_command(alloc, editions))?;
+    with_one_more(command, volumes::ln_command(alloc, editions))
+}
+
+/// With one more command, where the memory for it was there.
+fn with_one_more<'a>(
+    command: Command<'a>,
+    one: Result<Command<'a>, AllocError>,
+) -> Result<Command<'a>, AllocError>
+    ensures { IfOk result (λ more. IsOkAnd one.entry (λ made. AddsSubcommand command.entry made more)) }
+{
+    command.subcommand(one?)
 }
 
 /// The command `cat`.

@@ -298,6 +298,3 @@ fn unmount(volume: Volume) -> Vec<u8>
     volume.check();
     volume.unmount()
 }
-
-#[cfg(test)]
-mod tests;

@@ -15,8 +15,3 @@ pub use answer::Answer;
 pub use cat::CatFault;
 pub use jobs::{Job, do_job};
 pub use making::{Made, NewVolume, mkfs_command};
-
-#[cfg(test)]
-mod tests;
-#[cfg(test)]
-mod worked;

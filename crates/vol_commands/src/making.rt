@@ -93,6 +93,3 @@ fn explain<E: Sink>(fault: MkfsFault, errors: &mut E) -> u8
     let _ = write_all(errors, line.as_bytes());
     status
 }
-
-#[cfg(test)]
-mod tests;

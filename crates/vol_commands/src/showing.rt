@@ -171,6 +171,3 @@ fn digit(number: u16, weight: u16) -> u8
     }
     b'0' + (number / weight % 10) as u8
 }
-
-#[cfg(test)]
-mod tests;

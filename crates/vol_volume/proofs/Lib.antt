@@ -19,7 +19,6 @@ pub mod NodeReadings
 pub mod Outputs
 pub mod PerformedCalls
 mod QueriedNodes
-pub mod RecordedNumbers
 pub mod Refusals
 pub mod SoundSizes
 pub mod StandingImages

@@ -225,6 +225,3 @@ fn collect_names(
     }
     Ok(names)
 }
-
-#[cfg(test)]
-mod tests;

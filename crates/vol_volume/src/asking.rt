@@ -37,6 +37,3 @@ pub fn ask(
         Err(_) => Err(MountFault::NoMemory),
     }
 }
-
-#[cfg(test)]
-mod tests;

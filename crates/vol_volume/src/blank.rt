@@ -98,6 +98,3 @@ impl BlankVolume {
         write_blocks(sink, &self.first, &self.geometry)
     }
 }
-
-#[cfg(test)]
-mod tests;

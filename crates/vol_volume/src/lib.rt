@@ -21,6 +21,3 @@ pub use making::{MkfsFault, mkfs};
 pub use queries::{Listing, Query, Reply, Stat};
 pub use vol_judge::judge;
 pub use volume::{MountFault, Volume};
-
-#[cfg(test)]
-mod tests;

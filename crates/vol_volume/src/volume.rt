@@ -283,10 +283,3 @@ pub(crate) fn sound_geometry(edition: Edition, image: &Image) -> Geometry
         Err(_) => unreachable!(),
     }
 }
-
-#[cfg(test)]
-mod calls_tests;
-#[cfg(test)]
-mod rules_tests;
-#[cfg(test)]
-mod tests;

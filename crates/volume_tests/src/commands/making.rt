@@ -1,0 +1,82 @@
+// `mkfs` from its numbers to its bytes, its lines and its statuses, and writers that go wrong.
+use crate::fixtures::check_whole;
+use pdp_words::IntoWrite;
+use pdp_words::testing::{ScriptedWriter, WriteMishap};
+use std::alloc::Global;
+use std::io::ErrorKind;
+use std::process::Abort;
+use vol_commands::{Made, NewVolume, mkfs_command};
+use vol_layout::Edition;
+
+/// A volume of the sixth edition of twenty blocks.
+const TWENTY: NewVolume = NewVolume {
+    edition: Edition::V6,
+    blocks: 20,
+    list_blocks: 2,
+    uid: 0,
+    gid: 0,
+    now: 0x0A0B_0C0D,
+};
+
+#[test]
+fn mkfs_makes_or_refuses(rt: HostRuntime) {
+    check(&rt, rt.alloc(), TWENTY, Some(10_240), 0, "");
+    let least = NewVolume {
+        blocks: 4,
+        ..TWENTY
+    };
+    check(&rt, rt.alloc(), least, None, 1, "unixvol: bounds\n");
+    let stranger = NewVolume { uid: 256, ..TWENTY };
+    check(&rt, rt.alloc(), stranger, None, 1, "unixvol: 104 BadId\n");
+    let both = NewVolume { uid: 256, ..least };
+    check(&rt, rt.alloc(), both, None, 1, "unixvol: bounds\n");
+    let seventh = NewVolume {
+        edition: Edition::V7,
+        ..stranger
+    };
+    check(&rt, rt.alloc(), seventh, Some(10_240), 0, "");
+}
+
+/// Runs `mkfs` with two writers, and compares how many bytes are to be saved, the status and the line.
+fn check(
+    rt: &impl Abort,
+    alloc: Global,
+    volume: NewVolume,
+    len: Option<usize>,
+    status: u8,
+    line: &str,
+) {
+    let mut output = IntoWrite::new(ScriptedWriter::new(alloc, 100));
+    let mut errors = IntoWrite::new(ScriptedWriter::new(alloc, 7));
+    let made = mkfs_command(alloc, volume, &mut output, &mut errors);
+    assert_eq!(rt; made.status, status, "{volume:?}");
+    assert_eq!(rt; saved_len(rt, alloc, &made), len, "{volume:?}");
+    check_whole(rt, &output.into_inner().taken, b"");
+    check_whole(rt, &errors.into_inner().taken, line.as_bytes());
+}
+
+/// How many bytes are saved of a new volume, if there is one.
+fn saved_len(rt: &impl Abort, alloc: Global, made: &Made) -> Option<usize> {
+    let Some(volume) = &made.volume else {
+        return None;
+    };
+    let mut saved = IntoWrite::new(ScriptedWriter::new(alloc, 1000));
+    assert!(rt; volume.write_to(&mut saved).is_ok());
+    Some(saved.into_inner().taken.len())
+}
+
+#[test]
+fn a_line_that_is_not_taken_changes_no_status(rt: HostRuntime) {
+    let alloc = rt.alloc();
+    let mut output = IntoWrite::new(ScriptedWriter::new(alloc, 100));
+    let mishap = WriteMishap::Error(ErrorKind::Other);
+    let mut errors = IntoWrite::new(ScriptedWriter::new(alloc, 7).failing_at(1, mishap));
+    let volume = NewVolume {
+        blocks: 4,
+        ..TWENTY
+    };
+    let made = mkfs_command(alloc, volume, &mut output, &mut errors);
+    assert_eq!(rt; made.status, 1);
+    assert!(rt; made.volume.is_none());
+    check_whole(&rt, &errors.into_inner().taken, b"unixvol");
+}

@@ -1,0 +1,26 @@
+//! What the tests of several modules put into bytes, and compare.
+use std::alloc::{AllocError, Global};
+use std::process::Abort;
+use vol_volume::Listing;
+
+/// Names, each with the low byte of its i-number behind it.
+pub(crate) fn with_numbers(alloc: Global, names: &Listing) -> Result<Vec<u8>, AllocError> {
+    let mut told = Vec::new(alloc);
+    for (name, i) in names.as_slice() {
+        told.extend_from_slice(name.as_slice())?;
+        told.push((*i % 256) as u8)?;
+    }
+    Ok(told)
+}
+
+/// Puts bytes at a place, as far as there is one.
+pub(crate) fn put(bytes: &mut [u8], at: usize, piece: &[u8]) {
+    for (byte, new) in bytes.iter_mut().skip(at).zip(piece) {
+        *byte = *new;
+    }
+}
+
+/// Bytes are these, from the first to the last.
+pub(crate) fn check_whole(rt: &impl Abort, found: &[u8], wanted: &[u8]) {
+    assert_eq!(rt; found, wanted);
+}

@@ -1,0 +1,17 @@
+//! Worked values of the volume and of the commands on it, through their public functions.
+#![tactic(auto)]
+
+#[cfg(test)]
+mod answering;
+#[cfg(test)]
+mod asking;
+#[cfg(test)]
+mod blank;
+#[cfg(test)]
+mod commands;
+#[cfg(test)]
+mod fixtures;
+#[cfg(test)]
+mod making;
+#[cfg(test)]
+mod volume;

@@ -12,7 +12,7 @@ use std::alloc::{AllocError, Global};
 use vol_commands::{Job, NewVolume};
 use vol_layout::Edition;
 
-mod decimal;
+pub mod decimal;
 pub mod laws;
 mod mkfs;
 mod texts;
@@ -195,6 +195,3 @@ fn edition_of(text: &str) -> Option<Edition>
         _ => None,
     }
 }
-
-#[cfg(test)]
-mod tests;

@@ -1,4 +1,4 @@
-//! Worked values of the volume and of the commands on it, through their public functions.
+//! Worked values of the volume, of the commands on it and of the command line, by their public functions.
 #![tactic(auto)]
 
 #[cfg(test)]
@@ -15,3 +15,5 @@ mod fixtures;
 mod making;
 #[cfg(test)]
 mod volume;
+#[cfg(test)]
+mod words;

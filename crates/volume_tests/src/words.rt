@@ -1,6 +1,6 @@
 // The words of the command line.
-use super::{Invocation, VolumeFile, read};
-use crate::decimal::{long_of, word_of};
+use command_line::decimal::{long_of, word_of};
+use command_line::{Invocation, VolumeFile, read};
 use std::alloc::{AllocError, Global};
 use std::process::Abort;
 use vol_commands::{Job, NewVolume};

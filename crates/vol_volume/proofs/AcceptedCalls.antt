@@ -10,6 +10,7 @@ use Rattle.vol_dir.specs.Tree.{state, shapes, tree, free_count}
 use Rattle.vol_node.specs.Whole.{StaysAround}
 use Rattle.vol_node.proofs.WholeLaws.{geometry_kept}
 use Rattle.vol_change.specs.Ready.{free_in}
+use Rattle.vol_volume.specs.Inodes.{KeepsInodes}
 use Rattle.vol_volume.specs.Journal.{MayAnswer, Refuses}
 use Rattle.vol_volume.specs.Performing.{IsPerformed}
 use Rattle.vol_volume.specs.Step.{step}
@@ -62,6 +63,7 @@ performs geometry old new call done free sizes performed =
       sound = performed.changes.ready.sound;
       sizes = kept;
       elsewhere = same_elsewhere geometry old new sizes performed.changes.around;
+      inodes = subst (λ g. KeepsInodes g old new) sizes performed.inodes;
     }
 
 -- a volume of some fields

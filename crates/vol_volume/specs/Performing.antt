@@ -3,6 +3,7 @@ use Rattle.std.specs.Prelude.{◌≡◌, ℕ, List, Option, None, Some, Ok}
 use Rattle.vol_dir.specs.Tree.{Tree, state}
 use Rattle.vol_dir.specs.Walk.{walk, walk_parent}
 use Rattle.vol_change.specs.Ready.{Changes, free_in}
+use Rattle.vol_volume.specs.Inodes.{KeepsInodes}
 use Rattle.vol_volume.specs.Step.{step}
 use Rattle.vol_volume.specs.Journal.{MayAnswer}
 use Rattle.vol_dir.specs.declared.cred.Cred.{Cred}
@@ -44,4 +45,5 @@ recorded_number (Some Plain) = None
 pub record IsPerformed (geometry : Geometry) (old new : List ℕ) (call : Call) (done : Done) (free : ℕ) : Type 0 where
   pub answered : MayAnswer (state geometry old) call done
   pub changes : Changes geometry old new (step (state geometry old) call done)
+  pub inodes : KeepsInodes geometry old new
   pub counted : free ≡ free_in (state geometry new)

@@ -6,6 +6,7 @@ use Rattle.vol_dir.specs.Tree.{State, state}
 use Rattle.vol_judge.specs.Sound.{IsSound}
 use Rattle.vol_volume.specs.Verdict.{verdict}
 use Rattle.vol_volume.specs.Step.{step}
+use Rattle.vol_volume.specs.Inodes.{KeepsInodes}
 use Rattle.vol_volume.specs.Journal.{MayAnswer, after, IsLegal}
 use Rattle.vol_layout.specs.declared.edition.Edition.{Edition}
 use Rattle.vol_volume.specs.declared.calls.Call.{Call}
@@ -55,6 +56,7 @@ pub record Performs (edition : Edition) (old new : List ℕ) (call : Call) (done
   pub sound : IsSound edition new
   pub sizes : geometry_of edition new ≡ geometry_of edition old
   pub elsewhere : SameElsewhere edition old new
+  pub inodes : KeepsInodes (geometry_of edition old) old new
 
 -- a volume after a call that was accepted, made and recorded (this project)
 pub record Accepts (old new : Mounted) (call : Call) (done : Done) : Type 0 where

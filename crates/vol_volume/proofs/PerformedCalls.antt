@@ -29,9 +29,11 @@ pub performed_by : (geometry : Geometry) (old new : List ℕ) (call : Call) (don
     → step (state geometry old) call done ≡ made → MayAnswer (state geometry old) call done → Changes geometry old new made → KeepsInodes geometry old new
     → free ≡ free_in made → IsPerformed geometry old new call done free
 performed_by geometry old new call done made free stepped answered changes inodes counted = record {
-  answered = answered;
-  changes = subst (λ s. Changes geometry old new s) (sym stepped) changes;
-  inodes = inodes;
+  performed = record {
+    answered = answered;
+    changes = subst (λ s. Changes geometry old new s) (sym stepped) changes;
+    inodes = inodes;
+  };
   counted = counted ∙ ap free_in (sym changes.makes);
 }
 

@@ -2,10 +2,8 @@
 use Rattle.std.specs.Prelude.{◌≡◌, ℕ, List, Option, None, Some, Ok}
 use Rattle.vol_dir.specs.Tree.{Tree, state}
 use Rattle.vol_dir.specs.Walk.{walk, walk_parent}
-use Rattle.vol_change.specs.Ready.{Changes, free_in}
-use Rattle.vol_volume.specs.Inodes.{KeepsInodes}
-use Rattle.vol_volume.specs.Step.{step}
-use Rattle.vol_volume.specs.Journal.{MayAnswer}
+use Rattle.vol_change.specs.Ready.{free_in}
+use Rattle.vol_volume.specs.Volume.{Performs}
 use Rattle.vol_dir.specs.declared.cred.Cred.{Cred}
 use Rattle.vol_layout.specs.declared.geometry.Geometry.{Geometry}
 use Rattle.vol_volume.specs.declared.calls.Call.{Call}
@@ -41,9 +39,7 @@ recorded_number (Some (Made i)) = Some i
 recorded_number (Some (Wrote n)) = None
 recorded_number (Some Plain) = None
 
--- the image has become what a call makes of it with this answer, and so many blocks are free (this project)
+-- a call was performed with this answer, and so many blocks are free (this project)
 pub record IsPerformed (geometry : Geometry) (old new : List ℕ) (call : Call) (done : Done) (free : ℕ) : Type 0 where
-  pub answered : MayAnswer (state geometry old) call done
-  pub changes : Changes geometry old new (step (state geometry old) call done)
-  pub inodes : KeepsInodes geometry old new
+  pub performed : Performs geometry old new call done
   pub counted : free ≡ free_in (state geometry new)

@@ -120,7 +120,7 @@ links_mapped now name None = refl
 links_mapped now name (Some node) = refl
 
 -- without an entry all nodes have their links
-links_kept : (state : State) (now d i : ℕ) (name : List ℕ) → (node_at (remove_entry now d name state).tree i).links ≡ (node_at state.tree i).links
+pub links_kept : (state : State) (now d i : ℕ) (name : List ℕ) → (node_at (remove_entry now d name state).tree i).links ≡ (node_at state.tree i).links
 links_kept state now d i name =
     let change : Option Node → Option Node = option_map (λ node. record (modified now node) { content = change_names (λ names. remove names name) node.content }) in
     elim (cases_eq i d) [

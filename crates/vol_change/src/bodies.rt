@@ -17,7 +17,7 @@ use vol_node::{empty_file, put_time, touch, write_bytes};
 /// Writes `bytes` into the regular file `i` from byte `offset` on, at `moment`, in seconds. Of a write of
 /// no bytes only the volume's time is left.
 ///
-/// Costs the bytes, and the ways of their blocks.
+/// Costs as much as [`vol_file::write`].
 pub fn write(image: &mut Image, geometry: &Geometry, i: u16, offset: u32, bytes: &[u8], moment: u32)
     requires ready { IsReady geometry.now image.old }
     requires first { 1 ≤ i }
@@ -39,7 +39,7 @@ pub fn write(image: &mut Image, geometry: &Geometry, i: u16, offset: u32, bytes:
 
 /// Takes all bytes and blocks from the regular file `i`, at `moment`, in seconds.
 ///
-/// Costs the places of the file that name something.
+/// Costs as much as [`vol_file::truncate`].
 pub fn truncate(image: &mut Image, geometry: &Geometry, i: u16, moment: u32)
     requires ready { IsReady geometry.now image.old }
     requires first { 1 ≤ i }

@@ -50,8 +50,8 @@ pub(crate) fn enter(
     touch(image, geometry, dir, moment);
 }
 
-/// Takes `name`, which i-number `i` has, out of directory `dir`, whose bytes were then last changed at
-/// `moment`, in seconds.
+/// Takes `name`, which is there, out of directory `dir`, whose bytes were then last changed at `moment`,
+/// in seconds.
 pub(crate) fn leave(image: &mut Image, geometry: &Geometry, dir: u16, name: &[u8], moment: u32)
     requires whole { IsWhole geometry.now image.old }
     requires directory { IsDirectory geometry.now image.old dir }

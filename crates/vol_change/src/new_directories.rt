@@ -28,7 +28,7 @@ use vol_node::{add_link, add_name, make_directory, put_time};
 /// recorded one, if there is one, and else one that is free; the answer is that number. The blocks of
 /// the entry in `dir` are taken first, then that of the new directory.
 ///
-/// Costs what a new entry of `dir` does; the i-list is searched only where no i-number is cached.
+/// Costs what a new entry of `dir` does; the i-list is searched only where no cached i-number is free.
 pub fn mkdir(
     image: &mut Image,
     geometry: &Geometry,

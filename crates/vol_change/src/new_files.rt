@@ -21,7 +21,8 @@ use vol_node::{make_file, put_time};
 /// Makes an empty regular file with `name` in directory `dir`. Its i-number is the recorded one, if
 /// there is one, and else one that is free; the answer is that number.
 ///
-/// Costs what a new entry of the directory does; the i-list is searched only where no i-number is cached.
+/// Costs what a new entry of the directory does; the i-list is searched only where no cached i-number is
+/// free.
 pub fn create(
     image: &mut Image,
     geometry: &Geometry,

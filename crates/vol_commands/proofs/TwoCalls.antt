@@ -1,16 +1,17 @@
 -- Two calls, made one after the other.
-use Rattle.std.proofs.Common.{◌≡◌, ℕ, ◌+◌, ◌*◌, ◌&&◌, ◌||◌, nat_le, nat_lt, Bool, List, [], ◌∷◌, Result, Ok, Err, IfErr, OnOk, inl, inr, refl, sym, ap, subst, ◌∙◌, None}
+use Rattle.std.proofs.Common.{◌≡◌, ℕ, List, [], ◌∷◌, Result, Ok, Err, IfErr, OnOk, inl, inr, refl, sym, ap, subst, ◌∙◌, None}
 use Rattle.vol_dir.specs.Tree.{State}
-use Rattle.vol_layout.specs.Geometry.{geometry_of, block_count}
-use Rattle.vol_layout.specs.Super.{free_head, time_place}
+use Rattle.vol_layout.specs.Geometry.{geometry_of}
 use Rattle.vol_judge.specs.Sound.{IsSound}
 use Rattle.vol_volume.specs.Journal.{MayAnswer, MayFollow, Refuses}
 use Rattle.vol_volume.specs.Step.{step}
 use Rattle.vol_volume.specs.Verdict.{verdict}
-use Rattle.vol_volume.specs.Volume.{Mounted, Accepts, Performs, SameElsewhere, reads_as}
+use Rattle.vol_volume.specs.Volume.{Mounted, Accepts, Performs, reads_as}
+use Rattle.vol_volume.proofs.Journals.{reads_made}
+use Rattle.vol_node.specs.Whole.{StaysAround}
+use Rattle.vol_node.proofs.WholeLaws.{around_then, geometry_kept}
 use Rattle.vol_commands.specs.Changing.{Makes, AreRefused, IsReason}
 use Rattle.vol_layout.specs.declared.edition.Edition.{Edition}
-use Rattle.vol_layout.specs.declared.geometry.Geometry.{Geometry}
 use Rattle.vol_volume.specs.declared.calls.Call.{Call}
 use Rattle.vol_volume.specs.declared.calls.Done.{Done}
 use Rattle.vol_dir.specs.declared.refusal.Refusal.{Refusal}
@@ -18,23 +19,12 @@ use Rattle.vol_dir.specs.declared.refusal.Refusal.TheVariants as refusals
 use Rattle.vol_commands.specs.declared.faults.Fault.{Fault}
 use Rattle.vol_commands.specs.declared.faults.Fault.TheVariants as faults
 
--- what calls may change goes by the volume's size
-changeable_by : (edition : Edition) (k blocks : ℕ) → Bool
-changeable_by edition k blocks =
-    (nat_le (free_head edition) k && nat_lt k (free_head edition + 404))
-    || ((nat_le (time_place edition) k && nat_lt k (time_place edition + 4))
-    || (nat_le 1024 k && nat_lt k (512 * blocks)))
-
 -- what two calls leave, the one after the other, stays
-elsewhere_both : (edition : Edition) (one two three : List ℕ) → geometry_of edition two ≡ geometry_of edition one
-    → SameElsewhere edition one two → SameElsewhere edition two three → SameElsewhere edition one three
-unfolding changeable_by
-elsewhere_both edition one two three sizes first second =
-    let blocks : block_count edition two ≡ block_count edition one = ap (λ (g : Geometry). g.zone_end) sizes in
-    record {
-      len = second.len ∙ first.len;
-      same = λ k stays. second.same k (ap (λ n. changeable_by edition k n) blocks ∙ stays) ∙ first.same k stays;
-    }
+around_both : (edition : Edition) (one two three : List ℕ) → StaysAround (geometry_of edition one) one two
+    → StaysAround (geometry_of edition two) two three → StaysAround (geometry_of edition one) one three
+around_both edition one two three first second =
+    around_then (geometry_of edition one) one two three first
+    (subst (λ g. StaysAround g two three) (geometry_kept (geometry_of edition one) one two first) second)
 
 -- a call that may be made of a state may be made of the same one
 follows_at : (at to : State) (call : Call) (done : Done) → at ≡ to → verdict at call ≡ None → MayAnswer at call done
@@ -46,8 +36,8 @@ follows_at at to call done same accepted answered = record {
 
 -- the bytes that two calls made
 made_by : (edition : Edition) (one two three : List ℕ) (first second : Call) (done last : Done)
-    → IsSound edition one → verdict (reads_as edition one) first ≡ None → Performs edition one two first done
-    → verdict (reads_as edition two) second ≡ None → Performs edition two three second last
+    → IsSound edition one → verdict (reads_as edition one) first ≡ None → Performs (geometry_of edition one) one two first done
+    → verdict (reads_as edition two) second ≡ None → Performs (geometry_of edition two) two three second last
     → Makes edition one (first ∷ second ∷ []) three
 made_by edition one two three first second done last sound accepted performed accepted_then performed_then = record {
   mounted = sound;
@@ -55,12 +45,12 @@ made_by edition one two three first second done last sound accepted performed ac
   asked = refl;
   legal = (
     record { accepted = accepted; answered = performed.answered },
-    (follows_at (reads_as edition two) (step (reads_as edition one) first done) second last performed.makes accepted_then performed_then.answered, tt),
+    (follows_at (reads_as edition two) (step (reads_as edition one) first done) second last (reads_made edition one two first done performed) accepted_then performed_then.answered, tt),
   );
-  reads = performed_then.makes ∙ ap (λ state. step state second last) performed.makes;
-  sound = performed_then.sound;
-  sizes = performed_then.sizes ∙ performed.sizes;
-  elsewhere = elsewhere_both edition one two three performed.sizes performed.elsewhere performed_then.elsewhere;
+  reads = reads_made edition two three second last performed_then
+      ∙ ap (λ state. step state second last) (reads_made edition one two first done performed);
+  sound = performed_then.changes.ready.sound;
+  around = around_both edition one two three performed.changes.around performed_then.changes.around;
 }
 
 -- the same of a volume
@@ -69,7 +59,7 @@ pub two_made : (old mid new : Mounted) (first second : Call) (done last : Done) 
 two_made old mid new first second done last sound one two =
     made_by old.edition old.image mid.image new.image first second done last sound one.accepted one.performed
     (subst (λ edition. verdict (reads_as edition mid.image) second ≡ None) one.edition two.accepted)
-    (subst (λ edition. Performs edition mid.image new.image second last) one.edition two.performed)
+    (subst (λ edition. Performs (geometry_of edition mid.image) mid.image new.image second last) one.edition two.performed)
 
 -- a refusal of calls is a reason not to make them
 pub refused_reason : (edition : Edition) (image : List ℕ) (calls : List Call) (refusal : Refusal) → IsSound edition image
@@ -105,7 +95,7 @@ refused_second : (old mid : Mounted) (first second : Call) (done : Done) (refusa
 refused_second old mid first second done refusal sound one refuses =
     let here : Refuses (reads_as old.edition mid.image) second refusal = subst (λ edition. Refuses (reads_as edition mid.image) second refusal) one.edition refuses in
     let there : Refuses (step (reads_as old.edition old.image) first done) second refusal =
-    subst (λ state. Refuses state second refusal) one.performed.makes here in
+    subst (λ state. Refuses state second refusal) (reads_made old.edition old.image mid.image first done one.performed) here in
     refused_reason old.edition old.image (first ∷ second ∷ []) refusal sound
     (inr (done, record { accepted = one.accepted; answered = one.performed.answered }, inl there))
 

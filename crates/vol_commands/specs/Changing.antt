@@ -3,10 +3,11 @@ use Rattle.std.specs.Prelude.{◌≡◌, ◌⊎◌, ◌↔◌, ℕ, true, List, 
 use Rattle.vol_layout.specs.Geometry.{geometry_of}
 use Rattle.vol_dir.specs.Tree.{Tree, State}
 use Rattle.vol_judge.specs.Sound.{IsSound, IsLeastBroken}
+use Rattle.vol_node.specs.Whole.{StaysAround}
 use Rattle.vol_volume.specs.Answer.{answer}
 use Rattle.vol_volume.specs.Journal.{Refuses, MayFollow, IsLegal, after}
 use Rattle.vol_volume.specs.Step.{step}
-use Rattle.vol_volume.specs.Volume.{reads_as, SameElsewhere}
+use Rattle.vol_volume.specs.Volume.{reads_as}
 use Rattle.vol_commands.specs.Faults.{user, status_at, line_at}
 use Rattle.vol_dir.specs.declared.refusal.Refusal.{Refusal}
 use Rattle.vol_dir.specs.declared.refusal.Refusal.TheVariants as refusals
@@ -29,8 +30,7 @@ pub record Makes (edition : Edition) (image : List ℕ) (calls : List Call) (byt
   pub legal : IsLegal (reads_as edition image) journal
   pub reads : reads_as edition bytes ≡ after (reads_as edition image) journal
   pub sound : IsSound edition bytes
-  pub sizes : geometry_of edition bytes ≡ geometry_of edition image
-  pub elsewhere : SameElsewhere edition image bytes
+  pub around : StaysAround (geometry_of edition image) image bytes
 
 -- of calls, made one after another, the first that isn't accepted is refused so (this project)
 abbrev pub AreRefused : State → List Call → Refusal → Type 0

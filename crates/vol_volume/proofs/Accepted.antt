@@ -8,12 +8,12 @@ use Rattle.vol_layout.specs.Edition.{constants}
 use Rattle.vol_dir.specs.Access.{may_write}
 use Rattle.vol_dir.specs.Names.{get, is_dots}
 use Rattle.vol_dir.specs.Tree.{Tree, State}
-use Rattle.vol_dir.specs.Walk.{walk, walk_parent, is_directory}
+use Rattle.vol_dir.specs.Walk.{has_zero, walk, walk_parent, is_directory}
 use Rattle.vol_node.specs.Nodes.{node_at, names_at, entry_of}
 use Rattle.vol_change.specs.Ready.{TakesName, entry_need, free_in}
 use Rattle.vol_volume.specs.Mkfs.{is_bad_id}
 use Rattle.vol_volume.specs.Performing.{LeadsToParent, LeadsToNode}
-use Rattle.vol_volume.specs.Verdict.{first_of, has_name, has_others, is_device, has_free_number, has_zero, then_others, of_node, of_parent, create_tests, mkdir_tests, link_tests, unlink_tests, rmdir_tests, body_tests, write_tests, write_need, link_refusal, verdict}
+use Rattle.vol_volume.specs.Verdict.{first_of, has_name, has_others, is_device, has_free_number, then_others, of_node, of_parent, create_tests, mkdir_tests, link_tests, unlink_tests, rmdir_tests, body_tests, write_tests, write_need, link_refusal, verdict}
 use Rattle.vol_dir.specs.declared.cred.Cred.{Cred}
 use Rattle.vol_dir.specs.declared.refusal.Refusal.{Refusal}
 use Rattle.vol_dir.specs.declared.refusal.Refusal.TheVariants as refusals

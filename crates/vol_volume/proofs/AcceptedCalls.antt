@@ -1,68 +1,20 @@
 -- What a volume is after a call that was performed and recorded.
-use Rattle.std.proofs.Common.{◌≡◌, ℕ, ◌+◌, ◌*◌, ◌≤◌, ◌&&◌, ◌∙◌, ap, sym, subst, refl, nat_le, nat_lt, List, [], ◌∷◌, ◌++◌, None, Some, inl, inr, arith}
-use Rattle.std.proofs.lemmas.Bool.{or_parts, and_cases}
-use Rattle.std.proofs.lemmas.Bool.Decides.{nat_tests}
-use Rattle.vol_layout.specs.Geometry.{geometry_of, block_count}
-use Rattle.vol_layout.specs.Super.{free_head, time_place}
+use Rattle.std.proofs.Common.{◌≡◌, ℕ, ◌∙◌, sym, subst, refl, List, [], ◌∷◌, ◌++◌, None, Some}
+use Rattle.vol_layout.specs.Geometry.{geometry_of}
 use Rattle.vol_layout.specs.declared.edition.Edition.{Edition}
 use Rattle.vol_layout.specs.declared.geometry.Geometry.{Geometry}
 use Rattle.vol_dir.specs.Tree.{state, shapes, tree, free_count}
-use Rattle.vol_node.specs.Whole.{StaysAround}
-use Rattle.vol_node.proofs.WholeLaws.{geometry_kept}
 use Rattle.vol_change.specs.Ready.{free_in}
-use Rattle.vol_volume.specs.Journal.{MayAnswer, Refuses}
+use Rattle.vol_volume.specs.Journal.{Refuses}
 use Rattle.vol_volume.specs.Performing.{IsPerformed}
-use Rattle.vol_volume.specs.Step.{step}
 use Rattle.vol_volume.specs.Verdict.{verdict}
-use Rattle.vol_volume.specs.Volume.{Mounted, reads_as, SameElsewhere, IsConsistent, Performs, Accepts}
+use Rattle.vol_volume.specs.Volume.{Mounted, reads_as, IsConsistent, Performs, Accepts}
 use Rattle.vol_volume.proofs.Journals.{kept_consistent}
 use Rattle.vol_volume.proofs.Refusals.{refused_so}
 use Rattle.vol_dir.specs.declared.refusal.Refusal.{Refusal}
 use Rattle.vol_volume.specs.declared.calls.Call.{Call}
 use Rattle.vol_volume.specs.declared.calls.Done.{Done}
 use Rattle.vol_volume.specs.declared.calls.Record.{Record}
-
--- the bytes that no call changes
-same_elsewhere : (geometry : Geometry) (old new : List ℕ) → geometry ≡ geometry_of geometry.edition old → StaysAround geometry old new
-    → SameElsewhere geometry.edition old new
-same_elsewhere geometry old new sizes around = record {
-  len = around.len;
-  same = λ k stays.
-      let head = free_head geometry.edition in
-      let time = time_place geometry.edition in
-      let end : geometry.zone_end ≡ block_count geometry.edition old = ap (λ (g : Geometry). g.zone_end) sizes in
-      let parts = or_parts (nat_le head k && nat_lt k (head + 404)) _ stays in
-      let rest = or_parts (nat_le time k && nat_lt k (time + 4)) _ parts.1 in
-      elim (and_cases (nat_le head k) (nat_lt k (head + 404)) parts.0) [
-        | inl a ↦ around.before k (grind (arith, nat_tests, a))
-        | inr b ↦
-            let past : head + 404 ≤ k = grind (arith, nat_tests, b) in
-            elim (and_cases (nat_le time k) (nat_lt k (time + 4)) rest.0) [
-              | inl c ↦ around.flags k past (grind (arith, nat_tests, c))
-              | inr d ↦
-                  let after : time + 4 ≤ k = grind (arith, nat_tests, d) in
-                  elim (and_cases (nat_le 1024 k) (nat_lt k (512 * block_count geometry.edition old)) rest.1) [
-                    | inl e ↦ around.rest k after (grind (arith, nat_tests, e))
-                    | inr f ↦
-                        let high : 512 * block_count geometry.edition old ≤ k = grind (arith, nat_tests, f) in
-                        around.behind k (omega (arith, high, end))
-                  ]
-            ]
-      ];
-}
-
--- the image has become what the call makes of it
-pub performs : (geometry : Geometry) (old new : List ℕ) (call : Call) (done : Done) (free : ℕ) → geometry ≡ geometry_of geometry.edition old
-    → IsPerformed geometry old new call done free → Performs geometry.edition old new call done
-performs geometry old new call done free sizes performed =
-    let kept = geometry_kept geometry old new performed.changes.around in
-    record {
-      answered = subst (λ g. MayAnswer (state g old) call done) sizes performed.answered;
-      makes = ap (λ g. state g new) (kept ∙ sym sizes) ∙ performed.changes.makes ∙ ap (λ g. step (state g old) call done) sizes;
-      sound = performed.changes.ready.sound;
-      sizes = kept;
-      elsewhere = same_elsewhere geometry old new sizes performed.changes.around;
-    }
 
 -- a volume of some fields
 abbrev pub volume_of : Edition → List ℕ → List ℕ → List Record → Mounted
@@ -76,7 +28,7 @@ module _ (geometry : Geometry) (old new base : List ℕ) (journal : List Record)
       (volume_of geometry.edition new base (journal ++ record { call = call; done = done } ∷ [])) call done
   accepts = record {
     accepted = subst (λ g. verdict (state g old) call ≡ None) sizes accepted;
-    performed = performs geometry old new call done free sizes performed;
+    performed = subst (λ g. Performs g old new call done) sizes performed.performed;
     edition = refl;
     base = refl;
     journal = refl;
@@ -104,7 +56,7 @@ pub fields_kept : (geometry : Geometry) (old new base : List ℕ) (journal longe
     → (geometry ≡ geometry_of geometry.edition new) × IsConsistent (volume_of geometry.edition new base longer)
     × (free ≡ free_count geometry (shapes geometry new))
 fields_kept geometry old new base journal longer call done free sizes accepted performed appended was = (
-  performed.changes.ready.sizes,
+  performed.performed.changes.ready.sizes,
   subst (λ records. IsConsistent (volume_of geometry.edition new base records)) (sym appended)
       (consistent geometry old new base journal call done free sizes accepted performed was),
   counts_new geometry old new call done free performed,

@@ -4,7 +4,7 @@ use Rattle.std.specs.Prelude.{MatchResult, slice_range}
 use Rattle.std.proofs.lemmas.List.{take_all, drop_all, take_min, append-nil, length-drop}
 use Rattle.vol_dir.specs.Access.{may_read}
 use Rattle.vol_dir.specs.Tree.{Tree, tree}
-use Rattle.vol_dir.specs.Walk.{walk}
+use Rattle.vol_dir.specs.Walk.{has_zero, walk}
 use Rattle.vol_dir.specs.declared.cred.Cred.{Cred}
 use Rattle.vol_dir.specs.declared.refusal.Refusal.{Refusal}
 use Rattle.vol_dir.specs.declared.refusal.Refusal.TheVariants as refusals
@@ -14,7 +14,7 @@ use Rattle.vol_node.specs.Edits.{body_of}
 use Rattle.vol_volume.specs.Answer.{list_tests, query_refusal, read_bytes, reply_at, reply_of, refused_or, stat_of, Answers}
 use Rattle.vol_volume.specs.Answering.{IsRefused, LeadsTo}
 use Rattle.vol_volume.specs.Mkfs.{is_bad_id}
-use Rattle.vol_volume.specs.Verdict.{first_of, has_zero, body_tests, then_others, of_node}
+use Rattle.vol_volume.specs.Verdict.{first_of, body_tests, then_others, of_node}
 use Rattle.vol_volume.specs.declared.queries.Query.{Query}
 use Rattle.vol_volume.specs.declared.queries.Query.TheVariants as queries
 use Rattle.vol_volume.specs.declared.queries.Reply.{Reply}

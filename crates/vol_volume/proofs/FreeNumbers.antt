@@ -57,6 +57,12 @@ module _ (geometry : Geometry) (image : List ℕ) (files : HasSoundFiles geometr
       ap is_none (node_here geometry image i first last ∙ node_of_kind geometry image i (kind_at geometry image i) refl)
       ∙ none_by i (kind_at geometry image i) refl (files.sound.kinds.known i first last)
 
+  -- a free number has no node
+  pub number_none : (i : ℕ) → IsFreeNumber geometry image i → is_none ((tree geometry image).nodes i) ≡ true
+  number_none i free =
+      let zero_mode : (mode_of geometry image i == 0) ≡ true = grind (arith, nat_tests, free.mode) in
+      none_is i (omega (arith, free.above)) free.within ∙ zero_mode
+
   -- an i-number can be taken where its i-node is free
   number_is : (i : ℕ) → 1 ≤ i → i ≤ geometry.last_inode
       → is_free_number (tree geometry image) i ≡ (nat_lt (constants geometry.edition).root i && (nat_le i geometry.last_inode && (mode_of geometry image i == 0)))

@@ -1,11 +1,13 @@
 -- Journals in parts, and what an accepted call keeps.
 use Rattle.std.proofs.Common.{◌≡◌, ◌↔◌, ℕ, List, [], ◌∷◌, ◌++◌, refl, ap, sym, ◌∙◌, subst, Result, Ok, Err}
-use Rattle.vol_dir.specs.Tree.{State}
+use Rattle.vol_layout.specs.Geometry.{geometry_of}
+use Rattle.vol_dir.specs.Tree.{State, state}
 use Rattle.vol_node.specs.Edits.{after_write}
 use Rattle.vol_volume.specs.Step.{step, on_node}
 use Rattle.vol_volume.specs.Journal.{after, MayFollow, IsLegal}
 use Rattle.vol_volume.specs.Volume.{Mounted, reads_as, IsConsistent, Performs, Accepts}
 use Rattle.vol_dir.specs.declared.refusal.Refusal.{Refusal}
+use Rattle.vol_layout.specs.declared.edition.Edition.{Edition}
 use Rattle.vol_volume.specs.declared.calls.Call.{Call}
 use Rattle.vol_volume.specs.declared.calls.Done.{Done}
 use Rattle.vol_volume.specs.declared.calls.Record.{Record}
@@ -39,19 +41,24 @@ pub legal-in-parts : (state : State) (front rest : List Record)
     → IsLegal state (front ++ rest) ↔ (IsLegal state front × IsLegal (after state front) rest)
 legal-in-parts state front rest = (legal-parts state front rest, λ both. legal-append state front rest both.0 both.1)
 
+-- what an accepted call made of an image, by the sizes that it states then
+pub reads_made : (edition : Edition) (old new : List ℕ) (call : Call) (done : Done) → Performs (geometry_of edition old) old new call done
+    → reads_as edition new ≡ step (reads_as edition old) call done
+reads_made edition old new call done performed = ap (λ g. state g new) (sym performed.changes.ready.sizes) ∙ performed.changes.makes
+
 -- an accepted call keeps a volume consistent; `now` is what the journal made before
 keep_same : (now : State) (old : Mounted) (new : List ℕ) (call : Call) (done : Done) → IsConsistent old
     → now ≡ reads_as old.edition old.image
     → MayFollow now (record { call = call; done = done })
     → now ≡ after (reads_as old.edition old.base) old.journal
-    → Performs old.edition old.image new call done
+    → Performs (geometry_of old.edition old.image) old.image new call done
     → IsConsistent (record { edition = old.edition; image = new; base = old.base; journal = old.journal ++ record { call = call; done = done } ∷ [] })
 keep_same now old new call done was reads follows made performed = record {
-  image_sound = performed.sound;
+  image_sound = performed.changes.ready.sound;
   base_sound = was.base_sound;
   legal = legal-append _ old.journal (record { call = call; done = done } ∷ []) was.legal
       (subst (λ at. IsLegal at (record { call = call; done = done } ∷ [])) made (follows, tt));
-  reads = performed.makes ∙ ap (λ at. step at call done) (sym reads ∙ made)
+  reads = reads_made old.edition old.image new call done performed ∙ ap (λ at. step at call done) (sym reads ∙ made)
       ∙ sym (after-append (reads_as old.edition old.base) old.journal (record { call = call; done = done } ∷ []));
 }
 

@@ -14,6 +14,7 @@ pub mod NewRules
 pub mod NewSizes
 pub mod NewVolumes
 pub mod FreeNumbers
+pub mod KeptInodes
 pub mod NeedReadings
 pub mod NodeReadings
 pub mod Outputs

@@ -1,6 +1,6 @@
 -- What the tree of an image says of one i-node.
 use Rattle.std.proofs.Common.{◌≡◌, ◌≢◌, ℕ, ◌≤◌, ◌∙◌, ap, refl, sym, true, false, List, Some, arith}
-use Rattle.std.specs.Option.{option_map, unwrap_or}
+use Rattle.std.specs.Option.{option_map, unwrap_or, is_none}
 use Rattle.std.proofs.lemmas.Bool.{false≢true}
 use Rattle.vol_layout.specs.Edition.{constants}
 use Rattle.vol_layout.specs.Inode.{inode_of}
@@ -115,6 +115,10 @@ module _ (geometry : Geometry) (image : List ℕ) where
       let is : node_of geometry image i ≡ Some (node_with (inode_of geometry.edition image i) stored.0) =
       node_of_kind i kind refl ∙ ap (option_map (node_with (inode_of geometry.edition image i))) stored.1 in
       is ∙ sym (ap (λ n. Some (unwrap_or n no_node)) (node_here geometry image i first used.last ∙ is))
+
+  -- so its i-number has a node
+  pub used_some : (i : ℕ) → 1 ≤ i → HasSoundFiles geometry image → IsInUse geometry image i → is_none ((tree geometry image).nodes i) ≡ false
+  used_some i first files used = ap is_none (node_here geometry image i first used.last ∙ node_stored i first files used)
 
   -- and its node has the links that it stores
   pub links_are : (i : ℕ) → 1 ≤ i → HasSoundFiles geometry image → IsInUse geometry image i

@@ -13,6 +13,7 @@ use Rattle.vol_change.specs.Effects.{after_create, after_mkdir, after_link, afte
 use Rattle.vol_node.specs.Nodes.{node_at, names_at}
 use Rattle.vol_change.specs.Ready.{IsReady, Changes, free_in}
 use Rattle.vol_change.proofs.FreeAfter.{free_after_unlink, free_after_last_unlink}
+use Rattle.vol_volume.specs.Inodes.{KeepsInodes}
 use Rattle.vol_volume.specs.Journal.{MayAnswer}
 use Rattle.vol_volume.specs.Performing.{IsPerformed}
 use Rattle.vol_volume.specs.Step.{on_node, on_parent, changed_by, step}
@@ -25,11 +26,14 @@ use Rattle.vol_volume.specs.declared.calls.Done.TheVariants.{Made, Plain}
 
 -- a call is performed where its change is made
 pub performed_by : (geometry : Geometry) (old new : List ℕ) (call : Call) (done : Done) (made : State) (free : ℕ)
-    → step (state geometry old) call done ≡ made → MayAnswer (state geometry old) call done → Changes geometry old new made → free ≡ free_in made
-    → IsPerformed geometry old new call done free
-performed_by geometry old new call done made free stepped answered changes counted = record {
-  answered = answered;
-  changes = subst (λ s. Changes geometry old new s) (sym stepped) changes;
+    → step (state geometry old) call done ≡ made → MayAnswer (state geometry old) call done → Changes geometry old new made → KeepsInodes geometry old new
+    → free ≡ free_in made → IsPerformed geometry old new call done free
+performed_by geometry old new call done made free stepped answered changes inodes counted = record {
+  performed = record {
+    answered = answered;
+    changes = subst (λ s. Changes geometry old new s) (sym stepped) changes;
+    inodes = inodes;
+  };
   counted = counted ∙ ap free_in (sym changes.makes);
 }
 

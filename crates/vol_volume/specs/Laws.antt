@@ -24,7 +24,7 @@ KeepsConsistent = (old new : Mounted) (call : Call) (done : Done) → IsConsiste
 abbrev pub LeadsInParts : Type 0
 LeadsInParts = (state : State) (front rest : List Record) → after state (front ++ rest) ≡ after (after state front) rest
 
--- and it is legal where both parts are (this project)
+-- a journal is legal if and only if its first part is, and its second of what the first leads to (this project)
 abbrev pub IsLegalInParts : Type 0
 IsLegalInParts = (state : State) (front rest : List Record)
     → IsLegal state (front ++ rest) ↔ (IsLegal state front × IsLegal (after state front) rest)
@@ -33,7 +33,7 @@ IsLegalInParts = (state : State) (front rest : List Record)
 abbrev pub HasMemory : Type 0
 HasMemory = (state : State) (call : Call) → verdict state call ≢ Some refusals.NoMemory
 
--- nor for a query (this project)
+-- no tree is a reason for want of memory in a query (this project)
 abbrev pub HasMemoryForQueries : Type 0
 HasMemoryForQueries = (tree : Tree) (query : Query) → query_refusal tree query ≢ Some refusals.NoMemory
 

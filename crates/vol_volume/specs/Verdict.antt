@@ -1,23 +1,23 @@
 -- Which refusal a call meets, if any. The refusals are asked in a fixed order, and the first that applies is the answer.
-use Rattle.std.specs.Prelude.{ℕ, ◌+◌, ◌==◌, ◌&&◌, Bool, true, false, not, nat_lt, nat_le, if◌then◌else◌, List, [], ◌∷◌, ◌++◌, length, Option, None, Some, is_none, is_some, Result, Ok, Err}
+use Rattle.std.specs.Prelude.{ℕ, ◌+◌, ◌&&◌, Bool, true, false, not, nat_lt, nat_le, if◌then◌else◌, List, [], ◌∷◌, ◌++◌, length, Option, None, Some, is_none, is_some, Result, Ok, Err}
 use Rattle.std.specs.List.{list_any, range_with_len}
 use Rattle.vol_layout.specs.Edition.{constants}
 use Rattle.vol_file.specs.Shape.{touched}
 use Rattle.vol_dir.specs.Access.{grants, may_write}
 use Rattle.vol_dir.specs.Names.{get, is_dots}
-use Rattle.vol_dir.specs.Tree.{Content, Body, Directory, Device, Node, Tree, State, free_count}
-use Rattle.vol_dir.specs.Walk.{root, is_directory, walk, walk_parent}
+use Rattle.vol_dir.specs.Tree.{Content, Body, Directory, Device, Node, Tree, State}
+use Rattle.vol_dir.specs.Walk.{root, has_zero, is_directory, walk, walk_parent}
 use Rattle.vol_volume.specs.Mkfs.{is_bad_id}
 use Rattle.vol_node.specs.Nodes.{node_at, names_at, entry_of, size_with_entry}
 use Rattle.vol_node.specs.Shapes.{need_in}
-use Rattle.vol_change.specs.Ready.{entry_need}
+use Rattle.vol_change.specs.Ready.{entry_need, free_in}
 use Rattle.vol_dir.specs.declared.cred.Cred.{Cred}
 use Rattle.vol_dir.specs.declared.refusal.Refusal.{Refusal}
 use Rattle.vol_dir.specs.declared.refusal.Refusal.TheVariants as refusals
 use Rattle.vol_volume.specs.declared.calls.Call.{Call}
 use Rattle.vol_volume.specs.declared.calls.Call.TheVariants.{Create, Mkdir, Link, Unlink, Rmdir, Write, Truncate}
 
--- the first refusal whose test holds, in a list of tests with their refusals
+-- the first refusal whose test holds, in a list of tests with their refusals (this project)
 abbrev pub first_of : List (Bool × Refusal) → Option Refusal
 first_of [] = None
 first_of (test ∷ tests) = if test.0 then Some test.1 else first_of tests
@@ -58,11 +58,7 @@ write_need state i offset len = need_in state.tree.geometry.edition (state.shape
 
 -- whether more blocks are needed than are free (Lions on alloc)
 abbrev pub is_above_free : State → ℕ → Bool
-is_above_free state needed = nat_lt (free_count state.tree.geometry state.shapes) needed
-
--- whether a path holds a zero byte (this project)
-abbrev pub has_zero : List ℕ → Bool
-has_zero path = list_any (λ c. c == 0) path
+is_above_free state needed = nat_lt (free_in state) needed
 
 -- what every call and query is asked first, and then others: the numbers of the user and group, and zero bytes in its paths (this project)
 abbrev pub then_others : Tree → Cred → List (List ℕ) → Option Refusal → Option Refusal
@@ -91,7 +87,7 @@ create_tests state cred d name =
     ∷ (is_above_free state (entry_need state d), refusals.NoSpace)
     ∷ []
 
--- and of a new directory, which is a link more to its parent, and needs a block of its own (mkdir)
+-- what is asked of the parent d and the name of a new directory, which is a link more to its parent, and needs a block of its own (mkdir)
 abbrev pub mkdir_tests : State → Cred → ℕ → List ℕ → List (Bool × Refusal)
 mkdir_tests state cred d name =
     (has_name state.tree d name, refusals.Exists)
@@ -102,7 +98,7 @@ mkdir_tests state cred d name =
     ∷ (is_above_free state (entry_need state d + 1), refusals.NoSpace)
     ∷ []
 
--- and of a further name of node i (Lions on link)
+-- what is asked of the parent d and the name that node i is to have too (Lions on link)
 abbrev pub link_tests : State → Cred → ℕ → ℕ → List ℕ → List (Bool × Refusal)
 link_tests state cred i d name =
     (has_name state.tree d name, refusals.Exists)
@@ -112,7 +108,7 @@ link_tests state cred i d name =
     ∷ (is_above_free state (entry_need state d), refusals.NoSpace)
     ∷ []
 
--- and of a name that goes (Lions on unlink)
+-- what is asked of the parent d and the name that goes (Lions on unlink)
 abbrev pub unlink_tests : State → Cred → ℕ → List ℕ → List (Bool × Refusal)
 unlink_tests state cred d name =
     (not (has_name state.tree d name), refusals.NoEntry)
@@ -120,7 +116,7 @@ unlink_tests state cred d name =
     ∷ (is_directory (node_at state.tree (entry_of state.tree d name)), refusals.IsDirectory)
     ∷ []
 
--- and of a directory that goes (rmdir)
+-- what is asked of the parent d and the name of a directory that goes (rmdir)
 abbrev pub rmdir_tests : State → Cred → ℕ → List ℕ → List (Bool × Refusal)
 rmdir_tests state cred d name =
     (is_dots name, refusals.Invalid)

@@ -1,16 +1,17 @@
 //! What is asked of calls one by one: facts of i-nodes, names and free blocks.
-ghost use Rattle.std.specs.Prelude.{◌≡◌, ◌≢◌, ℕ, ◌≤◌, if◌then◌else◌, Bool, true, false, List, None, Some, Ok, IfSome, IfOk, MatchResult};
+ghost use Rattle.std.specs.Prelude.{◌≡◌, ◌≢◌, ℕ, ◌*◌, ◌≤◌, if◌then◌else◌, Bool, true, false, List, None, Some, Ok, IfSome, IfOk, MatchResult};
 ghost use Rattle.vol_layout.specs.Geometry.{Fits};
 ghost use Rattle.vol_file.specs.Rules.{kind_at};
 ghost use Rattle.vol_dir.specs.Access.{bit_of, grants};
-ghost use Rattle.vol_dir.specs.Entries.{IsDirectory, IsInUse};
-ghost use Rattle.vol_dir.specs.Names.{get};
+ghost use Rattle.vol_dir.specs.Entries.{IsDirectory, IsInUse, slots};
+ghost use Rattle.vol_dir.specs.Names.{get, names_in};
+ghost use Rattle.vol_dir.specs.Searching.{new_slot};
 ghost use Rattle.vol_dir.specs.Tree.{tree, state, free_count, shapes};
-ghost use Rattle.vol_dir.specs.Walk.{is_directory, walk_parent};
+ghost use Rattle.vol_dir.specs.Walk.{has_zero, is_directory, walk_parent};
 ghost use Rattle.vol_node.specs.Nodes.{node_at, names_at, size_with_entry};
 ghost use Rattle.vol_volume.specs.Mkfs.{is_bad_id};
 ghost use Rattle.vol_volume.specs.Standing.{Stands};
-ghost use Rattle.vol_volume.specs.Verdict.{has_others, is_device, has_free_number, is_too_great, is_full, is_above_free, has_zero, of_parent};
+ghost use Rattle.vol_volume.specs.Verdict.{has_others, is_device, has_free_number, is_too_great, is_full, is_above_free, of_parent};
 ghost use Rattle.vol_change.specs.Ready.{entry_need};
 
 use crate::making::is_bad_id;
@@ -112,43 +113,61 @@ pub(crate) fn has_free_number(image: &Image, geometry: &Geometry) -> bool
     any_inode(image, geometry)
 }
 
-/// Whether directory `dir` would be greater than the greatest file with one more entry.
+/// Whether directory `dir`, whose next entry goes to byte `place`, would be greater than the greatest file
+/// with that entry.
 #[tactic(auto, using(crate::proofs::NeedReadings::too_great_is))]
-pub(crate) fn is_too_great_with_entry(image: &Image, geometry: &Geometry, dir: u16) -> bool
+pub(crate) fn is_too_great_with_entry(
+    image: &Image,
+    geometry: &Geometry,
+    dir: u16,
+    place: u32,
+) -> bool
     requires fits { Fits geometry.now image.now }
     requires directory { IsDirectory geometry.now image.now dir }
+    requires place { place ≡ 16 * new_slot (names_in (slots geometry.now image.now dir)) }
     ensures { result ≡ is_too_great (tree geometry.now image.now) (size_with_entry (state geometry.now image.now) dir) }
 {
-    let end = u64::from(place_for(image, geometry, dir)) + SLOT as u64;
+    let end = u64::from(place) + SLOT as u64;
     u64::from(geometry.edition.constants().greatest)
         < u64::from(size(image, geometry, dir)).max(end)
 }
 
 /// How many blocks one more entry of directory `dir` needs.
-#[tactic(auto, using(crate::proofs::NeedReadings::entry_need_is))]
 pub(crate) fn entry_need(image: &Image, geometry: &Geometry, dir: u16) -> u32
     requires fits { Fits geometry.now image.now }
     requires directory { IsDirectory geometry.now image.now dir }
     ensures { result ≡ entry_need (state geometry.now image.now) dir }
 {
-    need(
-        image,
-        geometry,
-        dir,
-        place_for(image, geometry, dir),
-        SLOT as u32,
-    )
+    entry_need_at(image, geometry, dir, place_for(image, geometry, dir))
 }
 
-/// Whether one more entry of directory `dir` needs more blocks than are free.
+/// How many blocks the next entry of directory `dir` needs, which goes to byte `place`.
+#[tactic(auto, using(crate::proofs::NeedReadings::entry_need_is))]
+pub(crate) fn entry_need_at(image: &Image, geometry: &Geometry, dir: u16, place: u32) -> u32
+    requires fits { Fits geometry.now image.now }
+    requires directory { IsDirectory geometry.now image.now dir }
+    requires place { place ≡ 16 * new_slot (names_in (slots geometry.now image.now dir)) }
+    ensures { result ≡ entry_need (state geometry.now image.now) dir }
+{
+    need(image, geometry, dir, place, SLOT as u32)
+}
+
+/// Whether the next entry of directory `dir`, which goes to byte `place`, needs more blocks than are free.
 #[tactic(auto, using(crate::proofs::NodeReadings::tree_geometry))]
-pub(crate) fn lacks_room(image: &Image, geometry: &Geometry, free: u32, dir: u16) -> bool
+pub(crate) fn lacks_room(
+    image: &Image,
+    geometry: &Geometry,
+    free: u32,
+    dir: u16,
+    place: u32,
+) -> bool
     requires stands { Stands geometry.now image.now }
     requires count { free ≡ free_count geometry.now (shapes geometry.now image.now) }
     requires directory { IsDirectory geometry.now image.now dir }
+    requires place { place ≡ 16 * new_slot (names_in (slots geometry.now image.now dir)) }
     ensures { result ≡ is_above_free (state geometry.now image.now) (entry_need (state geometry.now image.now) dir) }
 {
-    free < entry_need(image, geometry, dir)
+    free < entry_need_at(image, geometry, dir, place)
 }
 
 /// Whether a path holds a zero byte.

@@ -10,7 +10,7 @@ use crate::verdicts::asked::{
     entry, first_refusal, has_free_number, is_granted, is_too_great_with_entry, lacks_room, parent,
 };
 use pdp_words::Image;
-use vol_dir::{Access, Cred, Refusal};
+use vol_dir::{Access, Cred, Refusal, place_for};
 use vol_layout::Geometry;
 
 /// What is asked of the parent and the name of a new file.
@@ -31,14 +31,17 @@ fn create_tests(
         Some(Refusal::Exists)
     } else if !is_granted(image, geometry, dir, Access::Write, cred) {
         Some(Refusal::Access)
-    } else if is_too_great_with_entry(image, geometry, dir) {
-        Some(Refusal::TooBig)
-    } else if !has_free_number(image, geometry) {
-        Some(Refusal::NoInode)
-    } else if lacks_room(image, geometry, free, dir) {
-        Some(Refusal::NoSpace)
     } else {
-        None
+        let place = place_for(image, geometry, dir);
+        if is_too_great_with_entry(image, geometry, dir, place) {
+            Some(Refusal::TooBig)
+        } else if !has_free_number(image, geometry) {
+            Some(Refusal::NoInode)
+        } else if lacks_room(image, geometry, free, dir, place) {
+            Some(Refusal::NoSpace)
+        } else {
+            None
+        }
     }
 }
 

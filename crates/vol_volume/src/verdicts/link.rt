@@ -11,7 +11,7 @@ use crate::verdicts::asked::{
     lacks_room, parent,
 };
 use pdp_words::Image;
-use vol_dir::{Access, Cred, Refusal, walk};
+use vol_dir::{Access, Cred, Refusal, place_for, walk};
 use vol_layout::Geometry;
 
 /// What is asked of the parent and the further name of i-node `i`.
@@ -36,12 +36,15 @@ fn link_tests(
         Some(Refusal::Access)
     } else if is_full(image, geometry, i) {
         Some(Refusal::TooManyLinks)
-    } else if is_too_great_with_entry(image, geometry, dir) {
-        Some(Refusal::TooBig)
-    } else if lacks_room(image, geometry, free, dir) {
-        Some(Refusal::NoSpace)
     } else {
-        None
+        let place = place_for(image, geometry, dir);
+        if is_too_great_with_entry(image, geometry, dir, place) {
+            Some(Refusal::TooBig)
+        } else if lacks_room(image, geometry, free, dir, place) {
+            Some(Refusal::NoSpace)
+        } else {
+            None
+        }
     }
 }
 

@@ -1,6 +1,8 @@
 //! A call for a new directory.
-ghost use Rattle.std.specs.Prelude.{◌≡◌, ◌+◌, [], ◌∷◌};
-ghost use Rattle.vol_dir.specs.Entries.{IsDirectory};
+ghost use Rattle.std.specs.Prelude.{◌≡◌, ◌+◌, ◌*◌, [], ◌∷◌};
+ghost use Rattle.vol_dir.specs.Entries.{IsDirectory, slots};
+ghost use Rattle.vol_dir.specs.Names.{names_in};
+ghost use Rattle.vol_dir.specs.Searching.{new_slot};
 ghost use Rattle.vol_dir.specs.Tree.{tree, state, free_count, shapes};
 ghost use Rattle.vol_dir.specs.Walk.{walk_parent};
 ghost use Rattle.vol_volume.specs.Standing.{Stands};
@@ -8,22 +10,30 @@ ghost use Rattle.vol_volume.specs.Verdict.{first_of, is_above_free, then_others,
 ghost use Rattle.vol_change.specs.Ready.{entry_need};
 
 use crate::verdicts::asked::{
-    entry, entry_need, first_refusal, has_free_number, is_full, is_granted,
+    entry, entry_need_at, first_refusal, has_free_number, is_full, is_granted,
     is_too_great_with_entry, parent,
 };
 use pdp_words::Image;
-use vol_dir::{Access, Cred, Refusal};
+use vol_dir::{Access, Cred, Refusal, place_for};
 use vol_layout::Geometry;
 
-/// Whether an entry for a new directory, which has a block of its own, needs more blocks than are free.
+/// Whether an entry at byte `place` for a new directory, which has a block of its own, needs more blocks
+/// than are free.
 #[tactic(auto, using(crate::proofs::NodeReadings::tree_geometry))]
-fn lacks_room_for_directory(image: &Image, geometry: &Geometry, free: u32, dir: u16) -> bool
+fn lacks_room_for_directory(
+    image: &Image,
+    geometry: &Geometry,
+    free: u32,
+    dir: u16,
+    place: u32,
+) -> bool
     requires stands { Stands geometry.now image.now }
     requires count { free ≡ free_count geometry.now (shapes geometry.now image.now) }
     requires directory { IsDirectory geometry.now image.now dir }
+    requires place { place ≡ 16 * new_slot (names_in (slots geometry.now image.now dir)) }
     ensures { result ≡ is_above_free (state geometry.now image.now) (entry_need (state geometry.now image.now) dir + 1) }
 {
-    free <= entry_need(image, geometry, dir)
+    free <= entry_need_at(image, geometry, dir, place)
 }
 
 /// What is asked of the parent and the name of a new directory.
@@ -46,14 +56,17 @@ fn mkdir_tests(
         Some(Refusal::Access)
     } else if is_full(image, geometry, dir) {
         Some(Refusal::TooManyLinks)
-    } else if is_too_great_with_entry(image, geometry, dir) {
-        Some(Refusal::TooBig)
-    } else if !has_free_number(image, geometry) {
-        Some(Refusal::NoInode)
-    } else if lacks_room_for_directory(image, geometry, free, dir) {
-        Some(Refusal::NoSpace)
     } else {
-        None
+        let place = place_for(image, geometry, dir);
+        if is_too_great_with_entry(image, geometry, dir, place) {
+            Some(Refusal::TooBig)
+        } else if !has_free_number(image, geometry) {
+            Some(Refusal::NoInode)
+        } else if lacks_room_for_directory(image, geometry, free, dir, place) {
+            Some(Refusal::NoSpace)
+        } else {
+            None
+        }
     }
 }
 

@@ -5,6 +5,7 @@ use Rattle.vol_change.specs.Ready.{free_in}
 use Rattle.vol_change.proofs.FreeAfter.{free_after_truncate}
 use Rattle.vol_change.proofs.ReadyLaws.{ready_whole}
 use Rattle.vol_volume.proofs.Accepted.{truncate_led, truncate_passed}
+use Rattle.vol_volume.proofs.KeptInodes.{truncate_inodes}
 use Rattle.vol_volume.proofs.NodeReadings.{tree_geometry, used_first, regular_file}
 use Rattle.vol_volume.proofs.PerformedCalls.{performed_by, step_truncate, free_low}
 use Rattle.vol_volume.specs.declared.calls.Call.TheVariants.{Truncate}
@@ -48,4 +49,6 @@ returns-clause-performed c =
     (c.args.free + c.block_count-freed.result)
     (step_truncate (state c.args.geometry.now c.args.image.now) c.args.caller.cred c.args.caller.moment c.args.path.now c.node-i.result c.node-i.ensures.walked) tt
     c.truncate.ensures.changes
+    (truncate_inodes c.args.geometry.now c.args.image.now c.truncate.new.image c.args.caller.moment c.node-i.result
+    c.truncate.ensures.changes.makes c.truncate.ensures.unused)
     (omega (arith, count, freed, after))

@@ -9,6 +9,7 @@ use Rattle.vol_change.specs.Ready.{free_in}
 use Rattle.vol_change.proofs.FreeAfter.{free_after_write}
 use Rattle.vol_volume.proofs.Accepted.{write_led, write_passed}
 use Rattle.vol_volume.proofs.NeedReadings.{write_need_is, greatest_fits}
+use Rattle.vol_volume.proofs.KeptInodes.{write_inodes}
 use Rattle.vol_volume.proofs.NodeReadings.{used_first, regular_file}
 use Rattle.vol_volume.proofs.PerformedCalls.{performed_by, step_write}
 use Rattle.vol_volume.specs.declared.calls.Call.TheVariants.{Write}
@@ -62,4 +63,6 @@ returns-clause-performed c =
     (c.args.free - c.need-needed.result)
     (step_write (state c.args.geometry.now c.args.image.now) c.args.caller.cred c.args.caller.moment c.args.path.now c.args.offset c.args.bytes.now c.node-i.result (Wrote (length c.args.bytes.now)) c.node-i.ensures.walked) refl
     c.write.ensures.changes
+    (write_inodes c.args.geometry.now c.args.image.now c.write.new.image c.args.caller.moment c.args.offset c.args.bytes.now c.node-i.result
+    c.write.ensures.changes.makes c.write.ensures.unused)
     (omega (arith, count, needed, after))

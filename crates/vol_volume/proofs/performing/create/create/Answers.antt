@@ -5,7 +5,8 @@ use Rattle.vol_change.specs.Effects.{after_create}
 use Rattle.vol_change.specs.Ready.{entry_need, free_in}
 use Rattle.vol_change.proofs.FreeAfter.{free_after_create}
 use Rattle.vol_volume.proofs.Accepted.{create_led, create_passed}
-use Rattle.vol_volume.proofs.FreeNumbers.{number_free, some_free, recorded_free}
+use Rattle.vol_volume.proofs.FreeNumbers.{number_free, some_free, recorded_free, number_none}
+use Rattle.vol_volume.proofs.KeptInodes.{create_inodes}
 use Rattle.vol_volume.proofs.PerformedCalls.{performed_by, step_create}
 use Rattle.vol_volume.specs.declared.calls.Call.TheVariants.{Create}
 use Rattle.vol_volume.specs.declared.calls.Done.TheVariants.{Made}
@@ -64,4 +65,8 @@ returns-clause-performed c =
     (step_create (state c.args.geometry.now c.args.image.now) c.args.new.owner c.args.new.moment c.args.path.now c.args.new.permissions c.create-made.result c.parent-dir.result.0 c.parent-dir.result.1.now c.parent-dir.ensures.walked)
     (number_free c.args.geometry.now c.args.image.now c.ready_stands.ensures.files c.create-made.result c.create-made.ensures.free)
     c.create-made.ensures.changes
+    (create_inodes c.args.geometry.now c.args.image.now c.create-made.new.image c.args.new.owner c.args.new.moment c.args.new.permissions c.create-made.result
+    c.parent-dir.result.0 c.parent-dir.result.1.now c.create-made.ensures.changes.makes
+    (number_none c.args.geometry.now c.args.image.now c.ready_stands.ensures.files c.create-made.result c.create-made.ensures.free)
+    c.create-made.ensures.unused c.create-made.ensures.others)
     (omega (arith, count, needed, after))

@@ -5,6 +5,7 @@ use Rattle.vol_change.specs.Effects.{after_link}
 use Rattle.vol_change.specs.Ready.{entry_need, free_in}
 use Rattle.vol_change.proofs.FreeAfter.{free_after_link}
 use Rattle.vol_volume.proofs.Accepted.{link_led, link_target, link_passed}
+use Rattle.vol_volume.proofs.KeptInodes.{link_inodes}
 use Rattle.vol_volume.proofs.NodeReadings.{other_kind, used_first}
 use Rattle.vol_volume.proofs.PerformedCalls.{performed_by, step_link}
 use Rattle.vol_volume.specs.declared.calls.Call.TheVariants.{Link}
@@ -58,4 +59,6 @@ returns-clause-performed c =
     (c.args.free - c.entry_need-needed.result)
     (step_link (state c.args.geometry.now c.args.image.now) c.args.caller.cred c.args.caller.moment c.args.source.now c.args.target.now c.node-i.result c.parent-dir.result.0 c.parent-dir.result.1.now c.node-i.ensures.walked c.parent-dir.ensures.walked) tt
     c.link.ensures.changes
+    (link_inodes c.args.geometry.now c.args.image.now c.link.new.image c.args.caller.moment c.node-i.result c.parent-dir.result.0 c.parent-dir.result.1.now
+    c.link.ensures.changes.makes c.link.ensures.unused)
     (omega (arith, count, needed, after))

@@ -5,7 +5,8 @@ use Rattle.vol_change.specs.Effects.{after_mkdir}
 use Rattle.vol_change.specs.Ready.{entry_need, free_in}
 use Rattle.vol_change.proofs.FreeAfter.{free_after_mkdir}
 use Rattle.vol_volume.proofs.Accepted.{mkdir_led, mkdir_passed}
-use Rattle.vol_volume.proofs.FreeNumbers.{number_free, some_free, recorded_free}
+use Rattle.vol_volume.proofs.FreeNumbers.{number_free, some_free, recorded_free, number_none}
+use Rattle.vol_volume.proofs.KeptInodes.{mkdir_inodes}
 use Rattle.vol_volume.proofs.PerformedCalls.{performed_by, step_mkdir}
 use Rattle.vol_volume.specs.declared.calls.Call.TheVariants.{Mkdir}
 use Rattle.vol_volume.specs.declared.calls.Done.TheVariants.{Made}
@@ -76,4 +77,8 @@ returns-clause-performed c =
     (step_mkdir (state c.args.geometry.now c.args.image.now) c.args.new.owner c.args.new.moment c.args.path.now c.args.new.permissions c.mkdir-made.result c.parent-dir.result.0 c.parent-dir.result.1.now c.parent-dir.ensures.walked)
     (number_free c.args.geometry.now c.args.image.now c.ready_stands.ensures.files c.mkdir-made.result c.mkdir-made.ensures.free)
     c.mkdir-made.ensures.changes
+    (mkdir_inodes c.args.geometry.now c.args.image.now c.mkdir-made.new.image c.args.new.owner c.args.new.moment c.args.new.permissions c.mkdir-made.result
+    c.parent-dir.result.0 c.parent-dir.result.1.now c.mkdir-made.ensures.changes.makes
+    (number_none c.args.geometry.now c.args.image.now c.ready_stands.ensures.files c.mkdir-made.result c.mkdir-made.ensures.free)
+    c.mkdir-made.ensures.unused c.mkdir-made.ensures.others)
     (omega (arith, count, needed, after))

@@ -9,7 +9,8 @@ use Rattle.vol_change.proofs.FreeAfter.{free_after_rmdir}
 use Rattle.vol_change.proofs.ReadyLaws.{ready_whole}
 use Rattle.vol_volume.specs.Verdict.{has_others}
 use Rattle.vol_volume.proofs.Accepted.{rmdir_led, rmdir_passed}
-use Rattle.vol_volume.proofs.NodeReadings.{tree_geometry, used_first, directory_from, entry_is}
+use Rattle.vol_volume.proofs.KeptInodes.{rmdir_inodes}
+use Rattle.vol_volume.proofs.NodeReadings.{tree_geometry, used_first, used_some, directory_from, entry_is}
 use Rattle.vol_volume.proofs.PerformedCalls.{performed_by, step_rmdir, free_low}
 use Rattle.vol_volume.specs.declared.calls.Call.TheVariants.{Rmdir}
 use Rattle.vol_volume.specs.declared.calls.Done.TheVariants.{Plain}
@@ -68,4 +69,9 @@ returns-clause-performed c =
     (c.args.free + c.block_count-freed.result)
     (step_rmdir (state c.args.geometry.now c.args.image.now) c.args.caller.cred c.args.caller.moment c.args.path.now c.parent-dir.result.0 c.parent-dir.result.1.now c.parent-dir.ensures.walked) tt
     c.rmdir.ensures.changes
+    (rmdir_inodes c.args.geometry.now c.args.image.now c.rmdir.new.image c.args.caller.moment c.named-i.result c.parent-dir.result.0 c.parent-dir.result.1.now
+    c.rmdir.ensures.changes.makes c.named-i.ensures.named
+    (used_some c.args.geometry.now c.args.image.now c.named-i.result
+    (used_first c.args.geometry.now c.args.image.now c.named-i.result c.named-i.ensures.used) c.ready_stands.ensures.files c.named-i.ensures.used)
+    c.rmdir.ensures.cleared c.rmdir.ensures.others)
     (omega (arith, count, freed, after))

@@ -1,4 +1,5 @@
 use Rattle.std.proofs.Common.{◌≡◌, ℕ, ◌+◌, ◌^◌, ◌<◌, ◌∙◌, ap, sym, arith}
+use Rattle.vol_layout.specs.Inode.{inode_of}
 use Rattle.vol_dir.specs.Tree.{tree, state}
 use Rattle.vol_dir.specs.Walk.{is_directory}
 use Rattle.vol_node.specs.Edits.{at_time}
@@ -6,7 +7,8 @@ use Rattle.vol_node.specs.Nodes.{node_at}
 use Rattle.vol_change.specs.Effects.{after_unlink}
 use Rattle.vol_change.specs.Ready.{free_in}
 use Rattle.vol_volume.proofs.Accepted.{unlink_led, unlink_passed}
-use Rattle.vol_volume.proofs.NodeReadings.{tree_geometry, used_first, other_kind, entry_is}
+use Rattle.vol_volume.proofs.KeptInodes.{unlink_inodes}
+use Rattle.vol_volume.proofs.NodeReadings.{tree_geometry, used_first, used_some, links_are, other_kind, entry_is}
 use Rattle.vol_volume.proofs.PerformedCalls.{performed_by, step_unlink, free_low, freed_blocks, free_unlinked}
 use Rattle.vol_volume.specs.declared.calls.Call.TheVariants.{Unlink}
 use Rattle.vol_volume.specs.declared.calls.Done.TheVariants.{Plain}
@@ -46,9 +48,17 @@ returns-clause-performed c =
     let lost : c.freed-freed.result ≡ (freed_blocks c.args.geometry.now c.args.image.now c.named-i.result) = c.freed-freed.ensures in
     let after : free_in (at_time c.args.caller.moment (after_unlink (state c.args.geometry.now c.args.image.now) c.args.caller.moment c.parent-dir.result.0 c.parent-dir.result.1.now)) ≡ free_in (state c.args.geometry.now c.args.image.now) + (freed_blocks c.args.geometry.now c.args.image.now c.named-i.result) =
     free_unlinked c.args.geometry.now c.args.image.now c.args.caller.moment c.named-i.result c.parent-dir.result.0 c.parent-dir.result.1.now c.requires.ready c.named-i.ensures.named in
+    let first = used_first c.args.geometry.now c.args.image.now c.named-i.result c.named-i.ensures.used in
     performed_by c.args.geometry.now c.args.image.now c.unlink.new.image (Unlink c.args.caller.cred c.args.caller.moment c.args.path.now) Plain
     (at_time c.args.caller.moment (after_unlink (state c.args.geometry.now c.args.image.now) c.args.caller.moment c.parent-dir.result.0 c.parent-dir.result.1.now))
     (c.args.free + c.freed-freed.result)
     (step_unlink (state c.args.geometry.now c.args.image.now) c.args.caller.cred c.args.caller.moment c.args.path.now c.parent-dir.result.0 c.parent-dir.result.1.now c.parent-dir.ensures.walked) tt
     c.unlink.ensures.changes
+    (unlink_inodes c.args.geometry.now c.args.image.now c.unlink.new.image c.args.caller.moment c.named-i.result c.parent-dir.result.0
+    (inode_of c.args.geometry.now.edition c.args.image.now c.named-i.result).links c.parent-dir.result.1.now
+    c.unlink.ensures.changes.makes c.named-i.ensures.named
+    (used_some c.args.geometry.now c.args.image.now c.named-i.result first c.ready_stands.ensures.files c.named-i.ensures.used)
+    first c.named-i.ensures.used.last
+    (links_are c.args.geometry.now c.args.image.now c.named-i.result first c.ready_stands.ensures.files c.named-i.ensures.used)
+    c.unlink.ensures.cleared c.unlink.ensures.unused c.unlink.ensures.others)
     (omega (arith, count, lost, after))

@@ -4,7 +4,7 @@ ghost use Rattle.vol_layout.specs.Edition.{constants};
 ghost use Rattle.vol_layout.specs.Geometry.{Fits};
 ghost use Rattle.vol_layout.specs.Names.{entry_of, form_at, stored, block_named};
 
-use pdp_words::Image;
+use pdp_words::{BLOCK, Image};
 use vol_layout::i_list::{address, mode};
 use vol_layout::{Form, Geometry, number};
 
@@ -32,7 +32,7 @@ pub(crate) fn entry(image: &Image, geometry: &Geometry, m: u32, j: u32) -> u32
     ensures { result ≡ entry_of geometry.now image.now m j }
 {
     if geometry.in_zone(m) {
-        number(image, geometry.edition, m as usize * 512, j as usize)
+        number(image, geometry.edition, BLOCK * m as usize, j as usize)
     } else {
         0
     }

@@ -41,7 +41,7 @@ fn is_sought(slot: &Slot, sought: Sought<'_>) -> bool
 }
 
 /// Whether a name is `.` or `..`.
-fn is_dots(name: &[u8]) -> bool
+pub fn is_dots(name: &[u8]) -> bool
     ensures { result ≡ is_dots name.now }
 {
     name == b".".as_slice() || name == b"..".as_slice()

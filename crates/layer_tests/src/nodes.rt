@@ -11,7 +11,7 @@ use vol_judge::judge;
 use vol_layout::i_list::{inode, mode};
 use vol_layout::{Edition, Geometry, Kind};
 use vol_node::{
-    add_link, block_count, drop_link, free_node, make_directory, make_file, put_links, put_time,
+    add_link, drop_link, free_node, make_directory, make_file, place_count, put_links, put_time,
     take_number, touch,
 };
 
@@ -82,8 +82,8 @@ fn times_and_links_are_put(rt: HostRuntime) {
 fn blocks_are_counted(rt: HostRuntime) {
     let (geometry, image) = volume(&rt, rt.alloc());
     assert!(rt; 3 <= geometry.last_inode);
-    assert_eq!(rt; block_count(&image, &geometry, 1), 1);
-    assert_eq!(rt; block_count(&image, &geometry, 3), 0);
+    assert_eq!(rt; place_count(&image, &geometry, 1), 1);
+    assert_eq!(rt; place_count(&image, &geometry, 3), 0);
 }
 
 /// Makes a file and a directory, and frees the file; answers their i-numbers.

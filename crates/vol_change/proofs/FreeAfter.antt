@@ -17,7 +17,7 @@ use Rattle.vol_dir.specs.Names.{get, remove}
 use Rattle.vol_dir.specs.Tree.{Node, Shape, State, no_shape, form_in, place_count, free_count, is_number, shape_of, shapes, tree, state}
 use Rattle.vol_dir.specs.declared.cred.Cred.{Cred}
 use Rattle.vol_node.specs.Edits.{set_at, at_time, modified, change_names, remove_entry, remove_node, drop_link, release, after_write, after_truncate}
-use Rattle.vol_node.specs.Nodes.{no_node, node_at, names_at, entry_of}
+use Rattle.vol_node.specs.Nodes.{no_node, node_at, names_at, number_of_name}
 use Rattle.vol_node.specs.Shapes.{need_in, stored_shape, entry_blocks, shape_with_entry, shape_without_entry, new_directory_shape}
 use Rattle.vol_node.proofs.PlaceCounts.{stored_count, entry_count, gone_count, none_count, new_directory_count, set_other, set_count, set_counts, free_less, free_same, free_gone}
 use Rattle.vol_change.specs.Effects.{after_create, after_mkdir, after_link, after_unlink, after_rmdir}
@@ -109,7 +109,7 @@ unfolding tree
 free_after_link geometry image now i d name is = entry_takes geometry (shapes geometry image) d name is.first is.last
 
 -- the i-number that a directory has for a name
-entry_is : (state : State) (d i : ℕ) (name : List ℕ) → get (names_at state.tree d) name ≡ Some i → entry_of state.tree d name ≡ i
+entry_is : (state : State) (d i : ℕ) (name : List ℕ) → get (names_at state.tree d) name ≡ Some i → number_of_name state.tree d name ≡ i
 entry_is state d i name named = ap (λ o. unwrap_or o 0) named
 
 -- a node whose entries changed has its links

@@ -20,7 +20,7 @@ use Rattle.vol_judge.proofs.ImageGraphs.{graph_within, kind_inside, used_to, dir
 use Rattle.vol_node.specs.Beside.{StaysBeside}
 use Rattle.vol_node.specs.Edits.{release, remove_node, remove_entry, drop_link}
 use Rattle.vol_node.specs.NodeGraphs.{SetsLinks, DropsNode}
-use Rattle.vol_node.specs.Nodes.{node_at, names_at, entry_of}
+use Rattle.vol_node.specs.Nodes.{node_at, names_at, number_of_name}
 use Rattle.vol_node.specs.Whole.{Keeps}
 use Rattle.vol_node.proofs.WholeLaws.{keeps_then}
 use Rattle.vol_change.specs.Effects.{after_unlink, after_rmdir}
@@ -116,7 +116,7 @@ left_links geometry old mid d i name now leaves =
 released : (geometry : Geometry) (old mid : List ℕ) (d i : ℕ) (name : List ℕ) (now : ℕ) → LeavesEntry geometry old mid d i name now
     → release now i (state geometry mid) ≡ after_unlink (state geometry old) now d name
 released geometry old mid d i name now leaves =
-    let entry : entry_of (tree geometry old) d name ≡ i = ap (λ o. unwrap_or o 0) leaves.named in
+    let entry : number_of_name (tree geometry old) d name ≡ i = ap (λ o. unwrap_or o 0) leaves.named in
     ap (λ s. release now i s) leaves.makes ∙ ap (λ j. release now j (remove_entry now d name (state geometry old))) (sym entry)
 
 -- the name goes, and the node has another
@@ -168,7 +168,7 @@ pub made_emptied : (geometry : Geometry) (old mid low new : List ℕ) (d i : ℕ
     → DropsNode (graph_of geometry low) (graph_of geometry new) i
     → HasMade geometry old new (after_rmdir (state geometry old) now d name)
 made_emptied geometry old mid low new d i name now leaves plain is only less_keeps less_makes sets gone_keeps gone_makes gone =
-    let entry : entry_of (tree geometry old) d name ≡ i = ap (λ o. unwrap_or o 0) leaves.named in
+    let entry : number_of_name (tree geometry old) d name ≡ i = ap (λ o. unwrap_or o 0) leaves.named in
     let drops =
     left_directory (graph_of geometry old) (graph_of geometry mid) (graph_of geometry low) (graph_of geometry new) i d
     (slot_named name (slots geometry old d)) ((inode_of geometry.edition mid d).links - 1) name (leaves_slot geometry old mid d i name now leaves) sets

@@ -2,7 +2,7 @@
 use Rattle.std.specs.Prelude.{ℕ, List, [], Some}
 use Rattle.vol_dir.specs.Tree.{Body, State, no_shape}
 use Rattle.vol_node.specs.Edits.{put_node, put_shape, remove_node, new_node, add_entry, remove_entry, add_link, drop_link, release, new_directory}
-use Rattle.vol_node.specs.Nodes.{entry_of}
+use Rattle.vol_node.specs.Nodes.{number_of_name}
 use Rattle.vol_node.specs.Shapes.{new_directory_shape}
 use Rattle.vol_dir.specs.declared.cred.Cred.{Cred}
 
@@ -26,9 +26,9 @@ after_link state now i d name = add_entry now d name i (add_link now i state)
 
 -- a name in d goes, and with its last name the node (Lions on unlink)
 abbrev pub after_unlink : State → ℕ → ℕ → List ℕ → State
-after_unlink state now d name = release now (entry_of state.tree d name) (remove_entry now d name state)
+after_unlink state now d name = release now (number_of_name state.tree d name) (remove_entry now d name state)
 
 -- a directory goes, with its name in d and the link that its `..` was (rmdir)
 abbrev pub after_rmdir : State → ℕ → ℕ → List ℕ → State
 after_rmdir state now d name =
-    remove_node (entry_of state.tree d name) (drop_link now d (remove_entry now d name state))
+    remove_node (number_of_name state.tree d name) (drop_link now d (remove_entry now d name state))

@@ -59,7 +59,7 @@ search_node cred node =
     option_map_or (λ names. if grants may_execute cred node then Ok names else Err refusals.Access)
     (map_of node.content) (Err refusals.NotDirectory)
 
--- the same of i-number i (Lions on namei)
+-- the map of i-number i, if its node is a directory and may be searched, or why there is none (Lions on namei)
 abbrev pub search : Tree → Cred → ℕ → Result Names Refusal
 search tree cred i = option_map_or (search_node cred) (tree.nodes i) (Err refusals.NotDirectory)
 

@@ -23,9 +23,7 @@ fn slot_bytes(name: &[u8], i: u16) -> [u8; SLOT]
     ensures { result ≡ slot_bytes name.now i }
 {
     let mut bytes = [0; SLOT];
-    bytes[0] = (i % 256) as u8;
-    bytes[1] = (i / 256) as u8;
-    bytes[2..].copy_from_slice(&Slot::new(i, name).name);
+    Slot::new(i, name).put(&mut bytes, 0);
     bytes
 }
 

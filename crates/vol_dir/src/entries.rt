@@ -41,7 +41,7 @@ fn is_sought(slot: &Slot, sought: Sought<'_>) -> bool
 }
 
 /// Whether a name is `.` or `..`.
-fn is_dots(name: &[u8]) -> bool
+pub fn is_dots(name: &[u8]) -> bool
     ensures { result ≡ is_dots name.now }
 {
     name == b".".as_slice() || name == b"..".as_slice()
@@ -54,7 +54,7 @@ pub(crate) fn slot_count(image: &Image, geometry: &Geometry, dir: u16) -> u32
     requires last { dir ≤ geometry.now.last_inode }
     ensures { result ≡ slot_count geometry.now image.now dir }
 {
-    size(image, geometry, dir).min(geometry.edition.constants().greatest) / 16
+    size(image, geometry, dir).min(geometry.edition.constants().greatest) / SLOT as u32
 }
 
 /// The first of `count` slots from byte `at` on that is sought.
@@ -139,7 +139,7 @@ fn number_in(image: &Image, geometry: &Geometry, dir: u16, s: u32) -> u16
     ensures { IsNumberOf (entry_at geometry.now image.now dir s) result }
 {
     let mut slot = [0; SLOT];
-    read(image, geometry, dir, 16 * s, &mut slot);
+    read(image, geometry, dir, SLOT as u32 * s, &mut slot);
     Slot::read(&slot, 0).inode
 }
 
@@ -168,7 +168,8 @@ pub fn place_for(image: &Image, geometry: &Geometry, dir: u16) -> u32
     requires last { dir ≤ geometry.now.last_inode }
     ensures { result ≡ 16 * new_slot (names_in (slots geometry.now image.now dir)) }
 {
-    16 * first_slot(image, geometry, dir, Sought::Empty).unwrap_or(slot_count(image, geometry, dir))
+    let count = slot_count(image, geometry, dir);
+    SLOT as u32 * first_slot(image, geometry, dir, Sought::Empty).unwrap_or(count)
 }
 
 /// Whether directory `dir` has no entries but `.` and `..`.

@@ -15,7 +15,7 @@ pub mod walking;
 pub use access::{Access, grants};
 pub use adding::add;
 pub use cred::Cred;
-pub use entries::{find, is_empty_dir, place_for};
+pub use entries::{find, is_dots, is_empty_dir, place_for};
 pub use paths::split_component;
 pub use refusal::Refusal;
 pub use removing::remove;

@@ -14,6 +14,7 @@ use crate::entries::{Sought, first_slot};
 use pdp_words::Image;
 use vol_file::write;
 use vol_layout::Geometry;
+use vol_layout::slot::SLOT;
 
 /// Takes `name`, which is there, out of directory `dir`: the i-number of its slot becomes 0, and the
 /// name's bytes stay. The size of the directory stays, and no block is taken or given back.
@@ -39,6 +40,6 @@ pub fn remove(image: &mut Image, geometry: &Geometry, dir: u16, name: &[u8])
 {
     match first_slot(image, geometry, dir, Sought::Named(name)) {
         None => {}
-        Some(s) => write(image, geometry, dir, 16 * s, &[0, 0]),
+        Some(s) => write(image, geometry, dir, SLOT as u32 * s, &[0, 0]),
     }
 }

@@ -1,7 +1,7 @@
 //! Looking up paths.
 ghost use Rattle.std.specs.Prelude.{◌≡◌, ◌≤◌, ◌∷◌, false, None, Some, Ok, Err, MatchOption, MatchResult, IfOk, IfSome};
 ghost use Rattle.vol_layout.specs.Geometry.{Fits};
-ghost use Rattle.vol_file.specs.Rules.{kind_at, HasSoundFiles};
+ghost use Rattle.vol_file.specs.Rules.{HasSoundFiles};
 ghost use Rattle.vol_dir.specs.Tree.{tree};
 ghost use Rattle.vol_dir.specs.Names.{names_of};
 ghost use Rattle.vol_dir.specs.Entries.{slots, IsDirectory, HasEntries, IsInUse};
@@ -13,7 +13,7 @@ use crate::entries::find;
 use crate::paths::split_component;
 use crate::refusal::Refusal;
 use pdp_words::Image;
-use vol_layout::i_list::mode;
+use vol_layout::i_list::kind;
 use vol_layout::{Geometry, Kind};
 
 /// The i-number that a path leads to, as a user walks it from the root: the empty path leads to the
@@ -132,14 +132,4 @@ fn search_node(image: &Image, geometry: &Geometry, cred: Cred, i: u16) -> Result
         Kind::Directory => Err(Refusal::Access),
         _ => Err(Refusal::NotDirectory),
     }
-}
-
-/// What i-node `i` is.
-fn kind(image: &Image, geometry: &Geometry, i: u16) -> Kind
-    requires fits { Fits geometry.now image.now }
-    requires first { 1 ≤ i }
-    requires last { i ≤ geometry.now.last_inode }
-    ensures { result ≡ kind_at geometry.now image.now i }
-{
-    mode(image, geometry, i).kind(geometry.edition)
 }

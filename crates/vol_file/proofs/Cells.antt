@@ -10,7 +10,7 @@ use Rattle.vol_layout.specs.Geometry.{in_zone}
 use Rattle.vol_layout.specs.Inode.{inode_place, address_at, address_count, address_bytes, address_place}
 use Rattle.vol_layout.specs.Places.{IsPlace, pointer_count}
 use Rattle.vol_layout.specs.Laws.{IsFront}
-use Rattle.vol_layout.specs.Names.{mode_of, form_at, IsFile, IsPlaceOf, named, entry_of, Names}
+use Rattle.vol_layout.specs.Names.{mode_of, form_at, IsFile, IsPlaceOf, named, pointer_in, Names}
 use Rattle.vol_layout.specs.declared.edition.Edition.{Edition}
 use Rattle.vol_layout.specs.declared.edition.Edition.TheVariants.{V6, V7}
 use Rattle.vol_layout.specs.declared.geometry.Geometry.{Geometry}
@@ -191,7 +191,7 @@ stores_entry geometry old new blocks i m j a v p sound place is zone same put =
       size = size_kept geometry old new i kept;
       here =
           let front : named geometry new i (a ∷ p) ≡ m = others (a ∷ p) above (front_longer j (a ∷ p)) ∙ is in
-          ap (λ k. entry_of geometry new k j) front ∙ (entry_in geometry new m j zone ∙ put);
+          ap (λ k. pointer_in geometry new k j) front ∙ (entry_in geometry new m j zone ∙ put);
       others = others;
       bytes = λ k r zone_k apart b.
           let differ : k ≢ m = λ e. apart (a ∷ p) above place.place.1 (is ∙ sym e) in

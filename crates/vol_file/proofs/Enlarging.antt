@@ -8,7 +8,7 @@ use Rattle.vol_layout.specs.Edition.{constants, number}
 use Rattle.vol_layout.specs.Geometry.{in_zone}
 use Rattle.vol_layout.specs.Inode.{inode_place, address_at, address_bytes, address_offset, address_place, kind_of, is_large, with_large}
 use Rattle.vol_layout.specs.Places.{form_of, has_places}
-use Rattle.vol_layout.specs.Names.{mode_of, form_at, IsFile, IsPlaceOf, named, entry_of}
+use Rattle.vol_layout.specs.Names.{mode_of, form_at, IsFile, IsPlaceOf, named, pointer_in}
 use Rattle.vol_layout.specs.declared.edition.Edition.{Edition}
 use Rattle.vol_layout.specs.declared.edition.Edition.TheVariants.{V6, V7}
 use Rattle.vol_layout.specs.declared.geometry.Geometry.{Geometry}
@@ -189,7 +189,7 @@ moves geometry old mid one two three new i b rest sound file small m =
     let zero_one : (r : ℕ) → 16 ≤ r → r < 512 → get_or one (512 * b + r) 0 ≡ 0 =
     λ r low high. m.copy.above (512 * b + r) (omega arith) ∙ m.popped.zero (512 * b + r) (omega arith) (omega arith) in
     let entry_new : (j : ℕ) → named geometry new i (j ∷ (0 ∷ [])) ≡ number geometry.edition one (512 * b) j =
-    λ j. ap (λ x. entry_of geometry new x j) first ∙ (entry_in geometry new b j zoned ∙ number_new j) in
+    λ j. ap (λ x. pointer_in geometry new x j) first ∙ (entry_in geometry new b j zoned ∙ number_new j) in
     record {
       alone = alone;
       free = IsFree-before_zone m.last (omega (arith, from)) (omega (arith, room, facts.3))

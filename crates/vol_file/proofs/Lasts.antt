@@ -12,7 +12,7 @@ use Rattle.vol_layout.specs.declared.geometry.Geometry.{Geometry}
 use Rattle.vol_layout.specs.declared.places.Form.{Form}
 use Rattle.vol_layout.specs.declared.places.Form.TheVariants.{Small, Large, Deep, Bare}
 use Rattle.vol_layout.proofs.PlaceLaws.{place_front, last_leaf}
-use Rattle.vol_file.specs.Steps.{Reaches, IsWanted, MayName, IsNext, MayNameEntry, WantsWay, NamesWay, is_front}
+use Rattle.vol_file.specs.Steps.{Reaches, IsWanted, MayName, IsNext, MayNameEntry, WantsWay, NamesWay, has_front}
 use Rattle.vol_file.proofs.PlaceLists.{bytes_same}
 use Rattle.vol_file.proofs.Reaching.{extends_as}
 
@@ -62,9 +62,9 @@ or_true true = refl
 or_true false = refl
 
 -- a front is found among the fronts
-pub front_true : (q s : List ℕ) → IsFront s q → is_front q s ≡ true
+pub front_true : (q s : List ℕ) → IsFront s q → has_front q s ≡ true
 front_true [] s front = absurd front
-front_true (j ∷ q) s (inl e) = ap (λ t. t || is_front q s) (bytes_same s (j ∷ q) e)
+front_true (j ∷ q) s (inl e) = ap (λ t. t || has_front q s) (bytes_same s (j ∷ q) e)
 front_true (j ∷ q) s (inr front) = ap (λ t. bytes_eq s (j ∷ q) || t) (front_true q s front) ∙ or_true (bytes_eq s (j ∷ q))
 
 -- the way of a logical block is the fronts of its last place
@@ -86,7 +86,7 @@ pub way_named : (geometry : Geometry) (old new : List ℕ) (i : ℕ) (wanted : L
     → last_place (form_at geometry old i) b ≡ Some q → Reaches geometry old new i wanted q blocks k → NamesWay geometry old new i wanted b blocks
 way_named geometry old new i wanted b blocks q k e reached = record {
   rest = reached.rest;
-  extends = extends_as geometry old new i wanted (is_front q) (λ p. list_any (bytes_eq p) (way (form_at geometry old i) b)) blocks reached.rest
+  extends = extends_as geometry old new i wanted (has_front q) (λ p. list_any (bytes_eq p) (way (form_at geometry old i) b)) blocks reached.rest
       (λ p. sym (ap (list_any (bytes_eq p)) (way_is (form_at geometry old i) b q e))) reached.extends;
 }
 

@@ -7,7 +7,7 @@ use Rattle.vol_layout.specs.Geometry.{in_zone, Fits}
 use Rattle.vol_layout.specs.Inode.{inode_place, inode_at, inode_of, kind_of}
 use Rattle.vol_layout.specs.Places.{IsPlace, has_places, pointer_count}
 use Rattle.vol_layout.specs.Laws.{IsFront}
-use Rattle.vol_layout.specs.Names.{mode_of, form_at, IsFile, IsPlaceOf, named, entry_of}
+use Rattle.vol_layout.specs.Names.{mode_of, form_at, IsFile, IsPlaceOf, named, pointer_in}
 use Rattle.vol_layout.specs.declared.edition.Edition.{Edition}
 use Rattle.vol_layout.specs.declared.edition.Edition.TheVariants.{V6, V7}
 use Rattle.vol_layout.specs.declared.geometry.Geometry.{Geometry}
@@ -134,13 +134,13 @@ sizes_kept geometry old new i fits stays one mode size sizes = record {
 
 -- below a place that names something with no entries nothing is named
 below_none : (geometry : Geometry) (image : List ℕ) (i v : ℕ) (q : List ℕ) → Fits geometry image → named geometry image i q ≡ v
-    → ((x : ℕ) → x < (constants geometry.edition).pointers → entry_of geometry image v x ≡ 0)
+    → ((x : ℕ) → x < (constants geometry.edition).pointers → pointer_in geometry image v x ≡ 0)
     → (p : List ℕ) (x : ℕ) → IsPlaceOf geometry image i (x ∷ p) → IsFront q p → named geometry image i (x ∷ p) ≡ 0
 below_none geometry image i v q fits is none [] x place front = absurd front
 below_none geometry image i v q fits is none (h ∷ p) x place (inl e) =
     let many = pointers_of geometry.edition (mode_of geometry image i) in
     let index : x < pointer_count (form_at geometry image i) = place.place.0 in
-    ap (λ m. entry_of geometry image m x) (ap (named geometry image i) (sym e) ∙ is) ∙ none x (omega (arith, index, many))
+    ap (λ m. pointer_in geometry image m x) (ap (named geometry image i) (sym e) ∙ is) ∙ none x (omega (arith, index, many))
 below_none geometry image i v q fits is none (h ∷ p) x place (inr front) =
     let zero : named geometry image i (h ∷ p) ≡ 0 =
     below_none geometry image i v q fits is none p h (record { file = place.file; place = place.place.2 }) front in
@@ -148,7 +148,7 @@ below_none geometry image i v q fits is none (h ∷ p) x place (inr front) =
 
 -- where nothing was named below the place, and what is stored there has no entries, the other places of the file name what they did
 pub stores_only : (geometry : Geometry) (old new blocks : List ℕ) (i v : ℕ) (q : List ℕ) → Fits geometry old → Stores geometry old new i q v blocks
-    → ((x : ℕ) → x < (constants geometry.edition).pointers → entry_of geometry new v x ≡ 0)
+    → ((x : ℕ) → x < (constants geometry.edition).pointers → pointer_in geometry new v x ≡ 0)
     → ((x : ℕ) (p : List ℕ) → IsPlaceOf geometry old i (x ∷ p) → IsFront q p → named geometry old i (x ∷ p) ≡ 0)
     → (p : List ℕ) → IsPlaceOf geometry old i p → p ≢ q → named geometry new i p ≡ named geometry old i p
 stores_only geometry old new blocks i v q fits stores none lower [] place differ = refl

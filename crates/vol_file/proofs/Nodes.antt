@@ -15,7 +15,7 @@ use Rattle.vol_layout.proofs.FrameLaws.{pointers_in}
 use Rattle.vol_layout.proofs.KindLaws.{form_file}
 use Rattle.vol_file.specs.Rules.{IsSoundWith}
 use Rattle.vol_file.specs.Changes.{blocks_of}
-use Rattle.vol_file.specs.Clears.{IsUnder, blocks_at, places_among, places_below, IsNamedAt, Clears, Drops, HasNode, HasEntry, HasAddress, ClearsBelow}
+use Rattle.vol_file.specs.Clears.{IsUnder, blocks_at, places_among, places_below, IsNamedAt, Clears, Drops, HasNode, HasPointer, HasAddress, ClearsBelow}
 use Rattle.vol_file.proofs.BlockLists.{at_nil}
 use Rattle.vol_file.proofs.Fronts.{front_longer, under_front}
 use Rattle.vol_file.proofs.Clearing.{ClearsFrom, clears_none, from_start, from_none_on, from_some_on, from_above, entry_place, entry_named, below_after}
@@ -154,7 +154,7 @@ entries_node geometry old new m level j k b cleared node some low number_is not_
 -- the entry names its block still once what lies below it is cleared
 pub entries_entry : (geometry : Geometry) (old mid low : List ℕ) (m level j k b : ℕ) → ClearsEntries geometry old mid m level k
     → HasNode geometry old m level → 1 ≤ level → j < (constants geometry.edition).pointers → b ≡ number geometry.edition mid (512 * m) j → b ≢ 0
-    → ClearsBelow geometry mid low b (level - 1) → HasEntry geometry low m j b
+    → ClearsBelow geometry mid low b (level - 1) → HasPointer geometry low m j b
 unfolding entries_node
 entries_entry geometry old mid low m level j k b cleared node some index number_is not_zero below =
     let n = (constants geometry.edition).pointers in

@@ -9,7 +9,7 @@ use Rattle.vol_layout.specs.Edition.{constants, number}
 use Rattle.vol_layout.specs.Geometry.{in_zone, Fits}
 use Rattle.vol_layout.specs.Inode.{inode_place, address_at, address_bytes, address_place}
 use Rattle.vol_layout.specs.Places.{first_count, pointer_count, places}
-use Rattle.vol_layout.specs.Names.{mode_of, form_at, IsPlaceOf, named, entry_of}
+use Rattle.vol_layout.specs.Names.{mode_of, form_at, IsPlaceOf, named, pointer_in}
 use Rattle.vol_layout.specs.declared.geometry.Geometry.{Geometry}
 use Rattle.vol_layout.proofs.BodyLaws.{zone_bounds, zone_room}
 use Rattle.vol_layout.proofs.CopyLaws.{number_room}
@@ -19,7 +19,7 @@ use Rattle.vol_layout.proofs.InodeLaws.{mode_kept}
 use Rattle.vol_free.specs.Stack.{Popped, Pops}
 use Rattle.vol_file.specs.Shape.{is_named}
 use Rattle.vol_file.specs.Rules.{IsSoundWith}
-use Rattle.vol_file.specs.Steps.{lacking, Extends, Reaches, IsReady, IsWanted, IsNext, is_front}
+use Rattle.vol_file.specs.Steps.{lacking, Extends, Reaches, IsReady, IsWanted, IsNext, has_front}
 use Rattle.vol_file.proofs.Stores.{Stores}
 use Rattle.vol_file.proofs.PlaceLists.{bytes_same, other_place, same_bytes, places_once}
 use Rattle.vol_file.proofs.Alone.{elsewhere_self, elsewhere_then}
@@ -214,7 +214,7 @@ pub reaches_first : (geometry : Geometry) (old new : List ℕ) (i : ℕ) (wanted
     → Steps geometry old new i wanted (k ∷ []) blocks b → Reaches geometry old new i wanted (k ∷ []) blocks b
 reaches_first geometry old new i wanted k blocks b steps = record {
   rest = steps.rest;
-  extends = extends_as geometry old new i wanted (λ p. bytes_eq p (k ∷ [])) (is_front (k ∷ [])) blocks steps.rest
+  extends = extends_as geometry old new i wanted (λ p. bytes_eq p (k ∷ [])) (has_front (k ∷ [])) blocks steps.rest
       (λ p. sym (or-false (bytes_eq p (k ∷ [])))) steps.extends;
   is = steps.is;
   some = steps.some;
@@ -226,9 +226,9 @@ pub reaches_next : (geometry : Geometry) (old mid new : List ℕ) (i : ℕ) (wan
     → Reaches geometry old new i wanted (j ∷ (a ∷ p)) blocks b
 reaches_next geometry old mid new i wanted j a p blocks m b next steps = record {
   rest = steps.rest;
-  extends = extends_as geometry old new i wanted (λ q. is_front (a ∷ p) q || bytes_eq q (j ∷ (a ∷ p))) (is_front (j ∷ (a ∷ p))) blocks steps.rest
-      (λ q. or_comm (is_front (a ∷ p) q) (bytes_eq q (j ∷ (a ∷ p))))
-      (extends_then geometry old mid new i wanted (is_front (a ∷ p)) (λ q. bytes_eq q (j ∷ (a ∷ p))) blocks next.reached.rest steps.rest
+  extends = extends_as geometry old new i wanted (λ q. has_front (a ∷ p) q || bytes_eq q (j ∷ (a ∷ p))) (has_front (j ∷ (a ∷ p))) blocks steps.rest
+      (λ q. or_comm (has_front (a ∷ p) q) (bytes_eq q (j ∷ (a ∷ p))))
+      (extends_then geometry old mid new i wanted (has_front (a ∷ p)) (λ q. bytes_eq q (j ∷ (a ∷ p))) blocks next.reached.rest steps.rest
       next.want.ready next.reached.extends steps.extends);
   is = steps.is;
   some = steps.some;
@@ -238,7 +238,7 @@ reaches_next geometry old mid new i wanted j a p blocks m b next steps = record 
 pub wanted_next : (geometry : Geometry) (old mid : List ℕ) (i : ℕ) (wanted : List ℕ → Bool) (j a : ℕ) (p blocks : List ℕ) (m : ℕ)
     → (next : IsNext geometry old mid i wanted j a p blocks m) → IsWanted geometry mid i wanted (j ∷ (a ∷ p)) next.reached.rest
 wanted_next geometry old mid i wanted j a p blocks m next = record {
-  ready = ready_after geometry old mid i wanted (is_front (a ∷ p)) blocks next.reached.rest next.want.ready next.reached.extends;
+  ready = ready_after geometry old mid i wanted (has_front (a ∷ p)) blocks next.reached.rest next.want.ready next.reached.extends;
   place = place_same geometry old mid i (j ∷ (a ∷ p)) next.reached.extends.mode next.want.place;
   want = next.want.want;
 }
@@ -283,4 +283,4 @@ next_index geometry old mid i wanted j a p blocks m next =
 pub next_named : (geometry : Geometry) (old mid : List ℕ) (i : ℕ) (wanted : List ℕ → Bool) (j a : ℕ) (p blocks : List ℕ) (m : ℕ)
     → IsNext geometry old mid i wanted j a p blocks m → named geometry mid i (j ∷ (a ∷ p)) ≡ number geometry.edition mid (512 * m) j
 next_named geometry old mid i wanted j a p blocks m next =
-    ap (λ k. entry_of geometry mid k j) next.reached.is ∙ entry_in geometry mid m j (reached_zone geometry old mid i wanted j a p blocks m next)
+    ap (λ k. pointer_in geometry mid k j) next.reached.is ∙ entry_in geometry mid m j (reached_zone geometry old mid i wanted j a p blocks m next)

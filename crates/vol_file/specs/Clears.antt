@@ -56,8 +56,8 @@ abbrev pub Drops : Geometry → List ℕ → List ℕ → ℕ → List ℕ → �
 Drops geometry old new i q b blocks = IsSoundWith geometry old blocks → IsNamedAt geometry old i q b → IsEmptyUnder geometry old i q
     → Clears geometry old new i (IsFront q) (b ∷ []) blocks
 
--- entry j of block m, which a place of a file names, names b (manual section 5, file system)
-pub record HasEntry (geometry : Geometry) (image : List ℕ) (m j b : ℕ) : Type 0 where
+-- pointer j of block m, which a place of a file names, names b (manual section 5, file system)
+pub record HasPointer (geometry : Geometry) (image : List ℕ) (m j b : ℕ) : Type 0 where
   pub blocks : List ℕ
   pub sound : IsSoundWith geometry image blocks
   pub file : ℕ

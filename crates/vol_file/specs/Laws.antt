@@ -17,7 +17,7 @@ IsAmong p (q ∷ qs) = (p ≡ q) ⊎ IsAmong p qs
 abbrev pub ListsPlaces : Type 0
 ListsPlaces = (form : Form) (p : List ℕ) → IsAmong p (places form) ↔ IsPlace form p
 
--- and it has each of them once (this project)
+-- the list of a form's places has each of them once (this project)
 abbrev pub ListsPlacesOnce : Type 0
 ListsPlacesOnce = (form : Form) (p : List ℕ) → IsPlace form p → count_by (bytes_eq p) (places form) ≡ 1
 

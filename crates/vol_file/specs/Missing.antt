@@ -14,7 +14,8 @@ missing_to names whole (k ∷ []) = if names (k ∷ []) then 0 else 1
 missing_to names whole (j ∷ (a ∷ p)) =
     (if names (j ∷ (a ∷ p)) then 0 else 1) + (if whole || j == 0 then missing_to names whole (a ∷ p) else 0)
 
--- the same of the way of logical block b; 0 where it has none (Lions on bmap)
+-- how many places on the way of logical block b name nothing: all of them count, or those that are on the way of no earlier
+-- block; 0 where b has no way (Lions on bmap)
 abbrev pub missing_at : Form → (List ℕ → Bool) → Bool → ℕ → ℕ
 missing_at form names whole b = option_map_or (missing_to names whole) (last_place form b) 0
 

@@ -53,7 +53,7 @@ abbrev pub IsCovered : Geometry → List ℕ → List ℕ → Type 0
 IsCovered geometry image blocks = (k : ℕ) → in_zone geometry k ≡ true
     → IsIn k blocks ⊎ ((i : ℕ) × (p : List ℕ) × Names geometry image i p k)
 
--- rules 1 to 7 hold, and these are the free blocks (this project)
+-- the geometry fits, rules 3 to 7 hold, and these are the free blocks (this project)
 pub record IsSoundWith (geometry : Geometry) (image blocks : List ℕ) : Type 0 where
   pub fits : Fits geometry image
   pub kinds : HasKinds geometry image
@@ -63,7 +63,7 @@ pub record IsSoundWith (geometry : Geometry) (image blocks : List ℕ) : Type 0 
   pub apart : IsApart geometry image
   pub outside : IsOutside geometry image blocks
 
--- rules 1 to 7 hold (this project)
+-- the geometry fits, and rules 3 to 7 hold with some free blocks (this project)
 pub record HasSoundFiles (geometry : Geometry) (image : List ℕ) : Type 0 where
   pub blocks : List ℕ
   pub sound : IsSoundWith geometry image blocks

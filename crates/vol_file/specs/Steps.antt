@@ -48,14 +48,14 @@ pub record Extends (geometry : Geometry) (old new : List ℕ) (i : ℕ) (wanted 
   pub names : (p : List ℕ) → IsPlaceOf geometry old i p → is_named geometry new i p ≡ (is_named geometry old i p || set p)
   pub bytes : (n : ℕ) → body_byte geometry new i n ≡ body_byte geometry old i n
 
--- whether the second place is a front of the first, or that itself (Lions on bmap)
-abbrev pub is_front : List ℕ → List ℕ → Bool
-is_front q p = list_any (bytes_eq p) (fronts q)
+-- whether place q has front p: a place that the way to q goes through, or q itself (Lions on bmap)
+abbrev pub has_front : List ℕ → List ℕ → Bool
+has_front q p = list_any (bytes_eq p) (fronts q)
 
 -- place q of file i names block k now, and all its fronts name something (Lions on bmap)
 pub record Reaches (geometry : Geometry) (old new : List ℕ) (i : ℕ) (wanted : List ℕ → Bool) (q blocks : List ℕ) (k : ℕ) : Type 0 where
   pub rest : List ℕ
-  pub extends : Extends geometry old new i wanted (is_front q) blocks rest
+  pub extends : Extends geometry old new i wanted (has_front q) blocks rest
   pub is : named geometry new i q ≡ k
   pub some : k ≢ 0
 

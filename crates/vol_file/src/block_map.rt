@@ -2,9 +2,9 @@
 ghost use Rattle.std.specs.Prelude.{◌≡◌, ◌+◌, ◌*◌, ◌≤◌};
 ghost use Rattle.vol_layout.specs.Edition.{constants};
 ghost use Rattle.vol_layout.specs.Geometry.{Fits};
-ghost use Rattle.vol_layout.specs.Names.{entry_of, form_at, stored, block_named};
+ghost use Rattle.vol_layout.specs.Names.{pointer_in, form_at, stored, block_named};
 
-use pdp_words::Image;
+use pdp_words::{BLOCK, Image};
 use vol_layout::i_list::{address, mode};
 use vol_layout::{Form, Geometry, number};
 
@@ -24,15 +24,15 @@ pub fn block_at(image: &Image, geometry: &Geometry, i: u16, b: u32) -> Option<u3
     }
 }
 
-/// Entry `j` of block `m`, which is a pointer block; 0 where `m` is no data block.
-#[tactic(auto, unfolding(vol_layout::specs::Names::entry_of))]
+/// Pointer `j` in block `m`, which is a pointer block; 0 where `m` is no data block.
+#[tactic(auto, unfolding(vol_layout::specs::Names::pointer_in))]
 pub(crate) fn entry(image: &Image, geometry: &Geometry, m: u32, j: u32) -> u32
     requires fits { Fits geometry.now image.now }
     requires index { (constants geometry.now.edition).number_bytes * (j + 1) ≤ 512 }
-    ensures { result ≡ entry_of geometry.now image.now m j }
+    ensures { result ≡ pointer_in geometry.now image.now m j }
 {
     if geometry.in_zone(m) {
-        number(image, geometry.edition, m as usize * 512, j as usize)
+        number(image, geometry.edition, BLOCK * m as usize, j as usize)
     } else {
         0
     }
@@ -64,7 +64,8 @@ pub(crate) fn number_at(image: &Image, geometry: &Geometry, i: u16, form: Form, 
     }
 }
 
-/// The same in a file of the seventh edition.
+/// The number at the last place of the way of logical block `b`, in a file of the seventh edition; 0
+/// where there is no way, or nothing is named.
 #[tactic(auto, unfolding(vol_layout::specs::Places::last_place))]
 fn number_in_deep(image: &Image, geometry: &Geometry, i: u16, b: u32) -> u32
     requires fits { Fits geometry.now image.now }

@@ -111,7 +111,8 @@ fn missing_at(
     }
 }
 
-/// The same in a file that keeps its form.
+/// How many places on the way of logical block `b` name nothing, as [`missing_at`] counts them, in a
+/// file that keeps its form.
 #[tactic(auto, unfolding(vol_layout::specs::Places::last_place))]
 fn missing_on_way(
     image: &Image,
@@ -136,7 +137,8 @@ fn missing_on_way(
     }
 }
 
-/// The same in a large file of the sixth edition.
+/// How many places on the way of logical block `b` name nothing, as [`missing_at`] counts them, in a
+/// large file of the sixth edition.
 #[tactic(auto, unfolding(vol_layout::specs::Places::last_place))]
 fn missing_in_large(image: &Image, geometry: &Geometry, i: u16, whole: bool, b: u32) -> u32
     requires fits { Fits geometry.now image.now }
@@ -165,7 +167,8 @@ fn missing_in_large(image: &Image, geometry: &Geometry, i: u16, whole: bool, b: 
     0
 }
 
-/// The same in a file of the seventh edition.
+/// How many places on the way of logical block `b` name nothing, as [`missing_at`] counts them, in a
+/// file of the seventh edition.
 #[tactic(auto, unfolding(vol_layout::specs::Places::last_place))]
 fn missing_in_deep(image: &Image, geometry: &Geometry, i: u16, whole: bool, b: u32) -> u32
     requires fits { Fits geometry.now image.now }
@@ -197,7 +200,8 @@ fn missing_in_deep(image: &Image, geometry: &Geometry, i: u16, whole: bool, b: u
     0
 }
 
-/// The same below the triply indirect block, for its logical block `c`.
+/// How many places on the way of logical block `c` of those below the triply indirect block name
+/// nothing, as [`missing_at`] counts them.
 fn missing_in_triple(image: &Image, geometry: &Geometry, i: u16, whole: bool, c: u32) -> u32
     requires fits { Fits geometry.now image.now }
     requires first { 1 ≤ i }
@@ -217,8 +221,8 @@ fn missing_in_triple(image: &Image, geometry: &Geometry, i: u16, whole: bool, c:
     absent_with(data != 0, whole || c % 128 == 0, above)
 }
 
-/// The same in a small file that is to become large: address 0 then names a block of the eight
-/// addresses that it had.
+/// How many places on the way of logical block `b` name nothing, as [`missing_at`] counts them, in a
+/// small file that is to become large: address 0 then names a block of the eight addresses that it had.
 #[tactic(auto, unfolding(vol_layout::specs::Places::last_place))]
 fn missing_once_large(image: &Image, geometry: &Geometry, i: u16, whole: bool, b: u32) -> u32
     requires fits { Fits geometry.now image.now }

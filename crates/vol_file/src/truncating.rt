@@ -4,7 +4,7 @@ ghost use Rattle.vol_layout.specs.Geometry.{Fits};
 ghost use Rattle.vol_layout.specs.Names.{form_at, IsFile, named};
 ghost use Rattle.vol_file.specs.Rules.{IsSoundWith, HasSoundFiles};
 ghost use Rattle.vol_file.specs.Changes.{blocks_of, Truncates};
-ghost use Rattle.vol_file.specs.Clears.{IsUnder, Clears, Drops, HasEntry, HasAddress, HasNode, ClearsBelow};
+ghost use Rattle.vol_file.specs.Clears.{IsUnder, Clears, Drops, HasPointer, HasAddress, HasNode, ClearsBelow};
 
 use pdp_words::{BLOCK, Image};
 use vol_free::give;
@@ -75,7 +75,7 @@ fn clear_below(image: &mut Image, geometry: &Geometry, m: u32, level: u8)
 
 /// Makes entry `j` of block `m` 0, and gives back block `b`, which it named.
 fn drop_entry(image: &mut Image, geometry: &Geometry, m: u32, j: u32, b: u32)
-    requires { HasEntry geometry.now image.old m j b }
+    requires { HasPointer geometry.now image.old m j b }
     ensures { (i a : ℕ) (p blocks : List ℕ) → named geometry.now image.old i (a ∷ p) ≡ m
         → Drops geometry.now image.old image.new i (j ∷ (a ∷ p)) b blocks }
 {

@@ -80,7 +80,7 @@ fn name_way(image: &mut Image, geometry: &Geometry, i: u16, form: Form, b: u32)
     }
 }
 
-/// The same in a large file of the sixth edition.
+/// Names what is missing on the way of logical block `b` of a large file of the sixth edition.
 fn name_way_in_large(image: &mut Image, geometry: &Geometry, i: u16, b: u32)
     requires form { form_at geometry.now image.old i ≡ Form.Large }
     requires may { MayNameWay geometry.now image.old i b }
@@ -97,7 +97,8 @@ fn name_way_in_large(image: &mut Image, geometry: &Geometry, i: u16, b: u32)
     }
 }
 
-/// The same in the seventh edition, for a logical block that no doubly indirect block leads to.
+/// Names what is missing on the way of logical block `b` of a file of the seventh edition, to which no
+/// doubly indirect block leads.
 fn name_short_way(image: &mut Image, geometry: &Geometry, i: u16, b: u32)
     requires form { form_at geometry.now image.old i ≡ Form.Deep }
     requires short { b < 138 }
@@ -113,7 +114,8 @@ fn name_short_way(image: &mut Image, geometry: &Geometry, i: u16, b: u32)
     }
 }
 
-/// The same for a logical block that a doubly or triply indirect block leads to.
+/// Names what is missing on the way of logical block `b` of a file of the seventh edition, to which a
+/// doubly or triply indirect block leads.
 fn name_long_way(image: &mut Image, geometry: &Geometry, i: u16, b: u32)
     requires form { form_at geometry.now image.old i ≡ Form.Deep }
     requires long { 138 ≤ b }

@@ -103,6 +103,8 @@ pub fn write(image: &mut Image, geometry: &Geometry, i: u16, offset: u32, text: 
         return;
     }
     let end = offset + text.len() as u32;
-    name_blocks(image, geometry, i, offset / 512, (end - 1) / 512 + 1);
+    let first = offset / BLOCK as u32;
+    let last = (end - 1) / BLOCK as u32;
+    name_blocks(image, geometry, i, first, last + 1);
     put_in_blocks(image, geometry, i, offset, text);
 }

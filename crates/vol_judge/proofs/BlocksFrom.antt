@@ -3,7 +3,7 @@ use Rattle.std.proofs.Common.{◌≡◌, ◌≢◌, ℕ, zero, suc, ◌+◌, ◌
 use Rattle.std.proofs.lemmas.Bool.{ne_eqb}
 use Rattle.std.specs.List.{flat_map, range_with_len}
 use Rattle.vol_layout.specs.Edition.{constants}
-use Rattle.vol_layout.specs.Names.{entry_of}
+use Rattle.vol_layout.specs.Names.{pointer_in}
 use Rattle.vol_layout.specs.declared.geometry.Geometry.{Geometry}
 use Rattle.vol_judge.specs.Marks.{blocks_from, marked}
 use Rattle.vol_judge.proofs.MarkLists.{marked_none, marked_first, marked_again, marked_more, marked_fails}
@@ -21,14 +21,14 @@ from_leaf geometry image b some = ap (λ t. cond t [] (b ∷ [])) (ne_eqb b 0 so
 
 -- the blocks found from the first n entries of block b on, in d levels
 unfoldable pub entries_from : Geometry → List ℕ → ℕ → ℕ → ℕ → List ℕ
-entries_from geometry image d b n = flat_map (λ j. blocks_from geometry image d (entry_of geometry image b j)) (range_with_len 0 n)
+entries_from geometry image d b n = flat_map (λ j. blocks_from geometry image d (pointer_in geometry image b j)) (range_with_len 0 n)
 
 -- with one level more it is found before its entries
 from_suc : (geometry : Geometry) (image : List ℕ) (d b : ℕ) → b ≢ 0
     → blocks_from geometry image (suc d) b ≡ b ∷ entries_from geometry image d b (constants geometry.edition).pointers
 unfolding blocks_from entries_from
 from_suc geometry image d b some =
-    ap (λ t. cond t [] (b ∷ flat_map (λ j. blocks_from geometry image d (entry_of geometry image b j)) (range_with_len 0 (constants geometry.edition).pointers)))
+    ap (λ t. cond t [] (b ∷ flat_map (λ j. blocks_from geometry image d (pointer_in geometry image b j)) (range_with_len 0 (constants geometry.edition).pointers)))
     (ne_eqb b 0 some)
 
 -- the same with a difference
@@ -74,19 +74,19 @@ entries_none geometry image d b marks = marked_none marks
 -- one entry more is marked
 pub entries_more : (geometry : Geometry) (image : List ℕ) (d b j k : ℕ) (marks mid : List ℕ) (end : Option (List ℕ)) → j + 1 ≡ k
     → marked marks (entries_from geometry image d b j) ≡ Some mid
-    → marked mid (blocks_from geometry image d (entry_of geometry image b j)) ≡ end
+    → marked mid (blocks_from geometry image d (pointer_in geometry image b j)) ≡ end
     → marked marks (entries_from geometry image d b k) ≡ end
 unfolding entries_from
 entries_more geometry image d b j k marks mid end next done last =
     let at : 0 + j ≡ j = omega arith in
-    marked_more (λ j. blocks_from geometry image d (entry_of geometry image b j)) 0 j j k marks mid end at next done last
+    marked_more (λ j. blocks_from geometry image d (pointer_in geometry image b j)) 0 j j k marks mid end at next done last
 
 -- an entry that can't be marked after those before it stops all
 pub entries_fail : (geometry : Geometry) (image : List ℕ) (d b j n : ℕ) (marks mid : List ℕ) → j < n
     → marked marks (entries_from geometry image d b j) ≡ Some mid
-    → marked mid (blocks_from geometry image d (entry_of geometry image b j)) ≡ None
+    → marked mid (blocks_from geometry image d (pointer_in geometry image b j)) ≡ None
     → marked marks (entries_from geometry image d b n) ≡ None
 unfolding entries_from
 entries_fail geometry image d b j n marks mid less done last =
     let at : 0 + j ≡ j = omega arith in
-    marked_fails (λ j. blocks_from geometry image d (entry_of geometry image b j)) 0 j j n marks mid at less done last
+    marked_fails (λ j. blocks_from geometry image d (pointer_in geometry image b j)) 0 j j n marks mid at less done last

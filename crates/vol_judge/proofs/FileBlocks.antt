@@ -7,7 +7,7 @@ use Rattle.vol_layout.specs.Geometry.{in_zone, Fits}
 use Rattle.vol_layout.specs.Inode.{inode_place, address_at}
 use Rattle.vol_layout.specs.Laws.{IsFront}
 use Rattle.vol_layout.specs.Places.{first_count, pointer_count, levels, places_from, places}
-use Rattle.vol_layout.specs.Names.{form_at, named, entry_of}
+use Rattle.vol_layout.specs.Names.{form_at, named, pointer_in}
 use Rattle.vol_layout.specs.declared.geometry.Geometry.{Geometry}
 use Rattle.vol_layout.proofs.NameLaws.{zero_out, named_past}
 use Rattle.vol_file.specs.Changes.{blocks_of}
@@ -66,7 +66,7 @@ at_from geometry image i n (suc d) a p fits many =
           let less : suc d - 1 ≡ d = omega arith in
           at_some geometry image i b (a ∷ p) (flat_map (λ j. places_from n (j ∷ (a ∷ p)) d) (range_with_len 0 n)) refl some
           ∙ (ap (λ xs. b ∷ xs)
-          (at_flat geometry image i (λ j. places_from n (j ∷ (a ∷ p)) d) (λ j. blocks_from geometry image d (entry_of geometry image b j)) (range_with_len 0 n)
+          (at_flat geometry image i (λ j. places_from n (j ∷ (a ∷ p)) d) (λ j. blocks_from geometry image d (pointer_in geometry image b j)) (range_with_len 0 n)
           (λ j. at_from geometry image i n d j (a ∷ p) fits many))
           ∙ (ap (λ x. b ∷ entries_from geometry image d b x) many
           ∙ (ap (λ x. b ∷ entries_from geometry image x b (constants geometry.edition).pointers) (sym less)

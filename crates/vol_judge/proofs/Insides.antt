@@ -3,7 +3,7 @@ use Rattle.std.proofs.Common.{◌↔◌, IsTrue, ◌≡◌, ◌≢◌, ℕ, zero
 use Rattle.std.proofs.lemmas.Bool.{cases_eq, false≢true}
 use Rattle.vol_layout.specs.Edition.{constants}
 use Rattle.vol_layout.specs.Geometry.{in_zone, Fits}
-use Rattle.vol_layout.specs.Names.{entry_of}
+use Rattle.vol_layout.specs.Names.{pointer_in}
 use Rattle.vol_layout.specs.declared.geometry.Geometry.{Geometry}
 use Rattle.vol_layout.proofs.NameLaws.{entry_out, zero_out}
 use Rattle.vol_judge.specs.Marks.{IsInside, KnowsInside}
@@ -33,26 +33,26 @@ unfolding IsInside
 inside_less geometry image zero e b less inside = inside_here geometry image e b inside
 inside_less geometry image (suc d) zero b less inside = absurd (omega arith)
 inside_less geometry image (suc d) (suc e) b less inside =
-    (inside.0, λ j h. inside_less geometry image d e (entry_of geometry image b j) (omega arith) (inside.1 j h))
+    (inside.0, λ j h. inside_less geometry image d e (pointer_in geometry image b j) (omega arith) (inside.1 j h))
 
 -- all that is found below a number is found below its entries
 pub inside_entry : (geometry : Geometry) (image : List ℕ) (d b j : ℕ) → 1 ≤ d → j < (constants geometry.edition).pointers
-    → IsInside geometry image d b → IsInside geometry image (d - 1) (entry_of geometry image b j)
+    → IsInside geometry image d b → IsInside geometry image (d - 1) (pointer_in geometry image b j)
 unfolding IsInside
 inside_entry geometry image zero b j one h inside = absurd (omega arith)
 inside_entry geometry image (suc d) b j one h inside =
     let less : d ≡ suc d - 1 = omega arith in
-    subst (λ x. IsInside geometry image x (entry_of geometry image b j)) less (inside.1 j h)
+    subst (λ x. IsInside geometry image x (pointer_in geometry image b j)) less (inside.1 j h)
 
 -- and what is found below all entries of a data block is all
 pub inside_all : (geometry : Geometry) (image : List ℕ) (d b : ℕ) → in_zone geometry b ≡ true → 1 ≤ d
-    → ((j : ℕ) → j < (constants geometry.edition).pointers → IsInside geometry image (d - 1) (entry_of geometry image b j))
+    → ((j : ℕ) → j < (constants geometry.edition).pointers → IsInside geometry image (d - 1) (pointer_in geometry image b j))
     → IsInside geometry image d b
 unfolding IsInside
 inside_all geometry image zero b zone one all = absurd (omega arith)
 inside_all geometry image (suc d) b zone one all =
     let less : suc d - 1 ≡ d = omega arith in
-    (λ some. zone, λ j h. subst (λ x. IsInside geometry image x (entry_of geometry image b j)) less (all j h))
+    (λ some. zone, λ j h. subst (λ x. IsInside geometry image x (pointer_in geometry image b j)) less (all j h))
 
 -- nothing is known where no levels are
 pub knows_nothing : (geometry : Geometry) (image known : List ℕ) → ((b : ℕ) → get_or known b 0 ≡ 0) → KnowsInside geometry image known

@@ -3,7 +3,7 @@ use Rattle.std.specs.Prelude.{◌≡◌, ◌≢◌, ℕ, zero, suc, ◌<◌, ◌
 use Rattle.std.specs.List.{flat_map, range_with_len}
 use Rattle.vol_layout.specs.Edition.{constants}
 use Rattle.vol_layout.specs.Geometry.{in_zone}
-use Rattle.vol_layout.specs.Names.{IsPlaceOf, named, entry_of, Names}
+use Rattle.vol_layout.specs.Names.{IsPlaceOf, named, pointer_in, Names}
 use Rattle.vol_file.specs.Rules.{IsZoned, IsApart}
 use Rattle.vol_layout.specs.declared.geometry.Geometry.{Geometry}
 use Rattle.vol_judge.specs.declared.marking.Places.{Places}
@@ -14,7 +14,7 @@ unfoldable pub IsInside : Geometry → List ℕ → ℕ → ℕ → Type 0
 IsInside geometry image zero b = b ≢ 0 → in_zone geometry b ≡ true
 IsInside geometry image (suc d) b =
     (b ≢ 0 → in_zone geometry b ≡ true)
-    × ((j : ℕ) → j < (constants geometry.edition).pointers → IsInside geometry image d (entry_of geometry image b j))
+    × ((j : ℕ) → j < (constants geometry.edition).pointers → IsInside geometry image d (pointer_in geometry image b j))
 
 -- the number of levels in which all that is found below each data block is known to be inside the data zone (this project)
 abbrev pub KnowsInside : Geometry → List ℕ → List ℕ → Type 0
@@ -29,7 +29,7 @@ IsFileZoned geometry image i = (p : List ℕ) → IsPlaceOf geometry image i p �
 unfoldable pub blocks_from : Geometry → List ℕ → ℕ → ℕ → List ℕ
 blocks_from geometry image zero b = if b == 0 then [] else b ∷ []
 blocks_from geometry image (suc d) b = if b == 0 then [] else
-    b ∷ flat_map (λ j. blocks_from geometry image d (entry_of geometry image b j)) (range_with_len 0 (constants geometry.edition).pointers)
+    b ∷ flat_map (λ j. blocks_from geometry image d (pointer_in geometry image b j)) (range_with_len 0 (constants geometry.edition).pointers)
 
 -- the marks once some blocks are marked one after another; nothing where one of them is marked already (icheck)
 unfoldable pub marked : List ℕ → List ℕ → Option (List ℕ)

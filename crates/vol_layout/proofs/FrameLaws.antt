@@ -6,7 +6,7 @@ use Rattle.vol_layout.specs.Edition.{constants, number}
 use Rattle.vol_layout.specs.Geometry.{in_zone, Fits}
 use Rattle.vol_layout.specs.Inode.{inode_place, address_at, address_count, is_large, kind_of}
 use Rattle.vol_layout.specs.Places.{form_of, file_form, has_places, first_count, pointer_count, levels_below, IsPlace, last_place}
-use Rattle.vol_layout.specs.Names.{mode_of, form_at, entry_of, named, stored}
+use Rattle.vol_layout.specs.Names.{mode_of, form_at, pointer_in, named, stored}
 use Rattle.vol_layout.specs.Body.{zone_byte, body_byte, body_size, body}
 use Rattle.vol_layout.specs.Laws.{IsFront}
 use Rattle.vol_layout.specs.declared.edition.Edition.{Edition}
@@ -72,8 +72,8 @@ places_kept geometry old new i kept =
 -- entry j of block m stays where its number does, if m is a data block at all
 pub entry_kept : (geometry : Geometry) (old new : List ℕ) (m j : ℕ)
     → (in_zone geometry m ≡ true → number geometry.edition new (512 * m) j ≡ number geometry.edition old (512 * m) j)
-    → entry_of geometry new m j ≡ entry_of geometry old m j
-unfolding entry_of
+    → pointer_in geometry new m j ≡ pointer_in geometry old m j
+unfolding pointer_in
 entry_kept geometry old new m j same =
     elim (in_zone geometry m) as (λ z. in_zone geometry m ≡ z
     → (if z then number geometry.edition new (512 * m) j else 0) ≡ (if z then number geometry.edition old (512 * m) j else 0))
@@ -88,7 +88,7 @@ pub named_kept : (geometry : Geometry) (old new : List ℕ) (i : ℕ) (p : List 
 named_kept geometry old new i [] addresses entries = refl
 named_kept geometry old new i (k ∷ []) addresses entries = addresses k (inl refl)
 named_kept geometry old new i (j ∷ (a ∷ p)) addresses entries =
-    ap (λ m. entry_of geometry new m j) (named_kept geometry old new i (a ∷ p) (λ k front. addresses k (inr front)) (λ h b q front. entries h b q (inr front)))
+    ap (λ m. pointer_in geometry new m j) (named_kept geometry old new i (a ∷ p) (λ k front. addresses k (inr front)) (λ h b q front. entries h b q (inr front)))
     ∙ entry_kept geometry old new (named geometry old i (a ∷ p)) j (entries j a p (inl refl))
 
 -- what place p names stays where the addresses and the form are kept, and each data block on the way to it

@@ -2,7 +2,7 @@
 use Rattle.std.proofs.Common.{◌≡◌, ◌≢◌, ℕ, ◌*◌, ◌<◌, ◌≤◌, ◌∙◌, sym, ap, subst, List, [], ◌∷◌, true, false, refl, arith, inl, inr, Some, None}
 use Rattle.vol_layout.specs.Edition.{number}
 use Rattle.vol_layout.specs.Geometry.{in_zone, Fits}
-use Rattle.vol_layout.specs.Names.{entry_of, named, Holds, stored}
+use Rattle.vol_layout.specs.Names.{pointer_in, named, Holds, stored}
 use Rattle.vol_layout.specs.Places.{last_place}
 use Rattle.vol_layout.specs.declared.places.Form.{Form}
 use Rattle.std.specs.Option.{option_map_or}
@@ -12,13 +12,13 @@ use Rattle.vol_layout.proofs.BodyLaws.{zone_bounds}
 
 -- an entry of a data block is the number that stands there
 pub entry_in : (geometry : Geometry) (image : List ℕ) (m j : ℕ) → in_zone geometry m ≡ true
-    → entry_of geometry image m j ≡ number geometry.edition image (512 * m) j
-unfolding entry_of
+    → pointer_in geometry image m j ≡ number geometry.edition image (512 * m) j
+unfolding pointer_in
 entry_in geometry image m j z = rw z
 
 -- a number outside the data zone has no entries
-pub entry_out : (geometry : Geometry) (image : List ℕ) (m j : ℕ) → in_zone geometry m ≡ false → entry_of geometry image m j ≡ 0
-unfolding entry_of
+pub entry_out : (geometry : Geometry) (image : List ℕ) (m j : ℕ) → in_zone geometry m ≡ false → pointer_in geometry image m j ≡ 0
+unfolding pointer_in
 entry_out geometry image m j z = rw z
 
 -- 0 is no data block
@@ -50,7 +50,7 @@ pub holds_named : (geometry : Geometry) (image : List ℕ) (i : ℕ) (p : List �
 holds_named geometry image i p k (Holds.address a m some at) = (at, some)
 holds_named geometry image i p k (Holds.entry j a q m n some front zone at) =
     let deeper : (named geometry image i (a ∷ q) ≡ m) × (m ≢ 0) = holds_named geometry image i (a ∷ q) m front in
-    (ap (λ x. entry_of geometry image x j) deeper.0 ∙ (entry_in geometry image m j zone ∙ at), some)
+    (ap (λ x. pointer_in geometry image x j) deeper.0 ∙ (entry_in geometry image m j zone ∙ at), some)
 
 -- a data block's number is not 0
 pub zone_some : (geometry : Geometry) (image : List ℕ) (k : ℕ) → Fits geometry image → in_zone geometry k ≡ true → k ≢ 0

@@ -52,7 +52,8 @@ geometry_read edition image =
 abbrev pub in_zone : Geometry → ℕ → Bool
 in_zone geometry k = nat_le geometry.zone_start k && nat_lt k geometry.zone_end
 
--- the geometry's blocks lie within the image, its i-list ends where its data zone begins, and its numbers are the edition's (rules 1 and 2)
+-- the image has the geometry's blocks, the i-list ends where the data zone begins, the data zone has a block, the root's i-number
+-- is below the last, and each block's number is below what the edition can store (this project; rules 1 and 2 give all that)
 pub record Fits (geometry : Geometry) (image : List ℕ) : Type 0 where
   pub blocks : 512 * geometry.zone_end ≤ length image
   pub i_list : 1024 + (constants geometry.edition).inode_bytes * geometry.last_inode ≡ 512 * geometry.zone_start

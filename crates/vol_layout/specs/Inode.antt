@@ -13,7 +13,7 @@ use Rattle.vol_layout.specs.declared.i_node.Inode.{Inode}
 abbrev pub kind_of_type_v6 : ℕ → Kind
 kind_of_type_v6 type = if type == 0 then kinds.Regular else if type == 2 then kinds.Directory else kinds.Special
 
--- the kind that the type bits 0170000 stand for (stat.h of the seventh edition); both multiplexor types are special files
+-- the kind that the type bits 0170000 stand for; both multiplexor types are special files (stat.h of the seventh edition)
 abbrev pub kind_of_type_v7 : ℕ → Kind
 kind_of_type_v7 type =
     if type == 8 then kinds.Regular else if type == 4 then kinds.Directory

@@ -23,15 +23,15 @@ pub record IsFile (geometry : Geometry) (image : List ℕ) (i : ℕ) : Type 0 wh
   pub last : i ≤ geometry.last_inode
   pub kind : has_places (kind_of geometry.edition (mode_of geometry image i)) ≡ true
 
--- entry j of block m; a number outside the data zone names no block, and nothing stands there (Lions on bmap; the zone's test is this project's)
-unfoldable pub entry_of : Geometry → List ℕ → ℕ → ℕ → ℕ
-entry_of geometry image m j = if in_zone geometry m then number geometry.edition image (512 * m) j else 0
+-- pointer j in block m, 0 where m is no data block: a number outside the zone names none (Lions on bmap; the zone's test is this project's)
+unfoldable pub pointer_in : Geometry → List ℕ → ℕ → ℕ → ℕ
+pointer_in geometry image m j = if in_zone geometry m then number geometry.edition image (512 * m) j else 0
 
 -- the number at a place of i-node i, 0 where it names nothing (manual section 5; Lions on bmap)
 abbrev pub named : Geometry → List ℕ → ℕ → List ℕ → ℕ
 named geometry image i [] = 0
 named geometry image i (k ∷ []) = address_at geometry.edition image (inode_place geometry.edition i) k
-named geometry image i (j ∷ (a ∷ p)) = entry_of geometry image (named geometry image i (a ∷ p)) j
+named geometry image i (j ∷ (a ∷ p)) = pointer_in geometry image (named geometry image i (a ∷ p)) j
 
 -- place p of file i is one of its places (Lions on bmap; ino.h)
 pub record IsPlaceOf (geometry : Geometry) (image : List ℕ) (i : ℕ) (p : List ℕ) : Type 0 where

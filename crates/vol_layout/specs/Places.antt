@@ -96,6 +96,6 @@ abbrev pub places_from : ℕ → List ℕ → ℕ → List (List ℕ)
 places_from n p zero = p ∷ []
 places_from n p (suc d) = p ∷ flat_map (λ j. places_from n (j ∷ p) d) (range_with_len 0 n)
 
--- all places of a form, each once, in the same order (Lions on itrunc)
+-- all places of a form, each once, in ascending order of their indexes, each before those below it (Lions on itrunc)
 unfoldable pub places : Form → List (List ℕ)
 places form = flat_map (λ k. places_from (pointer_count form) (k ∷ []) (levels form k)) (range_with_len 0 (first_count form))

@@ -2,7 +2,8 @@
 ghost use Rattle.std.specs.Prelude.{◌≡◌, IfOk, ◌&&◌, nat_le, nat_lt};
 
 use crate::edition::Edition;
-use pdp_words::Image;
+use crate::super_block::Super;
+use pdp_words::{BLOCK, Image};
 use thiserror::Error;
 
 /// The sizes of a volume.
@@ -30,7 +31,7 @@ pub enum GeometryFault {
 }
 
 impl Geometry {
-    ghost use Rattle.vol_layout.specs.Geometry.{geometry_read, Fits};
+    ghost use Rattle.vol_layout.specs.Geometry.{geometry_read, Fits, in_zone};
 
     /// Reads the geometry from the super-block of an image, which may be any bytes.
     #[tactic(auto, unfolding(crate::specs::Geometry::geometry_read))]
@@ -41,12 +42,14 @@ impl Geometry {
         if image.len() < 1024 {
             return Err(GeometryFault::Short);
         }
-        let list_size = u32::from(image.word(512));
-        let (zone_start, zone_end) = match edition {
-            Edition::V6 => (list_size + 2, u32::from(image.word(514))),
-            Edition::V7 => (list_size, image.long(514)),
+        let super_block = Super { edition };
+        let list_size = u32::from(super_block.list_size(image));
+        let zone_end = super_block.block_count(image);
+        let zone_start = match edition {
+            Edition::V6 => list_size + 2,
+            Edition::V7 => list_size,
         };
-        if image.len() < 512 * zone_end as usize {
+        if image.len() < BLOCK * zone_end as usize {
             return Err(GeometryFault::Short);
         }
         if !is_bounded(edition, list_size, zone_start, zone_end) {
@@ -60,10 +63,6 @@ impl Geometry {
             last_inode: inodes * (zone_start - 2) as u16,
         })
     }
-}
-
-impl Geometry {
-    ghost use Rattle.vol_layout.specs.Geometry.{in_zone};
 
     /// Whether `k` is the number of a data block.
     pub fn in_zone(&self, k: u32) -> bool

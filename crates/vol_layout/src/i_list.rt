@@ -13,6 +13,7 @@ ghost use Rattle.vol_layout.specs.Inode.{
   address_count,
   address_bytes,
   address_place,
+  kind_of,
   size_at,
   size_bytes,
   size_place,
@@ -22,7 +23,7 @@ ghost use Rattle.vol_layout.specs.Inode.{
 use crate::edition::Edition;
 use crate::geometry::Geometry;
 use crate::i_node::Inode;
-use crate::mode::Mode;
+use crate::mode::{Kind, Mode};
 use pdp_words::Image;
 use std::array;
 
@@ -141,6 +142,16 @@ pub fn mode(image: &Image, geometry: &Geometry, i: u16) -> Mode
     Mode {
         bits: image.word(place_of(geometry.edition, i)),
     }
+}
+
+/// What i-node `i` of a volume is, from 1 to the last, as its mode says.
+pub fn kind(image: &Image, geometry: &Geometry, i: u16) -> Kind
+    requires fits { Fits geometry.now image.now }
+    requires first { 1 ≤ i }
+    requires last { i ≤ geometry.now.last_inode }
+    ensures { result ≡ kind_of geometry.now.edition (mode_of geometry.now image.now i) }
+{
+    mode(image, geometry, i).kind(geometry.edition)
 }
 
 /// The size of i-node `i` of a volume, from 1 to the last, in bytes.

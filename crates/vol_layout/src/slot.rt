@@ -1,5 +1,5 @@
 //! The slots of a directory.
-ghost use Rattle.std.specs.Prelude.{◌≡◌, ◌+◌, ◌≤◌, ◌==◌, length};
+ghost use Rattle.std.specs.Prelude.{◌≡◌, ◌+◌, ◌%◌, ◌≤◌, ◌==◌, length, slice_index};
 ghost use Rattle.std.specs.List.{position_or_len};
 ghost use Rattle.pdp_words.specs.Words.{SameOutside};
 ghost use Rattle.vol_layout.specs.Slot.{padded_name};
@@ -41,6 +41,7 @@ impl Slot {
     pub fn put(&self, bytes: &mut [u8], at: usize)
         requires { at + 16 ≤ length bytes.old }
         ensures put { slot_at bytes.new at ≡ self.now }
+        ensures low { slice_index bytes.new at ≡ self.now.inode % 256 }
         ensures others { SameOutside bytes.old bytes.new at (at + 16) }
     {
         words::put_word(bytes, at, self.inode);

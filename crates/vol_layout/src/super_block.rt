@@ -72,7 +72,8 @@ impl Super {
     /// `s_fsize`: how many blocks the volume has.
     pub fn block_count(self, image: &Image) -> u32
         requires { 1024 ≤ length image.now }
-        ensures { result ≡ block_count self.edition image.now }
+        ensures value { result ≡ block_count self.edition image.now }
+        ensures range { self.edition ≡ Edition.V6 → result < 65536 }
     {
         match self.edition {
             Edition::V6 => u32::from(image.word(SUPER + 2)),

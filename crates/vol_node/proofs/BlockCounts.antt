@@ -7,7 +7,7 @@ use Rattle.std.proofs.lemmas.List.{length-append}
 use Rattle.vol_layout.specs.Edition.{constants}
 use Rattle.vol_layout.specs.Geometry.{Fits}
 use Rattle.vol_layout.specs.Inode.{inode_place, address_at}
-use Rattle.vol_layout.specs.Names.{form_at, entry_of}
+use Rattle.vol_layout.specs.Names.{form_at, pointer_in}
 use Rattle.vol_layout.specs.Places.{first_count, levels}
 use Rattle.vol_layout.specs.declared.edition.Edition.{Edition}
 use Rattle.vol_layout.specs.declared.edition.Edition.TheVariants.{V6, V7}
@@ -72,10 +72,10 @@ count_entries_none geometry image d b = refl
 
 -- one entry more
 pub count_entries_more : (geometry : Geometry) (image : List ℕ) (d b j : ℕ)
-    → length (entries_from geometry image d b (j + 1)) ≡ length (entries_from geometry image d b j) + length (blocks_from geometry image d (entry_of geometry image b j))
+    → length (entries_from geometry image d b (j + 1)) ≡ length (entries_from geometry image d b j) + length (blocks_from geometry image d (pointer_in geometry image b j))
 unfolding entries_from
 count_entries_more geometry image d b j =
-    let f : ℕ → List ℕ = λ x. blocks_from geometry image d (entry_of geometry image b x) in
+    let f : ℕ → List ℕ = λ x. blocks_from geometry image d (pointer_in geometry image b x) in
     let size : j + 1 ≡ suc j = omega arith in
     let last : length (f (0 + j)) ≡ length (f j) = ap (λ x. length (f x)) (omega arith) in
     let more : length (flat_map f (range_with_len 0 (suc j))) ≡ length (flat_map f (range_with_len 0 j)) + length (f (0 + j)) = flat_more f 0 j in
@@ -111,7 +111,7 @@ from_most geometry image (suc d) b = elim (cases_eq b 0) [
       let same : length (entries_from geometry image (suc d - 1) b n) ≡ length (entries_from geometry image d b n) =
       ap (λ x. length (entries_from geometry image x b n)) less in
       let below : length (entries_from geometry image d b n) ≤ n * most d =
-      flat_within (λ j. blocks_from geometry image d (entry_of geometry image b j)) 0 n (most d) (λ j low high. from_most geometry image d (entry_of geometry image b j)) in
+      flat_within (λ j. blocks_from geometry image d (pointer_in geometry image b j)) 0 n (most d) (λ j low high. from_most geometry image d (pointer_in geometry image b j)) in
       let all : n * most d ≤ 256 * most d = mul-le-mul_right (most d) few in
       omega (arith, here, same, below, all)
 ]
@@ -127,10 +127,10 @@ pub entries_few : (geometry : Geometry) (image : List ℕ) (d b n : ℕ) → d �
 unfolding entries_from
 entries_few geometry image d b n low few =
     let most_here : most d ≤ 65793 = most_more d 2 low in
-    let all : length (flat_map (λ j. blocks_from geometry image d (entry_of geometry image b j)) (range_with_len 0 n)) ≤ n * 65793 =
-    flat_within (λ j. blocks_from geometry image d (entry_of geometry image b j)) 0 n 65793
+    let all : length (flat_map (λ j. blocks_from geometry image d (pointer_in geometry image b j)) (range_with_len 0 n)) ≤ n * 65793 =
+    flat_within (λ j. blocks_from geometry image d (pointer_in geometry image b j)) 0 n 65793
     (λ j from to.
-    let found : length (blocks_from geometry image d (entry_of geometry image b j)) ≤ most d = from_most geometry image d (entry_of geometry image b j) in
+    let found : length (blocks_from geometry image d (pointer_in geometry image b j)) ≤ most d = from_most geometry image d (pointer_in geometry image b j) in
     omega (arith, most_here, found)) in
     omega (arith, all)
 

@@ -102,6 +102,6 @@ module _ (geometry : Geometry) (old new : List ℕ) (i : ℕ) (whole : IsWhole g
     ];
   }
 
-  -- rules 1 to 8
+  -- the image is whole
   pub bare_whole : length new ≡ length old → ((blocks : List ℕ) → IsFree geometry old blocks → IsFree geometry new blocks) → IsWhole geometry new
   bare_whole len free = whole_names geometry old new len names_new free kinds_new sizes_new whole

@@ -8,7 +8,7 @@ use Rattle.vol_layout.specs.declared.geometry.GeometryFault.TheVariants.{Short, 
 use Rattle.vol_judge.specs.Sound.{Rule, IsSound}
 use Rattle.vol_node.specs.Whole.{IsWhole}
 
--- in a sound volume rules 1 to 8 hold
+-- a sound volume whose geometry fits is whole
 pub sound_whole : (edition : Edition) (image : List ℕ) → Fits (geometry_of edition image) image → IsSound edition image
     → IsWhole (geometry_of edition image) image
 unfolding Rule

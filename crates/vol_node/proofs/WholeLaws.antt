@@ -197,7 +197,7 @@ whole_kept geometry old new len kept links free whole =
     (kinds_kept geometry old new whole.sound.fits (λ j first last. kind_same geometry old new j (kept j first last)) whole.sound.kinds)
     (sizes_stay geometry old new kept links whole.sound.sizes) whole
 
--- a sound image keeps rules 1 to 8
+-- a sound image whose geometry fits is whole
 pub whole_of : (edition : Edition) (image : List ℕ) → Fits (geometry_of edition image) image → IsSound edition image
     → IsWhole (geometry_of edition image) image
 whole_of edition image fits sound =

@@ -1,9 +1,6 @@
 -- The state after a change of one file.
-use Rattle.std.proofs.Common.{◌≡◌, ◌∙◌, sym, ap, subst, refl, ℕ, ◌+◌, ◌-◌, ◌≤◌, ◌==◌, ◌&&◌, Bool, not, true, false, max, List, [], ◌++◌, length, take, drop, arith, inl, inr, Option, Some}
-use Rattle.std.specs.Prelude.{replicate}
+use Rattle.std.proofs.Common.{◌≡◌, ◌∙◌, sym, ap, subst, refl, ℕ, ◌+◌, ◌≤◌, ◌==◌, ◌&&◌, Bool, not, true, false, max, List, [], length, Option, Some}
 use Rattle.std.specs.Option.{option_map}
-use Rattle.std.proofs.lemmas.Bool.{cases_lt}
-use Rattle.std.proofs.lemmas.List.{take_all, take-append-le, append-nil, append_assoc, length-append, length-replicate}
 use Rattle.vol_layout.specs.Geometry.{Fits}
 use Rattle.vol_layout.specs.Inode.{inode_place, inode_of, kind_of, is_large}
 use Rattle.vol_layout.specs.Names.{mode_of, form_at, IsFile}
@@ -18,7 +15,7 @@ use Rattle.vol_file.specs.Rules.{kind_at, size_of}
 use Rattle.vol_file.specs.Shape.{is_named, touched}
 use Rattle.vol_dir.specs.Tree.{Content, Body, Node, is_place, is_named_place, content_of, node_with, node_of, shape_of, tree, state}
 use Rattle.vol_node.specs.Contents.{write_body, empty_body}
-use Rattle.vol_node.specs.Edits.{written, body_of}
+use Rattle.vol_node.specs.Edits.{body_of}
 use Rattle.vol_node.specs.Shapes.{stored_shape}
 use Rattle.vol_node.specs.Whole.{IsWhole, Keeps}
 use Rattle.vol_node.proofs.FileInodes.{KeepsMode, KeepsFields, cut_mode, fields_kept, node_changed}
@@ -33,27 +30,6 @@ pub record IsKind (geometry : Geometry) (image : List ℕ) (i : ℕ) (wanted : K
   pub first : 1 ≤ i
   pub last : i ≤ geometry.last_inode
   pub kind : kind_at geometry image i ≡ wanted
-
--- the front of what is written
-written_front : (old : List ℕ) (offset : ℕ)
-    → take offset (old ++ replicate (offset - length old) 0) ≡ take offset old ++ replicate (offset - length old) 0
-written_front old offset = elim (cases_lt (length old) offset) [
-  | inl beyond ↦
-      take_all offset (old ++ replicate (offset - length old) 0)
-      (omega (arith, beyond, length-append old (replicate {A = ℕ} (offset - length old) 0), length-replicate {A = ℕ} (offset - length old) 0))
-      ∙ ap (λ xs. xs ++ replicate (offset - length old) 0) (sym (take_all offset old (omega arith)))
-  | inr within ↦
-      let none : offset - length old ≡ 0 = omega arith in
-      take-append-le offset old (replicate (offset - length old) 0) within
-      ∙ (sym (append-nil (take offset old)) ∙ sym (ap (λ n. take offset old ++ replicate {A = ℕ} n 0) none))
-]
-
--- what is written over bytes is put over them, with zeros between
-pub written_is : (old : List ℕ) (offset : ℕ) (bytes : List ℕ) → spliced old offset bytes ≡ written old offset bytes
-unfolding written
-written_is old offset bytes =
-    ap (λ front. front ++ (bytes ++ drop (offset + length bytes) old)) (sym (written_front old offset))
-    ∙ sym (append_assoc (take offset (old ++ replicate (offset - length old) 0)) bytes (drop (offset + length bytes) old))
 
 -- what a node of some content reads as
 pub node_holds : (geometry : Geometry) (image : List ℕ) (i : ℕ) (content : Content) → content_of geometry image i (kind_at geometry image i) ≡ Some content
@@ -118,16 +94,15 @@ written_state geometry old new free i offset text is fits writes =
     let before = body geometry old i in
     let size = max (size_of geometry old i) (offset + length text) in
     let old_node = inode_of geometry.edition old i in
-    let put : body geometry new i ≡ written before offset text = writes.body ∙ written_is before offset text in
     let sized : size_of geometry old i ≡ old_node.size = sym (inode_size geometry.edition old (inode_place geometry.edition i)) in
     state_set geometry old new i _ _ is.first is.last (alone_time geometry old new i writes.alone)
     (λ j low high other. alone_stays geometry old new i j fits writes.alone is.first low high other)
     (node_edited geometry old new i (λ node. record node {
-      content = Body (written (body_of node.content) offset text);
+      content = Body (spliced (body_of node.content) offset text);
       size = max node.size (offset + length text);
     }) (Body before) (Body (body geometry new i)) size is.first is.last (ap (content_of geometry old i) is.kind)
     (ap (content_of geometry new i) kind) stores.fields writes.size
-    (λ k. record (node_with old_node (Body before)) { content = Body (put k); size = max (sized k) (offset + length text) }))
+    (λ k. record (node_with old_node (Body before)) { content = Body (writes.body k); size = max (sized k) (offset + length text) }))
     (ap (shape_of geometry new i) kind
     ∙ (shape_stored geometry old new blocks i [] stores
     ∙ sym (ap (λ shape. stored_shape geometry.edition shape blocks)

@@ -1,6 +1,7 @@
 -- Changes of one node of the tree, of which calls are made.
-use Rattle.std.specs.Prelude.{ℕ, ◌+◌, ◌-◌, ◌%◌, ◌==◌, max, nat_le, if◌then◌else◌, List, [], ◌∷◌, ◌++◌, take, drop, length, replicate, Option, None, Some}
+use Rattle.std.specs.Prelude.{ℕ, ◌+◌, ◌-◌, ◌%◌, ◌==◌, max, nat_le, if◌then◌else◌, List, [], ◌∷◌, length, Option, None, Some}
 use Rattle.std.specs.Option.{option_map}
+use Rattle.vol_file.specs.Changes.{spliced}
 use Rattle.vol_file.specs.Shape.{touched}
 use Rattle.vol_dir.specs.Names.{Names, insert, remove, dot, dot_dot}
 use Rattle.vol_dir.specs.Tree.{Content, Body, Directory, Device, Node, Shape, State, no_shape}
@@ -67,22 +68,31 @@ change_names change (Directory names) = Directory (change names)
 change_names change (Body bytes) = Body bytes
 change_names change (Device type addresses) = Device type addresses
 
--- directory d gets an entry, a name for i: the map, the size, the slot, and the block of the slot where it is missing (Lions on wdir)
-abbrev pub add_entry : ℕ → ℕ → List ℕ → ℕ → State → State
-add_entry now d name i state =
+-- directory d gets an entry, a name for i: the map, the size, the slot, and the block of the slot where it is missing; its times
+-- change as `timed` says (Lions on wdir)
+abbrev pub entry_added : (Node → Node) → ℕ → List ℕ → ℕ → State → State
+entry_added timed d name i state =
     put_shape d (shape_with_entry state.tree.geometry.edition (state.shapes d) name)
-    (change_node d (λ node. record (modified now node) {
+    (change_node d (λ node. record (timed node) {
       content = change_names (λ names. insert names name i) node.content;
       size = size_with_entry state d;
     }) state)
 
--- an entry of directory d goes, and its slot becomes empty; the size stays (Lions on unlink)
-abbrev pub remove_entry : ℕ → ℕ → List ℕ → State → State
-remove_entry now d name state =
+-- directory d gets an entry, a name for i, and its entries were last changed now (Lions on wdir)
+abbrev pub add_entry : ℕ → ℕ → List ℕ → ℕ → State → State
+add_entry now = entry_added (modified now)
+
+-- an entry of directory d goes, and its slot becomes empty; the size stays, and the times change as `timed` says (Lions on unlink)
+abbrev pub entry_removed : (Node → Node) → ℕ → List ℕ → State → State
+entry_removed timed d name state =
     put_shape d (shape_without_entry (state.shapes d) name)
-    (change_node d (λ node. record (modified now node) {
+    (change_node d (λ node. record (timed node) {
       content = change_names (λ names. remove names name) node.content;
     }) state)
+
+-- an entry of directory d goes, and its entries were last changed now (Lions on unlink)
+abbrev pub remove_entry : ℕ → ℕ → List ℕ → State → State
+remove_entry now = entry_removed (modified now)
 
 -- a node with another link count, whose i-node was changed by that (Lions on link)
 abbrev pub with_links : ℕ → ℕ → Node → Node
@@ -100,10 +110,6 @@ drop_link now i state = change_node i (λ node. record (stamped now node) { link
 abbrev pub release : ℕ → ℕ → State → State
 release now i state = if nat_le (node_at state.tree i).links 1 then remove_node i state else drop_link now i state
 
--- bytes with others written over them from an offset on, and zeros between (Lions on writei)
-unfoldable pub written : List ℕ → ℕ → List ℕ → List ℕ
-written old offset bytes = take offset (old ++ replicate (offset - length old) 0) ++ bytes ++ drop (offset + length bytes) old
-
 -- the bytes of a regular file; what is none has none (manual section 5, file system)
 abbrev pub body_of : Content → List ℕ
 body_of (Body bytes) = bytes
@@ -114,17 +120,25 @@ body_of (Device type addresses) = []
 abbrev pub new_directory : ℕ → ℕ → Content
 new_directory made d = Directory (insert (insert [] dot made) dot_dot d)
 
--- bytes are written into file i from an offset on; no bytes change nothing (Lions on writei)
-abbrev pub after_write : State → ℕ → ℕ → List ℕ → ℕ → State
-after_write state now offset [] i = state
-after_write state now offset (byte ∷ bytes) i =
-    put_shape i (stored_shape state.tree.geometry.edition (state.shapes i) (touched offset (length (byte ∷ bytes))))
-    (change_node i (λ node. record (modified now node) {
-      content = Body (written (body_of node.content) offset (byte ∷ bytes));
-      size = max node.size (offset + length (byte ∷ bytes));
+-- bytes are written into file i from an offset on, and its times change as `timed` says (Lions on writei)
+abbrev pub bytes_written : (Node → Node) → ℕ → ℕ → List ℕ → State → State
+bytes_written timed i offset bytes state =
+    put_shape i (stored_shape state.tree.geometry.edition (state.shapes i) (touched offset (length bytes)))
+    (change_node i (λ node. record (timed node) {
+      content = Body (spliced (body_of node.content) offset bytes);
+      size = max node.size (offset + length bytes);
     }) state)
 
--- file i loses its bytes and all its places (Lions on itrunc)
+-- bytes are written into file i from an offset on, and its bytes were last changed now; no bytes change nothing (Lions on writei)
+abbrev pub after_write : State → ℕ → ℕ → List ℕ → ℕ → State
+after_write state now offset [] i = state
+after_write state now offset (byte ∷ bytes) i = bytes_written (modified now) i offset (byte ∷ bytes) state
+
+-- file i loses its bytes and all its places, and its times change as `timed` says (Lions on itrunc)
+abbrev pub bytes_lost : (Node → Node) → ℕ → State → State
+bytes_lost timed i state =
+    put_shape i no_shape (change_node i (λ node. record (timed node) { content = Body []; size = 0 }) state)
+
+-- file i loses its bytes and all its places, and its bytes were last changed now (Lions on itrunc)
 abbrev pub after_truncate : State → ℕ → ℕ → State
-after_truncate state now i =
-    put_shape i no_shape (change_node i (λ node. record (modified now node) { content = Body []; size = 0 }) state)
+after_truncate state now i = bytes_lost (modified now) i state

@@ -18,9 +18,9 @@ node_at tree i = unwrap_or (tree.nodes i) no_node
 abbrev pub names_at : Tree → ℕ → Names
 names_at tree i = unwrap_or (map_of (node_at tree i).content) []
 
--- the i-number that a directory has for a name (Lions on namei)
-abbrev pub entry_of : Tree → ℕ → List ℕ → ℕ
-entry_of tree d name = unwrap_or (get (names_at tree d) name) 0
+-- the i-number that directory d has for a name, 0 where it has none (Lions on namei)
+abbrev pub number_of_name : Tree → ℕ → List ℕ → ℕ
+number_of_name tree d name = unwrap_or (get (names_at tree d) name) 0
 
 -- a directory's size with one more entry: the first empty slot lies within it, or at its end (Lions on wdir)
 abbrev pub size_with_entry : State → ℕ → ℕ

@@ -4,7 +4,7 @@ use Rattle.vol_layout.specs.Super.{free_head, time_place}
 use Rattle.vol_file.specs.Rules.{IsSoundWith, IsCovered}
 use Rattle.vol_layout.specs.declared.geometry.Geometry.{Geometry}
 
--- rules 1 to 8 hold (icheck)
+-- the geometry fits, and rules 3 to 8 hold (icheck)
 pub record IsWhole (geometry : Geometry) (image : List ℕ) : Type 0 where
   pub blocks : List ℕ
   pub sound : IsSoundWith geometry image blocks
@@ -19,7 +19,7 @@ pub record StaysAround (geometry : Geometry) (old new : List ℕ) : Type 0 where
   pub rest : (k : ℕ) → time_place geometry.edition + 4 ≤ k → k < 1024 → slice_index new k ≡ slice_index old k
   pub behind : (k : ℕ) → 512 * geometry.zone_end ≤ k → slice_index new k ≡ slice_index old k
 
--- rules 1 to 8 hold, and the bytes that no call changes are as they were (this project)
+-- the geometry fits, rules 3 to 8 hold, and the bytes that no call changes are as they were (this project)
 pub record Keeps (geometry : Geometry) (old new : List ℕ) : Type 0 where
   pub whole : IsWhole geometry new
   pub around : StaysAround geometry old new

@@ -13,7 +13,7 @@ use vol_layout::{Form, Geometry, number};
 /// places has none.
 ///
 /// Costs one read for each entry of the file's pointer blocks.
-pub fn block_count(image: &Image, geometry: &Geometry, i: u16) -> u32
+pub fn place_count(image: &Image, geometry: &Geometry, i: u16) -> u32
     requires whole { IsWhole geometry.now image.now }
     requires first { 1 ≤ i }
     requires last { i ≤ geometry.now.last_inode }

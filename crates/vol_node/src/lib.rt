@@ -10,7 +10,7 @@ mod making;
 mod times;
 
 pub use bytes::{empty_file, write_bytes};
-pub use counting::block_count;
+pub use counting::place_count;
 pub use entries::{add_name, remove_name};
 pub use freeing::free_node;
 pub use links::{add_link, drop_link, put_links};

@@ -16,8 +16,8 @@ use pdp_words::Image;
 use vol_layout::i_list::inode;
 use vol_layout::{Geometry, Inode, put_inode};
 
-/// Makes the link count of node `i`, which is any that isn't free, the given one, and in the seventh
-/// edition `now` the time, in seconds, at which its i-node was last changed.
+/// Makes the link count of i-node `i` the given one, and in the seventh edition `now` the time, in
+/// seconds, at which it was last changed.
 pub fn put_links(image: &mut Image, geometry: &Geometry, i: u16, links: u16, now: u32)
     requires whole { IsWhole geometry.now image.old }
     requires first { 1 ≤ i }
@@ -37,8 +37,7 @@ pub fn put_links(image: &mut Image, geometry: &Geometry, i: u16, links: u16, now
     put_inode(image, geometry, i, &linked);
 }
 
-/// Gives node `i`, which is any that isn't free and has fewer links than the limit, one link more, as
-/// `put_links` does.
+/// Gives i-node `i`, which has fewer links than the limit, one link more, as `put_links` does.
 pub fn add_link(image: &mut Image, geometry: &Geometry, i: u16, now: u32)
     requires whole { IsWhole geometry.now image.old }
     requires first { 1 ≤ i }
@@ -54,7 +53,7 @@ pub fn add_link(image: &mut Image, geometry: &Geometry, i: u16, now: u32)
     put_links(image, geometry, i, links + 1, now);
 }
 
-/// Takes a link from node `i`, which isn't free and has one at least, as `put_links` does.
+/// Takes a link from i-node `i`, which isn't free and has one at least, as `put_links` does.
 pub fn drop_link(image: &mut Image, geometry: &Geometry, i: u16, now: u32)
     requires whole { IsWhole geometry.now image.old }
     requires first { 1 ≤ i }

@@ -9,7 +9,7 @@ use Rattle.vol_dir.specs.Access.{may_write}
 use Rattle.vol_dir.specs.Names.{get, is_dots}
 use Rattle.vol_dir.specs.Tree.{Tree, State}
 use Rattle.vol_dir.specs.Walk.{has_zero, walk, walk_parent, is_directory}
-use Rattle.vol_node.specs.Nodes.{node_at, names_at, entry_of}
+use Rattle.vol_node.specs.Nodes.{node_at, names_at, number_of_name}
 use Rattle.vol_change.specs.Ready.{TakesName, entry_need, free_in}
 use Rattle.vol_volume.specs.Mkfs.{is_bad_id}
 use Rattle.vol_volume.specs.Performing.{LeadsToParent, LeadsToNode}
@@ -226,7 +226,7 @@ unlink_led state cred now path none = parent_led state.tree cred path refusals.I
 
 pub unlink_passed : (state : State) (cred : Cred) (now : ℕ) (path : List ℕ) (d : ℕ) (name : List ℕ)
     → verdict state (Unlink cred now path) ≡ None → walk_parent state.tree cred path ≡ Some (Ok (d, name))
-    → (has_name state.tree d name ≡ true) × (is_directory (node_at state.tree (entry_of state.tree d name)) ≡ false)
+    → (has_name state.tree d name ≡ true) × (is_directory (node_at state.tree (number_of_name state.tree d name)) ≡ false)
 unfolding verdict
 unlink_passed state cred now path d name none walked =
     let first = first_passed state.tree cred (path ∷ []) (of_parent (walk_parent state.tree cred path) refusals.IsDirectory (unlink_tests state cred)) none in
@@ -245,8 +245,8 @@ rmdir_led state cred now path none = parent_led state.tree cred path refusals.In
 pub record MayRemove (state : State) (d : ℕ) (name : List ℕ) : Type 0 where
   pub plain : is_dots name ≡ false
   pub there : has_name state.tree d name ≡ true
-  pub gone : is_directory (node_at state.tree (entry_of state.tree d name)) ≡ true
-  pub only : has_others state.tree (entry_of state.tree d name) ≡ false
+  pub gone : is_directory (node_at state.tree (number_of_name state.tree d name)) ≡ true
+  pub only : has_others state.tree (number_of_name state.tree d name) ≡ false
 
 pub rmdir_passed : (state : State) (cred : Cred) (now : ℕ) (path : List ℕ) (d : ℕ) (name : List ℕ)
     → verdict state (Rmdir cred now path) ≡ None → walk_parent state.tree cred path ≡ Some (Ok (d, name)) → MayRemove state d name
@@ -262,7 +262,7 @@ rmdir_passed state cred now path d name none walked =
     record {
       plain = dots.0;
       there = not_not (has_name state.tree d name) there.0;
-      gone = not_not (is_directory (node_at state.tree (entry_of state.tree d name))) gone.0;
+      gone = not_not (is_directory (node_at state.tree (number_of_name state.tree d name))) gone.0;
       only = only.0;
     }
 

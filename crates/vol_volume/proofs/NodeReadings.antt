@@ -16,7 +16,7 @@ use Rattle.vol_dir.specs.Walk.{is_directory}
 use Rattle.vol_node.proofs.EntryStates.{names_is}
 use Rattle.vol_node.proofs.States.{node_here}
 use Rattle.vol_node.proofs.WrittenStates.{IsKind}
-use Rattle.vol_node.specs.Nodes.{no_node, node_at, names_at, entry_of}
+use Rattle.vol_node.specs.Nodes.{no_node, node_at, names_at, number_of_name}
 use Rattle.vol_volume.specs.Verdict.{is_device}
 
 -- the node of an i-number of the volume, by the kind of its i-node
@@ -160,5 +160,5 @@ module _ (geometry : Geometry) (image : List ℕ) where
       regular_left i first files used (other_kind i first used.last directory) (other_device i first used.last special)
 
 -- the i-number that a directory has for a name
-pub entry_is : (state : State) (d i : ℕ) (name : List ℕ) → get (names_at state.tree d) name ≡ Some i → entry_of state.tree d name ≡ i
+pub entry_is : (state : State) (d i : ℕ) (name : List ℕ) → get (names_at state.tree d) name ≡ Some i → number_of_name state.tree d name ≡ i
 entry_is state d i name named = ap (λ o. unwrap_or o 0) named

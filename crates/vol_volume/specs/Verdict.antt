@@ -8,7 +8,7 @@ use Rattle.vol_dir.specs.Names.{get, is_dots}
 use Rattle.vol_dir.specs.Tree.{Content, Body, Directory, Device, Node, Tree, State}
 use Rattle.vol_dir.specs.Walk.{root, has_zero, is_directory, walk, walk_parent}
 use Rattle.vol_volume.specs.Mkfs.{is_bad_id}
-use Rattle.vol_node.specs.Nodes.{node_at, names_at, entry_of, size_with_entry}
+use Rattle.vol_node.specs.Nodes.{node_at, names_at, number_of_name, size_with_entry}
 use Rattle.vol_node.specs.Shapes.{need_in}
 use Rattle.vol_change.specs.Ready.{entry_need, free_in}
 use Rattle.vol_dir.specs.declared.cred.Cred.{Cred}
@@ -113,7 +113,7 @@ abbrev pub unlink_tests : State → Cred → ℕ → List ℕ → List (Bool × 
 unlink_tests state cred d name =
     (not (has_name state.tree d name), refusals.NoEntry)
     ∷ (not (grants may_write cred (node_at state.tree d)), refusals.Access)
-    ∷ (is_directory (node_at state.tree (entry_of state.tree d name)), refusals.IsDirectory)
+    ∷ (is_directory (node_at state.tree (number_of_name state.tree d name)), refusals.IsDirectory)
     ∷ []
 
 -- what is asked of the parent d and the name of a directory that goes (rmdir)
@@ -122,8 +122,8 @@ rmdir_tests state cred d name =
     (is_dots name, refusals.Invalid)
     ∷ (not (has_name state.tree d name), refusals.NoEntry)
     ∷ (not (grants may_write cred (node_at state.tree d)), refusals.Access)
-    ∷ (not (is_directory (node_at state.tree (entry_of state.tree d name))), refusals.NotDirectory)
-    ∷ (has_others state.tree (entry_of state.tree d name), refusals.NotEmpty)
+    ∷ (not (is_directory (node_at state.tree (number_of_name state.tree d name))), refusals.NotDirectory)
+    ∷ (has_others state.tree (number_of_name state.tree d name), refusals.NotEmpty)
     ∷ []
 
 -- what is asked of a node whose bytes are used, by a right to them: whether it is a regular file that grants it (Lions on access)

@@ -15,14 +15,14 @@ ghost use Rattle.vol_volume.specs.Verdict.{first_of};
 
 use crate::bytes::Bytes;
 use crate::queries::{Listing, Query, Reply, Stat};
-use crate::verdicts::asked::{first_refusal, is_directory, is_granted, kind};
+use crate::verdicts::asked::{first_refusal, is_directory, is_granted};
 use crate::verdicts::body::body_tests;
 use crate::verdicts::stands;
 use pdp_words::Image;
 use std::alloc::{AllocError, Global};
 use std::collections::BTreeMap;
 use vol_dir::{Access, Cred, Refusal, next_entry, walk};
-use vol_layout::i_list::size;
+use vol_layout::i_list::{kind, size};
 use vol_layout::{Geometry, inode};
 
 /// The answer to a query of a sound image with this geometry: that of the tree that it reads as, and

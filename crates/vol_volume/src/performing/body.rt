@@ -10,7 +10,7 @@ use crate::performing::{Caller, Performed, node, ready_stands};
 use pdp_words::Image;
 use vol_file::need;
 use vol_layout::Geometry;
-use vol_node::block_count;
+use vol_node::place_count;
 
 /// Performs a call that writes `bytes` from byte `offset` on.
 pub(crate) fn write(
@@ -55,7 +55,7 @@ pub(crate) fn truncate(
 {
     ready_stands(image, geometry);
     let i = node(image, geometry, caller.cred, path);
-    let freed = block_count(image, geometry, i);
+    let freed = place_count(image, geometry, i);
     vol_change::truncate(image, geometry, i, caller.moment);
     Performed {
         done: Done::Plain,

@@ -9,7 +9,7 @@ use crate::calls::{Call, Done};
 use crate::performing::{Caller, Performed, named, parent, ready_stands};
 use pdp_words::Image;
 use vol_layout::Geometry;
-use vol_node::block_count;
+use vol_node::place_count;
 
 /// Performs a call by which a directory goes.
 pub(crate) fn rmdir(
@@ -28,7 +28,7 @@ pub(crate) fn rmdir(
     ready_stands(image, geometry);
     let (dir, name) = parent(image, geometry, caller.cred, path);
     let i = named(image, geometry, dir, name);
-    let freed = block_count(image, geometry, i);
+    let freed = place_count(image, geometry, i);
     vol_change::rmdir(image, geometry, dir, name, i, caller.moment);
     Performed {
         done: Done::Plain,

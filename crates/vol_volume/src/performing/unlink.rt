@@ -12,7 +12,7 @@ use crate::calls::{Call, Done};
 use crate::performing::{Caller, Performed, named, parent, ready_stands};
 use pdp_words::Image;
 use vol_layout::{Geometry, inode};
-use vol_node::block_count;
+use vol_node::place_count;
 
 /// How many blocks become free where node `i` loses a name: with the last one all of its blocks.
 fn freed(image: &Image, geometry: &Geometry, i: u16) -> u32
@@ -23,7 +23,7 @@ fn freed(image: &Image, geometry: &Geometry, i: u16) -> u32
         then place_count geometry.now.edition (shapes geometry.now image.now i) else 0) }
 {
     if inode(image, geometry, i).links <= 1 {
-        block_count(image, geometry, i)
+        place_count(image, geometry, i)
     } else {
         0
     }

@@ -19,19 +19,9 @@ use pdp_words::Image;
 use vol_dir::{Access, Cred, Refusal, find, grants, is_empty_dir, place_for, walk_parent};
 use vol_file::need;
 use vol_free::any_inode;
-use vol_layout::i_list::{mode, size};
+use vol_layout::i_list::{kind, size};
 use vol_layout::slot::SLOT;
 use vol_layout::{Geometry, Kind, inode};
-
-/// What i-node `i` is.
-pub(crate) fn kind(image: &Image, geometry: &Geometry, i: u16) -> Kind
-    requires fits { Fits geometry.now image.now }
-    requires first { 1 ≤ i }
-    requires last { i ≤ geometry.now.last_inode }
-    ensures { result ≡ kind_at geometry.now image.now i }
-{
-    mode(image, geometry, i).kind(geometry.edition)
-}
 
 /// Whether i-node `i` is a directory.
 #[tactic(auto, using(crate::proofs::NodeReadings::directory_is, crate::proofs::NodeReadings::directory_not))]

@@ -1,7 +1,6 @@
 //! A call by which a directory goes.
 ghost use Rattle.std.specs.Prelude.{◌≡◌, [], ◌∷◌};
 ghost use Rattle.vol_dir.specs.Entries.{IsDirectory};
-ghost use Rattle.vol_dir.specs.Names.{is_dots};
 ghost use Rattle.vol_dir.specs.Tree.{tree, state};
 ghost use Rattle.vol_dir.specs.Walk.{walk_parent};
 ghost use Rattle.vol_volume.specs.Standing.{Stands};
@@ -9,15 +8,8 @@ ghost use Rattle.vol_volume.specs.Verdict.{first_of, then_others, of_parent, rmd
 
 use crate::verdicts::asked::{entry, first_refusal, has_others, is_directory, is_granted, parent};
 use pdp_words::Image;
-use vol_dir::{Access, Cred, Refusal};
+use vol_dir::{Access, Cred, Refusal, is_dots};
 use vol_layout::Geometry;
-
-/// Whether a name is `.` or `..`.
-fn is_dots(name: &[u8]) -> bool
-    ensures { result ≡ is_dots name.now }
-{
-    name == b".".as_slice() || name == b"..".as_slice()
-}
 
 /// What is asked of the parent and the name of a directory that goes.
 fn rmdir_tests(

@@ -1,8 +1,8 @@
-use Rattle.std.proofs.Common.{◌∙◌, ap, ◌∷◌, ◌%◌, ◌/◌}
-use Rattle.std.proofs.lemmas.List.{append-nil}
+use Rattle.std.proofs.Common.{◌∙◌}
+use Rattle.vol_dir.proofs.NewEntries.{slot_bytes_are}
 use Rattle.vol_dir.proofs.adding.slot_bytes.Goals as goal
 
 pub returns : goal.returns
 returns c =
-    ap (λ xs. (c.args.i % 256) ∷ ((c.args.i / 256) ∷ xs))
-    (append-nil c.copy_from_slice.new.self ∙ (c.copy_from_slice.ensures.after ∙ c.new.ensures.name))
+    slot_bytes_are c.put.new.bytes c.args.name.now c.args.i c.put.auto.bytes (c.put.ensures.put ∙ rw (c.new.ensures.inode, c.new.ensures.name))
+    (c.put.ensures.low ∙ rw c.new.ensures.inode)

@@ -2,7 +2,7 @@ use Rattle.std.proofs.Common.{◌≡◌, ◌-◌, ◌<◌, ◌≤◌, length, sy
 use Rattle.std.proofs.Common.{below_more}
 use Rattle.vol_layout.specs.Edition.{constants}
 use Rattle.vol_layout.specs.Geometry.{in_zone}
-use Rattle.vol_layout.specs.Names.{entry_of}
+use Rattle.vol_layout.specs.Names.{pointer_in}
 use Rattle.vol_layout.proofs.BodyLaws.{zone_bounds}
 use Rattle.vol_layout.proofs.NameLaws.{entry_in}
 use Rattle.vol_judge.specs.Marks.{IsInside}
@@ -33,7 +33,7 @@ returns-then-not-is_inside-clause-exact t c =
     let all : c.constants-j-end.result.pointers ≡ (constants c.args.geometry.now.edition).pointers = ap (λ k. k.pointers) c.constants-j-end.ensures in
     let within : c.loop-j.j < (constants c.args.geometry.now.edition).pointers = omega (arith, all, c.loop-j-test.true) in
     let levels : 1 ≤ c.args.level = omega arith in
-    let is : entry_of c.args.geometry.now c.args.image.now c.args.b c.loop-j.j ≡ c.number-entry.result =
+    let is : pointer_in c.args.geometry.now c.args.image.now c.args.b c.loop-j.j ≡ c.number-entry.result =
     entry_in c.args.geometry.now c.args.image.now c.args.b c.loop-j.j zone ∙ sym c.number-entry.ensures in
     says_no (IsInside c.args.geometry.now c.args.image.now c.args.level c.args.b)
     (λ inside.
@@ -47,10 +47,10 @@ returns-then-not-is_inside-clause-exact t c =
 pub loop-j-preserved : goal.loop-j-preserved
 loop-j-preserved t c =
     let zone : in_zone c.args.geometry.now c.args.b ≡ true = sym c.in_zone.ensures ∙ c.if-not-in_zone.false in
-    let is : entry_of c.args.geometry.now c.args.image.now c.args.b c.loop-j.j ≡ c.number-entry.result =
+    let is : pointer_in c.args.geometry.now c.args.image.now c.args.b c.loop-j.j ≡ c.number-entry.result =
     entry_in c.args.geometry.now c.args.image.now c.args.b c.loop-j.j zone ∙ sym c.number-entry.ensures in
     record {
-      entries = below_more (λ n. IsInside c.args.geometry.now c.args.image.now (c.args.level - 1) (entry_of c.args.geometry.now c.args.image.now c.args.b n)) c.loop-j.j
+      entries = below_more (λ n. IsInside c.args.geometry.now c.args.image.now (c.args.level - 1) (pointer_in c.args.geometry.now c.args.image.now c.args.b n)) c.loop-j.j
           c.loop-j.invariant.entries
           (subst (IsInside c.args.geometry.now c.args.image.now (c.args.level - 1)) (sym is) (c.is_inside.ensures.exact.0 c.if-not-is_inside.false));
       known = c.is_inside.ensures.known;

@@ -1,5 +1,5 @@
 use Rattle.std.proofs.Common.{ℕ, ◌-◌, ◌<◌}
-use Rattle.vol_layout.specs.Names.{entry_of}
+use Rattle.vol_layout.specs.Names.{pointer_in}
 use Rattle.vol_judge.specs.Marks.{IsInside, KnowsInside}
 use Rattle.vol_judge.proofs.marking.+is_inside.Given as goal
 
@@ -10,6 +10,6 @@ decreases-is_inside l = l.level
 -- all that is found below the entries before j is inside
 abbrev pub invariant-loop-j : goal.invariant-loop-j
 invariant-loop-j l = record {
-  entries : (n : ℕ) → n < l.j → IsInside l.geometry l.image (l.level - 1) (entry_of l.geometry l.image l.b n);
+  entries : (n : ℕ) → n < l.j → IsInside l.geometry l.image (l.level - 1) (pointer_in l.geometry l.image l.b n);
   known : KnowsInside l.geometry l.image l.known;
 }

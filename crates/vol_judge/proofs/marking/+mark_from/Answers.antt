@@ -1,7 +1,7 @@
 use Rattle.std.proofs.Common.{◌≡◌, ℕ, ◌+◌, ◌-◌, sym, ap, subst, refl, arith, ◌∙◌, Some, None, set}
 use Rattle.std.proofs.lemmas.List.{length-set}
 use Rattle.vol_layout.specs.Edition.{constants}
-use Rattle.vol_layout.specs.Names.{entry_of}
+use Rattle.vol_layout.specs.Names.{pointer_in}
 use Rattle.vol_layout.proofs.BodyLaws.{zone_bounds}
 use Rattle.vol_layout.proofs.CopyLaws.{number_room}
 use Rattle.vol_layout.proofs.NameLaws.{entry_in}
@@ -47,7 +47,7 @@ pub mark_from-requires : goal.mark_from-requires
 mark_from-requires t c =
     let zone = inside_here c.args.geometry.now c.args.image.now c.args.level c.args.b c.requires.inside c.if-b-eq0.false in
     let all : c.constants-j-end.result.pointers ≡ (constants c.args.geometry.now.edition).pointers = ap (λ k. k.pointers) c.constants-j-end.ensures in
-    let is : entry_of c.args.geometry.now c.args.image.now c.args.b c.loop-j.j ≡ c.number-entry.result =
+    let is : pointer_in c.args.geometry.now c.args.image.now c.args.b c.loop-j.j ≡ c.number-entry.result =
     entry_in c.args.geometry.now c.args.image.now c.args.b c.loop-j.j zone ∙ sym c.number-entry.ensures in
     let inside : IsInside c.args.geometry.now c.args.image.now (c.args.level - 1) c.number-entry.result =
     subst (IsInside c.args.geometry.now c.args.image.now (c.args.level - 1)) is
@@ -60,8 +60,8 @@ returns-then-not-mark_from-clause-twice t c is_false =
     let image = c.args.image.now in
     let zone = inside_here g image c.args.level c.args.b c.requires.inside c.if-b-eq0.false in
     let all : c.constants-j-end.result.pointers ≡ (constants g.edition).pointers = ap (λ k. k.pointers) c.constants-j-end.ensures in
-    let is : c.number-entry.result ≡ entry_of g image c.args.b c.loop-j.j = c.number-entry.ensures ∙ sym (entry_in g image c.args.b c.loop-j.j zone) in
-    let stops : marked c.loop-j.marks (blocks_from g image (c.args.level - 1) (entry_of g image c.args.b c.loop-j.j)) ≡ None =
+    let is : c.number-entry.result ≡ pointer_in g image c.args.b c.loop-j.j = c.number-entry.ensures ∙ sym (entry_in g image c.args.b c.loop-j.j zone) in
+    let stops : marked c.loop-j.marks (blocks_from g image (c.args.level - 1) (pointer_in g image c.args.b c.loop-j.j)) ≡ None =
     ap (λ e. marked c.loop-j.marks (blocks_from g image (c.args.level - 1) e)) (sym is) ∙ c.mark_from.ensures.twice c.if-not-mark_from.true in
     mark_below g image c.args.level c.args.b c.args.marks.now None c.if-b-eq0.false (omega arith) c.if-marks-b-ne0.false
     (entries_fail g image (c.args.level - 1) c.args.b c.loop-j.j (constants g.edition).pointers (set c.args.marks.now c.args.b 1) c.loop-j.marks
@@ -72,8 +72,8 @@ loop-j-preserved t c =
     let g = c.args.geometry.now in
     let image = c.args.image.now in
     let zone = inside_here g image c.args.level c.args.b c.requires.inside c.if-b-eq0.false in
-    let is : c.number-entry.result ≡ entry_of g image c.args.b c.loop-j.j = c.number-entry.ensures ∙ sym (entry_in g image c.args.b c.loop-j.j zone) in
-    let last : marked c.loop-j.marks (blocks_from g image (c.args.level - 1) (entry_of g image c.args.b c.loop-j.j)) ≡ Some c.mark_from.new.marks =
+    let is : c.number-entry.result ≡ pointer_in g image c.args.b c.loop-j.j = c.number-entry.ensures ∙ sym (entry_in g image c.args.b c.loop-j.j zone) in
+    let last : marked c.loop-j.marks (blocks_from g image (c.args.level - 1) (pointer_in g image c.args.b c.loop-j.j)) ≡ Some c.mark_from.new.marks =
     ap (λ e. marked c.loop-j.marks (blocks_from g image (c.args.level - 1) e)) (sym is) ∙ c.mark_from.ensures.fresh c.if-not-mark_from.false in
     entries_more g image (c.args.level - 1) c.args.b c.loop-j.j (c.loop-j.j + 1) (set c.args.marks.now c.args.b 1) c.loop-j.marks (Some c.mark_from.new.marks) refl
     c.loop-j.invariant last

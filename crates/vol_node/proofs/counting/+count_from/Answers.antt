@@ -1,6 +1,6 @@
 use Rattle.std.proofs.Common.{ℕ, ◌≡◌, ◌+◌, ◌-◌, ◌≤◌, sym, ap, subst, arith, ◌∙◌, length}
 use Rattle.vol_layout.specs.Edition.{constants}
-use Rattle.vol_layout.specs.Names.{entry_of}
+use Rattle.vol_layout.specs.Names.{pointer_in}
 use Rattle.vol_layout.proofs.BodyLaws.{zone_bounds}
 use Rattle.vol_layout.proofs.CopyLaws.{number_room}
 use Rattle.vol_layout.proofs.NameLaws.{entry_in}
@@ -35,7 +35,7 @@ count_from-count-requires t c =
     let image = c.args.image.now in
     let zone = inside_here g image c.args.level c.args.b c.requires.inside c.if-b-eq0.false in
     let all : c.constants-j-end.result.pointers ≡ (constants g.edition).pointers = ap (λ k. k.pointers) c.constants-j-end.ensures in
-    let is : entry_of g image c.args.b c.loop-j.j ≡ c.number-entry.result = entry_in g image c.args.b c.loop-j.j zone ∙ sym c.number-entry.ensures in
+    let is : pointer_in g image c.args.b c.loop-j.j ≡ c.number-entry.result = entry_in g image c.args.b c.loop-j.j zone ∙ sym c.number-entry.ensures in
     let inside : IsInside g image (c.args.level - 1) c.number-entry.result =
     subst (IsInside g image (c.args.level - 1)) is
     (inside_entry g image c.args.level c.args.b c.loop-j.j (omega arith) (omega (arith, all, c.loop-j-test.true)) c.requires.inside) in
@@ -48,8 +48,8 @@ counted t c =
     let g = c.args.geometry.now in
     let image = c.args.image.now in
     let zone = inside_here g image c.args.level c.args.b c.requires.inside c.if-b-eq0.false in
-    let is : c.number-entry.result ≡ entry_of g image c.args.b c.loop-j.j = c.number-entry.ensures ∙ sym (entry_in g image c.args.b c.loop-j.j zone) in
-    let found : c.count_from-count.result ≡ length (blocks_from g image (c.args.level - 1) (entry_of g image c.args.b c.loop-j.j)) =
+    let is : c.number-entry.result ≡ pointer_in g image c.args.b c.loop-j.j = c.number-entry.ensures ∙ sym (entry_in g image c.args.b c.loop-j.j zone) in
+    let found : c.count_from-count.result ≡ length (blocks_from g image (c.args.level - 1) (pointer_in g image c.args.b c.loop-j.j)) =
     c.count_from-count.ensures ∙ ap (λ e. length (blocks_from g image (c.args.level - 1) e)) is in
     let more = count_entries_more g image (c.args.level - 1) c.args.b c.loop-j.j in
     omega (arith, found, more, c.loop-j.invariant)

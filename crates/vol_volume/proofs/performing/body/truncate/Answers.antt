@@ -16,12 +16,12 @@ pub node-i-requires-clause-leads : goal.node-i-requires-clause-leads
 node-i-requires-clause-leads c =
     truncate_led (state c.args.geometry.now c.args.image.now) c.args.caller.cred c.args.caller.moment c.args.path.now c.requires.accepted
 
-pub block_count-freed-requires-clause-whole : goal.block_count-freed-requires-clause-whole
-block_count-freed-requires-clause-whole c =
+pub place_count-freed-requires-clause-whole : goal.place_count-freed-requires-clause-whole
+place_count-freed-requires-clause-whole c =
     ready_whole c.args.geometry.now c.args.image.now c.requires.ready
 
-pub block_count-freed-requires-clause-first : goal.block_count-freed-requires-clause-first
-block_count-freed-requires-clause-first c =
+pub place_count-freed-requires-clause-first : goal.place_count-freed-requires-clause-first
+place_count-freed-requires-clause-first c =
     used_first c.args.geometry.now c.args.image.now c.node-i.result c.node-i.ensures.used
 
 pub truncate-requires-clause-regular : goal.truncate-requires-clause-regular
@@ -32,7 +32,7 @@ pub overflow_add-result : goal.overflow_add-result
 unfolding tree
 overflow_add-result c =
     let count : c.args.free ≡ free_in (state c.args.geometry.now c.args.image.now) = c.requires.count in
-    let freed : c.block_count-freed.result ≡ place_count c.args.geometry.now.edition (shapes c.args.geometry.now c.args.image.now c.node-i.result) = c.block_count-freed.ensures in
+    let freed : c.place_count-freed.result ≡ place_count c.args.geometry.now.edition (shapes c.args.geometry.now c.args.image.now c.node-i.result) = c.place_count-freed.ensures in
     let after : free_in (at_time c.args.caller.moment (after_truncate (state c.args.geometry.now c.args.image.now) c.args.caller.moment c.node-i.result)) ≡ free_in (state c.args.geometry.now c.args.image.now) + place_count c.args.geometry.now.edition (shapes c.args.geometry.now c.args.image.now c.node-i.result) =
     free_after_truncate c.args.geometry.now c.args.image.now c.args.caller.moment c.node-i.result c.requires.ready in
     let low : free_in (at_time c.args.caller.moment (after_truncate (state c.args.geometry.now c.args.image.now) c.args.caller.moment c.node-i.result)) < 2 ^ 32 = free_low c.args.geometry.now c.args.image.now (at_time c.args.caller.moment (after_truncate (state c.args.geometry.now c.args.image.now) c.args.caller.moment c.node-i.result)) (tree_geometry c.args.geometry.now c.args.image.now) c.requires.ready.fits in
@@ -41,12 +41,12 @@ overflow_add-result c =
 pub returns-clause-performed : goal.returns-clause-performed
 returns-clause-performed c =
     let count : c.args.free ≡ free_in (state c.args.geometry.now c.args.image.now) = c.requires.count in
-    let freed : c.block_count-freed.result ≡ place_count c.args.geometry.now.edition (shapes c.args.geometry.now c.args.image.now c.node-i.result) = c.block_count-freed.ensures in
+    let freed : c.place_count-freed.result ≡ place_count c.args.geometry.now.edition (shapes c.args.geometry.now c.args.image.now c.node-i.result) = c.place_count-freed.ensures in
     let after : free_in (at_time c.args.caller.moment (after_truncate (state c.args.geometry.now c.args.image.now) c.args.caller.moment c.node-i.result)) ≡ free_in (state c.args.geometry.now c.args.image.now) + place_count c.args.geometry.now.edition (shapes c.args.geometry.now c.args.image.now c.node-i.result) =
     free_after_truncate c.args.geometry.now c.args.image.now c.args.caller.moment c.node-i.result c.requires.ready in
     performed_by c.args.geometry.now c.args.image.now c.truncate.new.image (Truncate c.args.caller.cred c.args.caller.moment c.args.path.now) Plain
     (at_time c.args.caller.moment (after_truncate (state c.args.geometry.now c.args.image.now) c.args.caller.moment c.node-i.result))
-    (c.args.free + c.block_count-freed.result)
+    (c.args.free + c.place_count-freed.result)
     (step_truncate (state c.args.geometry.now c.args.image.now) c.args.caller.cred c.args.caller.moment c.args.path.now c.node-i.result c.node-i.ensures.walked) tt
     c.truncate.ensures.changes
     (truncate_inodes c.args.geometry.now c.args.image.now c.truncate.new.image c.args.caller.moment c.node-i.result

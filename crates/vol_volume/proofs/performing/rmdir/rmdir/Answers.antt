@@ -28,12 +28,12 @@ pub named-i-requires-clause-there : goal.named-i-requires-clause-there
 named-i-requires-clause-there c =
     (rmdir_passed (state c.args.geometry.now c.args.image.now) c.args.caller.cred c.args.caller.moment c.args.path.now c.parent-dir.result.0 c.parent-dir.result.1.now c.requires.accepted c.parent-dir.ensures.walked).there
 
-pub block_count-freed-requires-clause-whole : goal.block_count-freed-requires-clause-whole
-block_count-freed-requires-clause-whole c =
+pub place_count-freed-requires-clause-whole : goal.place_count-freed-requires-clause-whole
+place_count-freed-requires-clause-whole c =
     ready_whole c.args.geometry.now c.args.image.now c.requires.ready
 
-pub block_count-freed-requires-clause-first : goal.block_count-freed-requires-clause-first
-block_count-freed-requires-clause-first c =
+pub place_count-freed-requires-clause-first : goal.place_count-freed-requires-clause-first
+place_count-freed-requires-clause-first c =
     used_first c.args.geometry.now c.args.image.now c.named-i.result c.named-i.ensures.used
 
 pub rmdir-requires-clause-plain : goal.rmdir-requires-clause-plain
@@ -52,7 +52,7 @@ pub overflow_add-result : goal.overflow_add-result
 unfolding tree
 overflow_add-result c =
     let count : c.args.free ≡ free_in (state c.args.geometry.now c.args.image.now) = c.requires.count in
-    let freed : c.block_count-freed.result ≡ place_count c.args.geometry.now.edition (shapes c.args.geometry.now c.args.image.now c.named-i.result) = c.block_count-freed.ensures in
+    let freed : c.place_count-freed.result ≡ place_count c.args.geometry.now.edition (shapes c.args.geometry.now c.args.image.now c.named-i.result) = c.place_count-freed.ensures in
     let after : free_in (at_time c.args.caller.moment (after_rmdir (state c.args.geometry.now c.args.image.now) c.args.caller.moment c.parent-dir.result.0 c.parent-dir.result.1.now)) ≡ free_in (state c.args.geometry.now c.args.image.now) + place_count c.args.geometry.now.edition (shapes c.args.geometry.now c.args.image.now c.named-i.result) =
     free_after_rmdir c.args.geometry.now c.args.image.now c.args.caller.moment c.named-i.result c.parent-dir.result.0 c.parent-dir.result.1.now c.requires.ready c.named-i.ensures.named in
     let low : free_in (at_time c.args.caller.moment (after_rmdir (state c.args.geometry.now c.args.image.now) c.args.caller.moment c.parent-dir.result.0 c.parent-dir.result.1.now)) < 2 ^ 32 = free_low c.args.geometry.now c.args.image.now (at_time c.args.caller.moment (after_rmdir (state c.args.geometry.now c.args.image.now) c.args.caller.moment c.parent-dir.result.0 c.parent-dir.result.1.now)) (tree_geometry c.args.geometry.now c.args.image.now) c.requires.ready.fits in
@@ -61,12 +61,12 @@ overflow_add-result c =
 pub returns-clause-performed : goal.returns-clause-performed
 returns-clause-performed c =
     let count : c.args.free ≡ free_in (state c.args.geometry.now c.args.image.now) = c.requires.count in
-    let freed : c.block_count-freed.result ≡ place_count c.args.geometry.now.edition (shapes c.args.geometry.now c.args.image.now c.named-i.result) = c.block_count-freed.ensures in
+    let freed : c.place_count-freed.result ≡ place_count c.args.geometry.now.edition (shapes c.args.geometry.now c.args.image.now c.named-i.result) = c.place_count-freed.ensures in
     let after : free_in (at_time c.args.caller.moment (after_rmdir (state c.args.geometry.now c.args.image.now) c.args.caller.moment c.parent-dir.result.0 c.parent-dir.result.1.now)) ≡ free_in (state c.args.geometry.now c.args.image.now) + place_count c.args.geometry.now.edition (shapes c.args.geometry.now c.args.image.now c.named-i.result) =
     free_after_rmdir c.args.geometry.now c.args.image.now c.args.caller.moment c.named-i.result c.parent-dir.result.0 c.parent-dir.result.1.now c.requires.ready c.named-i.ensures.named in
     performed_by c.args.geometry.now c.args.image.now c.rmdir.new.image (Rmdir c.args.caller.cred c.args.caller.moment c.args.path.now) Plain
     (at_time c.args.caller.moment (after_rmdir (state c.args.geometry.now c.args.image.now) c.args.caller.moment c.parent-dir.result.0 c.parent-dir.result.1.now))
-    (c.args.free + c.block_count-freed.result)
+    (c.args.free + c.place_count-freed.result)
     (step_rmdir (state c.args.geometry.now c.args.image.now) c.args.caller.cred c.args.caller.moment c.args.path.now c.parent-dir.result.0 c.parent-dir.result.1.now c.parent-dir.ensures.walked) tt
     c.rmdir.ensures.changes
     (rmdir_inodes c.args.geometry.now c.args.image.now c.rmdir.new.image c.args.caller.moment c.named-i.result c.parent-dir.result.0 c.parent-dir.result.1.now

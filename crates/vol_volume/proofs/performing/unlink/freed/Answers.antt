@@ -7,8 +7,8 @@ use Rattle.vol_change.proofs.ReadyLaws.{ready_whole}
 use Rattle.vol_volume.proofs.NodeReadings.{used_first, links_are}
 use Rattle.vol_volume.proofs.performing.unlink.freed.Goals as goal
 
-pub block_count-requires-clause-whole : goal.block_count-requires-clause-whole
-block_count-requires-clause-whole c = ready_whole c.args.geometry.now c.args.image.now c.requires.ready
+pub place_count-requires-clause-whole : goal.place_count-requires-clause-whole
+place_count-requires-clause-whole c = ready_whole c.args.geometry.now c.args.image.now c.requires.ready
 
 pub returns-then-inode-le1 : goal.returns-then-inode-le1
 returns-then-inode-le1 c =
@@ -18,7 +18,7 @@ returns-then-inode-le1 c =
     c.requires.stands.files c.requires.used
     ∙ ap (λ (n : Inode). n.links) (sym c.inode.ensures.value) in
     let few : nat_le c.inode.result.links 1 ≡ true = grind (arith, nat_tests, c.if-inode-le1.true) in
-    c.block_count.ensures ∙ sym (ap (λ n. if nat_le n 1 then blocks else 0) links ∙ ap (λ b. if b then blocks else 0) few)
+    c.place_count.ensures ∙ sym (ap (λ n. if nat_le n 1 then blocks else 0) links ∙ ap (λ b. if b then blocks else 0) few)
 
 pub returns-else-inode-le1 : goal.returns-else-inode-le1
 returns-else-inode-le1 c =

@@ -6,7 +6,7 @@ use Rattle.vol_judge.specs.Marks.{IsInside, blocks_from}
 use Rattle.vol_judge.proofs.FileBlocks.{address_blocks, addresses_from}
 use Rattle.vol_judge.proofs.ZonedFiles.{address_inside}
 use Rattle.vol_node.proofs.BlockCounts.{few_levels, count_addresses, count_addresses_none, count_addresses_more, addresses_few}
-use Rattle.vol_node.proofs.counting.block_count.Goals as goal
+use Rattle.vol_node.proofs.counting.place_count.Goals as goal
 
 pub loop-k-init : goal.loop-k-init
 loop-k-init c = sym (count_addresses_none c.args.geometry.now c.args.image.now c.args.i)

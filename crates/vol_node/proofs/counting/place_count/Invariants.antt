@@ -1,6 +1,6 @@
 use Rattle.std.proofs.Common.{◌≡◌, length}
 use Rattle.vol_judge.proofs.FileBlocks.{addresses_from}
-use Rattle.vol_node.proofs.counting.block_count.Given as goal
+use Rattle.vol_node.proofs.counting.place_count.Given as goal
 
 -- the blocks found from the addresses before k on are counted
 abbrev pub invariant-loop-k : goal.invariant-loop-k

@@ -22,5 +22,6 @@ pub mod PerformedCalls
 mod QueriedNodes
 pub mod RecordedNumbers
 pub mod Refusals
+pub mod RootModes
 pub mod SoundSizes
 pub mod StandingImages

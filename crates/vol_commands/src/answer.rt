@@ -54,7 +54,7 @@ pub fn report<E: Sink>(outcome: Result<(), Fault>, errors: &mut E) -> Answer
     }
 }
 
-/// Writes the line of a fault, and answers its status.
+/// Writes the line of a fault, and answers its status. Where the line can't be written, the status tells.
 fn explain<E: Sink>(fault: Fault, errors: &mut E) -> u8
     requires { IsRuled fault }
     ensures status { result ≡ status_at fault }

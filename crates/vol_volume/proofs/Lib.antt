@@ -21,5 +21,6 @@ pub mod Outputs
 pub mod PerformedCalls
 mod QueriedNodes
 pub mod Refusals
+pub mod RootModes
 pub mod SoundSizes
 pub mod StandingImages

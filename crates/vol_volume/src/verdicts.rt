@@ -24,12 +24,14 @@ use rmdir::rmdir;
 use unlink::unlink;
 use vol_dir::Refusal;
 use vol_layout::Geometry;
+use vol_layout::super_block::SUPER;
 
 /// The refusal that a call meets, if any: of those beside want of memory the first that applies, in the
 /// order of the definition. `free` is the number of free blocks.
 ///
-/// Costs the walks of the call's paths, a search of the last directory, for what is made also of free
-/// i-numbers, and for a write one way for each logical block.
+/// Costs the walks of the call's paths, and a search of the last directory for the name. A new entry costs
+/// one more for its slot, a new node one for a free i-number, a directory that goes a look at its slots, and
+/// a write one way for each logical block that it touches.
 pub(crate) fn verdict(image: &Image, geometry: &Geometry, free: u32, call: &Call) -> Option<Refusal>
     requires sound { IsSound geometry.now.edition image.now }
     requires sizes { geometry.now ≡ geometry_of geometry.now.edition image.now }
@@ -86,5 +88,7 @@ pub(crate) fn stands(image: &Image, geometry: &Geometry)
     requires sizes { geometry.now ≡ geometry_of geometry.now.edition image.now }
     ensures { Stands geometry.now image.now }
 {
-    let _ = image.word(514);
+    // No rule bounds the number of blocks in the sixth edition. It is a word, and that it is read brings into
+    // the proof that words are below 65536.
+    let _ = image.word(SUPER + 2);
 }

@@ -162,16 +162,18 @@ impl Volume {
     /// the order of the definition. NoMemory comes last, before the first byte changes, and only where the
     /// journal has no room for one record more.
     ///
-    /// Takes memory for the journal alone. Costs two walks of each path and two searches of the last
-    /// directory, and the change: for a new entry the directory's slots, for a new node the i-list where no
-    /// i-number is cached, for a write its bytes and the ways of their blocks, and for what becomes free the
-    /// places of the file, twice.
+    /// Takes memory for the journal alone. Costs two walks of each path, searches of the last directory, and
+    /// the change. A new entry costs one search for its name and three for its slot, an entry that goes
+    /// three for its name, and a new node two searches of the i-list, where no cached i-number is free. A
+    /// write costs a copy of its bytes, three times the ways of their blocks, and once those of the blocks
+    /// between the old size and the offset; what becomes free costs the places of the file, twice.
     pub fn call(&mut self, alloc: Global, call: Call) -> Result<Done, (Refusal, Call)>
         ensures accepted { IfOk result (λ done. Accepts self.old self.new call done) }
         ensures refused { IfErr result (λ (refusal, same). Refuses (reads_as self.old.edition self.old.image) call refusal) }
         ensures handed_back { IfErr result (λ (refusal, same). same ≡ call) }
         ensures unchanged { IfErr result (λ (refusal, same). self.new ≡ self.old) }
     {
+        // The journal grows by the allocator that it was made with.
         let _ = alloc;
         if let Some(refusal) = verdict(&self.current, &self.geometry, self.free, &call) {
             return Err((refusal, call));
@@ -227,6 +229,7 @@ impl Volume {
     pub fn check(&self)
         ensures { IsConsistent self.now }
     {
+        // What is read of a volume brings what every volume keeps into the proof.
         let _ = &self.geometry;
     }
 }

@@ -116,14 +116,14 @@ fn put_root(image: &mut Image, edition: Edition, node: &Inode)
 fn root_inode(geometry: &Geometry, uid: u16, gid: u16, now: u32) -> Inode
     ensures { result ≡ root_inode geometry.now.edition geometry.now.zone_start uid gid now }
 {
-    let (mode, changed) = match geometry.edition {
-        Edition::V6 => (0o140777, None),
-        Edition::V7 => (0o040777, Some(now)),
+    let changed = match geometry.edition {
+        Edition::V6 => None,
+        Edition::V7 => Some(now),
     };
     let mut addresses = [0; 13];
     addresses[0] = geometry.zone_start;
     Inode {
-        mode: Mode { bits: mode },
+        mode: Mode::directory(geometry.edition, 0o777),
         links: 2,
         uid,
         gid,

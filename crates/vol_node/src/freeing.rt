@@ -14,7 +14,7 @@ ghost use Rattle.vol_node.specs.Whole.{IsWhole, Keeps};
 use pdp_words::Image;
 use vol_file::truncate;
 use vol_free::give_inode;
-use vol_layout::i_list::mode;
+use vol_layout::i_list::kind;
 use vol_layout::{Geometry, Kind, clear_inode};
 
 /// Frees node `i`, which isn't the root: its blocks go back to the free list, all bytes of its i-node are
@@ -46,7 +46,7 @@ fn free_blocks(image: &mut Image, geometry: &Geometry, i: u16)
     ensures unused { (j : ℕ) → 1 ≤ j → j ≤ geometry.now.last_inode → KeepsUnused geometry.now image.old image.new j }
     ensures none { (p : List ℕ) → IsPlaceOf geometry.now image.new i p → named geometry.now image.new i p ≡ 0 }
 {
-    match mode(image, geometry, i).kind(geometry.edition) {
+    match kind(image, geometry, i) {
         Kind::Regular | Kind::Directory => truncate(image, geometry, i),
         Kind::Free | Kind::Special | Kind::Odd => {}
     }

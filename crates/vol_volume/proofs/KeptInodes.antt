@@ -5,11 +5,12 @@ use Rattle.std.proofs.lemmas.Bool.{cases_eq, true≢false}
 use Rattle.std.proofs.lemmas.Bool.Decides.{nat_tests}
 use Rattle.vol_layout.specs.Inode.{inode_place}
 use Rattle.vol_layout.specs.declared.edition.Edition.TheVariants.{V7}
+use Rattle.vol_file.specs.Changes.{spliced}
 use Rattle.vol_layout.specs.declared.geometry.Geometry.{Geometry}
 use Rattle.vol_dir.specs.Names.{get, insert, remove}
 use Rattle.vol_dir.specs.Tree.{Body, Node, State, no_shape, state}
 use Rattle.vol_dir.specs.declared.cred.Cred.{Cred}
-use Rattle.vol_node.specs.Edits.{put_node, put_shape, change_node, remove_node, at_time, stamped, modified, new_node, change_names, add_entry, remove_entry, add_link, drop_link, release, written, body_of, new_directory, after_write, after_truncate}
+use Rattle.vol_node.specs.Edits.{put_node, put_shape, change_node, remove_node, at_time, stamped, modified, new_node, change_names, add_entry, remove_entry, add_link, drop_link, release, body_of, new_directory, after_write, after_truncate}
 use Rattle.vol_node.specs.Nodes.{node_at, names_at, size_with_entry}
 use Rattle.vol_node.specs.Shapes.{new_directory_shape}
 use Rattle.vol_node.specs.Unused.{IsCleared, KeepsUnused}
@@ -63,7 +64,7 @@ write_free : (state : State) (now offset : ℕ) (bytes : List ℕ) (i j : ℕ) �
 write_free state now offset [] i j = refl
 write_free state now offset (byte ∷ bytes) i j =
     changed_free state i (λ node. record (modified now node) {
-      content = Body (written (body_of node.content) offset (byte ∷ bytes));
+      content = Body (spliced (body_of node.content) offset (byte ∷ bytes));
       size = max node.size (offset + length (byte ∷ bytes));
     }) j
 

@@ -1,5 +1,4 @@
 use Rattle.std.proofs.KnownBytes.{Appends-nil}
-use Rattle.std.proofs.Common.{sym, ◌∙◌}
 use Rattle.unixvol.proofs.MadeVolumes.{runs_by, told_at}
 use Rattle.unixvol.proofs.commands.carry_out.Goals as goal
 

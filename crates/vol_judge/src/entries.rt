@@ -9,7 +9,7 @@ use crate::reading::{is_directory, last_number};
 use pdp_words::Image;
 use std::alloc::{AllocError, Global};
 use std::collections::BTreeSet;
-use vol_layout::i_list::{mode, size};
+use vol_layout::i_list::{kind, size};
 use vol_layout::slot::{NAME, SLOT};
 use vol_layout::{Geometry, Kind, Slot};
 
@@ -69,7 +69,7 @@ fn is_entry(image: &Image, geometry: &Geometry, slot: &Slot) -> bool
         && !name.contains(&b'/')
         && geometry.edition.constants().root <= slot.inode
         && slot.inode <= geometry.last_inode
-        && mode(image, geometry, slot.inode).kind(geometry.edition) != Kind::Free
+        && kind(image, geometry, slot.inode) != Kind::Free
 }
 
 /// The name of a slot with zero bytes behind it: what stands behind the first zero byte doesn't count.

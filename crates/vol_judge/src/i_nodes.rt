@@ -7,7 +7,7 @@ ghost use Rattle.vol_judge.specs.Limits.{IsSized, IsLinked};
 
 use crate::reading::last_number;
 use pdp_words::Image;
-use vol_layout::i_list::{mode, size};
+use vol_layout::i_list::{kind, mode, size};
 use vol_layout::{Edition, Form, Geometry, Kind, inode};
 
 /// The greatest size of a small file: eight blocks.
@@ -37,16 +37,6 @@ pub fn has_sizes(image: &Image, geometry: &Geometry) -> bool
         }
     }
     true
-}
-
-/// What i-node `i` is.
-fn kind(image: &Image, geometry: &Geometry, i: u16) -> Kind
-    requires fits { Fits geometry.now image.now }
-    requires first { 1 ≤ i }
-    requires last { i ≤ geometry.now.last_inode }
-    ensures { result ≡ kind_at geometry.now image.now i }
-{
-    mode(image, geometry, i).kind(geometry.edition)
 }
 
 /// Whether the root is a directory.

@@ -7,7 +7,7 @@ ghost use Rattle.vol_dir.specs.Names.{is_dots};
 ghost use Rattle.vol_judge.specs.Stepping.{IsNext, IsPastEntries, rank};
 
 use pdp_words::Image;
-use vol_layout::i_list::mode;
+use vol_layout::i_list::kind;
 use vol_layout::{Geometry, Kind, Slot};
 
 /// The last i-number of the volume.
@@ -24,7 +24,7 @@ pub(crate) fn is_directory(image: &Image, geometry: &Geometry, i: u16) -> bool
     requires last { i ≤ geometry.now.last_inode }
     ensures { IsTrue result ↔ IsDirectory geometry.now image.now i }
 {
-    mode(image, geometry, i).kind(geometry.edition) == Kind::Directory
+    kind(image, geometry, i) == Kind::Directory
 }
 
 /// A place among the slots of all directories, directory after directory.
@@ -77,8 +77,7 @@ impl Entry {
     pub(crate) fn is_dots(&self) -> bool
         ensures { result ≡ is_dots (name_of self.now.slot.name) }
     {
-        let name = self.slot.name();
-        name == b".".as_slice() || name == b"..".as_slice()
+        vol_dir::is_dots(self.slot.name())
     }
 }
 

@@ -8,7 +8,7 @@ ghost use Rattle.vol_judge.specs.Counting.{HasCounts, IsCounted};
 use crate::reading::{Place, last_number, next_entry};
 use pdp_words::Image;
 use std::alloc::{AllocError, Global};
-use vol_layout::i_list::{inode, mode};
+use vol_layout::i_list::{inode, kind};
 use vol_layout::{Geometry, Kind};
 
 /// Whether rule 12 holds of a volume on which rule 9 holds.
@@ -64,6 +64,6 @@ fn is_counted(image: &Image, geometry: &Geometry, i: u16, count: u64) -> bool
     ensures { IsTrue result ↔ IsCounted geometry.now image.now i count }
 {
     let links = u64::from(inode(image, geometry, i).links);
-    mode(image, geometry, i).kind(geometry.edition) == Kind::Free
+    kind(image, geometry, i) == Kind::Free
         || links == count && (i < geometry.edition.constants().root || 1 <= links)
 }

@@ -5,7 +5,7 @@ ghost use Rattle.vol_layout.specs.Slot.{name_of, padded_name};
 ghost use Rattle.vol_dir.specs.Entries.{IsDirectory, HasEntries};
 ghost use Rattle.vol_judge.specs.Naming.{IsEntry, HasEntriesIn};
 
-use crate::reading::{is_directory, last_number};
+use crate::reading::is_directory;
 use pdp_words::Image;
 use std::alloc::{AllocError, Global};
 use std::collections::BTreeSet;
@@ -25,7 +25,7 @@ pub(crate) fn has_entries(
     requires { Fits geometry.now image.now }
     ensures { IfOk result (λ holds. IsTrue holds ↔ HasEntries geometry.now image.now) }
 {
-    for d in 1..=last_number(geometry) {
+    for d in 1..=geometry.last_inode {
         if is_directory(image, geometry, d) && !has_entries_in(alloc, image, geometry, d)? {
             return Ok(false);
         }

@@ -5,7 +5,6 @@ ghost use Rattle.vol_layout.specs.Geometry.{Fits};
 ghost use Rattle.vol_file.specs.Rules.{HasKinds, HasSizes, kind_at};
 ghost use Rattle.vol_judge.specs.Limits.{IsSized, IsLinked};
 
-use crate::reading::last_number;
 use pdp_words::Image;
 use vol_layout::i_list::{kind, mode, size};
 use vol_layout::{Edition, Form, Geometry, Kind, inode};
@@ -18,7 +17,7 @@ pub fn has_kinds(image: &Image, geometry: &Geometry) -> bool
     requires { Fits geometry.now image.now }
     ensures { IsTrue result ↔ HasKinds geometry.now image.now }
 {
-    for i in 1..=last_number(geometry) {
+    for i in 1..=geometry.last_inode {
         if matches!(kind(image, geometry, i), Kind::Odd) {
             return false;
         }
@@ -31,7 +30,7 @@ pub fn has_sizes(image: &Image, geometry: &Geometry) -> bool
     requires { Fits geometry.now image.now }
     ensures { IsTrue result ↔ HasSizes geometry.now image.now }
 {
-    for i in 1..=last_number(geometry) {
+    for i in 1..=geometry.last_inode {
         if !is_sized(image, geometry, i) || !is_linked(image, geometry, i) {
             return false;
         }

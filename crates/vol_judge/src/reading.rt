@@ -10,13 +10,6 @@ use pdp_words::Image;
 use vol_layout::i_list::kind;
 use vol_layout::{Geometry, Kind, Slot};
 
-/// The last i-number of the volume.
-pub(crate) fn last_number(geometry: &Geometry) -> u16
-    ensures { result ≡ geometry.now.last_inode }
-{
-    geometry.last_inode
-}
-
 /// Whether i-number `i` is that of a directory.
 pub(crate) fn is_directory(image: &Image, geometry: &Geometry, i: u16) -> bool
     requires fits { Fits geometry.now image.now }
@@ -91,7 +84,7 @@ pub(crate) fn next_entry(image: &Image, geometry: &Geometry, from: Place) -> Opt
         (λ entry. IsNext geometry.now image.now (rank from.directory from.slot) entry.directory entry.number entry.slot) }
 {
     let mut start = from.slot;
-    for d in from.directory..=last_number(geometry) {
+    for d in from.directory..=geometry.last_inode {
         if is_directory(image, geometry, d) {
             if let Some((number, slot)) = vol_dir::next_entry(image, geometry, d, start) {
                 return Some(Entry {

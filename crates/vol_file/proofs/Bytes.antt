@@ -103,7 +103,7 @@ stored_once geometry image blocks i b c k p sound file e is some same =
           last_apart (form_at geometry image i) c b p (f ∙ ap Some twice.1) e
     ] refl same
 
--- no pointer block of the file is the data block of a last place
+-- no indirect block of the file is the data block of a last place
 leaf_apart : (geometry : Geometry) (image blocks : List ℕ) (i b k : ℕ) (p q : List ℕ) → IsSoundWith geometry image blocks → IsFile geometry image i
     → last_place (form_at geometry image i) b ≡ Some p → named geometry image i p ≡ k → k ≢ 0
     → IsPlace (form_at geometry image i) q → 1 ≤ levels_below (form_at geometry image i) q → named geometry image i q ≢ k

@@ -1,4 +1,4 @@
--- What storing a number in an address of an i-node, or in an entry of a pointer block, does to what places name.
+-- What storing a number in an address of an i-node, or in an entry of an indirect block, does to what places name.
 use Rattle.std.proofs.Common.{◌≡◌, ◌≢◌, ℕ, ◌+◌, ◌*◌, ◌<◌, ◌≤◌, ◌⊎◌, ◌∙◌, sym, ap, subst, List, [], ◌∷◌, arith, inl, inr, true}
 use Rattle.std.proofs.lemmas.Bool.{cases_lt, cases_eq}
 use Rattle.std.proofs.lemmas.Bool.Decides.{nat_tests}

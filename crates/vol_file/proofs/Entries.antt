@@ -1,4 +1,4 @@
--- Entries of pointer blocks and addresses of i-nodes that name a block, once they are made 0.
+-- Entries of indirect blocks and addresses of i-nodes that name a block, once they are made 0.
 use Rattle.std.proofs.Common.{◌≡◌, ℕ, ◌+◌, ◌*◌, ◌<◌, ◌≤◌, ◌∙◌, sym, ap, subst, List, [], ◌∷◌, length, arith, true}
 use Rattle.pdp_words.specs.Words.{SameOutside}
 use Rattle.vol_layout.specs.Edition.{constants, number}

@@ -1,4 +1,4 @@
--- Clearing the entries of a pointer block, and the addresses of an i-node, one after another.
+-- Clearing the entries of an indirect block, and the addresses of an i-node, one after another.
 use Rattle.std.proofs.Common.{◌≡◌, ◌≢◌, ℕ, zero, suc, ◌+◌, ◌-◌, ◌*◌, ◌<◌, ◌≤◌, ◌∙◌, sym, ap, subst, List, [], ◌∷◌, ◌++◌, length, refl, arith}
 use Rattle.vol_layout.specs.Edition.{constants, number}
 use Rattle.vol_layout.specs.Geometry.{Fits}
@@ -23,7 +23,7 @@ use Rattle.vol_file.proofs.Entries.{named_zone}
 use Rattle.vol_file.proofs.Cells.{entry_end}
 use Rattle.vol_file.proofs.Naming.{place_same}
 
--- a pointer block of a file holds as many numbers as one of its edition
+-- an indirect block of a file holds as many numbers as one of its edition
 pub pointers_file : (geometry : Geometry) (image : List ℕ) (i : ℕ) → IsFile geometry image i
     → pointer_count (form_at geometry image i) ≡ (constants geometry.edition).pointers
 pointers_file geometry image i file =

@@ -24,7 +24,7 @@ pub fn block_at(image: &Image, geometry: &Geometry, i: u16, b: u32) -> Option<u3
     }
 }
 
-/// Pointer `j` in block `m`, which is a pointer block; 0 where `m` is no data block.
+/// Pointer `j` in block `m`, which is an indirect block; 0 where `m` is no data block.
 #[tactic(auto, unfolding(vol_layout::specs::Names::pointer_in))]
 pub(crate) fn entry(image: &Image, geometry: &Geometry, m: u32, j: u32) -> u32
     requires fits { Fits geometry.now image.now }

@@ -16,7 +16,7 @@ use vol_layout::{Edition, Form, Geometry, number, put_address, put_mode, put_num
 /// first place named. In the sixth edition the large flag goes, and the rest of the mode stays. Takes
 /// no memory.
 ///
-/// Costs one read for each entry of the file's pointer blocks, and two writes for each of its blocks.
+/// Costs one read for each entry of the file's indirect blocks, and two writes for each of its blocks.
 pub fn truncate(image: &mut Image, geometry: &Geometry, i: u16)
     requires file { IsFile geometry.now image.old i }
     requires sound { HasSoundFiles geometry.now image.old }

@@ -40,7 +40,7 @@ fn name_address(image: &mut Image, geometry: &Geometry, i: u16, k: usize) -> u32
     }
 }
 
-/// The block that entry `j` of pointer block `m` names: if it names none, the first free block, which
+/// The block that entry `j` of indirect block `m` names: if it names none, the first free block, which
 /// it names from then on.
 fn name_entry(image: &mut Image, geometry: &Geometry, m: u32, j: u32) -> u32
     requires may { MayNameEntry geometry.now image.old m j }

@@ -8,10 +8,8 @@ ghost use Rattle.vol_layout.specs.Super.{free_head};
 ghost use Rattle.vol_free.specs.Stack.{IsIn, IsFree, HasStack, Pops, HeadTaken, HeadGiven, StaysBut};
 
 use pdp_words::{BLOCK, Image};
+use vol_layout::super_block::HEAD_BYTES;
 use vol_layout::{Geometry, Super, number};
-
-/// Bytes of a count and its array: 2, and then 100 words in the sixth edition or 50 longs in the seventh.
-const HEAD_BYTES: usize = 202;
 
 /// Takes the first block of the free list, and hands it out zeroed. None where no block is free, and
 /// then the image stays as it was. The number taken stays in the array, past the count; where it was

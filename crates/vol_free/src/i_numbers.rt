@@ -45,7 +45,8 @@ pub fn any_inode(image: &Image, geometry: &Geometry) -> bool
             return true;
         }
     }
-    for i in geometry.edition.constants().root + 1..=last_number(geometry) {
+    let last = geometry.last_inode;
+    for i in geometry.edition.constants().root + 1..=last {
         if is_free(image, geometry, i) {
             return true;
         }
@@ -104,7 +105,8 @@ fn take_listed(image: &mut Image, geometry: &Geometry) -> Option<u16>
     };
     let mut count = 0;
     let mut last_found = None;
-    for i in geometry.edition.constants().root + 1..=last_number(geometry) {
+    let last = geometry.last_inode;
+    for i in geometry.edition.constants().root + 1..=last {
         if count == CACHE_SLOTS {
             break;
         }
@@ -136,11 +138,4 @@ fn is_free(image: &Image, geometry: &Geometry, i: u16) -> bool
     geometry.edition.constants().root < i
         && i <= geometry.last_inode
         && mode(image, geometry, i).bits == 0
-}
-
-/// The last i-number of the volume.
-fn last_number(geometry: &Geometry) -> u16
-    ensures { result ≡ geometry.now.last_inode }
-{
-    geometry.last_inode
 }

@@ -9,7 +9,7 @@ use Rattle.vol_layout.specs.declared.geometry.Geometry.{Geometry}
 use Rattle.vol_judge.specs.declared.marking.Places.{Places}
 use Rattle.vol_judge.specs.declared.marking.Places.TheVariants.{OutOfZone, Twice, Once}
 
--- number b, if not 0, is that of a data block, and so is each that is found below it in d levels of pointer blocks (icheck)
+-- number b, if not 0, is that of a data block, and so is each that is found below it in d levels of indirect blocks (icheck)
 unfoldable pub IsInside : Geometry → List ℕ → ℕ → ℕ → Type 0
 IsInside geometry image zero b = b ≢ 0 → in_zone geometry b ≡ true
 IsInside geometry image (suc d) b =

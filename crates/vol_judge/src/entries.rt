@@ -5,11 +5,11 @@ ghost use Rattle.vol_layout.specs.Slot.{name_of, padded_name};
 ghost use Rattle.vol_dir.specs.Entries.{IsDirectory, HasEntries};
 ghost use Rattle.vol_judge.specs.Naming.{IsEntry, HasEntriesIn};
 
-use crate::reading::{is_directory, last_number};
+use crate::reading::is_directory;
 use pdp_words::Image;
 use std::alloc::{AllocError, Global};
 use std::collections::BTreeSet;
-use vol_layout::i_list::{mode, size};
+use vol_layout::i_list::{kind, size};
 use vol_layout::slot::{NAME, SLOT};
 use vol_layout::{Geometry, Kind, Slot};
 
@@ -25,7 +25,7 @@ pub(crate) fn has_entries(
     requires { Fits geometry.now image.now }
     ensures { IfOk result (λ holds. IsTrue holds ↔ HasEntries geometry.now image.now) }
 {
-    for d in 1..=last_number(geometry) {
+    for d in 1..=geometry.last_inode {
         if is_directory(image, geometry, d) && !has_entries_in(alloc, image, geometry, d)? {
             return Ok(false);
         }
@@ -69,7 +69,7 @@ fn is_entry(image: &Image, geometry: &Geometry, slot: &Slot) -> bool
         && !name.contains(&b'/')
         && geometry.edition.constants().root <= slot.inode
         && slot.inode <= geometry.last_inode
-        && mode(image, geometry, slot.inode).kind(geometry.edition) != Kind::Free
+        && kind(image, geometry, slot.inode) != Kind::Free
 }
 
 /// The name of a slot with zero bytes behind it: what stands behind the first zero byte doesn't count.

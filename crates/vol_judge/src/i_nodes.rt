@@ -5,9 +5,8 @@ ghost use Rattle.vol_layout.specs.Geometry.{Fits};
 ghost use Rattle.vol_file.specs.Rules.{HasKinds, HasSizes, kind_at};
 ghost use Rattle.vol_judge.specs.Limits.{IsSized, IsLinked};
 
-use crate::reading::last_number;
 use pdp_words::Image;
-use vol_layout::i_list::{mode, size};
+use vol_layout::i_list::{kind, mode, size};
 use vol_layout::{Edition, Form, Geometry, Kind, inode};
 
 /// The greatest size of a small file: eight blocks.
@@ -18,7 +17,7 @@ pub fn has_kinds(image: &Image, geometry: &Geometry) -> bool
     requires { Fits geometry.now image.now }
     ensures { IsTrue result ↔ HasKinds geometry.now image.now }
 {
-    for i in 1..=last_number(geometry) {
+    for i in 1..=geometry.last_inode {
         if matches!(kind(image, geometry, i), Kind::Odd) {
             return false;
         }
@@ -31,22 +30,12 @@ pub fn has_sizes(image: &Image, geometry: &Geometry) -> bool
     requires { Fits geometry.now image.now }
     ensures { IsTrue result ↔ HasSizes geometry.now image.now }
 {
-    for i in 1..=last_number(geometry) {
+    for i in 1..=geometry.last_inode {
         if !is_sized(image, geometry, i) || !is_linked(image, geometry, i) {
             return false;
         }
     }
     true
-}
-
-/// What i-node `i` is.
-fn kind(image: &Image, geometry: &Geometry, i: u16) -> Kind
-    requires fits { Fits geometry.now image.now }
-    requires first { 1 ≤ i }
-    requires last { i ≤ geometry.now.last_inode }
-    ensures { result ≡ kind_at geometry.now image.now i }
-{
-    mode(image, geometry, i).kind(geometry.edition)
 }
 
 /// Whether the root is a directory.

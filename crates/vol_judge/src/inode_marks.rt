@@ -5,7 +5,7 @@ ghost use Rattle.vol_layout.specs.Edition.{constants};
 ghost use Rattle.vol_dir.specs.Entries.{IsDirectory};
 ghost use Rattle.vol_judge.specs.InodeMarks.{HasRoot};
 
-use crate::reading::{is_directory, last_number};
+use crate::reading::is_directory;
 use pdp_words::Image;
 use std::alloc::{AllocError, Global};
 use vol_layout::Geometry;
@@ -26,7 +26,7 @@ pub(crate) fn are_marked(image: &Image, geometry: &Geometry, marks: &[bool]) -> 
     requires room { length marks.now ≡ geometry.now.last_inode + 1 }
     ensures { IsTrue result ↔ ((d : ℕ) → IsDirectory geometry.now image.now d → slice_index_or marks.now d false ≡ true) }
 {
-    for d in 1..=last_number(geometry) {
+    for d in 1..=geometry.last_inode {
         if is_directory(image, geometry, d) && !marks[d as usize] {
             return false;
         }

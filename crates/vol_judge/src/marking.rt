@@ -31,7 +31,7 @@ pub enum Places {
 /// Marks the blocks that the places of all files name, in one byte for each block of the volume: 0
 /// where none does. What the bytes are at first doesn't matter; they say nothing but at `Once`.
 ///
-/// Costs two reads of each i-node and at most four of each entry of the pointer blocks, however they
+/// Costs two reads of each i-node and at most four of each entry of the indirect blocks, however they
 /// lead to one another.
 pub fn mark_places(image: &Image, geometry: &Geometry, marks: &mut [u8]) -> Places
     requires fits { Fits geometry.now image.now }

@@ -7,15 +7,8 @@ ghost use Rattle.vol_dir.specs.Names.{is_dots};
 ghost use Rattle.vol_judge.specs.Stepping.{IsNext, IsPastEntries, rank};
 
 use pdp_words::Image;
-use vol_layout::i_list::mode;
+use vol_layout::i_list::kind;
 use vol_layout::{Geometry, Kind, Slot};
-
-/// The last i-number of the volume.
-pub(crate) fn last_number(geometry: &Geometry) -> u16
-    ensures { result ≡ geometry.now.last_inode }
-{
-    geometry.last_inode
-}
 
 /// Whether i-number `i` is that of a directory.
 pub(crate) fn is_directory(image: &Image, geometry: &Geometry, i: u16) -> bool
@@ -24,7 +17,7 @@ pub(crate) fn is_directory(image: &Image, geometry: &Geometry, i: u16) -> bool
     requires last { i ≤ geometry.now.last_inode }
     ensures { IsTrue result ↔ IsDirectory geometry.now image.now i }
 {
-    mode(image, geometry, i).kind(geometry.edition) == Kind::Directory
+    kind(image, geometry, i) == Kind::Directory
 }
 
 /// A place among the slots of all directories, directory after directory.
@@ -77,8 +70,7 @@ impl Entry {
     pub(crate) fn is_dots(&self) -> bool
         ensures { result ≡ is_dots (name_of self.now.slot.name) }
     {
-        let name = self.slot.name();
-        name == b".".as_slice() || name == b"..".as_slice()
+        vol_dir::is_dots(self.slot.name())
     }
 }
 
@@ -92,7 +84,7 @@ pub(crate) fn next_entry(image: &Image, geometry: &Geometry, from: Place) -> Opt
         (λ entry. IsNext geometry.now image.now (rank from.directory from.slot) entry.directory entry.number entry.slot) }
 {
     let mut start = from.slot;
-    for d in from.directory..=last_number(geometry) {
+    for d in from.directory..=geometry.last_inode {
         if is_directory(image, geometry, d) {
             if let Some((number, slot)) = vol_dir::next_entry(image, geometry, d, start) {
                 return Some(Entry {

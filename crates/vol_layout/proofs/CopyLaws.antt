@@ -63,7 +63,7 @@ pub number_copied : (edition : Edition) (old new : List ℕ) (from to size j : �
 number_copied V6 old new from to size j copy h = word_copied old new from to size (2 * j) (from + 2 * j) (to + 2 * j) copy h refl refl
 number_copied V7 old new from to size j copy h = long_copied old new from to size (4 * j) (from + 4 * j) (to + 4 * j) copy h refl refl
 
--- a number of a pointer block lies within it
+-- a number of an indirect block lies within it
 pub number_room : (edition : Edition) (j : ℕ) → j < (constants edition).pointers
     → (constants edition).number_bytes * j + (constants edition).number_bytes ≤ 512
 number_room V6 j h = omega arith

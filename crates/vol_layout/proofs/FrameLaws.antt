@@ -20,12 +20,12 @@ use Rattle.vol_layout.proofs.PlaceLaws.{last_leaf, place_front, front_above, fro
 use Rattle.vol_layout.proofs.BodyLaws.{zone_bounds, same_body, zone_byte_in, body_byte_is}
 use Rattle.vol_layout.proofs.NameLaws.{stored_apart_from}
 
--- a pointer block of a file in its edition's form holds as many numbers as one of the edition
+-- an indirect block of a file in its edition's form holds as many numbers as one of the edition
 pub pointers_in : (edition : Edition) (mode : ℕ) → pointer_count (file_form edition mode) ≡ (constants edition).pointers
 pointers_in V6 mode = elim (is_large V6 mode) as (λ t. pointer_count (if t then Large else Small) ≡ 256) [ true ↦ refl | false ↦ refl ]
 pointers_in V7 mode = refl
 
--- a pointer block of a file holds at most as many numbers as one of its edition
+-- an indirect block of a file holds at most as many numbers as one of its edition
 pub pointers_of : (edition : Edition) (mode : ℕ) → pointer_count (form_of edition mode) ≤ (constants edition).pointers
 pointers_of edition mode =
     elim (has_places (kind_of edition mode)) as (λ t. pointer_count (if t then file_form edition mode else Bare) ≤ (constants edition).pointers) [
@@ -109,7 +109,7 @@ named_frame geometry old new i p kept place blocks =
     number_copied geometry.edition old new (512 * named geometry old i (a ∷ q)) (512 * named geometry old i (a ∷ q)) 512 j (blocks j a q front zone)
     (number_room geometry.edition j within))
 
--- a write of block k leaves what the places name, where k is no pointer block of the file
+-- a write of block k leaves what the places name, where k is no indirect block of the file
 pub named_apart : (geometry : Geometry) (old new : List ℕ) (i k : ℕ) (p : List ℕ) → KeepsPlaces geometry old new i
     → SameOutside old new (512 * k) (512 * k + 512)
     → ((q : List ℕ) → IsPlace (form_at geometry old i) q → 1 ≤ levels_below (form_at geometry old i) q → named geometry old i q ≢ k)
@@ -128,7 +128,7 @@ stored_kept geometry old new i form b same =
     elim (last_place form b) as (λ o. last_place form b ≡ o → option_map_or (named geometry new i) o 0 ≡ option_map_or (named geometry old i) o 0)
     [ None ↦ λ e. refl | Some p ↦ λ e. same p e ] refl
 
--- a write of block k leaves the numbers stored for logical blocks, where k is no pointer block of the file
+-- a write of block k leaves the numbers stored for logical blocks, where k is no indirect block of the file
 pub stored_apart : (geometry : Geometry) (old new : List ℕ) (i k b : ℕ) → KeepsPlaces geometry old new i
     → SameOutside old new (512 * k) (512 * k + 512)
     → ((q : List ℕ) → IsPlace (form_at geometry old i) q → 1 ≤ levels_below (form_at geometry old i) q → named geometry old i q ≢ k)
@@ -188,7 +188,7 @@ body_apart geometry old new i k fits kept same apart =
     body_ways_kept geometry old new i k fits kept same
     (λ b p q low e front. apart q (place_front (form_at geometry old i) p q (last_leaf (form_at geometry old i) b p e).place front))
 
--- after a write of data block k, no pointer block of the file, its bytes of a logical block that k stands for are k's new ones
+-- after a write of data block k, no indirect block of the file, its bytes of a logical block that k stands for are k's new ones
 pub body_byte_there : (geometry : Geometry) (old new : List ℕ) (i k n : ℕ) → KeepsPlaces geometry old new i
     → SameOutside old new (512 * k) (512 * k + 512) → in_zone geometry k ≡ true
     → ((q : List ℕ) → IsPlace (form_at geometry old i) q → 1 ≤ levels_below (form_at geometry old i) q → named geometry old i q ≢ k)
@@ -198,7 +198,7 @@ body_byte_there geometry old new i k n kept same zone apart here =
     ∙ (ap (λ m. zone_byte geometry new m (n % 512)) (stored_apart geometry old new i k (n / 512) kept same apart ∙ here)
     ∙ zone_byte_in geometry new k (n % 512) zone)
 
--- after a write of data block k, no pointer block of the file, its bytes of every other logical block are as before
+-- after a write of data block k, no indirect block of the file, its bytes of every other logical block are as before
 pub body_byte_elsewhere : (geometry : Geometry) (old new : List ℕ) (i k n : ℕ) → KeepsPlaces geometry old new i
     → SameOutside old new (512 * k) (512 * k + 512)
     → ((q : List ℕ) → IsPlace (form_at geometry old i) q → 1 ≤ levels_below (form_at geometry old i) q → named geometry old i q ≢ k)

@@ -35,14 +35,14 @@ first_count Large = 8
 first_count Deep = 13
 first_count Bare = 0
 
--- how many numbers a pointer block holds (Lions on bmap; param.h)
+-- how many numbers an indirect block holds (Lions on bmap; param.h)
 abbrev pub pointer_count : Form → ℕ
 pointer_count Small = 256
 pointer_count Large = 256
 pointer_count Deep = 128
 pointer_count Bare = 0
 
--- how many levels of pointer blocks stand between an address and the data (Lions on bmap; ino.h)
+-- how many levels of indirect blocks stand between an address and the data (Lions on bmap; ino.h)
 abbrev pub levels : Form → ℕ → ℕ
 levels Small k = 0
 levels Large k = if k == 7 then 2 else 1

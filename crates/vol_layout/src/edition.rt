@@ -21,9 +21,9 @@ pub struct Constants {
     pub inodes_per_block: u16,
     /// Numbers that the array of the free list holds, in the super-block and in a chain block.
     pub free_slots: u16,
-    /// Bytes of a block number in the free list and in pointer blocks.
+    /// Bytes of a block number in the free list and in indirect blocks.
     pub number_bytes: usize,
-    /// Block numbers in a pointer block.
+    /// Block numbers in an indirect block.
     pub pointers: u32,
     /// The greatest size of a file, in bytes.
     pub greatest: u32,

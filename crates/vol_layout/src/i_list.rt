@@ -11,6 +11,7 @@ ghost use Rattle.vol_layout.specs.Inode.{
   addresses_at,
   address_at,
   address_count,
+  address_offset,
   address_bytes,
   address_place,
   kind_of,
@@ -66,6 +67,38 @@ fn addresses(image: &Image, edition: Edition, at: usize) -> [u32; 13]
     all
 }
 
+/// The size in the i-node at byte `at`: 24 bits in the sixth edition, the high 8 first, and a long in the
+/// seventh.
+fn size_in(image: &Image, edition: Edition, at: usize) -> u32
+    requires { at + (constants edition).inode_bytes ≤ length image.now }
+    ensures value { result ≡ size_at edition image.now at }
+    ensures bound { edition ≡ Edition.V6 → result < 16777216 }
+{
+    let _ = image.len();
+    match edition {
+        Edition::V6 => u32::from(image.byte(at + 5)) * 0x1_0000 + u32::from(image.word(at + 6)),
+        Edition::V7 => image.long(at + 8),
+    }
+}
+
+/// Puts the size into the i-node at byte `at`: below 2^24 in the sixth edition.
+fn put_size_in(image: &mut Image, edition: Edition, at: usize, size: u32)
+    requires room { at + (constants edition).inode_bytes ≤ length image.old }
+    requires range { edition ≡ Edition.V6 → size < 16777216 }
+    ensures put { size_at edition image.new at ≡ size }
+    ensures others { SameOutside image.old image.new (at + (address_offset edition - size_bytes edition))
+        (at + address_offset edition) }
+{
+    let _ = image.len();
+    match edition {
+        Edition::V6 => {
+            image.put_byte(at + 5, (size / 0x1_0000) as u8);
+            image.put_word(at + 6, (size % 0x1_0000) as u16);
+        }
+        Edition::V7 => image.put_long(at + 8, size),
+    }
+}
+
 /// Puts the addresses of a sixth edition i-node, eight words.
 fn put_addresses_v6(image: &mut Image, at: usize, addresses: &[u32; 13])
     requires room { at + 32 ≤ length image.old }
@@ -102,6 +135,7 @@ pub fn inode(image: &Image, geometry: &Geometry, i: u16) -> Inode
     ensures storable { IsStorable geometry.now.edition result }
 {
     let at = place_of(geometry.edition, i);
+    let size = size_in(image, geometry.edition, at);
     let addresses = addresses(image, geometry.edition, at);
     let mode = Mode {
         bits: image.word(at),
@@ -112,7 +146,7 @@ pub fn inode(image: &Image, geometry: &Geometry, i: u16) -> Inode
             links: u16::from(image.byte(at + 2)),
             uid: u16::from(image.byte(at + 3)),
             gid: u16::from(image.byte(at + 4)),
-            size: u32::from(image.byte(at + 5)) * 0x1_0000 + u32::from(image.word(at + 6)),
+            size,
             addresses,
             accessed: image.long(at + 24),
             modified: image.long(at + 28),
@@ -123,7 +157,7 @@ pub fn inode(image: &Image, geometry: &Geometry, i: u16) -> Inode
             links: image.word(at + 2),
             uid: image.word(at + 4),
             gid: image.word(at + 6),
-            size: image.long(at + 8),
+            size,
             addresses,
             accessed: image.long(at + 52),
             modified: image.long(at + 56),
@@ -161,11 +195,7 @@ pub fn size(image: &Image, geometry: &Geometry, i: u16) -> u32
     requires last { i ≤ geometry.now.last_inode }
     ensures { result ≡ size_at geometry.now.edition image.now (inode_place geometry.now.edition i) }
 {
-    let at = place_of(geometry.edition, i);
-    match geometry.edition {
-        Edition::V6 => u32::from(image.byte(at + 5)) * 0x1_0000 + u32::from(image.word(at + 6)),
-        Edition::V7 => image.long(at + 8),
-    }
+    size_in(image, geometry.edition, place_of(geometry.edition, i))
 }
 
 /// Address `k` of i-node `i` of a volume, from 1 to the last, of 13 addresses; those from 8 on are 0 in
@@ -196,8 +226,7 @@ fn put_head_v6(image: &mut Image, at: usize, node: &Inode)
     image.put_byte(at + 2, node.links as u8);
     image.put_byte(at + 3, node.uid as u8);
     image.put_byte(at + 4, node.gid as u8);
-    image.put_byte(at + 5, (node.size / 0x1_0000) as u8);
-    image.put_word(at + 6, (node.size % 0x1_0000) as u16);
+    put_size_in(image, Edition::V6, at, node.size);
 }
 
 /// Puts what stands before the addresses of a seventh edition i-node, its first 12 bytes.
@@ -215,7 +244,7 @@ fn put_head_v7(image: &mut Image, at: usize, node: &Inode)
     image.put_word(at + 2, node.links);
     image.put_word(at + 4, node.uid);
     image.put_word(at + 6, node.gid);
-    image.put_long(at + 8, node.size);
+    put_size_in(image, Edition::V7, at, node.size);
 }
 
 /// Puts the times that both editions have, two longs from byte `at` on.
@@ -351,14 +380,7 @@ pub fn put_size(image: &mut Image, geometry: &Geometry, i: u16, size: u32)
         (size_place geometry.now.edition i + size_bytes geometry.now.edition) }
 {
     let at = place_of(geometry.edition, i);
-    let _ = image.len();
-    match geometry.edition {
-        Edition::V6 => {
-            image.put_byte(at + 5, (size / 0x1_0000) as u8);
-            image.put_word(at + 6, (size % 0x1_0000) as u16);
-        }
-        Edition::V7 => image.put_long(at + 8, size),
-    }
+    put_size_in(image, geometry.edition, at, size);
 }
 
 /// Puts the mode of i-node `i` of a volume, from 1 to the last. No other byte changes.

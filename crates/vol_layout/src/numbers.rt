@@ -1,5 +1,5 @@
 //! Arrays of block numbers: in the super-block, in the blocks that the free list is chained by, and in
-//! the pointer blocks of files. Words in the sixth edition, longs in the seventh.
+//! the indirect blocks of files. Words in the sixth edition, longs in the seventh.
 ghost use Rattle.std.specs.Prelude.{◌≡◌, ◌+◌, ◌*◌, ◌<◌, ◌≤◌, length};
 ghost use Rattle.pdp_words.specs.Words.{SameOutside};
 ghost use Rattle.vol_layout.specs.Edition.{constants, number};

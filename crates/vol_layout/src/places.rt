@@ -59,7 +59,7 @@ impl Form {
         }
     }
 
-    /// How many levels of pointer blocks stand between address `k` and the data. An i-node has at most 13
+    /// How many levels of indirect blocks stand between address `k` and the data. An i-node has at most 13
     /// addresses, counted from 0.
     pub fn levels(self, k: usize) -> u8
         requires { k ≤ 12 }

@@ -39,6 +39,10 @@ impl Flag {
 /// The byte where the super-block begins, which has 512.
 pub const SUPER: usize = 512;
 
+/// Bytes of a count and its array, of which the free list has one in the super-block and one in each chain
+/// block: 2, and then 100 words in the sixth edition or 50 longs in the seventh.
+pub const HEAD_BYTES: usize = 202;
+
 /// The super-block of an image of an edition: each method reads or puts one field, of an image of at
 /// least 1024 bytes.
 #[derive(Clone, Copy, Debug, PartialEq, Eq)]

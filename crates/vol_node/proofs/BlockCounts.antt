@@ -44,7 +44,7 @@ flat_within f a (suc n) m each =
     length-append (f a) (flat_map f (range_with_len (a + 1) n)) in
     omega (arith, first, rest, both)
 
--- no pointer block holds more than 256 numbers
+-- no indirect block holds more than 256 numbers
 pub few_pointers : (edition : Edition) → (constants edition).pointers ≤ 256
 few_pointers V6 = omega arith
 few_pointers V7 = omega arith
@@ -134,7 +134,7 @@ entries_few geometry image d b n low few =
     omega (arith, most_here, found)) in
     omega (arith, all)
 
--- no file has more than three levels of pointer blocks, and none has more than 13 addresses
+-- no file has more than three levels of indirect blocks, and none has more than 13 addresses
 pub few_levels : (form : Form) (k : ℕ) → k < first_count form → levels form k ≤ 3
 few_levels Small k low = omega arith
 few_levels Large k low = elim (cases_eq k 7) [

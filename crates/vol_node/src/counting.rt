@@ -12,7 +12,7 @@ use vol_layout::{Form, Geometry, number};
 /// How many blocks the places of i-node `i` name, those of pointers and those of data alike. What has no
 /// places has none.
 ///
-/// Costs one read for each entry of the file's pointer blocks.
+/// Costs one read for each entry of the file's indirect blocks.
 pub fn place_count(image: &Image, geometry: &Geometry, i: u16) -> u32
     requires whole { IsWhole geometry.now image.now }
     requires first { 1 ≤ i }

@@ -39,7 +39,7 @@ fn the_block_for_the_old_addresses_is_the_first_indirect_one(rt: HostRuntime) {
 static WITH_POINTERS: [Row; 3] = [(70_656, 1, 3), (1_082_201_087, 1, 4), (5118, 4, 3)];
 
 #[test]
-fn a_way_needs_its_pointer_blocks(rt: HostRuntime) {
+fn a_way_needs_its_indirect_blocks(rt: HostRuntime) {
     let mut image = zeros(&rt, rt.alloc(), 51_200);
     put_file_v7(&mut image, 0);
     check_rows(&rt, &image, &SEVENTH, FILE, &WITH_POINTERS);

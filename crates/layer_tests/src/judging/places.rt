@@ -99,7 +99,7 @@ fn two_files_name_one_block(rt: HostRuntime) {
 static ITSELF: [Word; 3] = [(FIRST, 0o150755), (FIRST + 8, 4), (BLOCK * 4, 4)];
 
 #[test]
-fn a_pointer_block_names_itself(rt: HostRuntime) {
+fn an_indirect_block_names_itself(rt: HostRuntime) {
     check_sixth(&rt, rt.alloc(), &ITSELF, false, 7);
 }
 
@@ -112,7 +112,7 @@ static RING: [Word; 4] = [
 ];
 
 #[test]
-fn pointer_blocks_name_one_another_in_a_ring(rt: HostRuntime) {
+fn indirect_blocks_name_one_another_in_a_ring(rt: HostRuntime) {
     check_seventh(&rt, rt.alloc(), &RING, 7);
 }
 
@@ -154,7 +154,7 @@ fn a_block_is_followed_in_more_levels_the_second_time(rt: HostRuntime) {
 }
 
 #[test]
-fn many_ways_to_a_pointer_block_cost_no_more_than_one_for_each_level(rt: HostRuntime) {
+fn many_ways_to_an_indirect_block_cost_no_more_than_one_for_each_level(rt: HostRuntime) {
     let mut bytes = volume(&rt, rt.alloc(), 1010, &WIDE, &[]);
     put_many_ways(&mut bytes);
     put_words(&mut bytes, &[(ROOT, 0o040755)]);

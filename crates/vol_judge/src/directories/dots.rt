@@ -9,7 +9,7 @@ ghost use Rattle.vol_judge.specs.InodeMarks.{IsNamed, HasUps, MarksChildren};
 ghost use Rattle.vol_judge.specs.Stepping.{rank};
 
 use crate::inode_marks::{are_marked, root_marked};
-use crate::reading::{Place, is_directory, last_number, next_entry};
+use crate::reading::{Place, is_directory, next_entry};
 use pdp_words::Image;
 use std::alloc::{AllocError, Global};
 use vol_dir::find;
@@ -46,7 +46,7 @@ fn name_themselves(image: &Image, geometry: &Geometry) -> bool
     ensures { IsTrue result ↔ ((d : ℕ) → IsDirectory geometry.now image.now d
         → (s : ℕ) × HasEntry geometry.now image.now d s dot d) }
 {
-    for d in 1..=last_number(geometry) {
+    for d in 1..=geometry.last_inode {
         if is_directory(image, geometry, d)
             && named_in(image, geometry, d, b".".as_slice()) != Some(d)
         {
@@ -74,7 +74,7 @@ fn ups(alloc: Global, image: &Image, geometry: &Geometry) -> Result<Vec<Option<u
     ensures { IfOk result (λ ups. HasUps geometry.now image.now ups.items) }
 {
     let mut ups = vec![in alloc; None; geometry.last_inode as usize + 1]?;
-    for d in 1..=last_number(geometry) {
+    for d in 1..=geometry.last_inode {
         if is_directory(image, geometry, d) {
             ups[d as usize] = named_in(image, geometry, d, b"..".as_slice());
         }

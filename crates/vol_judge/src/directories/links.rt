@@ -5,10 +5,10 @@ ghost use Rattle.vol_dir.specs.Entries.{HasEntries};
 ghost use Rattle.vol_judge.specs.Directories.{HasLinks};
 ghost use Rattle.vol_judge.specs.Counting.{HasCounts, IsCounted};
 
-use crate::reading::{Place, last_number, next_entry};
+use crate::reading::{Place, next_entry};
 use pdp_words::Image;
 use std::alloc::{AllocError, Global};
-use vol_layout::i_list::{inode, mode};
+use vol_layout::i_list::{inode, kind};
 use vol_layout::{Geometry, Kind};
 
 /// Whether rule 12 holds of a volume on which rule 9 holds.
@@ -48,7 +48,7 @@ fn are_counted(image: &Image, geometry: &Geometry, counts: &[u64]) -> bool
     requires counts { HasCounts geometry.now image.now counts.now }
     ensures { IsTrue result ↔ ((i : ℕ) → 1 ≤ i → i ≤ geometry.now.last_inode → IsCounted geometry.now image.now i (slice_index counts.now i)) }
 {
-    for i in 1..=last_number(geometry) {
+    for i in 1..=geometry.last_inode {
         if !is_counted(image, geometry, i, counts[i as usize]) {
             return false;
         }
@@ -64,6 +64,6 @@ fn is_counted(image: &Image, geometry: &Geometry, i: u16, count: u64) -> bool
     ensures { IsTrue result ↔ IsCounted geometry.now image.now i count }
 {
     let links = u64::from(inode(image, geometry, i).links);
-    mode(image, geometry, i).kind(geometry.edition) == Kind::Free
+    kind(image, geometry, i) == Kind::Free
         || links == count && (i < geometry.edition.constants().root || 1 <= links)
 }

@@ -14,10 +14,8 @@ use crate::blank::blocks::{first_chain, put_free_head};
 use crate::making::volume_of;
 use pdp_words::{BLOCK, Image};
 use vol_layout::slot::SLOT;
+use vol_layout::super_block::HEAD_BYTES;
 use vol_layout::{Edition, Geometry, Inode, Mode, Slot, Super, put_inode};
-
-/// Bytes of a count and its array: 2, and then 100 words in the sixth edition or 50 longs in the seventh.
-const HEAD_BYTES: usize = 202;
 
 /// How many blocks of a volume stand up to the first of the i-list.
 pub const FIRST_BLOCKS: u32 = 3;

@@ -15,13 +15,13 @@ use Rattle.vol_commands.specs.declared.cat.CatFault.{CatFault}
 use Rattle.vol_commands.specs.declared.cat.CatFault.TheVariants as faults
 
 -- the status that the program ends with at a fault: 1 for a refusal, 3 for a file, 4 for memory (this project)
-abbrev pub status_of : CatFault → ℕ
-status_of faults.Device = 3
-status_of (faults.Writer written) = 3
-status_of faults.NoMemory = 4
-status_of (faults.Unsound fault) = 1
-status_of faults.NoEntry = 1
-status_of faults.NotRegular = 1
+abbrev pub cat_status : CatFault → ℕ
+cat_status faults.Device = 3
+cat_status (faults.Writer written) = 3
+cat_status faults.NoMemory = 4
+cat_status (faults.Unsound fault) = 1
+cat_status faults.NoEntry = 1
+cat_status faults.NotRegular = 1
 
 -- a fault that an image which was read gives rise to (this project)
 abbrev pub IsOfImage : CatFault → Type 0

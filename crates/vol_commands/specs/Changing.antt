@@ -8,7 +8,7 @@ use Rattle.vol_volume.specs.Answer.{answer}
 use Rattle.vol_volume.specs.Journal.{Refuses, MayFollow, IsLegal, after}
 use Rattle.vol_volume.specs.Step.{step}
 use Rattle.vol_volume.specs.Volume.{reads_as}
-use Rattle.vol_commands.specs.Faults.{user, status_at, line_at}
+use Rattle.vol_commands.specs.Faults.{user, fault_status, fault_line}
 use Rattle.vol_dir.specs.declared.refusal.Refusal.{Refusal}
 use Rattle.vol_dir.specs.declared.refusal.Refusal.TheVariants as refusals
 use Rattle.vol_layout.specs.declared.edition.Edition.{Edition}
@@ -50,7 +50,7 @@ pub record Changes (edition : Edition) (image : List ℕ) (calls : List Call) (s
   pub saved : answer.status ≡ 0 ↔ IsSome answer.image
   pub made : IfSome answer.image (λ bytes. Makes edition image calls bytes.items × said [])
   pub refused : IsNone answer.image
-      → (fault : Fault) × IsReason edition image calls fault × (answer.status ≡ status_at fault) × said (line_at fault)
+      → (fault : Fault) × IsReason edition image calls fault × (answer.status ≡ fault_status fault) × said (fault_line fault)
 
 -- what makes a file empty: a create with permissions 0644 where a question for it answers that it is missing, else a truncate (this project)
 abbrev pub emptying_by : Result Reply Refusal → ℕ → List ℕ → Call

@@ -12,11 +12,11 @@ abbrev pub user : Cred
 user = record { uid = 0; gid = 0 }
 
 -- the status that the program ends with at a fault: 1 for a refusal, 3 for the output, 4 for memory (this project)
-abbrev pub status_at : Fault → ℕ
-status_at (faults.Unsound rule) = 1
-status_at (faults.Refused refusals.NoMemory) = 4
-status_at (faults.Refused _) = 1
-status_at faults.Output = 3
+abbrev pub fault_status : Fault → ℕ
+fault_status (faults.Unsound rule) = 1
+fault_status (faults.Refused refusals.NoMemory) = 4
+fault_status (faults.Refused _) = 1
+fault_status faults.Output = 3
 
 -- the line of a refusal: its number and its name (this project)
 abbrev pub line_of_refusal : Refusal → List ℕ
@@ -44,10 +44,10 @@ abbrev pub line_of_rule : ℕ → List ℕ
 line_of_rule rule = codes "unixvol: unsound, rule " ++ short_decimal rule ++ codes "\n"
 
 -- the line of a fault on standard error (this project)
-abbrev pub line_at : Fault → List ℕ
-line_at (faults.Unsound rule) = line_of_rule rule
-line_at (faults.Refused refusal) = line_of_refusal refusal
-line_at faults.Output = codes "unixvol: cannot write -\n"
+abbrev pub fault_line : Fault → List ℕ
+fault_line (faults.Unsound rule) = line_of_rule rule
+fault_line (faults.Refused refusal) = line_of_refusal refusal
+fault_line faults.Output = codes "unixvol: cannot write -\n"
 
 -- want of memory (this project)
 abbrev pub no_memory : Fault

@@ -7,7 +7,7 @@ use Rattle.vol_dir.specs.Names.{Names}
 use Rattle.vol_judge.specs.Sound.{IsSound, IsLeastBroken}
 use Rattle.vol_volume.specs.Answer.{answer}
 use Rattle.vol_volume.specs.Volume.{reads_as}
-use Rattle.vol_commands.specs.Faults.{status_at, line_at}
+use Rattle.vol_commands.specs.Faults.{fault_status, fault_line}
 use Rattle.vol_dir.specs.declared.refusal.Refusal.{Refusal}
 use Rattle.vol_dir.specs.declared.refusal.Refusal.TheVariants as refusals
 use Rattle.vol_layout.specs.declared.edition.Edition.{Edition}
@@ -69,4 +69,4 @@ pub record Shows (edition : Edition) (image : List ℕ) (query : Query) (printed
   pub unsaved : answer.image ≡ None
   pub shown : answer.status ≡ 0 → printed (Ok tt) × said []
   pub refused : answer.status ≢ 0
-      → (fault : Fault) × printed (Err fault) × (answer.status ≡ status_at fault) × said (line_at fault)
+      → (fault : Fault) × printed (Err fault) × (answer.status ≡ fault_status fault) × said (fault_line fault)

@@ -1,6 +1,6 @@
 //! Why a command on a mounted volume fails.
 ghost use Rattle.std.specs.Prelude.{◌≡◌, ◌≤◌};
-ghost use Rattle.vol_commands.specs.Faults.{status_at, line_at, line_of_rule, line_of_refusal, no_memory, IsRuled};
+ghost use Rattle.vol_commands.specs.Faults.{fault_status, fault_line, line_of_rule, line_of_refusal, no_memory, IsRuled};
 
 use std::alloc::AllocError;
 use vol_dir::Refusal;
@@ -19,7 +19,7 @@ pub enum Fault {
 impl Fault {
     /// The status that the program ends with: 1 for a refusal, 3 for the output, 4 for memory.
     pub fn status(self) -> u8
-        ensures { result ≡ status_at self }
+        ensures { result ≡ fault_status self }
     {
         match self {
             Fault::Unsound(_) => 1,
@@ -32,7 +32,7 @@ impl Fault {
     /// The line on standard error, with its newline.
     pub fn line(self) -> &'static str
         requires { IsRuled self }
-        ensures { result.now ≡ line_at self }
+        ensures { result.now ≡ fault_line self }
     {
         match self {
             Fault::Unsound(rule) => unsound_line(rule),

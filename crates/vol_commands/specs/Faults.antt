@@ -1,9 +1,11 @@
 -- What the commands on a mounted volume have in common: their user, and what they answer where they fail.
-use Rattle.std.specs.Prelude.{◌≡◌, ℕ, ◌≤◌, ◌+◌, ◌/◌, ◌%◌, ◌++◌, Bool, false, nat_lt, if◌then◌else◌, List, [], ◌∷◌, Option, codes}
+use Rattle.std.specs.Prelude.{◌≡◌, ℕ, ◌≤◌, ◌+◌, ◌/◌, ◌%◌, ◌++◌, Bool, false, true, nat_lt, if◌then◌else◌, List, [], ◌∷◌, Option, codes}
 use Rattle.std.specs.Io.KnownBytes.{Appends}
+use Rattle.vol_judge.specs.Sound.{IsSound, IsLeastBroken}
 use Rattle.vol_dir.specs.declared.cred.Cred.{Cred}
 use Rattle.vol_dir.specs.declared.refusal.Refusal.{Refusal}
 use Rattle.vol_dir.specs.declared.refusal.Refusal.TheVariants as refusals
+use Rattle.vol_layout.specs.declared.edition.Edition.{Edition}
 use Rattle.vol_commands.specs.declared.faults.Fault.{Fault}
 use Rattle.vol_commands.specs.declared.faults.Fault.TheVariants as faults
 
@@ -58,6 +60,13 @@ abbrev pub IsRuled : Fault → Type 0
 IsRuled (faults.Unsound rule) = (1 ≤ rule) × (rule ≤ 12)
 IsRuled (faults.Refused refusal) = Unit {0}
 IsRuled faults.Output = Unit {0}
+
+-- a reason not to do what was asked: want of memory, the least rule that the image breaks, or a refusal of which this holds, of a sound image (this project)
+abbrev pub IsCause : Edition → List ℕ → (Refusal → Type 0) → Fault → Type 0
+IsCause edition image refused (faults.Unsound rule) = IsLeastBroken true edition image rule
+IsCause edition image refused (faults.Refused refusals.NoMemory) = Unit {0}
+IsCause edition image refused (faults.Refused refusal) = IsSound edition image × refused refusal
+IsCause edition image refused faults.Output = ⊥
 
 -- a stream that didn't fail got these bytes (this project)
 abbrev pub Gets : Bool → Option (List ℕ) → Option (List ℕ) → List ℕ → Type 0

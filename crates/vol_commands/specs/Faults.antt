@@ -6,6 +6,8 @@ use Rattle.vol_dir.specs.declared.cred.Cred.{Cred}
 use Rattle.vol_dir.specs.declared.refusal.Refusal.{Refusal}
 use Rattle.vol_dir.specs.declared.refusal.Refusal.TheVariants as refusals
 use Rattle.vol_layout.specs.declared.edition.Edition.{Edition}
+use Rattle.vol_volume.specs.declared.volume.MountFault.{MountFault}
+use Rattle.vol_volume.specs.declared.volume.MountFault.TheVariants as mounts
 use Rattle.vol_commands.specs.declared.faults.Fault.{Fault}
 use Rattle.vol_commands.specs.declared.faults.Fault.TheVariants as faults
 
@@ -54,6 +56,11 @@ fault_line faults.Output = codes "unixvol: cannot write -\n"
 -- want of memory (this project)
 abbrev pub no_memory : Fault
 no_memory = faults.Refused refusals.NoMemory
+
+-- the fault of a command whose volume isn't mounted for this reason (this project)
+abbrev pub unmounted : MountFault → Fault
+unmounted (mounts.Unsound rule) = faults.Unsound rule
+unmounted mounts.NoMemory = no_memory
 
 -- the rule that a fault names is one of the twelve (this project)
 abbrev pub IsRuled : Fault → Type 0

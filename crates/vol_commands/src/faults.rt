@@ -1,9 +1,10 @@
 //! Why a command on a mounted volume fails.
 ghost use Rattle.std.specs.Prelude.{◌≡◌, ◌≤◌};
-ghost use Rattle.vol_commands.specs.Faults.{fault_status, fault_line, line_of_rule, line_of_refusal, no_memory, IsRuled};
+ghost use Rattle.vol_commands.specs.Faults.{fault_status, fault_line, line_of_rule, line_of_refusal, no_memory, unmounted, IsRuled};
 
 use std::alloc::AllocError;
 use vol_dir::Refusal;
+use vol_volume::MountFault;
 
 /// Why a command on a mounted volume did not do what it was asked for.
 #[derive(Clone, Copy, Debug, PartialEq, Eq)]
@@ -47,6 +48,17 @@ impl From<AllocError> for Fault {
 
     fn from(_: AllocError) -> Fault {
         Fault::Refused(Refusal::NoMemory)
+    }
+}
+
+impl From<MountFault> for Fault {
+    ghost from_gives = { λ why fault. fault ≡ unmounted why };
+
+    fn from(why: MountFault) -> Fault {
+        match why {
+            MountFault::Unsound(rule) => Fault::Unsound(rule),
+            MountFault::NoMemory => Fault::Refused(Refusal::NoMemory),
+        }
     }
 }
 

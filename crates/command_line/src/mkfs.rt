@@ -29,7 +29,7 @@ pub(super) fn command<'a>(alloc: Global, editions: &'a [&'a str]) -> Result<Comm
         .arg(required(alloc, NOW, texts::NOW))
 }
 
-/// The command up to the sizes of the volume.
+/// The command `mkfs` with its words up to the sizes of the volume.
 fn with_sizes<'a>(alloc: Global, editions: &'a [&'a str]) -> Result<Command<'a>, AllocError>
     ensures { IfOk result (λ command. shape command ≡ command_shape editions.entry (codes "mkfs")
         (codes "IMAGE" ∷ codes "FSIZE" ∷ codes "IBLOCKS" ∷ [])) }

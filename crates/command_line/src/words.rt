@@ -104,7 +104,7 @@ pub fn of_edition<'a>(
         .arg(edition_argument(alloc, editions))
 }
 
-/// The word that names the edition of the volume.
+/// The argument for the word that names the edition of the volume.
 #[tactic(auto, unfolding(crate::specs::Words::rule, crate::specs::Words::edition_rule))]
 pub fn edition_argument<'a>(alloc: Global, editions: &'a [&'a str]) -> Arg<'a>
     ensures { rule result ≡ edition_rule editions.entry }
@@ -115,7 +115,7 @@ pub fn edition_argument<'a>(alloc: Global, editions: &'a [&'a str]) -> Arg<'a>
         .help(texts::EDITION)
 }
 
-/// A word that is required.
+/// An argument for a word that is required.
 #[tactic(auto, unfolding(crate::specs::Words::rule, crate::specs::Words::word_rule))]
 pub fn required<'a>(alloc: Global, name: &'a str, help: &'a str) -> Arg<'a>
     ensures { rule result ≡ word_rule name.entry.now }

@@ -24,7 +24,7 @@ own_within (suc zero) other = (omega arith, λ e. omega arith)
 own_within (suc (suc n)) other =
     let four : suc (suc n) ≡ 4 = other (λ e. omega arith) (λ e. omega arith) in (omega arith, λ e. omega arith)
 
--- those of a file are 3 and 4
+-- the statuses where a file can't be read or written, or memory ran out, are 3 and 4
 file_within : (status : ℕ) → IsStatusOfFileOrMemory status → (3 ≤ status) × (status ≤ 4)
 file_within status file = elim file [ inl e ↦ (omega arith, omega arith) | inr e ↦ (omega arith, omega arith) ]
 

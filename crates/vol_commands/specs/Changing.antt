@@ -31,7 +31,7 @@ pub record Makes (edition : Edition) (image : List ℕ) (calls : List Call) (byt
   pub sound : IsSound edition bytes
   pub around : StaysAround (geometry_of edition image) image bytes
 
--- of calls, made one after another, the first that isn't accepted is refused so (this project)
+-- of calls, made one after another, the first that isn't accepted meets this refusal (this project)
 abbrev pub AreRefused : State → List Call → Refusal → Type 0
 AreRefused state [] refusal = ⊥
 AreRefused state (call ∷ calls) refusal = Refuses state call refusal
@@ -48,7 +48,7 @@ pub record Changes (edition : Edition) (image : List ℕ) (calls : List Call) (s
   pub refused : IsNone answer.image
       → (fault : Fault) × IsReason edition image calls fault × (answer.status ≡ fault_status fault) × said (fault_line fault)
 
--- what makes a file empty: a create with permissions 0644 where a question for it answers that it is missing, else a truncate (this project)
+-- the call that makes a file empty: a create with permissions 0644 where a question for it answers that it is missing, else a truncate (this project)
 abbrev pub emptying_by : Result Reply Refusal → ℕ → List ℕ → Call
 emptying_by (Err refusals.NoEntry) now path = calls.Create user now path 0o644
 emptying_by _ now path = calls.Truncate user now path

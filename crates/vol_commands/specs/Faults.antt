@@ -15,7 +15,7 @@ use Rattle.vol_commands.specs.declared.faults.Fault.TheVariants as faults
 abbrev pub user : Cred
 user = record { uid = 0; gid = 0 }
 
--- the status that the program ends with at a fault: 1 for a refusal, 3 for the output, 4 for memory (this project)
+-- the status that the program ends with at a fault of a command on a mounted volume: 1 for a refusal, 3 for the output, 4 for memory (this project)
 abbrev pub fault_status : Fault → ℕ
 fault_status (faults.Unsound rule) = 1
 fault_status (faults.Refused refusals.NoMemory) = 4
@@ -47,13 +47,13 @@ short_decimal n = if nat_lt n 10 then (48 + n) ∷ [] else (48 + n / 10) ∷ (48
 abbrev pub line_of_rule : ℕ → List ℕ
 line_of_rule rule = codes "unixvol: unsound, rule " ++ short_decimal rule ++ codes "\n"
 
--- the line of a fault on standard error (this project)
+-- the line on standard error of a fault of a command on a mounted volume (this project)
 abbrev pub fault_line : Fault → List ℕ
 fault_line (faults.Unsound rule) = line_of_rule rule
 fault_line (faults.Refused refusal) = line_of_refusal refusal
 fault_line faults.Output = codes "unixvol: cannot write -\n"
 
--- want of memory (this project)
+-- the fault of a command that wants memory (this project)
 abbrev pub no_memory : Fault
 no_memory = faults.Refused refusals.NoMemory
 

@@ -142,7 +142,7 @@ fn push_line(text: &mut Vec<u8>, name: &[u8], number: u16) -> Result<(), AllocEr
     Ok(())
 }
 
-/// A number, right-aligned.
+/// A number, right-aligned in five places.
 fn padded(number: u16) -> [u8; 5]
     ensures { result ≡ padded_number number }
 {

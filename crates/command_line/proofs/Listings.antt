@@ -50,7 +50,7 @@ IsTaken editions edition program image path =
     (faults_of (unixvol_app editions) (program ∷ codes "ls" ∷ word_of edition ∷ image ∷ path ∷ []) ≡ [])
     × (seen (command_in (unixvol_app editions) (program ∷ codes "ls" ∷ word_of edition ∷ image ∷ path ∷ [])) ≡ codes "ls" ∷ word_of edition ∷ image ∷ path ∷ [])
 
--- it does so of words that begin with no hyphen
+-- the command line takes the words of `ls` where the file and the path begin with no hyphen
 taken : (p q r : ℕ × ℕ) (edition : Edition) (name image path : List ℕ) → IsPlainWord image → IsPlainWord path → IsTaken (names_at p q r) edition name image path
 unfolding clap_on_literals faults_of command_in unixvol_app program with_command command_shape with_argument named word_rule edition_rule
 taken p q r V6 name [] [] image path = (refl, refl)
@@ -83,7 +83,7 @@ edition_is V6 V7 named = absurd (true≢false (sym (same _ _ named)))
 edition_is V7 V6 named = absurd (true≢false (sym (same _ _ named)))
 edition_is V7 V7 named = refl
 
--- and its word is the one that names it
+-- the word of an edition is the one that names it
 word_is : (edition : Edition) (word : List ℕ) → IsEditionNamed edition word → word ≡ word_of edition
 word_is V6 word named = named
 word_is V7 word named = named
@@ -102,7 +102,7 @@ asks_listing given edition image path (OnVolume volume (jobs.Rmdir p now)) test 
 asks_listing given edition image path (OnVolume volume (jobs.Mkdir p now)) test e_is i_is p_is is = absurd (true≢false (sym test))
 asks_listing given edition image path (OnVolume volume (jobs.Ln from to now)) test e_is i_is p_is is = absurd (true≢false (sym test))
 
--- and by what was met
+-- what `ls` asks for, by the command that was met and the rows of its words
 listed : (met : Option (List ℕ × List Row)) (edition : Edition) (image path : List ℕ) (invocation : Invocation) → seen met ≡ codes "ls" ∷ word_of edition ∷ image ∷ path ∷ []
     → Asks met invocation → IsListing edition image path invocation
 listed None edition image path invocation is asks = absurd asks
@@ -116,7 +116,7 @@ word_names : (edition : Edition) → IsEditionNamed edition (word_of edition)
 word_names V6 = refl
 word_names V7 = refl
 
--- and a listing is asked for by such words
+-- where the words of `ls` were met, they ask for that listing
 listing_asks : (met : Option (List ℕ × List Row)) (edition : Edition) (image path : List ℕ) (invocation : Invocation)
     → seen met ≡ codes "ls" ∷ word_of edition ∷ image ∷ path ∷ [] → IsListing edition image path invocation → Asks met invocation
 listing_asks None edition image path invocation is listed = absurd (cc)

@@ -30,7 +30,7 @@ pub simple : (editions : Bor (List (Bor (List ℕ)))) → is_simple (unixvol_app
 unfolding unixvol_app program with_command command_shape with_argument named word_rule edition_rule
 simple editions = refl
 
--- and what it refuses
+-- clap's contract gives what a parse of this command line refuses
 pub simple_and_free : (editions : Bor (List (Bor (List ℕ)))) → is_simple_and_free (unixvol_app editions) ≡ true
 unfolding unixvol_app program with_command command_shape with_argument named word_rule edition_rule
 simple_and_free editions = refl
@@ -72,7 +72,7 @@ edition_given given (Cat volume ino) none is = named_edition volume.edition _ no
 edition_given given (Mkfs image volume) none is = named_edition volume.edition _ none is.1.0
 edition_given given (OnVolume volume job) none is = named_edition volume.edition _ none is.0.0
 
--- texts that are one pass the test for that
+-- texts that are the same pass the test for that
 pub same : (one other : List ℕ) → one ≡ other → bytes_eq one other ≡ true
 same one other is = (bytes_eq-Decides one other).1 is
 
@@ -99,7 +99,7 @@ sizes_given given volume (inr (inr (inr (inl none)))) is = none is.3.0
 sizes_given given volume (inr (inr (inr (inr (inl none))))) is = none is.4.0
 sizes_given given volume (inr (inr (inr (inr (inr none))))) is = none is.5.0
 
--- and `mkfs` has a new volume
+-- `mkfs` has a new volume
 new_volume_given : (given : List ℕ → List ℕ) (invocation : Invocation) → bytes_eq (codes "mkfs") (command_name invocation) ≡ true → IsNoNewVolume given
     → IsGiven given invocation → ⊥
 new_volume_given given (Cat volume ino) test none is = absurd (true≢false (sym test))
@@ -145,7 +145,7 @@ no_value name given (inr (inr (inl (is, none)))) invocation asks = new_volume_gi
 no_value name given (inr (inr (inr (change, inl none)))) invocation asks = edition_given given invocation none asks.1
 no_value name given (inr (inr (inr (change, inr none)))) invocation asks = moment_given given invocation (change_test _ (subst IsChange asks.0 change)) none asks.1
 
--- nor where the name is that of no command
+-- where the name is that of no command, nothing is asked for
 no_command : (name : List ℕ) (given : List ℕ → List ℕ) → IsNoCommand name → (invocation : Invocation) → AsksFor name given invocation → ⊥
 no_command name given none (Cat volume ino) asks = none.0 asks.0
 no_command name given none (Mkfs image volume) asks = none.3 asks.0
@@ -165,7 +165,7 @@ asked matches values name (Ok (Some invocation)) named rows_are asks = asks_by_r
 asked matches values name (Ok None) named rows_are asks = tt
 asked matches values name (Err e) named rows_are asks = tt
 
--- and for nothing where that is no command
+-- what a parse found asks for nothing where the name that it met is that of no command
 pub missed : {E : Type 0} (matches values : ArgMatches) (name : List ℕ) (result : Result (Option Invocation) E) → Some name ≡ subcommand_name_of matches
     → Some (rows_of (found_of values)) ≡ option_map (λ p. p.1) (subcommand_rows_of matches)
     → IfOk result (λ found. found ≡ None → IsNoCommand name) → IfOk result (λ found. found ≡ None → AsksNothing (subcommand_rows_of matches))
@@ -174,7 +174,7 @@ missed matches values name (Ok found) named rows_are none = λ is invocation ask
     no_command name (given_in values) (none is) invocation (asked_by_rows matches values name invocation (sym named) (sym rows_are) asks)
 missed matches values name (Err e) named rows_are none = tt
 
--- nor where one of its words is no value
+-- what a parse found asks for nothing where one of the words is no value
 pub refused : {T : Type 0} (matches values : ArgMatches) (name : List ℕ) (result : Result T Error) → Some name ≡ subcommand_name_of matches
     → Some (rows_of (found_of values)) ≡ option_map (λ p. p.1) (subcommand_rows_of matches)
     → IfErr result (TellsOf (IsNoValue name (given_in values))) → IfErr result (TellsOf (AsksNothing (subcommand_rows_of matches)))
@@ -202,14 +202,14 @@ pub met_by : (command : Command) (editions : Bor (List (Bor (List ℕ)))) (words
 unfolding app command_in
 met_by command editions words matches is has = (has (ap is_simple is ∙ simple editions)).1 ∙ ap (λ (a : App). subcommand_of a words) is
 
--- what it tells of the words that it refuses
+-- what a parse of the command line tells of the words that it refuses
 pub tells : (command : Command) (editions : Bor (List (Bor (List ℕ)))) (words : List (List ℕ)) (error : Error) → app command ≡ unixvol_app editions
     → (is_simple_and_free (app_of command) ≡ true → HasKind (fault_of (app_of command) words) error) → HasKind (faults_of (unixvol_app editions) words) error
 unfolding app faults_of
 tells command editions words error is fails =
     subst (λ (a : App). HasKind (fault_of a words) error) is (fails (ap is_simple_and_free is ∙ simple_and_free editions))
 
--- and that it tells nothing of those that it takes
+-- a parse of the command line tells nothing of the words that it takes
 pub takes : (command : Command) (editions : Bor (List (Bor (List ℕ)))) (words : List (List ℕ)) → app command ≡ unixvol_app editions
     → (is_simple_and_free (app_of command) ≡ true → fault_of (app_of command) words ≡ []) → faults_of (unixvol_app editions) words ≡ []
 unfolding app faults_of
@@ -229,26 +229,26 @@ pub refuses : (editions : Bor (List (Bor (List ℕ)))) (words : List (List ℕ))
 unfolding IsRefused
 refuses editions words error are kind = (editions, are, inl kind)
 
--- the words that it takes ask for nothing
+-- the command line takes the words, and they ask for nothing
 pub asks_nothing : (editions : Bor (List (Bor (List ℕ)))) (words : List (List ℕ)) (matches : ArgMatches) (error : Error) → AreEditions editions
     → faults_of (unixvol_app editions) words ≡ [] → subcommand_rows_of matches ≡ command_in (unixvol_app editions) words
     → HasKind (kinds.ValueValidation ∷ kinds.MissingSubcommand ∷ []) error → AsksNothing (subcommand_rows_of matches) → IsRefused words error
 unfolding IsRefused
 asks_nothing editions words matches error are taken is kind none = (editions, are, inr (taken, kind, subst AsksNothing is none))
 
--- a word is no value
+-- the command line takes the words, and one of them is no value
 pub tells_of : (editions : Bor (List (Bor (List ℕ)))) (words : List (List ℕ)) (matches : ArgMatches) (error : Error) → AreEditions editions
     → faults_of (unixvol_app editions) words ≡ [] → subcommand_rows_of matches ≡ command_in (unixvol_app editions) words
     → TellsOf (AsksNothing (subcommand_rows_of matches)) error → IsRefused words error
 tells_of editions words matches error are taken is (inl memory) = refuses editions words error are (inl memory)
 tells_of editions words matches error are taken is (inr (kind, none)) = asks_nothing editions words matches error are taken is (inr (inl kind)) none
 
--- what holds of an error that is handed on
+-- what holds of an error holds of an outcome that hands it on
 pub handed_on : {T : Type 0} (result : Result T Error) (error : Error) (P : Error → Type 0) → IsErrAnd result (λ e. e ≡ error) → P error → IfErr result P
 handed_on (Ok value) error P is holds = tt
 handed_on (Err e) error P is holds = rw is holds
 
--- where memory ran out
+-- where memory ran out, the words are refused
 pub memory_ran_out : {T : Type 0} (result : Result T Error) (editions : Bor (List (Bor (List ℕ)))) (words : List (List ℕ)) → AreEditions editions
     → IsErrAnd result (λ e. kind_of e ≡ kinds.OutOfMemory) → IfErr result (IsRefused words)
 memory_ran_out (Ok value) editions words are is = tt

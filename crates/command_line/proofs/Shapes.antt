@@ -94,14 +94,14 @@ unfolding shape app with_command
 adds_command old command new before editions name arguments added is was =
     added.shape (no_globals command (ap (λ (s : Shape). s.is_plain) is ∙ command_plain editions name arguments)) ∙ ap₂ with_subcommand was is
 
--- the same of a command that was made
+-- one more command, which was made with the memory for it
 pub adds_made : {E : Type 0} (old new : Command) (one : Result Command E) (before : App) (editions : Bor (List (Bor (List ℕ)))) (name : List ℕ)
     (arguments : List (List ℕ)) → IsOkAnd one (λ made. AddsSubcommand old made new) → IfOk one (λ made. shape made ≡ command_shape editions name arguments)
     → app old ≡ before → app new ≡ with_command before (command_shape editions name arguments)
 adds_made old new (Ok made) before editions name arguments added is was = adds_command old made new before editions name arguments added is was
 adds_made old new (Err e) before editions name arguments added is was = absurd added
 
--- the same, where the memory for it was there
+-- one more command, where the memory for making it and for adding it was there
 pub adds_last_made : {E : Type 0} (result : Result Command E) (old : Command) (one : Result Command E) (before : App) (editions : Bor (List (Bor (List ℕ))))
     (name : List ℕ) (arguments : List (List ℕ)) → IfOk result (λ new. IsOkAnd one (λ made. AddsSubcommand old made new))
     → IfOk one (λ made. shape made ≡ command_shape editions name arguments) → app old ≡ before

@@ -40,7 +40,7 @@ word_or_empty None = []
 abbrev pub given_in : ArgMatches → List ℕ → List ℕ
 given_in values argument = word_or_empty (first_value (found_of values) argument)
 
--- the same, from the rows that a parse makes of the words (this project)
+-- the first word that was given for an argument, or the empty one, by the rows that a parse makes of the words (this project)
 abbrev pub given_by : List Row → List ℕ → List ℕ
 given_by rows argument = word_or_empty (first_of argument rows)
 
@@ -64,7 +64,7 @@ command_name (OnVolume volume job) = job_name job
 abbrev pub IsVolumeGiven : (List ℕ → List ℕ) → VolumeFile → Type 0
 IsVolumeGiven given volume = IsEditionNamed volume.edition (given (codes "EDITION")) × (volume.image.now ≡ given (codes "IMAGE"))
 
--- they describe this new volume (this project)
+-- the words that were given for the arguments describe this new volume (this project)
 abbrev pub IsNewVolumeGiven : (List ℕ → List ℕ) → NewVolume → Type 0
 IsNewVolumeGiven given volume = IsEditionNamed volume.edition (given (codes "EDITION"))
     × IsNumberGiven 4294967295 (given (codes "FSIZE")) volume.blocks
@@ -135,7 +135,7 @@ abbrev pub Asks : Option (List ℕ × List Row) → Invocation → Type 0
 Asks None invocation = ⊥
 Asks (Some met) invocation = AsksFor met.0 (given_by met.1) invocation
 
--- it asks for nothing (this project)
+-- the command that was met, if any, asks for nothing (this project)
 unfoldable pub AsksNothing : Option (List ℕ × List Row) → Type 0
 AsksNothing met = (invocation : Invocation) → Asks met invocation → ⊥
 

@@ -6,6 +6,6 @@ use Rattle.std.specs.Str.Parse.{IsNumeral, digits_value}
 abbrev pub IsNumberUpTo : ℕ → List ℕ → Type 0
 IsNumberUpTo most text = IsNumeral 10 text × (digits_value 10 text ≤ most)
 
--- the text is such a number, and it is this one (this project)
+-- the text is one or more decimal digits and nothing else, and their value, which is at most `most`, is this number (this project)
 abbrev pub IsNumberGiven : ℕ → List ℕ → ℕ → Type 0
 IsNumberGiven most text number = IsNumberUpTo most text × (number ≡ digits_value 10 text)

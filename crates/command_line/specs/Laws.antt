@@ -12,7 +12,7 @@ use Rattle.vol_layout.specs.declared.edition.Edition.{Edition}
 abbrev pub IsPlainWord : List ℕ → Type 0
 IsPlainWord word = slice_index word 0 ≢ 45
 
--- it is the names in the directory of this path that are asked for (this project)
+-- what is asked for is the names in the directory of this path, of the volume of this edition in this file (this project)
 abbrev pub IsListing : Edition → List ℕ → List ℕ → Invocation → Type 0
 IsListing edition image path (OnVolume volume (jobs.Ls directory)) =
     (volume.edition ≡ edition) × (volume.image.now ≡ image) × (directory.now ≡ path)

@@ -123,7 +123,7 @@ fn command_line<'a>(alloc: Global, editions: &'a [&'a str]) -> Result<Command<'a
     with_changes(alloc, editions, command)
 }
 
-/// With the commands that print something of a volume.
+/// Adds the commands that print something of a volume to the command line.
 fn with_prints<'a>(
     alloc: Global,
     editions: &'a [&'a str],
@@ -136,7 +136,7 @@ fn with_prints<'a>(
     with_one_more(command, volumes::get_command(alloc, editions))
 }
 
-/// With the commands that make or change a volume.
+/// Adds the commands that make or change a volume to the command line.
 fn with_changes<'a>(
     alloc: Global,
     editions: &'a [&'a str],
@@ -152,7 +152,7 @@ fn with_changes<'a>(
     with_one_more(command, volumes::ln_command(alloc, editions))
 }
 
-/// With one more command, where the memory for it was there.
+/// Adds one more command to the command line, where the memory for making it was there.
 fn with_one_more<'a>(
     command: Command<'a>,
     one: Result<Command<'a>, AllocError>,

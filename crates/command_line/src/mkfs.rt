@@ -3,7 +3,7 @@ ghost use Rattle.std.specs.Prelude.{◌≡◌, ◌∷◌, [], IfOk, IfErr, codes
 ghost use Rattle.command_line.specs.Words.{shape, command_shape};
 ghost use Rattle.command_line.specs.CommandLine.{AsksFor, IsNoNewVolume, TellsOf, given_in};
 
-use super::words::{IMAGE, NOW, Verb, edition_in, long_in, of_edition, required, word_in};
+use super::words::{IMAGE, NOW, Verb, edition_in, long_in, of_edition, required, text_in, word_in};
 use super::{Invocation, texts};
 use clap::{ArgMatches, Command, Error};
 use std::alloc::{AllocError, Global};
@@ -29,7 +29,7 @@ pub(super) fn command<'a>(alloc: Global, editions: &'a [&'a str]) -> Result<Comm
         .arg(required(alloc, NOW, texts::NOW))
 }
 
-/// The command up to the sizes of the volume.
+/// The command `mkfs` with its words up to the sizes of the volume.
 fn with_sizes<'a>(alloc: Global, editions: &'a [&'a str]) -> Result<Command<'a>, AllocError>
     ensures { IfOk result (λ command. shape command ≡ command_shape editions.entry (codes "mkfs")
         (codes "IMAGE" ∷ codes "FSIZE" ∷ codes "IBLOCKS" ∷ [])) }
@@ -46,7 +46,7 @@ pub(super) fn read<'a>(alloc: Global, values: &ArgMatches<'a>) -> Result<Invocat
     ensures read { IfOk result (AsksFor (codes "mkfs") (given_in values.now)) }
     ensures refused { IfErr result (TellsOf (IsNoNewVolume (given_in values.now))) }
 {
-    let image = values.get_str(IMAGE).unwrap_or("");
+    let image = text_in(values, IMAGE);
     let volume = NewVolume {
         edition: edition_in(alloc, Verb::Mkfs, values)?,
         blocks: long_in(alloc, Verb::Mkfs, values, BLOCKS)?,

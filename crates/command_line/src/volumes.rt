@@ -1,9 +1,9 @@
 //! The words of the commands on the tree of a volume.
 ghost use Rattle.std.specs.Prelude.{◌≡◌, ◌∷◌, [], IfOk, IfErr, codes};
 ghost use Rattle.command_line.specs.Words.{shape, command_shape};
-ghost use Rattle.command_line.specs.CommandLine.{AsksFor, IsNoChange, IsNoEdition, IsVolumeGiven, TellsOf, given_in};
+ghost use Rattle.command_line.specs.CommandLine.{AsksFor, IsMomentGiven, IsNoChange, IsNoEdition, IsVolumeGiven, TellsOf, given_in};
 
-use super::words::{IMAGE, NOW, Verb, edition_in, long_in, on_volume, required};
+use super::words::{IMAGE, NOW, Verb, edition_in, long_in, on_volume, required, text_in};
 use super::{Invocation, VolumeFile, texts};
 use clap::{ArgMatches, Command, Error};
 use std::alloc::{AllocError, Global};
@@ -126,7 +126,7 @@ pub(super) fn read_ls<'a>(alloc: Global, values: &ArgMatches<'a>) -> Result<Invo
     ensures refused { IfErr result (TellsOf (IsNoEdition (given_in values.now (codes "EDITION")))) }
 {
     let volume = volume_in(alloc, Verb::Ls, values)?;
-    let path = values.get_str(PATH).unwrap_or("");
+    let path = text_in(values, PATH);
     let job = Job::Ls { path };
     Ok(Invocation::OnVolume { volume, job })
 }
@@ -137,7 +137,7 @@ pub(super) fn read_get<'a>(alloc: Global, values: &ArgMatches<'a>) -> Result<Inv
     ensures refused { IfErr result (TellsOf (IsNoEdition (given_in values.now (codes "EDITION")))) }
 {
     let volume = volume_in(alloc, Verb::Get, values)?;
-    let path = values.get_str(PATH).unwrap_or("");
+    let path = text_in(values, PATH);
     let job = Job::Get { path };
     Ok(Invocation::OnVolume { volume, job })
 }
@@ -147,10 +147,9 @@ pub(super) fn read_put<'a>(alloc: Global, values: &ArgMatches<'a>) -> Result<Inv
     ensures read { IfOk result (AsksFor (codes "put") (given_in values.now)) }
     ensures refused { IfErr result (TellsOf (IsNoChange (given_in values.now))) }
 {
-    let volume = volume_in(alloc, Verb::Put, values)?;
-    let path = values.get_str(PATH).unwrap_or("");
-    let file = values.get_str(FILE).unwrap_or("");
-    let now = long_in(alloc, Verb::Put, values, NOW)?;
+    let (volume, now) = volume_and_now(alloc, Verb::Put, values)?;
+    let path = text_in(values, PATH);
+    let file = text_in(values, FILE);
     let job = Job::Put { path, file, now };
     Ok(Invocation::OnVolume { volume, job })
 }
@@ -160,9 +159,8 @@ pub(super) fn read_rm<'a>(alloc: Global, values: &ArgMatches<'a>) -> Result<Invo
     ensures read { IfOk result (AsksFor (codes "rm") (given_in values.now)) }
     ensures refused { IfErr result (TellsOf (IsNoChange (given_in values.now))) }
 {
-    let volume = volume_in(alloc, Verb::Rm, values)?;
-    let path = values.get_str(PATH).unwrap_or("");
-    let now = long_in(alloc, Verb::Rm, values, NOW)?;
+    let (volume, now) = volume_and_now(alloc, Verb::Rm, values)?;
+    let path = text_in(values, PATH);
     let job = Job::Rm { path, now };
     Ok(Invocation::OnVolume { volume, job })
 }
@@ -175,9 +173,8 @@ pub(super) fn read_rmdir<'a>(
     ensures read { IfOk result (AsksFor (codes "rmdir") (given_in values.now)) }
     ensures refused { IfErr result (TellsOf (IsNoChange (given_in values.now))) }
 {
-    let volume = volume_in(alloc, Verb::Rmdir, values)?;
-    let path = values.get_str(PATH).unwrap_or("");
-    let now = long_in(alloc, Verb::Rmdir, values, NOW)?;
+    let (volume, now) = volume_and_now(alloc, Verb::Rmdir, values)?;
+    let path = text_in(values, PATH);
     let job = Job::Rmdir { path, now };
     Ok(Invocation::OnVolume { volume, job })
 }
@@ -190,9 +187,8 @@ pub(super) fn read_mkdir<'a>(
     ensures read { IfOk result (AsksFor (codes "mkdir") (given_in values.now)) }
     ensures refused { IfErr result (TellsOf (IsNoChange (given_in values.now))) }
 {
-    let volume = volume_in(alloc, Verb::Mkdir, values)?;
-    let path = values.get_str(PATH).unwrap_or("");
-    let now = long_in(alloc, Verb::Mkdir, values, NOW)?;
+    let (volume, now) = volume_and_now(alloc, Verb::Mkdir, values)?;
+    let path = text_in(values, PATH);
     let job = Job::Mkdir { path, now };
     Ok(Invocation::OnVolume { volume, job })
 }
@@ -202,12 +198,25 @@ pub(super) fn read_ln<'a>(alloc: Global, values: &ArgMatches<'a>) -> Result<Invo
     ensures read { IfOk result (AsksFor (codes "ln") (given_in values.now)) }
     ensures refused { IfErr result (TellsOf (IsNoChange (given_in values.now))) }
 {
-    let volume = volume_in(alloc, Verb::Ln, values)?;
-    let from = values.get_str(FROM).unwrap_or("");
-    let to = values.get_str(TO).unwrap_or("");
-    let now = long_in(alloc, Verb::Ln, values, NOW)?;
+    let (volume, now) = volume_and_now(alloc, Verb::Ln, values)?;
+    let from = text_in(values, FROM);
+    let to = text_in(values, TO);
     let job = Job::Ln { from, to, now };
     Ok(Invocation::OnVolume { volume, job })
+}
+
+/// The volume that is to be changed, and the moment, as they were given.
+fn volume_and_now<'a>(
+    alloc: Global,
+    verb: Verb,
+    values: &ArgMatches<'a>,
+) -> Result<(VolumeFile<'a>, u32), Error>
+    ensures read { IfOk result (λ (volume, now). IsVolumeGiven (given_in values.now) volume × IsMomentGiven (given_in values.now) now) }
+    ensures refused { IfErr result (TellsOf (IsNoChange (given_in values.now))) }
+{
+    let volume = volume_in(alloc, verb, values)?;
+    let now = long_in(alloc, verb, values, NOW)?;
+    Ok((volume, now))
 }
 
 /// The edition and the file of the volume that were given.
@@ -220,6 +229,6 @@ pub(super) fn volume_in<'a>(
     ensures refused { IfErr result (TellsOf (IsNoEdition (given_in values.now (codes "EDITION")))) }
 {
     let edition = edition_in(alloc, verb, values)?;
-    let image = values.get_str(IMAGE).unwrap_or("");
+    let image = text_in(values, IMAGE);
     Ok(VolumeFile { edition, image })
 }

@@ -104,7 +104,7 @@ pub fn of_edition<'a>(
         .arg(edition_argument(alloc, editions))
 }
 
-/// The word that names the edition of the volume.
+/// The argument for the word that names the edition of the volume.
 #[tactic(auto, unfolding(crate::specs::Words::rule, crate::specs::Words::edition_rule))]
 pub fn edition_argument<'a>(alloc: Global, editions: &'a [&'a str]) -> Arg<'a>
     ensures { rule result ≡ edition_rule editions.entry }
@@ -115,7 +115,7 @@ pub fn edition_argument<'a>(alloc: Global, editions: &'a [&'a str]) -> Arg<'a>
         .help(texts::EDITION)
 }
 
-/// A word that is required.
+/// An argument for a word that is required.
 #[tactic(auto, unfolding(crate::specs::Words::rule, crate::specs::Words::word_rule))]
 pub fn required<'a>(alloc: Global, name: &'a str, help: &'a str) -> Arg<'a>
     ensures { rule result ≡ word_rule name.entry.now }
@@ -123,12 +123,19 @@ pub fn required<'a>(alloc: Global, name: &'a str, help: &'a str) -> Arg<'a>
     Arg::new(alloc, name).required(true).help(help)
 }
 
+/// The word that was given for an argument, or the empty one.
+pub fn text_in<'a>(values: &ArgMatches<'a>, name: &str) -> &'a str
+    ensures { result.now ≡ given_in values.now name.now }
+{
+    values.get_str(name).unwrap_or("")
+}
+
 /// The edition that was given.
 pub fn edition_in(alloc: Global, verb: Verb, values: &ArgMatches<'_>) -> Result<Edition, Error>
     ensures read { IfOk result (λ edition. IsEditionNamed edition (given_in values.now (codes "EDITION"))) }
     ensures refused { IfErr result (TellsOf (IsNoEdition (given_in values.now (codes "EDITION")))) }
 {
-    let text = values.get_str(EDITION).unwrap_or("");
+    let text = text_in(values, EDITION);
     match edition_of(text) {
         Some(edition) => Ok(edition),
         None => Err(wrong_value(alloc, verb, EDITION, text, texts::EDITIONS)?),
@@ -140,7 +147,7 @@ pub fn word_in(alloc: Global, verb: Verb, values: &ArgMatches<'_>, name: &str) -
     ensures read { IfOk result (λ number. IsNumberGiven 65535 (given_in values.now name.now) number) }
     ensures refused { IfErr result (TellsOf (IsNumberUpTo 65535 (given_in values.now name.now) → ⊥)) }
 {
-    let text = values.get_str(name).unwrap_or("");
+    let text = text_in(values, name);
     match word_of(text) {
         Some(number) => Ok(number),
         None => Err(wrong_value(alloc, verb, name, text, texts::WORD)?),
@@ -152,7 +159,7 @@ pub fn long_in(alloc: Global, verb: Verb, values: &ArgMatches<'_>, name: &str) -
     ensures read { IfOk result (λ number. IsNumberGiven 4294967295 (given_in values.now name.now) number) }
     ensures refused { IfErr result (TellsOf (IsNumberUpTo 4294967295 (given_in values.now name.now) → ⊥)) }
 {
-    let text = values.get_str(name).unwrap_or("");
+    let text = text_in(values, name);
     match long_of(text) {
         Some(number) => Ok(number),
         None => Err(wrong_value(alloc, verb, name, text, texts::LONG)?),

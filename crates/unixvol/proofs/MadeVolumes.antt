@@ -5,7 +5,7 @@ use Rattle.vol_volume.specs.Blank.{Blank, blank_of, IsMade}
 use Rattle.vol_volume.specs.Mkfs.{is_size, is_bad_id}
 use Rattle.vol_commands.specs.Faults.{Gets}
 use Rattle.vol_commands.specs.Jobs.{Streams}
-use Rattle.vol_commands.specs.Making.{line_of_status}
+use Rattle.vol_commands.specs.Making.{mkfs_line_at}
 use Rattle.vol_commands.specs.declared.making.Made.{Made}
 use Rattle.vol_commands.specs.declared.making.NewVolume.{NewVolume}
 use Rattle.unixvol.specs.Running.{IsStatusOfFileOrMemory, MadeSaved, RunsMkfs}
@@ -24,16 +24,16 @@ own_within (suc zero) other = (omega arith, λ e. omega arith)
 own_within (suc (suc n)) other =
     let four : suc (suc n) ≡ 4 = other (λ e. omega arith) (λ e. omega arith) in (omega arith, λ e. omega arith)
 
--- those of a file are 3 and 4
+-- the statuses where a file can't be read or written, or memory ran out, are 3 and 4
 file_within : (status : ℕ) → IsStatusOfFileOrMemory status → (3 ≤ status) × (status ≤ 4)
 file_within status file = elim file [ inl e ↦ (omega arith, omega arith) | inr e ↦ (omega arith, omega arith) ]
 
 -- the line that is told is that of the status
 pub told_at : (volume : NewVolume) (status known : ℕ) (failed : Bool) (old new : Option (List ℕ))
-    → Gets failed old new (line_of_status (is_size volume.edition volume.blocks volume.list_blocks) status) → status ≡ known
-    → Gets failed old new (line_of_status (is_size volume.edition volume.blocks volume.list_blocks) known)
+    → Gets failed old new (mkfs_line_at (is_size volume.edition volume.blocks volume.list_blocks) status) → status ≡ known
+    → Gets failed old new (mkfs_line_at (is_size volume.edition volume.blocks volume.list_blocks) known)
 told_at volume status known failed old new line is =
-    subst (λ n. Gets failed old new (line_of_status (is_size volume.edition volume.blocks volume.list_blocks) n)) is line
+    subst (λ n. Gets failed old new (mkfs_line_at (is_size volume.edition volume.blocks volume.list_blocks) n)) is line
 
 -- what `mkfs` comes to, where what it made was saved or wasn't
 pub runs_by : (streams : Streams) (taken : List ℕ → Type 0) (volume : NewVolume) (made : Made) (status : ℕ)
@@ -41,8 +41,8 @@ pub runs_by : (streams : Streams) (taken : List ℕ → Type 0) (volume : NewVol
     → (made.status ≡ 0 ↔ IsSome made.volume)
     → (made.status ≡ 1 ↔ ((is_size volume.edition volume.blocks volume.list_blocks ≡ false) ⊎ (is_bad_id volume.edition volume.uid volume.gid ≡ true)))
     → (made.status ≢ 0 → made.status ≢ 1 → made.status ≡ 4) → Keeps streams.old streams.new → streams.failed ≡ streams.had_failed
-    → (made.status ≡ 0 → streams.said []) → (made.status ≡ 1 → streams.said (line_of_status (is_size volume.edition volume.blocks volume.list_blocks) 1))
-    → (made.status ≡ 4 → streams.said (line_of_status (is_size volume.edition volume.blocks volume.list_blocks) 4))
+    → (made.status ≡ 0 → streams.said []) → (made.status ≡ 1 → streams.said (mkfs_line_at (is_size volume.edition volume.blocks volume.list_blocks) 1))
+    → (made.status ≡ 4 → streams.said (mkfs_line_at (is_size volume.edition volume.blocks volume.list_blocks) 4))
     → MadeSaved taken made status → RunsMkfs streams taken volume status
 runs_by streams taken volume made status is done refused memory unprinted unused quiet told wanting saved = elim saved [
   | inl own ↦ record {

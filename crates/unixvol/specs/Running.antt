@@ -7,9 +7,9 @@ use Rattle.clap.specs.declared.error.kind.ErrorKind.{ErrorKind}
 use Rattle.clap.specs.declared.error.kind.ErrorKind.TheVariants as kinds
 use Rattle.vol_volume.specs.Blank.{blank_of, IsMade}
 use Rattle.vol_volume.specs.Mkfs.{is_size, is_bad_id}
-use Rattle.vol_commands.specs.Cat.{Cats, IsNoWriters, status_of}
+use Rattle.vol_commands.specs.Cat.{Cats, IsNoWriters, cat_status}
 use Rattle.vol_commands.specs.Jobs.{Streams, Does}
-use Rattle.vol_commands.specs.Making.{line_of_status}
+use Rattle.vol_commands.specs.Making.{mkfs_line_at}
 use Rattle.vol_layout.specs.declared.edition.Edition.{Edition}
 use Rattle.vol_commands.specs.declared.answer.Answer.{Answer}
 use Rattle.vol_commands.specs.declared.cat.CatFault.{CatFault}
@@ -28,7 +28,7 @@ IsStatusOfFileOrMemory status = (status ≡ 3) ⊎ (status ≡ 4)
 -- the status after `cat`: 0, or that of its fault (this project)
 abbrev pub status_after : Result (Unit {0}) CatFault → ℕ
 status_after (Ok done) = 0
-status_after (Err fault) = status_of fault
+status_after (Err fault) = cat_status fault
 
 -- `cat` prints of some image: what goes out, that standard output failed where its fault is a writer's and else no more than before, and the status (this project)
 abbrev pub PrintsBody : Option (List ℕ) → Option (List ℕ) → Bool → Bool → Edition → ℕ → ℕ → Type 0
@@ -53,9 +53,9 @@ pub record RunsMkfs (streams : Streams) (taken : List ℕ → Type 0) (volume : 
       → (bytes : List ℕ)
       × IsMade (blank_of volume.edition volume.blocks volume.list_blocks volume.uid volume.gid volume.now) bytes × taken bytes
   pub quiet : status ≡ 0 → streams.said []
-  pub told : status ≡ 1 → streams.said (line_of_status (is_size volume.edition volume.blocks volume.list_blocks) 1)
+  pub told : status ≡ 1 → streams.said (mkfs_line_at (is_size volume.edition volume.blocks volume.list_blocks) 1)
   pub other : status ≢ 0 → status ≢ 1
-      → streams.said [] ⊎ streams.said (line_of_status (is_size volume.edition volume.blocks volume.list_blocks) 4)
+      → streams.said [] ⊎ streams.said (mkfs_line_at (is_size volume.edition volume.blocks volume.list_blocks) 4)
 
 -- the status after an answer: its own, where its image, if any, was taken, or that of a file (this project)
 abbrev pub EndsSaved : (List ℕ → Type 0) → Answer → ℕ → Type 0

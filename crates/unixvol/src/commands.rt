@@ -5,7 +5,7 @@ ghost use Rattle.std.specs.IoError.{error_kind};
 ghost use Rattle.std.specs.declared.io.ErrorKind.TheVariants as io_kinds;
 ghost use Rattle.clap.specs.Words.{kind_of};
 ghost use Rattle.clap.specs.declared.error.kind.ErrorKind.TheVariants as clap_kinds;
-ghost use Rattle.vol_commands.specs.Cat.{Cats, IsNoWriters, status_of};
+ghost use Rattle.vol_commands.specs.Cat.{Cats, IsNoWriters, cat_status};
 ghost use Rattle.vol_commands.specs.Faults.{Gets};
 ghost use Rattle.vol_commands.specs.declared.cat.CatFault.TheVariants as faults;
 ghost use Rattle.unixvol.specs.Running.{IsStatusOfFileOrMemory, EndsSaved, MadeSaved, PrintsBody, RunsJob, Runs, RunsWords, Ends};
@@ -260,7 +260,7 @@ fn explain_unwritten(rt: &impl Eprint, path: &str) -> u8
 
 /// Prints the line of a fault of `cat`, and answers its status.
 fn explain_cat(rt: &impl Eprint, fault: CatFault, image: &str) -> u8
-    ensures { result ≡ status_of fault }
+    ensures { result ≡ cat_status fault }
 {
     // Where standard error can't be written either, the status tells.
     let _ = match fault {

@@ -22,7 +22,7 @@ const PRIVATE: u32 = 0o600;
 /// What is saved in a file.
 #[derive(Clone, Copy, Debug)]
 pub enum Content<'a> {
-    /// These bytes.
+    /// Bytes that stand in memory.
     Bytes(&'a [u8]),
     /// A new volume, whose bytes are made as they go out.
     Volume(&'a BlankVolume),

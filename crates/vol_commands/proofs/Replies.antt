@@ -53,13 +53,13 @@ greatest_short : (edition : Edition) → (constants edition).greatest ≤ 429496
 greatest_short V6 = omega arith
 greatest_short V7 = omega arith
 
--- nor is a body longer
+-- no body has more bytes than one query asks for
 body_short : (geometry : Geometry) (image : List ℕ) (i : ℕ) → length (body geometry image i) ≤ 4294967295
 body_short geometry image i =
     let len : length (body geometry image i) ≡ body_size geometry image i = length-body geometry image i in
     omega (arith, greatest_short geometry.edition)
 
--- nor what a node of some kind holds
+-- what an i-node of some kind holds has no more bytes than one query asks for
 content_short : (geometry : Geometry) (image : List ℕ) (i : ℕ) (node : Inode) (kind : Kind)
     → length (body_of (unwrap_or (option_map (node_with node) (content_of geometry image i kind)) no_node).content) ≤ 4294967295
 content_short geometry image i node kinds.Free = omega arith
@@ -68,13 +68,13 @@ content_short geometry image i node kinds.Regular = body_short geometry image i
 content_short geometry image i node kinds.Directory = omega arith
 content_short geometry image i node kinds.Special = omega arith
 
--- nor that of an i-number which may be none of the volume's
+-- what stands at an i-number, which may be none of the volume's, has no more bytes than one query asks for
 number_short : (is_one : Bool) (found : Option Node) → length (body_of (unwrap_or found no_node).content) ≤ 4294967295
     → length (body_of (unwrap_or (if is_one then found else None) no_node).content) ≤ 4294967295
 number_short true some short = short
 number_short false some short = omega arith
 
--- nor that of a tree's node
+-- what a node of a tree holds has no more bytes than one query asks for
 node_short : (geometry : Geometry) (image : List ℕ) (i : ℕ) → length (body_of (node_at (tree geometry image) i).content) ≤ 4294967295
 unfolding tree node_of
 node_short geometry image i =

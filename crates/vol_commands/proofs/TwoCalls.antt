@@ -53,7 +53,7 @@ made_by edition one two three first second done last sound accepted performed ac
   around = around_both edition one two three performed.changes.around performed_then.changes.around;
 }
 
--- the same of a volume
+-- two calls that a volume accepted, one after the other, made its bytes
 pub two_made : (old mid new : Mounted) (first second : Call) (done last : Done) → IsSound old.edition old.image
     → Accepts old mid first done → Accepts mid new second last → Makes old.edition old.image (first ∷ second ∷ []) new.image
 two_made old mid new first second done last sound one two =
@@ -99,7 +99,7 @@ refused_second old mid first second done refusal sound one refuses =
     refused_reason old.edition old.image (first ∷ second ∷ []) refusal sound
     (inr (done, record { accepted = one.accepted; answered = one.performed.answered }, inl there))
 
--- the same of an outcome
+-- after an accepted call, an outcome that is a refusal of another is a reason
 pub refused_then : (result : Result (Unit {0}) Fault) (old mid : Mounted) (first second asked wanted : Call) → first ≡ asked → second ≡ wanted
     → IsSound old.edition old.image → (done : Done) × Accepts old mid first done
     → IfErr result (λ fault. (refusal : Refusal) × (fault ≡ faults.Refused refusal) × Refuses (reads_as mid.edition mid.image) second refusal)

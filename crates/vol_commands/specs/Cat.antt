@@ -14,14 +14,14 @@ use Rattle.vol_layout.specs.declared.mode.Kind.TheVariants as kinds
 use Rattle.vol_commands.specs.declared.cat.CatFault.{CatFault}
 use Rattle.vol_commands.specs.declared.cat.CatFault.TheVariants as faults
 
--- the status that the program ends with at a fault: 1 for a refusal, 3 for a file, 4 for memory (this project)
-abbrev pub status_of : CatFault → ℕ
-status_of faults.Device = 3
-status_of (faults.Writer written) = 3
-status_of faults.NoMemory = 4
-status_of (faults.Unsound fault) = 1
-status_of faults.NoEntry = 1
-status_of faults.NotRegular = 1
+-- the status that the program ends with at a fault of `cat`: 1 for a refusal, 3 for a file, 4 for memory (this project)
+abbrev pub cat_status : CatFault → ℕ
+cat_status faults.Device = 3
+cat_status (faults.Writer written) = 3
+cat_status faults.NoMemory = 4
+cat_status (faults.Unsound fault) = 1
+cat_status faults.NoEntry = 1
+cat_status faults.NotRegular = 1
 
 -- a fault that an image which was read gives rise to (this project)
 abbrev pub IsOfImage : CatFault → Type 0
@@ -45,13 +45,13 @@ printable geometry kinds.Free = Err faults.NoEntry
 printable geometry kinds.Special = Err faults.NotRegular
 printable geometry kinds.Odd = Err faults.NotRegular
 
--- the same by the i-number, which may be none of the volume's (this project)
+-- the geometry of an image in which i-node i, which may be none of the volume's, can be printed, or the first refusal that applies (this project)
 abbrev pub file_in : Geometry → List ℕ → ℕ → Result Geometry CatFault
 file_in geometry image i =
     if (i == 0) || nat_lt geometry.last_inode i then Err faults.NoEntry
     else printable geometry (kind_of geometry.edition (mode_of geometry image i))
 
--- the same by the geometry that was read (this project)
+-- the geometry that was read of an image, where i-node i can be printed, or the first refusal that applies: of the image, or of the i-node (this project)
 abbrev pub file_by : Result Geometry GeometryFault → List ℕ → ℕ → Result Geometry CatFault
 file_by (Ok geometry) image i = file_in geometry image i
 file_by (Err fault) image i = Err (faults.Unsound fault)

@@ -1,14 +1,14 @@
 -- What the commands that change a volume make, and why they don't.
-use Rattle.std.specs.Prelude.{◌≡◌, ◌⊎◌, ◌↔◌, ℕ, true, List, [], ◌∷◌, map, IsSome, IsNone, IfSome, Result, Err}
+use Rattle.std.specs.Prelude.{◌≡◌, ◌⊎◌, ◌↔◌, ℕ, List, [], ◌∷◌, map, IsSome, IsNone, IfSome, Result, Err}
 use Rattle.vol_layout.specs.Geometry.{geometry_of}
 use Rattle.vol_dir.specs.Tree.{Tree, State}
-use Rattle.vol_judge.specs.Sound.{IsSound, IsLeastBroken}
+use Rattle.vol_judge.specs.Sound.{IsSound}
 use Rattle.vol_node.specs.Whole.{StaysAround}
 use Rattle.vol_volume.specs.Answer.{answer}
 use Rattle.vol_volume.specs.Journal.{Refuses, MayFollow, IsLegal, after}
 use Rattle.vol_volume.specs.Step.{step}
 use Rattle.vol_volume.specs.Volume.{reads_as}
-use Rattle.vol_commands.specs.Faults.{user, status_at, line_at}
+use Rattle.vol_commands.specs.Faults.{user, fault_status, fault_line, IsCause}
 use Rattle.vol_dir.specs.declared.refusal.Refusal.{Refusal}
 use Rattle.vol_dir.specs.declared.refusal.Refusal.TheVariants as refusals
 use Rattle.vol_layout.specs.declared.edition.Edition.{Edition}
@@ -20,7 +20,6 @@ use Rattle.vol_volume.specs.declared.queries.Query.TheVariants as queries
 use Rattle.vol_volume.specs.declared.queries.Reply.{Reply}
 use Rattle.vol_commands.specs.declared.answer.Answer.{Answer}
 use Rattle.vol_commands.specs.declared.faults.Fault.{Fault}
-use Rattle.vol_commands.specs.declared.faults.Fault.TheVariants as faults
 
 -- the bytes are a sound image of what calls, made in turn, leave of a sound image; no byte changes but those that calls change (this project)
 pub record Makes (edition : Edition) (image : List ℕ) (calls : List Call) (bytes : List ℕ) : Type 0 where
@@ -32,27 +31,24 @@ pub record Makes (edition : Edition) (image : List ℕ) (calls : List Call) (byt
   pub sound : IsSound edition bytes
   pub around : StaysAround (geometry_of edition image) image bytes
 
--- of calls, made one after another, the first that isn't accepted is refused so (this project)
+-- of calls, made one after another, the first that isn't accepted meets this refusal (this project)
 abbrev pub AreRefused : State → List Call → Refusal → Type 0
 AreRefused state [] refusal = ⊥
 AreRefused state (call ∷ calls) refusal = Refuses state call refusal
     ⊎ ((done : Done) × MayFollow state (record { call = call; done = done }) × AreRefused (step state call done) calls refusal)
 
--- a reason not to make calls: want of memory, the least rule that the image breaks, or a refusal (this project)
+-- a reason not to make calls: want of memory, the least rule that the image breaks, or a refusal of one of them (this project)
 abbrev pub IsReason : Edition → List ℕ → List Call → Fault → Type 0
-IsReason edition image calls (faults.Unsound rule) = IsLeastBroken true edition image rule
-IsReason edition image calls (faults.Refused refusals.NoMemory) = Unit {0}
-IsReason edition image calls (faults.Refused refusal) = IsSound edition image × AreRefused (reads_as edition image) calls refusal
-IsReason edition image calls faults.Output = ⊥
+IsReason edition image calls fault = IsCause edition image (AreRefused (reads_as edition image) calls) fault
 
 -- what a command that makes calls comes to: bytes to be saved, status 0 and no line, or the status and the line of a reason (this project)
 pub record Changes (edition : Edition) (image : List ℕ) (calls : List Call) (said : List ℕ → Type 0) (answer : Answer) : Type 0 where
   pub saved : answer.status ≡ 0 ↔ IsSome answer.image
   pub made : IfSome answer.image (λ bytes. Makes edition image calls bytes.items × said [])
   pub refused : IsNone answer.image
-      → (fault : Fault) × IsReason edition image calls fault × (answer.status ≡ status_at fault) × said (line_at fault)
+      → (fault : Fault) × IsReason edition image calls fault × (answer.status ≡ fault_status fault) × said (fault_line fault)
 
--- what makes a file empty: a create with permissions 0644 where a question for it answers that it is missing, else a truncate (this project)
+-- the call that makes a file empty: a create with permissions 0644 where a question for it answers that it is missing, else a truncate (this project)
 abbrev pub emptying_by : Result Reply Refusal → ℕ → List ℕ → Call
 emptying_by (Err refusals.NoEntry) now path = calls.Create user now path 0o644
 emptying_by _ now path = calls.Truncate user now path

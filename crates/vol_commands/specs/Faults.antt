@@ -1,9 +1,13 @@
 -- What the commands on a mounted volume have in common: their user, and what they answer where they fail.
-use Rattle.std.specs.Prelude.{◌≡◌, ℕ, ◌≤◌, ◌+◌, ◌/◌, ◌%◌, ◌++◌, Bool, false, nat_lt, if◌then◌else◌, List, [], ◌∷◌, Option, codes}
+use Rattle.std.specs.Prelude.{◌≡◌, ℕ, ◌≤◌, ◌+◌, ◌/◌, ◌%◌, ◌++◌, Bool, false, true, nat_lt, if◌then◌else◌, List, [], ◌∷◌, Option, codes}
 use Rattle.std.specs.Io.KnownBytes.{Appends}
+use Rattle.vol_judge.specs.Sound.{IsSound, IsLeastBroken}
 use Rattle.vol_dir.specs.declared.cred.Cred.{Cred}
 use Rattle.vol_dir.specs.declared.refusal.Refusal.{Refusal}
 use Rattle.vol_dir.specs.declared.refusal.Refusal.TheVariants as refusals
+use Rattle.vol_layout.specs.declared.edition.Edition.{Edition}
+use Rattle.vol_volume.specs.declared.volume.MountFault.{MountFault}
+use Rattle.vol_volume.specs.declared.volume.MountFault.TheVariants as mounts
 use Rattle.vol_commands.specs.declared.faults.Fault.{Fault}
 use Rattle.vol_commands.specs.declared.faults.Fault.TheVariants as faults
 
@@ -11,12 +15,12 @@ use Rattle.vol_commands.specs.declared.faults.Fault.TheVariants as faults
 abbrev pub user : Cred
 user = record { uid = 0; gid = 0 }
 
--- the status that the program ends with at a fault: 1 for a refusal, 3 for the output, 4 for memory (this project)
-abbrev pub status_at : Fault → ℕ
-status_at (faults.Unsound rule) = 1
-status_at (faults.Refused refusals.NoMemory) = 4
-status_at (faults.Refused _) = 1
-status_at faults.Output = 3
+-- the status that the program ends with at a fault of a command on a mounted volume: 1 for a refusal, 3 for the output, 4 for memory (this project)
+abbrev pub fault_status : Fault → ℕ
+fault_status (faults.Unsound rule) = 1
+fault_status (faults.Refused refusals.NoMemory) = 4
+fault_status (faults.Refused _) = 1
+fault_status faults.Output = 3
 
 -- the line of a refusal: its number and its name (this project)
 abbrev pub line_of_refusal : Refusal → List ℕ
@@ -43,21 +47,33 @@ short_decimal n = if nat_lt n 10 then (48 + n) ∷ [] else (48 + n / 10) ∷ (48
 abbrev pub line_of_rule : ℕ → List ℕ
 line_of_rule rule = codes "unixvol: unsound, rule " ++ short_decimal rule ++ codes "\n"
 
--- the line of a fault on standard error (this project)
-abbrev pub line_at : Fault → List ℕ
-line_at (faults.Unsound rule) = line_of_rule rule
-line_at (faults.Refused refusal) = line_of_refusal refusal
-line_at faults.Output = codes "unixvol: cannot write -\n"
+-- the line on standard error of a fault of a command on a mounted volume (this project)
+abbrev pub fault_line : Fault → List ℕ
+fault_line (faults.Unsound rule) = line_of_rule rule
+fault_line (faults.Refused refusal) = line_of_refusal refusal
+fault_line faults.Output = codes "unixvol: cannot write -\n"
 
--- want of memory (this project)
+-- the fault of a command that wants memory (this project)
 abbrev pub no_memory : Fault
 no_memory = faults.Refused refusals.NoMemory
+
+-- the fault of a command whose volume isn't mounted for this reason (this project)
+abbrev pub unmounted : MountFault → Fault
+unmounted (mounts.Unsound rule) = faults.Unsound rule
+unmounted mounts.NoMemory = no_memory
 
 -- the rule that a fault names is one of the twelve (this project)
 abbrev pub IsRuled : Fault → Type 0
 IsRuled (faults.Unsound rule) = (1 ≤ rule) × (rule ≤ 12)
 IsRuled (faults.Refused refusal) = Unit {0}
 IsRuled faults.Output = Unit {0}
+
+-- a reason not to do what was asked: want of memory, the least rule that the image breaks, or a refusal of which this holds, of a sound image (this project)
+abbrev pub IsCause : Edition → List ℕ → (Refusal → Type 0) → Fault → Type 0
+IsCause edition image refused (faults.Unsound rule) = IsLeastBroken true edition image rule
+IsCause edition image refused (faults.Refused refusals.NoMemory) = Unit {0}
+IsCause edition image refused (faults.Refused refusal) = IsSound edition image × refused refusal
+IsCause edition image refused faults.Output = ⊥
 
 -- a stream that didn't fail got these bytes (this project)
 abbrev pub Gets : Bool → Option (List ℕ) → Option (List ℕ) → List ℕ → Type 0

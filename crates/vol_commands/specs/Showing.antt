@@ -4,12 +4,11 @@ use Rattle.std.specs.Io.KnownBytes.{Appends, Keeps}
 use Rattle.std.specs.List.{flat_map}
 use Rattle.pdp_words.specs.Devices.{AppendsFront}
 use Rattle.vol_dir.specs.Names.{Names}
-use Rattle.vol_judge.specs.Sound.{IsSound, IsLeastBroken}
+use Rattle.vol_judge.specs.Sound.{IsSound}
 use Rattle.vol_volume.specs.Answer.{answer}
 use Rattle.vol_volume.specs.Volume.{reads_as}
-use Rattle.vol_commands.specs.Faults.{status_at, line_at}
+use Rattle.vol_commands.specs.Faults.{fault_status, fault_line, IsCause}
 use Rattle.vol_dir.specs.declared.refusal.Refusal.{Refusal}
-use Rattle.vol_dir.specs.declared.refusal.Refusal.TheVariants as refusals
 use Rattle.vol_layout.specs.declared.edition.Edition.{Edition}
 use Rattle.vol_volume.specs.declared.queries.Query.{Query}
 use Rattle.vol_volume.specs.declared.queries.Reply.{Reply}
@@ -44,12 +43,9 @@ text_of (replies.Stat stat) = []
 abbrev pub answer_of : Edition → List ℕ → Query → Result Reply Refusal
 answer_of edition image query = answer (reads_as edition image).tree query
 
--- a reason to print nothing: want of memory, the least rule that the image breaks, or a refusal (this project)
+-- a reason to print nothing: want of memory, the least rule that the image breaks, or a refusal of the query (this project)
 abbrev pub IsObstacle : Edition → List ℕ → Query → Fault → Type 0
-IsObstacle edition image query (faults.Unsound rule) = IsLeastBroken true edition image rule
-IsObstacle edition image query (faults.Refused refusals.NoMemory) = Unit {0}
-IsObstacle edition image query (faults.Refused refusal) = IsSound edition image × (answer_of edition image query ≡ Err refusal)
-IsObstacle edition image query faults.Output = ⊥
+IsObstacle edition image query fault = IsCause edition image (λ refusal. answer_of edition image query ≡ Err refusal) fault
 
 -- the image is sound, and its reply to the query has this text (this project)
 abbrev pub Replies : Edition → List ℕ → Query → (List ℕ → Type 0) → Type 0
@@ -69,4 +65,4 @@ pub record Shows (edition : Edition) (image : List ℕ) (query : Query) (printed
   pub unsaved : answer.image ≡ None
   pub shown : answer.status ≡ 0 → printed (Ok tt) × said []
   pub refused : answer.status ≢ 0
-      → (fault : Fault) × printed (Err fault) × (answer.status ≡ status_at fault) × said (line_at fault)
+      → (fault : Fault) × printed (Err fault) × (answer.status ≡ fault_status fault) × said (fault_line fault)

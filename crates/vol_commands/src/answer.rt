@@ -1,6 +1,6 @@
 //! What the commands that make, change or show a volume answer.
 ghost use Rattle.std.specs.Prelude.{◌≡◌, IfOk, IfErr, OnOk, Some, None, []};
-ghost use Rattle.vol_commands.specs.Faults.{status_at, line_at, IsRuled, Gets};
+ghost use Rattle.vol_commands.specs.Faults.{fault_status, fault_line, IsRuled, Gets};
 
 use crate::faults::Fault;
 use pdp_words::{Sink, write_all};
@@ -20,8 +20,8 @@ pub fn conclude<E: Sink>(outcome: Result<Vec<u8>, Fault>, errors: &mut E) -> Ans
     requires { IfErr outcome IsRuled }
     ensures made { IfOk outcome (λ bytes. (result.image ≡ Some bytes) × (result.status ≡ 0)
         × Gets (E.failed errors.new) (E.contents errors.old) (E.contents errors.new) []) }
-    ensures fault { IfErr outcome (λ fault. (result.image ≡ None) × (result.status ≡ status_at fault)
-        × Gets (E.failed errors.new) (E.contents errors.old) (E.contents errors.new) (line_at fault)) }
+    ensures fault { IfErr outcome (λ fault. (result.image ≡ None) × (result.status ≡ fault_status fault)
+        × Gets (E.failed errors.new) (E.contents errors.old) (E.contents errors.new) (fault_line fault)) }
 {
     match outcome {
         Ok(bytes) => Answer {
@@ -41,8 +41,8 @@ pub fn report<E: Sink>(outcome: Result<(), Fault>, errors: &mut E) -> Answer
     requires { IfErr outcome IsRuled }
     ensures unsaved { result.image ≡ None }
     ensures shown { OnOk outcome ((result.status ≡ 0) × Gets (E.failed errors.new) (E.contents errors.old) (E.contents errors.new) []) }
-    ensures fault { IfErr outcome (λ fault. (result.status ≡ status_at fault)
-        × Gets (E.failed errors.new) (E.contents errors.old) (E.contents errors.new) (line_at fault)) }
+    ensures fault { IfErr outcome (λ fault. (result.status ≡ fault_status fault)
+        × Gets (E.failed errors.new) (E.contents errors.old) (E.contents errors.new) (fault_line fault)) }
 {
     let status = match outcome {
         Ok(()) => 0,
@@ -57,8 +57,8 @@ pub fn report<E: Sink>(outcome: Result<(), Fault>, errors: &mut E) -> Answer
 /// Writes the line of a fault, and answers its status. Where the line can't be written, the status tells.
 fn explain<E: Sink>(fault: Fault, errors: &mut E) -> u8
     requires { IsRuled fault }
-    ensures status { result ≡ status_at fault }
-    ensures line { Gets (E.failed errors.new) (E.contents errors.old) (E.contents errors.new) (line_at fault) }
+    ensures status { result ≡ fault_status fault }
+    ensures line { Gets (E.failed errors.new) (E.contents errors.old) (E.contents errors.new) (fault_line fault) }
 {
     let _ = write_all(errors, fault.line().as_bytes());
     fault.status()

@@ -4,7 +4,7 @@ ghost use Rattle.std.specs.Io.KnownBytes.{Appends};
 ghost use Rattle.pdp_words.specs.Devices.{AppendsFront};
 ghost use Rattle.vol_layout.specs.Geometry.{Fits};
 ghost use Rattle.vol_layout.specs.Body.{body};
-ghost use Rattle.vol_commands.specs.Cat.{file_of, Cats, status_of, IsNoWriters, IsOfImage};
+ghost use Rattle.vol_commands.specs.Cat.{file_of, Cats, cat_status, IsNoWriters, IsOfImage};
 
 use pdp_words::{Image, LoadFault, Sink, Source, load, write_all};
 use std::alloc::Global;
@@ -39,7 +39,7 @@ pub enum CatFault {
 impl CatFault {
     /// The status that the program ends with: 1 for a refusal, 3 for a file, 4 for memory.
     pub fn status(self) -> u8
-        ensures { result ≡ status_of self }
+        ensures { result ≡ cat_status self }
     {
         match self {
             CatFault::Device | CatFault::Writer(_) => 3,

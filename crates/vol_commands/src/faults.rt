@@ -1,9 +1,10 @@
 //! Why a command on a mounted volume fails.
 ghost use Rattle.std.specs.Prelude.{◌≡◌, ◌≤◌};
-ghost use Rattle.vol_commands.specs.Faults.{status_at, line_at, line_of_rule, line_of_refusal, no_memory, IsRuled};
+ghost use Rattle.vol_commands.specs.Faults.{fault_status, fault_line, line_of_rule, line_of_refusal, no_memory, unmounted, IsRuled};
 
 use std::alloc::AllocError;
 use vol_dir::Refusal;
+use vol_volume::MountFault;
 
 /// Why a command on a mounted volume did not do what it was asked for.
 #[derive(Clone, Copy, Debug, PartialEq, Eq)]
@@ -19,7 +20,7 @@ pub enum Fault {
 impl Fault {
     /// The status that the program ends with: 1 for a refusal, 3 for the output, 4 for memory.
     pub fn status(self) -> u8
-        ensures { result ≡ status_at self }
+        ensures { result ≡ fault_status self }
     {
         match self {
             Fault::Unsound(_) => 1,
@@ -32,7 +33,7 @@ impl Fault {
     /// The line on standard error, with its newline.
     pub fn line(self) -> &'static str
         requires { IsRuled self }
-        ensures { result.now ≡ line_at self }
+        ensures { result.now ≡ fault_line self }
     {
         match self {
             Fault::Unsound(rule) => unsound_line(rule),
@@ -47,6 +48,17 @@ impl From<AllocError> for Fault {
 
     fn from(_: AllocError) -> Fault {
         Fault::Refused(Refusal::NoMemory)
+    }
+}
+
+impl From<MountFault> for Fault {
+    ghost from_gives = { λ why fault. fault ≡ unmounted why };
+
+    fn from(why: MountFault) -> Fault {
+        match why {
+            MountFault::Unsound(rule) => Fault::Unsound(rule),
+            MountFault::NoMemory => Fault::Refused(Refusal::NoMemory),
+        }
     }
 }
 

@@ -4,7 +4,7 @@ ghost use Rattle.std.specs.Io.KnownBytes.{Keeps};
 ghost use Rattle.vol_volume.specs.Blank.{blank_of};
 ghost use Rattle.vol_volume.specs.Mkfs.{is_size, is_bad_id};
 ghost use Rattle.vol_commands.specs.Faults.{Gets};
-ghost use Rattle.vol_commands.specs.Making.{status_of_fault, line_of_fault, line_of_status};
+ghost use Rattle.vol_commands.specs.Making.{mkfs_status, mkfs_line, mkfs_line_at};
 
 use pdp_words::{Sink, write_all};
 use std::alloc::Global;
@@ -56,7 +56,7 @@ pub fn mkfs_command<O: Sink, E: Sink>(
         ⊎ (is_bad_id volume.edition volume.uid volume.gid ≡ true)) }
     ensures memory { result.status ≢ 0 → result.status ≢ 1 → result.status ≡ 4 }
     ensures line { Gets (E.failed errors.new) (E.contents errors.old) (E.contents errors.new)
-        (line_of_status (is_size volume.edition volume.blocks volume.list_blocks) result.status) }
+        (mkfs_line_at (is_size volume.edition volume.blocks volume.list_blocks) result.status) }
     ensures unprinted { Keeps (O.contents _output.old) (O.contents _output.new) }
     ensures unused { O.failed _output.new ≡ O.failed _output.old }
 {
@@ -82,8 +82,8 @@ pub fn mkfs_command<O: Sink, E: Sink>(
 
 /// Writes the line of a fault, and answers its status. Where the line can't be written, the status tells.
 fn explain<E: Sink>(fault: MkfsFault, errors: &mut E) -> u8
-    ensures status { result ≡ status_of_fault fault }
-    ensures line { Gets (E.failed errors.new) (E.contents errors.old) (E.contents errors.new) (line_of_fault fault) }
+    ensures status { result ≡ mkfs_status fault }
+    ensures line { Gets (E.failed errors.new) (E.contents errors.old) (E.contents errors.new) (mkfs_line fault) }
 {
     let (line, status) = match fault {
         MkfsFault::Bounds => ("unixvol: bounds\n", 1),

@@ -7,9 +7,9 @@ ghost use Rattle.vol_commands.specs.Changing.{IsReason};
 
 use crate::faults::Fault;
 use std::alloc::{AllocError, Global};
-use vol_dir::{Cred, Refusal};
+use vol_dir::Cred;
 use vol_layout::Edition;
-use vol_volume::{Bytes, MountFault, Volume};
+use vol_volume::{Bytes, Volume};
 
 /// Who the commands act as.
 pub const USER: Cred = Cred { uid: 0, gid: 0 };
@@ -22,8 +22,7 @@ pub fn mount(alloc: Global, edition: Edition, image: Vec<u8>) -> Result<Volume, 
 {
     match Volume::mount(alloc, edition, image) {
         Ok(volume) => Ok(volume),
-        Err((MountFault::Unsound(rule), _)) => Err(Fault::Unsound(rule)),
-        Err((MountFault::NoMemory, _)) => Err(Fault::Refused(Refusal::NoMemory)),
+        Err((fault, _)) => Err(Fault::from(fault)),
     }
 }
 

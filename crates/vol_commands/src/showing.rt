@@ -10,9 +10,8 @@ use crate::faults::Fault;
 use crate::mounting::{USER, copy};
 use pdp_words::{Image, Sink, write_all};
 use std::alloc::{AllocError, Global};
-use vol_dir::Refusal;
 use vol_layout::Edition;
-use vol_volume::{Bytes, MountFault, Query, Reply, ask};
+use vol_volume::{Bytes, Query, Reply, ask};
 
 /// `ls`: prints the names in a directory in ascending order of their bytes, each on a line with its i-number,
 /// and as its bytes are. Nothing goes out before all is known.
@@ -102,12 +101,7 @@ fn show<O: Sink>(
         (O.failed output.old) (O.failed output.new) result }
 {
     let image = Image::from_bytes(image);
-    let reply = match ask(alloc, edition, &image, &query) {
-        Ok(Ok(reply)) => reply,
-        Ok(Err(refusal)) => return Err(Fault::Refused(refusal)),
-        Err(MountFault::Unsound(rule)) => return Err(Fault::Unsound(rule)),
-        Err(MountFault::NoMemory) => return Err(Fault::Refused(Refusal::NoMemory)),
-    };
+    let reply = ask(alloc, edition, &image, &query)?.map_err(Fault::Refused)?;
     let text = text(alloc, reply)?;
     match write_all(output, &text) {
         Ok(()) => Ok(()),
@@ -148,7 +142,7 @@ fn push_line(text: &mut Vec<u8>, name: &[u8], number: u16) -> Result<(), AllocEr
     Ok(())
 }
 
-/// A number, right-aligned.
+/// A number, right-aligned in five places.
 fn padded(number: u16) -> [u8; 5]
     ensures { result ≡ padded_number number }
 {

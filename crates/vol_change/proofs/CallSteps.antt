@@ -15,13 +15,15 @@ use Rattle.vol_node.proofs.WholeLaws.{keeps_then}
 use Rattle.vol_change.specs.Ready.{IsReady, Changes}
 use Rattle.vol_change.proofs.ReadyLaws.{ready_whole, ready_graph, ready_from}
 
--- some steps of a call keep rules 1 to 8 and the bytes that no call changes, leave a sound graph, and have made a state
+-- after some steps of a call the geometry fits, rules 3 to 8 hold, the bytes that no call changes are as they were, and the
+-- graph is sound; and the steps have made a state
 pub record HasMade (geometry : Geometry) (old new : List ℕ) (made : State) : Type 0 where
   pub keeps : Keeps geometry old new
   pub sound : IsGraphSound (graph_of geometry new) (root_of geometry) geometry.last_inode
   pub makes : state geometry new ≡ made
 
--- a step keeps rules 1 to 8, the bytes that no call changes, and the graph, and makes a state of that before
+-- after a step the geometry fits, rules 3 to 8 hold, and the bytes that no call changes and the graph are as they were; and
+-- the step makes a state of that before
 pub record Edits (geometry : Geometry) (old new : List ℕ) (edit : State → State) : Type 0 where
   pub keeps : Keeps geometry old new
   pub makes : state geometry new ≡ edit (state geometry old)

@@ -21,7 +21,7 @@ use Rattle.vol_node.proofs.EntryStates.{names_once}
 use Rattle.vol_node.proofs.WholeLaws.{whole_of, geometry_kept}
 use Rattle.vol_change.specs.Ready.{IsReady}
 
--- rules 1 to 8
+-- the geometry fits, and rules 3 to 8 hold
 pub ready_whole : (geometry : Geometry) (image : List ℕ) → IsReady geometry image → IsWhole geometry image
 ready_whole geometry image ready =
     subst (λ g. IsWhole g image) (sym ready.sizes)
@@ -71,7 +71,8 @@ whole_kept edition old new same len whole =
     ap (λ n. nat_le 1024 n && nat_le (512 * block_count edition new) n) len
     ∙ (ap (λ m. nat_le 1024 (length old) && nat_le (512 * m) (length old)) count ∙ whole)
 
--- an image is sound where rules 1 to 8 are kept, and the rules that speak of the graph hold, for the geometry that is its own
+-- an image is sound where rules 1 and 2 hold, and, for the geometry that is its own, the geometry fits, rules 3 to 8 hold,
+-- and so do the rules that speak of the graph
 sound_by : (edition : Edition) (geometry : Geometry) (new : List ℕ) → geometry_of edition new ≡ geometry → is_whole edition new ≡ true
     → is_bounded edition new ≡ true → IsWhole geometry new
     → HasEntries geometry new × HasDots geometry new × IsTree geometry new × HasLinks geometry new → IsSound edition new
@@ -81,7 +82,8 @@ sound_by edition geometry new same whole bounded files graph =
     (subst (λ g. HasEntries g new) (sym same) graph.0) (subst (λ g. HasDots g new) (sym same) graph.1)
     (subst (λ g. IsTree g new) (sym same) graph.2) (subst (λ g. HasLinks g new) (sym same) graph.3)
 
--- a change that keeps rules 1 to 8 and makes a sound graph leaves a sound image
+-- a change after which the geometry fits, rules 3 to 8 hold, and the bytes that no call changes are as they were leaves
+-- a sound image where it makes a sound graph
 pub ready_from : (geometry : Geometry) (old new : List ℕ) → IsReady geometry old → Keeps geometry old new
     → IsGraphSound (graph_of geometry new) (root_of geometry) geometry.last_inode → IsReady geometry new
 ready_from geometry old new ready keeps graph =

@@ -40,7 +40,7 @@ pub sound_stack : (edition : Edition) (image : List ℕ) → IsSound edition ima
 unfolding Rule
 sound_stack edition image sound = sound 6
 
--- rules 1 to 7 of a sound image, with its free blocks
+-- the geometry of a sound image fits, and rules 3 to 7 hold with its free blocks
 pub sound_with : (edition : Edition) (image blocks : List ℕ) → Fits (geometry_of edition image) image → IsSound edition image
     → IsFree (geometry_of edition image) image blocks → IsSoundWith (geometry_of edition image) image blocks
 unfolding Rule
@@ -86,7 +86,8 @@ pub sound_links : (edition : Edition) (image : List ℕ) → IsSound edition ima
 unfolding Rule
 sound_links edition image sound = sound 12
 
--- an image is sound where rules 1 to 7 hold with some free blocks, each data block is free or named, and rules 9 to 12 hold
+-- an image is sound where rules 1 and 2 hold, its geometry fits, rules 3 to 7 hold with some free blocks, each data block is
+-- free or named, and rules 9 to 12 hold
 pub sound_of : (edition : Edition) (image blocks : List ℕ) → is_whole edition image ≡ true → is_bounded edition image ≡ true
     → IsSoundWith (geometry_of edition image) image blocks → IsCovered (geometry_of edition image) image blocks
     → HasEntries (geometry_of edition image) image → HasDots (geometry_of edition image) image → IsTree (geometry_of edition image) image

@@ -17,8 +17,8 @@ use std::alloc::{AllocError, Global};
 use tree::is_tree;
 use vol_layout::Geometry;
 
-/// The least of rules 9 to 12 that a volume breaks, on which rules 1 to 3 hold; None where it breaks none
-/// of them. It fails only where memory is refused.
+/// The least of rules 9 to 12 that a volume breaks, whose geometry fits and on which rule 3 holds; None
+/// where it breaks none of them. It fails only where memory is refused.
 ///
 /// Costs some looks at each i-node and at each slot of each directory, and for each directory as much as
 /// sorting its names. Memory is taken for a few bytes an i-number, and for the names of one directory at

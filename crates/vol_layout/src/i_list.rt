@@ -44,6 +44,8 @@ fn address_in(image: &Image, edition: Edition, at: usize, k: usize) -> u32
     ensures bound { result < (constants edition).number_limit }
     ensures none { edition ≡ Edition.V6 → 8 ≤ k → result ≡ 0 }
 {
+    // The length is a `usize`, and that it is read brings into the proof that each place within the image is
+    // one: no sum below overflows. So it is wherever a function of this crate reads it and lets it go.
     let _ = image.len();
     match edition {
         Edition::V6 if k < 8 => u32::from(image.word(at + 8 + 2 * k)),
@@ -320,7 +322,6 @@ pub fn put_address(image: &mut Image, geometry: &Geometry, i: u16, k: usize, val
         (address_place geometry.now.edition i k + address_bytes geometry.now.edition) }
 {
     let at = place_of(geometry.edition, i);
-    let _ = image.len();
     match geometry.edition {
         Edition::V6 => image.put_word(at + 8 + 2 * k, value as u16),
         Edition::V7 => image.put_addr3(at + 12 + 3 * k, value),

@@ -5,7 +5,7 @@ use Rattle.vol_file.specs.Rules.{HasSoundFiles}
 use Rattle.vol_dir.specs.Entries.{HasEntries}
 use Rattle.vol_layout.specs.declared.geometry.Geometry.{Geometry}
 
--- the geometry fits the image, and its files and entries are sound (rules 1 to 7 and 9)
+-- the geometry fits the image, and its files and entries are sound (rules 3 to 7 and 9)
 pub record Stands (geometry : Geometry) (image : List ℕ) : Type 0 where
   pub fits : Fits geometry image
   pub files : HasSoundFiles geometry image

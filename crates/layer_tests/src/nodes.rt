@@ -8,7 +8,7 @@ use std::alloc::{AllocError, Global};
 use std::process::Abort;
 use vol_dir::Cred;
 use vol_judge::judge;
-use vol_layout::i_list::{inode, mode};
+use vol_layout::i_list::{inode, kind};
 use vol_layout::{Edition, Geometry, Kind};
 use vol_node::{
     add_link, drop_link, free_node, make_directory, make_file, place_count, put_links, put_time,
@@ -44,12 +44,17 @@ fn change_two(image: &mut Image, geometry: &Geometry)
     ensures { IsWhole geometry.now image.new }
 {
     put_time(image, geometry, 9);
-    if geometry.last_inode < 3 || mode(image, geometry, 2).kind(geometry.edition) == Kind::Free {
+    if geometry.last_inode < 3 {
         return;
     }
-    touch(image, geometry, 2, 10);
-    put_links(image, geometry, 3, 5, 11);
-    if inode(image, geometry, 3).links < geometry.edition.constants().link_limit {
+    if kind(image, geometry, 2) != Kind::Free {
+        touch(image, geometry, 2, 10);
+    }
+    if kind(image, geometry, 3) != Kind::Free {
+        put_links(image, geometry, 3, 5, 11);
+    }
+    let limit = geometry.edition.constants().link_limit;
+    if kind(image, geometry, 3) != Kind::Free && inode(image, geometry, 3).links < limit {
         add_link(image, geometry, 3, 12);
     }
 }
@@ -60,7 +65,7 @@ fn change_back(image: &mut Image, geometry: &Geometry)
     ensures { IsWhole geometry.now image.new }
 {
     if geometry.last_inode >= 3
-        && mode(image, geometry, 3).kind(geometry.edition) != Kind::Free
+        && kind(image, geometry, 3) != Kind::Free
         && inode(image, geometry, 3).links >= 1
     {
         drop_link(image, geometry, 3, 12);

@@ -1,13 +1,18 @@
--- The bytes of i-nodes that no field has.
+-- The bytes of i-nodes that are not in use.
 use Rattle.std.specs.Prelude.{◌≡◌, ℕ, ◌+◌, ◌<◌, List, slice_index}
 use Rattle.vol_layout.specs.Edition.{constants}
 use Rattle.vol_layout.specs.Inode.{inode_place}
 use Rattle.vol_layout.specs.declared.edition.Edition.TheVariants.{V7}
 use Rattle.vol_layout.specs.declared.geometry.Geometry.{Geometry}
+use Rattle.vol_layout.specs.declared.mode.Kind.TheVariants as kinds
+use Rattle.vol_file.specs.Rules.{kind_at}
 
--- byte 51 of i-node j, which the seventh edition doesn't use, is as it was (ino.h)
+-- the bytes of i-node j that are not in use are as they were: byte 51, which the seventh edition doesn't use, and all of them
+-- where i-node j is free (ino.h; this project)
 pub record KeepsUnused (geometry : Geometry) (old new : List ℕ) (j : ℕ) : Type 0 where
   pub stays : geometry.edition ≡ V7 → slice_index new (inode_place V7 j + 51) ≡ slice_index old (inode_place V7 j + 51)
+  pub free : kind_at geometry old j ≡ kinds.Free → (k : ℕ) → k < (constants geometry.edition).inode_bytes
+      → slice_index new (inode_place geometry.edition j + k) ≡ slice_index old (inode_place geometry.edition j + k)
 
 -- all bytes of i-node i are zero (Lions on iput, ifree; this project)
 pub record IsCleared (geometry : Geometry) (image : List ℕ) (i : ℕ) : Type 0 where

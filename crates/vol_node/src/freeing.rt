@@ -43,7 +43,7 @@ fn free_blocks(image: &mut Image, geometry: &Geometry, i: u16)
     requires last { i ≤ geometry.now.last_inode }
     ensures whole { IsWhole geometry.now image.new }
     ensures only { ChangesOnly geometry.now image.old image.new i }
-    ensures unused { (j : ℕ) → 1 ≤ j → j ≤ geometry.now.last_inode → KeepsUnused geometry.now image.old image.new j }
+    ensures others { (j : ℕ) → 1 ≤ j → j ≤ geometry.now.last_inode → j ≢ i → KeepsUnused geometry.now image.old image.new j }
     ensures none { (p : List ℕ) → IsPlaceOf geometry.now image.new i p → named geometry.now image.new i p ≡ 0 }
 {
     match kind(image, geometry, i) {

@@ -16,12 +16,13 @@ use pdp_words::Image;
 use vol_layout::i_list::inode;
 use vol_layout::{Geometry, Inode, put_inode};
 
-/// Makes the link count of i-node `i` the given one, and in the seventh edition `now` the time, in
-/// seconds, at which it was last changed.
+/// Makes the link count of i-node `i`, which isn't free, the given one, and in the seventh edition `now`
+/// the time, in seconds, at which it was last changed.
 pub fn put_links(image: &mut Image, geometry: &Geometry, i: u16, links: u16, now: u32)
     requires whole { IsWhole geometry.now image.old }
     requires first { 1 ≤ i }
     requires last { i ≤ geometry.now.last_inode }
+    requires used { kind_at geometry.now image.old i ≢ kinds.Free }
     requires limit { links ≤ (constants geometry.now.edition).link_limit }
     ensures keeps { Keeps geometry.now image.old image.new }
     ensures makes { state geometry.now image.new ≡ change_node i (with_links now links) (state geometry.now image.old) }
@@ -37,11 +38,12 @@ pub fn put_links(image: &mut Image, geometry: &Geometry, i: u16, links: u16, now
     put_inode(image, geometry, i, &linked);
 }
 
-/// Gives i-node `i`, which has fewer links than the limit, one link more, as `put_links` does.
+/// Gives i-node `i`, which isn't free and has fewer links than the limit, one link more, as `put_links` does.
 pub fn add_link(image: &mut Image, geometry: &Geometry, i: u16, now: u32)
     requires whole { IsWhole geometry.now image.old }
     requires first { 1 ≤ i }
     requires last { i ≤ geometry.now.last_inode }
+    requires used { kind_at geometry.now image.old i ≢ kinds.Free }
     requires room { (inode_of geometry.now.edition image.old i).links < (constants geometry.now.edition).link_limit }
     ensures keeps { Keeps geometry.now image.old image.new }
     ensures makes { state geometry.now image.new ≡ add_link now i (state geometry.now image.old) }

@@ -1,4 +1,4 @@
--- The bytes of i-nodes that no tree shows, after each call.
+-- The bytes of i-nodes that are not in use, after each call.
 use Rattle.std.proofs.Common.{◌≡◌, ◌≢◌, ◌∙◌, sym, ap, refl, ℕ, ◌+◌, ◌-◌, ◌<◌, ◌≤◌, if◌then◌else◌, Bool, true, false, nat_le, List, [], ◌∷◌, length, slice_index, max, Option, None, Some, inl, inr, eq-eqb, arith}
 use Rattle.std.specs.Option.{option_map, is_none}
 use Rattle.std.proofs.lemmas.Bool.{cases_eq, true≢false}

@@ -25,4 +25,5 @@ returns-clause-graph c =
 pub returns-clause-unused : goal.returns-clause-unused
 returns-clause-unused c = λ j first last.
     file_unused c.args.geometry.now c.args.image.now c.truncate.new.image c.args.i j c.requires.whole.sound.fits
-    (c.truncate.ensures.truncated c.requires.whole.blocks c.requires.whole.sound).alone c.requires.first first last
+    (c.truncate.ensures.truncated c.requires.whole.blocks c.requires.whole.sound).alone
+    (λ free. absurd (cc (free, c.requires.regular))) c.requires.first first last

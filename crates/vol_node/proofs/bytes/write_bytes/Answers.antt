@@ -36,5 +36,6 @@ returns-clause-unused c = λ j first last. elim (cases_eq (length c.args.bytes.n
   | inl none ↦ nothing_unused c.args.geometry.now c.args.image.now c.write.new.image j (c.write.ensures.nothing none)
   | inr some ↦
       file_unused c.args.geometry.now c.args.image.now c.write.new.image c.args.i j c.requires.whole.sound.fits
-      (c.write.ensures.written (omega arith) c.requires.whole.blocks c.requires.whole.sound).alone c.requires.first first last
+      (c.write.ensures.written (omega arith) c.requires.whole.blocks c.requires.whole.sound).alone
+      (λ free. absurd (cc (free, c.requires.regular))) c.requires.first first last
 ]

@@ -39,5 +39,6 @@ returns c =
           c.requires.greatest writes);
       beside = directory_beside geometry old new d whole.sound.fits writes.alone c.requires.first kind;
       once = c.add.ensures.once;
-      unused = λ j first last. file_unused geometry old new d j whole.sound.fits writes.alone c.requires.first first last;
+      unused = λ j first last. file_unused geometry old new d j whole.sound.fits writes.alone
+          (λ free. absurd (cc (free, c.requires.directory))) c.requires.first first last;
     }

@@ -38,5 +38,6 @@ returns c =
           (removes geometry old new whole.blocks d s file whole.sound c.requires.slots named.within writes);
       beside = directory_beside geometry old new d whole.sound.fits writes.alone c.requires.first kind;
       once = c.remove.ensures.once;
-      unused = λ j first last. file_unused geometry old new d j whole.sound.fits writes.alone c.requires.first first last;
+      unused = λ j first last. file_unused geometry old new d j whole.sound.fits writes.alone
+          (λ free. absurd (cc (free, c.requires.directory))) c.requires.first first last;
     }

@@ -1,5 +1,6 @@
 use Rattle.vol_node.proofs.FreedNodes.{truncated_whole, truncated_only}
-use Rattle.vol_node.proofs.UnusedBytes.{file_unused}
+use Rattle.vol_node.proofs.OneNode.{alone_inode}
+use Rattle.vol_node.proofs.UnusedBytes.{kept_unused}
 use Rattle.vol_node.proofs.freeing.free_blocks.Goals as goal
 
 -- src/freeing.rt:38:1
@@ -12,7 +13,8 @@ pub returns-in-Regular-clause-only : goal.returns-in-Regular-clause-only
 returns-in-Regular-clause-only c =
     truncated_only c.args.geometry.now c.args.image.now c.truncate.new.image c.args.i c.requires.whole c.requires.first c.truncate.ensures.truncated
 
-pub returns-in-Regular-clause-unused : goal.returns-in-Regular-clause-unused
-returns-in-Regular-clause-unused c = λ j first last.
-    file_unused c.args.geometry.now c.args.image.now c.truncate.new.image c.args.i j c.requires.whole.sound.fits
-    (c.truncate.ensures.truncated c.requires.whole.blocks c.requires.whole.sound).alone c.requires.first first last
+pub returns-in-Regular-clause-others : goal.returns-in-Regular-clause-others
+returns-in-Regular-clause-others c = λ j first last other.
+    kept_unused c.args.geometry.now c.args.image.now c.truncate.new.image j
+    (alone_inode c.args.geometry.now c.args.image.now c.truncate.new.image c.args.i j c.requires.whole.sound.fits
+    (c.truncate.ensures.truncated c.requires.whole.blocks c.requires.whole.sound).alone c.requires.first first last other)

@@ -38,7 +38,7 @@ returns-clause-cleared c =
     cleared_still geometry c.clear_inode.new.image c.give_inode.new.image c.args.i (cache_head geometry.edition) (cache_head geometry.edition + 202)
     (frees c).given (cache_low geometry.edition) (cleared_by geometry c.clear_inode.new.image c.args.i (frees c).zero)
 
--- and the others keep their unused byte
+-- and the others keep their unused bytes
 pub returns-clause-others : goal.returns-clause-others
 returns-clause-others c = λ j first last other.
     let geometry = c.args.geometry.now in
@@ -46,6 +46,6 @@ returns-clause-others c = λ j first last other.
     let mid = c.free_blocks.new.image in
     let low = c.clear_inode.new.image in
     let new = c.give_inode.new.image in
-    unused_then geometry old mid new j (c.free_blocks.ensures.unused j first last)
+    unused_then geometry old mid new j (c.free_blocks.ensures.others j first last other)
     (unused_then geometry mid low new j (other_unused geometry mid low c.args.i j (omega (arith, c.requires.above)) first other (frees c).cleared)
     (low_unused geometry low new j (cache_head geometry.edition) (cache_head geometry.edition + 202) (frees c).given (cache_low geometry.edition)))

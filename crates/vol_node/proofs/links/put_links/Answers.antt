@@ -40,5 +40,5 @@ returns-clause-graph c =
 
 pub returns-clause-unused : goal.returns-clause-unused
 returns-clause-unused c = λ j first last.
-    put_unused c.args.geometry.now c.args.image.now c.put_inode.new.image c.args.i j c.requires.first first c.put_inode.ensures.others
+    put_unused c.args.geometry.now c.args.image.now c.put_inode.new.image c.args.i j c.requires.first first c.requires.used c.put_inode.ensures.others
     c.put_inode.ensures.unused

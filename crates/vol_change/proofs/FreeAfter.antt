@@ -14,7 +14,7 @@ use Rattle.vol_file.specs.Shape.{touched}
 use Rattle.vol_file.proofs.MissingLaws.{need_nothing}
 use Rattle.vol_dir.specs.Entries.{IsDirectory}
 use Rattle.vol_dir.specs.Names.{get, remove}
-use Rattle.vol_dir.specs.Tree.{Node, Shape, State, no_shape, form_in, place_count, free_count, is_number, shape_of, shapes, tree, state}
+use Rattle.vol_dir.specs.Tree.{Node, Shape, State, no_shape, form_in, place_count, free_count, shapes, tree, state}
 use Rattle.vol_dir.specs.declared.cred.Cred.{Cred}
 use Rattle.vol_node.specs.Edits.{set_at, at_time, modified, change_names, remove_entry, remove_node, drop_link, release, after_write, after_truncate}
 use Rattle.vol_node.specs.Nodes.{no_node, node_at, names_at, number_of_name}
@@ -23,6 +23,7 @@ use Rattle.vol_node.proofs.PlaceCounts.{stored_count, entry_count, gone_count, n
 use Rattle.vol_change.specs.Effects.{after_create, after_mkdir, after_link, after_unlink, after_rmdir}
 use Rattle.vol_change.specs.Ready.{IsReady, entry_need, free_in}
 use Rattle.vol_change.proofs.ReadyLaws.{ready_whole}
+use Rattle.vol_change.proofs.SideStates.{free_shape}
 
 -- a directory with one more entry takes the blocks that the entry needs
 pub entry_takes : (geometry : Geometry) (shapes : ℕ → Shape) (d : ℕ) (name : List ℕ) → 1 ≤ d → d ≤ geometry.last_inode
@@ -40,18 +41,6 @@ free_kind geometry image i free = ap (kind_of geometry.edition) free.mode ∙ ki
 free_other : (geometry : Geometry) (image : List ℕ) (i d : ℕ) → IsFreeNumber geometry image i → IsDirectory geometry image d → d ≢ i
 free_other geometry image i d free is =
     λ e. let same : kinds.Directory ≡ kinds.Free = sym is.kind ∙ (ap (kind_at geometry image) e ∙ free_kind geometry image i free) in cc
-
--- what stands for no shape either way
-no_shape_either : (t : Bool) → (if t then no_shape else no_shape) ≡ no_shape
-no_shape_either true = refl
-no_shape_either false = refl
-
--- a free i-number has no places
-free_shape : (geometry : Geometry) (image : List ℕ) (i : ℕ) → IsFreeNumber geometry image i → shapes geometry image i ≡ no_shape
-unfolding shapes
-free_shape geometry image i free =
-    ap (λ k. if is_number geometry i then shape_of geometry image i k else no_shape) (free_kind geometry image i free)
-    ∙ no_shape_either (is_number geometry i)
 
 -- a node that goes gives back its blocks, whatever entry went before
 lost_blocks : (geometry : Geometry) (image : List ℕ) (d i : ℕ) (name : List ℕ) → IsReady geometry image
@@ -109,7 +98,7 @@ unfolding tree
 free_after_link geometry image now i d name is = entry_takes geometry (shapes geometry image) d name is.first is.last
 
 -- the i-number that a directory has for a name
-entry_is : (state : State) (d i : ℕ) (name : List ℕ) → get (names_at state.tree d) name ≡ Some i → number_of_name state.tree d name ≡ i
+pub entry_is : (state : State) (d i : ℕ) (name : List ℕ) → get (names_at state.tree d) name ≡ Some i → number_of_name state.tree d name ≡ i
 entry_is state d i name named = ap (λ o. unwrap_or o 0) named
 
 -- a node whose entries changed has its links

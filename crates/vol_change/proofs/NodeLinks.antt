@@ -12,7 +12,7 @@ use Rattle.vol_dir.specs.Entries.{slots}
 use Rattle.vol_dir.specs.Names.{names_of}
 use Rattle.vol_dir.specs.Tree.{Content, Body, Directory, Device, content_of, tree}
 use Rattle.vol_node.specs.Nodes.{no_node, node_at}
-use Rattle.vol_node.proofs.FileStates.{node_inside}
+use Rattle.vol_dir.proofs.WalkLaws.{node_inside}
 use Rattle.vol_node.proofs.WrittenStates.{node_holds}
 
 -- what is in use and not odd holds something

@@ -18,7 +18,7 @@ use Rattle.vol_judge.specs.Graph.{Graph, graph_of, entry_by}
 use Rattle.vol_judge.proofs.ImageGraphs.{directory_to}
 use Rattle.vol_node.specs.Edits.{set_at, put_node, put_shape}
 use Rattle.vol_node.specs.Nodes.{no_node}
-use Rattle.vol_node.proofs.FileStates.{shape_inside}
+use Rattle.vol_node.proofs.States.{shape_here}
 use Rattle.vol_change.specs.Ready.{IsReady, TakesName, entry_need, free_in}
 use Rattle.vol_change.proofs.ReadyLaws.{ready_slots, ready_once, directory_kept}
 
@@ -40,7 +40,7 @@ shape_there state i shape is = λ k. record { tree = state.tree; shapes = λ j. 
 -- what is free has no shape
 pub free_shape : (geometry : Geometry) (image : List ℕ) (i : ℕ) → IsFreeNumber geometry image i → shapes geometry image i ≡ no_shape
 free_shape geometry image i free =
-    shape_inside geometry image i (omega (arith, free.above)) free.within
+    shape_here geometry image i (omega (arith, free.above)) free.within
     ∙ ap (shape_of geometry image i) (ap (kind_of geometry.edition) free.mode ∙ kind_zero geometry.edition)
 
 -- so a new node without a shape is all that changes in the state

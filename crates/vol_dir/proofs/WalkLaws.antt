@@ -68,9 +68,9 @@ unfolding tree walk
 walk-begins geometry image cred path = refl
 
 -- an i-number of the volume stands for what its i-node reads as
-node-at : (geometry : Geometry) (image : List ℕ) (i : ℕ) → 1 ≤ i → i ≤ geometry.last_inode → (tree geometry image).nodes i ≡ node_of geometry image i
+pub node_inside : (geometry : Geometry) (image : List ℕ) (i : ℕ) → 1 ≤ i → i ≤ geometry.last_inode → (tree geometry image).nodes i ≡ node_of geometry image i
 unfolding tree
-node-at geometry image i low high =
+node_inside geometry image i low high =
     let number : is_number geometry i ≡ true = grind (arith, nat_tests) in
     ap (λ b. cond b (node_of geometry image i) None) number
 
@@ -95,7 +95,7 @@ pub search-directory : (geometry : Geometry) (image : List ℕ) (cred : Cred) (i
     → grants_at geometry image i may_execute cred ≡ b
     → search (tree geometry image) cred i ≡ (if b then Ok (names_of (slots geometry image i)) else Err refusals.Access)
 search-directory geometry image cred i b h e =
-    ap (searched cred) (node-at geometry image i h.first h.last ∙ node-of-kind geometry image i kinds.Directory h.kind)
+    ap (searched cred) (node_inside geometry image i h.first h.last ∙ node-of-kind geometry image i kinds.Directory h.kind)
     ∙ ap (λ granted. if◌then◌else◌ {A = Result Names Refusal} granted (Ok (names_of (slots geometry image i))) (Err refusals.Access)) e
 
 searched_other : (geometry : Geometry) (image : List ℕ) (cred : Cred) (i : ℕ) (kind : Kind) → kind ≢ kinds.Directory
@@ -110,5 +110,5 @@ searched_other geometry image cred i kinds.Odd h = refl
 pub search-other : (geometry : Geometry) (image : List ℕ) (cred : Cred) (i : ℕ) → 1 ≤ i → i ≤ geometry.last_inode
     → kind_at geometry image i ≢ kinds.Directory → search (tree geometry image) cred i ≡ Err refusals.NotDirectory
 search-other geometry image cred i low high h =
-    ap (searched cred) (node-at geometry image i low high ∙ node-of-kind geometry image i (kind_at geometry image i) refl)
+    ap (searched cred) (node_inside geometry image i low high ∙ node-of-kind geometry image i (kind_at geometry image i) refl)
     ∙ searched_other geometry image cred i (kind_at geometry image i) h

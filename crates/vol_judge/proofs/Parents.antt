@@ -23,7 +23,7 @@ use Rattle.vol_judge.proofs.EachDirectory.{directories_more, directories_all}
 use Rattle.vol_judge.proofs.Passing.{entry_within, entry_low, split}
 
 -- a slot that holds a name has an entry of it
-held_some : (name : List ℕ) (slot : Option (List ℕ × ℕ)) → holds name slot ≡ true → (i : ℕ) × (slot ≡ Some (name, i))
+pub held_some : (name : List ℕ) (slot : Option (List ℕ × ℕ)) → holds name slot ≡ true → (i : ℕ) × (slot ≡ Some (name, i))
 held_some name None held = absurd (cc)
 held_some name (Some entry) held = let same = sym (same_bytes name entry.0 held) in (entry.1, (λ k. Some (same k, entry.1)))
 

@@ -1,24 +1,23 @@
 -- What an i-node reads as: it stays where its mode, size and addresses do, its body, and what its places name.
-use Rattle.std.proofs.Common.{◌≡◌, ◌∙◌, ap, refl, ℕ, ◌*◌, ◌/◌, ◌≤◌, ◌==◌, ◌&&◌, nat_lt, min, true, false, if◌then◌else◌, not, List, [], ◌∷◌, map, None, Some}
+use Rattle.std.proofs.Common.{◌≡◌, ◌∙◌, ap, refl, ℕ, ◌*◌, ◌/◌, ◌≤◌, ◌==◌, ◌&&◌, nat_lt, min, true, false, if◌then◌else◌, not, List, [], map, None, Some}
 use Rattle.std.specs.List.{range_with_len}
 use Rattle.std.specs.Option.{option_map}
-use Rattle.std.proofs.lemmas.Bool.{and_parts, leb-true, ltb-true}
 use Rattle.vol_layout.specs.Edition.{constants}
 use Rattle.vol_layout.specs.Inode.{inode_of, kind_of, is_large}
 use Rattle.vol_layout.specs.Names.{mode_of, form_at, IsFile}
 use Rattle.vol_layout.specs.Body.{body}
-use Rattle.vol_layout.specs.Places.{form_of, has_places, IsPlace, first_count, pointer_count, levels_below}
+use Rattle.vol_layout.specs.Places.{form_of, has_places}
 use Rattle.vol_layout.specs.Slot.{slot_at}
 use Rattle.vol_layout.specs.declared.geometry.Geometry.{Geometry}
 use Rattle.vol_layout.specs.declared.mode.Kind.{Kind}
 use Rattle.vol_layout.specs.declared.mode.Kind.TheVariants as kinds
-use Rattle.vol_layout.specs.declared.places.Form.{Form}
 use Rattle.vol_file.specs.Rules.{kind_at}
 use Rattle.vol_file.specs.Shape.{is_named}
 use Rattle.vol_dir.specs.Entries.{entry_in, entry_at, slots, slot_count}
 use Rattle.vol_dir.specs.Names.{names_of, names_in}
 use Rattle.vol_node.specs.Alone.{KeepsContent}
 use Rattle.vol_dir.specs.Tree.{Body, Directory, Device, content_of, node_with, node_of, shape_of, is_place, is_named_place}
+use Rattle.vol_node.proofs.ShapePlaces.{place_passed}
 
 -- the kind stays
 pub kind_same : (geometry : Geometry) (old new : List ℕ) (i : ℕ) → KeepsContent geometry old new i
@@ -72,15 +71,6 @@ content_same geometry old new i kept first last =
     ap (content_of geometry new i) (kind_same geometry old new i kept)
     ∙ content_by geometry old new i (kind_at geometry old i) kept first last refl
 
--- a list of indexes that passes the test is a place
-pub test_place : (form : Form) (p : List ℕ) → is_place form p ≡ true → IsPlace form p
-test_place form [] test = absurd (cc)
-test_place form (k ∷ []) test = ltb-true k (first_count form) test
-test_place form (j ∷ (a ∷ p)) test =
-    let parts = and_parts _ _ test in
-    let rest = and_parts _ _ parts.1 in
-    (ltb-true j (pointer_count form) parts.0, leb-true 1 (levels_below form (a ∷ p)) rest.0, test_place form (a ∷ p) rest.1)
-
 -- which places name something stays
 names_same : (geometry : Geometry) (old new : List ℕ) (i : ℕ) → KeepsContent geometry old new i → IsFile geometry old i
     → is_named_place geometry new i ≡ is_named_place geometry old i
@@ -90,7 +80,7 @@ names_same geometry old new i kept file =
     ap (λ f. is_place f p && is_named geometry new i p) form
     ∙ elim (is_place (form_at geometry old i) p) as (λ t. is_place (form_at geometry old i) p ≡ t
     → (t && is_named geometry new i p) ≡ (t && is_named geometry old i p)) [
-      | true ↦ λ test. ap (λ n. not (n == 0)) (kept.names p (record { file = file; place = test_place (form_at geometry old i) p test }))
+      | true ↦ λ test. ap (λ n. not (n == 0)) (kept.names p (record { file = file; place = place_passed (form_at geometry old i) p test }))
       | false ↦ λ test. refl
     ] refl in
     λ k p. each p k

@@ -27,12 +27,15 @@ use Rattle.vol_dir.specs.Walk.{map_of}
 use Rattle.vol_dir.proofs.NameMaps.{get_first, get_none}
 use Rattle.vol_dir.proofs.SlotReading.{length-slots, slot_is}
 use Rattle.vol_dir.proofs.NewEntries.{length-slot_bytes}
+use Rattle.vol_judge.proofs.Parents.{held_some}
 use Rattle.vol_node.specs.Contents.{put_entry, drop_entry}
 use Rattle.vol_node.specs.Edits.{change_names}
 use Rattle.vol_node.specs.Nodes.{no_node, node_at, names_at, size_with_entry}
 use Rattle.vol_node.specs.Shapes.{stored_shape, shape_with_entry, shape_without_entry}
 use Rattle.vol_node.proofs.FreeCounts.{form_shape}
-use Rattle.vol_node.proofs.FileStates.{alone_stays, alone_time, node_inside, shape_inside, state_set}
+use Rattle.vol_dir.proofs.WalkLaws.{node_inside}
+use Rattle.vol_node.proofs.OneNode.{only_file, only_makes}
+use Rattle.vol_node.proofs.States.{shape_here}
 use Rattle.vol_node.proofs.ShapePlaces.{need_places}
 use Rattle.vol_node.proofs.WrittenShapes.{stores_blocks, grown_need, filled_none}
 use Rattle.vol_node.proofs.WrittenStates.{IsKind, node_holds, node_edited}
@@ -51,7 +54,7 @@ directory_shape geometry image d = shape_of geometry image d kinds.Directory
 -- the shape that a directory reads as
 pub shape_is : (geometry : Geometry) (image : List ℕ) (d : ℕ) → IsKind geometry image d kinds.Directory
     → shapes geometry image d ≡ directory_shape geometry image d
-shape_is geometry image d is = shape_inside geometry image d is.first is.last ∙ ap (shape_of geometry image d) is.kind
+shape_is geometry image d is = shape_here geometry image d is.first is.last ∙ ap (shape_of geometry image d) is.kind
 
 -- the size that a directory reads as
 pub size_is : (geometry : Geometry) (image : List ℕ) (d : ℕ) → IsKind geometry image d kinds.Directory
@@ -104,8 +107,7 @@ added_state geometry old new free name d i is fits short writes names list =
     let stored : directory_shape geometry new d
     ≡ record (stored_shape edition (directory_shape geometry old d) (touched (16 * s) (length (slot_bytes name i)))) { slots = put } =
     λ k. record { names = λ p. stores.names p k; large = stores.large k; slots = list k } in
-    state_set geometry old new d _ _ is.first is.last (alone_time geometry old new d writes.alone)
-    (λ j low high other. alone_stays geometry old new d j fits writes.alone is.first low high other)
+    only_makes geometry old new d _ _ is.first is.last (only_file geometry old new d fits writes.alone is.first)
     (node_edited geometry old new d (λ node. record node {
       content = change_names (λ names. insert names name i) node.content;
       size = size;
@@ -144,8 +146,7 @@ removed_state geometry old new free name d s is fits writes none size names list
     let without = map (emptied name) (names_in (slots geometry old d)) in
     let left : directory_shape geometry new d ≡ record (directory_shape geometry old d) { slots = without } =
     λ k. record { names = λ p. stay p k; large = large k; slots = list k } in
-    state_set geometry old new d _ _ is.first is.last (alone_time geometry old new d writes.alone)
-    (λ j low high other. alone_stays geometry old new d j fits writes.alone is.first low high other)
+    only_makes geometry old new d _ _ is.first is.last (only_file geometry old new d fits writes.alone is.first)
     (node_edited geometry old new d (λ node. record node { content = change_names (λ names. remove names name) node.content })
     (Directory before) (Directory (names_of (slots geometry new d))) old_node.size is.first is.last (ap (content_of geometry old d) is.kind)
     (ap (content_of geometry new d) kind) stores.fields (size ∙ sym (inode_size edition old (inode_place edition d)))
@@ -158,11 +159,6 @@ held_entry : (name : List ℕ) (slot : Option (List ℕ × ℕ)) → holds name 
     → slot ≡ option_map (λ (i : ℕ). (name, i)) (option_map (λ (entry : List ℕ × ℕ). entry.1) slot)
 held_entry name None held = refl
 held_entry name (Some entry) held = let same = sym (same_bytes name entry.0 held) in λ k. Some (same k, entry.1)
-
--- it is an entry of that name
-held_some : (name : List ℕ) (slot : Option (List ℕ × ℕ)) → holds name slot ≡ true → (i : ℕ) × (slot ≡ Some (name, i))
-held_some name None held = absurd (true≢false (sym held))
-held_some name (Some entry) held = let same = sym (same_bytes name entry.0 held) in (entry.1, (λ k. Some (same k, entry.1)))
 
 -- where directories are sound, none has a name twice
 pub names_once : (geometry : Geometry) (image : List ℕ) (d : ℕ) → HasEntries geometry image → IsDirectory geometry image d → HasNamesOnce geometry image d

@@ -1,48 +1,36 @@
 -- What a change of one file leaves of the graph that directories make.
-use Rattle.std.proofs.Common.{◌≡◌, ◌≢◌, ◌∙◌, sym, ap, ℕ, ◌≤◌, List, get_or, inl, inr, None, Bool, true, false, true≢false}
+use Rattle.std.proofs.Common.{◌≡◌, ◌≢◌, ◌∙◌, sym, ap, ℕ, ◌≤◌, List, inl, inr, Bool, true, false, true≢false}
 use Rattle.std.proofs.lemmas.Bool.{cases_eq}
 use Rattle.vol_layout.specs.Geometry.{Fits}
-use Rattle.vol_layout.specs.Names.{IsFile}
-use Rattle.vol_layout.specs.Places.{has_places}
 use Rattle.vol_layout.specs.declared.geometry.Geometry.{Geometry}
 use Rattle.vol_layout.specs.declared.mode.Kind.{Kind}
 use Rattle.vol_layout.specs.declared.mode.Kind.TheVariants as kinds
-use Rattle.vol_layout.proofs.InodeLaws.{mode_kept, size_kept}
+use Rattle.vol_layout.proofs.InodeLaws.{mode_kept}
 use Rattle.vol_layout.specs.Inode.{kind_of}
 use Rattle.vol_file.specs.Changes.{ChangesFileAlone}
-use Rattle.vol_file.specs.Rules.{kind_at, size_of}
+use Rattle.vol_file.specs.Rules.{kind_at}
 use Rattle.vol_file.proofs.Naming.{links_kept}
-use Rattle.vol_dir.specs.Entries.{entry_at, IsDirectory}
-use Rattle.vol_dir.proofs.Replacing.{same_slots}
-use Rattle.vol_dir.proofs.SlotReading.{slot_is}
+use Rattle.vol_dir.specs.Entries.{IsDirectory}
 use Rattle.vol_judge.specs.Graph.{graph_of}
 use Rattle.vol_judge.specs.GraphEdits.{IsSameGraph}
 use Rattle.vol_judge.proofs.EditedGraphs.{same_graph, kind_kept, entry_kept}
 use Rattle.vol_judge.proofs.ImageGraphs.{inside_from, directory_from}
 use Rattle.vol_node.specs.Beside.{StaysBeside}
-use Rattle.vol_node.proofs.FileStates.{alone_elsewhere, alone_stays}
+use Rattle.vol_node.specs.Alone.{KeepsContent}
+use Rattle.vol_node.proofs.OneNode.{alone_elsewhere, alone_inode, entry_stays, only_file}
 
 -- the kinds stay where file i's does
 kinds_stay : (geometry : Geometry) (old new : List ℕ) (i x : ℕ) → Fits geometry old → ChangesFileAlone geometry old new i → 1 ≤ i
     → kind_at geometry new i ≡ kind_at geometry old i → 1 ≤ x → x ≤ geometry.last_inode → kind_at geometry new x ≡ kind_at geometry old x
 kinds_stay geometry old new i x fits alone one kind first last = elim (cases_eq x i) [
   | inl e ↦ rw e kind
-  | inr other ↦ ap (kind_of geometry.edition) (mode_kept geometry old new x (alone_stays geometry old new i x fits alone one first last other).inode)
+  | inr other ↦ ap (kind_of geometry.edition) (mode_kept geometry old new x (alone_inode geometry old new i x fits alone one first last other))
 ]
 
--- the entries of the other directories stay
-entries_stay : (geometry : Geometry) (old new : List ℕ) (i x s : ℕ) → ChangesFileAlone geometry old new i → x ≢ i → IsDirectory geometry old x
-    → entry_at geometry new x s ≡ entry_at geometry old x s
-entries_stay geometry old new i x s alone other is =
-    let file : IsFile geometry old x = record { first = is.first; last = is.last; kind = ap has_places is.kind } in
-    sym (slot_is geometry new x s)
-    ∙ (ap (λ list. get_or list s None) (same_slots geometry old new x (alone.bodies x other file)) ∙ slot_is geometry old x s)
-
--- the sizes of the other directories stay
-sizes_stay : (geometry : Geometry) (old new : List ℕ) (i x : ℕ) → Fits geometry old → ChangesFileAlone geometry old new i → 1 ≤ i
-    → x ≢ i → IsDirectory geometry old x → size_of geometry new x ≡ size_of geometry old x
-sizes_stay geometry old new i x fits alone one other is =
-    size_kept geometry old new x (alone_stays geometry old new i x fits alone one is.first is.last other).inode
+-- the content of the other directories stays
+content_stays : (geometry : Geometry) (old new : List ℕ) (i x : ℕ) → Fits geometry old → ChangesFileAlone geometry old new i → 1 ≤ i
+    → x ≢ i → IsDirectory geometry old x → KeepsContent geometry old new x
+content_stays geometry old new i x fits alone one other is = ((only_file geometry old new i fits alone one).others x is.first is.last other).content
 
 -- whether a kind is that of regular files
 abbrev is_regular : Kind → Bool
@@ -65,8 +53,8 @@ pub regular_graph : (geometry : Geometry) (old new : List ℕ) (i : ℕ) → Fit
 regular_graph geometry old new i fits alone one regular kind =
     same_graph geometry old new (λ x first last. kinds_stay geometry old new i x fits alone one kind first last)
     (λ x first last. links_kept geometry old new i x fits (alone_elsewhere geometry old new i alone) one first last)
-    (λ x is. sizes_stay geometry old new i x fits alone one (not_regular geometry old i x regular is) is)
-    (λ x s is. entries_stay geometry old new i x s alone (not_regular geometry old i x regular is) is)
+    (λ x is. (content_stays geometry old new i x fits alone one (not_regular geometry old i x regular is) is).size)
+    (λ x s is. entry_stays geometry old new x s (content_stays geometry old new i x fits alone one (not_regular geometry old i x regular is) is) is)
 
 -- what is beside directory d stays where it changes
 pub directory_beside : (geometry : Geometry) (old new : List ℕ) (d : ℕ) → Fits geometry old → ChangesFileAlone geometry old new d → 1 ≤ d
@@ -76,8 +64,8 @@ directory_beside geometry old new d fits alone one kind = record {
   links = λ x used.
       let inside = inside_from geometry old x used in
       links_kept geometry old new d x fits (alone_elsewhere geometry old new d alone) one inside.0 inside.1;
-  size = λ x other is. sizes_stay geometry old new d x fits alone one other (directory_from geometry old x is);
+  size = λ x other is. (content_stays geometry old new d x fits alone one other (directory_from geometry old x is)).size;
   entry = λ x s other.
       entry_kept geometry old new x s (kind_kept geometry old new x (λ first last. kinds_stay geometry old new d x fits alone one kind first last))
-      (λ is. entries_stay geometry old new d x s alone other is);
+      (λ is. entry_stays geometry old new x s (content_stays geometry old new d x fits alone one other is) is);
 }

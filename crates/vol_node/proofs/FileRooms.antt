@@ -16,7 +16,7 @@ use Rattle.vol_dir.specs.Tree.{free_count, is_named_place, shape_of, shapes}
 use Rattle.vol_node.specs.Shapes.{need_in, entry_blocks}
 use Rattle.vol_node.specs.Whole.{IsWhole}
 use Rattle.vol_node.proofs.FreeCounts.{form_shape, free_blocks}
-use Rattle.vol_node.proofs.FileStates.{shape_inside}
+use Rattle.vol_node.proofs.States.{shape_here}
 use Rattle.vol_node.proofs.ShapePlaces.{need_places}
 use Rattle.vol_node.proofs.WrittenStates.{IsKind}
 use Rattle.vol_node.proofs.EntryStates.{slot_block, shape_is}
@@ -38,7 +38,7 @@ need_by geometry image i blocks kinds.Odd file h = absurd (true≢false (sym h))
 pub need_is : (geometry : Geometry) (image : List ℕ) (i : ℕ) (blocks : List ℕ) → IsFile geometry image i
     → need_in geometry.edition (shapes geometry image i) blocks ≡ need_of (form_at geometry image i) (is_named geometry image i) blocks
 need_is geometry image i blocks file =
-    ap (λ shape. need_in geometry.edition shape blocks) (shape_inside geometry image i file.first file.last)
+    ap (λ shape. need_in geometry.edition shape blocks) (shape_here geometry image i file.first file.last)
     ∙ need_by geometry image i blocks (kind_at geometry image i) file.kind file.kind
 
 -- what is within the free blocks that the shapes leave is within those of the image

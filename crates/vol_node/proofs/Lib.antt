@@ -16,7 +16,6 @@ pub mod EntryStates
 pub mod FileGraphs
 pub mod FileInodes
 pub mod FileRooms
-pub mod FileStates
 pub mod ShapePlaces
 pub mod SoundVolumes
 pub mod TimedEdits

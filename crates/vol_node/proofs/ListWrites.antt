@@ -28,7 +28,8 @@ use Rattle.vol_node.specs.NodeGraphs.{SetsLinks}
 use Rattle.vol_node.specs.Alone.{KeepsContent}
 use Rattle.vol_node.specs.Whole.{IsWhole, Keeps}
 use Rattle.vol_node.proofs.Contents.{kind_same, entry_same, shape_same, node_same, node_of_content}
-use Rattle.vol_node.proofs.States.{node_here, makes_node, makes_time}
+use Rattle.vol_dir.proofs.WalkLaws.{node_inside}
+use Rattle.vol_node.proofs.States.{makes_node, makes_time}
 use Rattle.vol_node.proofs.WholeLaws.{whole_kept, around_list, zone_behind, super_order}
 
 -- a write below the data zone keeps what i-node i stands for, where its mode, size and addresses stay
@@ -210,7 +211,7 @@ put_makes geometry old new i node change whole puts each =
       here = node_of_content geometry old new i (kept i puts.first puts.last) puts.first puts.last
           ∙ (ap (λ n. option_map (node_with n) (content_of geometry old i (kind_at geometry old i))) puts.is
           ∙ (node_put change (inode_of geometry.edition old i) node (content_of geometry old i (kind_at geometry old i)) each
-          ∙ sym (ap (option_map change) (node_here geometry old i puts.first puts.last))));
+          ∙ sym (ap (option_map change) (node_inside geometry old i puts.first puts.last))));
       places = shape_same geometry old new i (kept i puts.first puts.last) puts.first puts.last;
     })
 

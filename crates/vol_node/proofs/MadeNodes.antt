@@ -32,7 +32,7 @@ use Rattle.vol_node.specs.Alone.{ChangesOnly}
 use Rattle.vol_node.specs.Edits.{put_node, put_shape}
 use Rattle.vol_node.specs.NodeGraphs.{AddsNode}
 use Rattle.vol_node.specs.Whole.{IsWhole, Keeps}
-use Rattle.vol_node.proofs.Contents.{test_place}
+use Rattle.vol_node.proofs.ShapePlaces.{place_passed}
 use Rattle.vol_node.proofs.NewRules.{bare_whole}
 use Rattle.vol_node.proofs.OneNode.{only_inode, only_makes, only_graph, only_links}
 
@@ -133,7 +133,7 @@ module _ (geometry : Geometry) (old new : List ℕ) (i : ℕ) (node : Inode) (wh
       elim (is_place (form_at geometry new i) p) as (λ t. is_place (form_at geometry new i) p ≡ t → (t && is_named geometry new i p) ≡ false) [
         | true ↦ λ test. ap (λ n. not (n == 0)) (named_new p (record {
           file = record { first = first; last = makes.last; kind = ap has_places kind_new ∙ makes.file };
-          place = test_place (form_at geometry new i) p test;
+          place = place_passed (form_at geometry new i) p test;
         }))
         | false ↦ λ test. refl
       ] refl in

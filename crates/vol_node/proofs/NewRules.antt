@@ -13,7 +13,7 @@ use Rattle.vol_file.proofs.Naming.{root_within}
 use Rattle.vol_node.specs.Alone.{KeepsNode}
 use Rattle.vol_node.specs.Whole.{IsWhole}
 use Rattle.vol_node.proofs.Contents.{kind_same}
-use Rattle.vol_node.proofs.OneNode.{place_then}
+use Rattle.vol_file.proofs.Naming.{place_same}
 use Rattle.vol_node.proofs.WholeLaws.{SameNames, whole_names}
 
 -- i-node i names nothing in either image, and the others stay
@@ -90,7 +90,7 @@ module _ (geometry : Geometry) (old new : List ℕ) (i : ℕ) (whole : IsWhole g
           absurd (some (ap (λ x. named geometry new x p) e ∙ changes.after p (subst (λ x. IsPlaceOf geometry new x p) e place)))
       | inr other ↦
           let kept = (changes.others j place.file.first place.file.last other).content in
-          let before = place_then geometry new old j p (sym kept.mode) place in
+          let before = place_same geometry new old j p (sym kept.mode) place in
           (before, kept.names p before)
     ];
     to = λ j p place some. elim (cases_eq j i) [
@@ -98,7 +98,7 @@ module _ (geometry : Geometry) (old new : List ℕ) (i : ℕ) (whole : IsWhole g
           absurd (some (ap (λ x. named geometry old x p) e ∙ changes.before p (subst (λ x. IsPlaceOf geometry old x p) e place)))
       | inr other ↦
           let kept = (changes.others j place.file.first place.file.last other).content in
-          (place_then geometry old new j p kept.mode place, sym (kept.names p place))
+          (place_same geometry old new j p kept.mode place, sym (kept.names p place))
     ];
   }
 

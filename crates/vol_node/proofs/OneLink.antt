@@ -7,7 +7,7 @@ use Rattle.vol_layout.specs.declared.i_node.Inode.{Inode}
 use Rattle.vol_file.specs.Rules.{kind_at}
 use Rattle.vol_dir.specs.Tree.{Content, Node, node_with, node_of, content_of, state}
 use Rattle.vol_node.specs.Edits.{change_node, put_node, with_links, add_link, drop_link}
-use Rattle.vol_node.proofs.States.{node_here}
+use Rattle.vol_dir.proofs.WalkLaws.{node_inside}
 
 -- two changes of a node that are one where the i-node is this
 changed_same : (was : Inode) (one other : Node → Node) (content : Option Content)
@@ -22,7 +22,7 @@ change_same : (geometry : Geometry) (image : List ℕ) (i : ℕ) (one other : No
     → change_node i one (state geometry image) ≡ change_node i other (state geometry image)
 unfolding node_of
 change_same geometry image i one other first last same =
-    let here = node_here geometry image i first last in
+    let here = node_inside geometry image i first last in
     ap (λ n. put_node i n (state geometry image))
     (ap (option_map one) here
     ∙ (changed_same (inode_of geometry.edition image i) one other (content_of geometry image i (kind_at geometry image i)) same

@@ -1,21 +1,22 @@
 -- Changes of one node alone: one after another, and what all others keep.
-use Rattle.std.proofs.Common.{◌≡◌, ◌≢◌, ◌∙◌, sym, ap, subst, ℕ, ◌+◌, ◌≤◌, List, Option, None, Some, inl, inr, arith}
-use Rattle.std.proofs.lemmas.Bool.{cases_lt}
+use Rattle.std.proofs.Common.{◌≡◌, ◌≢◌, ◌∙◌, ap, ℕ, ◌+◌, ◌≤◌, List, Option, None, Some, inr, arith}
 use Rattle.pdp_words.specs.Words.{long, SameOutside}
 use Rattle.vol_layout.specs.Edition.{constants}
 use Rattle.vol_layout.specs.Geometry.{Fits}
-use Rattle.vol_layout.specs.Inode.{inode_place, kind_of}
-use Rattle.vol_layout.specs.Names.{mode_of, IsPlaceOf}
-use Rattle.vol_layout.specs.Places.{form_of, has_places, IsPlace}
+use Rattle.vol_layout.specs.Inode.{inode_place}
+use Rattle.vol_layout.specs.Places.{has_places}
 use Rattle.vol_layout.specs.Super.{free_head, cache_head, time_place}
 use Rattle.vol_layout.specs.declared.geometry.Geometry.{Geometry}
 use Rattle.vol_layout.specs.declared.mode.Kind.TheVariants as kinds
-use Rattle.vol_layout.proofs.CopyLaws.{copy_above, copy_below, long_copied}
-use Rattle.vol_layout.proofs.InodeLaws.{KeepsInode, inode_apart, mode_kept, size_kept, inode_of_kept, place_apart, place_from, place_room}
+use Rattle.vol_layout.proofs.CopyLaws.{IsCopy, copy_above, copy_below, long_copied}
+use Rattle.vol_layout.proofs.InodeLaws.{KeepsInode, inode_apart, mode_kept, size_kept, inode_of_kept, place_from, place_room}
 use Rattle.std.specs.Prelude.{IfSome}
 use Rattle.vol_free.specs.Numbers.{IsFreeNumber}
 use Rattle.vol_free.proofs.Frames.{IsFree-behind, free_from}
 use Rattle.vol_file.specs.Changes.{ChangesFileAlone}
+use Rattle.vol_file.specs.Steps.{StaysElsewhere}
+use Rattle.vol_file.proofs.Alone.{elsewhere_inode}
+use Rattle.vol_file.proofs.Naming.{place_same}
 use Rattle.vol_dir.specs.Entries.{IsDirectory, entry_at}
 use Rattle.vol_dir.specs.Tree.{Node, Shape, node_of, tree, state}
 use Rattle.vol_judge.specs.Graph.{graph_of}
@@ -24,23 +25,11 @@ use Rattle.vol_judge.proofs.EditedGraphs.{same_graph, keeps_others}
 use Rattle.vol_judge.proofs.ImageGraphs.{inside_from}
 use Rattle.vol_node.specs.Alone.{KeepsContent, KeepsNode, ChangesOnly}
 use Rattle.vol_node.specs.Edits.{put_node, put_shape}
-use Rattle.vol_node.specs.Whole.{IsWhole, Keeps}
+use Rattle.vol_node.specs.Whole.{IsWhole, Keeps, StaysAround}
 use Rattle.vol_node.proofs.Contents.{kind_same, entry_same, shape_same, node_same}
 use Rattle.vol_node.proofs.ListWrites.{content_kept}
 use Rattle.vol_node.proofs.States.{shape_at, makes_both, makes_time}
 use Rattle.vol_node.proofs.WholeLaws.{around_then, around_list, super_order, whole_kept, zone_behind}
-
--- a place of a file whose mode stays is one still
-pub place_then : (geometry : Geometry) (old new : List ℕ) (j : ℕ) (p : List ℕ) → mode_of geometry new j ≡ mode_of geometry old j
-    → IsPlaceOf geometry old j p → IsPlaceOf geometry new j p
-place_then geometry old new j p mode place = record {
-  file = record {
-    first = place.file.first;
-    last = place.file.last;
-    kind = ap has_places (ap (kind_of geometry.edition) mode) ∙ place.file.kind;
-  };
-  place = subst (λ form. IsPlace form p) (sym (ap (form_of geometry.edition) mode)) place.place;
-}
 
 -- what stays by one change and by the next stays by both
 node_then : (geometry : Geometry) (old mid new : List ℕ) (j : ℕ) → KeepsNode geometry old mid j → KeepsNode geometry mid new j
@@ -56,7 +45,7 @@ node_then geometry old mid new j a b = record {
           last = file.last;
           kind = ap has_places (kind_same geometry old mid j a.content) ∙ file.kind;
         }) ∙ a.content.bytes file;
-    names = λ p place. b.content.names p (place_then geometry old mid j p a.content.mode place) ∙ a.content.names p place;
+    names = λ p place. b.content.names p (place_same geometry old mid j p a.content.mode place) ∙ a.content.names p place;
   };
   inode = b.inode ∙ a.inode;
 }
@@ -89,50 +78,65 @@ only_inode geometry old new i fits first last same =
           record { content = content_kept geometry old new from to j same room kept; inode = inode_of_kept geometry old new j kept };
     }
 
+-- what is no other file's stays
+pub alone_elsewhere : (geometry : Geometry) (old new : List ℕ) (i : ℕ) → ChangesFileAlone geometry old new i → StaysElsewhere geometry old new i
+alone_elsewhere geometry old new i alone = record {
+  len = alone.len;
+  before = alone.before;
+  super_block = alone.super_block;
+  lower_inodes = alone.lower_inodes;
+  higher_inodes = alone.higher_inodes;
+  inode = alone.inode;
+  blocks = alone.blocks;
+  behind = alone.behind;
+}
+
 -- the bytes of another i-node stay where a file is changed
 pub alone_inode : (geometry : Geometry) (old new : List ℕ) (i j : ℕ) → Fits geometry old → ChangesFileAlone geometry old new i → 1 ≤ i → 1 ≤ j
     → j ≤ geometry.last_inode → j ≢ i → KeepsInode geometry old new j
 alone_inode geometry old new i j fits alone first low high other =
-    let start = place_from geometry.edition j in
-    let room = place_room geometry old j fits low high in
-    elim (cases_lt j i) [
-      | inl less ↦
-          let apart = place_apart geometry.edition j i low less in
-          record { bytes = λ r h. alone.lower_inodes (inode_place geometry.edition j + r) (omega (arith, start)) (omega (arith, apart)) }
-      | inr more ↦
-          let apart = place_apart geometry.edition i j first (omega (arith, other)) in
-          record { bytes = λ r h. alone.higher_inodes (inode_place geometry.edition j + r) (omega (arith, apart)) (omega (arith, room)) }
-    ]
+    elsewhere_inode geometry old new i j fits (alone_elsewhere geometry old new i alone) first low high other
+
+-- the super-block's time stays
+pub alone_time : (geometry : Geometry) (old new : List ℕ) (i : ℕ) → ChangesFileAlone geometry old new i
+    → long new (time_place geometry.edition) ≡ long old (time_place geometry.edition)
+alone_time geometry old new i alone =
+    let order = super_order geometry.edition in
+    let at = time_place geometry.edition in
+    let copy : IsCopy old new at at 4 = record { bytes = λ r h. alone.super_block (at + r) (omega (arith, order)) (omega (arith, order, h)) } in
+    long_copied old new at at 4 0 at at copy (omega arith) (omega arith) (omega arith)
+
+-- the bytes that no call changes stay
+pub alone_around : (geometry : Geometry) (old new : List ℕ) (i : ℕ) → ChangesFileAlone geometry old new i → StaysAround geometry old new
+alone_around geometry old new i alone =
+    let order = super_order geometry.edition in
+    record {
+      len = alone.len;
+      before = alone.before;
+      flags = λ k low high. alone.super_block k (omega arith) (omega (arith, order));
+      rest = λ k low high. alone.super_block k (omega (arith, order)) high;
+      behind = alone.behind;
+    }
 
 -- the change of a file
 pub only_file : (geometry : Geometry) (old new : List ℕ) (i : ℕ) → Fits geometry old → ChangesFileAlone geometry old new i → 1 ≤ i
     → ChangesOnly geometry old new i
-only_file geometry old new i fits alone first =
-    let order = super_order geometry.edition in
-    record {
-      around = record {
-        len = alone.len;
-        before = alone.before;
-        flags = λ k a b. alone.super_block k (omega arith) (omega (arith, order));
-        rest = λ k a b. alone.super_block k (omega (arith, order)) b;
-        behind = alone.behind;
+only_file geometry old new i fits alone first = record {
+  around = alone_around geometry old new i alone;
+  time = alone_time geometry old new i alone;
+  others = λ j low high other.
+      let kept = alone_inode geometry old new i j fits alone first low high other in
+      record {
+        content = record {
+          mode = mode_kept geometry old new j kept;
+          size = size_kept geometry old new j kept;
+          addresses = ap (λ node. node.addresses) (inode_of_kept geometry old new j kept);
+          bytes = λ file. alone.bodies j other file;
+          names = λ p place. alone.places j p other place;
+        };
+        inode = inode_of_kept geometry old new j kept;
       };
-      time = long_copied old new (time_place geometry.edition) (time_place geometry.edition) 4 0 (time_place geometry.edition) (time_place geometry.edition)
-          (record { bytes = λ r h. alone.super_block (time_place geometry.edition + r) (omega (arith, order)) (omega (arith, order)) })
-          (omega arith) (omega arith) (omega arith);
-      others = λ j low high other.
-          let kept = alone_inode geometry old new i j fits alone first low high other in
-          record {
-            content = record {
-              mode = mode_kept geometry old new j kept;
-              size = size_kept geometry old new j kept;
-              addresses = ap (λ node. node.addresses) (inode_of_kept geometry old new j kept);
-              bytes = λ file. alone.bodies j other file;
-              names = λ p place. alone.places j p other place;
-            };
-            inode = inode_of_kept geometry old new j kept;
-          };
-    }
+}
 
 -- a change of i alone is the edit that puts there what is read then
 pub only_makes : (geometry : Geometry) (old new : List ℕ) (i : ℕ) (node : Option Node) (shape : Shape) → 1 ≤ i → i ≤ geometry.last_inode
@@ -151,7 +155,7 @@ only_makes geometry old new i node shape first last only is places =
     })
 
 -- entries stay where the content of a directory does
-entry_stays : (geometry : Geometry) (old new : List ℕ) (x s : ℕ) → KeepsContent geometry old new x → IsDirectory geometry old x
+pub entry_stays : (geometry : Geometry) (old new : List ℕ) (x s : ℕ) → KeepsContent geometry old new x → IsDirectory geometry old x
     → entry_at geometry new x s ≡ entry_at geometry old x s
 entry_stays geometry old new x s kept is =
     entry_same geometry old new x s kept (record { first = is.first; last = is.last; kind = ap has_places is.kind })

@@ -1,32 +1,10 @@
 -- What the rules of a sound volume give the changes of its nodes.
 use Rattle.std.proofs.Common.{◌≡◌, List, ℕ, true, false, Bool, if◌then◌else◌}
 use Rattle.std.specs.Prelude.{Ok, Err}
-use Rattle.vol_layout.specs.Geometry.{Fits, geometry_of, geometry_read, is_whole, is_bounded}
+use Rattle.vol_layout.specs.Geometry.{geometry_of, geometry_read, is_whole, is_bounded}
 use Rattle.vol_layout.specs.declared.edition.Edition.{Edition}
 use Rattle.vol_layout.specs.declared.geometry.Geometry.{Geometry}
 use Rattle.vol_layout.specs.declared.geometry.GeometryFault.TheVariants.{Short, Bounds}
-use Rattle.vol_judge.specs.Sound.{Rule, IsSound}
-use Rattle.vol_node.specs.Whole.{IsWhole}
-
--- a sound volume whose geometry fits is whole
-pub sound_whole : (edition : Edition) (image : List ℕ) → Fits (geometry_of edition image) image → IsSound edition image
-    → IsWhole (geometry_of edition image) image
-unfolding Rule
-sound_whole edition image fits sound =
-    let stack = sound 6 in
-    record {
-      blocks = stack.blocks;
-      sound = record {
-        fits = fits;
-        kinds = sound 3;
-        sizes = sound 4;
-        zoned = sound 5;
-        free = stack.free;
-        apart = (sound 7).0;
-        outside = (sound 7).1 stack.blocks stack.free;
-      };
-      covered = sound 8 stack.blocks stack.free;
-    }
 
 -- what is read as the geometry is what the super-block states
 read_by : (whole bounded : Bool) (geometry other : Geometry)

@@ -5,6 +5,7 @@ use Rattle.pdp_words.specs.Words.{long}
 use Rattle.vol_layout.specs.Super.{time_place}
 use Rattle.vol_layout.specs.declared.geometry.Geometry.{Geometry}
 use Rattle.vol_file.specs.Rules.{kind_at}
+use Rattle.vol_dir.proofs.WalkLaws.{node_inside}
 use Rattle.vol_dir.specs.Tree.{Node, Shape, State, state, tree, shapes, shape_of, node_of, no_shape, is_number}
 use Rattle.vol_node.specs.Edits.{set_at, put_node, put_shape, at_time}
 
@@ -15,12 +16,6 @@ shape_at geometry image i = shape_of geometry image i (kind_at geometry image i)
 -- an i-number from the first to the last is one of the volume
 pub number_is : (geometry : Geometry) (i : ℕ) → 1 ≤ i → i ≤ geometry.last_inode → is_number geometry i ≡ true
 number_is geometry i first last = and_from _ _ (le-leb 1 i first) (le-leb i geometry.last_inode last)
-
--- the node of an i-number of the volume
-pub node_here : (geometry : Geometry) (image : List ℕ) (i : ℕ) → 1 ≤ i → i ≤ geometry.last_inode
-    → (tree geometry image).nodes i ≡ node_of geometry image i
-unfolding tree
-node_here geometry image i first last = ap (λ t. if t then node_of geometry image i else None) (number_is geometry i first last)
 
 -- the shape of an i-number of the volume
 pub shape_here : (geometry : Geometry) (image : List ℕ) (i : ℕ) → 1 ≤ i → i ≤ geometry.last_inode
@@ -56,7 +51,7 @@ nodes_are : (geometry : Geometry) (old new : List ℕ) (i j : ℕ) (node : Optio
 unfolding tree
 nodes_are geometry old new i j put shape changes = elim (cases_eq j i) [
   | inl e ↦
-      ap (tree geometry new).nodes e ∙ (node_here geometry new i changes.first changes.last ∙ (changes.here
+      ap (tree geometry new).nodes e ∙ (node_inside geometry new i changes.first changes.last ∙ (changes.here
       ∙ sym (ap (λ t. if t then put else (tree geometry old).nodes j) (eq-eqb j i e))))
   | inr other ↦
       elim (cases_Bool (is_number geometry j)) [

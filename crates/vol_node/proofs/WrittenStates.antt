@@ -19,7 +19,9 @@ use Rattle.vol_node.specs.Edits.{body_of}
 use Rattle.vol_node.specs.Shapes.{stored_shape}
 use Rattle.vol_node.specs.Whole.{IsWhole, Keeps}
 use Rattle.vol_node.proofs.FileInodes.{KeepsMode, KeepsFields, cut_mode, fields_kept, node_changed}
-use Rattle.vol_node.proofs.FileStates.{alone_around, alone_stays, alone_time, node_inside, shape_inside, state_set}
+use Rattle.vol_dir.proofs.WalkLaws.{node_inside}
+use Rattle.vol_node.proofs.OneNode.{alone_around, only_file, only_makes}
+use Rattle.vol_node.proofs.States.{shape_here}
 use Rattle.vol_judge.specs.Graph.{graph_of}
 use Rattle.vol_judge.specs.GraphEdits.{IsSameGraph}
 use Rattle.vol_node.proofs.ShapePlaces.{guarded, place_passed}
@@ -95,8 +97,7 @@ written_state geometry old new free i offset text is fits writes =
     let size = max (size_of geometry old i) (offset + length text) in
     let old_node = inode_of geometry.edition old i in
     let sized : size_of geometry old i ≡ old_node.size = sym (inode_size geometry.edition old (inode_place geometry.edition i)) in
-    state_set geometry old new i _ _ is.first is.last (alone_time geometry old new i writes.alone)
-    (λ j low high other. alone_stays geometry old new i j fits writes.alone is.first low high other)
+    only_makes geometry old new i _ _ is.first is.last (only_file geometry old new i fits writes.alone is.first)
     (node_edited geometry old new i (λ node. record node {
       content = Body (spliced (body_of node.content) offset text);
       size = max node.size (offset + length text);
@@ -106,7 +107,7 @@ written_state geometry old new free i offset text is fits writes =
     (ap (shape_of geometry new i) kind
     ∙ (shape_stored geometry old new blocks i [] stores
     ∙ sym (ap (λ shape. stored_shape geometry.edition shape blocks)
-    (shape_inside geometry old i is.first is.last ∙ ap (shape_of geometry old i) is.kind))))
+    (shape_here geometry old i is.first is.last ∙ ap (shape_of geometry old i) is.kind))))
 
 -- nothing passes both
 none_passes : (t : Bool) → (t && false) ≡ false
@@ -128,8 +129,7 @@ truncated_state geometry old new free i is fits cuts =
     (λ passes. ap (λ n. not (n == 0)) (cuts.names p (record { file = file; place = place_passed (form_at geometry new i) p passes })))
     ∙ none_passes (is_place (form_at geometry new i) p) in
     let old_node = inode_of edition old i in
-    state_set geometry old new i _ _ is.first is.last (alone_time geometry old new i cuts.alone)
-    (λ j low high other. alone_stays geometry old new i j fits cuts.alone is.first low high other)
+    only_makes geometry old new i _ _ is.first is.last (only_file geometry old new i fits cuts.alone is.first)
     (node_edited geometry old new i (λ node. record node { content = Body []; size = 0 }) (Body (body geometry old i)) (Body (body geometry new i)) 0
     is.first is.last (ap (content_of geometry old i) is.kind) (ap (content_of geometry new i) kind)
     (fields_kept edition old new (inode_place edition i) cuts.alone.inode mode.permissions) cuts.size

@@ -17,7 +17,8 @@ use Rattle.vol_free.proofs.Stacks.{head_end}
 use Rattle.vol_file.proofs.Naming.{root_first}
 use Rattle.vol_volume.proofs.BlankStacks.{blank_free}
 use Rattle.vol_volume.proofs.NewRules.{new_sound}
-use Rattle.vol_volume.proofs.NewSizes.{fits_makeable, read_makeable, sizes_kept, time_kept, time_within}
+use Rattle.vol_node.proofs.WholeLaws.{super_order}
+use Rattle.vol_volume.proofs.NewSizes.{fits_makeable, read_makeable, sizes_kept, time_kept}
 use Rattle.vol_volume.specs.Blank.{blank_in, head_byte, HasHead, is_chain, block_byte, volume_byte, volume_bytes, IsBlank, IsFirst, IsMade}
 use Rattle.vol_volume.specs.Mkfs.{is_size, IsMakeable, IsNewVolume}
 
@@ -172,7 +173,7 @@ module _ (geometry : Geometry) (uid gid now : ℕ) (first : List ℕ) (makeable 
       let start = makeable.start in
       let len : length bytes ≡ 512 * geometry.zone_end = volume_len geometry first in
       let head : free_head edition + 202 ≤ 720 = head_end edition in
-      let within = time_within edition in
+      let within = super_order edition in
       let end : inode_place edition root + (constants edition).inode_bytes ≤ 1536 = root_end edition in
       let sizes = sizes_kept edition first bytes (λ k h. early k (omega arith)) in
       let time : IsCopy first bytes (time_place edition) (time_place edition) 4 = record { bytes = λ r h. early (time_place edition + r) (omega arith) } in

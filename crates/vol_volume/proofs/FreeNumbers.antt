@@ -16,7 +16,7 @@ use Rattle.vol_free.specs.Numbers.{IsFreeNumber}
 use Rattle.vol_file.specs.Rules.{kind_at, HasSoundFiles}
 use Rattle.vol_file.proofs.MissingLaws.{any_at}
 use Rattle.vol_dir.specs.Tree.{node_with, content_of, tree}
-use Rattle.vol_node.proofs.States.{node_here}
+use Rattle.vol_dir.proofs.WalkLaws.{node_inside}
 use Rattle.vol_volume.specs.Verdict.{is_free_number, has_free_number}
 use Rattle.vol_change.proofs.FreeKinds.{free_zero}
 use Rattle.vol_volume.proofs.NodeReadings.{node_of_kind}
@@ -54,7 +54,7 @@ module _ (geometry : Geometry) (image : List ℕ) (files : HasSoundFiles geometr
   -- an i-number of the volume has no node where its mode is 0
   none_is : (i : ℕ) → 1 ≤ i → i ≤ geometry.last_inode → is_none ((tree geometry image).nodes i) ≡ (mode_of geometry image i == 0)
   none_is i first last =
-      ap is_none (node_here geometry image i first last ∙ node_of_kind geometry image i (kind_at geometry image i) refl)
+      ap is_none (node_inside geometry image i first last ∙ node_of_kind geometry image i (kind_at geometry image i) refl)
       ∙ none_by i (kind_at geometry image i) refl (files.sound.kinds.known i first last)
 
   -- a free number has no node

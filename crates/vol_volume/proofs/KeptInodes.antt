@@ -15,11 +15,10 @@ use Rattle.vol_node.specs.Nodes.{node_at, names_at, size_with_entry}
 use Rattle.vol_node.specs.Shapes.{new_directory_shape}
 use Rattle.vol_node.specs.Unused.{IsCleared, KeepsUnused}
 use Rattle.vol_change.specs.Effects.{after_create, after_mkdir, after_link, after_unlink, after_rmdir}
-use Rattle.vol_change.proofs.FreeAfter.{links_kept}
+use Rattle.vol_change.proofs.FreeAfter.{entry_is, links_kept}
 use Rattle.vol_change.proofs.NodeEdits.{set_here}
 use Rattle.vol_change.proofs.SideStates.{set_beside}
 use Rattle.vol_volume.specs.Inodes.{is_free, KeepsInodes}
-use Rattle.vol_volume.proofs.NodeReadings.{entry_is}
 
 -- whether no node of a state has an i-number
 abbrev free_at : State → ℕ → Bool

@@ -6,7 +6,6 @@ use Rattle.vol_layout.specs.Edition.{constants}
 use Rattle.vol_layout.specs.Geometry.{Fits, is_whole, is_bounded, first_data_block, block_count, geometry_read}
 use Rattle.vol_layout.specs.Super.{free_head, time_place}
 use Rattle.vol_layout.proofs.CopyLaws.{IsCopy, long_copied}
-pub use Rattle.vol_node.proofs.FileStates.{time_behind as time_within}
 use Rattle.vol_volume.proofs.SoundSizes.{read_whole}
 use Rattle.vol_volume.specs.Mkfs.{is_size, IsMakeable}
 use Rattle.vol_layout.specs.declared.edition.Edition.{Edition}

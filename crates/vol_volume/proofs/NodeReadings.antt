@@ -10,13 +10,13 @@ use Rattle.vol_layout.specs.declared.mode.Kind.TheVariants as kinds
 use Rattle.vol_file.specs.Rules.{kind_at, HasSoundFiles}
 use Rattle.vol_file.proofs.Naming.{root_first}
 use Rattle.vol_dir.specs.Entries.{slots, IsDirectory, IsInUse}
-use Rattle.vol_dir.specs.Names.{get, names_of}
-use Rattle.vol_dir.specs.Tree.{Content, Node, State, node_of, node_with, content_of, tree}
+use Rattle.vol_dir.specs.Names.{names_of}
+use Rattle.vol_dir.specs.Tree.{Content, Node, node_of, node_with, content_of, tree}
 use Rattle.vol_dir.specs.Walk.{is_directory}
 use Rattle.vol_node.proofs.EntryStates.{names_is}
-use Rattle.vol_node.proofs.States.{node_here}
+use Rattle.vol_dir.proofs.WalkLaws.{node_inside}
 use Rattle.vol_node.proofs.WrittenStates.{IsKind}
-use Rattle.vol_node.specs.Nodes.{no_node, node_at, names_at, number_of_name}
+use Rattle.vol_node.specs.Nodes.{no_node, node_at, names_at}
 use Rattle.vol_volume.specs.Verdict.{is_device}
 
 -- the node of an i-number of the volume, by the kind of its i-node
@@ -36,7 +36,7 @@ module _ (geometry : Geometry) (image : List ℕ) where
   node_of_kind i kind is = ap (λ k. option_map (node_with (inode_of geometry.edition image i)) (content_of geometry image i k)) is
 
   pub node_is : (i : ℕ) (kind : Kind) → 1 ≤ i → i ≤ geometry.last_inode → kind_at geometry image i ≡ kind → node_at (tree geometry image) i ≡ node_by geometry image i kind
-  node_is i kind first last is = ap (λ n. unwrap_or n no_node) (node_here geometry image i first last ∙ node_of_kind i kind is)
+  node_is i kind first last is = ap (λ n. unwrap_or n no_node) (node_inside geometry image i first last ∙ node_of_kind i kind is)
 
   -- a node is a directory where its i-node is one
   pub directory_is : (i : ℕ) → 1 ≤ i → i ≤ geometry.last_inode → kind_at geometry image i ≡ kinds.Directory → is_directory (node_at (tree geometry image) i) ≡ true
@@ -114,11 +114,11 @@ module _ (geometry : Geometry) (image : List ℕ) where
       let stored = stored_by i kind used.allocated (files.sound.kinds.known i first used.last) in
       let is : node_of geometry image i ≡ Some (node_with (inode_of geometry.edition image i) stored.0) =
       node_of_kind i kind refl ∙ ap (option_map (node_with (inode_of geometry.edition image i))) stored.1 in
-      is ∙ sym (ap (λ n. Some (unwrap_or n no_node)) (node_here geometry image i first used.last ∙ is))
+      is ∙ sym (ap (λ n. Some (unwrap_or n no_node)) (node_inside geometry image i first used.last ∙ is))
 
   -- so its i-number has a node
   pub used_some : (i : ℕ) → 1 ≤ i → HasSoundFiles geometry image → IsInUse geometry image i → is_none ((tree geometry image).nodes i) ≡ false
-  used_some i first files used = ap is_none (node_here geometry image i first used.last ∙ node_stored i first files used)
+  used_some i first files used = ap is_none (node_inside geometry image i first used.last ∙ node_stored i first files used)
 
   -- and its node has the links that it stores
   pub links_are : (i : ℕ) → 1 ≤ i → HasSoundFiles geometry image → IsInUse geometry image i
@@ -128,11 +128,6 @@ module _ (geometry : Geometry) (image : List ℕ) where
       let stored = stored_by i kind used.allocated (files.sound.kinds.known i first used.last) in
       ap (λ (n : Node). n.links) (node_is i kind first used.last refl)
       ∙ ap (λ c. (unwrap_or (option_map (node_with (inode_of geometry.edition image i)) c) no_node).links) stored.1
-
-  -- a directory is in use
-  pub in_use : (d : ℕ) → HasSoundFiles geometry image → IsDirectory geometry image d → (constants geometry.edition).root ≤ d → IsInUse geometry image d
-  in_use d files directory above =
-      record { first = above; last = directory.last; allocated = λ free. let e : kinds.Directory ≡ kinds.Free = sym directory.kind ∙ free in cc }
 
   -- of the kinds of what is in use, a regular file is left
   regular_by : (kind : Kind) → kind ≢ kinds.Free → kind ≢ kinds.Odd → kind ≢ kinds.Directory → kind ≢ kinds.Special → kind ≡ kinds.Regular
@@ -158,7 +153,3 @@ module _ (geometry : Geometry) (image : List ℕ) where
   regular_file i files used directory special =
       let first = used_first i used in
       regular_left i first files used (other_kind i first used.last directory) (other_device i first used.last special)
-
--- the i-number that a directory has for a name
-pub entry_is : (state : State) (d i : ℕ) (name : List ℕ) → get (names_at state.tree d) name ≡ Some i → number_of_name state.tree d name ≡ i
-entry_is state d i name named = ap (λ o. unwrap_or o 0) named

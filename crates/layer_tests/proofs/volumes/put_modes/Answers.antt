@@ -10,17 +10,13 @@ use Rattle.vol_layout.specs.declared.geometry.Geometry.{Geometry}
 use Rattle.vol_file.specs.Rules.{IsSoundWith}
 use Rattle.vol_file.proofs.EmptyVolumes.{volume_sound}
 use Rattle.layer_tests.proofs.volumes.put_modes.Goals as goal
-
--- the root's i-number is an i-number
-root_from : (edition : Edition) → 1 ≤ (constants edition).root
-root_from V6 = omega arith
-root_from V7 = omega arith
+use Rattle.vol_file.proofs.Naming.{root_first}
 
 -- the root of a sound volume is a directory of it
 root_file : (geometry : Geometry) (image blocks : List ℕ) → IsSoundWith geometry image blocks → IsFile geometry image (constants geometry.edition).root
 root_file geometry image blocks sound =
     let last = sound.fits.root in
-    record { first = root_from geometry.edition; last = omega (arith, last); kind = ap has_places sound.kinds.root }
+    record { first = root_first geometry.edition; last = omega (arith, last); kind = ap has_places sound.kinds.root }
 
 -- the volume is sound
 made : goal.returns-clause-sound

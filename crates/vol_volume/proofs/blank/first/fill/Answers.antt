@@ -5,7 +5,8 @@ use Rattle.vol_layout.specs.Super.{free_head, time_place}
 use Rattle.vol_layout.proofs.CopyLaws.{IsCopy}
 use Rattle.vol_layout.proofs.InodeLaws.{place_from}
 use Rattle.vol_free.proofs.Stacks.{head_end}
-use Rattle.vol_volume.proofs.NewSizes.{start_limit, sizes_kept, time_kept, time_within}
+use Rattle.vol_node.proofs.WholeLaws.{super_order}
+use Rattle.vol_volume.proofs.NewSizes.{start_limit, sizes_kept, time_kept}
 use Rattle.vol_volume.proofs.NewVolumes.{root_storable}
 use Rattle.vol_volume.proofs.blank.first.fill.Goals as goal
 
@@ -23,7 +24,7 @@ returns c =
     let sized = c.put_super.new.image in
     let all = c.put_root.new.image in
     let head : free_head edition + 202 ≤ 720 = head_end edition in
-    let within = time_within edition in
+    let within = super_order edition in
     let place : 1024 ≤ inode_place edition root = place_from edition root in
     let super : (k : ℕ) → k < 1024 → get_or all k 0 ≡ get_or sized k 0 = λ k h. c.put_root.ensures.before k (omega arith) in
     let sizes = sizes_kept edition sized all (λ k h. super k (omega arith)) in

@@ -10,7 +10,8 @@ use Rattle.vol_change.proofs.ReadyLaws.{ready_whole}
 use Rattle.vol_volume.specs.Verdict.{has_others}
 use Rattle.vol_volume.proofs.Accepted.{rmdir_led, rmdir_passed}
 use Rattle.vol_volume.proofs.KeptInodes.{rmdir_inodes}
-use Rattle.vol_volume.proofs.NodeReadings.{tree_geometry, used_first, used_some, directory_from, entry_is}
+use Rattle.vol_change.proofs.FreeAfter.{entry_is}
+use Rattle.vol_volume.proofs.NodeReadings.{tree_geometry, used_first, used_some, directory_from}
 use Rattle.vol_volume.proofs.PerformedCalls.{performed_by, step_rmdir, free_low}
 use Rattle.vol_volume.specs.declared.calls.Call.TheVariants.{Rmdir}
 use Rattle.vol_volume.specs.declared.calls.Done.TheVariants.{Plain}

@@ -8,7 +8,8 @@ use Rattle.vol_change.specs.Effects.{after_unlink}
 use Rattle.vol_change.specs.Ready.{free_in}
 use Rattle.vol_volume.proofs.Accepted.{unlink_led, unlink_passed}
 use Rattle.vol_volume.proofs.KeptInodes.{unlink_inodes}
-use Rattle.vol_volume.proofs.NodeReadings.{tree_geometry, used_first, used_some, links_are, other_kind, entry_is}
+use Rattle.vol_change.proofs.FreeAfter.{entry_is}
+use Rattle.vol_volume.proofs.NodeReadings.{tree_geometry, used_first, used_some, links_are, other_kind}
 use Rattle.vol_volume.proofs.PerformedCalls.{performed_by, step_unlink, free_low, freed_blocks, free_unlinked}
 use Rattle.vol_volume.specs.declared.calls.Call.TheVariants.{Unlink}
 use Rattle.vol_volume.specs.declared.calls.Done.TheVariants.{Plain}

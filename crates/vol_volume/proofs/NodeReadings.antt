@@ -11,12 +11,13 @@ use Rattle.vol_file.specs.Rules.{kind_at, HasSoundFiles}
 use Rattle.vol_file.proofs.Naming.{root_first}
 use Rattle.vol_dir.specs.Entries.{slots, IsDirectory, IsInUse}
 use Rattle.vol_dir.specs.Names.{names_of}
-use Rattle.vol_dir.specs.Tree.{Content, Node, node_of, node_with, content_of, tree}
+use Rattle.vol_dir.specs.Tree.{Node, node_of, node_with, content_of, tree}
 use Rattle.vol_dir.specs.Walk.{is_directory}
 use Rattle.vol_node.proofs.EntryStates.{names_is}
 use Rattle.vol_dir.proofs.WalkLaws.{node_inside}
 use Rattle.vol_node.proofs.WrittenStates.{IsKind}
 use Rattle.vol_node.specs.Nodes.{no_node, node_at, names_at}
+use Rattle.vol_change.proofs.NodeLinks.{content_there, links_is}
 use Rattle.vol_volume.specs.Verdict.{is_device}
 
 -- the node of an i-number of the volume, by the kind of its i-node
@@ -98,20 +99,12 @@ module _ (geometry : Geometry) (image : List ℕ) where
   pub other_device : (i : ℕ) → 1 ≤ i → i ≤ geometry.last_inode → is_device (node_at (tree geometry image) i).content ≡ false → kind_at geometry image i ≢ kinds.Special
   other_device i first last other is = false≢true (sym other ∙ device_is i first last is)
 
-  stored_by : (i : ℕ) (kind : Kind) → kind ≢ kinds.Free → kind ≢ kinds.Odd
-      → (content : Content) × (content_of geometry image i kind ≡ Some content)
-  stored_by i kinds.Free used known = absurd (used refl)
-  stored_by i kinds.Regular used known = (_, refl)
-  stored_by i kinds.Directory used known = (_, refl)
-  stored_by i kinds.Special used known = (_, refl)
-  stored_by i kinds.Odd used known = absurd (known refl)
-
   -- an allocated i-node reads as its node
   pub node_stored : (i : ℕ) → 1 ≤ i → HasSoundFiles geometry image → IsInUse geometry image i
       → node_of geometry image i ≡ Some (node_at (tree geometry image) i)
   node_stored i first files used =
       let kind = kind_at geometry image i in
-      let stored = stored_by i kind used.allocated (files.sound.kinds.known i first used.last) in
+      let stored = content_there geometry image i kind used.allocated (files.sound.kinds.known i first used.last) in
       let is : node_of geometry image i ≡ Some (node_with (inode_of geometry.edition image i) stored.0) =
       node_of_kind i kind refl ∙ ap (option_map (node_with (inode_of geometry.edition image i))) stored.1 in
       is ∙ sym (ap (λ n. Some (unwrap_or n no_node)) (node_inside geometry image i first used.last ∙ is))
@@ -123,11 +116,7 @@ module _ (geometry : Geometry) (image : List ℕ) where
   -- and its node has the links that it stores
   pub links_are : (i : ℕ) → 1 ≤ i → HasSoundFiles geometry image → IsInUse geometry image i
       → (node_at (tree geometry image) i).links ≡ (inode_of geometry.edition image i).links
-  links_are i first files used =
-      let kind = kind_at geometry image i in
-      let stored = stored_by i kind used.allocated (files.sound.kinds.known i first used.last) in
-      ap (λ (n : Node). n.links) (node_is i kind first used.last refl)
-      ∙ ap (λ c. (unwrap_or (option_map (node_with (inode_of geometry.edition image i)) c) no_node).links) stored.1
+  links_are i first files used = links_is geometry image i files.sound.kinds first used.last used.allocated
 
   -- of the kinds of what is in use, a regular file is left
   regular_by : (kind : Kind) → kind ≢ kinds.Free → kind ≢ kinds.Odd → kind ≢ kinds.Directory → kind ≢ kinds.Special → kind ≡ kinds.Regular

@@ -46,7 +46,7 @@ first_refused geometry image cred path refusal is =
     λ others. refused_by (is_bad_id geometry.edition cred.uid cred.gid) (has_zero path) (of_node (walk (tree geometry image) cred path) others) refusal is
 
 -- what is asked after these
-asked : (geometry : Geometry) (image : List ℕ) (cred : Cred) (path : List ℕ) (others : Option Refusal)
+pub asked : (geometry : Geometry) (image : List ℕ) (cred : Cred) (path : List ℕ) (others : Option Refusal)
     → None ≡ (if is_bad_id geometry.edition cred.uid cred.gid then Some refusals.BadId else if has_zero path then Some refusals.Invalid else None)
     → then_others (tree geometry image) cred (path ∷ []) others ≡ others
 unfolding tree

@@ -1,5 +1,6 @@
 //! The answers to queries.
-ghost use Rattle.std.specs.Prelude.{◌≡◌, None, MatchResult, IfOk};
+ghost use Rattle.std.specs.Prelude.{◌≡◌, MatchResult, OnOk, IfOk};
+ghost use Rattle.std.specs.Result.{result_err};
 ghost use Rattle.vol_layout.specs.Body.{body};
 ghost use Rattle.vol_layout.specs.Geometry.{geometry_of};
 ghost use Rattle.vol_layout.specs.Names.{IsFile};
@@ -15,7 +16,7 @@ ghost use Rattle.vol_volume.specs.Verdict.{first_of};
 
 use crate::bytes::Bytes;
 use crate::queries::{Listing, Query, Reply, Stat};
-use crate::verdicts::asked::{first_refusal, is_directory, is_granted};
+use crate::verdicts::asked::{first_tests, is_directory, is_granted, refuse_if};
 use crate::verdicts::body::body_tests;
 use crate::verdicts::stands;
 use pdp_words::Image;
@@ -89,9 +90,7 @@ fn answer_read(
     ensures { Answers (tree geometry.now image.now) (Query.Read cred path.now offset len) result }
 {
     let i = find_node(image, geometry, cred, path)?;
-    if let Some(refusal) = body_tests(image, geometry, Access::Read, cred, i) {
-        return Err(refusal);
-    }
+    body_tests(image, geometry, Access::Read, cred, i)?;
     match read(alloc, image, geometry, i, offset, len) {
         Ok(bytes) => Ok(Reply::Bytes(Bytes::from_vec(bytes))),
         Err(_) => Err(Refusal::NoMemory),
@@ -110,9 +109,7 @@ fn answer_list(
     ensures { Answers (tree geometry.now image.now) (Query.List cred path.now) result }
 {
     let i = find_node(image, geometry, cred, path)?;
-    if let Some(refusal) = list_refusal(image, geometry, cred, i) {
-        return Err(refusal);
-    }
+    list_tests(image, geometry, cred, i)?;
     match list(alloc, image, geometry, i) {
         Ok(names) => Ok(Reply::Names(Listing::from_vec(names))),
         Err(_) => Err(Refusal::NoMemory),
@@ -126,10 +123,8 @@ fn find_node(image: &Image, geometry: &Geometry, cred: Cred, path: &[u8]) -> Res
         (IsRefused (tree geometry.now image.now) cred path.now) }
     ensures used { IfOk result (λ i. IsInUse geometry.now image.now i) }
 {
-    match first_refusal(geometry, cred, path) {
-        Some(refusal) => Err(refusal),
-        None => walk(image, geometry, cred, path),
-    }
+    first_tests(geometry, cred, path)?;
+    walk(image, geometry, cred, path)
 }
 
 /// What is told of i-node `i`.
@@ -153,20 +148,18 @@ fn stat(image: &Image, geometry: &Geometry, i: u16) -> Stat
     }
 }
 
-/// Why i-node `i` isn't a directory that may be read, if it isn't.
-fn list_refusal(image: &Image, geometry: &Geometry, cred: Cred, i: u16) -> Option<Refusal>
+/// What is asked of i-node `i`, which is in use, where the names of a directory are to be listed.
+fn list_tests(image: &Image, geometry: &Geometry, cred: Cred, i: u16) -> Result<(), Refusal>
     requires stands { Stands geometry.now image.now }
     requires used { IsInUse geometry.now image.now i }
-    ensures first { result ≡ first_of (list_tests (tree geometry.now image.now) cred i) }
-    ensures directory { result ≡ None → IsDirectory geometry.now image.now i }
+    ensures exact { result_err result ≡ first_of (list_tests (tree geometry.now image.now) cred i) }
+    ensures directory { OnOk result (IsDirectory geometry.now image.now i) }
 {
-    if !is_directory(image, geometry, i) {
-        Some(Refusal::NotDirectory)
-    } else if !is_granted(image, geometry, i, Access::Read, cred) {
-        Some(Refusal::Access)
-    } else {
-        None
-    }
+    refuse_if(!is_directory(image, geometry, i), Refusal::NotDirectory)?;
+    refuse_if(
+        !is_granted(image, geometry, i, Access::Read, cred),
+        Refusal::Access,
+    )
 }
 
 /// The bytes of the regular file `i` from byte `offset` on, at most `len`.

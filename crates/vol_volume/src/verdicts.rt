@@ -1,5 +1,6 @@
 //! Which refusal a call meets, if any.
 ghost use Rattle.std.specs.Prelude.{◌≡◌};
+ghost use Rattle.std.specs.Result.{result_err};
 ghost use Rattle.vol_layout.specs.Geometry.{geometry_of};
 ghost use Rattle.vol_dir.specs.Tree.{state, free_count, shapes};
 ghost use Rattle.vol_judge.specs.Sound.{IsSound};
@@ -26,17 +27,22 @@ use vol_dir::Refusal;
 use vol_layout::Geometry;
 use vol_layout::super_block::SUPER;
 
-/// The refusal that a call meets, if any: of those beside want of memory the first that applies, in the
-/// order of the definition. `free` is the number of free blocks.
+/// Ok where nothing speaks against a call; else its refusal, of those beside want of memory the first that
+/// applies, in the order of the definition. `free` is the number of free blocks.
 ///
 /// Costs the walks of the call's paths, and a search of the last directory for the name. A new entry costs
 /// one more for its slot, a new node one for a free i-number, a directory that goes a look at its slots, and
 /// a write one way for each logical block that it touches.
-pub(crate) fn verdict(image: &Image, geometry: &Geometry, free: u32, call: &Call) -> Option<Refusal>
+pub(crate) fn verdict(
+    image: &Image,
+    geometry: &Geometry,
+    free: u32,
+    call: &Call,
+) -> Result<(), Refusal>
     requires sound { IsSound geometry.now.edition image.now }
     requires sizes { geometry.now ≡ geometry_of geometry.now.edition image.now }
     requires count { free ≡ free_count geometry.now (shapes geometry.now image.now) }
-    ensures { result ≡ verdict (state geometry.now image.now) call.now }
+    ensures { result_err result ≡ verdict (state geometry.now image.now) call.now }
 {
     stands(image, geometry);
     verdict_on(image, geometry, free, call)
@@ -44,10 +50,10 @@ pub(crate) fn verdict(image: &Image, geometry: &Geometry, free: u32, call: &Call
 
 /// What a call meets in an image that stands.
 #[tactic(auto, unfolding(crate::specs::Verdict::verdict))]
-fn verdict_on(image: &Image, geometry: &Geometry, free: u32, call: &Call) -> Option<Refusal>
+fn verdict_on(image: &Image, geometry: &Geometry, free: u32, call: &Call) -> Result<(), Refusal>
     requires stands { Stands geometry.now image.now }
     requires count { free ≡ free_count geometry.now (shapes geometry.now image.now) }
-    ensures { result ≡ verdict (state geometry.now image.now) call.now }
+    ensures { result_err result ≡ verdict (state geometry.now image.now) call.now }
 {
     match call {
         Call::Create { cred, path, .. } => create(image, geometry, free, *cred, path.as_slice()),

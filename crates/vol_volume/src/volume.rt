@@ -175,7 +175,7 @@ impl Volume {
     {
         // The journal grows by the allocator that it was made with.
         let _ = alloc;
-        if let Some(refusal) = verdict(&self.current, &self.geometry, self.free, &call) {
+        if let Err(refusal) = verdict(&self.current, &self.geometry, self.free, &call) {
             return Err((refusal, call));
         }
         if self.records.reserve(1).is_err() {

@@ -1,5 +1,6 @@
 //! What is asked of calls one by one: facts of i-nodes, names and free blocks.
 ghost use Rattle.std.specs.Prelude.{◌≡◌, ◌≢◌, ℕ, ◌*◌, ◌≤◌, if◌then◌else◌, Bool, true, false, List, None, Some, Ok, IfSome, IfOk, MatchResult};
+ghost use Rattle.std.specs.Result.{result_err};
 ghost use Rattle.vol_layout.specs.Geometry.{Fits};
 ghost use Rattle.vol_file.specs.Rules.{kind_at};
 ghost use Rattle.vol_dir.specs.Access.{bit_of, grants};
@@ -167,18 +168,23 @@ pub(crate) fn has_zero(path: &[u8]) -> bool
     path.contains(&0)
 }
 
+/// Refuses with `refusal` where `is_met` holds.
+pub(crate) fn refuse_if(is_met: bool, refusal: Refusal) -> Result<(), Refusal>
+    ensures { MatchResult result (λ _. is_met ≡ false) (λ error. (is_met ≡ true) × (error ≡ refusal)) }
+{
+    if is_met { Err(refusal) } else { Ok(()) }
+}
+
 /// What every call and query is asked first: its user and group numbers, and zero bytes in its path.
-pub(crate) fn first_refusal(geometry: &Geometry, cred: Cred, path: &[u8]) -> Option<Refusal>
-    ensures { result ≡ (if is_bad_id geometry.now.edition cred.uid cred.gid then Some Refusal.BadId
+pub(crate) fn first_tests(geometry: &Geometry, cred: Cred, path: &[u8]) -> Result<(), Refusal>
+    ensures { result_err result ≡ (if is_bad_id geometry.now.edition cred.uid cred.gid then Some Refusal.BadId
         else if has_zero path.now then Some Refusal.Invalid else None) }
 {
-    if is_bad_id(geometry.edition, cred.uid, cred.gid) {
-        Some(Refusal::BadId)
-    } else if has_zero(path) {
-        Some(Refusal::Invalid)
-    } else {
-        None
-    }
+    refuse_if(
+        is_bad_id(geometry.edition, cred.uid, cred.gid),
+        Refusal::BadId,
+    )?;
+    refuse_if(has_zero(path), Refusal::Invalid)
 }
 
 /// The parent that a path leads to, and its last component. A path without component is refused as `bare`.
@@ -196,9 +202,5 @@ pub(crate) fn parent<'a>(
         → of_parent (walk_parent (tree geometry.now image.now) cred path.now) bare tests ≡ Some refusal) }
     ensures directory { IfOk result (λ found. IsDirectory geometry.now image.now found.0) }
 {
-    match walk_parent(image, geometry, cred, path) {
-        None => Err(bare),
-        Some(Err(refusal)) => Err(refusal),
-        Some(Ok(found)) => Ok(found),
-    }
+    walk_parent(image, geometry, cred, path).unwrap_or(Err(bare))
 }

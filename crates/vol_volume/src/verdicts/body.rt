@@ -1,5 +1,6 @@
 //! Calls that change the bytes of a file.
-ghost use Rattle.std.specs.Prelude.{◌≡◌, ◌+◌, ◌≤◌, nat_lt, [], ◌∷◌, None};
+ghost use Rattle.std.specs.Prelude.{◌≡◌, ◌+◌, ◌≤◌, nat_lt, [], ◌∷◌, OnOk};
+ghost use Rattle.std.specs.Result.{result_err};
 ghost use Rattle.vol_layout.specs.Edition.{constants};
 ghost use Rattle.vol_file.specs.Rules.{kind_at};
 ghost use Rattle.vol_dir.specs.Access.{bit_of, may_write};
@@ -9,7 +10,7 @@ ghost use Rattle.vol_dir.specs.Walk.{walk};
 ghost use Rattle.vol_volume.specs.Standing.{Stands};
 ghost use Rattle.vol_volume.specs.Verdict.{first_of, is_too_great, write_need, is_above_free, then_others, of_node, body_tests, write_tests};
 
-use crate::verdicts::asked::{first_refusal, is_device, is_directory, is_granted};
+use crate::verdicts::asked::{first_tests, is_device, is_directory, is_granted, refuse_if};
 use pdp_words::Image;
 use vol_dir::{Access, Cred, Refusal, walk};
 use vol_file::need;
@@ -23,21 +24,18 @@ pub(crate) fn body_tests(
     access: Access,
     cred: Cred,
     i: u16,
-) -> Option<Refusal>
+) -> Result<(), Refusal>
     requires stands { Stands geometry.now image.now }
     requires used { IsInUse geometry.now image.now i }
-    ensures exact { result ≡ first_of (body_tests (tree geometry.now image.now) (bit_of access) cred i) }
-    ensures regular { result ≡ None → kind_at geometry.now image.now i ≡ Kind.Regular }
+    ensures exact { result_err result ≡ first_of (body_tests (tree geometry.now image.now) (bit_of access) cred i) }
+    ensures regular { OnOk result (kind_at geometry.now image.now i ≡ Kind.Regular) }
 {
-    if is_directory(image, geometry, i) {
-        Some(Refusal::IsDirectory)
-    } else if is_device(image, geometry, i) {
-        Some(Refusal::NotRegular)
-    } else if !is_granted(image, geometry, i, access, cred) {
-        Some(Refusal::Access)
-    } else {
-        None
-    }
+    refuse_if(is_directory(image, geometry, i), Refusal::IsDirectory)?;
+    refuse_if(is_device(image, geometry, i), Refusal::NotRegular)?;
+    refuse_if(
+        !is_granted(image, geometry, i, access, cred),
+        Refusal::Access,
+    )
 }
 
 /// Whether `len` bytes from byte `offset` on end past the greatest file.
@@ -77,23 +75,21 @@ fn room_tests(
     i: u16,
     offset: u32,
     len: usize,
-) -> Option<Refusal>
+) -> Result<(), Refusal>
     requires stands { Stands geometry.now image.now }
     requires count { free ≡ free_count geometry.now (shapes geometry.now image.now) }
     requires first { 1 ≤ i }
     requires last { i ≤ geometry.now.last_inode }
     requires file { kind_at geometry.now image.now i ≡ Kind.Regular }
-    ensures { result ≡ first_of ((is_too_great (tree geometry.now image.now) (offset + len), Refusal.TooBig)
+    ensures { result_err result ≡ first_of ((is_too_great (tree geometry.now image.now) (offset + len), Refusal.TooBig)
         ∷ (is_above_free (state geometry.now image.now) (write_need (state geometry.now image.now) i offset len), Refusal.NoSpace)
         ∷ []) }
 {
-    if is_too_great(geometry, offset, len) {
-        Some(Refusal::TooBig)
-    } else if lacks_room_for_bytes(image, geometry, free, i, offset, len as u32) {
-        Some(Refusal::NoSpace)
-    } else {
-        None
-    }
+    refuse_if(is_too_great(geometry, offset, len), Refusal::TooBig)?;
+    refuse_if(
+        lacks_room_for_bytes(image, geometry, free, i, offset, len as u32),
+        Refusal::NoSpace,
+    )
 }
 
 /// What is asked of i-node `i`, which is in use, where `len` bytes are written from byte `offset` on.
@@ -105,16 +101,14 @@ fn write_tests(
     i: u16,
     offset: u32,
     len: usize,
-) -> Option<Refusal>
+) -> Result<(), Refusal>
     requires stands { Stands geometry.now image.now }
     requires count { free ≡ free_count geometry.now (shapes geometry.now image.now) }
     requires used { IsInUse geometry.now image.now i }
-    ensures { result ≡ first_of (write_tests (state geometry.now image.now) cred offset len i) }
+    ensures { result_err result ≡ first_of (write_tests (state geometry.now image.now) cred offset len i) }
 {
-    match body_tests(image, geometry, Access::Write, cred, i) {
-        Some(refusal) => Some(refusal),
-        None => room_tests(image, geometry, free, i, offset, len),
-    }
+    body_tests(image, geometry, Access::Write, cred, i)?;
+    room_tests(image, geometry, free, i, offset, len)
 }
 
 /// What a call that writes `len` bytes from byte `offset` on meets.
@@ -127,19 +121,15 @@ pub(crate) fn write(
     path: &[u8],
     offset: u32,
     len: usize,
-) -> Option<Refusal>
+) -> Result<(), Refusal>
     requires stands { Stands geometry.now image.now }
     requires count { free ≡ free_count geometry.now (shapes geometry.now image.now) }
-    ensures { result ≡ then_others (tree geometry.now image.now) cred (path.now ∷ [])
+    ensures { result_err result ≡ then_others (tree geometry.now image.now) cred (path.now ∷ [])
         (of_node (walk (tree geometry.now image.now) cred path.now) (λ i. first_of (write_tests (state geometry.now image.now) cred offset len i))) }
 {
-    if let Some(refusal) = first_refusal(geometry, cred, path) {
-        return Some(refusal);
-    }
-    match walk(image, geometry, cred, path) {
-        Ok(i) => write_tests(image, geometry, free, cred, i, offset, len),
-        Err(refusal) => Some(refusal),
-    }
+    first_tests(geometry, cred, path)?;
+    let i = walk(image, geometry, cred, path)?;
+    write_tests(image, geometry, free, cred, i, offset, len)
 }
 
 /// What a call by which a file becomes empty meets.
@@ -149,16 +139,12 @@ pub(crate) fn truncate(
     geometry: &Geometry,
     cred: Cred,
     path: &[u8],
-) -> Option<Refusal>
+) -> Result<(), Refusal>
     requires { Stands geometry.now image.now }
-    ensures { result ≡ then_others (tree geometry.now image.now) cred (path.now ∷ [])
+    ensures { result_err result ≡ then_others (tree geometry.now image.now) cred (path.now ∷ [])
         (of_node (walk (tree geometry.now image.now) cred path.now) (λ i. first_of (body_tests (tree geometry.now image.now) may_write cred i))) }
 {
-    if let Some(refusal) = first_refusal(geometry, cred, path) {
-        return Some(refusal);
-    }
-    match walk(image, geometry, cred, path) {
-        Ok(i) => body_tests(image, geometry, Access::Write, cred, i),
-        Err(refusal) => Some(refusal),
-    }
+    first_tests(geometry, cred, path)?;
+    let i = walk(image, geometry, cred, path)?;
+    body_tests(image, geometry, Access::Write, cred, i)
 }

@@ -1,5 +1,6 @@
 //! A call for a new directory.
 ghost use Rattle.std.specs.Prelude.{◌≡◌, ◌+◌, ◌*◌, [], ◌∷◌};
+ghost use Rattle.std.specs.Result.{result_err};
 ghost use Rattle.vol_dir.specs.Entries.{IsDirectory, slots};
 ghost use Rattle.vol_dir.specs.Names.{names_in};
 ghost use Rattle.vol_dir.specs.Searching.{new_slot};
@@ -10,8 +11,8 @@ ghost use Rattle.vol_volume.specs.Verdict.{first_of, is_above_free, then_others,
 ghost use Rattle.vol_change.specs.Ready.{entry_need};
 
 use crate::verdicts::asked::{
-    entry, entry_need_at, first_refusal, has_free_number, is_full, is_granted,
-    is_too_great_with_entry, parent,
+    entry, entry_need_at, first_tests, has_free_number, is_full, is_granted,
+    is_too_great_with_entry, parent, refuse_if,
 };
 use pdp_words::Image;
 use vol_dir::{Access, Cred, Refusal, place_for};
@@ -44,30 +45,28 @@ fn mkdir_tests(
     cred: Cred,
     dir: u16,
     name: &[u8],
-) -> Option<Refusal>
+) -> Result<(), Refusal>
     requires stands { Stands geometry.now image.now }
     requires count { free ≡ free_count geometry.now (shapes geometry.now image.now) }
     requires directory { IsDirectory geometry.now image.now dir }
-    ensures { result ≡ first_of (mkdir_tests (state geometry.now image.now) cred dir name.now) }
+    ensures { result_err result ≡ first_of (mkdir_tests (state geometry.now image.now) cred dir name.now) }
 {
-    if entry(image, geometry, dir, name).is_some() {
-        Some(Refusal::Exists)
-    } else if !is_granted(image, geometry, dir, Access::Write, cred) {
-        Some(Refusal::Access)
-    } else if is_full(image, geometry, dir) {
-        Some(Refusal::TooManyLinks)
-    } else {
-        let place = place_for(image, geometry, dir);
-        if is_too_great_with_entry(image, geometry, dir, place) {
-            Some(Refusal::TooBig)
-        } else if !has_free_number(image, geometry) {
-            Some(Refusal::NoInode)
-        } else if lacks_room_for_directory(image, geometry, free, dir, place) {
-            Some(Refusal::NoSpace)
-        } else {
-            None
-        }
-    }
+    refuse_if(entry(image, geometry, dir, name).is_some(), Refusal::Exists)?;
+    refuse_if(
+        !is_granted(image, geometry, dir, Access::Write, cred),
+        Refusal::Access,
+    )?;
+    refuse_if(is_full(image, geometry, dir), Refusal::TooManyLinks)?;
+    let place = place_for(image, geometry, dir);
+    refuse_if(
+        is_too_great_with_entry(image, geometry, dir, place),
+        Refusal::TooBig,
+    )?;
+    refuse_if(!has_free_number(image, geometry), Refusal::NoInode)?;
+    refuse_if(
+        lacks_room_for_directory(image, geometry, free, dir, place),
+        Refusal::NoSpace,
+    )
 }
 
 /// What a call for a new directory meets.
@@ -78,17 +77,13 @@ pub(crate) fn mkdir(
     free: u32,
     cred: Cred,
     path: &[u8],
-) -> Option<Refusal>
+) -> Result<(), Refusal>
     requires stands { Stands geometry.now image.now }
     requires count { free ≡ free_count geometry.now (shapes geometry.now image.now) }
-    ensures { result ≡ then_others (tree geometry.now image.now) cred (path.now ∷ [])
+    ensures { result_err result ≡ then_others (tree geometry.now image.now) cred (path.now ∷ [])
         (of_parent (walk_parent (tree geometry.now image.now) cred path.now) Refusal.Exists (mkdir_tests (state geometry.now image.now) cred)) }
 {
-    if let Some(refusal) = first_refusal(geometry, cred, path) {
-        return Some(refusal);
-    }
-    match parent(image, geometry, cred, path, Refusal::Exists) {
-        Ok((dir, name)) => mkdir_tests(image, geometry, free, cred, dir, name),
-        Err(refusal) => Some(refusal),
-    }
+    first_tests(geometry, cred, path)?;
+    let (dir, name) = parent(image, geometry, cred, path, Refusal::Exists)?;
+    mkdir_tests(image, geometry, free, cred, dir, name)
 }

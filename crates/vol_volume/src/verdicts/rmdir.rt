@@ -1,12 +1,15 @@
 //! A call by which a directory goes.
 ghost use Rattle.std.specs.Prelude.{◌≡◌, [], ◌∷◌};
+ghost use Rattle.std.specs.Result.{result_err};
 ghost use Rattle.vol_dir.specs.Entries.{IsDirectory};
 ghost use Rattle.vol_dir.specs.Tree.{tree, state};
 ghost use Rattle.vol_dir.specs.Walk.{walk_parent};
 ghost use Rattle.vol_volume.specs.Standing.{Stands};
 ghost use Rattle.vol_volume.specs.Verdict.{first_of, then_others, of_parent, rmdir_tests};
 
-use crate::verdicts::asked::{entry, first_refusal, has_others, is_directory, is_granted, parent};
+use crate::verdicts::asked::{
+    entry, first_tests, has_others, is_directory, is_granted, parent, refuse_if,
+};
 use pdp_words::Image;
 use vol_dir::{Access, Cred, Refusal, is_dots};
 use vol_layout::Geometry;
@@ -18,40 +21,34 @@ fn rmdir_tests(
     cred: Cred,
     dir: u16,
     name: &[u8],
-) -> Option<Refusal>
+) -> Result<(), Refusal>
     requires stands { Stands geometry.now image.now }
     requires directory { IsDirectory geometry.now image.now dir }
-    ensures { result ≡ first_of (rmdir_tests (state geometry.now image.now) cred dir name.now) }
+    ensures { result_err result ≡ first_of (rmdir_tests (state geometry.now image.now) cred dir name.now) }
 {
-    if is_dots(name) {
-        return Some(Refusal::Invalid);
-    }
-    let Some(i) = entry(image, geometry, dir, name) else {
-        return Some(Refusal::NoEntry);
-    };
-    if !is_granted(image, geometry, dir, Access::Write, cred) {
-        Some(Refusal::Access)
-    } else if !is_directory(image, geometry, i) {
-        Some(Refusal::NotDirectory)
-    } else if has_others(image, geometry, i) {
-        Some(Refusal::NotEmpty)
-    } else {
-        None
-    }
+    refuse_if(is_dots(name), Refusal::Invalid)?;
+    let i = entry(image, geometry, dir, name).ok_or(Refusal::NoEntry)?;
+    refuse_if(
+        !is_granted(image, geometry, dir, Access::Write, cred),
+        Refusal::Access,
+    )?;
+    refuse_if(!is_directory(image, geometry, i), Refusal::NotDirectory)?;
+    refuse_if(has_others(image, geometry, i), Refusal::NotEmpty)
 }
 
 /// What a call by which a directory goes meets.
 #[tactic(auto, using(crate::proofs::NodeReadings::tree_geometry))]
-pub(crate) fn rmdir(image: &Image, geometry: &Geometry, cred: Cred, path: &[u8]) -> Option<Refusal>
+pub(crate) fn rmdir(
+    image: &Image,
+    geometry: &Geometry,
+    cred: Cred,
+    path: &[u8],
+) -> Result<(), Refusal>
     requires { Stands geometry.now image.now }
-    ensures { result ≡ then_others (tree geometry.now image.now) cred (path.now ∷ [])
+    ensures { result_err result ≡ then_others (tree geometry.now image.now) cred (path.now ∷ [])
         (of_parent (walk_parent (tree geometry.now image.now) cred path.now) Refusal.Invalid (rmdir_tests (state geometry.now image.now) cred)) }
 {
-    if let Some(refusal) = first_refusal(geometry, cred, path) {
-        return Some(refusal);
-    }
-    match parent(image, geometry, cred, path, Refusal::Invalid) {
-        Ok((dir, name)) => rmdir_tests(image, geometry, cred, dir, name),
-        Err(refusal) => Some(refusal),
-    }
+    first_tests(geometry, cred, path)?;
+    let (dir, name) = parent(image, geometry, cred, path, Refusal::Invalid)?;
+    rmdir_tests(image, geometry, cred, dir, name)
 }

@@ -1,10 +1,13 @@
+use Rattle.std.proofs.lemmas.Result.{err_from_is_err_and}
 use Rattle.vol_volume.proofs.AnsweredQueries.{first_refused, walked}
 use Rattle.vol_volume.proofs.answering.find_node.Goals as goal
 
-pub returns-in-Some-clause-found : goal.returns-in-Some-clause-found
-returns-in-Some-clause-found c =
-    first_refused c.args.geometry.now c.args.image.now c.args.cred c.args.path.now c.in-Some.refusal c.in-Some.ensures
+pub returns-in_err-first_tests-clause-found : goal.returns-in_err-first_tests-clause-found
+returns-in_err-first_tests-clause-found c =
+    let p = err_from_is_err_and c.from_residual.result c.from_residual.ensures.1 in
+    rw (p.1, p.2)
+    (first_refused c.args.geometry.now c.args.image.now c.args.cred c.args.path.now c.in_err-first_tests.field-0.0 c.in_err-first_tests.ensures)
 
-pub returns-in-None-clause-found : goal.returns-in-None-clause-found
-returns-in-None-clause-found c =
-    walked c.args.geometry.now c.args.image.now c.args.cred c.args.path.now c.walk.result c.in-None.ensures c.walk.ensures.exact
+pub returns-clause-found : goal.returns-clause-found
+returns-clause-found c =
+    walked c.args.geometry.now c.args.image.now c.args.cred c.args.path.now c.walk.result c.in_ok-first_tests.ensures c.walk.ensures.exact

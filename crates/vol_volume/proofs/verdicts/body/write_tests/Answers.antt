@@ -1,4 +1,5 @@
 use Rattle.std.proofs.Common.{◌≡◌, ◌∙◌, ◌+◌, sym, refl, Bool, true, false, ◌++◌, List, [], ◌∷◌, None, Some}
+use Rattle.std.proofs.lemmas.Result.{err_from_is_err_and}
 use Rattle.vol_dir.specs.Access.{may_write}
 use Rattle.vol_dir.specs.Tree.{tree, state}
 use Rattle.vol_dir.specs.declared.refusal.Refusal.{Refusal}
@@ -18,19 +19,21 @@ first_none [] others e = refl
 first_none ((true, first) ∷ tests) others e = cc
 first_none ((false, first) ∷ tests) others e = first_none tests others e
 
-pub returns-in-Some : goal.returns-in-Some
-returns-in-Some c =
+pub returns-in_err-body_tests : goal.returns-in_err-body_tests
+returns-in_err-body_tests c =
+    let p = err_from_is_err_and c.from_residual.result c.from_residual.ensures.1 in
     let asked = tree c.args.geometry.now c.args.image.now in
-    sym (first_some (body_tests asked may_write c.args.cred c.args.i)
+    rw (p.1, p.2)
+    (sym (first_some (body_tests asked may_write c.args.cred c.args.i)
     ((is_too_great asked (c.args.offset + c.args.len), refusals.TooBig)
     ∷ (is_above_free (state c.args.geometry.now c.args.image.now) (write_need (state c.args.geometry.now c.args.image.now) c.args.i c.args.offset c.args.len), refusals.NoSpace) ∷ [])
-    c.in-Some.refusal (sym c.in-Some.ensures.exact))
+    c.in_err-body_tests.field-0.0 (sym c.in_err-body_tests.ensures.exact)))
 
-pub returns-in-None : goal.returns-in-None
-returns-in-None c =
+pub returns : goal.returns
+returns c =
     let asked = tree c.args.geometry.now c.args.image.now in
     c.room_tests.ensures
     ∙ sym (first_none (body_tests asked may_write c.args.cred c.args.i)
     ((is_too_great asked (c.args.offset + c.args.len), refusals.TooBig)
     ∷ (is_above_free (state c.args.geometry.now c.args.image.now) (write_need (state c.args.geometry.now c.args.image.now) c.args.i c.args.offset c.args.len), refusals.NoSpace) ∷ [])
-    (sym c.in-None.ensures.exact))
+    (sym c.in_ok-body_tests.ensures.exact))

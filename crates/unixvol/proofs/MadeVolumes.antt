@@ -53,7 +53,9 @@ runs_by streams taken volume made status is done refused memory unprinted unused
     made = λ e. taken_whole made.volume _ taken is own.1 (done.0 (sym own.0 ∙ e));
     quiet = λ e. quiet (sym own.0 ∙ e);
     told = λ e. told (sym own.0 ∙ e);
-    other = λ not_done not_refused. inr (wanting (memory (λ e. not_done (own.0 ∙ e)) (λ e. not_refused (own.0 ∙ e))));
+    unsaved = λ e.
+        let four : made.status ≡ 4 = memory (λ z. omega (arith, own.0, e)) (λ o. omega (arith, own.0, e)) in absurd (omega (arith, own.0, e));
+    wanting = λ e. inr (wanting (sym own.0 ∙ e));
   }
   | inr file ↦
       let whole : made.status ≡ 0 = done.1 file.0 in
@@ -66,6 +68,7 @@ runs_by streams taken volume made status is done refused memory unprinted unused
         made = λ e. absurd (omega (arith, range.0));
         quiet = λ e. absurd (omega (arith, range.0));
         told = λ e. absurd (omega (arith, range.0));
-        other = λ not_done not_refused. inl (quiet whole);
+        unsaved = λ e. quiet whole;
+        wanting = λ e. inl (quiet whole);
       }
 ]

@@ -1,5 +1,5 @@
--- What a run of the program comes to, whatever the bytes are that its files give.
-use Rattle.std.specs.Prelude.{◌≡◌, ◌≢◌, ◌⊎◌, ◌↔◌, ◌≤◌, ℕ, false, true, List, [], Option, None, IsSome, IfSome, Result, Ok, Err, IsErrAnd, Bool}
+-- What a run of the program comes to, by the bytes that its files give.
+use Rattle.std.specs.Prelude.{◌≡◌, ◌≢◌, ◌⊎◌, ◌↔◌, ◌≤◌, ℕ, false, true, List, [], Option, IsSome, IfSome, Result, Ok, Err, IsErrAnd, Bool}
 use Rattle.std.specs.Io.KnownBytes.{Keeps}
 use Rattle.clap.specs.Words.{kind_of}
 use Rattle.clap.specs.declared.error.Error.{Error}
@@ -7,19 +7,30 @@ use Rattle.clap.specs.declared.error.kind.ErrorKind.{ErrorKind}
 use Rattle.clap.specs.declared.error.kind.ErrorKind.TheVariants as kinds
 use Rattle.vol_volume.specs.Blank.{blank_of, IsMade}
 use Rattle.vol_volume.specs.Mkfs.{is_size, is_bad_id}
-use Rattle.vol_commands.specs.Cat.{Cats, IsNoWriters, cat_status}
+use Rattle.pdp_words.specs.Devices.{IsReadWhole}
+use Rattle.vol_commands.specs.Cat.{Shows, IsNoWriters, cat_status, file_of}
 use Rattle.vol_commands.specs.Jobs.{Streams, Does}
 use Rattle.vol_commands.specs.Making.{mkfs_line_at}
 use Rattle.vol_layout.specs.declared.edition.Edition.{Edition}
 use Rattle.vol_commands.specs.declared.answer.Answer.{Answer}
 use Rattle.vol_commands.specs.declared.cat.CatFault.{CatFault}
-use Rattle.vol_commands.specs.declared.cat.CatFault.TheVariants.{Writer}
+use Rattle.vol_commands.specs.declared.cat.CatFault.TheVariants.{Device, NoMemory, Writer}
 use Rattle.command_line.specs.CommandLine.{IsRead, IsRefused}
 use Rattle.command_line.specs.declared.Invocation.{Invocation}
 use Rattle.command_line.specs.declared.Invocation.TheVariants as invocations
 use Rattle.vol_commands.specs.declared.jobs.Job.{Job}
+use Rattle.vol_commands.specs.declared.jobs.Job.TheVariants as jobs
 use Rattle.vol_commands.specs.declared.making.Made.{Made}
 use Rattle.vol_commands.specs.declared.making.NewVolume.{NewVolume}
+
+-- some file gave these bytes, which are all that it had left (std::io::Read)
+abbrev pub IsGiven : {F : Type 0} → (F → Option (List ℕ)) → List ℕ → Type 0
+IsGiven {F} remaining bytes = (old : F) × (new : F) × IsReadWhole (remaining old) (remaining new) bytes
+
+-- a file gave the bytes that a job puts into a volume; other jobs put none (this project)
+abbrev pub IsGivenFor : (List ℕ → Type 0) → Job → List ℕ → Type 0
+IsGivenFor given (jobs.Put path file now) bytes = given bytes
+IsGivenFor given _ bytes = Unit {0}
 
 -- the status where a file can't be read or written, or where memory ran out (this project)
 abbrev pub IsStatusOfFileOrMemory : ℕ → Type 0
@@ -30,19 +41,25 @@ abbrev pub status_after : Result (Unit {0}) CatFault → ℕ
 status_after (Ok done) = 0
 status_after (Err fault) = cat_status fault
 
--- `cat` prints of some image: what goes out, that standard output failed where its fault is a writer's and else no more than before, and the status (this project)
-abbrev pub PrintsBody : Option (List ℕ) → Option (List ℕ) → Bool → Bool → Edition → ℕ → ℕ → Type 0
-PrintsBody old new had_failed failed edition i status =
-    (result : Result (Unit {0}) CatFault) × Cats None None old new edition i result
+-- `cat` does with an image that a file gave: the image is shown; where it can't be had, nothing is written (this project)
+abbrev pub CatsGiven : (List ℕ → Type 0) → Option (List ℕ) → Option (List ℕ) → Edition → ℕ → Result (Unit {0}) CatFault → Type 0
+CatsGiven given old new edition i (Err Device) = Keeps old new
+CatsGiven given old new edition i (Err NoMemory) = Keeps old new
+CatsGiven given old new edition i result = (image : List ℕ) × given image × Shows old new image i (file_of edition image i) result
+
+-- `cat` prints of an image that a file gave: what goes out, that standard output failed where its fault is a writer's and else no more than before, and the status (this project)
+abbrev pub PrintsBody : (List ℕ → Type 0) → Option (List ℕ) → Option (List ℕ) → Bool → Bool → Edition → ℕ → ℕ → Type 0
+PrintsBody given old new had_failed failed edition i status =
+    (result : Result (Unit {0}) CatFault) × CatsGiven given old new edition i result
     × (IsErrAnd result (λ fault. (count : ℕ) × (fault ≡ Writer count)) → failed ≡ true) × (IsNoWriters result → failed ≡ had_failed)
     × (status ≡ status_after result)
 
 -- `cat` runs: what goes out, and the status, which is 0 only where standard output didn't fail (this project)
-abbrev pub RunsCat : Streams → Edition → ℕ → ℕ → Type 0
-RunsCat streams edition i status =
-    PrintsBody streams.old streams.new streams.had_failed streams.failed edition i status × (status ≡ 0 → streams.failed ≡ streams.had_failed) × streams.said []
+abbrev pub RunsCat : Streams → (List ℕ → Type 0) → Edition → ℕ → ℕ → Type 0
+RunsCat streams given edition i status =
+    PrintsBody given streams.old streams.new streams.had_failed streams.failed edition i status × (status ≡ 0 → streams.failed ≡ streams.had_failed) × streams.said []
 
--- `mkfs` runs: nothing goes out; it is refused exactly where its numbers are no volume's, with the line of that; another line is that of memory; and a file took the volume, where it is done (this project)
+-- `mkfs` runs: nothing goes out; it is refused exactly where its numbers are no volume's, with the line of that; another line is that of memory, with its status; and a file took the volume, where it is done (this project)
 pub record RunsMkfs (streams : Streams) (taken : List ℕ → Type 0) (volume : NewVolume) (status : ℕ) : Type 0 where
   pub unprinted : Keeps streams.old streams.new
   pub unused : streams.failed ≡ streams.had_failed
@@ -54,8 +71,8 @@ pub record RunsMkfs (streams : Streams) (taken : List ℕ → Type 0) (volume : 
       × IsMade (blank_of volume.edition volume.blocks volume.list_blocks volume.uid volume.gid volume.now) bytes × taken bytes
   pub quiet : status ≡ 0 → streams.said []
   pub told : status ≡ 1 → streams.said (mkfs_line_at (is_size volume.edition volume.blocks volume.list_blocks) 1)
-  pub other : status ≢ 0 → status ≢ 1
-      → streams.said [] ⊎ streams.said (mkfs_line_at (is_size volume.edition volume.blocks volume.list_blocks) 4)
+  pub unsaved : status ≡ 3 → streams.said []
+  pub wanting : status ≡ 4 → streams.said [] ⊎ streams.said (mkfs_line_at (is_size volume.edition volume.blocks volume.list_blocks) 4)
 
 -- the status after an answer: its own, where its image, if any, was taken, or that of a file (this project)
 abbrev pub EndsSaved : (List ℕ → Type 0) → Answer → ℕ → Type 0
@@ -68,17 +85,18 @@ MadeSaved taken made status =
     ((status ≡ made.status) × IfSome made.volume (λ blank. (bytes : List ℕ) × IsMade blank bytes × taken bytes))
     ⊎ (IsSome made.volume × IsStatusOfFileOrMemory status)
 
--- a job runs: a file can't be read, and nothing goes out; or it is done with some image and some bytes (this project)
-abbrev pub RunsJob : Streams → (List ℕ → Type 0) → Edition → Job → ℕ → Type 0
-RunsJob streams taken edition job status =
+-- a job runs: a file can't be read, and nothing goes out; or it is done with an image that a file gave, and the bytes that it puts are those of a file too (this project)
+abbrev pub RunsJob : Streams → (List ℕ → Type 0) → (List ℕ → Type 0) → Edition → Job → ℕ → Type 0
+RunsJob streams given taken edition job status =
     (IsStatusOfFileOrMemory status × Keeps streams.old streams.new × (streams.failed ≡ streams.had_failed) × streams.said [])
-    ⊎ ((image : List ℕ) × (bytes : List ℕ) × (answer : Answer) × Does edition image bytes streams answer job × EndsSaved taken answer status)
+    ⊎ ((image : List ℕ) × (bytes : List ℕ) × (answer : Answer) × given image × IsGivenFor given job bytes
+    × Does edition image bytes streams answer job × EndsSaved taken answer status)
 
--- what the user asks for runs: what goes out, what files take, and the status (this project)
-abbrev pub Runs : Streams → (List ℕ → Type 0) → ℕ → Invocation → Type 0
-Runs streams taken status (invocations.Cat volume i) = RunsCat streams volume.edition i status
-Runs streams taken status (invocations.Mkfs image volume) = RunsMkfs streams taken volume status
-Runs streams taken status (invocations.OnVolume volume job) = RunsJob streams taken volume.edition job status
+-- what the user asks for runs: what goes out, what files give and take, and the status (this project)
+abbrev pub Runs : Streams → (List ℕ → Type 0) → (List ℕ → Type 0) → ℕ → Invocation → Type 0
+Runs streams given taken status (invocations.Cat volume i) = RunsCat streams given volume.edition i status
+Runs streams given taken status (invocations.Mkfs image volume) = RunsMkfs streams taken volume status
+Runs streams given taken status (invocations.OnVolume volume job) = RunsJob streams given taken volume.edition job status
 
 -- what an error of the command line comes to: the status by its kind, which is 3 only where standard output failed, and no line of a command (this project)
 pub record Tells (streams : Streams) (kind : ErrorKind) (status : ℕ) : Type 0 where
@@ -89,8 +107,8 @@ pub record Tells (streams : Streams) (kind : ErrorKind) (status : ℕ) : Type 0 
   pub quiet : streams.said []
 
 -- the words run: what they ask for is carried out, or it is told why they are refused (this project)
-abbrev pub RunsWords : Streams → (List ℕ → Type 0) → ℕ → List (List ℕ) → Type 0
-RunsWords streams taken status words = ((invocation : Invocation) × IsRead words invocation × Runs streams taken status invocation)
+abbrev pub RunsWords : Streams → (List ℕ → Type 0) → (List ℕ → Type 0) → ℕ → List (List ℕ) → Type 0
+RunsWords streams given taken status words = ((invocation : Invocation) × IsRead words invocation × Runs streams given taken status invocation)
     ⊎ ((error : Error) × IsRefused words error × Tells streams (kind_of error) status)
 
 -- a run ends: the status is at most 4; nothing went out, unless it is 0 or 3; where it is 0, no output failed and no fault was told (this project)

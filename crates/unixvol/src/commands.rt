@@ -1,14 +1,14 @@
 //! The commands of the program: what they open, and what they print where something fails.
-ghost use Rattle.std.specs.Prelude.{◌≡◌, ◌≢◌, ◌⊎◌, [], ◌≤◌, false, true, ℕ, List, None, IfErr, IsErrAnd, OnOk, map, string_bytes};
+ghost use Rattle.std.specs.Prelude.{◌≡◌, ◌≢◌, ◌⊎◌, [], ◌≤◌, false, true, ℕ, List, IfErr, IfOk, IsErrAnd, OnOk, map, string_bytes};
 ghost use Rattle.std.specs.Io.KnownBytes.{Keeps};
 ghost use Rattle.std.specs.IoError.{error_kind};
 ghost use Rattle.std.specs.declared.io.ErrorKind.TheVariants as io_kinds;
 ghost use Rattle.clap.specs.Words.{kind_of};
 ghost use Rattle.clap.specs.declared.error.kind.ErrorKind.TheVariants as clap_kinds;
-ghost use Rattle.vol_commands.specs.Cat.{Cats, IsNoWriters, cat_status};
+ghost use Rattle.vol_commands.specs.Cat.{IsNoWriters, cat_status};
 ghost use Rattle.vol_commands.specs.Faults.{Gets};
 ghost use Rattle.vol_commands.specs.declared.cat.CatFault.TheVariants as faults;
-ghost use Rattle.unixvol.specs.Running.{IsStatusOfFileOrMemory, EndsSaved, MadeSaved, PrintsBody, RunsJob, Runs, RunsWords, Ends};
+ghost use Rattle.unixvol.specs.Running.{IsGiven, IsGivenFor, IsStatusOfFileOrMemory, CatsGiven, EndsSaved, MadeSaved, PrintsBody, RunsJob, Runs, RunsWords, Ends};
 ghost use Rattle.unixvol.specs.Saving.{IsTaken, Saves};
 
 use crate::saving_file::{Content, save_file};
@@ -48,7 +48,7 @@ pub fn run<R: Env + Files + Eprint + AllocGlobal, O: Sink, E: Sink>(
       had_failed = O.failed output.old;
       failed = O.failed output.new;
       said = Gets (E.failed errors.new) (E.contents errors.old) (E.contents errors.new);
-    }) (IsTaken R.File.contents) result words) ⊎ (((result ≡ 2) ⊎ (result ≡ 4))
+    }) (IsGiven R.File.remaining) (IsTaken R.File.contents) result words) ⊎ (((result ≡ 2) ⊎ (result ≡ 4))
         × Gets (E.failed errors.new) (E.contents errors.old) (E.contents errors.new) []) }
     ensures ends { Ends (record {
       old = O.contents output.old;
@@ -78,7 +78,7 @@ fn run_words<R: Files + Eprint + AllocGlobal, O: Sink, E: Sink>(
       had_failed = O.failed output.old;
       failed = O.failed output.new;
       said = Gets (E.failed errors.new) (E.contents errors.old) (E.contents errors.new);
-    }) (IsTaken R.File.contents) result (map string_bytes words.entry.now) }
+    }) (IsGiven R.File.remaining) (IsTaken R.File.contents) result (map string_bytes words.entry.now) }
     ensures ends { Ends (record {
       old = O.contents output.old;
       new = O.contents output.new;
@@ -106,7 +106,7 @@ fn carry_out<R: Files + Eprint + AllocGlobal, O: Sink, E: Sink>(
       had_failed = O.failed output.old;
       failed = O.failed output.new;
       said = Gets (E.failed errors.new) (E.contents errors.old) (E.contents errors.new);
-    }) (IsTaken R.File.contents) result invocation.entry }
+    }) (IsGiven R.File.remaining) (IsTaken R.File.contents) result invocation.entry }
 {
     match invocation {
         Invocation::Cat { volume, ino } => run_cat(rt, output, volume, ino),
@@ -125,7 +125,7 @@ fn run_cat<R: Files + Eprint + AllocGlobal, O: Sink>(
     volume: VolumeFile<'_>,
     ino: u16,
 ) -> u8
-    ensures shown { PrintsBody (O.contents output.old) (O.contents output.new) (O.failed output.old) (O.failed output.new)
+    ensures shown { PrintsBody (IsGiven R.File.remaining) (O.contents output.old) (O.contents output.new) (O.failed output.old) (O.failed output.new)
         volume.entry.edition ino result }
     ensures whole { result ≡ 0 → O.failed output.new ≡ O.failed output.old }
 {
@@ -149,7 +149,7 @@ fn run_job<R: Files + Eprint + AllocGlobal, O: Sink, E: Sink>(
       had_failed = O.failed output.old;
       failed = O.failed output.new;
       said = Gets (E.failed errors.new) (E.contents errors.old) (E.contents errors.new);
-    }) (IsTaken R.File.contents) volume.entry.edition job.entry result }
+    }) (IsGiven R.File.remaining) (IsTaken R.File.contents) volume.entry.edition job.entry result }
 {
     let image = match read_file(rt, volume.image) {
         Ok(image) => image,
@@ -165,7 +165,8 @@ fn run_job<R: Files + Eprint + AllocGlobal, O: Sink, E: Sink>(
 
 /// The bytes of the file that a job puts into a volume, or none.
 fn file_of<R: Files + Eprint + AllocGlobal>(rt: &R, job: Job<'_>) -> Result<Vec<u8>, u8>
-    ensures { IfErr result IsStatusOfFileOrMemory }
+    ensures given { IfOk result (λ file. IsGivenFor (IsGiven R.File.remaining) job.entry file.items) }
+    ensures fault { IfErr result IsStatusOfFileOrMemory }
 {
     match job {
         Job::Put { file, .. } => read_file(rt, file),
@@ -175,7 +176,8 @@ fn file_of<R: Files + Eprint + AllocGlobal>(rt: &R, job: Job<'_>) -> Result<Vec<
 
 /// The bytes of a file. Where it can't be read, prints so, and answers the status.
 fn read_file<R: Files + Eprint + AllocGlobal>(rt: &R, path: &str) -> Result<Vec<u8>, u8>
-    ensures { IfErr result IsStatusOfFileOrMemory }
+    ensures given { IfOk result (λ bytes. IsGiven R.File.remaining bytes.items) }
+    ensures fault { IfErr result IsStatusOfFileOrMemory }
 {
     let Ok(file) = fs::open(rt, path) else {
         return Err(explain_unread(rt, path));
@@ -200,7 +202,7 @@ fn cat_file<R: Files + AllocGlobal, O: Sink>(
     volume: VolumeFile<'_>,
     ino: u16,
 ) -> Result<(), CatFault>
-    ensures shown { Cats None None (O.contents output.old) (O.contents output.new) volume.entry.edition ino result }
+    ensures shown { CatsGiven (IsGiven R.File.remaining) (O.contents output.old) (O.contents output.new) volume.entry.edition ino result }
     ensures writer { IsErrAnd result (λ fault. (count : ℕ) × (fault ≡ faults.Writer count)) → O.failed output.new ≡ true }
     ensures kept { IsNoWriters result → O.failed output.new ≡ O.failed output.old }
 {

@@ -59,7 +59,8 @@ pub fn save_file<R: Files + AllocGlobal>(rt: &R, path: &str, content: Content<'_
                 let place = fs::canonicalize(rt, path)?;
                 replace(rt, place.as_path(), Some(&metadata), content)
             } else {
-                write_in_place(file, content)
+                write_in_place(file, content)?;
+                Ok(())
             }
         }
         Err(error) if error.kind() == ErrorKind::NotFound => {
@@ -94,7 +95,7 @@ fn replace<R: Files + AllocGlobal>(
 {
     let (file, beside) = new_file(rt, path, old.is_some())?;
     let result = fill(rt, file, beside.as_path(), old, content);
-    let result = result.and_then(|()| fs::rename(rt, beside.as_path(), path));
+    let result = result.and_then(|_| fs::rename(rt, beside.as_path(), path));
     if result.is_err() {
         let _ = fs::remove_file(rt, beside.as_path());
     }
@@ -126,15 +127,15 @@ fn new_file<R: Files + AllocGlobal>(
     Err(io::Error::from(ErrorKind::AlreadyExists))
 }
 
-/// Fills the new file `file`, whose path is `beside`, and sees its bytes on the disk.
+/// Fills the new file `file`, whose path is `beside`, sees its bytes on the disk, and answers the file.
 fn fill<R: Files>(
     rt: &R,
     file: R::File,
     beside: Path<'_>,
     old: Option<&Metadata>,
     content: Content<'_>,
-) -> io::Result<()>
-    ensures { OnOk result (Saves R.File.contents content.entry) }
+) -> io::Result<R::File>
+    ensures { IfOk result (λ filled. Grows content.entry (R.File.contents file) (R.File.contents filled)) }
 {
     let file = write(file, content)?;
     if let Some(old) = old {
@@ -143,18 +144,19 @@ fn fill<R: Files>(
         let _ = chown(rt, beside, Some(old.uid()), None);
         file.set_permissions(old.permissions())?;
     }
-    file.sync_all()
+    file.sync_all()?;
+    Ok(file)
 }
 
-/// Writes a content into what is no regular file, and sees them on the disk that it may be.
-fn write_in_place<F: Write + OpenFile + Drop>(file: F, content: Content<'_>) -> io::Result<()>
-    ensures { OnOk result (Saves F.contents content.entry) }
+/// Writes a content into what is no regular file, sees it on the disk that it may be, and answers the file.
+fn write_in_place<F: Write + OpenFile + Drop>(file: F, content: Content<'_>) -> io::Result<F>
+    ensures { IfOk result (λ written. Grows content.entry (F.contents file) (F.contents written)) }
 {
     let file = write(file, content)?;
     match file.sync_all() {
         // A pipe or a terminal has no disk.
-        Err(error) if error.kind() == ErrorKind::InvalidInput => Ok(()),
-        result => result,
+        Err(error) if error.kind() != ErrorKind::InvalidInput => Err(error),
+        _ => Ok(file),
     }
 }
 

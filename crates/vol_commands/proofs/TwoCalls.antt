@@ -51,6 +51,11 @@ made_by edition one two three first second done last sound accepted performed ac
       ∙ ap (λ state. step state second last) (reads_made edition one two first done performed);
   sound = performed_then.changes.ready.sound;
   around = around_both edition one two three performed.changes.around performed_then.changes.around;
+  left = (
+    two,
+    performed,
+    (three, subst (λ g. Performs g two three second last) (geometry_kept (geometry_of edition one) one two performed.changes.around) performed_then, refl),
+  );
 }
 
 -- two calls that a volume accepted, one after the other, made its bytes

@@ -7,11 +7,12 @@ use Rattle.vol_node.specs.Whole.{StaysAround}
 use Rattle.vol_volume.specs.Answer.{answer}
 use Rattle.vol_volume.specs.Journal.{Refuses, MayFollow, IsLegal, after}
 use Rattle.vol_volume.specs.Step.{step}
-use Rattle.vol_volume.specs.Volume.{reads_as}
+use Rattle.vol_volume.specs.Volume.{Performs, reads_as}
 use Rattle.vol_commands.specs.Faults.{user, fault_status, fault_line, IsCause}
 use Rattle.vol_dir.specs.declared.refusal.Refusal.{Refusal}
 use Rattle.vol_dir.specs.declared.refusal.Refusal.TheVariants as refusals
 use Rattle.vol_layout.specs.declared.edition.Edition.{Edition}
+use Rattle.vol_layout.specs.declared.geometry.Geometry.{Geometry}
 use Rattle.vol_volume.specs.declared.calls.Call.{Call}
 use Rattle.vol_volume.specs.declared.calls.Call.TheVariants as calls
 use Rattle.vol_volume.specs.declared.calls.Done.{Done}
@@ -21,7 +22,13 @@ use Rattle.vol_volume.specs.declared.queries.Reply.{Reply}
 use Rattle.vol_commands.specs.declared.answer.Answer.{Answer}
 use Rattle.vol_commands.specs.declared.faults.Fault.{Fault}
 
--- the bytes are a sound image of what calls, made in turn, leave of a sound image; no byte changes but those that calls change (this project)
+-- the bytes are those that recorded calls leave of an image, each performed on what the one before it left (this project)
+abbrev pub AreLeft : Geometry → List ℕ → List Record → List ℕ → Type 0
+AreLeft geometry image [] bytes = bytes ≡ image
+AreLeft geometry image (entry ∷ entries) bytes =
+    (between : List ℕ) × Performs geometry image between entry.call entry.done × AreLeft geometry between entries bytes
+
+-- the bytes are a sound image of what calls, performed in turn, leave of a sound image; no byte changes but those that calls change (this project)
 pub record Makes (edition : Edition) (image : List ℕ) (calls : List Call) (bytes : List ℕ) : Type 0 where
   pub mounted : IsSound edition image
   pub journal : List Record
@@ -30,6 +37,7 @@ pub record Makes (edition : Edition) (image : List ℕ) (calls : List Call) (byt
   pub reads : reads_as edition bytes ≡ after (reads_as edition image) journal
   pub sound : IsSound edition bytes
   pub around : StaysAround (geometry_of edition image) image bytes
+  pub left : AreLeft (geometry_of edition image) image journal bytes
 
 -- of calls, made one after another, the first that isn't accepted meets this refusal (this project)
 abbrev pub AreRefused : State → List Call → Refusal → Type 0

@@ -1,6 +1,19 @@
-use Rattle.std.proofs.Common.{inr}
+use Rattle.std.proofs.Common.{inl, inr, refl}
+use Rattle.std.proofs.KnownBytes.{Appends-nil, Keeps-refl}
 use Rattle.unixvol.proofs.commands.run_job.Goals as goal
+
+pub returns-in-Err : goal.returns-in-Err
+returns-in-Err g c =
+    inl (c.in-Err.ensures.fault, Keeps-refl (g.O.Sink.contents c.args.output.now), refl, λ working. Appends-nil (g.E.Sink.contents c.args.errors.now))
 
 pub returns : goal.returns
 returns g c =
-    inr (c.in-Ok.image.items, c.in-Ok-file_of.file.items, c.do_job-answer.result, c.do_job-answer.ensures, c.save_answer.ensures)
+    inr (
+      c.in-Ok.image.items,
+      c.in-Ok-file_of.file.items,
+      c.do_job-answer.result,
+      c.in-Ok.ensures.given,
+      c.in-Ok-file_of.ensures.given,
+      c.do_job-answer.ensures,
+      c.save_answer.ensures,
+    )

@@ -1,3 +1,4 @@
+pub mod Lines
 pub mod Reasons
 pub mod Replies
 pub mod TwoCalls

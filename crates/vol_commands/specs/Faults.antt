@@ -1,6 +1,7 @@
 -- What the commands on a mounted volume have in common: their user, and what they answer where they fail.
 use Rattle.std.specs.Prelude.{◌≡◌, ℕ, ◌≤◌, ◌+◌, ◌/◌, ◌%◌, ◌++◌, Bool, false, true, nat_lt, if◌then◌else◌, List, [], ◌∷◌, Option, codes}
 use Rattle.std.specs.Io.KnownBytes.{Appends}
+use Rattle.pdp_words.specs.Devices.{AppendsFront}
 use Rattle.vol_judge.specs.Sound.{IsSound, IsLeastBroken}
 use Rattle.vol_dir.specs.declared.cred.Cred.{Cred}
 use Rattle.vol_dir.specs.declared.refusal.Refusal.{Refusal}
@@ -75,6 +76,6 @@ IsCause edition image refused (faults.Refused refusals.NoMemory) = Unit {0}
 IsCause edition image refused (faults.Refused refusal) = IsSound edition image × refused refusal
 IsCause edition image refused faults.Output = ⊥
 
--- a stream that didn't fail got these bytes (this project)
+-- a stream got these bytes, where it didn't fail, and else the front of them (this project)
 abbrev pub Gets : Bool → Option (List ℕ) → Option (List ℕ) → List ℕ → Type 0
-Gets failed old new bytes = failed ≡ false → Appends old new bytes
+Gets failed old new bytes = (failed ≡ false → Appends old new bytes) × ((count : ℕ) × AppendsFront old new bytes count)

@@ -16,6 +16,7 @@ pub struct Answer {
 
 /// The answer of a command that made bytes to be saved, or met a fault, whose line goes to `errors`. Where
 /// that line can't be written, the status tells.
+#[tactic(auto, using(crate::proofs::Lines::gets_nothing))]
 pub fn conclude<E: Sink>(outcome: Result<Vec<u8>, Fault>, errors: &mut E) -> Answer
     requires { IfErr outcome IsRuled }
     ensures made { IfOk outcome (λ bytes. (result.image ≡ Some bytes) × (result.status ≡ 0)
@@ -37,6 +38,7 @@ pub fn conclude<E: Sink>(outcome: Result<Vec<u8>, Fault>, errors: &mut E) -> Ans
 
 /// The answer of a command that printed what was asked for, or met a fault, whose line goes to `errors`. Where
 /// that line can't be written, the status tells.
+#[tactic(auto, using(crate::proofs::Lines::gets_nothing))]
 pub fn report<E: Sink>(outcome: Result<(), Fault>, errors: &mut E) -> Answer
     requires { IfErr outcome IsRuled }
     ensures unsaved { result.image ≡ None }

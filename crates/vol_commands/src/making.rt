@@ -85,11 +85,27 @@ fn explain<E: Sink>(fault: MkfsFault, errors: &mut E) -> u8
     ensures status { result ≡ mkfs_status fault }
     ensures line { Gets (E.failed errors.new) (E.contents errors.old) (E.contents errors.new) (mkfs_line fault) }
 {
-    let (line, status) = match fault {
-        MkfsFault::Bounds => ("unixvol: bounds\n", 1),
-        MkfsFault::BadId => ("unixvol: 104 BadId\n", 1),
-        MkfsFault::NoMemory => ("unixvol: 12 NoMemory\n", 4),
-    };
-    let _ = write_all(errors, line.as_bytes());
-    status
+    let _ = write_all(errors, line_of(fault).as_bytes());
+    status_of(fault)
+}
+
+/// The status of a fault: 1 for a refusal, 4 for memory.
+fn status_of(fault: MkfsFault) -> u8
+    ensures { result ≡ mkfs_status fault }
+{
+    match fault {
+        MkfsFault::Bounds | MkfsFault::BadId => 1,
+        MkfsFault::NoMemory => 4,
+    }
+}
+
+/// The line of a fault, with its newline.
+fn line_of(fault: MkfsFault) -> &'static str
+    ensures { result.now ≡ mkfs_line fault }
+{
+    match fault {
+        MkfsFault::Bounds => "unixvol: bounds\n",
+        MkfsFault::BadId => "unixvol: 104 BadId\n",
+        MkfsFault::NoMemory => "unixvol: 12 NoMemory\n",
+    }
 }

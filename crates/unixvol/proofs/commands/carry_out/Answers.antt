@@ -1,4 +1,4 @@
-use Rattle.std.proofs.KnownBytes.{Appends-nil}
+use Rattle.vol_commands.proofs.Lines.{gets_nothing}
 use Rattle.unixvol.proofs.MadeVolumes.{runs_by, told_at}
 use Rattle.unixvol.proofs.commands.carry_out.Goals as goal
 
@@ -19,4 +19,4 @@ returns-in-Mkfs g c =
     made.ensures.line) c.save_made.ensures)
 
 pub returns-in-Cat : goal.returns-in-Cat
-returns-in-Cat g c = rw c.in-Cat.is (c.run_cat.ensures.shown, c.run_cat.ensures.whole, (λ working. Appends-nil (g.E.Sink.contents c.args.errors.now)))
+returns-in-Cat g c = rw c.in-Cat.is (c.run_cat.ensures.shown, c.run_cat.ensures.whole, gets_nothing (g.E.Sink.failed c.args.errors.now) (g.E.Sink.contents c.args.errors.now))

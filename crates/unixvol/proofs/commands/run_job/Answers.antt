@@ -1,10 +1,15 @@
 use Rattle.std.proofs.Common.{inl, inr, refl}
-use Rattle.std.proofs.KnownBytes.{Appends-nil, Keeps-refl}
+use Rattle.std.proofs.KnownBytes.{Keeps-refl}
+use Rattle.vol_commands.proofs.Lines.{gets_nothing}
 use Rattle.unixvol.proofs.commands.run_job.Goals as goal
 
 pub returns-in-Err : goal.returns-in-Err
 returns-in-Err g c =
-    inl (c.in-Err.ensures.fault, Keeps-refl (g.O.Sink.contents c.args.output.now), refl, λ working. Appends-nil (g.E.Sink.contents c.args.errors.now))
+    inl (c.in-Err.ensures.fault, Keeps-refl (g.O.Sink.contents c.args.output.now), refl, gets_nothing (g.E.Sink.failed c.args.errors.now) (g.E.Sink.contents c.args.errors.now))
+
+pub returns-in-Err-file_of : goal.returns-in-Err-file_of
+returns-in-Err-file_of g c =
+    inl (c.in-Err-file_of.ensures.fault, Keeps-refl (g.O.Sink.contents c.args.output.now), refl, gets_nothing (g.E.Sink.failed c.args.errors.now) (g.E.Sink.contents c.args.errors.now))
 
 pub returns : goal.returns
 returns g c =

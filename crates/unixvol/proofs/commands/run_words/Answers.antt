@@ -1,5 +1,5 @@
 use Rattle.std.proofs.Common.{inl, inr, subst, IfOk, IfErr, map}
-use Rattle.std.proofs.KnownBytes.{Appends-nil}
+use Rattle.vol_commands.proofs.Lines.{gets_nothing}
 use Rattle.std.specs.Prelude.{string_bytes}
 use Rattle.command_line.specs.CommandLine.{IsRead, IsRefused}
 use Rattle.unixvol.proofs.commands.run_words.Goals as goal
@@ -20,6 +20,6 @@ returns-in-Err-clause-runs g c =
         mistake = c.explain_command_line.ensures.mistake;
         shown = c.explain_command_line.ensures.shown;
         failed = c.explain_command_line.ensures.failed;
-        quiet = λ working. Appends-nil (g.E.Sink.contents c.args.errors.now);
+        quiet = gets_nothing (g.E.Sink.failed c.args.errors.now) (g.E.Sink.contents c.args.errors.now);
       },
     )

@@ -2,7 +2,6 @@ mod Components
 mod ParentLaws
 mod PathJoins
 pub mod Finding
-pub mod GoingOn
 pub mod GoneEntries
 pub mod NameMaps
 pub mod NewEntries

@@ -1,22 +1,21 @@
 -- Laws of the slots of a directory: what they are, read from the body or from a block.
-use Rattle.std.proofs.Common.{◌≡◌, ℕ, ◌+◌, ◌-◌, ◌*◌, ◌<◌, ◌≤◌, ◌∙◌, sym, ap, subst, refl, inl, inr, take, List, length, get_or, true, false, if◌then◌else◌, eqb, None, Some, arith}
-use Rattle.std.specs.Prelude.{Option, min, slice_range}
+use Rattle.std.proofs.Common.{◌≡◌, ℕ, ◌+◌, ◌*◌, ◌<◌, ◌≤◌, ◌∙◌, sym, ap, refl, inl, inr, List, length, get_or, true, false, if◌then◌else◌, eqb, None, Some, arith}
+use Rattle.std.specs.Prelude.{Option}
 use Rattle.std.specs.Option.{unwrap_or, is_some}
 use Rattle.std.proofs.lemmas.Bool.{cases_lt, lt-ltb, le-ltb, eqb-true, true≢false}
-use Rattle.std.proofs.lemmas.List.{get_or-take, get_or_past}
+use Rattle.std.proofs.lemmas.List.{get_or_past}
 use Rattle.std.proofs.lemmas.List.FromFn.{length-map-range_with_len, get_or-map-range_with_len}
-use Rattle.pdp_words.specs.Words.{word}
 use Rattle.vol_layout.specs.Geometry.{in_zone, Fits}
 use Rattle.vol_layout.specs.Names.{form_at, stored}
 use Rattle.vol_layout.specs.Body.{zone_byte, body_byte, body_size, body}
-use Rattle.vol_layout.specs.Slot.{slot_at, name_of}
-use Rattle.vol_layout.proofs.BodyLaws.{length-body, get_or-slice_range, get_or-body, body_byte_at, zone_byte_in, zone_byte_out, zone_room}
+use Rattle.vol_layout.specs.Slot.{slot_at}
+use Rattle.vol_layout.proofs.BodyLaws.{length-body, get_or-body, body_byte_at, zone_byte_in, zone_byte_out, zone_room}
 use Rattle.vol_layout.proofs.SlotLaws.{slot_copied}
 use Rattle.vol_layout.specs.declared.geometry.Geometry.{Geometry}
 use Rattle.vol_layout.specs.declared.slot.Slot.{Slot}
 use Rattle.vol_dir.specs.declared.entries.Sought.{Sought}
 use Rattle.vol_dir.specs.Entries.{entry_in, slot_count, entry_at, slots}
-use Rattle.vol_dir.specs.Searching.{is_sought, Searches, IsNumberOf}
+use Rattle.vol_dir.specs.Searching.{is_sought, Searches}
 
 -- the entry in a slot of the directory
 pub entry_at_in : (geometry : Geometry) (image : List ℕ) (d s : ℕ) → s < slot_count geometry image d
@@ -29,10 +28,6 @@ pub entry_at_past : (geometry : Geometry) (image : List ℕ) (d s : ℕ) → slo
 unfolding entry_at
 entry_at_past geometry image d s h =
     rw (le-ltb s (slot_count geometry image d) h)
-
--- the number of an entry is that of its slot
-pub number_of_slot : (slot : Slot) → IsNumberOf (entry_in slot) slot.inode
-number_of_slot slot = elim (eqb slot.inode 0) as (λ z. IsNumberOf (if z then None else Some (name_of slot.name, slot.inode)) slot.inode) [ true ↦ tt | false ↦ refl ]
 
 -- byte r of slot t of logical block b
 slot_byte : (geometry : Geometry) (image : List ℕ) (d b t r : ℕ) → t < 32 → 32 * b + t < slot_count geometry image d → r < 16
@@ -86,30 +81,16 @@ pub number_missing : (k : ℕ) → (if eqb k 0 then None else Some k) ≡ None �
 number_missing k = elim (eqb k 0) as (λ z. eqb k 0 ≡ z → (if z then None else Some k) ≡ None → k ≡ 0) [ true ↦ λ z e. eqb-true k 0 z | false ↦ λ z e. absurd (true≢false (ap is_some e)) ] refl
 
 -- a search answers for slots that are the same
-pub searches_same : (sought : Sought) (f g : ℕ → Option (List ℕ × ℕ)) (n : ℕ) (r : Option ℕ) → ((t : ℕ) → t < n → g t ≡ f t)
-    → Searches sought f n r → Searches sought g n r
-searches_same sought f g n None same search = λ t h. ap (is_sought sought) (same t h) ∙ search t h
-searches_same sought f g n (Some s) same search = record {
+pub searches_same : (sought : Sought) (f g : ℕ → Option (List ℕ × ℕ)) (from n : ℕ) (r : Option (ℕ × Slot)) → ((t : ℕ) → t < n → g t ≡ f t)
+    → Searches sought f from n r → Searches sought g from n r
+searches_same sought f g from n None same search = λ t low h. ap (is_sought sought) (same t h) ∙ search t low h
+searches_same sought f g from n (Some (s, slot)) same search = record {
+  reached = search.reached;
   within = search.within;
   found = ap (is_sought sought) (same s search.within) ∙ search.found;
-  before = λ t h. ap (is_sought sought) (same t (omega (arith, search.within))) ∙ search.before t h;
+  read = same s search.within ∙ search.read;
+  before = λ t low h. ap (is_sought sought) (same t (omega (arith, search.within))) ∙ search.before t low h;
 }
-
--- the number of an entry, from the bytes of its slot that were read
-pub number_read : (geometry : Geometry) (image buffer : List ℕ) (d s n : ℕ) → s < slot_count geometry image d
-    → n ≡ min 16 (body_size geometry image d - 16 * s) → take n buffer ≡ slice_range (body geometry image d) (16 * s) (16 * s + n)
-    → IsNumberOf (entry_at geometry image d s) (word buffer 0)
-number_read geometry image buffer d s n within is read =
-    let all : n ≡ 16 = omega arith in
-    let byte : (r m : ℕ) → r < 16 → 16 * s + r ≡ m → get_or buffer r 0 ≡ get_or (body geometry image d) m 0 =
-    λ r m h e. sym (get_or-take n buffer r 0 (omega arith))
-    ∙ (ap (λ xs. get_or xs r 0) read ∙ (get_or-slice_range (body geometry image d) (16 * s) n r (omega arith) ∙ ap (λ x. get_or (body geometry image d) x 0) e)) in
-    let low : get_or buffer 0 0 ≡ get_or (body geometry image d) (16 * s) 0 = byte 0 (16 * s) (omega arith) (omega arith) in
-    let high : get_or buffer 1 0 ≡ get_or (body geometry image d) (16 * s + 1) 0 = byte 1 (16 * s + 1) (omega arith) (omega arith) in
-    let same : word buffer 0 ≡ word (body geometry image d) (16 * s) = omega (arith, low, high) in
-    subst (IsNumberOf (entry_at geometry image d s)) (sym same)
-    (subst (λ e. IsNumberOf e (word (body geometry image d) (16 * s))) (sym (entry_at_in geometry image d s within))
-    (number_of_slot (slot_at (body geometry image d) (16 * s))))
 
 -- there are as many entries in the list as there are slots
 pub length-slots : (geometry : Geometry) (image : List ℕ) (d : ℕ) → length (slots geometry image d) ≡ slot_count geometry image d

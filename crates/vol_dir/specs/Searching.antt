@@ -1,11 +1,13 @@
 -- Searching the slots of a directory.
-use Rattle.std.specs.Prelude.{◌≡◌, ℕ, ◌<◌, Bool, true, false, not, if◌then◌else◌, List, Option, None, Some, MatchOption}
+use Rattle.std.specs.Prelude.{◌≡◌, ℕ, ◌<◌, ◌≤◌, Bool, true, false, not, if◌then◌else◌, List, Option, None, Some, MatchOption}
 use Rattle.std.specs.List.{position_or_len}
-use Rattle.std.specs.Option.{is_none, option_map_or}
+use Rattle.std.specs.Option.{is_none, is_some, option_map_or}
 use Rattle.std.specs.Str.{bytes_eq}
+use Rattle.vol_layout.specs.declared.slot.Slot.{Slot}
+use Rattle.vol_dir.specs.Entries.{entry_in}
 use Rattle.vol_dir.specs.Names.{is_dots}
 use Rattle.vol_dir.specs.declared.entries.Sought.{Sought}
-use Rattle.vol_dir.specs.declared.entries.Sought.TheVariants.{Named, Empty, Other}
+use Rattle.vol_dir.specs.declared.entries.Sought.TheVariants.{Named, Empty, Any, Other}
 
 -- whether a slot holds an entry with this name (manual section 5, directories)
 abbrev pub holds : List ℕ → Option (List ℕ × ℕ) → Bool
@@ -21,21 +23,24 @@ holds_other (Some entry) = not (is_dots entry.0)
 abbrev pub is_sought : Sought → Option (List ℕ × ℕ) → Bool
 is_sought (Named name) entry = holds name.now entry
 is_sought Empty entry = is_none entry
+is_sought Any entry = is_some entry
 is_sought Other entry = holds_other entry
 
--- none of the first n slots is sought (Lions on namei)
-abbrev pub IsMissing : Sought → (ℕ → Option (List ℕ × ℕ)) → ℕ → Type 0
-IsMissing sought entry n = (t : ℕ) → t < n → is_sought sought (entry t) ≡ false
+-- none of the slots from `from` on, below n, is sought (Lions on namei)
+abbrev pub IsMissing : Sought → (ℕ → Option (List ℕ × ℕ)) → ℕ → ℕ → Type 0
+IsMissing sought entry from n = (t : ℕ) → from ≤ t → t < n → is_sought sought (entry t) ≡ false
 
--- slot s is sought, and is the first such among n (Lions on namei)
-pub record IsFirst (sought : Sought) (entry : ℕ → Option (List ℕ × ℕ)) (n s : ℕ) : Type 0 where
+-- slot s is the first from slot `from` on, of n, that is sought, and this slot was read there (Lions on namei)
+pub record IsFirst (sought : Sought) (entry : ℕ → Option (List ℕ × ℕ)) (from n s : ℕ) (slot : Slot) : Type 0 where
+  pub reached : from ≤ s
   pub within : s < n
   pub found : is_sought sought (entry s) ≡ true
-  pub before : IsMissing sought entry s
+  pub read : entry s ≡ entry_in slot
+  pub before : IsMissing sought entry from s
 
--- what a search over n slots answers: the first that is sought, if one is (Lions on namei)
-abbrev pub Searches : Sought → (ℕ → Option (List ℕ × ℕ)) → ℕ → Option ℕ → Type 0
-Searches sought entry n result = MatchOption result (IsMissing sought entry n) (IsFirst sought entry n)
+-- what a search from slot `from` on, of n, answers: the first that is sought, if one is (Lions on namei)
+abbrev pub Searches : Sought → (ℕ → Option (List ℕ × ℕ)) → ℕ → ℕ → Option (ℕ × Slot) → Type 0
+Searches sought entry from n result = MatchOption result (IsMissing sought entry from n) (λ first. IsFirst sought entry from n first.0 first.1)
 
 -- the slot where a new entry goes: the first empty one, else one after the last (Lions on wdir)
 abbrev pub new_slot : List (Option (List ℕ)) → ℕ
@@ -44,11 +49,6 @@ new_slot slots = position_or_len (λ slot. is_none slot) slots
 -- the slot that holds a name; the number of the slots where none does (Lions on namei)
 abbrev pub slot_named : List ℕ → List (Option (List ℕ × ℕ)) → ℕ
 slot_named name slots = position_or_len (holds name) slots
-
--- i is the i-number in a slot that isn't empty (manual section 5, directories)
-abbrev pub IsNumberOf : Option (List ℕ × ℕ) → ℕ → Type 0
-IsNumberOf None i = Unit {0}
-IsNumberOf (Some entry) i = i ≡ entry.1
 
 -- a slot once a name is removed: empty where it held that name (manual section 5, directories)
 abbrev pub emptied : List ℕ → Option (List ℕ) → Option (List ℕ)

@@ -3,19 +3,19 @@ ghost use Rattle.std.specs.Prelude.{◌≡◌, ◌+◌, ◌-◌, ◌*◌, ◌<�
 ghost use Rattle.std.specs.List.{list_any};
 ghost use Rattle.vol_layout.specs.Geometry.{Fits};
 ghost use Rattle.vol_layout.specs.Slot.{slot_at};
-ghost use Rattle.vol_dir.specs.Entries.{entry_in, slot_count, entry_at, slots};
-ghost use Rattle.vol_dir.specs.Names.{get, names_of, names_in};
-ghost use Rattle.vol_dir.specs.Names.{is_dots};
-ghost use Rattle.vol_dir.specs.Searching.{is_sought, Searches, new_slot, IsNumberOf};
+ghost use Rattle.vol_dir.specs.Entries.{entry_in, slot_count, entry_at, slots, IsDirectory};
+ghost use Rattle.vol_dir.specs.Names.{get, names_of, names_in, is_dots};
+ghost use Rattle.vol_dir.specs.Scanning.{GoesOn};
+ghost use Rattle.vol_dir.specs.Searching.{is_sought, Searches, new_slot};
 
 use pdp_words::{BLOCK, Image};
-use vol_file::{block_at, read};
+use vol_file::block_at;
 use vol_layout::i_list::size;
-use vol_layout::slot::SLOT;
+use vol_layout::slot::{NAME, SLOT};
 use vol_layout::{Geometry, Slot};
 
 /// Slots in a block.
-pub(crate) const SLOTS: u32 = 32;
+const SLOTS: u32 = 32;
 
 /// What a search over the slots of a directory looks for.
 #[derive(Clone, Copy, Debug)]
@@ -24,6 +24,8 @@ pub(crate) enum Sought<'a> {
     Named(&'a [u8]),
     /// A slot without entry.
     Empty,
+    /// Any entry.
+    Any,
     /// An entry other than `.` and `..`.
     Other,
 }
@@ -36,6 +38,7 @@ fn is_sought(slot: &Slot, sought: Sought<'_>) -> bool
     match sought {
         Sought::Named(name) => !is_empty && name == slot.name(),
         Sought::Empty => is_empty,
+        Sought::Any => !is_empty,
         Sought::Other => !is_empty && !is_dots(slot.name()),
     }
 }
@@ -48,7 +51,7 @@ pub fn is_dots(name: &[u8]) -> bool
 }
 
 /// How many slots directory `dir` has.
-pub(crate) fn slot_count(image: &Image, geometry: &Geometry, dir: u16) -> u32
+fn slot_count(image: &Image, geometry: &Geometry, dir: u16) -> u32
     requires fits { Fits geometry.now image.now }
     requires first { 1 ≤ dir }
     requires last { dir ≤ geometry.now.last_inode }
@@ -57,90 +60,103 @@ pub(crate) fn slot_count(image: &Image, geometry: &Geometry, dir: u16) -> u32
     size(image, geometry, dir).min(geometry.edition.constants().greatest) / SLOT as u32
 }
 
-/// The first of `count` slots from byte `at` on that is sought.
-fn first_from(image: &Image, at: usize, count: u32, sought: Sought<'_>) -> Option<u32>
+/// The first slot from `start` on that is sought, of `count` from byte `at` on.
+fn first_from(
+    image: &Image,
+    at: usize,
+    start: u32,
+    count: u32,
+    sought: Sought<'_>,
+) -> Option<(u32, Slot)>
     requires few { count ≤ 32 }
     requires room { at + 16 * count ≤ length image.now }
-    ensures { Searches sought.entry (λ t. entry_in (slot_at image.now (at + 16 * t))) count result }
+    ensures { Searches sought.entry (λ t. entry_in (slot_at image.now (at + 16 * t))) start count result }
 {
     let bytes = image.as_bytes();
-    for s in 0..count {
+    for s in start..count {
         let slot = Slot::read(bytes, at + SLOT * s as usize);
         if is_sought(&slot, sought) {
-            return Some(s);
+            return Some((s, slot));
         }
     }
     None
 }
 
-/// The first of `count` empty slots that is sought: one of a block that is a hole.
-fn first_in_hole(count: u32, sought: Sought<'_>) -> Option<u32>
-    ensures { Searches sought.entry (λ t. None) count result }
+/// The first slot from `start` on that is sought, of `count` empty ones: those of a block that is a hole.
+fn first_in_hole(start: u32, count: u32, sought: Sought<'_>) -> Option<(u32, Slot)>
+    ensures { Searches sought.entry (λ t. None) start count result }
 {
+    let empty = Slot {
+        inode: 0,
+        name: [0; NAME],
+    };
     match sought {
-        Sought::Empty if 0 < count => Some(0),
+        Sought::Empty if start < count => Some((start, empty)),
         _ => None,
     }
 }
 
-/// The first of `count` slots of logical block `b` of directory `dir` that is sought.
+/// The first slot from `start` on that is sought, of `count` of logical block `b` of directory `dir`.
 fn first_in_block(
     image: &Image,
     geometry: &Geometry,
     dir: u16,
     b: u32,
+    start: u32,
     count: u32,
     sought: Sought<'_>,
-) -> Option<u32>
+) -> Option<(u32, Slot)>
     requires fits { Fits geometry.now image.now }
     requires first { 1 ≤ dir }
     requires last { dir ≤ geometry.now.last_inode }
     requires few { count ≤ 32 }
     requires within { 32 * b + count ≤ slot_count geometry.now image.now dir }
-    ensures { Searches sought.entry (λ t. entry_at geometry.now image.now dir (32 * b + t)) count result }
+    ensures { Searches sought.entry (λ t. entry_at geometry.now image.now dir (32 * b + t)) start count result }
 {
     match block_at(image, geometry, dir, b) {
-        Some(k) if geometry.in_zone(k) => first_from(image, BLOCK * k as usize, count, sought),
-        _ => first_in_hole(count, sought),
+        Some(k) if geometry.in_zone(k) => {
+            first_from(image, BLOCK * k as usize, start, count, sought)
+        }
+        _ => first_in_hole(start, count, sought),
     }
 }
 
-/// The first slot of directory `dir` that is sought.
+/// The first slot of directory `dir` from slot `from` on that is sought, and what it holds.
 ///
-/// Costs the way of each logical block up to it, and a look at each slot of those that aren't holes.
+/// Costs the way of each logical block that is passed, and a look at each slot of those that aren't holes.
 pub(crate) fn first_slot(
     image: &Image,
     geometry: &Geometry,
     dir: u16,
+    from: u32,
     sought: Sought<'_>,
-) -> Option<u32>
+) -> Option<(u32, Slot)>
     requires fits { Fits geometry.now image.now }
     requires first { 1 ≤ dir }
     requires last { dir ≤ geometry.now.last_inode }
-    ensures { Searches sought.entry (entry_at geometry.now image.now dir) (slot_count geometry.now image.now dir) result }
+    ensures { Searches sought.entry (entry_at geometry.now image.now dir) from (slot_count geometry.now image.now dir) result }
 {
     let count = slot_count(image, geometry, dir);
-    for b in 0..count.div_ceil(SLOTS) {
+    for b in from / SLOTS..count.div_ceil(SLOTS) {
+        let start = from.saturating_sub(SLOTS * b);
         let few = (count - SLOTS * b).min(SLOTS);
-        if let Some(s) = first_in_block(image, geometry, dir, b, few, sought) {
-            return Some(SLOTS * b + s);
+        if let Some((s, slot)) = first_in_block(image, geometry, dir, b, start, few, sought) {
+            return Some((SLOTS * b + s, slot));
         }
     }
     None
 }
 
-/// The i-number in slot `s` of directory `dir`, which isn't empty.
-fn number_in(image: &Image, geometry: &Geometry, dir: u16, s: u32) -> u16
+/// The first slot of directory `dir` from slot `from` on that has an entry, with its i-number and name. Which
+/// bytes stand behind the name's first zero byte is left open.
+///
+/// Costs the way of each logical block that is passed, and a look at each slot of those that aren't holes.
+pub fn next_entry(image: &Image, geometry: &Geometry, dir: u16, from: u32) -> Option<(u32, Slot)>
     requires fits { Fits geometry.now image.now }
-    requires first { 1 ≤ dir }
-    requires last { dir ≤ geometry.now.last_inode }
-    requires within { s < slot_count geometry.now image.now dir }
-    requires some { IsSome (entry_at geometry.now image.now dir s) }
-    ensures { IsNumberOf (entry_at geometry.now image.now dir s) result }
+    requires directory { IsDirectory geometry.now image.now dir }
+    ensures { GoesOn (entry_at geometry.now image.now dir) from (slot_count geometry.now image.now dir) result }
 {
-    let mut slot = [0; SLOT];
-    read(image, geometry, dir, SLOT as u32 * s, &mut slot);
-    Slot::read(&slot, 0).inode
+    first_slot(image, geometry, dir, from, Sought::Any)
 }
 
 /// The i-number that `name` has in directory `dir`; None where the name isn't there. Of slots with one
@@ -154,8 +170,8 @@ pub fn find(image: &Image, geometry: &Geometry, dir: u16, name: &[u8]) -> Option
     requires last { dir ≤ geometry.now.last_inode }
     ensures { result ≡ get (names_of (slots geometry.now image.now dir)) name.now }
 {
-    let s = first_slot(image, geometry, dir, Sought::Named(name))?;
-    Some(number_in(image, geometry, dir, s))
+    let (_, slot) = first_slot(image, geometry, dir, 0, Sought::Named(name))?;
+    Some(slot.inode)
 }
 
 /// The byte of directory `dir` where its next entry goes: that of its first empty slot, else of its
@@ -168,8 +184,11 @@ pub fn place_for(image: &Image, geometry: &Geometry, dir: u16) -> u32
     requires last { dir ≤ geometry.now.last_inode }
     ensures { result ≡ 16 * new_slot (names_in (slots geometry.now image.now dir)) }
 {
-    let count = slot_count(image, geometry, dir);
-    SLOT as u32 * first_slot(image, geometry, dir, Sought::Empty).unwrap_or(count)
+    let s = match first_slot(image, geometry, dir, 0, Sought::Empty) {
+        Some((s, _)) => s,
+        None => slot_count(image, geometry, dir),
+    };
+    SLOT as u32 * s
 }
 
 /// Whether directory `dir` has no entries but `.` and `..`.
@@ -181,5 +200,5 @@ pub fn is_empty_dir(image: &Image, geometry: &Geometry, dir: u16) -> bool
     requires last { dir ≤ geometry.now.last_inode }
     ensures { result ≡ not (list_any (λ entry. not (is_dots entry.0)) (names_of (slots geometry.now image.now dir))) }
 {
-    first_slot(image, geometry, dir, Sought::Other).is_none()
+    first_slot(image, geometry, dir, 0, Sought::Other).is_none()
 }

@@ -9,15 +9,13 @@ pub mod laws;
 pub mod paths;
 pub mod refusal;
 pub mod removing;
-pub mod scanning;
 pub mod walking;
 
 pub use access::{Access, grants};
 pub use adding::add;
 pub use cred::Cred;
-pub use entries::{find, is_dots, is_empty_dir, place_for};
+pub use entries::{find, is_dots, is_empty_dir, next_entry, place_for};
 pub use paths::split_component;
 pub use refusal::Refusal;
 pub use removing::remove;
-pub use scanning::next_entry;
 pub use walking::{walk, walk_parent};

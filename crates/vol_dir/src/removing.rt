@@ -38,8 +38,8 @@ pub fn remove(image: &mut Image, geometry: &Geometry, dir: u16, name: &[u8])
     ensures fits { Fits geometry.now image.new }
     ensures file { IsFile geometry.now image.new dir }
 {
-    match first_slot(image, geometry, dir, Sought::Named(name)) {
+    match first_slot(image, geometry, dir, 0, Sought::Named(name)) {
         None => {}
-        Some(s) => write(image, geometry, dir, SLOT as u32 * s, &[0, 0]),
+        Some((s, _)) => write(image, geometry, dir, SLOT as u32 * s, &[0, 0]),
     }
 }

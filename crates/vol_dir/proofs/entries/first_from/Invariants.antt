@@ -4,6 +4,6 @@ use Rattle.vol_dir.specs.Entries.{entry_in}
 use Rattle.vol_dir.specs.Searching.{IsMissing}
 use Rattle.vol_dir.proofs.entries.first_from.Given as goal
 
--- none of the slots before s is sought
+-- none of the slots from `start` to s is sought
 abbrev pub invariant-loop-s : goal.invariant-loop-s
-invariant-loop-s l = IsMissing l.sought (λ t. entry_in (slot_at l.image (l.at + 16 * t))) l.s
+invariant-loop-s l = IsMissing l.sought (λ t. entry_in (slot_at l.image (l.at + 16 * t))) l.start l.s

@@ -15,7 +15,7 @@ returns-in-Some c =
     let at = stored geometry image c.args.dir (form_at geometry image c.args.dir) c.args.b in
     let is : at ≡ c.in-Some.k = number_named at c.in-Some.k (sym c.in-Some.ensures) in
     searches_same c.args.sought (λ t. entry_in (slot_at image (512 * c.in-Some.k + 16 * t))) (λ t. entry_at geometry image c.args.dir (32 * c.args.b + t))
-    c.args.count c.first_from.result
+    c.args.start c.args.count c.first_from.result
     (λ t h. entry_in_block geometry image c.args.dir c.args.b t c.in-Some.k c.requires.fits (omega (arith, h, c.requires.few)) (omega (arith, h, c.requires.within)) is (sym c.in_zone.ensures ∙ c.if-in_zone.true))
     c.first_from.ensures
 
@@ -28,6 +28,6 @@ returns-in_default c =
       | in_default-via-in-Some+else-in_zone w ↦ ap (in_zone geometry) (number_named at w.in-Some.k (sym w.in-Some.ensures)) ∙ (sym w.in_zone.ensures ∙ w.if-in_zone.false)
       | in_default-via-in_default w ↦ ap (in_zone geometry) (number_missing at (sym w.in_default.ensures)) ∙ zero_out geometry image c.requires.fits
     ] in
-    searches_same c.args.sought (λ t. None) (λ t. entry_at geometry image c.args.dir (32 * c.args.b + t)) c.args.count c.first_in_hole.result
+    searches_same c.args.sought (λ t. None) (λ t. entry_at geometry image c.args.dir (32 * c.args.b + t)) c.args.start c.args.count c.first_in_hole.result
     (λ t h. entry_in_hole geometry image c.args.dir c.args.b t at (omega (arith, h, c.requires.few)) (omega (arith, h, c.requires.within)) refl outside)
     c.first_in_hole.ensures

@@ -11,21 +11,24 @@ returns-in-Some c =
     let first = c.in-Some.ensures in
     let count : c.slot_count-count.result ≡ slot_count geometry image c.args.dir = c.slot_count-count.ensures in
     record {
+      reached = omega (arith, first.reached, c.saturating_sub-start.ensures);
       within = omega (arith, first.within, c.min-few.ensures, c.loop-b-test.true, count);
       found = first.found;
-      before = λ t h. elim (cases_lt t (32 * c.loop-b.b)) [
-        | inl low ↦ c.loop-b.invariant t low (omega (arith, first.within, c.min-few.ensures))
+      read = first.read;
+      before = λ t low h. elim (cases_lt t (32 * c.loop-b.b)) [
+        | inl before ↦ c.loop-b.invariant t low before (omega (arith, h, first.within, c.min-few.ensures))
         | inr high ↦
             let place : t ≡ 32 * c.loop-b.b + (t - 32 * c.loop-b.b) = omega (arith, high) in
-            ap (λ n. is_sought c.args.sought (entry_at geometry image c.args.dir n)) place ∙ first.before (t - 32 * c.loop-b.b) (omega (arith, h, high))
+            ap (λ n. is_sought c.args.sought (entry_at geometry image c.args.dir n)) place
+            ∙ first.before (t - 32 * c.loop-b.b) (omega (arith, low, high, c.saturating_sub-start.ensures)) (omega (arith, h, high))
       ];
     }
 
 pub loop-b-preserved : goal.loop-b-preserved
-loop-b-preserved c = λ t h within. elim (cases_lt t (32 * c.loop-b.b)) [
-  | inl low ↦ c.loop-b.invariant t low within
+loop-b-preserved c = λ t low h within. elim (cases_lt t (32 * c.loop-b.b)) [
+  | inl before ↦ c.loop-b.invariant t low before within
   | inr high ↦
       let place : t ≡ 32 * c.loop-b.b + (t - 32 * c.loop-b.b) = omega (arith, high) in
       ap (λ n. is_sought c.args.sought (entry_at c.args.geometry.now c.args.image.now c.args.dir n)) place
-      ∙ c.in_default.ensures (t - 32 * c.loop-b.b) (omega (arith, h, high, within, c.min-few.ensures))
+      ∙ c.in_default.ensures (t - 32 * c.loop-b.b) (omega (arith, low, high, c.saturating_sub-start.ensures)) (omega (arith, h, high, within, c.min-few.ensures))
 ]

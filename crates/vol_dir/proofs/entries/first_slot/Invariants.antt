@@ -1,8 +1,8 @@
-use Rattle.std.proofs.Common.{◌≡◌, ℕ, ◌*◌, ◌<◌, false}
+use Rattle.std.proofs.Common.{◌≡◌, ℕ, ◌*◌, ◌<◌, ◌≤◌, false}
 use Rattle.vol_dir.specs.Entries.{entry_at}
 use Rattle.vol_dir.specs.Searching.{is_sought}
 use Rattle.vol_dir.proofs.entries.first_slot.Given as goal
 
--- none of the slots of the blocks before b is sought
+-- none of the slots from `from` to the blocks before b is sought
 abbrev pub invariant-loop-b : goal.invariant-loop-b
-invariant-loop-b l = (t : ℕ) → t < 32 * l.b → t < l.count → is_sought l.sought (entry_at l.geometry l.image l.dir t) ≡ false
+invariant-loop-b l = (t : ℕ) → l.from ≤ t → t < 32 * l.b → t < l.count → is_sought l.sought (entry_at l.geometry l.image l.dir t) ≡ false

@@ -21,7 +21,7 @@ write-requires-clause-room c = λ blocks sound.
 pub returns-in-None : goal.returns-in-None
 returns-in-None c =
     absurd (true≢false (sym c.requires.there
-    ∙ ap is_some (missing_number c.args.geometry.now c.args.image.now c.args.dir c.args.name.now c.in-None.ensures)))
+    ∙ ap is_some (missing_number c.args.geometry.now c.args.image.now c.args.dir c.args.name.now (λ t h. c.in-None.ensures t (omega arith) h))))
 
 pub returns-in-Some : goal.returns-in-Some
 returns-in-Some c =
@@ -33,7 +33,7 @@ returns-in-Some c =
     let s = c.in-Some.s in
     let has = c.requires.sound in
     let first = c.in-Some.ensures in
-    let is : slot_named name (slots geometry old d) ≡ s = slot_named_is geometry old name d s first.within first.found first.before in
+    let is : slot_named name (slots geometry old d) ≡ s = slot_named_is geometry old name d s first.within first.found (λ t h. first.before t (omega arith) h) in
     let writes : (blocks : List ℕ) → IsSoundWith geometry old blocks → Writes geometry old new d (16 * s) (0 ∷ (0 ∷ [])) blocks =
     λ blocks sound. c.write.ensures.written (omega arith) blocks sound in
     let write = writes has.blocks has.sound in

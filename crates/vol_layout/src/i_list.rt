@@ -369,7 +369,7 @@ pub fn put_address(image: &mut Image, geometry: &Geometry, i: u16, k: usize, val
 }
 
 /// Copies the eight addresses of sixth edition i-node `i`, from 1 to the last, to byte `to`. One copy
-/// of 16 bytes, by way of a buffer.
+/// of 16 bytes.
 pub fn copy_addresses(image: &mut Image, geometry: &Geometry, i: u16, to: usize)
     requires edition { geometry.now.edition ≡ Edition.V6 }
     requires fits { Fits geometry.now image.old }
@@ -380,19 +380,7 @@ pub fn copy_addresses(image: &mut Image, geometry: &Geometry, i: u16, to: usize)
         → slice_index image.new (to + k) ≡ slice_index image.old (inode_place geometry.now.edition i + 8 + k) }
     ensures others { SameOutside image.old image.new to (to + 16) }
 {
-    copy_words(image, place_of(geometry.edition, i) + SIXTH.addresses, to);
-}
-
-/// Copies the eight words at byte `from` to byte `to`.
-fn copy_words(image: &mut Image, from: usize, to: usize)
-    requires from { from + 16 ≤ length image.old }
-    requires to { to + 16 ≤ length image.old }
-    ensures copied { (k : ℕ) → k < 16 → slice_index image.new (to + k) ≡ slice_index image.old (from + k) }
-    ensures others { SameOutside image.old image.new to (to + 16) }
-{
-    let mut words = [0; 16];
-    words.copy_from_slice(&image.as_bytes()[from..from + 16]);
-    image.put_bytes(to, &words);
+    image.copy_within(place_of(geometry.edition, i) + SIXTH.addresses, 16, to);
 }
 
 /// Makes the eight addresses of sixth edition i-node `i` zero, from 1 to the last.

@@ -86,6 +86,8 @@ fn knows_the_numbers_of_each_edition(rt: HostRuntime) {
         number_limit: 0xFFFF + 1,
         link_limit: 0o177,
         id_limit: 0o377,
+        list_block_limit: 0xFFFF / 16,
+        block_limit: 0xFFFF,
     };
     check(&rt, Edition::V6.constants(), sixth, "the sixth");
     let seventh = Constants {
@@ -99,6 +101,8 @@ fn knows_the_numbers_of_each_edition(rt: HostRuntime) {
         number_limit: 0xFF_FFFF + 1,
         link_limit: 0o77777,
         id_limit: 0o77777,
+        list_block_limit: 0xFFFF / 8,
+        block_limit: 0xFF_FFFF + 1,
     };
     check(&rt, Edition::V7.constants(), seventh, "the seventh");
 }

@@ -164,6 +164,17 @@ impl Image {
         words::put_bytes(&mut self.bytes, at, bytes);
     }
 
+    /// Copies the `count` bytes at byte `from` to byte `to`, as they were before: the two places may overlap.
+    /// One copy.
+    pub fn copy_within(&mut self, from: usize, count: usize, to: usize)
+        requires from { from + count ≤ length self.old }
+        requires to { to + count ≤ length self.old }
+        ensures copied { (k : ℕ) → k < count → slice_index self.new (to + k) ≡ slice_index self.old (from + k) }
+        ensures others { SameOutside self.old self.new to (to + count) }
+    {
+        words::copy_within(&mut self.bytes, from, count, to);
+    }
+
     /// Makes the bytes from `from` up to `to` zero.
     pub fn clear(&mut self, from: usize, to: usize)
         requires order { from ≤ to }

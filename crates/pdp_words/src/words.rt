@@ -78,6 +78,16 @@ pub fn put_bytes(bytes: &mut [u8], at: usize, value: &[u8])
     bytes[at..at + value.len()].copy_from_slice(value);
 }
 
+/// Copies the `count` bytes at byte `from` to byte `to`, as they were before: the two places may overlap. One copy.
+pub fn copy_within(bytes: &mut [u8], from: usize, count: usize, to: usize)
+    requires from { from + count ≤ length bytes.old }
+    requires to { to + count ≤ length bytes.old }
+    ensures copied { (k : ℕ) → k < count → slice_index bytes.new (to + k) ≡ slice_index bytes.old (from + k) }
+    ensures others { SameOutside bytes.old bytes.new to (to + count) }
+{
+    bytes.copy_within(from..from + count, to);
+}
+
 /// Makes the bytes from `from` up to `to` zero.
 pub fn clear(bytes: &mut [u8], from: usize, to: usize)
     requires order { from ≤ to }

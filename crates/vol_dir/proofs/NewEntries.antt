@@ -1,5 +1,5 @@
 -- What a new entry makes of a directory.
-use Rattle.std.proofs.Common.{◌≡◌, ◌≢◌, ◌∙◌, sym, ap, not, subst, refl, ℕ, ◌+◌, ◌-◌, ◌*◌, ◌/◌, ◌%◌, ◌<◌, ◌≤◌, true, true≢false, List, [], ◌∷◌, length, take, get_or, None, Some, inl, inr, arith, ◌==◌, if◌then◌else◌}
+use Rattle.std.proofs.Common.{◌≡◌, ◌≢◌, ◌∙◌, sym, ap, not, subst, refl, ℕ, ◌+◌, ◌-◌, ◌*◌, ◌/◌, ◌%◌, ◌<◌, ◌≤◌, true, true≢false, List, length, take, get_or, None, Some, inl, inr, arith, ◌==◌, if◌then◌else◌}
 use Rattle.std.specs.Prelude.{Option, replicate}
 use Rattle.std.specs.List.{position_or_len}
 use Rattle.std.specs.Option.{is_none, option_map}
@@ -15,7 +15,6 @@ use Rattle.vol_layout.specs.Slot.{slot_at, name_of, padded_name}
 use Rattle.vol_layout.proofs.BodyLaws.{length-body}
 use Rattle.vol_layout.proofs.SlotLaws.{slot_copied}
 use Rattle.vol_layout.specs.declared.geometry.Geometry.{Geometry}
-use Rattle.vol_layout.specs.declared.slot.Slot.{Slot}
 use Rattle.vol_file.specs.Changes.{spliced, Writes}
 use Rattle.vol_file.specs.Rules.{size_of, IsSoundWith}
 use Rattle.vol_file.proofs.PlaceLists.{same_bytes}
@@ -86,17 +85,6 @@ new_empty geometry image d =
 -- a slot's bytes are 16
 pub length-slot_bytes : (name : List ℕ) (i : ℕ) → length name ≤ 14 → length (slot_bytes name i) ≡ 16
 length-slot_bytes name i short = omega (arith, length-append name (replicate (14 - length name) 0), length-replicate {A = ℕ} (14 - length name) 0)
-
--- 16 bytes, of which the first two are an i-number and the rest a padded name, are those of a slot
-pub slot_bytes_are : (bytes name : List ℕ) (i : ℕ) → length bytes ≡ 16 → slot_at bytes 0 ≡ record { inode = i; name = padded_name name }
-    → get_or bytes 0 0 ≡ i % 256 → bytes ≡ slot_bytes name i
-slot_bytes_are [] name i len is low = absurd (omega (arith, len))
-slot_bytes_are (x ∷ []) name i len is low = absurd (omega (arith, len))
-slot_bytes_are (x ∷ (y ∷ rest)) name i len is low =
-    let whole : x + 256 * y ≡ i = ap (λ (slot : Slot). slot.inode) is in
-    let high : y ≡ i / 256 = omega (arith, whole, low) in
-    let left : rest ≡ padded_name name = sym (take_all 14 rest (omega (arith, len))) ∙ ap (λ (slot : Slot). slot.name) is in
-    ap (λ n. n ∷ (y ∷ rest)) low ∙ (ap (λ n. (i % 256) ∷ (n ∷ rest)) high ∙ ap (λ xs. (i % 256) ∷ ((i / 256) ∷ xs)) left)
 
 -- a text of 16 bytes that was put in a slot is that slot
 slot_put : (text bytes whole : List ℕ) (s : ℕ) → length text ≡ 16 → 16 * s ≤ length bytes → 16 * s + 16 ≤ length whole

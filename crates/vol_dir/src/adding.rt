@@ -14,18 +14,7 @@ ghost use Rattle.vol_dir.specs.Searching.{new_slot};
 use crate::entries::place_for;
 use pdp_words::Image;
 use vol_file::write;
-use vol_layout::slot::SLOT;
 use vol_layout::{Geometry, Slot};
-
-/// The 16 bytes of a slot that gives `name` to `i`.
-fn slot_bytes(name: &[u8], i: u16) -> [u8; SLOT]
-    requires { length name.now ≤ 14 }
-    ensures { result ≡ slot_bytes name.now i }
-{
-    let mut bytes = [0; SLOT];
-    Slot::new(i, name).put(&mut bytes, 0);
-    bytes
-}
 
 /// Gives `name` to i-number `i` in directory `dir`: in its first empty slot, else at its end. The name
 /// isn't there yet. All 16 bytes of the slot are written, as [`write`] writes them: blocks are taken
@@ -58,5 +47,5 @@ pub fn add(image: &mut Image, geometry: &Geometry, dir: u16, name: &[u8], i: u16
     ensures file { IsFile geometry.now image.new dir }
 {
     let at = place_for(image, geometry, dir);
-    write(image, geometry, dir, at, &slot_bytes(name, i));
+    write(image, geometry, dir, at, &Slot::new(i, name).to_bytes());
 }

@@ -36,7 +36,7 @@ pub fn take(image: &mut Image, geometry: &Geometry) -> Option<u32>
     }
     let block = BLOCK * taken as usize;
     if count == 1 {
-        copy_head(image, block, super_block.free_head());
+        image.copy_within(block, HEAD_BYTES, super_block.free_head());
     } else {
         super_block.put_free_count(image, count - 1);
     }
@@ -70,7 +70,7 @@ pub fn give(image: &mut Image, geometry: &Geometry, b: u32)
         super_block.put_free(image, 0, 0);
         push(image, super_block, 1, b);
     } else if count == geometry.edition.constants().free_slots {
-        copy_head(image, super_block.free_head(), BLOCK * b as usize);
+        image.copy_within(super_block.free_head(), HEAD_BYTES, BLOCK * b as usize);
         push(image, super_block, 0, b);
     } else {
         push(image, super_block, count, b);
@@ -120,17 +120,4 @@ fn push(image: &mut Image, super_block: Super, count: u16, b: u32)
 {
     super_block.put_free(image, count as usize, b);
     super_block.put_free_count(image, count + 1);
-}
-
-/// Copies the count and array that begin at byte `from` to byte `to`. One copy of 202 bytes, by way of
-/// a buffer.
-fn copy_head(image: &mut Image, from: usize, to: usize)
-    requires from { from + 202 ≤ length image.old }
-    requires to { to + 202 ≤ length image.old }
-    ensures copied { (k : ℕ) → k < 202 → slice_index image.new (to + k) ≡ slice_index image.old (from + k) }
-    ensures others { SameOutside image.old image.new to (to + 202) }
-{
-    let mut head = [0; HEAD_BYTES];
-    head.copy_from_slice(&image.as_bytes()[from..from + HEAD_BYTES]);
-    image.put_bytes(to, &head);
 }

@@ -20,6 +20,12 @@ word_address old new at j same =
     elim (ltb j 8) as (λ t. ltb j 8 ≡ t → (if t then word new (at + 8 + 2 * j) else 0) ≡ (if t then word old (at + 8 + 2 * j) else 0))
     [ true ↦ λ t. same (ltb-true j 8 t) | false ↦ λ t. refl ] refl
 
+-- a write behind an address leaves it
+pub address_below : (edition : Edition) {old new : List ℕ} {from to : ℕ} → SameOutside old new from to → (at j : ℕ)
+    → at + address_offset edition + address_bytes edition * (j + 1) ≤ from → address_at edition new at j ≡ address_at edition old at j
+address_below V6 {old} {new} same at j h = word_address old new at j (λ low. word_below same (at + 8 + 2 * j) (omega arith))
+address_below V7 same at j h = addr3_below same (at + 12 + 3 * j) (omega arith)
+
 -- a write of one address leaves the others of its i-node
 pub address_others : (edition : Edition) (old new : List ℕ) (i k j : ℕ)
     → SameOutside old new (address_place edition i k) (address_place edition i k + address_bytes edition)

@@ -1,6 +1,6 @@
 -- Laws of the slots of a directory.
 use Rattle.std.specs.Prelude.{slice_range}
-use Rattle.std.proofs.Common.{◌≡◌, ℕ, ◌+◌, ◌≤◌, ◌<◌, ◌∙◌, sym, ap, List, length, arith}
+use Rattle.std.proofs.Common.{◌≡◌, ℕ, ◌+◌, ◌≤◌, ◌<◌, ◌∙◌, sym, ap, List, length, get_or, arith}
 use Rattle.std.proofs.lemmas.Grind.{same_number_lists}
 use Rattle.pdp_words.specs.Words.{word}
 use Rattle.vol_layout.specs.Slot.{slot_at}
@@ -31,3 +31,13 @@ slot_copied old new from to copy room_old room_new =
     let name : slice_range new (to + 2) (to + 16) ≡ slice_range old (from + 2) (from + 16) =
     ap (slice_range new (to + 2)) stop ∙ (part_copied old new from to 16 2 14 copy (omega arith) room_old room_new ∙ sym (ap (slice_range old (from + 2)) end)) in
     rw (number, name)
+
+-- where 16 bytes stand, the slot that they are stands
+pub slot_stored : (image bytes : List ℕ) (at : ℕ) → length bytes ≡ 16 → at + 16 ≤ length image → slice_range image at (at + length bytes) ≡ bytes
+    → slot_at image at ≡ slot_at bytes 0
+slot_stored image bytes at len room is =
+    slot_copied bytes image 0 at (record {
+      bytes = λ r h.
+          let place : r ≡ 0 + r = omega arith in
+          sym (get_or-slice_range image at (length bytes) r (omega (arith, h, len))) ∙ (ap (λ xs. get_or xs r 0) is ∙ ap (λ n. get_or bytes n 0) place);
+    }) (omega (arith, len)) room

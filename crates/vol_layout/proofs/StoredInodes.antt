@@ -1,8 +1,8 @@
 -- When the i-node at a byte is a given one: each field is.
-use Rattle.std.proofs.Common.{◌≡◌, ℕ, ◌+◌, ◌*◌, ◌<◌, ◌≤◌, List, length, slice_index, Option, None, Some, IsSome, refl, sym, arith, rules}
+use Rattle.std.proofs.Common.{◌≡◌, ℕ, ◌+◌, ◌<◌, ◌≤◌, List, length, slice_index, Option, None, Some, IsSome, refl, sym, arith, rules}
 use Rattle.std.specs.Option.{unwrap_or}
 use Rattle.std.proofs.lemmas.List.FromFn.{fill_by_all}
-use Rattle.pdp_words.specs.Words.{word, long, addr3}
+use Rattle.pdp_words.specs.Words.{word, long}
 use Rattle.vol_layout.specs.Inode.{inode_at, addresses_at, address_at, size_at, IsStorable}
 use Rattle.vol_layout.specs.Inode.IsStorable.{in_v6, in_v7}
 use Rattle.vol_layout.specs.declared.i_node.Inode.{Inode}
@@ -12,14 +12,14 @@ use Rattle.vol_layout.specs.declared.edition.Edition.TheVariants.{V6, V7}
 
 -- eight words and five zeros are the sixth edition's addresses
 pub addresses_are_v6 : (image : List ℕ) (at : ℕ) (xs : List ℕ) → length xs ≡ 13
-    → ((k : ℕ) → k < 8 → word image (at + 8 + 2 * k) ≡ slice_index xs k) → ((k : ℕ) → 8 ≤ k → slice_index xs k ≡ 0)
+    → ((k : ℕ) → k < 8 → address_at V6 image at k ≡ slice_index xs k) → ((k : ℕ) → 8 ≤ k → slice_index xs k ≡ 0)
     → addresses_at V6 image at ≡ xs
 unfolding addresses_at
 addresses_are_v6 image at xs len low high = sym (fill_by_all (address_at V6 image at) xs 13 0 len (λ k h. grind (arith, low k, high k)))
 
 -- thirteen three-byte addresses are the seventh edition's addresses
 pub addresses_are_v7 : (image : List ℕ) (at : ℕ) (xs : List ℕ) → length xs ≡ 13
-    → ((k : ℕ) → k < 13 → addr3 image (at + 12 + 3 * k) ≡ slice_index xs k) → addresses_at V7 image at ≡ xs
+    → ((k : ℕ) → k < 13 → address_at V7 image at k ≡ slice_index xs k) → addresses_at V7 image at ≡ xs
 unfolding addresses_at
 addresses_are_v7 image at xs len all = sym (fill_by_all (address_at V7 image at) xs 13 0 len (λ k h. sym (all k h)))
 

@@ -18,6 +18,8 @@ constants V6 = record {
   number_limit = 65536;
   link_limit = 127;
   id_limit = 255;
+  list_block_limit = 4095;
+  block_limit = 65535;
 }
 constants V7 = record {
   root = 2;
@@ -30,6 +32,8 @@ constants V7 = record {
   number_limit = 16777216;
   link_limit = 32767;
   id_limit = 32767;
+  list_block_limit = 8191;
+  block_limit = 16777216;
 }
 
 -- number j of an array of block numbers at byte `at`: words in the sixth edition, longs in the seventh (filsys.h, fblk.h)

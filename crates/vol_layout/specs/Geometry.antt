@@ -24,10 +24,11 @@ is_whole edition image = nat_le 1024 (length image) && nat_le (512 * block_count
 -- rule 2: the i-list and the data zone have a block each at least, and the sizes are within the edition's limits (this project)
 abbrev pub is_bounded : Edition → List ℕ → Bool
 is_bounded V6 image =
-    nat_le 1 (list_size image) && (nat_le (list_size image) 4095 && nat_lt (list_size image + 2) (block_count V6 image))
+    nat_le 1 (list_size image) && (nat_le (list_size image) (constants V6).list_block_limit
+    && nat_lt (list_size image + 2) (block_count V6 image))
 is_bounded V7 image =
-    nat_le 3 (list_size image) && (nat_le (list_size image) 8193
-    && (nat_lt (list_size image) (block_count V7 image) && nat_le (block_count V7 image) 16777216))
+    nat_le 3 (list_size image) && (nat_le (list_size image) ((constants V7).list_block_limit + 2)
+    && (nat_lt (list_size image) (block_count V7 image) && nat_le (block_count V7 image) (constants V7).block_limit))
 
 -- the first block after the i-list: blocks 0 and 1, and then the i-list, stand before it (manual section 5, file system)
 abbrev pub first_data_block : Edition → List ℕ → ℕ

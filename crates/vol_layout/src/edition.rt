@@ -33,6 +33,11 @@ pub struct Constants {
     pub link_limit: u16,
     /// The highest user and group number.
     pub id_limit: u16,
+    /// The most blocks of an i-list: an i-number is a word, and each i-node has one.
+    pub list_block_limit: u16,
+    /// The most blocks of a volume: the sixth edition counts them by a word, and in the seventh a block number
+    /// has 24 bits.
+    pub block_limit: u32,
 }
 
 impl Edition {
@@ -54,6 +59,8 @@ impl Edition {
                 number_limit: 0x1_0000,
                 link_limit: 127,
                 id_limit: 255,
+                list_block_limit: 4095,
+                block_limit: 0xffff,
             },
             Edition::V7 => Constants {
                 root: 2,
@@ -66,6 +73,8 @@ impl Edition {
                 number_limit: 0x100_0000,
                 link_limit: 32_767,
                 id_limit: 32_767,
+                list_block_limit: 8191,
+                block_limit: 0x100_0000,
             },
         }
     }

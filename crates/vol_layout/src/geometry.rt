@@ -1,5 +1,6 @@
 //! How a volume is divided into blocks.
-ghost use Rattle.std.specs.Prelude.{◌≡◌, IfOk, ◌&&◌, nat_le, nat_lt};
+ghost use Rattle.std.specs.Prelude.{◌≡◌, ◌+◌, IfOk, ◌&&◌, nat_le, nat_lt};
+ghost use Rattle.vol_layout.specs.Edition.{constants};
 
 use crate::edition::Edition;
 use crate::super_block::Super;
@@ -52,7 +53,7 @@ impl Geometry {
         if image.len() < BLOCK * zone_end as usize {
             return Err(GeometryFault::Short);
         }
-        if !is_bounded(edition, list_size, zone_start, zone_end) {
+        if !is_bounded(edition, zone_start, zone_end) {
             return Err(GeometryFault::Bounds);
         }
         let inodes = edition.constants().inodes_per_block;
@@ -72,16 +73,15 @@ impl Geometry {
     }
 }
 
-/// Whether the sizes are those of a volume.
-fn is_bounded(edition: Edition, list_size: u32, zone_start: u32, zone_end: u32) -> bool
-    ensures v6 { edition ≡ Edition.V6 → result ≡ (nat_le 1 list_size && (nat_le list_size 4095 && nat_lt zone_start zone_end)) }
-    ensures v7 { edition ≡ Edition.V7 → result ≡ (nat_le 3 list_size && (nat_le list_size 8193
-        && (nat_lt zone_start zone_end && nat_le zone_end 16777216))) }
+/// Whether a volume can have its data zone there: the i-list, from block 2 on, and the zone have a block each
+/// at least, and the edition's limits hold.
+fn is_bounded(edition: Edition, zone_start: u32, zone_end: u32) -> bool
+    ensures { result ≡ (nat_le 3 zone_start && (nat_le zone_start ((constants edition).list_block_limit + 2)
+        && (nat_lt zone_start zone_end && nat_le zone_end (constants edition).block_limit))) }
 {
-    match edition {
-        Edition::V6 => 1 <= list_size && list_size <= 4095 && zone_start < zone_end,
-        Edition::V7 => {
-            3 <= list_size && list_size <= 8193 && zone_start < zone_end && zone_end <= 0x100_0000
-        }
-    }
+    let limits = edition.constants();
+    3 <= zone_start
+        && zone_start <= u32::from(limits.list_block_limit) + 2
+        && zone_start < zone_end
+        && zone_end <= limits.block_limit
 }

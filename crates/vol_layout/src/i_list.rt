@@ -28,6 +28,39 @@ use crate::mode::{Kind, Mode};
 use pdp_words::Image;
 use std::array;
 
+/// How many bytes behind the first of an i-node its fields stand. The mode stands first.
+#[derive(Clone, Copy)]
+struct Offsets {
+    links: usize,
+    uid: usize,
+    gid: usize,
+    size: usize,
+    addresses: usize,
+    /// When the file was last read, last written and, in the seventh edition, when the i-node was last changed:
+    /// a long each.
+    times: usize,
+}
+
+/// The offsets of the sixth edition.
+const SIXTH: Offsets = Offsets {
+    links: 2,
+    uid: 3,
+    gid: 4,
+    size: 5,
+    addresses: 8,
+    times: 24,
+};
+
+/// The offsets of the seventh edition.
+const SEVENTH: Offsets = Offsets {
+    links: 2,
+    uid: 4,
+    gid: 6,
+    size: 8,
+    addresses: 12,
+    times: 52,
+};
+
 /// The byte where i-node `i` begins.
 fn place_of(edition: Edition, i: u16) -> usize
     requires { 1 ≤ i }
@@ -48,9 +81,9 @@ fn address_in(image: &Image, edition: Edition, at: usize, k: usize) -> u32
     // one: no sum below overflows. So it is wherever a function of this crate reads it and lets it go.
     let _ = image.len();
     match edition {
-        Edition::V6 if k < 8 => u32::from(image.word(at + 8 + 2 * k)),
+        Edition::V6 if k < 8 => u32::from(image.word(at + SIXTH.addresses + 2 * k)),
         Edition::V6 => 0,
-        Edition::V7 => image.addr3(at + 12 + 3 * k),
+        Edition::V7 => image.addr3(at + SEVENTH.addresses + 3 * k),
     }
 }
 
@@ -78,8 +111,11 @@ fn size_in(image: &Image, edition: Edition, at: usize) -> u32
 {
     let _ = image.len();
     match edition {
-        Edition::V6 => u32::from(image.byte(at + 5)) * 0x1_0000 + u32::from(image.word(at + 6)),
-        Edition::V7 => image.long(at + 8),
+        Edition::V6 => {
+            let high = u32::from(image.byte(at + SIXTH.size));
+            high * 0x1_0000 + u32::from(image.word(at + SIXTH.size + 1))
+        }
+        Edition::V7 => image.long(at + SEVENTH.size),
     }
 }
 
@@ -94,36 +130,43 @@ fn put_size_in(image: &mut Image, edition: Edition, at: usize, size: u32)
     let _ = image.len();
     match edition {
         Edition::V6 => {
-            image.put_byte(at + 5, (size / 0x1_0000) as u8);
-            image.put_word(at + 6, (size % 0x1_0000) as u16);
+            image.put_byte(at + SIXTH.size, (size / 0x1_0000) as u8);
+            image.put_word(at + SIXTH.size + 1, (size % 0x1_0000) as u16);
         }
-        Edition::V7 => image.put_long(at + 8, size),
+        Edition::V7 => image.put_long(at + SEVENTH.size, size),
     }
 }
 
-/// Puts the addresses of a sixth edition i-node, eight words.
-fn put_addresses_v6(image: &mut Image, at: usize, addresses: &[u32; 13])
-    requires room { at + 32 ≤ length image.old }
-    requires range { (k : ℕ) → k < 8 → slice_index addresses.now k < 65536 }
-    ensures put { (k : ℕ) → k < 8 → word image.new (at + 8 + 2 * k) ≡ slice_index addresses.now k }
-    ensures others { SameOutside image.old image.new (at + 8) (at + 24) }
+/// Puts address `k` of the i-node at byte `at`: of 8 addresses in the sixth edition, of 13 in the seventh.
+fn put_address_in(image: &mut Image, edition: Edition, at: usize, k: usize, value: u32)
+    requires room { at + (constants edition).inode_bytes ≤ length image.old }
+    requires index { k < address_count edition }
+    requires range { value < (constants edition).number_limit }
+    ensures put { address_at edition image.new at k ≡ value }
+    ensures others { SameOutside image.old image.new (at + address_offset edition + address_bytes edition * k)
+        (at + address_offset edition + address_bytes edition * k + address_bytes edition) }
 {
     let _ = image.len();
-    for k in 0..8 {
-        image.put_word(at + 8 + 2 * k, addresses[k] as u16);
+    match edition {
+        Edition::V6 => image.put_word(at + SIXTH.addresses + 2 * k, value as u16),
+        Edition::V7 => image.put_addr3(at + SEVENTH.addresses + 3 * k, value),
     }
 }
 
-/// Puts the addresses of a seventh edition i-node, thirteen of three bytes.
-fn put_addresses_v7(image: &mut Image, at: usize, addresses: &[u32; 13])
-    requires room { at + 64 ≤ length image.old }
-    requires range { (k : ℕ) → slice_index addresses.now k < 16777216 }
-    ensures put { (k : ℕ) → k < 13 → addr3 image.new (at + 12 + 3 * k) ≡ slice_index addresses.now k }
-    ensures others { SameOutside image.old image.new (at + 12) (at + 51) }
+/// Puts the addresses of the i-node at byte `at`: the first 8 in the sixth edition, all 13 in the seventh.
+fn put_addresses(image: &mut Image, edition: Edition, at: usize, addresses: &[u32; 13])
+    requires room { at + (constants edition).inode_bytes ≤ length image.old }
+    requires range { (k : ℕ) → k < address_count edition → slice_index addresses.now k < (constants edition).number_limit }
+    ensures put { (k : ℕ) → k < address_count edition → address_at edition image.new at k ≡ slice_index addresses.now k }
+    ensures others { SameOutside image.old image.new (at + address_offset edition)
+        (at + address_offset edition + address_bytes edition * address_count edition) }
 {
-    let _ = image.len();
-    for k in 0..13 {
-        image.put_addr3(at + 12 + 3 * k, addresses[k]);
+    let count = match edition {
+        Edition::V6 => 8,
+        Edition::V7 => 13,
+    };
+    for k in 0..count {
+        put_address_in(image, edition, at, k, addresses[k]);
     }
 }
 
@@ -145,25 +188,25 @@ pub fn inode(image: &Image, geometry: &Geometry, i: u16) -> Inode
     match geometry.edition {
         Edition::V6 => Inode {
             mode,
-            links: u16::from(image.byte(at + 2)),
-            uid: u16::from(image.byte(at + 3)),
-            gid: u16::from(image.byte(at + 4)),
+            links: u16::from(image.byte(at + SIXTH.links)),
+            uid: u16::from(image.byte(at + SIXTH.uid)),
+            gid: u16::from(image.byte(at + SIXTH.gid)),
             size,
             addresses,
-            accessed: image.long(at + 24),
-            modified: image.long(at + 28),
+            accessed: image.long(at + SIXTH.times),
+            modified: image.long(at + SIXTH.times + 4),
             changed: None,
         },
         Edition::V7 => Inode {
             mode,
-            links: image.word(at + 2),
-            uid: image.word(at + 4),
-            gid: image.word(at + 6),
+            links: image.word(at + SEVENTH.links),
+            uid: image.word(at + SEVENTH.uid),
+            gid: image.word(at + SEVENTH.gid),
             size,
             addresses,
-            accessed: image.long(at + 52),
-            modified: image.long(at + 56),
-            changed: Some(image.long(at + 60)),
+            accessed: image.long(at + SEVENTH.times),
+            modified: image.long(at + SEVENTH.times + 4),
+            changed: Some(image.long(at + SEVENTH.times + 8)),
         },
     }
 }
@@ -225,9 +268,9 @@ fn put_head_v6(image: &mut Image, at: usize, node: &Inode)
 {
     let _ = image.len();
     image.put_word(at, node.mode.bits);
-    image.put_byte(at + 2, node.links as u8);
-    image.put_byte(at + 3, node.uid as u8);
-    image.put_byte(at + 4, node.gid as u8);
+    image.put_byte(at + SIXTH.links, node.links as u8);
+    image.put_byte(at + SIXTH.uid, node.uid as u8);
+    image.put_byte(at + SIXTH.gid, node.gid as u8);
     put_size_in(image, Edition::V6, at, node.size);
 }
 
@@ -243,9 +286,9 @@ fn put_head_v7(image: &mut Image, at: usize, node: &Inode)
 {
     let _ = image.len();
     image.put_word(at, node.mode.bits);
-    image.put_word(at + 2, node.links);
-    image.put_word(at + 4, node.uid);
-    image.put_word(at + 6, node.gid);
+    image.put_word(at + SEVENTH.links, node.links);
+    image.put_word(at + SEVENTH.uid, node.uid);
+    image.put_word(at + SEVENTH.gid, node.gid);
     put_size_in(image, Edition::V7, at, node.size);
 }
 
@@ -270,8 +313,8 @@ fn put_v6(image: &mut Image, at: usize, node: &Inode)
 {
     let _ = image.len();
     put_head_v6(image, at, node);
-    put_addresses_v6(image, at, &node.addresses);
-    put_times(image, at + 24, node);
+    put_addresses(image, Edition::V6, at, &node.addresses);
+    put_times(image, at + SIXTH.times, node);
 }
 
 /// Puts a seventh edition i-node at byte `at`, but for its byte 51.
@@ -284,9 +327,9 @@ fn put_v7(image: &mut Image, at: usize, node: &Inode)
 {
     let _ = image.len();
     put_head_v7(image, at, node);
-    put_addresses_v7(image, at, &node.addresses);
-    put_times(image, at + 52, node);
-    image.put_long(at + 60, node.changed.unwrap_or(0));
+    put_addresses(image, Edition::V7, at, &node.addresses);
+    put_times(image, at + SEVENTH.times, node);
+    image.put_long(at + SEVENTH.times + 8, node.changed.unwrap_or(0));
 }
 
 /// Puts i-node `i` of a volume, from 1 to the last, whose values fit the edition's fields: those that
@@ -322,14 +365,11 @@ pub fn put_address(image: &mut Image, geometry: &Geometry, i: u16, k: usize, val
         (address_place geometry.now.edition i k + address_bytes geometry.now.edition) }
 {
     let at = place_of(geometry.edition, i);
-    match geometry.edition {
-        Edition::V6 => image.put_word(at + 8 + 2 * k, value as u16),
-        Edition::V7 => image.put_addr3(at + 12 + 3 * k, value),
-    }
+    put_address_in(image, geometry.edition, at, k, value);
 }
 
 /// Copies the eight addresses of sixth edition i-node `i`, from 1 to the last, to byte `to`. One copy
-/// of 16 bytes, by way of a buffer.
+/// of 16 bytes.
 pub fn copy_addresses(image: &mut Image, geometry: &Geometry, i: u16, to: usize)
     requires edition { geometry.now.edition ≡ Edition.V6 }
     requires fits { Fits geometry.now image.old }
@@ -340,19 +380,7 @@ pub fn copy_addresses(image: &mut Image, geometry: &Geometry, i: u16, to: usize)
         → slice_index image.new (to + k) ≡ slice_index image.old (inode_place geometry.now.edition i + 8 + k) }
     ensures others { SameOutside image.old image.new to (to + 16) }
 {
-    copy_words(image, place_of(geometry.edition, i) + 8, to);
-}
-
-/// Copies the eight words at byte `from` to byte `to`.
-fn copy_words(image: &mut Image, from: usize, to: usize)
-    requires from { from + 16 ≤ length image.old }
-    requires to { to + 16 ≤ length image.old }
-    ensures copied { (k : ℕ) → k < 16 → slice_index image.new (to + k) ≡ slice_index image.old (from + k) }
-    ensures others { SameOutside image.old image.new to (to + 16) }
-{
-    let mut words = [0; 16];
-    words.copy_from_slice(&image.as_bytes()[from..from + 16]);
-    image.put_bytes(to, &words);
+    image.copy_within(place_of(geometry.edition, i) + SIXTH.addresses, 16, to);
 }
 
 /// Makes the eight addresses of sixth edition i-node `i` zero, from 1 to the last.
@@ -366,7 +394,7 @@ pub fn clear_addresses(image: &mut Image, geometry: &Geometry, i: u16)
         (inode_place geometry.now.edition i + 24) }
 {
     let at = place_of(geometry.edition, i);
-    image.clear(at + 8, at + 24);
+    image.clear(at + SIXTH.addresses, at + SIXTH.times);
 }
 
 /// Puts the size of i-node `i` of a volume, from 1 to the last, in bytes: below 2^24 in the sixth

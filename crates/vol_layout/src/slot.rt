@@ -1,10 +1,10 @@
 //! The slots of a directory.
-ghost use Rattle.std.specs.Prelude.{◌≡◌, ◌+◌, ◌%◌, ◌≤◌, ◌==◌, length, slice_index};
+ghost use Rattle.std.specs.Prelude.{◌≡◌, ◌+◌, ◌/◌, ◌%◌, ◌∷◌, ◌≤◌, ◌==◌, length, slice_index};
 ghost use Rattle.std.specs.List.{position_or_len};
 ghost use Rattle.pdp_words.specs.Words.{SameOutside};
 ghost use Rattle.vol_layout.specs.Slot.{padded_name};
 
-use pdp_words::{Image, words};
+use pdp_words::words;
 
 /// Bytes in a slot.
 pub const SLOT: usize = 16;
@@ -48,15 +48,14 @@ impl Slot {
         words::put_bytes(bytes, at + 2, &self.name);
     }
 
-    /// Puts the slot into the 16 bytes of an image from `at` on.
-    pub fn put_in(&self, image: &mut Image, at: usize)
-        requires { at + 16 ≤ length image.old }
-        ensures put { slot_at image.new at ≡ self.now }
-        ensures others { SameOutside image.old image.new at (at + 16) }
+    /// The 16 bytes of the slot.
+    pub fn to_bytes(&self) -> [u8; SLOT]
+        ensures bytes { result ≡ (self.now.inode % 256) ∷ (self.now.inode / 256) ∷ self.now.name }
+        ensures slot { slot_at result 0 ≡ self.now }
     {
-        let _ = image.len();
-        image.put_word(at, self.inode);
-        image.put_bytes(at + 2, &self.name);
+        let mut bytes = [0; SLOT];
+        self.put(&mut bytes, 0);
+        bytes
     }
 
     /// A slot that gives a name of at most 14 bytes to an i-number.

@@ -16,10 +16,9 @@ use Rattle.vol_layout.specs.declared.i_node.Inode.{Inode}
 
 -- whether a volume can have so many blocks, of which so many are the i-list: rule 2 holds, and the sixth edition's word has room for the number of blocks (filsys.h)
 abbrev pub is_size : Edition → ℕ → ℕ → Bool
-is_size V6 blocks list_blocks =
-    nat_le 1 list_blocks && (nat_le list_blocks 4095 && (nat_lt (list_blocks + 2) blocks && nat_le blocks 65535))
-is_size V7 blocks list_blocks =
-    nat_le 1 list_blocks && (nat_le list_blocks 8191 && (nat_lt (list_blocks + 2) blocks && nat_le blocks 16777216))
+is_size edition blocks list_blocks =
+    nat_le 1 list_blocks && (nat_le list_blocks (constants edition).list_block_limit
+    && (nat_lt (list_blocks + 2) blocks && nat_le blocks (constants edition).block_limit))
 
 -- whether a user or group number is above the edition's highest (manual section 5, file system)
 abbrev pub is_bad_id : Edition → ℕ → ℕ → Bool

@@ -70,14 +70,11 @@ pub(crate) fn volume_of(edition: Edition, blocks: u32, list_blocks: u16) -> Geom
 pub(crate) fn is_size(edition: Edition, blocks: u32, list_blocks: u16) -> bool
     ensures { result ≡ is_size edition blocks list_blocks }
 {
-    let (most_list, most_blocks) = match edition {
-        Edition::V6 => (4095, 0xffff),
-        Edition::V7 => (8191, 0x100_0000),
-    };
+    let limits = edition.constants();
     1 <= list_blocks
-        && list_blocks <= most_list
+        && list_blocks <= limits.list_block_limit
         && u32::from(list_blocks) + 2 < blocks
-        && blocks <= most_blocks
+        && blocks <= limits.block_limit
 }
 
 /// Whether the user or group number is above the edition's highest.

@@ -141,5 +141,5 @@ fn put_slot(image: &mut Image, at: usize, i: u16, name: &[u8])
     requires room { length image.old ≡ 10240 }
     ensures { length image.new ≡ 10240 }
 {
-    Slot::new(i, name).put_in(image, at);
+    image.put_bytes(at, &Slot::new(i, name).to_bytes());
 }

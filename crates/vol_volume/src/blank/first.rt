@@ -106,8 +106,8 @@ fn put_root(image: &mut Image, edition: Edition, node: &Inode)
 {
     let root = edition.constants().root;
     put_inode(image, &volume_of(edition, 4, 1), root, node);
-    Slot::new(root, b".").put_in(image, ROOT_PLACE);
-    Slot::new(root, b"..").put_in(image, ROOT_PLACE + SLOT);
+    image.put_bytes(ROOT_PLACE, &Slot::new(root, b".").to_bytes());
+    image.put_bytes(ROOT_PLACE + SLOT, &Slot::new(root, b"..").to_bytes());
 }
 
 /// The root's i-node.

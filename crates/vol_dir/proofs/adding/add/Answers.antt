@@ -1,4 +1,4 @@
-use Rattle.std.proofs.Common.{◌≤◌, ◌∙◌, ap, length, Some, ◌*◌, List, ℕ, arith}
+use Rattle.std.proofs.Common.{◌≡◌, ◌≤◌, ◌∙◌, ap, length, Some, ◌*◌, List, ℕ, arith}
 use Rattle.vol_file.specs.Changes.{Writes}
 use Rattle.vol_file.specs.Rules.{IsSoundWith}
 use Rattle.vol_dir.specs.Editing.{slot_bytes}
@@ -20,10 +20,12 @@ returns c =
     let name = c.args.name.now in
     let s = new_slot (names_in (slots geometry old d)) in
     let has = c.requires.sound in
-    let some : 1 ≤ length c.slot_bytes.result =
-    let sixteen = length-slot_bytes name c.args.i c.requires.short in omega (arith, ap length c.slot_bytes.ensures, sixteen) in
+    let text : c.to_bytes.result ≡ slot_bytes name c.args.i =
+    c.to_bytes.ensures.bytes ∙ rw (c.new.ensures.inode, c.new.ensures.name) in
+    let some : 1 ≤ length c.to_bytes.result =
+    let sixteen = length-slot_bytes name c.args.i c.requires.short in omega (arith, ap length text, sixteen) in
     let written : (blocks : List ℕ) → IsSoundWith geometry old blocks → Writes geometry old new d (16 * s) (slot_bytes name c.args.i) blocks = λ blocks sound.
-    writes_as geometry old new blocks d c.place_for-at.result (16 * s) c.slot_bytes.result (slot_bytes name c.args.i) c.place_for-at.ensures c.slot_bytes.ensures
+    writes_as geometry old new blocks d c.place_for-at.result (16 * s) c.to_bytes.result (slot_bytes name c.args.i) c.place_for-at.ensures text
     (c.write.ensures.written some blocks sound) in
     let writes = written has.blocks has.sound in
     let added : Replaces geometry old new d s (Some (name, c.args.i)) =

@@ -16,10 +16,10 @@ pub returns-then-count-constants-clause-pushed : goal.returns-then-count-constan
 returns-then-count-constants-clause-pushed c = λ blocks free.
     let two : 2 ≤ c.args.geometry.now.zone_start = zone_behind c.requires.fits in
     let from : c.args.geometry.now.zone_start ≤ c.args.b = zone_from c.args.geometry.now c.args.b c.requires.zone in
-    let copied = rw c.free_head.ensures at c.copy_head.ensures.copied in
-    pushed_chained c.args.geometry.now c.args.image.now c.copy_head.new.image c.push-then-count-constants.new.image c.args.b blocks two
+    let copied = rw c.free_head.ensures at c.copy_within.ensures.copied in
+    pushed_chained c.args.geometry.now c.args.image.now c.copy_within.new.self c.push-then-count-constants.new.image c.args.b blocks two
     c.requires.zone (c.requires.fresh blocks free) free
-    (chained_stays (omega arith) c.copy_head.ensures.others c.push-then-count-constants.ensures.others)
+    (chained_stays (omega arith) c.copy_within.ensures.others c.push-then-count-constants.ensures.others)
     (record { bytes = copied }) c.push-then-count-constants.ensures.others
     (record {
       more = c.push-then-count-constants.ensures.count;
@@ -75,7 +75,7 @@ returns-then-count-constants-clause-head c =
     let slots : c.constants.result.free_slots ≡ (constants c.args.geometry.now.edition).free_slots = ap (λ (n : Constants). n.free_slots) c.constants.ensures in
     head_given c.args.geometry.now.edition c.args.image.now c.push-then-count-constants.new.image (constants c.args.geometry.now.edition).free_slots 1
     (omega (arith, slots)) (given_full c.args.geometry.now.edition) (omega (arith, c.push-then-count-constants.ensures.count))
-    (λ k low high. c.push-then-count-constants.ensures.past k (omega arith) ∙ c.copy_head.ensures.others.below k (omega arith))
+    (λ k low high. c.push-then-count-constants.ensures.past k (omega arith) ∙ c.copy_within.ensures.others.below k (omega arith))
 
 pub returns-else-count-constants-clause-head : goal.returns-else-count-constants-clause-head
 returns-else-count-constants-clause-head c =

@@ -14,8 +14,8 @@ returns-then-taken-eq0-clause-popped c = λ blocks free.
     let next = rw c.free_count-count.ensures at (sym c.free-taken.ensures) in
     pops_none c.args.geometry.now c.args.image.now blocks c.requires.fits free (inr (next ∙ c.if-taken-eq0.true))
 
-pub copy_head-requires-clause-from : goal.copy_head-requires-clause-from
-copy_head-requires-clause-from c =
+pub copy_within-requires-clause-from : goal.copy_within-requires-clause-from
+copy_within-requires-clause-from c =
     let next = rw c.free_count-count.ensures at (sym c.free-taken.ensures) in
     let zone = taken_zone c.free-taken.result c.requires.stack (λ none. c.if-count-eq0.false (omega arith)) next c.if-taken-eq0.false in
     omega (arith, zone_below c.args.geometry.now c.free-taken.result zone, c.requires.fits.blocks)
@@ -26,7 +26,7 @@ clear-requires-clause-room c =
     let zone = taken_zone c.free-taken.result c.requires.stack (λ none. c.if-count-eq0.false (omega arith)) next c.if-taken-eq0.false in
     let below : c.free-taken.result < c.args.geometry.now.zone_end = zone_below c.args.geometry.now c.free-taken.result zone in
     let len : length c.if-count-eq1.image ≡ length c.args.image.now = elim c.if-count-eq1.branch [
-      | then-count-eq1 w ↦ rw w.image-is w.copy_head.ensures.others.len
+      | then-count-eq1 w ↦ rw w.image-is w.copy_within.ensures.others.len
       | else-count-eq1 w ↦ rw w.image-is w.put_free_count.ensures.others.len
     ] in
     omega (arith, len, below, c.requires.fits.blocks)
@@ -36,8 +36,8 @@ returns-clause-popped c = λ blocks free.
     let next = rw c.free_count-count.ensures at (sym c.free-taken.ensures) in
     elim c.if-count-eq1.branch [
       | then-count-eq1 w ↦
-          let within = rw (w.free_head.ensures, ← w.image-is) at w.copy_head.ensures.others in
-          let copied = rw (w.free_head.ensures, ← w.image-is) at w.copy_head.ensures.copied in
+          let within = rw (w.free_head.ensures, ← w.image-is) at w.copy_within.ensures.others in
+          let copied = rw (w.free_head.ensures, ← w.image-is) at w.copy_within.ensures.copied in
           pops_refilled c.args.geometry.now c.args.image.now c.if-count-eq1.image c.clear.new.self c.free-taken.result blocks c.requires.fits
           (record { head = within; block = c.clear.ensures.others; zero = c.clear.ensures.zero }) (omega arith)
           next c.if-taken-eq0.false (record { bytes = copied }) free
@@ -63,8 +63,8 @@ returns-clause-head c =
     let from : c.args.geometry.now.zone_start ≤ c.free-taken.result = zone_from c.args.geometry.now c.free-taken.result zone in
     elim c.if-count-eq1.branch [
       | then-count-eq1 w ↦
-          let within = rw (w.free_head.ensures, ← w.image-is) at w.copy_head.ensures.others in
-          let copied = rw (w.free_head.ensures, ← w.image-is) at w.copy_head.ensures.copied in
+          let within = rw (w.free_head.ensures, ← w.image-is) at w.copy_within.ensures.others in
+          let copied = rw (w.free_head.ensures, ← w.image-is) at w.copy_within.ensures.copied in
           head_refilled c.args.geometry.now c.args.image.now c.if-count-eq1.image c.clear.new.self c.free-taken.result (omega arith)
           (record { head = within; block = c.clear.ensures.others; zero = c.clear.ensures.zero }) (omega arith) (record { bytes = copied })
       | else-count-eq1 w ↦

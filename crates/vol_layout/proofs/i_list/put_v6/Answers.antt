@@ -1,7 +1,9 @@
-use Rattle.std.proofs.Common.{◌≡◌, ◌+◌, ◌*◌, length, arith, ◌∙◌}
+use Rattle.std.proofs.Common.{◌≡◌, ◌+◌, length, arith, ◌∙◌}
 use Rattle.pdp_words.specs.Words.{SameOutside}
 use Rattle.pdp_words.proofs.Below.{word_below, byte_below}
 use Rattle.pdp_words.proofs.Outside.{join}
+use Rattle.vol_layout.specs.declared.edition.Edition.TheVariants.{V6}
+use Rattle.vol_layout.proofs.AddressLaws.{address_below}
 use Rattle.vol_layout.proofs.StoredInodes.{inode_is_v6, addresses_are_v6, no_more_v6, unchanged_v6}
 use Rattle.vol_layout.proofs.i_list.put_v6.Goals as goal
 
@@ -9,7 +11,7 @@ pub returns-clause-put : goal.returns-clause-put
 returns-clause-put c =
     let at = c.args.at in
     let head = c.put_head_v6.ensures in
-    let addresses = c.put_addresses_v6.ensures in
+    let addresses = c.put_addresses.ensures in
     let times = c.put_times.ensures in
     let len : length c.args.node.now.addresses ≡ 13 = omega arith in
     let tail : SameOutside c.put_head_v6.new.image c.put_times.new.image (at + 8) (at + 32) =
@@ -20,5 +22,5 @@ returns-clause-put c =
     (byte_below tail (at + 4) (omega arith) ∙ head.gid)
     (omega (arith, byte_below tail (at + 5) (omega arith), word_below tail (at + 6) (omega arith), head.size))
     (addresses_are_v6 c.put_times.new.image at c.args.node.now.addresses len
-    (λ k h. word_below times.others (at + 8 + 2 * k) (omega arith) ∙ addresses.put k h)
+    (λ k h. address_below V6 times.others at k (omega arith) ∙ addresses.put k h)
     (no_more_v6 c.requires.storable)) times.accessed (rw place at times.modified) (unchanged_v6 c.requires.storable)

@@ -5,7 +5,7 @@ use Rattle.vol_layout.specs.Inode.{inode_place, inode_of}
 use Rattle.vol_layout.specs.declared.edition.Edition.{Edition}
 use Rattle.vol_layout.proofs.CopyLaws.{copy_below}
 use Rattle.vol_layout.proofs.InodeLaws.{inode_copied}
-use Rattle.vol_layout.proofs.SlotLaws.{slot_copied}
+use Rattle.vol_layout.proofs.SlotLaws.{slot_copied, slot_stored}
 use Rattle.vol_volume.proofs.BlankVolumes.{root_end}
 use Rattle.vol_volume.proofs.blank.first.put_root.Goals as goal
 
@@ -21,15 +21,21 @@ returns-clause-root c =
     let put : inode_of c.args.edition node root ≡ c.args.node.now =
     subst (λ (e : Edition). inode_of e node root ≡ c.args.node.now) same
     (subst (λ (i : ℕ). inode_of c.volume_of.result.edition node i ≡ c.args.node.now) is c.put_inode.ensures.put) in
-    inode_copied c.args.edition c.put_in.new.image c.put_in-2.new.image at at
-    (copy_below c.put_in.new.image c.put_in-2.new.image _ _ at size c.put_in-2.ensures.others (omega arith))
-    ∙ (inode_copied c.args.edition node c.put_in.new.image at at (copy_below node c.put_in.new.image _ _ at size c.put_in.ensures.others (omega arith)) ∙ put)
+    inode_copied c.args.edition c.put_bytes.new.self c.put_bytes-2.new.self at at
+    (copy_below c.put_bytes.new.self c.put_bytes-2.new.self _ _ at size c.put_bytes-2.ensures.others (omega arith))
+    ∙ (inode_copied c.args.edition node c.put_bytes.new.self at at (copy_below node c.put_bytes.new.self _ _ at size c.put_bytes.ensures.others (omega arith)) ∙ put)
 
 pub returns-clause-dot : goal.returns-clause-dot
 returns-clause-dot c =
-    slot_copied c.put_in.new.image c.put_in-2.new.image 1536 1536
-    (copy_below c.put_in.new.image c.put_in-2.new.image _ _ 1536 16 c.put_in-2.ensures.others (omega arith)) (omega arith) (omega arith)
-    ∙ search rules
+    slot_copied c.put_bytes.new.self c.put_bytes-2.new.self 1536 1536
+    (copy_below c.put_bytes.new.self c.put_bytes-2.new.self _ _ 1536 16 c.put_bytes-2.ensures.others (omega arith)) (omega arith) (omega arith)
+    ∙ (slot_stored c.put_bytes.new.self c.to_bytes.result 1536 (omega arith) (omega arith) c.put_bytes.ensures.put
+    ∙ (c.to_bytes.ensures.slot ∙ search rules))
+
+pub returns-clause-dot_dot : goal.returns-clause-dot_dot
+returns-clause-dot_dot c =
+    slot_stored c.put_bytes-2.new.self c.to_bytes-2.result 1552 (omega arith) (omega arith) c.put_bytes-2.ensures.put
+    ∙ (c.to_bytes-2.ensures.slot ∙ search rules)
 
 pub returns-clause-before : goal.returns-clause-before
 returns-clause-before c k h =
@@ -43,4 +49,4 @@ returns-clause-before c k h =
     subst (λ (e : Edition). SameOutside old node (inode_place e root) (inode_place e root + (constants e).inode_bytes)) same
     (subst (λ (i : ℕ). SameOutside old node (inode_place c.volume_of.result.edition i)
     (inode_place c.volume_of.result.edition i + (constants c.volume_of.result.edition).inode_bytes)) is c.put_inode.ensures.others) in
-    c.put_in-2.ensures.others.below k (omega arith) ∙ (c.put_in.ensures.others.below k (omega arith) ∙ others.below k h)
+    c.put_bytes-2.ensures.others.below k (omega arith) ∙ (c.put_bytes.ensures.others.below k (omega arith) ∙ others.below k h)

@@ -5,6 +5,7 @@ pub mod FrameLaws
 pub mod InodeLaws
 pub mod KindLaws
 pub mod NameLaws
+pub mod NewInodes
 pub mod PlaceLaws
 pub mod SlotLaws
 pub mod StoredInodes

@@ -1,5 +1,5 @@
 -- The i-nodes of both layouts, field by field.
-use Rattle.std.specs.Prelude.{◌≡◌, ℕ, ◌+◌, ◌-◌, ◌*◌, ◌/◌, ◌%◌, ◌<◌, ◌≤◌, Bool, false, ◌==◌, nat_lt, if◌then◌else◌, List, map, slice_index, None, Some, IsSome}
+use Rattle.std.specs.Prelude.{◌≡◌, ℕ, ◌+◌, ◌-◌, ◌*◌, ◌/◌, ◌%◌, ◌<◌, ◌≤◌, Bool, false, ◌==◌, nat_lt, if◌then◌else◌, List, map, replicate, slice_index, Option, None, Some, IsSome}
 use Rattle.std.specs.List.{range_with_len}
 use Rattle.pdp_words.specs.Words.{word, long, addr3}
 use Rattle.vol_layout.specs.Edition.{constants}
@@ -7,6 +7,7 @@ use Rattle.vol_layout.specs.declared.edition.Edition.{Edition}
 use Rattle.vol_layout.specs.declared.edition.Edition.TheVariants.{V6, V7}
 use Rattle.vol_layout.specs.declared.mode.Kind.{Kind}
 use Rattle.vol_layout.specs.declared.mode.Kind.TheVariants as kinds
+use Rattle.vol_layout.specs.declared.mode.Mode.{Mode}
 use Rattle.vol_layout.specs.declared.i_node.Inode.{Inode}
 
 -- the kind that the type bits 060000 of an allocated mode stand for (manual section 5 of the sixth edition, file system)
@@ -113,6 +114,25 @@ inode_at V7 image at = record {
 -- i-node i of an image (manual section 5, file system)
 abbrev pub inode_of : Edition → List ℕ → ℕ → Inode
 inode_of edition image i = inode_at edition image (inode_place edition i)
+
+-- the time of the last change of an i-node, which the sixth edition lacks (ino.h)
+abbrev pub first_change : Edition → ℕ → Option ℕ
+first_change V6 now = None
+first_change V7 now = Some now
+
+-- the i-node of a new node: it has no bytes and no addresses, and all its times are that of now (Lions on maknode, ialloc)
+abbrev pub new_inode : Edition → Mode → ℕ → ℕ → ℕ → ℕ → Inode
+new_inode edition bits count uid gid now = record {
+  mode = bits;
+  links = count;
+  uid = uid;
+  gid = gid;
+  size = 0;
+  addresses = replicate 13 0;
+  accessed = now;
+  modified = now;
+  changed = first_change edition now;
+}
 
 -- the i-node's values fit the fields of the edition, and those that it lacks are zero or nothing (manual section 5, file system; ino.h)
 pub data IsStorable : Edition → Inode → Type 0 where

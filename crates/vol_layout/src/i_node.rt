@@ -1,5 +1,7 @@
 //! An i-node, in memory.
+ghost use Rattle.std.specs.Prelude.{◌≡◌};
 
+use crate::edition::Edition;
 use crate::mode::Mode;
 
 /// The values of an i-node, of either layout.
@@ -23,4 +25,28 @@ pub struct Inode {
     pub modified: u32,
     /// When the i-node was last changed, in seconds; none in the sixth edition.
     pub changed: Option<u32>,
+}
+
+impl Inode {
+    ghost use Rattle.vol_layout.specs.Inode.{new_inode};
+
+    /// The i-node of a new node: it has no bytes and no addresses, and all its times are `now`, in seconds.
+    pub fn new(edition: Edition, mode: Mode, links: u16, uid: u16, gid: u16, now: u32) -> Inode
+        ensures { result ≡ new_inode edition mode links uid gid now }
+    {
+        Inode {
+            mode,
+            links,
+            uid,
+            gid,
+            size: 0,
+            addresses: [0; 13],
+            accessed: now,
+            modified: now,
+            changed: match edition {
+                Edition::V6 => None,
+                Edition::V7 => Some(now),
+            },
+        }
+    }
 }

@@ -1,5 +1,5 @@
 -- Changes of one node of the tree, of which calls are made.
-use Rattle.std.specs.Prelude.{ℕ, ◌+◌, ◌-◌, ◌%◌, ◌==◌, max, nat_le, if◌then◌else◌, List, [], ◌∷◌, length, Option, None, Some}
+use Rattle.std.specs.Prelude.{ℕ, ◌+◌, ◌-◌, ◌%◌, ◌==◌, max, nat_le, if◌then◌else◌, List, [], ◌∷◌, length, Option, None}
 use Rattle.std.specs.Option.{option_map}
 use Rattle.vol_file.specs.Changes.{spliced}
 use Rattle.vol_file.specs.Shape.{touched}
@@ -7,14 +7,9 @@ use Rattle.vol_dir.specs.Names.{Names, insert, remove, dot, dot_dot}
 use Rattle.vol_dir.specs.Tree.{Content, Body, Directory, Device, Node, Shape, State, no_shape}
 use Rattle.vol_node.specs.Nodes.{node_at, size_with_entry}
 use Rattle.vol_node.specs.Shapes.{stored_shape, shape_with_entry, shape_without_entry}
+use Rattle.vol_layout.specs.Inode.{first_change}
 use Rattle.vol_layout.specs.declared.edition.Edition.{Edition}
-use Rattle.vol_layout.specs.declared.edition.Edition.TheVariants.{V6, V7}
 use Rattle.vol_dir.specs.declared.cred.Cred.{Cred}
-
--- the time of the last change of an i-node, which the sixth edition lacks (ino.h)
-abbrev pub first_change : Edition → ℕ → Option ℕ
-first_change V6 now = None
-first_change V7 now = Some now
 
 -- values by i-number, with another one at i (this project)
 abbrev pub set_at : {X : Type 0} → (ℕ → X) → ℕ → X → ℕ → X

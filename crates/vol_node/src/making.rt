@@ -11,7 +11,6 @@ ghost use Rattle.vol_dir.specs.Tree.{Body, Directory, no_shape, state};
 ghost use Rattle.vol_judge.specs.Graph.{graph_of};
 ghost use Rattle.vol_judge.specs.GraphEdits.{IsSameGraph};
 ghost use Rattle.vol_node.specs.Edits.{new_node, put_node, put_shape};
-ghost use Rattle.vol_node.specs.Inodes.{IsNewInode};
 ghost use Rattle.vol_node.specs.NodeGraphs.{AddsNode};
 ghost use Rattle.vol_node.specs.Unused.{KeepsUnused};
 ghost use Rattle.vol_node.specs.Whole.{IsWhole, Keeps};
@@ -19,7 +18,7 @@ ghost use Rattle.vol_node.specs.Whole.{IsWhole, Keeps};
 use pdp_words::Image;
 use vol_dir::Cred;
 use vol_free::take_inode;
-use vol_layout::{Edition, Geometry, Inode, Mode, clear_inode, put_inode};
+use vol_layout::{Geometry, Inode, Mode, clear_inode, put_inode};
 
 /// Takes a free i-number above the root's for a new node, from the cache or the i-list, as `take_inode`
 /// does. None exactly where there is none. What the volume reads as stays: the cache alone changes.
@@ -60,7 +59,7 @@ pub fn make_file(
     ensures others { (j : ℕ) → 1 ≤ j → j ≤ geometry.now.last_inode → j ≢ i → KeepsUnused geometry.now image.old image.new j }
 {
     let mode = Mode::regular(geometry.edition, permissions);
-    let node = new_inode(geometry.edition, mode, 1, owner, now);
+    let node = Inode::new(geometry.edition, mode, 1, owner.uid, owner.gid, now);
     clear_inode(image, geometry, i);
     put_inode(image, geometry, i, &node);
 }
@@ -89,27 +88,7 @@ pub fn make_directory(
     ensures others { (j : ℕ) → 1 ≤ j → j ≤ geometry.now.last_inode → j ≢ i → KeepsUnused geometry.now image.old image.new j }
 {
     let mode = Mode::directory(geometry.edition, permissions);
-    let node = new_inode(geometry.edition, mode, 2, owner, now);
+    let node = Inode::new(geometry.edition, mode, 2, owner.uid, owner.gid, now);
     clear_inode(image, geometry, i);
     put_inode(image, geometry, i, &node);
-}
-
-/// The i-node of a new node of the owner's.
-fn new_inode(edition: Edition, mode: Mode, links: u16, owner: Cred, now: u32) -> Inode
-    ensures { IsNewInode edition mode links owner now result }
-{
-    Inode {
-        mode,
-        links,
-        uid: owner.uid,
-        gid: owner.gid,
-        size: 0,
-        addresses: [0; 13],
-        accessed: now,
-        modified: now,
-        changed: match edition {
-            Edition::V6 => None,
-            Edition::V7 => Some(now),
-        },
-    }
 }

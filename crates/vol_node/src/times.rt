@@ -56,8 +56,5 @@ pub fn touch(image: &mut Image, geometry: &Geometry, i: u16, now: u32)
 pub(crate) fn stamp(changed: Option<u32>, now: u32) -> Option<u32>
     ensures { result ≡ option_map (λ _. now) changed }
 {
-    match changed {
-        Some(_) => Some(now),
-        None => None,
-    }
+    changed.map(|_| now)
 }

@@ -1,15 +1,13 @@
 -- Lemmas on making a volume.
 use Rattle.std.proofs.Common.{◌≡◌, ℕ, zero, suc, ◌+◌, ◌-◌, ◌<◌, ◌≤◌, List, ◌∷◌, refl, ap, subst, ◌∙◌, arith, inl, inr, get_or, false, replicate}
 use Rattle.std.specs.List.{range_with_len}
-use Rattle.std.proofs.lemmas.Bool.{cases_lt}
 use Rattle.std.proofs.lemmas.Bool.Decides.{nat_tests}
-use Rattle.std.proofs.lemmas.Grind.{common_steps}
-use Rattle.std.proofs.lemmas.List.{get_or-replicate}
 use Rattle.vol_layout.specs.Inode.{IsStorable}
 use Rattle.vol_layout.specs.Inode.IsStorable.{in_v6, in_v7}
 use Rattle.vol_layout.specs.declared.edition.Edition.{Edition}
 use Rattle.vol_layout.specs.declared.edition.Edition.TheVariants.{V6, V7}
 use Rattle.vol_layout.specs.Edition.{constants}
+use Rattle.vol_layout.proofs.NewInodes.{zeros_at}
 use Rattle.vol_free.specs.Stack.{IsIn, IsFree}
 use Rattle.vol_free.proofs.Stacks.{IsFree_unique}
 use Rattle.vol_volume.specs.Mkfs.{is_bad_id, root_inode}
@@ -34,10 +32,6 @@ pub range_before : (a b e : ℕ) → b + 1 ≡ a → a ≤ e → range_with_len 
 range_before a b e next room =
     let longer : e - b ≡ suc (e - a) = omega arith in
     ap (range_with_len b) longer ∙ ap (λ c. b ∷ range_with_len c (e - a)) next
-
--- a byte of a list of zeros is zero, also past its end
-pub zeros_at : (n k : ℕ) → get_or {A = ℕ} (replicate n 0) k 0 ≡ 0
-zeros_at n k = elim (cases_lt k n) [ inl low ↦ get_or-replicate n k 0 0 low | inr past ↦ grind (arith, common_steps) ]
 
 -- of the root's addresses the first alone isn't zero
 pub addresses_above : (block k : ℕ) → 1 ≤ k → get_or (block ∷ replicate 12 0) k 0 ≡ 0

@@ -4,11 +4,10 @@ use Rattle.std.specs.List.{range_with_len}
 use Rattle.pdp_words.specs.Words.{long}
 use Rattle.vol_layout.specs.Edition.{constants}
 use Rattle.vol_layout.specs.Geometry.{geometry_read}
-use Rattle.vol_layout.specs.Inode.{inode_place, inode_of}
+use Rattle.vol_layout.specs.Inode.{inode_place, inode_of, new_inode}
 use Rattle.vol_layout.specs.Super.{time_place}
 use Rattle.vol_layout.specs.Slot.{padded_name, slot_at}
 use Rattle.vol_free.specs.Stack.{IsFree}
-use Rattle.vol_node.specs.Edits.{first_change}
 use Rattle.vol_layout.specs.declared.edition.Edition.{Edition}
 use Rattle.vol_layout.specs.declared.edition.Edition.TheVariants.{V6, V7}
 use Rattle.vol_layout.specs.declared.geometry.Geometry.{Geometry}
@@ -40,17 +39,8 @@ root_mode V7 = 0x41FF
 
 -- the root's i-node: a directory with two links and two slots, whose body is in one block (mkfs)
 abbrev pub root_inode : Edition → ℕ → ℕ → ℕ → ℕ → Inode
-root_inode edition block uid gid now = record {
-  mode = record { bits = root_mode edition };
-  links = 2;
-  uid = uid;
-  gid = gid;
-  size = 32;
-  addresses = block ∷ replicate 12 0;
-  accessed = now;
-  modified = now;
-  changed = first_change edition now;
-}
+root_inode edition block uid gid now =
+    record (new_inode edition (record { bits = root_mode edition }) 2 uid gid now) { size = 32; addresses = block ∷ replicate 12 0 }
 
 -- a geometry is that of a volume that can be made (rule 2)
 pub record IsMakeable (geometry : Geometry) : Type 0 where

@@ -114,21 +114,12 @@ fn put_root(image: &mut Image, edition: Edition, node: &Inode)
 fn root_inode(geometry: &Geometry, uid: u16, gid: u16, now: u32) -> Inode
     ensures { result ≡ root_inode geometry.now.edition geometry.now.zone_start uid gid now }
 {
-    let changed = match geometry.edition {
-        Edition::V6 => None,
-        Edition::V7 => Some(now),
-    };
+    let mode = Mode::directory(geometry.edition, 0o777);
     let mut addresses = [0; 13];
     addresses[0] = geometry.zone_start;
     Inode {
-        mode: Mode::directory(geometry.edition, 0o777),
-        links: 2,
-        uid,
-        gid,
         size: 32,
         addresses,
-        accessed: now,
-        modified: now,
-        changed,
+        ..Inode::new(geometry.edition, mode, 2, uid, gid, now)
     }
 }

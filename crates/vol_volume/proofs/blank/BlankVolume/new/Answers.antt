@@ -1,6 +1,6 @@
 use Rattle.std.proofs.Common.{ap, ◌∙◌, get_or}
 use Rattle.vol_volume.proofs.BlankVolumes.{blank_stands}
-use Rattle.vol_volume.proofs.NewVolumes.{zeros_at}
+use Rattle.vol_layout.proofs.NewInodes.{zeros_at}
 use Rattle.vol_volume.proofs.blank.BlankVolume.new.Goals as goal
 
 pub fill-requires-clause-zeros : goal.fill-requires-clause-zeros

@@ -1,29 +1,15 @@
-use Rattle.std.proofs.Common.{◌≡◌, ◌<◌, ◌∙◌, ap, sym, arith, ◌∷◌, replicate}
-use Rattle.vol_node.specs.Edits.{first_change}
+use Rattle.std.proofs.Common.{◌≡◌, ◌<◌, ◌∙◌, ap, arith, ◌∷◌, replicate}
+use Rattle.vol_layout.specs.Inode.{new_inode}
+use Rattle.vol_layout.specs.declared.i_node.Inode.{Inode}
 use Rattle.vol_volume.specs.Mkfs.{root_mode}
 use Rattle.vol_volume.proofs.RootModes.{root_bits}
-use Rattle.vol_volume.proofs.blank.first.root_inode.Goals.{in-V6, in-V7}
 use Rattle.vol_volume.proofs.blank.first.root_inode.Goals as goal
 
 pub returns : goal.returns
 returns c =
     let edition = c.args.geometry.now.edition in
-    let low : c.directory.result.bits < 65536 = omega arith in
-    let bits : c.directory.result.bits ≡ root_mode edition =
-    root_bits edition c.directory.result.bits low c.directory.ensures.kind c.directory.ensures.permissions c.directory.ensures.small in
-    let changed : c.match-geometry.changed ≡ first_change edition c.args.now =
-    elim c.match-geometry.branch [
-      | in-V6 w ↦ w.changed-is ∙ sym (ap (λ e. first_change e c.args.now) w.in-V6.is)
-      | in-V7 w ↦ w.changed-is ∙ sym (ap (λ e. first_change e c.args.now) w.in-V7.is)
-    ] in
-    λ j. record {
-      mode = record { bits = bits j };
-      links = 2;
-      uid = c.args.uid;
-      gid = c.args.gid;
-      size = 32;
-      addresses = c.args.geometry.now.zone_start ∷ replicate 12 0;
-      accessed = c.args.now;
-      modified = c.args.now;
-      changed = changed j;
-    }
+    let low : c.directory-mode.result.bits < 65536 = omega arith in
+    let bits : c.directory-mode.result.bits ≡ root_mode edition =
+    root_bits edition c.directory-mode.result.bits low c.directory-mode.ensures.kind c.directory-mode.ensures.permissions c.directory-mode.ensures.small in
+    let root : Inode → Inode = λ node. record node { size = 32; addresses = c.args.geometry.now.zone_start ∷ replicate 12 0 } in
+    ap root (c.new.ensures ∙ ap (λ b. new_inode edition (record { bits = b }) 2 c.args.uid c.args.gid c.args.now) bits)

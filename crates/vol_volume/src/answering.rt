@@ -92,10 +92,8 @@ fn answer_read(
     if let Some(refusal) = body_tests(image, geometry, Access::Read, cred, i) {
         return Err(refusal);
     }
-    match read(alloc, image, geometry, i, offset, len) {
-        Ok(bytes) => Ok(Reply::Bytes(Bytes::from_vec(bytes))),
-        Err(_) => Err(Refusal::NoMemory),
-    }
+    let bytes = read(alloc, image, geometry, i, offset, len).map_err(|_| Refusal::NoMemory)?;
+    Ok(Reply::Bytes(Bytes::from_vec(bytes)))
 }
 
 /// The answer to List.
@@ -113,10 +111,8 @@ fn answer_list(
     if let Some(refusal) = list_refusal(image, geometry, cred, i) {
         return Err(refusal);
     }
-    match list(alloc, image, geometry, i) {
-        Ok(names) => Ok(Reply::Names(Listing::from_vec(names))),
-        Err(_) => Err(Refusal::NoMemory),
-    }
+    let names = list(alloc, image, geometry, i).map_err(|_| Refusal::NoMemory)?;
+    Ok(Reply::Names(Listing::from_vec(names)))
 }
 
 /// The i-number to which a path leads, or why the query is refused before anything is asked of a node.

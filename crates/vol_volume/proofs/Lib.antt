@@ -8,6 +8,7 @@ pub mod BlankVolumes
 pub mod BlankWrites
 pub mod Journals
 mod ListedNames
+mod MappedErrors
 pub mod NewDirectories
 pub mod NewFiles
 pub mod NewRules

@@ -91,10 +91,8 @@ fn answer_read(
 {
     let i = find_node(image, geometry, cred, path)?;
     body_tests(image, geometry, Access::Read, cred, i)?;
-    match read(alloc, image, geometry, i, offset, len) {
-        Ok(bytes) => Ok(Reply::Bytes(Bytes::from_vec(bytes))),
-        Err(_) => Err(Refusal::NoMemory),
-    }
+    let bytes = read(alloc, image, geometry, i, offset, len).map_err(|_| Refusal::NoMemory)?;
+    Ok(Reply::Bytes(Bytes::from_vec(bytes)))
 }
 
 /// The answer to List.
@@ -110,10 +108,8 @@ fn answer_list(
 {
     let i = find_node(image, geometry, cred, path)?;
     list_tests(image, geometry, cred, i)?;
-    match list(alloc, image, geometry, i) {
-        Ok(names) => Ok(Reply::Names(Listing::from_vec(names))),
-        Err(_) => Err(Refusal::NoMemory),
-    }
+    let names = list(alloc, image, geometry, i).map_err(|_| Refusal::NoMemory)?;
+    Ok(Reply::Names(Listing::from_vec(names)))
 }
 
 /// The i-number to which a path leads, or why the query is refused before anything is asked of a node.

@@ -220,7 +220,8 @@ impl Volume {
 
     /// Gives the image's bytes back. The journal goes. Takes no memory.
     pub fn unmount(self) -> Vec<u8>
-        ensures { result.items ≡ self.image }
+        ensures bytes { result.items ≡ self.image }
+        ensures consistent { IsConsistent self }
     {
         self.current.into_bytes()
     }

@@ -1,11 +1,13 @@
 -- Lemmas on the components of a path.
-use Rattle.std.proofs.Common.{◌≡◌, ℕ, ◌+◌, ◌<◌, Bool, true, false, cond, eqb, List, [], ◌∷◌, map, take, drop, length, min, refl, suc, zero, ap, sym, ◌∙◌, subst, arith}
+use Rattle.std.proofs.Common.{◌≡◌, ℕ, ◌+◌, ◌<◌, ◌≤◌, ◌-◌, Bool, true, false, cond, eqb, List, [], ◌∷◌, map, take, drop, length, min, refl, suc, zero, Some, None, inl, inr, ap, sym, ◌∙◌, subst, arith}
 use Rattle.std.specs.Prelude.{not, ◌||◌, filter}
-use Rattle.std.specs.List.{position_or_len, list_any}
+use Rattle.std.specs.List.{position, position_or_len, list_any}
+use Rattle.std.specs.Option.{unwrap_or}
 use Rattle.std.proofs.Math.Nat.{min_comm}
-use Rattle.std.proofs.lemmas.Bool.{or_parts}
-use Rattle.std.proofs.lemmas.List.{take_min, nil_from_length, length-take}
-use Rattle.vol_dir.specs.Walk.{onto_first, pieces, is_nil, components, has_zero, IsComponent}
+use Rattle.std.proofs.lemmas.Bool.{cases_lt, lt-ltb, le-ltb, or_parts}
+use Rattle.std.proofs.lemmas.List.{take_min, nil_from_length, length-take, length-drop}
+use Rattle.std.proofs.lemmas.List.Sums.{prefix_len-le-length}
+use Rattle.vol_dir.specs.Walk.{onto_first, pieces, is_nil, components, IsComponent}
 
 -- the pieces that have a byte
 abbrev pub kept : List (List ℕ) → List (List ℕ)
@@ -86,12 +88,24 @@ pub components-nil : components [] ≡ []
 unfolding components
 components-nil = refl
 
--- a path that has nothing behind its slashes has no component
-pub components-none : (path named : List ℕ) (k : ℕ) → k ≡ position_or_len (λ c. not (eqb c 47)) path → named ≡ drop k path
-    → length named ≡ 0 → components path ≡ []
-components-none path named k at is none =
-    sym (components-slashes path) ∙ (ap (λ j. components (drop j path)) (sym at) ∙ (ap components (sym is)
-    ∙ (ap components (nil_from_length named none) ∙ components-nil)))
+-- the first place that passes, or the length
+pub position_or : (p : ℕ → Bool) (xs : List ℕ) → unwrap_or (position p xs) (length xs) ≡ position_or_len p xs
+position_or p xs =
+    let within : position_or_len p xs ≤ length xs = prefix_len-le-length (λ x. not (p x)) xs in
+    elim (cases_lt (position_or_len p xs) (length xs)) [
+      | inl low ↦ ap (λ b. unwrap_or (cond b (Some (position_or_len p xs)) None) (length xs)) (lt-ltb (position_or_len p xs) (length xs) low)
+      | inr high ↦
+          ap (λ b. unwrap_or (cond b (Some (position_or_len p xs)) None) (length xs)) (le-ltb (position_or_len p xs) (length xs) high)
+          ∙ omega arith
+    ]
+
+-- a path of slashes alone has no component
+pub components-none : (path : List ℕ) → position (λ c. not (eqb c 47)) path ≡ None → components path ≡ []
+components-none path none =
+    let n = position_or_len (λ c. not (eqb c 47)) path in
+    let all : length path ≡ n = ap (λ o. unwrap_or o (length path)) (sym none) ∙ position_or (λ c. not (eqb c 47)) path in
+    let count : length (drop n path) ≡ length path - n = length-drop n path in
+    sym (components-slashes path) ∙ (ap components (nil_from_length (drop n path) (omega (arith, all, count))) ∙ components-nil)
 
 -- what stands behind the slashes before a path, if anything does, begins with a byte before the next slash
 pub name_begins : (path named : List ℕ) (k n : ℕ) → k ≡ position_or_len (λ c. not (eqb c 47)) path → named ≡ drop k path
@@ -125,11 +139,6 @@ list_any-take p (suc n) [] e = refl
 list_any-take p (suc n) (x ∷ xs) e =
     let h = or_parts (p x) (list_any p xs) e in ap (λ b. b || list_any p (take n xs)) h.0 ∙ list_any-take p n xs h.1
 
-list_any-drop : (p : ℕ → Bool) (n : ℕ) (xs : List ℕ) → list_any p xs ≡ false → list_any p (drop n xs) ≡ false
-list_any-drop p zero xs e = e
-list_any-drop p (suc n) [] e = refl
-list_any-drop p (suc n) (x ∷ xs) e = list_any-drop p n xs (or_parts (p x) (list_any p xs) e).1
-
 -- no byte before the first slash is a slash
 list_any-first : (xs : List ℕ) → list_any (λ c. eqb c 47) (take (position_or_len (λ c. eqb c 47) xs) xs) ≡ false
 list_any-first [] = refl
@@ -151,12 +160,3 @@ IsComponent-split path named front k n m at is full stop before cut =
     let plain : list_any (λ c. eqb c 47) front ≡ false =
     ap (list_any (λ c. eqb c 47)) (before ∙ ap (λ j. take j named) stop) ∙ list_any-first named in
     record { some = omega arith; short = omega arith; plain = list_any-take (λ c. eqb c 47) m front plain }
-
--- a path without zero byte has none in its first component, nor in the rest
-pub nonzero-split : (path named front rest : List ℕ) (k n m : ℕ) → named ≡ drop k path → front ≡ take n named → rest ≡ drop n named
-    → has_zero path ≡ false → (has_zero (take m front) ≡ false) × (has_zero rest ≡ false)
-nonzero-split path named front rest k n m is before after e =
-    let behind : has_zero named ≡ false = ap has_zero is ∙ list_any-drop (λ c. eqb c 0) k path e in (
-      list_any-take (λ c. eqb c 0) m front (ap has_zero before ∙ list_any-take (λ c. eqb c 0) n named behind),
-      ap has_zero after ∙ list_any-drop (λ c. eqb c 0) n named behind,
-    )

@@ -1,6 +1,6 @@
 //! The components of a path.
 ghost use Rattle.std.specs.Prelude.{◌≡◌, ◌<◌, ◌≤◌, ◌∷◌, ◌==◌, [], false, not, length, MatchOption, IfSome};
-ghost use Rattle.std.specs.List.{position_or_len};
+ghost use Rattle.std.specs.List.{position};
 ghost use Rattle.vol_dir.specs.Walk.{components, has_zero, IsComponent};
 
 use vol_layout::slot::NAME;
@@ -16,38 +16,22 @@ pub fn split_component(path: &[u8]) -> Option<(&[u8], &[u8])>
         → IfSome result (λ parts. (has_zero parts.0.now ≡ false) × (has_zero parts.1.now ≡ false)) }
     ensures shorter { IfSome result (λ parts. length parts.1.now < length path.now) }
 {
-    let (_, path) = path.split_at(leading_slashes(path));
-    if path.is_empty() {
-        return None;
-    }
-    let (component, rest) = path.split_at(first_slash(path));
+    let (_, path) = path.split_at(component_start(path)?);
+    let end = first_slash(path).unwrap_or(path.len());
+    let (component, rest) = path.split_at(end);
     Some((&component[..component.len().min(NAME)], rest))
 }
 
-/// How many slashes a path begins with.
-#[tactic(auto, using(std::proofs::lemmas::List::Sums::position_or_len_is))]
-fn leading_slashes(path: &[u8]) -> usize
-    ensures place { result ≡ position_or_len (λ c. not (c == 47)) path.now }
-    ensures within { result ≤ length path.now }
+/// Where the first component of a path begins: at its first byte that is no slash.
+fn component_start(path: &[u8]) -> Option<usize>
+    ensures { result ≡ position (λ c. not (c == 47)) path.now }
 {
-    for (i, c) in path.iter().enumerate() {
-        if *c != b'/' {
-            return i;
-        }
-    }
-    path.len()
+    path.iter().position(|c| *c != b'/')
 }
 
-/// Where the first slash of a path stands, or its length where there is none.
-#[tactic(auto, using(std::proofs::lemmas::List::Sums::position_or_len_is))]
-fn first_slash(path: &[u8]) -> usize
-    ensures place { result ≡ position_or_len (λ c. c == 47) path.now }
-    ensures within { result ≤ length path.now }
+/// Where the first slash of a path stands.
+fn first_slash(path: &[u8]) -> Option<usize>
+    ensures { result ≡ position (λ c. c == 47) path.now }
 {
-    for (i, c) in path.iter().enumerate() {
-        if *c == b'/' {
-            return i;
-        }
-    }
-    path.len()
+    path.iter().position(|c| *c == b'/')
 }

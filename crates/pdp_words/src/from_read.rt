@@ -8,8 +8,9 @@ ghost use Rattle.pdp_words.specs.Adapters.{reader_in, has_read_failed};
 use crate::device::Source;
 use std::io::{self, Error, ErrorKind, Read};
 
-/// A source of a reader's bytes. A read that a signal interrupted is tried again. A reader that is
-/// only lent goes in as `FromRead::new(&mut reader)`.
+/// A source of a reader's bytes. A read that a signal interrupted is tried again; after 2^64 - 1
+/// interrupts the call answers `TimedOut`, so that every call ends. A reader that is only lent goes in
+/// as `FromRead::new(&mut reader)`.
 #[derive(Debug, Drop)]
 pub struct FromRead<R> {
     reader: R,
@@ -65,11 +66,8 @@ fn read_uninterrupted<R: Read>(reader: &mut R, buf: &mut [u8]) -> io::Result<usi
     'tries: for _ in 0..u64::MAX {
         match reader.read(buf) {
             Ok(count) => return Ok(count),
-            Err(error) => {
-                if error.kind() != ErrorKind::Interrupted {
-                    return Err(error);
-                }
-            }
+            Err(error) if error.kind() != ErrorKind::Interrupted => return Err(error),
+            Err(_) => {}
         }
     }
     Err(Error::from(ErrorKind::TimedOut))

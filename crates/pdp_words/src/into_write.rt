@@ -8,10 +8,11 @@ ghost use Rattle.pdp_words.specs.Adapters.{writer_in, has_write_failed};
 use crate::device::Sink;
 use std::io::{self, Error, ErrorKind, Write};
 
-/// A sink into a writer. A write that a signal interrupted is tried again, and a write that takes no
-/// byte of some is an error, as it would go on for ever. Nothing here flushes the writer: whoever
-/// owns it calls `Write::flush` after the last write, and sees to the error of that. A writer that is
-/// only lent goes in as `IntoWrite::new(&mut writer)`.
+/// A sink into a writer. A write that a signal interrupted is tried again; after 2^64 - 1 interrupts the
+/// call answers `TimedOut`, so that every call ends. A write that takes no byte of some is an error, as
+/// it would go on for ever. Nothing here flushes the writer: whoever owns it calls `Write::flush` after
+/// the last write, and sees to the error of that. A writer that is only lent goes in as
+/// `IntoWrite::new(&mut writer)`.
 #[derive(Debug, Drop)]
 pub struct IntoWrite<W> {
     writer: W,
@@ -73,11 +74,8 @@ fn write_uninterrupted<W: Write>(writer: &mut W, buf: &[u8]) -> io::Result<usize
                 }
                 return Ok(count);
             }
-            Err(error) => {
-                if error.kind() != ErrorKind::Interrupted {
-                    return Err(error);
-                }
-            }
+            Err(error) if error.kind() != ErrorKind::Interrupted => return Err(error),
+            Err(_) => {}
         }
     }
     Err(Error::from(ErrorKind::TimedOut))

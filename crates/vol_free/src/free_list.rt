@@ -87,9 +87,7 @@ pub fn free_count(image: &Image, geometry: &Geometry) -> u32
     let super_block = Super {
         edition: geometry.edition,
     };
-    // The length is a `usize`, and that it is read brings into the proof that each place within the image is
-    // one: `head + 2` doesn't overflow.
-    let _ = image.len();
+    image.fits_in_memory();
     let mut head = super_block.free_head();
     let mut count = super_block.free_count(image);
     let mut total = 0;

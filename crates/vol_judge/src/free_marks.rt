@@ -87,9 +87,7 @@ fn top_number(image: &Image, geometry: &Geometry, rest: Rest) -> u32
     requires some { 1 ≤ rest.count }
     ensures { result ≡ number geometry.now.edition image.now (rest.head + 2) (rest.count - 1) }
 {
-    // The length is a `usize`, and that it is read brings into the proof that each place within the image is
-    // one: `rest.head + 2` doesn't overflow.
-    let _ = image.len();
+    image.fits_in_memory();
     number(
         image,
         geometry.edition,

@@ -26,7 +26,6 @@ use crate::geometry::Geometry;
 use crate::i_node::Inode;
 use crate::mode::{Kind, Mode};
 use pdp_words::Image;
-use std::array;
 
 /// How many bytes behind the first of an i-node its fields stand. The mode stands first.
 #[derive(Clone, Copy)]
@@ -77,9 +76,7 @@ fn address_in(image: &Image, edition: Edition, at: usize, k: usize) -> u32
     ensures bound { result < (constants edition).number_limit }
     ensures none { edition ≡ Edition.V6 → 8 ≤ k → result ≡ 0 }
 {
-    // The length is a `usize`, and that it is read brings into the proof that each place within the image is
-    // one: no sum below overflows. So it is wherever a function of this crate reads it and lets it go.
-    let _ = image.len();
+    image.fits_in_memory();
     match edition {
         Edition::V6 if k < 8 => u32::from(image.word(at + SIXTH.addresses + 2 * k)),
         Edition::V6 => 0,
@@ -109,7 +106,7 @@ fn size_in(image: &Image, edition: Edition, at: usize) -> u32
     ensures value { result ≡ size_at edition image.now at }
     ensures bound { edition ≡ Edition.V6 → result < 16777216 }
 {
-    let _ = image.len();
+    image.fits_in_memory();
     match edition {
         Edition::V6 => {
             let high = u32::from(image.byte(at + SIXTH.size));
@@ -127,7 +124,7 @@ fn put_size_in(image: &mut Image, edition: Edition, at: usize, size: u32)
     ensures others { SameOutside image.old image.new (at + (address_offset edition - size_bytes edition))
         (at + address_offset edition) }
 {
-    let _ = image.len();
+    image.fits_in_memory();
     match edition {
         Edition::V6 => {
             image.put_byte(at + SIXTH.size, (size / 0x1_0000) as u8);
@@ -146,7 +143,7 @@ fn put_address_in(image: &mut Image, edition: Edition, at: usize, k: usize, valu
     ensures others { SameOutside image.old image.new (at + address_offset edition + address_bytes edition * k)
         (at + address_offset edition + address_bytes edition * k + address_bytes edition) }
 {
-    let _ = image.len();
+    image.fits_in_memory();
     match edition {
         Edition::V6 => image.put_word(at + SIXTH.addresses + 2 * k, value as u16),
         Edition::V7 => image.put_addr3(at + SEVENTH.addresses + 3 * k, value),
@@ -266,7 +263,7 @@ fn put_head_v6(image: &mut Image, at: usize, node: &Inode)
     ensures size { size_at Edition.V6 image.new at ≡ node.now.size }
     ensures others { SameOutside image.old image.new at (at + 8) }
 {
-    let _ = image.len();
+    image.fits_in_memory();
     image.put_word(at, node.mode.bits);
     image.put_byte(at + SIXTH.links, node.links as u8);
     image.put_byte(at + SIXTH.uid, node.uid as u8);
@@ -284,7 +281,7 @@ fn put_head_v7(image: &mut Image, at: usize, node: &Inode)
     ensures size { size_at Edition.V7 image.new at ≡ node.now.size }
     ensures others { SameOutside image.old image.new at (at + 12) }
 {
-    let _ = image.len();
+    image.fits_in_memory();
     image.put_word(at, node.mode.bits);
     image.put_word(at + SEVENTH.links, node.links);
     image.put_word(at + SEVENTH.uid, node.uid);
@@ -299,7 +296,7 @@ fn put_times(image: &mut Image, at: usize, node: &Inode)
     ensures modified { long image.new (at + 4) ≡ node.now.modified }
     ensures others { SameOutside image.old image.new at (at + 8) }
 {
-    let _ = image.len();
+    image.fits_in_memory();
     image.put_long(at, node.accessed);
     image.put_long(at + 4, node.modified);
 }
@@ -311,7 +308,7 @@ fn put_v6(image: &mut Image, at: usize, node: &Inode)
     ensures put { inode_at Edition.V6 image.new at ≡ node.now }
     ensures others { SameOutside image.old image.new at (at + 32) }
 {
-    let _ = image.len();
+    image.fits_in_memory();
     put_head_v6(image, at, node);
     put_addresses(image, Edition::V6, at, &node.addresses);
     put_times(image, at + SIXTH.times, node);
@@ -325,7 +322,7 @@ fn put_v7(image: &mut Image, at: usize, node: &Inode)
     ensures others { SameOutside image.old image.new at (at + 64) }
     ensures unused { slice_index image.new (at + 51) ≡ slice_index image.old (at + 51) }
 {
-    let _ = image.len();
+    image.fits_in_memory();
     put_head_v7(image, at, node);
     put_addresses(image, Edition::V7, at, &node.addresses);
     put_times(image, at + SEVENTH.times, node);

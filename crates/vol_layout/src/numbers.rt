@@ -12,7 +12,7 @@ pub fn number(image: &Image, edition: Edition, at: usize, j: usize) -> u32
     requires { at + (constants edition).number_bytes * (j + 1) ≤ length image.now }
     ensures { result ≡ number edition image.now at j }
 {
-    let _ = image.len();
+    image.fits_in_memory();
     match edition {
         Edition::V6 => u32::from(image.word(at + 2 * j)),
         Edition::V7 => image.long(at + 4 * j),
@@ -27,7 +27,7 @@ pub fn put_number(image: &mut Image, edition: Edition, at: usize, j: usize, valu
     ensures others { SameOutside image.old image.new
         (at + (constants edition).number_bytes * j) (at + (constants edition).number_bytes * (j + 1)) }
 {
-    let _ = image.len();
+    image.fits_in_memory();
     match edition {
         Edition::V6 => image.put_word(at + 2 * j, value as u16),
         Edition::V7 => image.put_long(at + 4 * j, value),

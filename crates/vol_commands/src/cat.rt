@@ -10,7 +10,7 @@ use pdp_words::{Image, LoadFault, Sink, Source, load, write_all};
 use std::alloc::Global;
 use thiserror::Error;
 use vol_file::read;
-use vol_layout::i_list::mode;
+use vol_layout::i_list::kind;
 use vol_layout::{Edition, Geometry, GeometryFault, Kind};
 
 /// Why `cat` didn't print a file. Its text is the line that the program prints.
@@ -72,11 +72,10 @@ pub fn cat<R: Source, W: Sink>(
     ensures writer { IsErrAnd result (λ fault. (count : ℕ) × (fault ≡ CatFault.Writer count)) → W.failed writer.new ≡ true }
     ensures kept { IsNoWriters result → W.failed writer.new ≡ W.failed writer.old }
 {
-    let image = match load(alloc, reader) {
-        Ok(image) => image,
-        Err(LoadFault::Device) => return Err(CatFault::Device),
-        Err(LoadFault::NoMemory) => return Err(CatFault::NoMemory),
-    };
+    let image = load(alloc, reader).map_err(|fault| match fault {
+        LoadFault::Device => CatFault::Device,
+        LoadFault::NoMemory => CatFault::NoMemory,
+    })?;
     let geometry = open(edition, &image, ino)?;
     show(&image, &geometry, ino, writer)
 }
@@ -90,14 +89,11 @@ fn open(edition: Edition, image: &Image, ino: u16) -> Result<Geometry, CatFault>
     ensures first { OnOk result (1 ≤ ino) }
     ensures last { IfOk result (λ geometry. ino ≤ geometry.last_inode) }
 {
-    let geometry = match Geometry::read(edition, image) {
-        Ok(geometry) => geometry,
-        Err(fault) => return Err(CatFault::Unsound(fault)),
-    };
+    let geometry = Geometry::read(edition, image).map_err(CatFault::Unsound)?;
     if ino == 0 || ino > geometry.last_inode {
         return Err(CatFault::NoEntry);
     }
-    match mode(image, &geometry, ino).kind(geometry.edition) {
+    match kind(image, &geometry, ino) {
         Kind::Free => Err(CatFault::NoEntry),
         Kind::Special | Kind::Odd => Err(CatFault::NotRegular),
         Kind::Regular | Kind::Directory => Ok(geometry),

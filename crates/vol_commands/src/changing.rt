@@ -5,7 +5,7 @@ ghost use Rattle.std.specs.Io.KnownBytes.{Keeps};
 ghost use Rattle.vol_judge.specs.Sound.{IsSound};
 ghost use Rattle.vol_volume.specs.Answer.{answer};
 ghost use Rattle.vol_volume.specs.Journal.{Refuses};
-ghost use Rattle.vol_volume.specs.Volume.{Accepts, IsConsistent, reads_as};
+ghost use Rattle.vol_volume.specs.Volume.{Accepts, reads_as};
 ghost use Rattle.vol_volume.specs.declared.calls.Done.{Done};
 ghost use Rattle.vol_dir.specs.declared.refusal.Refusal.{Refusal};
 ghost use Rattle.vol_volume.specs.declared.calls.Call.TheVariants as asked;
@@ -65,7 +65,8 @@ pub fn rm<O: Sink, E: Sink>(
     ensures unprinted { Keeps (O.contents _output.old) (O.contents _output.new) }
     ensures unused { O.failed _output.new ≡ O.failed _output.old }
 {
-    conclude(unlink(alloc, edition, image, path, now), errors)
+    let call = unlink_call(alloc, path, now);
+    conclude(change(alloc, edition, image, call), errors)
 }
 
 /// `rmdir`: frees a directory that has `.` and `..` alone.
@@ -83,7 +84,8 @@ pub fn rmdir<O: Sink, E: Sink>(
     ensures unprinted { Keeps (O.contents _output.old) (O.contents _output.new) }
     ensures unused { O.failed _output.new ≡ O.failed _output.old }
 {
-    conclude(remove_directory(alloc, edition, image, path, now), errors)
+    let call = rmdir_call(alloc, path, now);
+    conclude(change(alloc, edition, image, call), errors)
 }
 
 /// `mkdir`: makes a directory with permissions 0755 that has `.` and `..` alone.
@@ -101,7 +103,8 @@ pub fn mkdir<O: Sink, E: Sink>(
     ensures unprinted { Keeps (O.contents _output.old) (O.contents _output.new) }
     ensures unused { O.failed _output.new ≡ O.failed _output.old }
 {
-    conclude(make_directory(alloc, edition, image, path, now), errors)
+    let call = mkdir_call(alloc, path, now);
+    conclude(change(alloc, edition, image, call), errors)
 }
 
 /// `ln`: gives what is no directory a further name.
@@ -120,7 +123,8 @@ pub fn ln<O: Sink, E: Sink>(
     ensures unprinted { Keeps (O.contents _output.old) (O.contents _output.new) }
     ensures unused { O.failed _output.new ≡ O.failed _output.old }
 {
-    conclude(link(alloc, edition, image, from, to, now), errors)
+    let call = link_call(alloc, from, to, now);
+    conclude(change(alloc, edition, image, call), errors)
 }
 
 /// Makes the calls of `put`.
@@ -137,7 +141,7 @@ fn put_file(
 {
     let mut volume = mount(alloc, edition, image)?;
     fill(alloc, &mut volume, path, file, now)?;
-    Ok(unmount(volume))
+    Ok(volume.unmount())
 }
 
 /// Makes the calls of `put` on a volume.
@@ -189,93 +193,66 @@ fn emptying(alloc: Global, volume: &Volume, path: &str, now: u32) -> Result<Call
     }
 }
 
-/// Makes the call of `rm`.
-fn unlink(
-    alloc: Global,
-    edition: Edition,
-    image: Vec<u8>,
-    path: &str,
-    now: u32,
-) -> Result<Vec<u8>, Fault>
-    ensures made { IfOk result (λ bytes. Makes edition image.items (asked.Unlink user now path.now ∷ []) bytes.items) }
-    ensures fault { IfErr result (IsReason edition image.items (asked.Unlink user now path.now ∷ [])) }
+/// The call of `rm`.
+fn unlink_call(alloc: Global, path: &str, now: u32) -> Result<Call, AllocError>
+    ensures { IfOk result (λ call. call ≡ asked.Unlink user now path.now) }
 {
-    let path = copy(alloc, path)?;
-    let cred = USER;
-    change(alloc, edition, image, Call::Unlink { cred, now, path })
-}
-
-/// Makes the call of `rmdir`.
-fn remove_directory(
-    alloc: Global,
-    edition: Edition,
-    image: Vec<u8>,
-    path: &str,
-    now: u32,
-) -> Result<Vec<u8>, Fault>
-    ensures made { IfOk result (λ bytes. Makes edition image.items (asked.Rmdir user now path.now ∷ []) bytes.items) }
-    ensures fault { IfErr result (IsReason edition image.items (asked.Rmdir user now path.now ∷ [])) }
-{
-    let path = copy(alloc, path)?;
-    let cred = USER;
-    change(alloc, edition, image, Call::Rmdir { cred, now, path })
-}
-
-/// Makes the call of `mkdir`.
-fn make_directory(
-    alloc: Global,
-    edition: Edition,
-    image: Vec<u8>,
-    path: &str,
-    now: u32,
-) -> Result<Vec<u8>, Fault>
-    ensures made { IfOk result (λ bytes. Makes edition image.items (asked.Mkdir user now path.now 0o755 ∷ []) bytes.items) }
-    ensures fault { IfErr result (IsReason edition image.items (asked.Mkdir user now path.now 0o755 ∷ [])) }
-{
-    let path = copy(alloc, path)?;
-    let cred = USER;
-    let perm = DIRECTORY_PERMISSIONS;
-    let call = Call::Mkdir {
-        cred,
+    Ok(Call::Unlink {
+        cred: USER,
         now,
-        path,
-        perm,
-    };
-    change(alloc, edition, image, call)
+        path: copy(alloc, path)?,
+    })
 }
 
-/// Makes the call of `ln`.
-fn link(
+/// The call of `rmdir`.
+fn rmdir_call(alloc: Global, path: &str, now: u32) -> Result<Call, AllocError>
+    ensures { IfOk result (λ call. call ≡ asked.Rmdir user now path.now) }
+{
+    Ok(Call::Rmdir {
+        cred: USER,
+        now,
+        path: copy(alloc, path)?,
+    })
+}
+
+/// The call of `mkdir`.
+fn mkdir_call(alloc: Global, path: &str, now: u32) -> Result<Call, AllocError>
+    ensures { IfOk result (λ call. call ≡ asked.Mkdir user now path.now 0o755) }
+{
+    Ok(Call::Mkdir {
+        cred: USER,
+        now,
+        path: copy(alloc, path)?,
+        perm: DIRECTORY_PERMISSIONS,
+    })
+}
+
+/// The call of `ln`.
+fn link_call(alloc: Global, from: &str, to: &str, now: u32) -> Result<Call, AllocError>
+    ensures { IfOk result (λ call. call ≡ asked.Link user now from.now to.now) }
+{
+    Ok(Call::Link {
+        cred: USER,
+        now,
+        source: copy(alloc, from)?,
+        target: copy(alloc, to)?,
+    })
+}
+
+/// Makes one call on the volume in some bytes, where the memory for its words was there.
+fn change(
     alloc: Global,
     edition: Edition,
     image: Vec<u8>,
-    from: &str,
-    to: &str,
-    now: u32,
+    call: Result<Call, AllocError>,
 ) -> Result<Vec<u8>, Fault>
-    ensures made { IfOk result (λ bytes. Makes edition image.items (asked.Link user now from.now to.now ∷ []) bytes.items) }
-    ensures fault { IfErr result (IsReason edition image.items (asked.Link user now from.now to.now ∷ [])) }
+    ensures made { (wanted : Call) → IfOk call (λ call. call ≡ wanted) → IfOk result (λ bytes. Makes edition image.items (wanted ∷ []) bytes.items) }
+    ensures fault { (wanted : Call) → IfOk call (λ call. call ≡ wanted) → IfErr result (IsReason edition image.items (wanted ∷ [])) }
 {
-    let cred = USER;
-    let source = copy(alloc, from)?;
-    let target = copy(alloc, to)?;
-    let call = Call::Link {
-        cred,
-        now,
-        source,
-        target,
-    };
-    change(alloc, edition, image, call)
-}
-
-/// Makes one call on the volume in some bytes.
-fn change(alloc: Global, edition: Edition, image: Vec<u8>, call: Call) -> Result<Vec<u8>, Fault>
-    ensures made { IfOk result (λ bytes. Makes edition image.items (call ∷ []) bytes.items) }
-    ensures fault { IfErr result (IsReason edition image.items (call ∷ [])) }
-{
+    let call = call?;
     let mut volume = mount(alloc, edition, image)?;
     perform(alloc, &mut volume, call)?;
-    Ok(unmount(volume))
+    Ok(volume.unmount())
 }
 
 /// Makes a call on a volume.
@@ -284,17 +261,8 @@ fn perform(alloc: Global, volume: &mut Volume, call: Call) -> Result<(), Fault>
     ensures refused { IfErr result (λ fault. (refusal : Refusal) × (fault ≡ Fault.Refused refusal)
         × Refuses (reads_as volume.old.edition volume.old.image) call refusal) }
 {
-    match volume.call(alloc, call) {
-        Ok(_) => Ok(()),
-        Err((refusal, _)) => Err(Fault::Refused(refusal)),
-    }
-}
-
-/// The bytes of a volume.
-fn unmount(volume: Volume) -> Vec<u8>
-    ensures bytes { result.items ≡ volume.image }
-    ensures consistent { IsConsistent volume }
-{
-    volume.check();
-    volume.unmount()
+    volume
+        .call(alloc, call)
+        .map_err(|(refusal, _)| Fault::Refused(refusal))?;
+    Ok(())
 }

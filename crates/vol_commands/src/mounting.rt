@@ -12,22 +12,19 @@ use vol_layout::Edition;
 use vol_volume::{Bytes, Volume};
 
 /// Who the commands act as.
-pub const USER: Cred = Cred { uid: 0, gid: 0 };
+pub(crate) const USER: Cred = Cred { uid: 0, gid: 0 };
 
 /// Mounts the volume in some bytes.
-pub fn mount(alloc: Global, edition: Edition, image: Vec<u8>) -> Result<Volume, Fault>
+pub(crate) fn mount(alloc: Global, edition: Edition, image: Vec<u8>) -> Result<Volume, Fault>
     ensures mounted { IfOk result (λ volume. volume ≡ mounted edition image.items) }
     ensures sound { OnOk result (IsSound edition image.items) }
     ensures fault { IfErr result (λ fault. (calls : List Call) → IsReason edition image.items calls fault) }
 {
-    match Volume::mount(alloc, edition, image) {
-        Ok(volume) => Ok(volume),
-        Err((fault, _)) => Err(Fault::from(fault)),
-    }
+    Volume::mount(alloc, edition, image).map_err(|(fault, _)| Fault::from(fault))
 }
 
 /// The bytes of a word.
-pub fn copy(alloc: Global, text: &str) -> Result<Bytes, AllocError>
+pub(crate) fn copy(alloc: Global, text: &str) -> Result<Bytes, AllocError>
     ensures { IfOk result (λ bytes. bytes ≡ text.now) }
 {
     Ok(Bytes::from_vec(Vec::from_slice(alloc, text.as_bytes())?))

@@ -103,10 +103,7 @@ fn show<O: Sink>(
     let image = Image::from_bytes(image);
     let reply = ask(alloc, edition, &image, &query)?.map_err(Fault::Refused)?;
     let text = text(alloc, reply)?;
-    match write_all(output, &text) {
-        Ok(()) => Ok(()),
-        Err(_) => Err(Fault::Output),
-    }
+    write_all(output, &text).map_err(|_| Fault::Output)
 }
 
 /// What is printed of a reply.

@@ -1,8 +1,11 @@
-use Rattle.std.proofs.Common.{[], ◌∷◌}
+use Rattle.std.proofs.Common.{rules, [], ◌∷◌}
 use Rattle.vol_volume.specs.declared.calls.Call.TheVariants as calls
 use Rattle.vol_commands.specs.Faults.{user}
 use Rattle.vol_commands.proofs.Reasons.{outcome_ruled}
 use Rattle.vol_commands.proofs.changing.rmdir.Goals as goal
 
 pub conclude-requires : goal.conclude-requires
-conclude-requires g c = outcome_ruled _ _ (calls.Rmdir user c.args.now c.args.path.now ∷ []) _ c.remove_directory.ensures.fault
+conclude-requires g c = outcome_ruled _ _ (calls.Rmdir user c.args.now c.args.path.now ∷ []) _ (c.change.ensures.fault (calls.Rmdir user c.args.now c.args.path.now) c.rmdir_call-call.ensures)
+
+pub returns-clause-changed : goal.returns-clause-changed
+returns-clause-changed g c = search (rules, c.change.ensures.made (calls.Rmdir user c.args.now c.args.path.now) c.rmdir_call-call.ensures, c.change.ensures.fault (calls.Rmdir user c.args.now c.args.path.now) c.rmdir_call-call.ensures)

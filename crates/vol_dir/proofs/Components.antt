@@ -1,11 +1,12 @@
 -- Lemmas on the components of a path.
 use Rattle.std.proofs.Common.{◌≡◌, ℕ, ◌+◌, ◌<◌, ◌≤◌, ◌-◌, Bool, true, false, cond, eqb, List, [], ◌∷◌, map, take, drop, length, min, refl, suc, zero, Some, None, inl, inr, ap, sym, ◌∙◌, subst, arith}
-use Rattle.std.specs.Prelude.{not, ◌||◌, filter}
+use Rattle.std.specs.Prelude.{Option, not, ◌||◌, filter}
 use Rattle.std.specs.List.{position, position_or_len, list_any}
 use Rattle.std.specs.Option.{unwrap_or}
 use Rattle.std.proofs.Math.Nat.{min_comm}
 use Rattle.std.proofs.lemmas.Bool.{cases_lt, lt-ltb, le-ltb, or_parts}
 use Rattle.std.proofs.lemmas.List.{take_min, nil_from_length, length-take, length-drop}
+use Rattle.std.proofs.lemmas.List.Quantifiers.{position-Some}
 use Rattle.std.proofs.lemmas.List.Sums.{prefix_len-le-length}
 use Rattle.vol_dir.specs.Walk.{onto_first, pieces, is_nil, components, IsComponent}
 
@@ -107,26 +108,43 @@ components-none path none =
     let count : length (drop n path) ≡ length path - n = length-drop n path in
     sym (components-slashes path) ∙ (ap components (nil_from_length (drop n path) (omega (arith, all, count))) ∙ components-nil)
 
--- what stands behind the slashes before a path, if anything does, begins with a byte before the next slash
-pub name_begins : (path named : List ℕ) (k n : ℕ) → k ≡ position_or_len (λ c. not (eqb c 47)) path → named ≡ drop k path
-    → 0 < length named → n ≡ position_or_len (λ c. eqb c 47) named → 0 < n
-name_begins path named k n at is full stop =
-    let behind : named ≡ drop (position_or_len (λ c. not (eqb c 47)) path) path = is ∙ ap (λ j. drop j path) at in
-    subst (λ j. 0 < j) (sym stop)
-    (subst (λ xs. 0 < length xs → 0 < position_or_len (λ c. eqb c 47) xs) (sym behind) (name_follows path) full)
+-- the first component of a path begins at byte k, where `named` begins, and has n bytes
+pub record Begins (path named : List ℕ) (k n : ℕ) : Type 0 where
+  pub at : k ≡ position_or_len (λ c. not (eqb c 47)) path
+  pub is : named ≡ drop k path
+  pub full : 0 < length named
+  pub stop : n ≡ position_or_len (λ c. eqb c 47) named
+
+-- it begins at the first byte that is no slash, and ends at the next slash
+pub begins : (path named : List ℕ) (k n : ℕ) (slash : Option ℕ) → Some k ≡ position (λ c. not (eqb c 47)) path → named ≡ drop k path
+    → slash ≡ position (λ c. eqb c 47) named → n ≡ unwrap_or slash (length named) → Begins path named k n
+begins path named k n slash start is found stop = record {
+  at = ap (λ o. unwrap_or o (length path)) start ∙ position_or (λ c. not (eqb c 47)) path;
+  is = is;
+  full =
+      let low = position-Some (λ c. not (eqb c 47)) path k 0 (sym start) in
+      let count : length named ≡ length path - k = ap length is ∙ length-drop k path in
+      omega (arith, low.0, count);
+  stop = stop ∙ (ap (λ o. unwrap_or o (length named)) found ∙ position_or (λ c. eqb c 47) named);
+}
+
+-- it has a byte
+pub has_byte : (path named : List ℕ) (k n : ℕ) → Begins path named k n → 0 < n
+has_byte path named k n begun =
+    let behind : named ≡ drop (position_or_len (λ c. not (eqb c 47)) path) path = begun.is ∙ ap (λ j. drop j path) begun.at in
+    subst (λ j. 0 < j) (sym begun.stop)
+    (subst (λ xs. 0 < length xs → 0 < position_or_len (λ c. eqb c 47) xs) (sym behind) (name_follows path) begun.full)
 
 -- a path's first component is what stands behind its slashes before the next one, cut
-pub components-split : (path named front rest : List ℕ) (k n m : ℕ) → k ≡ position_or_len (λ c. not (eqb c 47)) path
-    → named ≡ drop k path → 0 < length named → n ≡ position_or_len (λ c. eqb c 47) named
+pub components-split : (path named front rest : List ℕ) (k n m : ℕ) → Begins path named k n
     → front ≡ take n named → rest ≡ drop n named → m ≡ min (length front) 14
     → components path ≡ take m front ∷ components rest
-components-split path named front rest k n m at is full stop before after cut =
-    let behind : named ≡ drop (position_or_len (λ c. not (eqb c 47)) path) path = is ∙ ap (λ j. drop j path) at in
-    let some : 0 < position_or_len (λ c. eqb c 47) named =
-    name_begins path named k (position_or_len (λ c. eqb c 47) named) at is full refl in
+components-split path named front rest k n m begun before after cut =
+    let behind : named ≡ drop (position_or_len (λ c. not (eqb c 47)) path) path = begun.is ∙ ap (λ j. drop j path) begun.at in
+    let some : 0 < position_or_len (λ c. eqb c 47) named = subst (λ j. 0 < j) begun.stop (has_byte path named k n begun) in
     let short : take m front ≡ take 14 front = ap (λ j. take j front) (cut ∙ min_comm (length front) 14) ∙ take_min 14 front in
     let split : components named ≡ take 14 (take n named) ∷ components (drop n named) =
-    components-first named some full ∙ ap (λ j. take 14 (take j named) ∷ components (drop j named)) (sym stop) in
+    components-first named some begun.full ∙ ap (λ j. take 14 (take j named) ∷ components (drop j named)) (sym begun.stop) in
     let same : components path ≡ components named = sym (components-slashes path) ∙ ap components (sym behind) in
     let parts : take 14 (take n named) ∷ components (drop n named) ≡ take m front ∷ components rest =
     ap (λ xs. take 14 xs ∷ components (drop n named)) (sym before)
@@ -150,13 +168,13 @@ list_any-first (c ∷ xs) =
     ] refl
 
 -- the first component is one
-pub IsComponent-split : (path named front : List ℕ) (k n m : ℕ) → k ≡ position_or_len (λ c. not (eqb c 47)) path
-    → named ≡ drop k path → 0 < length named → n ≡ position_or_len (λ c. eqb c 47) named
+pub IsComponent-split : (path named front : List ℕ) (k n m : ℕ) → Begins path named k n
     → front ≡ take n named → m ≡ min (length front) 14 → IsComponent (take m front)
-IsComponent-split path named front k n m at is full stop before cut =
-    let some : 0 < n = name_begins path named k n at is full stop in
+IsComponent-split path named front k n m begun before cut =
+    let some : 0 < n = has_byte path named k n begun in
+    let full : 0 < length named = begun.full in
     let count : length front ≡ min n (length named) = ap length before ∙ length-take n named in
     let short : length (take m front) ≡ min m (length front) = length-take m front in
     let plain : list_any (λ c. eqb c 47) front ≡ false =
-    ap (list_any (λ c. eqb c 47)) (before ∙ ap (λ j. take j named) stop) ∙ list_any-first named in
+    ap (list_any (λ c. eqb c 47)) (before ∙ ap (λ j. take j named) begun.stop) ∙ list_any-first named in
     record { some = omega arith; short = omega arith; plain = list_any-take (λ c. eqb c 47) m front plain }

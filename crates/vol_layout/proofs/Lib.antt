@@ -1,4 +1,5 @@
 pub mod AddressLaws
+pub mod BitLaws
 pub mod BodyLaws
 pub mod CopyLaws
 pub mod FrameLaws

@@ -31,11 +31,20 @@ const ALLOCATED: u16 = 0o100000;
 /// The bit by which the sixth edition marks a large file.
 const LARGE: u16 = 0o010000;
 
+/// The bits of an allocated i-node's type in the sixth edition.
+const SIXTH_TYPE: u16 = 0o060000;
+
+/// The bits of the type in the seventh edition.
+const SEVENTH_TYPE: u16 = 0o170000;
+
+/// The permission bits, with set-uid, set-gid and sticky.
+const PERMISSIONS: u16 = 0o7777;
+
 impl Mode {
     ghost use Rattle.vol_layout.specs.Inode.{kind_of, permissions_of, is_large, with_large};
 
     /// What an i-node with this mode is.
-    #[tactic(auto, unfolding(crate::specs::Inode::kind_of))]
+    #[tactic(auto, using(crate::proofs::BitLaws::type_v6, crate::proofs::BitLaws::allocated_bit), unfolding(crate::specs::Inode::kind_of))]
     pub fn kind(self, edition: Edition) -> Kind
         ensures { result ≡ kind_of edition self.bits }
     {
@@ -43,16 +52,16 @@ impl Mode {
             return Kind::Free;
         }
         match edition {
-            Edition::V6 if self.bits < ALLOCATED => Kind::Odd,
-            Edition::V6 => match self.bits / 0o020000 % 4 {
+            Edition::V6 if self.bits & ALLOCATED == 0 => Kind::Odd,
+            Edition::V6 => match self.bits & SIXTH_TYPE {
                 0 => Kind::Regular,
-                2 => Kind::Directory,
+                0o040000 => Kind::Directory,
                 _ => Kind::Special,
             },
-            Edition::V7 => match self.bits / 0o010000 {
-                8 => Kind::Regular,
-                4 => Kind::Directory,
-                2 | 3 | 6 | 7 => Kind::Special,
+            Edition::V7 => match self.bits & SEVENTH_TYPE {
+                0o100000 => Kind::Regular,
+                0o040000 => Kind::Directory,
+                0o020000 | 0o030000 | 0o060000 | 0o070000 => Kind::Special,
                 _ => Kind::Odd,
             },
         }
@@ -62,15 +71,16 @@ impl Mode {
     pub fn permissions(self) -> u16
         ensures { result ≡ permissions_of self.bits }
     {
-        self.bits % 0o010000
+        self.bits & PERMISSIONS
     }
 
     /// Whether the sixth edition's large flag is set; false in the seventh edition.
+    #[tactic(auto, using(crate::proofs::BitLaws::large_bit))]
     pub fn is_large(self, edition: Edition) -> bool
         ensures { result ≡ is_large edition self.bits }
     {
         match edition {
-            Edition::V6 => self.bits / LARGE % 2 == 1,
+            Edition::V6 => self.bits & LARGE != 0,
             Edition::V7 => false,
         }
     }
@@ -84,7 +94,7 @@ impl Mode {
     {
         // Both editions have 0100000 here: allocated in the sixth, a regular file in the seventh.
         Mode {
-            bits: 0o100000 + permissions % 0o010000,
+            bits: 0o100000 | (permissions & PERMISSIONS),
         }
     }
 
@@ -100,21 +110,24 @@ impl Mode {
             Edition::V7 => 0o040000,
         };
         Mode {
-            bits: kind + permissions % 0o010000,
+            bits: kind | (permissions & PERMISSIONS),
         }
     }
 
     /// This mode with or without the sixth edition's large flag. An allocated i-node's kind stays.
-    #[tactic(auto, unfolding(crate::specs::Inode::kind_of))]
+    #[tactic(auto, using(crate::proofs::BitLaws::large_set, crate::proofs::BitLaws::large_cleared), unfolding(crate::specs::Inode::kind_of))]
     pub fn with_large(self, large: bool) -> Mode
         ensures bits { result.bits ≡ with_large self.bits large }
         ensures large { is_large Edition.V6 result.bits ≡ large }
         ensures kind { 32768 ≤ self.bits → kind_of Edition.V6 result.bits ≡ kind_of Edition.V6 self.bits }
         ensures permissions { permissions_of result.bits ≡ permissions_of self.bits }
     {
-        let rest = self.bits % 0o010000 + self.bits / 0o020000 * 0o020000;
         Mode {
-            bits: if large { rest + LARGE } else { rest },
+            bits: if large {
+                self.bits | LARGE
+            } else {
+                self.bits & !LARGE
+            },
         }
     }
 }

@@ -11,8 +11,8 @@ use vol_judge::judge;
 use vol_layout::i_list::{inode, kind};
 use vol_layout::{Edition, Geometry, Kind};
 use vol_node::{
-    add_link, drop_link, free_node, make_directory, make_file, place_count, put_links, put_time,
-    take_number, touch,
+    NewNode, add_link, drop_link, free_node, make_directory, make_file, place_count, put_links,
+    put_time, take_number, touch,
 };
 
 mod entries;
@@ -95,11 +95,20 @@ fn blocks_are_counted(rt: HostRuntime) {
 fn make_two(image: &mut Image, geometry: &Geometry) -> Option<(u16, u16)>
     requires { IsWhole geometry.now image.old }
 {
-    let owner = Cred { uid: 3, gid: 4 };
+    let new_file = NewNode {
+        owner: Cred { uid: 3, gid: 4 },
+        permissions: 0o644,
+        moment: 13,
+    };
+    let new_directory = NewNode {
+        permissions: 0o755,
+        moment: 14,
+        ..new_file
+    };
     let file = take_number(image, geometry)?;
-    make_file(image, geometry, file, owner, 0o644, 13);
+    make_file(image, geometry, file, new_file);
     let directory = take_number(image, geometry)?;
-    make_directory(image, geometry, directory, owner, 0o755, 14);
+    make_directory(image, geometry, directory, new_directory);
     free_node(image, geometry, file);
     Some((file, directory))
 }

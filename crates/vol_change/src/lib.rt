@@ -16,4 +16,4 @@ pub use lost_names::unlink;
 pub use new_directories::mkdir;
 pub use new_files::create;
 pub use new_names::link;
-pub use new_nodes::NewNode;
+pub use vol_node::NewNode;

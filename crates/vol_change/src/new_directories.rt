@@ -19,10 +19,10 @@ ghost use Rattle.vol_change.specs.Effects.{after_mkdir};
 ghost use Rattle.vol_change.specs.Ready.{IsReady, TakesName, Changes, entry_need, free_in};
 
 use crate::entries::enter;
-use crate::new_nodes::{NewNode, pick_number};
+use crate::new_nodes::pick_number;
 use pdp_words::Image;
 use vol_layout::Geometry;
-use vol_node::{add_link, add_name, make_directory, put_time};
+use vol_node::{NewNode, add_link, add_name, make_directory, put_time};
 
 /// Makes a directory with `name` in directory `dir`, with `.` and `..` alone. Its i-number is the
 /// recorded one, if there is one, and else one that is free; the answer is that number. The blocks of
@@ -56,16 +56,11 @@ pub fn mkdir(
     ensures others { (j : ℕ) → 1 ≤ j → j ≤ geometry.now.last_inode → j ≢ result → KeepsUnused geometry.now image.old image.new j }
 {
     let made = pick_number(image, geometry, recorded);
-    let NewNode {
-        owner,
-        permissions,
-        moment,
-    } = node;
-    make_directory(image, geometry, made, owner, permissions, moment);
-    enter(image, geometry, dir, name, made, moment);
+    make_directory(image, geometry, made, node);
+    enter(image, geometry, dir, name, made, node.moment);
     add_dots(image, geometry, made, dir);
-    add_link(image, geometry, dir, moment);
-    put_time(image, geometry, moment);
+    add_link(image, geometry, dir, node.moment);
+    put_time(image, geometry, node.moment);
     made
 }
 

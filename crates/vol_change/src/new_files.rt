@@ -13,10 +13,10 @@ ghost use Rattle.vol_change.specs.Effects.{after_create};
 ghost use Rattle.vol_change.specs.Ready.{IsReady, TakesName, Changes, entry_need, free_in};
 
 use crate::entries::enter;
-use crate::new_nodes::{NewNode, pick_number};
+use crate::new_nodes::pick_number;
 use pdp_words::Image;
 use vol_layout::Geometry;
-use vol_node::{make_file, put_time};
+use vol_node::{NewNode, make_file, put_time};
 
 /// Makes an empty regular file with `name` in directory `dir`. Its i-number is the recorded one, if
 /// there is one, and else one that is free; the answer is that number.
@@ -49,13 +49,8 @@ pub fn create(
     ensures others { (j : ℕ) → 1 ≤ j → j ≤ geometry.now.last_inode → j ≢ result → KeepsUnused geometry.now image.old image.new j }
 {
     let made = pick_number(image, geometry, recorded);
-    let NewNode {
-        owner,
-        permissions,
-        moment,
-    } = node;
-    make_file(image, geometry, made, owner, permissions, moment);
-    enter(image, geometry, dir, name, made, moment);
-    put_time(image, geometry, moment);
+    make_file(image, geometry, made, node);
+    enter(image, geometry, dir, name, made, node.moment);
+    put_time(image, geometry, node.moment);
     made
 }

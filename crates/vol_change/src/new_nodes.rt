@@ -1,4 +1,4 @@
-//! What a call says of a node that it makes, and the i-number that the node gets.
+//! The i-number that a new node gets.
 ghost use Rattle.std.specs.Prelude.{◌≡◌, ℕ, ◌≤◌, IfSome};
 ghost use Rattle.vol_dir.specs.Tree.{state};
 ghost use Rattle.vol_free.specs.Numbers.{IsFreeNumber};
@@ -8,20 +8,8 @@ ghost use Rattle.vol_node.specs.Unused.{KeepsUnused};
 ghost use Rattle.vol_node.specs.Whole.{IsWhole, Keeps};
 
 use pdp_words::Image;
-use vol_dir::Cred;
 use vol_layout::Geometry;
 use vol_node::take_number;
-
-/// What a call says of a node that it makes.
-#[derive(Clone, Copy, Debug, PartialEq, Eq)]
-pub struct NewNode {
-    /// Whose the node is.
-    pub owner: Cred,
-    /// Its permission bits, of which those under octal 7777 count.
-    pub permissions: u16,
-    /// The moment at which it is made, in seconds.
-    pub moment: u32,
-}
 
 /// The i-number for a new node: the recorded one, or else one that is taken from the cache or the i-list.
 /// The cache changes as if one were taken in either case.

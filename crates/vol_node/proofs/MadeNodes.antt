@@ -1,9 +1,8 @@
 -- A new node: its i-node was free, and names nothing.
-use Rattle.std.proofs.Common.{◌≡◌, ◌≢◌, ◌∙◌, sym, ap, refl, ℕ, ◌+◌, ◌/◌, ◌<◌, ◌≤◌, ◌&&◌, ◌==◌, min, not, true, false, List, [], ◌∷◌, map, get_or, Some, arith}
+use Rattle.std.proofs.Common.{◌≡◌, ◌≢◌, ◌∙◌, sym, ap, refl, ℕ, ◌/◌, ◌≤◌, ◌&&◌, ◌==◌, min, not, true, false, List, [], ◌∷◌, map, get_or, Some, arith}
 use Rattle.std.specs.List.{range_with_len}
 use Rattle.std.specs.Option.{option_map}
 use Rattle.std.proofs.lemmas.Bool.{false≢true}
-use Rattle.pdp_words.specs.Words.{SameOutside}
 use Rattle.vol_layout.specs.Edition.{constants}
 use Rattle.vol_layout.specs.Inode.{inode_of, inode_place, kind_of, is_large}
 use Rattle.vol_layout.specs.Names.{mode_of, form_at, IsPlaceOf, named}
@@ -30,24 +29,12 @@ use Rattle.vol_judge.specs.Graph.{graph_of}
 use Rattle.vol_judge.proofs.ImageGraphs.{kind_inside, empty_by}
 use Rattle.vol_node.specs.Alone.{ChangesOnly}
 use Rattle.vol_node.specs.Edits.{put_node, put_shape}
+use Rattle.vol_node.specs.Inodes.{MakesInode}
 use Rattle.vol_node.specs.NodeGraphs.{AddsNode}
 use Rattle.vol_node.specs.Whole.{IsWhole, Keeps}
 use Rattle.vol_node.proofs.ShapePlaces.{place_passed}
 use Rattle.vol_node.proofs.NewRules.{bare_whole}
 use Rattle.vol_node.proofs.OneNode.{only_inode, only_makes, only_graph, only_links}
-
--- i-node i, which was free, is that of a file with nothing in it, and no other byte has changed
-pub record MakesInode (geometry : Geometry) (old new : List ℕ) (i : ℕ) (node : Inode) : Type 0 where
-  pub above : (constants geometry.edition).root < i
-  pub last : i ≤ geometry.last_inode
-  pub same : SameOutside old new (inode_place geometry.edition i) (inode_place geometry.edition i + (constants geometry.edition).inode_bytes)
-  pub is : inode_of geometry.edition new i ≡ node
-  pub was : mode_of geometry old i ≡ 0
-  pub file : has_places (kind_of geometry.edition node.mode.bits) ≡ true
-  pub small : is_large geometry.edition node.mode.bits ≡ false
-  pub size : node.size ≡ 0
-  pub links : node.links ≤ (constants geometry.edition).link_limit
-  pub empty : (k : ℕ) → get_or node.addresses k 0 ≡ 0
 
 -- what is odd has no places
 odd_none : (kind : Kind) → has_places kind ≡ true → kind ≢ kinds.Odd

@@ -14,7 +14,7 @@ use Rattle.vol_free.specs.Numbers.{IsFreeNumber}
 use Rattle.vol_dir.specs.Tree.{Content, node_with}
 use Rattle.vol_dir.specs.declared.cred.Cred.{Cred}
 use Rattle.vol_node.specs.Edits.{new_node}
-use Rattle.vol_node.proofs.MadeNodes.{MakesInode}
+use Rattle.vol_node.specs.Inodes.{MakesInode}
 
 -- one link or two are within the limit
 pub few_links : (edition : Edition) → 2 ≤ (constants edition).link_limit

@@ -2,6 +2,7 @@ pub mod Alone
 pub mod Beside
 pub mod Contents
 pub mod Edits
+pub mod Inodes
 pub mod NodeGraphs
 pub mod Nodes
 pub mod Shapes

@@ -14,5 +14,5 @@ pub use counting::place_count;
 pub use entries::{add_name, remove_name};
 pub use freeing::free_node;
 pub use links::{add_link, drop_link, put_links};
-pub use making::{make_directory, make_file, take_number};
+pub use making::{NewNode, make_directory, make_file, take_number};
 pub use times::{put_time, touch};

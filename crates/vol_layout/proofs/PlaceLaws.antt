@@ -1,10 +1,11 @@
 -- Laws of the places of a file, and of the last place of the way of each logical block.
-use Rattle.std.proofs.Common.{◌≡◌, ℕ, ◌+◌, ◌-◌, ◌*◌, ◌/◌, ◌%◌, ◌<◌, ◌≤◌, ◌∙◌, sym, subst, List, [], ◌∷◌, true, false, Bool, if◌then◌else◌, ltb, refl, arith, Option, Some, None, inl, inr}
-use Rattle.std.proofs.lemmas.Bool.{ltb-true, ltb-false}
+use Rattle.std.proofs.Common.{◌≡◌, ℕ, zero, suc, ◌+◌, ◌-◌, ◌*◌, ◌/◌, ◌%◌, ◌<◌, ◌≤◌, ◌∙◌, sym, ap, subst, List, [], ◌∷◌, slice_index, true, false, Bool, if◌then◌else◌, ltb, refl, arith, Option, Some, None, inl, inr}
+use Rattle.std.proofs.lemmas.Bool.{ltb-true, ltb-false, cases_eq}
 use Rattle.std.proofs.lemmas.Bool.Decides.{nat_tests}
-use Rattle.vol_layout.specs.Places.{levels, levels_below, IsPlace, block_limit, last_place}
+use Rattle.vol_layout.specs.Places.{pointer_count, levels, levels_below, IsPlace, block_limit, last_place, place_to, end_of}
 use Rattle.vol_layout.specs.Laws.{IsFront}
 use Rattle.vol_layout.specs.declared.places.Form.{Form}
+use Rattle.vol_layout.specs.declared.places.Way.{Way}
 use Rattle.vol_layout.specs.declared.places.Form.TheVariants.{Small, Large, Deep, Bare}
 
 -- the logical block whose way ends at a place with nothing below it
@@ -155,3 +156,26 @@ pub small_levels : (p : List ℕ) → levels_below Small p ≡ 0
 small_levels [] = refl
 small_levels (k ∷ []) = refl
 small_levels (j ∷ (a ∷ p)) = let above : levels_below Small (a ∷ p) ≡ 0 = small_levels (a ∷ p) in omega arith
+
+-- the place that fewer entries lead to is a front
+pub front_to : (k : ℕ) (entries : List ℕ) (d n : ℕ) → d ≤ n → IsFront (place_to k entries d) (place_to k entries n)
+front_to k entries zero zero h = inl refl
+front_to k entries (suc d) zero h = absurd (omega arith)
+front_to k entries d (suc n) h =
+    elim (cases_eq d (suc n)) [
+      | inl same ↦ inl (ap (place_to k entries) same)
+      | inr other ↦ inr (front_to k entries d n (omega arith))
+    ]
+
+-- what the first entries of the way of a logical block lead to is a place
+pub way_place : (form : Form) (b : ℕ) (way : Way) (d : ℕ) → Some (end_of way) ≡ last_place form b → d ≤ way.depth
+    → IsPlace form (place_to way.address way.entries d)
+way_place form b way d e h =
+    place_front form (end_of way) (place_to way.address way.entries d) (last_leaf form b (end_of way) (sym e)).place
+    (front_to way.address way.entries d way.depth h)
+
+-- an entry that leads to a place is one of an indirect block
+pub entry_to : (form : Form) (k : ℕ) (entries : List ℕ) (d : ℕ) → IsPlace form (place_to k entries (suc d))
+    → slice_index entries d < pointer_count form
+entry_to form k entries zero place = place.0
+entry_to form k entries (suc d) place = place.0

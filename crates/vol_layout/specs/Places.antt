@@ -1,6 +1,6 @@
 -- The places of a file, by which its blocks are named. A place is a list of indexes, the last one first: the manual's
 -- order is the other way round. `k ∷ []` is address k of the i-node, and `j ∷ p` entry j of the block that place p names.
-use Rattle.std.specs.Prelude.{Bool, true, false, ℕ, zero, suc, ◌-◌, ◌/◌, ◌%◌, ◌<◌, ◌≤◌, ◌==◌, nat_lt, if◌then◌else◌, List, [], ◌∷◌, Option, None, Some}
+use Rattle.std.specs.Prelude.{Bool, true, false, ℕ, zero, suc, ◌-◌, ◌/◌, ◌%◌, ◌<◌, ◌≤◌, ◌==◌, nat_lt, if◌then◌else◌, List, [], ◌∷◌, slice_index, Option, None, Some}
 use Rattle.std.specs.Option.{option_map_or}
 use Rattle.std.specs.List.{flat_map, range_with_len}
 use Rattle.vol_layout.specs.Inode.{is_large, kind_of}
@@ -9,6 +9,7 @@ use Rattle.vol_layout.specs.declared.edition.Edition.TheVariants.{V6, V7}
 use Rattle.vol_layout.specs.declared.mode.Kind.{Kind}
 use Rattle.vol_layout.specs.declared.mode.Kind.TheVariants as kinds
 use Rattle.vol_layout.specs.declared.places.Form.{Form}
+use Rattle.vol_layout.specs.declared.places.Way.{Way}
 use Rattle.vol_layout.specs.declared.places.Form.TheVariants.{Small, Large, Deep, Bare}
 
 -- whether i-nodes of a kind have places: regular files and directories do (manual section 5, file system)
@@ -81,6 +82,15 @@ last_place Deep b =
     else if nat_lt b 2113674
     then Some (((b - 16522) % 128) ∷ ((b - 16522) / 128 % 128) ∷ ((b - 16522) / 16384) ∷ 12 ∷ []) else None
 last_place Bare b = None
+
+-- the place that n entries lead to from address k of the i-node, given from the i-node down (Lions on bmap)
+abbrev pub place_to : ℕ → List ℕ → ℕ → List ℕ
+place_to k entries zero = k ∷ []
+place_to k entries (suc n) = slice_index entries n ∷ place_to k entries n
+
+-- the place that a way ends at (Lions on bmap)
+abbrev pub end_of : Way → List ℕ
+end_of way = place_to way.address way.entries way.depth
 
 -- the fronts of a place, itself among them, the longest first (Lions on bmap)
 abbrev pub fronts : List ℕ → List (List ℕ)

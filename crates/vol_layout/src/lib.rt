@@ -21,6 +21,6 @@ pub use i_list::{
 pub use i_node::Inode;
 pub use mode::{Kind, Mode};
 pub use numbers::{number, put_number};
-pub use places::Form;
+pub use places::{Form, Way};
 pub use slot::Slot;
 pub use super_block::{Flag, Super};

@@ -1,5 +1,6 @@
 //! The forms of a file, by which its blocks are found.
-ghost use Rattle.std.specs.Prelude.{◌≡◌, ◌≤◌};
+ghost use Rattle.std.specs.Prelude.{◌≡◌, ◌≤◌, IfSome};
+ghost use Rattle.std.specs.Option.{option_map};
 
 use crate::edition::Edition;
 use crate::mode::{Kind, Mode};
@@ -19,8 +20,20 @@ pub enum Form {
     Bare,
 }
 
+/// The way of a logical block, from the i-node down: an address, and an entry of each indirect block
+/// that it leads through.
+#[derive(Clone, Copy, Debug, PartialEq, Eq)]
+pub struct Way {
+    /// Which address of the i-node, from 0.
+    pub address: usize,
+    /// Which entry of each indirect block, from 0; those from `depth` on are of none.
+    pub entries: [u32; 3],
+    /// How many indirect blocks there are.
+    pub depth: usize,
+}
+
 impl Form {
-    ghost use Rattle.vol_layout.specs.Places.{form_of, block_limit, first_count, levels};
+    ghost use Rattle.vol_layout.specs.Places.{form_of, block_limit, first_count, levels, last_place, end_of};
 
     /// The form of an i-node with some mode.
     pub fn of(edition: Edition, mode: Mode) -> Form
@@ -70,6 +83,47 @@ impl Form {
             Form::Large => 1,
             Form::Deep if k > 9 => k as u8 - 9,
             _ => 0,
+        }
+    }
+
+    /// The way of a logical block; None past the blocks that a file of this form can have.
+    #[tactic(auto, unfolding(crate::specs::Places::last_place))]
+    pub fn way(self, block: u32) -> Option<Way>
+        ensures end { option_map end_of result ≡ last_place self block }
+        ensures depth { IfSome result (λ way. way.depth ≤ 3) }
+    {
+        match self {
+            Form::Small if block < 8 => Some(Way::new(block, [0; 3], 0)),
+            Form::Large if block < 1792 => Some(Way::new(block / 256, [block % 256, 0, 0], 1)),
+            Form::Large if block < 32_768 => {
+                Some(Way::new(7, [block / 256 - 7, block % 256, 0], 2))
+            }
+            Form::Deep if block < 10 => Some(Way::new(block, [0; 3], 0)),
+            Form::Deep if block < 138 => Some(Way::new(10, [block - 10, 0, 0], 1)),
+            Form::Deep if block < 16_522 => {
+                let c = block - 138;
+                Some(Way::new(11, [c / 128, c % 128, 0], 2))
+            }
+            Form::Deep if block < 2_113_674 => {
+                let c = block - 16_522;
+                Some(Way::new(12, [c / 16_384, c / 128 % 128, c % 128], 3))
+            }
+            _ => None,
+        }
+    }
+}
+
+impl Way {
+    /// The way from an address by the first `depth` of some entries.
+    fn new(address: u32, entries: [u32; 3], depth: usize) -> Way
+        ensures address { result.address ≡ address }
+        ensures entries { result.entries ≡ entries }
+        ensures depth { result.depth ≡ depth }
+    {
+        Way {
+            address: address as usize,
+            entries,
+            depth,
         }
     }
 }

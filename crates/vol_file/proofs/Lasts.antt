@@ -1,18 +1,19 @@
 -- The last place of each logical block, where its range is known, and the places on the way to it.
-use Rattle.std.proofs.Common.{◌≡◌, ℕ, ◌-◌, ◌/◌, ◌%◌, ◌<◌, ◌≤◌, ◌∙◌, sym, ap, subst, List, [], ◌∷◌, refl, arith, inl, inr, true, false, Bool, Some}
+use Rattle.std.proofs.Common.{◌≡◌, ℕ, zero, suc, ◌+◌, ◌-◌, ◌/◌, ◌%◌, ◌<◌, ◌≤◌, ◌∙◌, sym, ap, subst, List, [], ◌∷◌, slice_index, refl, arith, inl, inr, true, false, Bool, Some}
 use Rattle.std.specs.Prelude.{◌||◌}
 use Rattle.std.specs.Option.{option_map_or}
 use Rattle.std.specs.List.{list_any}
 use Rattle.std.specs.Str.{bytes_eq}
 use Rattle.std.proofs.lemmas.Bool.{lt-ltb, le-ltb}
-use Rattle.vol_layout.specs.Places.{block_limit, last_place, fronts, way}
+use Rattle.vol_layout.specs.Places.{last_place, place_to, end_of, fronts, way}
 use Rattle.vol_layout.specs.Laws.{IsFront}
 use Rattle.vol_layout.specs.Names.{form_at}
 use Rattle.vol_layout.specs.declared.geometry.Geometry.{Geometry}
 use Rattle.vol_layout.specs.declared.places.Form.{Form}
-use Rattle.vol_layout.specs.declared.places.Form.TheVariants.{Small, Large, Deep, Bare}
-use Rattle.vol_layout.proofs.PlaceLaws.{place_front, last_leaf}
-use Rattle.vol_file.specs.Steps.{Reaches, IsWanted, MayName, IsNext, MayNameEntry, WantsWay, NamesWay, has_front}
+use Rattle.vol_layout.specs.declared.places.Way.{Way}
+use Rattle.vol_layout.specs.declared.places.Form.TheVariants.{Small, Large, Deep}
+use Rattle.vol_layout.proofs.PlaceLaws.{front_to, way_place}
+use Rattle.vol_file.specs.Steps.{Reaches, IsWanted, MayName, IsNext, MayNameEntry, MayNameWay, WantsWay, NamesWay, has_front}
 use Rattle.vol_file.proofs.PlaceLists.{bytes_same}
 use Rattle.vol_file.proofs.Reaching.{extends_as}
 
@@ -71,80 +72,76 @@ front_true (j ∷ q) s (inr front) = ap (λ t. bytes_eq s (j ∷ q) || t) (front
 pub way_is : (form : Form) (b : ℕ) (q : List ℕ) → last_place form b ≡ Some q → way form b ≡ fronts q
 way_is form b q e = ap (λ o. option_map_or fronts o []) e
 
--- each front of the last place is wanted
-pub way_wanted : (geometry : Geometry) (image : List ℕ) (i : ℕ) (wanted : List ℕ → Bool) (b : ℕ) (blocks q s : List ℕ)
-    → WantsWay geometry image i wanted b blocks → last_place (form_at geometry image i) b ≡ Some q → IsFront s q
-    → IsWanted geometry image i wanted s blocks
-way_wanted geometry image i wanted b blocks q s wants e front = record {
-  ready = wants.ready;
-  place = record { file = wants.ready.file; place = place_front (form_at geometry image i) q s (last_leaf (form_at geometry image i) b q e).place front };
-  want = wants.want s (ap (list_any (bytes_eq s)) (way_is (form_at geometry image i) b q e) ∙ front_true q s front);
-}
+-- the last place by the form of a file
+way_end : (form at : Form) (b : ℕ) (way : Way) → form ≡ at → Some (end_of way) ≡ last_place form b → last_place at b ≡ Some (end_of way)
+way_end form at b way is end = ap (λ f. last_place f b) (sym is) ∙ sym end
 
--- where the last place is reached the way is named
-pub way_named : (geometry : Geometry) (old new : List ℕ) (i : ℕ) (wanted : List ℕ → Bool) (b : ℕ) (blocks q : List ℕ) (k : ℕ)
-    → last_place (form_at geometry old i) b ≡ Some q → Reaches geometry old new i wanted q blocks k → NamesWay geometry old new i wanted b blocks
-way_named geometry old new i wanted b blocks q k e reached = record {
-  rest = reached.rest;
-  extends = extends_as geometry old new i wanted (has_front q) (λ p. list_any (bytes_eq p) (way (form_at geometry old i) b)) blocks reached.rest
-      (λ p. sym (ap (list_any (bytes_eq p)) (way_is (form_at geometry old i) b q e))) reached.extends;
-}
+-- each place on the way is wanted
+pub way_wanted : (geometry : Geometry) (image : List ℕ) (i : ℕ) (form : Form) (wanted : List ℕ → Bool) (b : ℕ) (blocks : List ℕ) (way : Way) (d : ℕ)
+    → form ≡ form_at geometry image i → Some (end_of way) ≡ last_place form b → WantsWay geometry image i wanted b blocks → d ≤ way.depth
+    → IsWanted geometry image i wanted (place_to way.address way.entries d) blocks
+way_wanted geometry image i form wanted b blocks way d is end wants h =
+    let e = way_end form (form_at geometry image i) b way is end in
+    record {
+      ready = wants.ready;
+      place = record { file = wants.ready.file; place = way_place (form_at geometry image i) b way d (sym e) h };
+      want = wants.want (place_to way.address way.entries d)
+          (ap (list_any (bytes_eq (place_to way.address way.entries d))) (way_is (form_at geometry image i) b (end_of way) e)
+          ∙ front_true (end_of way) (place_to way.address way.entries d) (front_to way.address way.entries d way.depth h));
+    }
 
--- the next place on the way
-pub way_next : (geometry : Geometry) (old mid : List ℕ) (i : ℕ) (wanted : List ℕ → Bool) (b : ℕ) (blocks q : List ℕ) (j a : ℕ) (p : List ℕ) (m : ℕ)
-    → WantsWay geometry old i wanted b blocks → last_place (form_at geometry old i) b ≡ Some q → IsFront (j ∷ (a ∷ p)) q
-    → Reaches geometry old mid i wanted (a ∷ p) blocks m → IsNext geometry old mid i wanted j a p blocks m
-way_next geometry old mid i wanted b blocks q j a p m wants e front reached =
-    record { want = way_wanted geometry old i wanted b blocks q (j ∷ (a ∷ p)) wants e front; reached = reached }
+-- where all its entries are named the way is named
+pub way_named : (geometry : Geometry) (old new : List ℕ) (i : ℕ) (form : Form) (wanted : List ℕ → Bool) (b : ℕ) (blocks : List ℕ) (way : Way) (d k : ℕ)
+    → form ≡ form_at geometry old i → Some (end_of way) ≡ last_place form b → d ≡ way.depth
+    → Reaches geometry old new i wanted (place_to way.address way.entries d) blocks k → NamesWay geometry old new i wanted b blocks
+way_named geometry old new i form wanted b blocks way d k is end all reached =
+    let e = way_end form (form_at geometry old i) b way is end in
+    let last = subst (λ n. Reaches geometry old new i wanted (place_to way.address way.entries n) blocks k) all reached in
+    record {
+      rest = last.rest;
+      extends = extends_as geometry old new i wanted (has_front (end_of way)) _ blocks last.rest
+          (λ p. sym (ap (list_any (bytes_eq p)) (way_is (form_at geometry old i) b (end_of way) e))) last.extends;
+    }
 
--- the first address of a way may be named
-pub may_first : (geometry : Geometry) (image : List ℕ) (i : ℕ) (wanted : List ℕ → Bool) (b : ℕ) (blocks q : List ℕ) (k : ℕ)
-    → WantsWay geometry image i wanted b blocks → last_place (form_at geometry image i) b ≡ Some q → IsFront (k ∷ []) q
-    → MayName geometry image i (k ∷ [])
-may_first geometry image i wanted b blocks q k wants e front =
-    record { wanted = wanted; blocks = blocks; is = way_wanted geometry image i wanted b blocks q (k ∷ []) wants e front }
+-- the address of the way may be named
+pub may_first : (geometry : Geometry) (image : List ℕ) (i : ℕ) (form : Form) (b : ℕ) (way : Way) → form ≡ form_at geometry image i
+    → Some (end_of way) ≡ last_place form b → MayNameWay geometry image i b → MayName geometry image i (way.address ∷ [])
+may_first geometry image i form b way is end may =
+    record { wanted = may.wanted; blocks = may.blocks; is = way_wanted geometry image i form may.wanted b may.blocks way 0 is end may.is (omega arith) }
 
--- the next entry of a way may be named
-pub may_next : (geometry : Geometry) (old mid : List ℕ) (i : ℕ) (wanted : List ℕ → Bool) (b : ℕ) (blocks q : List ℕ) (j a : ℕ) (p : List ℕ) (m : ℕ)
-    → WantsWay geometry old i wanted b blocks → last_place (form_at geometry old i) b ≡ Some q → IsFront (j ∷ (a ∷ p)) q
-    → Reaches geometry old mid i wanted (a ∷ p) blocks m → MayNameEntry geometry mid m j
-may_next geometry old mid i wanted b blocks q j a p m wants e front reached = record {
+-- the next entry of the way may be named
+pub may_next : (geometry : Geometry) (old mid : List ℕ) (i : ℕ) (form : Form) (b : ℕ) (way : Way) (d m : ℕ) → form ≡ form_at geometry old i
+    → Some (end_of way) ≡ last_place form b → (may : MayNameWay geometry old i b) → d < way.depth
+    → Reaches geometry old mid i may.wanted (place_to way.address way.entries d) may.blocks m → MayNameEntry geometry mid m (slice_index way.entries d)
+may_next geometry old mid i form b way zero m is end may h reached = record {
   old = old;
   i = i;
-  wanted = wanted;
-  a = a;
-  p = p;
-  blocks = blocks;
-  next = way_next geometry old mid i wanted b blocks q j a p m wants e front reached;
+  wanted = may.wanted;
+  a = way.address;
+  p = [];
+  blocks = may.blocks;
+  next = record { want = way_wanted geometry old i form may.wanted b may.blocks way 1 is end may.is (omega arith); reached = reached };
+}
+may_next geometry old mid i form b way (suc d) m is end may h reached = record {
+  old = old;
+  i = i;
+  wanted = may.wanted;
+  a = slice_index way.entries d;
+  p = place_to way.address way.entries d;
+  blocks = may.blocks;
+  next = record { want = way_wanted geometry old i form may.wanted b may.blocks way (suc (suc d)) is end may.is (omega arith); reached = reached };
 }
 
--- the last place by the form
-pub path_small : (form : Form) (b : ℕ) → form ≡ Small → b < block_limit form → last_place form b ≡ Some (b ∷ [])
-path_small form b is limit = let low : b < block_limit Small = subst (λ f. b < block_limit f) is limit in ap (λ f. last_place f b) is ∙ last_small b low
-
-pub path_large : (form : Form) (b : ℕ) → form ≡ Large → b < 1792 → last_place form b ≡ Some ((b % 256) ∷ ((b / 256) ∷ []))
-path_large form b is h = ap (λ f. last_place f b) is ∙ last_large b h
-
-pub path_huge : (form : Form) (b : ℕ) → form ≡ Large → b < block_limit form → 1792 ≤ b
-    → last_place form b ≡ Some ((b % 256) ∷ ((b / 256 - 7) ∷ (7 ∷ [])))
-path_huge form b is limit h =
-    let low : b < block_limit Large = subst (λ f. b < block_limit f) is limit in ap (λ f. last_place f b) is ∙ last_huge b h low
-
-pub path_direct : (form : Form) (b : ℕ) → form ≡ Deep → b < 10 → last_place form b ≡ Some (b ∷ [])
-path_direct form b is h = ap (λ f. last_place f b) is ∙ last_direct b h
-
-pub path_single : (form : Form) (b : ℕ) → form ≡ Deep → 10 ≤ b → b < 138 → last_place form b ≡ Some ((b - 10) ∷ (10 ∷ []))
-path_single form b is low h = ap (λ f. last_place f b) is ∙ last_single b low h
-
-pub path_double : (form : Form) (b : ℕ) → form ≡ Deep → 138 ≤ b → b < 16522
-    → last_place form b ≡ Some (((b - 138) % 128) ∷ (((b - 138) / 128) ∷ (11 ∷ [])))
-path_double form b is low h = ap (λ f. last_place f b) is ∙ last_double b low h
-
-pub path_triple : (form : Form) (b : ℕ) → form ≡ Deep → b < block_limit form → 16522 ≤ b
-    → last_place form b ≡ Some (((b - 16522) % 128) ∷ (((b - 16522) / 128 % 128) ∷ (((b - 16522) / 16384) ∷ (12 ∷ []))))
-path_triple form b is limit low =
-    let high : b < block_limit Deep = subst (λ f. b < block_limit f) is limit in ap (λ f. last_place f b) is ∙ last_triple b low high
-
--- an i-node that has no places has no ways
-pub path_none : (form : Form) (b : ℕ) → form ≡ Bare → b < block_limit form → ⊥
-path_none form b is limit = let low : b < block_limit Bare = subst (λ f. b < block_limit f) is limit in omega arith
+-- what the naming of the next entry reaches
+pub way_next : (geometry : Geometry) (old mid new : List ℕ) (i : ℕ) (form : Form) (wanted : List ℕ → Bool) (b : ℕ) (blocks : List ℕ) (way : Way) (d m k : ℕ)
+    → form ≡ form_at geometry old i → Some (end_of way) ≡ last_place form b → WantsWay geometry old i wanted b blocks → d < way.depth
+    → Reaches geometry old mid i wanted (place_to way.address way.entries d) blocks m
+    → ((a : ℕ) (p : List ℕ) → IsNext geometry old mid i wanted (slice_index way.entries d) a p blocks m
+    → Reaches geometry old new i wanted (slice_index way.entries d ∷ (a ∷ p)) blocks k)
+    → Reaches geometry old new i wanted (place_to way.address way.entries (d + 1)) blocks k
+way_next geometry old mid new i form wanted b blocks way zero m k is end wants h reached named =
+    named way.address [] (record { want = way_wanted geometry old i form wanted b blocks way 1 is end wants (omega arith); reached = reached })
+way_next geometry old mid new i form wanted b blocks way (suc d) m k is end wants h reached named =
+    let next : suc d + 1 ≡ suc (suc d) = omega arith in
+    rw next (named (slice_index way.entries d) (place_to way.address way.entries d)
+    (record { want = way_wanted geometry old i form wanted b blocks way (suc (suc d)) is end wants (omega arith); reached = reached }))

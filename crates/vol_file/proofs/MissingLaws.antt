@@ -1,5 +1,5 @@
 -- Laws of the count of missing places: over the list of all places it is the count block by block.
-use Rattle.std.proofs.Common.{◌≡◌, ℕ, zero, suc, ◌+◌, ◌-◌, ◌*◌, ◌/◌, ◌%◌, ◌<◌, ◌≤◌, ◌==◌, ◌⊎◌, ◌∙◌, sym, ap, subst, List, [], ◌∷◌, length, true, false, Bool, not, ◌&&◌, ◌||◌, cond, if◌then◌else◌, Some, None, refl, arith, inl, inr}
+use Rattle.std.proofs.Common.{◌≡◌, ℕ, zero, suc, ◌+◌, ◌-◌, ◌*◌, ◌/◌, ◌%◌, ◌<◌, ◌≤◌, ◌==◌, ◌⊎◌, ◌∙◌, sym, ap, subst, List, [], ◌∷◌, length, slice_index, true, false, Bool, not, ◌&&◌, ◌||◌, cond, if◌then◌else◌, Some, None, refl, arith, inl, inr}
 use Rattle.std.specs.List.{count_by, list_any, range_with_len}
 use Rattle.std.specs.Option.{option_map_or}
 use Rattle.std.specs.Str.{bytes_eq}
@@ -7,14 +7,14 @@ use Rattle.std.proofs.lemmas.Bool.{cases_lt, and_parts, or_parts}
 use Rattle.std.proofs.lemmas.Bool.Decides.{nat_tests, same_from_decides, Decides-like, Decides-eqb}
 use Rattle.std.proofs.lemmas.List.Sums.{sum_by-cons}
 use Rattle.std.proofs.lemmas.Slice.Eq.{bytes_eq-Decides}
-use Rattle.std.specs.Prelude.{nat_le}
+use Rattle.std.specs.Prelude.{nat_le, nat_lt}
 use Rattle.std.proofs.Math.Bool.{or-false, or_assoc}
-use Rattle.vol_layout.specs.Places.{pointer_count, levels, levels_below, IsPlace, block_limit, last_place, fronts, way, places}
+use Rattle.vol_layout.specs.Places.{pointer_count, levels, levels_below, IsPlace, block_limit, last_place, place_to, fronts, way, places}
 use Rattle.vol_layout.specs.Laws.{IsFront}
 use Rattle.vol_layout.specs.declared.places.Form.{Form}
 use Rattle.vol_layout.specs.declared.places.Form.TheVariants.{Small, Large, Deep, Bare}
 use Rattle.vol_layout.proofs.PlaceLaws.{last_leaf, has_no_way}
-use Rattle.vol_file.specs.Shape.{touched, is_on_ways, grows_large}
+use Rattle.vol_file.specs.Shape.{touched, is_on_ways, moved_down, grows_large}
 use Rattle.vol_file.specs.Need.{missing_count, need_of}
 use Rattle.vol_file.specs.Missing.{missing_to, missing_at, missing_from, grown_form, grown_names, grows_at}
 use Rattle.vol_file.proofs.PlaceLists.{bytes_same, same_bytes, first_or_later, count_same, count_none, places_once}
@@ -557,6 +557,23 @@ count_blocks form names first (suc n) =
     ∙ count_next form names first n sofar
 
 -- Steps of the count
+
+-- one entry more on a way
+pub missing_to_more : (names : List ℕ → Bool) (whole : Bool) (k : ℕ) (entries : List ℕ) (d : ℕ)
+    → missing_to names whole (place_to k entries (d + 1))
+    ≡ (if names (place_to k entries (d + 1)) then 0 else 1)
+    + (if whole || slice_index entries d == 0 then missing_to names whole (place_to k entries d) else 0)
+missing_to_more names whole k entries zero = refl
+missing_to_more names whole k entries (suc d) = let next : suc d + 1 ≡ suc (suc d) = omega arith in rw next refl
+
+-- whether an entry names something in a small file that was made large
+pub moved_more : (names : List ℕ → Bool) (k : ℕ) (entries : List ℕ) (d : ℕ)
+    → moved_down names (place_to k entries (d + 1))
+    ≡ ((k == 0) && ((d == 0) && (nat_lt (slice_index entries d) 8 && names (slice_index entries d ∷ []))))
+moved_more names k entries zero = refl
+moved_more names k entries (suc zero) = grind (arith, nat_tests)
+moved_more names k entries (suc (suc d)) =
+    let next : suc (suc d) + 1 ≡ suc (suc (suc d)) = omega arith in rw next (grind (arith, nat_tests))
 
 -- no block has been counted
 pub missing_start : (form : Form) (names : List ℕ → Bool) (first : ℕ) → missing_from form names first (first - first) ≡ 0

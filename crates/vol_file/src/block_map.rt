@@ -40,7 +40,7 @@ pub(crate) fn entry(image: &Image, geometry: &Geometry, m: u32, j: u32) -> u32
 
 /// The number at the last place of the way of logical block `b`, in a file of some form; 0 where there
 /// is no way, or nothing is named.
-#[tactic(auto, unfolding(vol_layout::specs::Places::last_place))]
+#[tactic(auto, using(crate::proofs::Indexes::way_address, crate::proofs::Indexes::way_entry))]
 pub(crate) fn number_at(image: &Image, geometry: &Geometry, i: u16, form: Form, b: u32) -> u32
     requires fits { Fits geometry.now image.now }
     requires first { 1 ≤ i }
@@ -48,51 +48,10 @@ pub(crate) fn number_at(image: &Image, geometry: &Geometry, i: u16, form: Form, 
     requires form { form ≡ form_at geometry.now image.now i }
     ensures { result ≡ stored geometry.now image.now i form b }
 {
-    match form {
-        Form::Small if b < 8 => address(image, geometry, i, b as usize),
-        Form::Large if b < 1792 => {
-            let indirect = address(image, geometry, i, (b / 256) as usize);
-            entry(image, geometry, indirect, b % 256)
-        }
-        Form::Large if b < 32_768 => {
-            let double = address(image, geometry, i, 7);
-            let indirect = entry(image, geometry, double, b / 256 - 7);
-            entry(image, geometry, indirect, b % 256)
-        }
-        Form::Deep => number_in_deep(image, geometry, i, b),
-        _ => 0,
+    let Some(way) = form.way(b) else { return 0 };
+    let mut block = address(image, geometry, i, way.address);
+    for d in 0..way.depth {
+        block = entry(image, geometry, block, way.entries[d]);
     }
-}
-
-/// The number at the last place of the way of logical block `b`, in a file of the seventh edition; 0
-/// where there is no way, or nothing is named.
-#[tactic(auto, unfolding(vol_layout::specs::Places::last_place))]
-fn number_in_deep(image: &Image, geometry: &Geometry, i: u16, b: u32) -> u32
-    requires fits { Fits geometry.now image.now }
-    requires first { 1 ≤ i }
-    requires last { i ≤ geometry.now.last_inode }
-    requires form { form_at geometry.now image.now i ≡ Form.Deep }
-    ensures { result ≡ stored geometry.now image.now i Form.Deep b }
-{
-    if b < 10 {
-        return address(image, geometry, i, b as usize);
-    }
-    if b < 138 {
-        let indirect = address(image, geometry, i, 10);
-        return entry(image, geometry, indirect, b - 10);
-    }
-    if b < 16_522 {
-        let c = b - 138;
-        let double = address(image, geometry, i, 11);
-        let indirect = entry(image, geometry, double, c / 128);
-        return entry(image, geometry, indirect, c % 128);
-    }
-    if b < 2_113_674 {
-        let c = b - 16_522;
-        let triple = address(image, geometry, i, 12);
-        let double = entry(image, geometry, triple, c / 16_384);
-        let indirect = entry(image, geometry, double, c / 128 % 128);
-        return entry(image, geometry, indirect, c % 128);
-    }
-    0
+    block
 }

@@ -1,10 +1,10 @@
 //! How many blocks a write takes.
-ghost use Rattle.std.specs.Prelude.{◌≡◌, ◌+◌, ◌-◌, ◌/◌, ◌%◌, ◌^◌, ◌<◌, ◌≤◌, [], ◌∷◌, true, if◌then◌else◌};
+ghost use Rattle.std.specs.Prelude.{◌≡◌, ◌+◌, ◌-◌, ◌^◌, ◌≤◌, ◌==◌, ◌||◌, true, if◌then◌else◌};
 ghost use Rattle.vol_layout.specs.Geometry.{Fits};
 ghost use Rattle.vol_layout.specs.Names.{form_at};
 ghost use Rattle.vol_file.specs.Shape.{is_named, moved_down};
 ghost use Rattle.vol_file.specs.Need.{need};
-ghost use Rattle.vol_file.specs.Missing.{missing_to, missing_at, missing_from, grows_at, grown_form, grown_names};
+ghost use Rattle.vol_file.specs.Missing.{missing_at, missing_from, grows_at, grown_form, grown_names};
 
 use crate::block_map::entry;
 use pdp_words::{BLOCK, Image};
@@ -113,7 +113,7 @@ fn missing_at(
 
 /// How many places on the way of logical block `b` name nothing, as [`missing_at`] counts them, in a
 /// file that keeps its form.
-#[tactic(auto, unfolding(vol_layout::specs::Places::last_place))]
+#[tactic(auto, using(crate::proofs::Indexes::way_address, crate::proofs::Indexes::way_entry, crate::proofs::Indexes::named_more, crate::proofs::MissingLaws::missing_to_more))]
 fn missing_on_way(
     image: &Image,
     geometry: &Geometry,
@@ -129,119 +129,37 @@ fn missing_on_way(
     ensures exact { result ≡ missing_at form (is_named geometry.now image.now i) whole b }
     ensures bound { result ≤ 4 }
 {
-    match form {
-        Form::Small if b < SMALL_BLOCKS => absent(address(image, geometry, i, b as usize) != 0),
-        Form::Large => missing_in_large(image, geometry, i, whole, b),
-        Form::Deep => missing_in_deep(image, geometry, i, whole, b),
-        _ => 0,
+    let Some(way) = form.way(b) else { return 0 };
+    let mut block = address(image, geometry, i, way.address);
+    let mut missing = absent(block != 0);
+    for d in 0..way.depth {
+        let j = way.entries[d];
+        block = entry(image, geometry, block, j);
+        missing = absent_with(block != 0, whole, j, missing);
     }
-}
-
-/// How many places on the way of logical block `b` name nothing, as [`missing_at`] counts them, in a
-/// large file of the sixth edition.
-#[tactic(auto, unfolding(vol_layout::specs::Places::last_place))]
-fn missing_in_large(image: &Image, geometry: &Geometry, i: u16, whole: bool, b: u32) -> u32
-    requires fits { Fits geometry.now image.now }
-    requires first { 1 ≤ i }
-    requires last { i ≤ geometry.now.last_inode }
-    requires form { form_at geometry.now image.now i ≡ Form.Large }
-    ensures exact { result ≡ missing_at Form.Large (is_named geometry.now image.now i) whole b }
-    ensures bound { result ≤ 3 }
-{
-    if b < 1792 {
-        let indirect = address(image, geometry, i, (b / 256) as usize);
-        let data = entry(image, geometry, indirect, b % 256);
-        return absent_with(data != 0, whole || b % 256 == 0, absent(indirect != 0));
-    }
-    if b < 32_768 {
-        let double = address(image, geometry, i, 7);
-        let indirect = entry(image, geometry, double, b / 256 - 7);
-        let data = entry(image, geometry, indirect, b % 256);
-        let above = absent_with(
-            indirect != 0,
-            whole || b / 256 - 7 == 0,
-            absent(double != 0),
-        );
-        return absent_with(data != 0, whole || b % 256 == 0, above);
-    }
-    0
-}
-
-/// How many places on the way of logical block `b` name nothing, as [`missing_at`] counts them, in a
-/// file of the seventh edition.
-#[tactic(auto, unfolding(vol_layout::specs::Places::last_place))]
-fn missing_in_deep(image: &Image, geometry: &Geometry, i: u16, whole: bool, b: u32) -> u32
-    requires fits { Fits geometry.now image.now }
-    requires first { 1 ≤ i }
-    requires last { i ≤ geometry.now.last_inode }
-    requires form { form_at geometry.now image.now i ≡ Form.Deep }
-    ensures exact { result ≡ missing_at Form.Deep (is_named geometry.now image.now i) whole b }
-    ensures bound { result ≤ 4 }
-{
-    if b < 10 {
-        return absent(address(image, geometry, i, b as usize) != 0);
-    }
-    if b < 138 {
-        let indirect = address(image, geometry, i, 10);
-        let data = entry(image, geometry, indirect, b - 10);
-        return absent_with(data != 0, whole || b - 10 == 0, absent(indirect != 0));
-    }
-    if b < 16_522 {
-        let c = b - 138;
-        let double = address(image, geometry, i, 11);
-        let indirect = entry(image, geometry, double, c / 128);
-        let data = entry(image, geometry, indirect, c % 128);
-        let above = absent_with(indirect != 0, whole || c / 128 == 0, absent(double != 0));
-        return absent_with(data != 0, whole || c % 128 == 0, above);
-    }
-    if b < 2_113_674 {
-        return missing_in_triple(image, geometry, i, whole, b - 16_522);
-    }
-    0
-}
-
-/// How many places on the way of logical block `c` of those below the triply indirect block name
-/// nothing, as [`missing_at`] counts them.
-fn missing_in_triple(image: &Image, geometry: &Geometry, i: u16, whole: bool, c: u32) -> u32
-    requires fits { Fits geometry.now image.now }
-    requires first { 1 ≤ i }
-    requires last { i ≤ geometry.now.last_inode }
-    requires form { form_at geometry.now image.now i ≡ Form.Deep }
-    requires range { c < 2097152 }
-    ensures exact { result ≡ missing_to (is_named geometry.now image.now i) whole
-        ((c % 128) ∷ ((c / 128 % 128) ∷ ((c / 16384) ∷ (12 ∷ [])))) }
-    ensures bound { result ≤ 4 }
-{
-    let triple = address(image, geometry, i, 12);
-    let double = entry(image, geometry, triple, c / 16_384);
-    let indirect = entry(image, geometry, double, c / 128 % 128);
-    let data = entry(image, geometry, indirect, c % 128);
-    let upper = absent_with(double != 0, whole || c / 16_384 == 0, absent(triple != 0));
-    let above = absent_with(indirect != 0, whole || c / 128 % 128 == 0, upper);
-    absent_with(data != 0, whole || c % 128 == 0, above)
+    missing
 }
 
 /// How many places on the way of logical block `b` name nothing, as [`missing_at`] counts them, in a
 /// small file that is to become large: address 0 then names a block of the eight addresses that it had.
-#[tactic(auto, unfolding(vol_layout::specs::Places::last_place))]
 fn missing_once_large(image: &Image, geometry: &Geometry, i: u16, whole: bool, b: u32) -> u32
     requires fits { Fits geometry.now image.now }
     requires first { 1 ≤ i }
     requires last { i ≤ geometry.now.last_inode }
-    requires form { form_at geometry.now image.now i ≡ Form.Small }
     ensures exact { result ≡ missing_at Form.Large (moved_down (is_named geometry.now image.now i)) whole b }
-    ensures bound { result ≤ 3 }
+    ensures bound { result ≤ 4 }
 {
-    if b < 1792 {
-        let (j, k) = (b % 256, b / 256);
-        let data = k == 0 && j < SMALL_BLOCKS && address(image, geometry, i, j as usize) != 0;
-        return absent_with(data, whole || j == 0, absent(k == 0));
+    let Some(way) = Form::Large.way(b) else {
+        return 0
+    };
+    let mut missing = absent(way.address == 0);
+    for d in 0..way.depth {
+        let j = way.entries[d];
+        let moved = way.address == 0 && d == 0 && j < SMALL_BLOCKS;
+        let named = moved && address(image, geometry, i, j as usize) != 0;
+        missing = absent_with(named, whole, j, missing);
     }
-    if b < 32_768 {
-        let above = absent_with(false, whole || b / 256 - 7 == 0, 1);
-        return absent_with(false, whole || b % 256 == 0, above);
-    }
-    0
+    missing
 }
 
 /// 1 where a place names nothing.
@@ -251,10 +169,11 @@ fn absent(named: bool) -> u32
     u32::from(!named)
 }
 
-/// 1 where a place names nothing, and what is missing above it, if that counts.
-fn absent_with(named: bool, counts: bool, above: u32) -> u32
+/// 1 where entry `j` of an indirect block names nothing, and what is missing above it, where that counts:
+/// on a whole way, or where `j` is 0, so that no earlier block leads through the same.
+fn absent_with(named: bool, whole: bool, j: u32, above: u32) -> u32
     requires { above ≤ 3 }
-    ensures { result ≡ (if named then 0 else 1) + (if counts then above else 0) }
+    ensures { result ≡ (if named then 0 else 1) + (if whole || j == 0 then above else 0) }
 {
-    absent(named) + if counts { above } else { 0 }
+    absent(named) + if whole || j == 0 { above } else { 0 }
 }

@@ -1,5 +1,5 @@
 //! Naming blocks: giving each place on the way of a logical block a block where it has none.
-ghost use Rattle.std.specs.Prelude.{◌≡◌, ℕ, ◌-◌, ◌*◌, ◌<◌, ◌≤◌, Bool, List, [], ◌∷◌};
+ghost use Rattle.std.specs.Prelude.{◌≡◌, ℕ, ◌-◌, ◌*◌, ◌≤◌, Bool, List, [], ◌∷◌};
 ghost use Rattle.vol_layout.specs.Names.{form_at};
 ghost use Rattle.vol_file.specs.Steps.{
   Reaches,
@@ -69,70 +69,10 @@ fn name_way(image: &mut Image, geometry: &Geometry, i: u16, form: Form, b: u32)
     ensures { (wanted : List ℕ → Bool) (blocks : List ℕ) → WantsWay geometry.now image.old i wanted b blocks
         → NamesWay geometry.now image.old image.new i wanted b blocks }
 {
-    match form {
-        Form::Small => {
-            name_address(image, geometry, i, b as usize);
-        }
-        Form::Large => name_way_in_large(image, geometry, i, b),
-        Form::Deep if b < 138 => name_short_way(image, geometry, i, b),
-        Form::Deep => name_long_way(image, geometry, i, b),
-        Form::Bare => {}
-    }
-}
-
-/// Names what is missing on the way of logical block `b` of a large file of the sixth edition.
-fn name_way_in_large(image: &mut Image, geometry: &Geometry, i: u16, b: u32)
-    requires form { form_at geometry.now image.old i ≡ Form.Large }
-    requires may { MayNameWay geometry.now image.old i b }
-    ensures { (wanted : List ℕ → Bool) (blocks : List ℕ) → WantsWay geometry.now image.old i wanted b blocks
-        → NamesWay geometry.now image.old image.new i wanted b blocks }
-{
-    if b < 1792 {
-        let indirect = name_address(image, geometry, i, (b / 256) as usize);
-        name_entry(image, geometry, indirect, b % 256);
-    } else {
-        let double = name_address(image, geometry, i, 7);
-        let indirect = name_entry(image, geometry, double, b / 256 - 7);
-        name_entry(image, geometry, indirect, b % 256);
-    }
-}
-
-/// Names what is missing on the way of logical block `b` of a file of the seventh edition, to which no
-/// doubly indirect block leads.
-fn name_short_way(image: &mut Image, geometry: &Geometry, i: u16, b: u32)
-    requires form { form_at geometry.now image.old i ≡ Form.Deep }
-    requires short { b < 138 }
-    requires may { MayNameWay geometry.now image.old i b }
-    ensures { (wanted : List ℕ → Bool) (blocks : List ℕ) → WantsWay geometry.now image.old i wanted b blocks
-        → NamesWay geometry.now image.old image.new i wanted b blocks }
-{
-    if b < 10 {
-        name_address(image, geometry, i, b as usize);
-    } else {
-        let indirect = name_address(image, geometry, i, 10);
-        name_entry(image, geometry, indirect, b - 10);
-    }
-}
-
-/// Names what is missing on the way of logical block `b` of a file of the seventh edition, to which a
-/// doubly or triply indirect block leads.
-fn name_long_way(image: &mut Image, geometry: &Geometry, i: u16, b: u32)
-    requires form { form_at geometry.now image.old i ≡ Form.Deep }
-    requires long { 138 ≤ b }
-    requires may { MayNameWay geometry.now image.old i b }
-    ensures { (wanted : List ℕ → Bool) (blocks : List ℕ) → WantsWay geometry.now image.old i wanted b blocks
-        → NamesWay geometry.now image.old image.new i wanted b blocks }
-{
-    if b < 16_522 {
-        let double = name_address(image, geometry, i, 11);
-        let indirect = name_entry(image, geometry, double, (b - 138) / 128);
-        name_entry(image, geometry, indirect, (b - 138) % 128);
-    } else {
-        let c = b - 16_522;
-        let triple = name_address(image, geometry, i, 12);
-        let double = name_entry(image, geometry, triple, c / 16_384);
-        let indirect = name_entry(image, geometry, double, c / 128 % 128);
-        name_entry(image, geometry, indirect, c % 128);
+    let Some(way) = form.way(b) else { return };
+    let mut block = name_address(image, geometry, i, way.address);
+    for d in 0..way.depth {
+        block = name_entry(image, geometry, block, way.entries[d]);
     }
 }
 

@@ -1,0 +1,45 @@
+-- The indexes on the way of a logical block, each within its bounds.
+use Rattle.std.proofs.Common.{◌≡◌, ℕ, zero, suc, ◌+◌, ◌*◌, ◌<◌, ◌≤◌, sym, subst, List, slice_index, refl, arith, Some}
+use Rattle.vol_layout.specs.Edition.{constants}
+use Rattle.vol_layout.specs.Places.{first_count, pointer_count, last_place, place_to, end_of}
+use Rattle.vol_layout.specs.Names.{mode_of, form_at, pointer_in, named}
+use Rattle.vol_layout.specs.declared.geometry.Geometry.{Geometry}
+use Rattle.vol_layout.specs.declared.places.Form.{Form}
+use Rattle.vol_layout.specs.declared.places.Form.TheVariants.{Small, Large, Deep, Bare}
+use Rattle.vol_layout.specs.declared.places.Way.{Way}
+use Rattle.vol_layout.proofs.CopyLaws.{number_room}
+use Rattle.vol_layout.proofs.FrameLaws.{pointers_of}
+use Rattle.vol_layout.proofs.PlaceLaws.{way_place, entry_to}
+
+-- an i-node has at most 13 addresses
+first_few : (form : Form) → first_count form ≤ 13
+first_few Small = omega arith
+first_few Large = omega arith
+first_few Deep = omega arith
+first_few Bare = omega arith
+
+-- the address on a way is one of an i-node
+pub way_address : (form : Form) (b : ℕ) (way : Way) → Some (end_of way) ≡ last_place form b → way.address < 13
+way_address form b way e =
+    let place : way.address < first_count form = way_place form b way 0 e (omega arith) in
+    omega (arith, place, first_few form)
+
+-- an entry on a way is one of an indirect block
+pub way_entry : (geometry : Geometry) (image : List ℕ) (i : ℕ) (form : Form) (b : ℕ) (way : Way) (d : ℕ)
+    → form ≡ form_at geometry image i → Some (end_of way) ≡ last_place form b → d < way.depth
+    → (constants geometry.edition).number_bytes * (slice_index way.entries d + 1) ≤ 512
+way_entry geometry image i form b way d same e h =
+    let low : slice_index way.entries d < pointer_count form = entry_to form way.address way.entries d (way_place form b way (suc d) e (omega arith)) in
+    let many = pointers_of geometry.edition (mode_of geometry image i) in
+    let many : pointer_count form ≤ (constants geometry.edition).pointers =
+    subst (λ f. pointer_count f ≤ (constants geometry.edition).pointers) (sym same) (pointers_of geometry.edition (mode_of geometry image i)) in
+    let fit = number_room geometry.edition (slice_index way.entries d) (omega (arith, low, many)) in
+    let more : (constants geometry.edition).number_bytes * (slice_index way.entries d + 1)
+    ≡ (constants geometry.edition).number_bytes * slice_index way.entries d + (constants geometry.edition).number_bytes = grind arith in
+    omega (arith, fit, more)
+
+-- what the next entry of a way names
+pub named_more : (geometry : Geometry) (image : List ℕ) (i k : ℕ) (entries : List ℕ) (d : ℕ)
+    → named geometry image i (place_to k entries (d + 1)) ≡ pointer_in geometry image (named geometry image i (place_to k entries d)) (slice_index entries d)
+named_more geometry image i k entries zero = refl
+named_more geometry image i k entries (suc d) = let next : suc d + 1 ≡ suc (suc d) = omega arith in rw next refl

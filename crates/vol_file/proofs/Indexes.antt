@@ -1,4 +1,4 @@
--- The indexes on the way of a logical block, each within its bounds.
+-- The indexes on the way of a logical block, each within its bounds, and what they lead to.
 use Rattle.std.proofs.Common.{◌≡◌, ℕ, zero, suc, ◌+◌, ◌*◌, ◌<◌, ◌≤◌, sym, subst, List, slice_index, refl, arith, Some}
 use Rattle.vol_layout.specs.Edition.{constants}
 use Rattle.vol_layout.specs.Places.{first_count, pointer_count, last_place, place_to, end_of}

@@ -1,4 +1,4 @@
--- The indexes on the way of a logical block, each within its bounds.
+-- The indexes on the way of a logical block, each within its bounds, and what they lead to.
 use Rattle.std.proofs.Common.{◌≡◌, ℕ, zero, suc, ◌+◌, ◌*◌, ◌<◌, ◌≤◌, sym, subst, List, slice_index, refl, arith, Some}
 use Rattle.vol_layout.specs.Edition.{constants}
 use Rattle.vol_layout.specs.Places.{first_count, pointer_count, last_place, place_to, end_of}
@@ -38,14 +38,8 @@ way_entry geometry image i form b way d same e h =
     ≡ (constants geometry.edition).number_bytes * slice_index way.entries d + (constants geometry.edition).number_bytes = grind arith in
     omega (arith, fit, more)
 
--- what the next entry of a way names, by the number of entries
-named_next : (geometry : Geometry) (image : List ℕ) (i k : ℕ) (entries : List ℕ) (d : ℕ)
-    → named geometry image i (place_to k entries (suc d)) ≡ pointer_in geometry image (named geometry image i (place_to k entries d)) (slice_index entries d)
-named_next geometry image i k entries zero = refl
-named_next geometry image i k entries (suc d) = refl
-
 -- what the next entry of a way names
-pub named_more : (geometry : Geometry) (image : List ℕ) (i k : ℕ) (entries : List ℕ) (d m : ℕ) → m ≡ named geometry image i (place_to k entries d)
-    → pointer_in geometry image m (slice_index entries d) ≡ named geometry image i (place_to k entries (d + 1))
-named_more geometry image i k entries d m above =
-    let next : d + 1 ≡ suc d = omega arith in rw (above, next) (sym (named_next geometry image i k entries d))
+pub named_more : (geometry : Geometry) (image : List ℕ) (i k : ℕ) (entries : List ℕ) (d : ℕ)
+    → named geometry image i (place_to k entries (d + 1)) ≡ pointer_in geometry image (named geometry image i (place_to k entries d)) (slice_index entries d)
+named_more geometry image i k entries zero = refl
+named_more geometry image i k entries (suc d) = let next : suc d + 1 ≡ suc (suc d) = omega arith in rw next refl

@@ -73,70 +73,75 @@ pub way_is : (form : Form) (b : ℕ) (q : List ℕ) → last_place form b ≡ So
 way_is form b q e = ap (λ o. option_map_or fronts o []) e
 
 -- the last place by the form of a file
-pub way_end : (form at : Form) (b : ℕ) (way : Way) → form ≡ at → Some (end_of way) ≡ last_place form b → last_place at b ≡ Some (end_of way)
-way_end form at b way is e = ap (λ f. last_place f b) (sym is) ∙ sym e
+way_end : (form at : Form) (b : ℕ) (way : Way) → form ≡ at → Some (end_of way) ≡ last_place form b → last_place at b ≡ Some (end_of way)
+way_end form at b way is end = ap (λ f. last_place f b) (sym is) ∙ sym end
 
 -- each place on the way is wanted
-pub way_wanted : (geometry : Geometry) (image : List ℕ) (i : ℕ) (wanted : List ℕ → Bool) (b : ℕ) (blocks : List ℕ) (way : Way) (d : ℕ)
-    → WantsWay geometry image i wanted b blocks → last_place (form_at geometry image i) b ≡ Some (end_of way) → d ≤ way.depth
+pub way_wanted : (geometry : Geometry) (image : List ℕ) (i : ℕ) (form : Form) (wanted : List ℕ → Bool) (b : ℕ) (blocks : List ℕ) (way : Way) (d : ℕ)
+    → form ≡ form_at geometry image i → Some (end_of way) ≡ last_place form b → WantsWay geometry image i wanted b blocks → d ≤ way.depth
     → IsWanted geometry image i wanted (place_to way.address way.entries d) blocks
-way_wanted geometry image i wanted b blocks way d wants e h = record {
-  ready = wants.ready;
-  place = record { file = wants.ready.file; place = way_place (form_at geometry image i) b way d (sym e) h };
-  want = wants.want (place_to way.address way.entries d)
-      (ap (list_any (bytes_eq (place_to way.address way.entries d))) (way_is (form_at geometry image i) b (end_of way) e)
-      ∙ front_true (end_of way) (place_to way.address way.entries d) (front_to way.address way.entries d way.depth h));
-}
+way_wanted geometry image i form wanted b blocks way d is end wants h =
+    let e = way_end form (form_at geometry image i) b way is end in
+    record {
+      ready = wants.ready;
+      place = record { file = wants.ready.file; place = way_place (form_at geometry image i) b way d (sym e) h };
+      want = wants.want (place_to way.address way.entries d)
+          (ap (list_any (bytes_eq (place_to way.address way.entries d))) (way_is (form_at geometry image i) b (end_of way) e)
+          ∙ front_true (end_of way) (place_to way.address way.entries d) (front_to way.address way.entries d way.depth h));
+    }
 
--- where the last place is reached the way is named
-pub way_named : (geometry : Geometry) (old new : List ℕ) (i : ℕ) (wanted : List ℕ → Bool) (b : ℕ) (blocks q : List ℕ) (k : ℕ)
-    → last_place (form_at geometry old i) b ≡ Some q → Reaches geometry old new i wanted q blocks k → NamesWay geometry old new i wanted b blocks
-way_named geometry old new i wanted b blocks q k e reached = record {
-  rest = reached.rest;
-  extends = extends_as geometry old new i wanted (has_front q) (λ p. list_any (bytes_eq p) (way (form_at geometry old i) b)) blocks reached.rest
-      (λ p. sym (ap (list_any (bytes_eq p)) (way_is (form_at geometry old i) b q e))) reached.extends;
-}
+-- where all its entries are named the way is named
+pub way_named : (geometry : Geometry) (old new : List ℕ) (i : ℕ) (form : Form) (wanted : List ℕ → Bool) (b : ℕ) (blocks : List ℕ) (way : Way) (d k : ℕ)
+    → form ≡ form_at geometry old i → Some (end_of way) ≡ last_place form b → d ≡ way.depth
+    → Reaches geometry old new i wanted (place_to way.address way.entries d) blocks k → NamesWay geometry old new i wanted b blocks
+way_named geometry old new i form wanted b blocks way d k is end all reached =
+    let e = way_end form (form_at geometry old i) b way is end in
+    let last = subst (λ n. Reaches geometry old new i wanted (place_to way.address way.entries n) blocks k) all reached in
+    record {
+      rest = last.rest;
+      extends = extends_as geometry old new i wanted (has_front (end_of way)) _ blocks last.rest
+          (λ p. sym (ap (list_any (bytes_eq p)) (way_is (form_at geometry old i) b (end_of way) e))) last.extends;
+    }
 
 -- the address of the way may be named
-pub may_first : (geometry : Geometry) (image : List ℕ) (i b : ℕ) (way : Way) → MayNameWay geometry image i b
-    → last_place (form_at geometry image i) b ≡ Some (end_of way) → MayName geometry image i (way.address ∷ [])
-may_first geometry image i b way may e =
-    record { wanted = may.wanted; blocks = may.blocks; is = way_wanted geometry image i may.wanted b may.blocks way 0 may.is e (omega arith) }
+pub may_first : (geometry : Geometry) (image : List ℕ) (i : ℕ) (form : Form) (b : ℕ) (way : Way) → form ≡ form_at geometry image i
+    → Some (end_of way) ≡ last_place form b → MayNameWay geometry image i b → MayName geometry image i (way.address ∷ [])
+may_first geometry image i form b way is end may =
+    record { wanted = may.wanted; blocks = may.blocks; is = way_wanted geometry image i form may.wanted b may.blocks way 0 is end may.is (omega arith) }
 
 -- the next entry of the way may be named
-pub may_next : (geometry : Geometry) (old mid : List ℕ) (i b : ℕ) (way : Way) (d m : ℕ) (may : MayNameWay geometry old i b)
-    → last_place (form_at geometry old i) b ≡ Some (end_of way) → d < way.depth
+pub may_next : (geometry : Geometry) (old mid : List ℕ) (i : ℕ) (form : Form) (b : ℕ) (way : Way) (d m : ℕ) → form ≡ form_at geometry old i
+    → Some (end_of way) ≡ last_place form b → (may : MayNameWay geometry old i b) → d < way.depth
     → Reaches geometry old mid i may.wanted (place_to way.address way.entries d) may.blocks m → MayNameEntry geometry mid m (slice_index way.entries d)
-may_next geometry old mid i b way zero m may e h reached = record {
+may_next geometry old mid i form b way zero m is end may h reached = record {
   old = old;
   i = i;
   wanted = may.wanted;
   a = way.address;
   p = [];
   blocks = may.blocks;
-  next = record { want = way_wanted geometry old i may.wanted b may.blocks way 1 may.is e (omega arith); reached = reached };
+  next = record { want = way_wanted geometry old i form may.wanted b may.blocks way 1 is end may.is (omega arith); reached = reached };
 }
-may_next geometry old mid i b way (suc d) m may e h reached = record {
+may_next geometry old mid i form b way (suc d) m is end may h reached = record {
   old = old;
   i = i;
   wanted = may.wanted;
   a = slice_index way.entries d;
   p = place_to way.address way.entries d;
   blocks = may.blocks;
-  next = record { want = way_wanted geometry old i may.wanted b may.blocks way (suc (suc d)) may.is e (omega arith); reached = reached };
+  next = record { want = way_wanted geometry old i form may.wanted b may.blocks way (suc (suc d)) is end may.is (omega arith); reached = reached };
 }
 
 -- what the naming of the next entry reaches
-pub way_next : (geometry : Geometry) (old mid new : List ℕ) (i : ℕ) (wanted : List ℕ → Bool) (b : ℕ) (blocks : List ℕ) (way : Way) (d m k : ℕ)
-    → WantsWay geometry old i wanted b blocks → last_place (form_at geometry old i) b ≡ Some (end_of way) → d < way.depth
+pub way_next : (geometry : Geometry) (old mid new : List ℕ) (i : ℕ) (form : Form) (wanted : List ℕ → Bool) (b : ℕ) (blocks : List ℕ) (way : Way) (d m k : ℕ)
+    → form ≡ form_at geometry old i → Some (end_of way) ≡ last_place form b → WantsWay geometry old i wanted b blocks → d < way.depth
     → Reaches geometry old mid i wanted (place_to way.address way.entries d) blocks m
     → ((a : ℕ) (p : List ℕ) → IsNext geometry old mid i wanted (slice_index way.entries d) a p blocks m
     → Reaches geometry old new i wanted (slice_index way.entries d ∷ (a ∷ p)) blocks k)
     → Reaches geometry old new i wanted (place_to way.address way.entries (d + 1)) blocks k
-way_next geometry old mid new i wanted b blocks way zero m k wants e h reached named =
-    named way.address [] (record { want = way_wanted geometry old i wanted b blocks way 1 wants e (omega arith); reached = reached })
-way_next geometry old mid new i wanted b blocks way (suc d) m k wants e h reached named =
-    let next : suc (suc d) ≡ suc d + 1 = omega arith in
-    subst (λ n. Reaches geometry old new i wanted (place_to way.address way.entries n) blocks k) next
-    (named (slice_index way.entries d) (place_to way.address way.entries d)
-    (record { want = way_wanted geometry old i wanted b blocks way (suc (suc d)) wants e (omega arith); reached = reached }))
+way_next geometry old mid new i form wanted b blocks way zero m k is end wants h reached named =
+    named way.address [] (record { want = way_wanted geometry old i form wanted b blocks way 1 is end wants (omega arith); reached = reached })
+way_next geometry old mid new i form wanted b blocks way (suc d) m k is end wants h reached named =
+    let next : suc d + 1 ≡ suc (suc d) = omega arith in
+    rw next (named (slice_index way.entries d) (place_to way.address way.entries d)
+    (record { want = way_wanted geometry old i form wanted b blocks way (suc (suc d)) is end wants (omega arith); reached = reached }))

@@ -558,37 +558,22 @@ count_blocks form names first (suc n) =
 
 -- Steps of the count
 
--- one entry more on a way, by the number of entries
-missing_to_next : (names : List ℕ → Bool) (whole : Bool) (k : ℕ) (entries : List ℕ) (d : ℕ)
-    → missing_to names whole (place_to k entries (suc d))
-    ≡ (if names (place_to k entries (suc d)) then 0 else 1)
-    + (if whole || slice_index entries d == 0 then missing_to names whole (place_to k entries d) else 0)
-missing_to_next names whole k entries zero = refl
-missing_to_next names whole k entries (suc d) = refl
-
 -- one entry more on a way
-pub missing_to_more : (names : List ℕ → Bool) (whole : Bool) (k : ℕ) (entries : List ℕ) (d above : ℕ) (named : Bool)
-    → above ≡ missing_to names whole (place_to k entries d) → named ≡ names (place_to k entries (d + 1))
-    → (if named then 0 else 1) + (if whole || slice_index entries d == 0 then above else 0)
-    ≡ missing_to names whole (place_to k entries (d + 1))
-missing_to_more names whole k entries d above named before here =
-    let next : d + 1 ≡ suc d = omega arith in
-    rw (before, here, next) (sym (missing_to_next names whole k entries d))
-
--- whether an entry names something in a small file that was made large, by the number of entries before it
-moved_next : (names : List ℕ → Bool) (k : ℕ) (entries : List ℕ) (d : ℕ)
-    → moved_down names (place_to k entries (suc d))
-    ≡ ((k == 0) && ((d == 0) && (nat_lt (slice_index entries d) 8 && names (slice_index entries d ∷ []))))
-moved_next names k entries zero = refl
-moved_next names k entries (suc zero) = grind (arith, nat_tests)
-moved_next names k entries (suc (suc d)) = grind (arith, nat_tests)
+pub missing_to_more : (names : List ℕ → Bool) (whole : Bool) (k : ℕ) (entries : List ℕ) (d : ℕ)
+    → missing_to names whole (place_to k entries (d + 1))
+    ≡ (if names (place_to k entries (d + 1)) then 0 else 1)
+    + (if whole || slice_index entries d == 0 then missing_to names whole (place_to k entries d) else 0)
+missing_to_more names whole k entries zero = refl
+missing_to_more names whole k entries (suc d) = let next : suc d + 1 ≡ suc (suc d) = omega arith in rw next refl
 
 -- whether an entry names something in a small file that was made large
 pub moved_more : (names : List ℕ → Bool) (k : ℕ) (entries : List ℕ) (d : ℕ)
-    → ((k == 0) && ((d == 0) && (nat_lt (slice_index entries d) 8 && names (slice_index entries d ∷ []))))
-    ≡ moved_down names (place_to k entries (d + 1))
-moved_more names k entries d =
-    let next : d + 1 ≡ suc d = omega arith in rw next (sym (moved_next names k entries d))
+    → moved_down names (place_to k entries (d + 1))
+    ≡ ((k == 0) && ((d == 0) && (nat_lt (slice_index entries d) 8 && names (slice_index entries d ∷ []))))
+moved_more names k entries zero = refl
+moved_more names k entries (suc zero) = grind (arith, nat_tests)
+moved_more names k entries (suc (suc d)) =
+    let next : suc (suc d) + 1 ≡ suc (suc (suc d)) = omega arith in rw next (grind (arith, nat_tests))
 
 -- no block has been counted
 pub missing_start : (form : Form) (names : List ℕ → Bool) (first : ℕ) → missing_from form names first (first - first) ≡ 0

@@ -1,10 +1,10 @@
 //! How many blocks a write takes.
-ghost use Rattle.std.specs.Prelude.{◌≡◌, ◌+◌, ◌-◌, ◌/◌, ◌%◌, ◌^◌, ◌<◌, ◌≤◌, ◌==◌, ◌||◌, [], ◌∷◌, true, if◌then◌else◌};
+ghost use Rattle.std.specs.Prelude.{◌≡◌, ◌+◌, ◌-◌, ◌^◌, ◌≤◌, ◌==◌, ◌||◌, true, if◌then◌else◌};
 ghost use Rattle.vol_layout.specs.Geometry.{Fits};
 ghost use Rattle.vol_layout.specs.Names.{form_at};
 ghost use Rattle.vol_file.specs.Shape.{is_named, moved_down};
 ghost use Rattle.vol_file.specs.Need.{need};
-ghost use Rattle.vol_file.specs.Missing.{missing_to, missing_at, missing_from, grows_at, grown_form, grown_names};
+ghost use Rattle.vol_file.specs.Missing.{missing_at, missing_from, grows_at, grown_form, grown_names};
 
 use crate::block_map::entry;
 use pdp_words::{BLOCK, Image};
@@ -113,7 +113,7 @@ fn missing_at(
 
 /// How many places on the way of logical block `b` name nothing, as [`missing_at`] counts them, in a
 /// file that keeps its form.
-#[tactic(auto, using(crate::proofs::Indexes::way_address, crate::proofs::Indexes::way_entry))]
+#[tactic(auto, using(crate::proofs::Indexes::way_address, crate::proofs::Indexes::way_entry, crate::proofs::Indexes::named_more, crate::proofs::MissingLaws::missing_to_more))]
 fn missing_on_way(
     image: &Image,
     geometry: &Geometry,
@@ -169,8 +169,8 @@ fn absent(named: bool) -> u32
     u32::from(!named)
 }
 
-/// 1 where entry `j` of an indirect block names nothing, and what is missing above it, if that counts:
-/// on a whole way, or where no earlier block has the same.
+/// 1 where entry `j` of an indirect block names nothing, and what is missing above it, where that counts:
+/// on a whole way, or where `j` is 0, so that no earlier block leads through the same.
 fn absent_with(named: bool, whole: bool, j: u32, above: u32) -> u32
     requires { above ≤ 3 }
     ensures { result ≡ (if named then 0 else 1) + (if whole || j == 0 then above else 0) }

@@ -24,9 +24,9 @@ pub enum Form {
 /// that it leads through.
 #[derive(Clone, Copy, Debug, PartialEq, Eq)]
 pub struct Way {
-    /// The address of the i-node.
+    /// Which address of the i-node, from 0.
     pub address: usize,
-    /// The entries, of which the first `depth` count.
+    /// Which entry of each indirect block, from 0; those from `depth` on are of none.
     pub entries: [u32; 3],
     /// How many indirect blocks there are.
     pub depth: usize,

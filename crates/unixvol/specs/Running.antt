@@ -19,7 +19,7 @@ use Rattle.command_line.specs.declared.Invocation.{Invocation}
 use Rattle.command_line.specs.declared.Invocation.TheVariants as invocations
 use Rattle.vol_commands.specs.declared.jobs.Job.{Job}
 use Rattle.vol_commands.specs.declared.making.Made.{Made}
-use Rattle.vol_commands.specs.declared.making.NewVolume.{NewVolume}
+use Rattle.vol_volume.specs.declared.blank.NewVolume.{NewVolume}
 
 -- the status where a file can't be read or written, or where memory ran out (this project)
 abbrev pub IsStatusOfFileOrMemory : ℕ → Type 0
@@ -51,7 +51,7 @@ pub record RunsMkfs (streams : Streams) (taken : List ℕ → Type 0) (volume : 
   pub within : (status ≤ 4) × (status ≢ 2)
   pub made : status ≡ 0
       → (bytes : List ℕ)
-      × IsMade (blank_of volume.edition volume.blocks volume.list_blocks volume.uid volume.gid volume.now) bytes × taken bytes
+      × IsMade (blank_of volume) bytes × taken bytes
   pub quiet : status ≡ 0 → streams.said []
   pub told : status ≡ 1 → streams.said (mkfs_line_at (is_size volume.edition volume.blocks volume.list_blocks) 1)
   pub other : status ≢ 0 → status ≢ 1

@@ -17,7 +17,7 @@ use Rattle.clap.specs.declared.parser.matches.ArgMatches.TheViews.{out-ArgMatche
 use Rattle.clap.specs.declared.parser.matches.SubCommand.{SubCommand}
 use Rattle.vol_layout.specs.declared.edition.Edition.{Edition}
 use Rattle.vol_layout.specs.declared.edition.Edition.TheVariants.{V6, V7}
-use Rattle.vol_commands.specs.declared.making.NewVolume.{NewVolume}
+use Rattle.vol_volume.specs.declared.blank.NewVolume.{NewVolume}
 use Rattle.command_line.specs.Decimal.{IsNumberUpTo}
 use Rattle.command_line.specs.CommandLine.{Asks, AsksFor, AsksNothing, TellsOf, IsChange, IsEditionNamed, IsGiven, IsNewVolumeGiven, IsNoCat, IsNoCommand, IsNoEdition, IsNoMoment, IsNoNewVolume, IsNoValue, IsRead, IsRefused, command_name, given_by, given_in, word_or_empty}
 use Rattle.command_line.specs.Words.{AreEditions, app, command_in, command_shape, edition_rule, faults_of, named, program, unixvol_app, with_argument, with_command, word_rule}

@@ -14,7 +14,7 @@ use Rattle.command_line.specs.declared.Invocation.TheVariants.{Cat, Mkfs, OnVolu
 use Rattle.vol_commands.specs.declared.jobs.Job.{Job}
 use Rattle.vol_commands.specs.declared.jobs.Job.TheVariants as jobs
 use Rattle.command_line.specs.declared.VolumeFile.{VolumeFile}
-use Rattle.vol_commands.specs.declared.making.NewVolume.{NewVolume}
+use Rattle.vol_volume.specs.declared.blank.NewVolume.{NewVolume}
 
 -- the word names this edition (this project)
 abbrev pub IsEditionNamed : Edition → List ℕ → Type 0

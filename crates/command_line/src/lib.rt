@@ -9,8 +9,9 @@ ghost use Rattle.command_line.specs.Words.{app, changing, command_shape, printin
 use clap::error::ErrorKind;
 use clap::{ArgMatches, Command, Error};
 use std::alloc::{AllocError, Global};
-use vol_commands::{Job, NewVolume};
+use vol_commands::Job;
 use vol_layout::Edition;
+use vol_volume::NewVolume;
 
 pub mod decimal;
 pub mod laws;

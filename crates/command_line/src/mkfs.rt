@@ -7,7 +7,7 @@ use super::words::{IMAGE, NOW, Verb, edition_in, long_in, of_edition, required, 
 use super::{Invocation, texts};
 use clap::{ArgMatches, Command, Error};
 use std::alloc::{AllocError, Global};
-use vol_commands::NewVolume;
+use vol_volume::NewVolume;
 
 /// Names of the arguments, as the help shows them.
 const BLOCKS: &str = "FSIZE";

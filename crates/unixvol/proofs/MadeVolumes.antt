@@ -7,7 +7,7 @@ use Rattle.vol_commands.specs.Faults.{Gets}
 use Rattle.vol_commands.specs.Jobs.{Streams}
 use Rattle.vol_commands.specs.Making.{mkfs_line_at}
 use Rattle.vol_commands.specs.declared.making.Made.{Made}
-use Rattle.vol_commands.specs.declared.making.NewVolume.{NewVolume}
+use Rattle.vol_volume.specs.declared.blank.NewVolume.{NewVolume}
 use Rattle.unixvol.specs.Running.{IsStatusOfFileOrMemory, MadeSaved, RunsMkfs}
 
 -- the volume asked for was taken, where one was made and taken
@@ -37,7 +37,7 @@ told_at volume status known failed old new line is =
 
 -- what `mkfs` comes to, where what it made was saved or wasn't
 pub runs_by : (streams : Streams) (taken : List ℕ → Type 0) (volume : NewVolume) (made : Made) (status : ℕ)
-    → IfSome made.volume (λ blank. blank ≡ blank_of volume.edition volume.blocks volume.list_blocks volume.uid volume.gid volume.now)
+    → IfSome made.volume (λ blank. blank ≡ blank_of volume)
     → (made.status ≡ 0 ↔ IsSome made.volume)
     → (made.status ≡ 1 ↔ ((is_size volume.edition volume.blocks volume.list_blocks ≡ false) ⊎ (is_bad_id volume.edition volume.uid volume.gid ≡ true)))
     → (made.status ≢ 0 → made.status ≢ 1 → made.status ≡ 4) → Keeps streams.old streams.new → streams.failed ≡ streams.had_failed

@@ -21,7 +21,7 @@ use Rattle.command_line.specs.declared.Invocation.TheVariants as invocations
 use Rattle.vol_commands.specs.declared.jobs.Job.{Job}
 use Rattle.vol_commands.specs.declared.jobs.Job.TheVariants as jobs
 use Rattle.vol_commands.specs.declared.making.Made.{Made}
-use Rattle.vol_commands.specs.declared.making.NewVolume.{NewVolume}
+use Rattle.vol_volume.specs.declared.blank.NewVolume.{NewVolume}
 
 -- some file gave these bytes, which are all that it had left (std::io::Read)
 abbrev pub IsGiven : {F : Type 0} → (F → Option (List ℕ)) → List ℕ → Type 0
@@ -68,7 +68,7 @@ pub record RunsMkfs (streams : Streams) (taken : List ℕ → Type 0) (volume : 
   pub within : (status ≤ 4) × (status ≢ 2)
   pub made : status ≡ 0
       → (bytes : List ℕ)
-      × IsMade (blank_of volume.edition volume.blocks volume.list_blocks volume.uid volume.gid volume.now) bytes × taken bytes
+      × IsMade (blank_of volume) bytes × taken bytes
   pub quiet : status ≡ 0 → streams.said []
   pub told : status ≡ 1 → streams.said (mkfs_line_at (is_size volume.edition volume.blocks volume.list_blocks) 1)
   pub unsaved : status ≡ 3 → streams.said []

@@ -14,4 +14,4 @@ pub mod showing;
 pub use answer::Answer;
 pub use cat::CatFault;
 pub use jobs::{Job, do_job};
-pub use making::{Made, NewVolume, mkfs_command};
+pub use making::{Made, mkfs_command};

@@ -8,26 +8,7 @@ ghost use Rattle.vol_commands.specs.Making.{mkfs_status, mkfs_line, mkfs_line_at
 
 use pdp_words::{Sink, write_all};
 use std::alloc::Global;
-use vol_layout::Edition;
-use vol_volume::{BlankVolume, MkfsFault};
-
-/// The volume that is to be made: its sizes, in blocks of 512 bytes, the root's user and group, and the
-/// moment, in seconds since the beginning of 1970.
-#[derive(Clone, Copy, Debug, PartialEq, Eq)]
-pub struct NewVolume {
-    /// The edition of Unix.
-    pub edition: Edition,
-    /// All blocks of the volume.
-    pub blocks: u32,
-    /// The blocks of the i-list.
-    pub list_blocks: u16,
-    /// The root's user.
-    pub uid: u16,
-    /// The root's group.
-    pub gid: u16,
-    /// The time of the super-block and the root.
-    pub now: u32,
-}
+use vol_volume::{BlankVolume, MkfsFault, NewVolume};
 
 /// What `mkfs` comes to.
 #[derive(Drop)]
@@ -49,8 +30,7 @@ pub fn mkfs_command<O: Sink, E: Sink>(
     _output: &mut O,
     errors: &mut E,
 ) -> Made
-    ensures made { IfSome result.volume (λ blank. blank ≡ blank_of volume.edition volume.blocks volume.list_blocks
-        volume.uid volume.gid volume.now) }
+    ensures made { IfSome result.volume (λ blank. blank ≡ blank_of volume) }
     ensures done { result.status ≡ 0 ↔ IsSome result.volume }
     ensures refused { result.status ≡ 1 ↔ ((is_size volume.edition volume.blocks volume.list_blocks ≡ false)
         ⊎ (is_bad_id volume.edition volume.uid volume.gid ≡ true)) }
@@ -60,15 +40,7 @@ pub fn mkfs_command<O: Sink, E: Sink>(
     ensures unprinted { Keeps (O.contents _output.old) (O.contents _output.new) }
     ensures unused { O.failed _output.new ≡ O.failed _output.old }
 {
-    let NewVolume {
-        edition,
-        blocks,
-        list_blocks,
-        uid,
-        gid,
-        now,
-    } = volume;
-    match BlankVolume::new(alloc, edition, blocks, list_blocks, uid, gid, now) {
+    match BlankVolume::new(alloc, volume) {
         Ok(blank) => Made {
             status: 0,
             volume: Some(blank),

@@ -14,6 +14,7 @@ use Rattle.vol_volume.specs.Mkfs.{volume_of, root_inode, IsMakeable, IsNewVolume
 use Rattle.vol_layout.specs.declared.edition.Edition.{Edition}
 use Rattle.vol_layout.specs.declared.edition.Edition.TheVariants.{V6, V7}
 use Rattle.vol_layout.specs.declared.geometry.Geometry.{Geometry}
+use Rattle.vol_volume.specs.declared.blank.NewVolume.{NewVolume}
 
 -- a new volume as contracts see it: its sizes, the root's user and group, and the moment at which it is made (this project)
 pub record Blank : Type 0 where
@@ -23,9 +24,13 @@ pub record Blank : Type 0 where
   pub now : ℕ
 
 -- the volume that is asked for (this project)
-abbrev pub blank_of : Edition → ℕ → ℕ → ℕ → ℕ → ℕ → Blank
-blank_of edition blocks list_blocks uid gid now =
-    record { geometry = volume_of edition blocks list_blocks; uid = uid; gid = gid; now = now }
+abbrev pub blank_of : NewVolume → Blank
+blank_of volume = record {
+  geometry = volume_of volume.edition volume.blocks volume.list_blocks;
+  uid = volume.uid;
+  gid = volume.gid;
+  now = volume.now;
+}
 
 -- bytes are those of a new volume, which keeps all twelve rules (mkfs)
 pub record IsMade (blank : Blank) (bytes : List ℕ) : Type 0 where

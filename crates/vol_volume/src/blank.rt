@@ -14,6 +14,24 @@ use std::alloc::{AllocError, Global};
 use std::marker::Model;
 use vol_layout::{Edition, Geometry};
 
+/// The volume that is to be made: its sizes, in blocks of 512 bytes, the root's user and group, and the
+/// moment, in seconds since the beginning of 1970.
+#[derive(Clone, Copy, Debug, PartialEq, Eq)]
+pub struct NewVolume {
+    /// The edition of Unix.
+    pub edition: Edition,
+    /// All blocks of the volume.
+    pub blocks: u32,
+    /// The blocks of the i-list.
+    pub list_blocks: u16,
+    /// The root's user.
+    pub uid: u16,
+    /// The root's group.
+    pub gid: u16,
+    /// The time of the super-block and the root.
+    pub now: u32,
+}
+
 /// A new volume whose bytes aren't in memory: the root alone is on it, and all other data blocks are
 /// free. Only its blocks 0, 1 and 2 and the root's are kept; all others follow from its sizes.
 #[derive(Debug, Drop)]
@@ -33,26 +51,26 @@ impl Model for BlankVolume {
 }
 
 impl BlankVolume {
-    /// A new volume of `blocks` blocks of 512 bytes, of which `list_blocks` are the i-list. The root, a
-    /// directory with permissions 0777, belongs to `uid` and `gid`; all times are `now`, in seconds since
-    /// the beginning of 1970. `Bounds` comes before `BadId`, and `NoMemory` last.
+    /// The volume that is to be made, whose root has permissions 0777. `Bounds` comes before `BadId`, and
+    /// `NoMemory` last.
     ///
     /// Takes memory for four blocks.
-    pub fn new(
-        alloc: Global,
-        edition: Edition,
-        blocks: u32,
-        list_blocks: u16,
-        uid: u16,
-        gid: u16,
-        now: u32,
-    ) -> Result<BlankVolume, MkfsFault>
-        ensures blank { IfOk result (λ blank. blank ≡ blank_of edition blocks list_blocks uid gid now) }
-        ensures size { OnOk result (is_size edition blocks list_blocks ≡ true) }
-        ensures id { OnOk result (is_bad_id edition uid gid ≡ false) }
-        ensures bounds { IsErrOf result MkfsFault.Bounds ↔ (is_size edition blocks list_blocks ≡ false) }
-        ensures bad_id { IsErrOf result MkfsFault.BadId ↔ ((is_size edition blocks list_blocks ≡ true) × (is_bad_id edition uid gid ≡ true)) }
+    pub fn new(alloc: Global, volume: NewVolume) -> Result<BlankVolume, MkfsFault>
+        ensures blank { IfOk result (λ blank. blank ≡ blank_of volume) }
+        ensures size { OnOk result (is_size volume.edition volume.blocks volume.list_blocks ≡ true) }
+        ensures id { OnOk result (is_bad_id volume.edition volume.uid volume.gid ≡ false) }
+        ensures bounds { IsErrOf result MkfsFault.Bounds ↔ (is_size volume.edition volume.blocks volume.list_blocks ≡ false) }
+        ensures bad_id { IsErrOf result MkfsFault.BadId ↔ ((is_size volume.edition volume.blocks volume.list_blocks ≡ true)
+            × (is_bad_id volume.edition volume.uid volume.gid ≡ true)) }
     {
+        let NewVolume {
+            edition,
+            blocks,
+            list_blocks,
+            uid,
+            gid,
+            now,
+        } = volume;
         if !is_size(edition, blocks, list_blocks) {
             return Err(MkfsFault::Bounds);
         }

@@ -14,7 +14,7 @@ mod verdicts;
 pub mod volume;
 
 pub use asking::ask;
-pub use blank::BlankVolume;
+pub use blank::{BlankVolume, NewVolume};
 pub use bytes::Bytes;
 pub use calls::{Call, Done, Record};
 pub use making::{MkfsFault, mkfs};

@@ -3,7 +3,7 @@ ghost use Rattle.std.specs.Prelude.{◌≡◌, ◌↔◌, true, false, IfOk, OnO
 ghost use Rattle.vol_judge.specs.Sound.{IsSound};
 ghost use Rattle.vol_volume.specs.Mkfs.{is_size, is_bad_id, volume_of, IsMakeable, IsNewVolume};
 
-use crate::blank::BlankVolume;
+use crate::blank::{BlankVolume, NewVolume};
 use std::alloc::Global;
 use thiserror::Error;
 use vol_layout::{Edition, Geometry};
@@ -45,7 +45,15 @@ pub fn mkfs(
     ensures bounds { IsErrOf result MkfsFault.Bounds ↔ (is_size edition blocks list_blocks ≡ false) }
     ensures bad_id { IsErrOf result MkfsFault.BadId ↔ ((is_size edition blocks list_blocks ≡ true) × (is_bad_id edition uid gid ≡ true)) }
 {
-    let blank = BlankVolume::new(alloc, edition, blocks, list_blocks, uid, gid, now)?;
+    let volume = NewVolume {
+        edition,
+        blocks,
+        list_blocks,
+        uid,
+        gid,
+        now,
+    };
+    let blank = BlankVolume::new(alloc, volume)?;
     match blank.to_bytes(alloc) {
         Ok(bytes) => Ok(bytes),
         Err(_) => Err(MkfsFault::NoMemory),

@@ -12,7 +12,7 @@ use std::process::Abort;
 use std::test::Fail;
 use vol_free::give;
 use vol_layout::{Edition, Geometry, Super};
-use vol_volume::{BlankVolume, mkfs};
+use vol_volume::{BlankVolume, NewVolume, mkfs};
 
 /// The moment of the volumes.
 const NOW: u32 = 0x0A0B_0C0D;
@@ -61,7 +61,15 @@ fn blank(
     blocks: u32,
     list_blocks: u16,
 ) -> BlankVolume {
-    let made = BlankVolume::new(alloc, edition, blocks, list_blocks, 7, 9, NOW);
+    let volume = NewVolume {
+        edition,
+        blocks,
+        list_blocks,
+        uid: 7,
+        gid: 9,
+        now: NOW,
+    };
+    let made = BlankVolume::new(alloc, volume);
     made.expect(rt, "a blank volume")
 }
 

@@ -3,7 +3,8 @@ use command_line::decimal::{long_of, word_of};
 use command_line::{Invocation, VolumeFile, read};
 use std::alloc::{AllocError, Global};
 use std::process::Abort;
-use vol_commands::{Job, NewVolume};
+use vol_commands::Job;
+use vol_volume::NewVolume;
 use vol_layout::Edition;
 
 /// The volume of each row.

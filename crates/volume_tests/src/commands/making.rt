@@ -5,8 +5,9 @@ use pdp_words::testing::{ScriptedWriter, WriteMishap};
 use std::alloc::Global;
 use std::io::ErrorKind;
 use std::process::Abort;
-use vol_commands::{Made, NewVolume, mkfs_command};
+use vol_commands::{Made, mkfs_command};
 use vol_layout::Edition;
+use vol_volume::NewVolume;
 
 /// A volume of the sixth edition of twenty blocks.
 const TWENTY: NewVolume = NewVolume {

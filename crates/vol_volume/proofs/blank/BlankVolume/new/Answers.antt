@@ -8,4 +8,4 @@ fill-requires-clause-zeros c k = ap (λ xs. get_or xs k 0) (c.from_bytes-first.e
 
 pub invariant_of-result : goal.invariant_of-result
 invariant_of-result c =
-    blank_stands c.volume_of-geometry.result c.args.uid c.args.gid c.args.now c.fill.new.image c.volume_of-geometry.ensures.makeable c.fill.ensures
+    blank_stands c.volume_of-geometry.result c.args.volume.uid c.args.volume.gid c.args.volume.now c.fill.new.image c.volume_of-geometry.ensures.makeable c.fill.ensures

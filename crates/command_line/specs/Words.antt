@@ -6,6 +6,8 @@ use Rattle.clap.specs.Words.{App, Kinds, Row, Rule, Shape, app_of, fault_of, new
 use Rattle.clap.specs.declared.builder.arg.Arg.{Arg}
 use Rattle.clap.specs.declared.builder.command.Command.{Command}
 use Rattle.clap.specs.declared.builder.value_parser.ValueParser.TheVariants as parsers
+use Rattle.command_line.specs.declared.words.Verb.{Verb}
+use Rattle.command_line.specs.declared.words.Verb.TheVariants as verbs
 
 -- what a parse reads of an argument (clap's contract)
 unfoldable pub rule : Arg → Rule
@@ -38,6 +40,18 @@ named name = new_shape name
 -- a command with one more argument, the last (clap's contract)
 unfoldable pub with_argument : Shape → Rule → Shape
 with_argument command argument = record command { rules = command.rules ++ argument ∷ [] }
+
+-- the name of a command (this project)
+abbrev pub verb_name : Verb → List ℕ
+verb_name verbs.Cat = codes "cat"
+verb_name verbs.Ls = codes "ls"
+verb_name verbs.Get = codes "get"
+verb_name verbs.Mkfs = codes "mkfs"
+verb_name verbs.Put = codes "put"
+verb_name verbs.Rm = codes "rm"
+verb_name verbs.Rmdir = codes "rmdir"
+verb_name verbs.Mkdir = codes "mkdir"
+verb_name verbs.Ln = codes "ln"
 
 -- a command of this name, which takes an edition and then a word for each of these arguments (this project)
 unfoldable pub command_shape : Bor (List (Bor (List ℕ))) → List ℕ → List (List ℕ) → Shape

@@ -13,6 +13,7 @@ use vol_commands::Job;
 use vol_layout::Edition;
 use vol_volume::NewVolume;
 
+mod cat;
 pub mod decimal;
 pub mod laws;
 mod mkfs;
@@ -20,7 +21,7 @@ mod texts;
 mod volumes;
 mod words;
 
-use words::{EDITIONS, Verb, on_volume, required, word_in};
+use words::{EDITIONS, Verb};
 
 /// A volume in a file.
 #[derive(Clone, Copy, Debug, PartialEq, Eq)]
@@ -50,9 +51,6 @@ pub enum Invocation<'a> {
         job: Job<'a>,
     },
 }
-
-/// Name of an argument, as the help shows it.
-const INO: &str = "INO";
 
 /// Reads the words of the command line, of which the first is the program's own name. The error is
 /// clap's, with its text, its stream and its status: of the kind `ValueValidation` where a word is no value of its
@@ -95,17 +93,19 @@ fn read_command<'a>(
     ensures refused { IfErr result (TellsOf (IsNoValue name.now (given_in values.now))) }
     ensures missing { IfOk result (λ found. found ≡ None → IsNoCommand name.now) }
 {
-    let invocation = match name {
-        "cat" => read_cat(alloc, values)?,
-        "ls" => volumes::read_ls(alloc, values)?,
-        "get" => volumes::read_get(alloc, values)?,
-        "mkfs" => mkfs::read(alloc, values)?,
-        "put" => volumes::read_put(alloc, values)?,
-        "rm" => volumes::read_rm(alloc, values)?,
-        "rmdir" => volumes::read_rmdir(alloc, values)?,
-        "mkdir" => volumes::read_mkdir(alloc, values)?,
-        "ln" => volumes::read_ln(alloc, values)?,
-        _ => return Ok(None),
+    let Some(verb) = Verb::of(name) else {
+        return Ok(None);
+    };
+    let invocation = match verb {
+        Verb::Cat => cat::read(alloc, values)?,
+        Verb::Ls => volumes::read_ls(alloc, values)?,
+        Verb::Get => volumes::read_get(alloc, values)?,
+        Verb::Mkfs => mkfs::read(alloc, values)?,
+        Verb::Put => volumes::read_put(alloc, values)?,
+        Verb::Rm => volumes::read_rm(alloc, values)?,
+        Verb::Rmdir => volumes::read_rmdir(alloc, values)?,
+        Verb::Mkdir => volumes::read_mkdir(alloc, values)?,
+        Verb::Ln => volumes::read_ln(alloc, values)?,
     };
     Ok(Some(invocation))
 }
@@ -132,7 +132,7 @@ fn with_prints<'a>(
 ) -> Result<Command<'a>, AllocError>
     ensures { IfOk result (λ more. app more ≡ with_commands editions.entry (app command.entry) printing) }
 {
-    let command = with_one_more(command, cat_command(alloc, editions))?;
+    let command = with_one_more(command, cat::command(alloc, editions))?;
     let command = with_one_more(command, volumes::ls_command(alloc, editions))?;
     with_one_more(command, volumes::get_command(alloc, editions))
 }
@@ -161,38 +161,4 @@ fn with_one_more<'a>(
     ensures { IfOk result (λ more. IsOkAnd one.entry (λ made. AddsSubcommand command.entry made more)) }
 {
     command.subcommand(one?)
-}
-
-/// The command `cat`.
-fn cat_command<'a>(alloc: Global, editions: &'a [&'a str]) -> Result<Command<'a>, AllocError>
-    ensures { IfOk result (λ command. shape command ≡ command_shape editions.entry (codes "cat") (codes "IMAGE" ∷ codes "INO" ∷ [])) }
-{
-    on_volume(alloc, editions, "cat", texts::CAT_ABOUT, texts::CAT_MORE)?.arg(required(
-        alloc,
-        INO,
-        texts::INO,
-    ))
-}
-
-/// Reads the words of `cat`.
-#[tactic(auto, unfolding(crate::specs::CommandLine::IsNoCat))]
-fn read_cat<'a>(alloc: Global, values: &ArgMatches<'a>) -> Result<Invocation<'a>, Error>
-    ensures read { IfOk result (AsksFor (codes "cat") (given_in values.now)) }
-    ensures refused { IfErr result (TellsOf (IsNoCat (given_in values.now))) }
-{
-    let volume = volumes::volume_in(alloc, Verb::Cat, values)?;
-    let ino = word_in(alloc, Verb::Cat, values, INO)?;
-    Ok(Invocation::Cat { volume, ino })
-}
-
-/// The edition that a word names.
-fn edition_of(text: &str) -> Option<Edition>
-    ensures some { IfSome result (λ edition. IsEditionNamed edition text.now) }
-    ensures none { result ≡ None → IsNoEdition text.now }
-{
-    match text {
-        "6" => Some(Edition::V6),
-        "7" => Some(Edition::V7),
-        _ => None,
-    }
 }

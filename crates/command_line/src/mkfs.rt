@@ -34,10 +34,16 @@ fn with_sizes<'a>(alloc: Global, editions: &'a [&'a str]) -> Result<Command<'a>,
     ensures { IfOk result (λ command. shape command ≡ command_shape editions.entry (codes "mkfs")
         (codes "IMAGE" ∷ codes "FSIZE" ∷ codes "IBLOCKS" ∷ [])) }
 {
-    of_edition(alloc, editions, "mkfs", texts::MKFS_ABOUT, texts::MKFS_MORE)?
-        .arg(required(alloc, IMAGE, texts::NEW_IMAGE))?
-        .arg(required(alloc, BLOCKS, texts::BLOCKS))?
-        .arg(required(alloc, LIST_BLOCKS, texts::LIST_BLOCKS))
+    of_edition(
+        alloc,
+        editions,
+        Verb::Mkfs,
+        texts::MKFS_ABOUT,
+        texts::MKFS_MORE,
+    )?
+    .arg(required(alloc, IMAGE, texts::NEW_IMAGE))?
+    .arg(required(alloc, BLOCKS, texts::BLOCKS))?
+    .arg(required(alloc, LIST_BLOCKS, texts::LIST_BLOCKS))
 }
 
 /// Reads the words of `mkfs`.

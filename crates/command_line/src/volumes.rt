@@ -25,7 +25,7 @@ pub(super) fn ls_command<'a>(
 ) -> Result<Command<'a>, AllocError>
     ensures { IfOk result (λ command. shape command ≡ command_shape editions.entry (codes "ls") (codes "IMAGE" ∷ codes "PATH" ∷ [])) }
 {
-    on_volume(alloc, editions, "ls", texts::LS_ABOUT, texts::LS_MORE)?.arg(required(
+    on_volume(alloc, editions, Verb::Ls, texts::LS_ABOUT, texts::LS_MORE)?.arg(required(
         alloc,
         PATH,
         texts::DIRECTORY,
@@ -39,11 +39,14 @@ pub(super) fn get_command<'a>(
 ) -> Result<Command<'a>, AllocError>
     ensures { IfOk result (λ command. shape command ≡ command_shape editions.entry (codes "get") (codes "IMAGE" ∷ codes "PATH" ∷ [])) }
 {
-    on_volume(alloc, editions, "get", texts::GET_ABOUT, texts::GET_MORE)?.arg(required(
+    on_volume(
         alloc,
-        PATH,
-        texts::REGULAR,
-    ))
+        editions,
+        Verb::Get,
+        texts::GET_ABOUT,
+        texts::GET_MORE,
+    )?
+    .arg(required(alloc, PATH, texts::REGULAR))
 }
 
 /// The command `put`.
@@ -53,10 +56,16 @@ pub(super) fn put_command<'a>(
 ) -> Result<Command<'a>, AllocError>
     ensures { IfOk result (λ command. shape command ≡ command_shape editions.entry (codes "put") (codes "IMAGE" ∷ codes "PATH" ∷ codes "FILE" ∷ codes "NOW" ∷ [])) }
 {
-    on_volume(alloc, editions, "put", texts::PUT_ABOUT, texts::PUT_MORE)?
-        .arg(required(alloc, PATH, texts::REGULAR))?
-        .arg(required(alloc, FILE, texts::FILE))?
-        .arg(required(alloc, NOW, texts::CALL_NOW))
+    on_volume(
+        alloc,
+        editions,
+        Verb::Put,
+        texts::PUT_ABOUT,
+        texts::PUT_MORE,
+    )?
+    .arg(required(alloc, PATH, texts::REGULAR))?
+    .arg(required(alloc, FILE, texts::FILE))?
+    .arg(required(alloc, NOW, texts::CALL_NOW))
 }
 
 /// The command `rm`.
@@ -66,7 +75,7 @@ pub(super) fn rm_command<'a>(
 ) -> Result<Command<'a>, AllocError>
     ensures { IfOk result (λ command. shape command ≡ command_shape editions.entry (codes "rm") (codes "IMAGE" ∷ codes "PATH" ∷ codes "NOW" ∷ [])) }
 {
-    on_volume(alloc, editions, "rm", texts::RM_ABOUT, texts::RM_MORE)?
+    on_volume(alloc, editions, Verb::Rm, texts::RM_ABOUT, texts::RM_MORE)?
         .arg(required(alloc, PATH, texts::NAMED))?
         .arg(required(alloc, NOW, texts::CALL_NOW))
 }
@@ -81,7 +90,7 @@ pub(super) fn rmdir_command<'a>(
     on_volume(
         alloc,
         editions,
-        "rmdir",
+        Verb::Rmdir,
         texts::RMDIR_ABOUT,
         texts::RMDIR_MORE,
     )?
@@ -99,7 +108,7 @@ pub(super) fn mkdir_command<'a>(
     on_volume(
         alloc,
         editions,
-        "mkdir",
+        Verb::Mkdir,
         texts::MKDIR_ABOUT,
         texts::MKDIR_MORE,
     )?
@@ -114,7 +123,7 @@ pub(super) fn ln_command<'a>(
 ) -> Result<Command<'a>, AllocError>
     ensures { IfOk result (λ command. shape command ≡ command_shape editions.entry (codes "ln") (codes "IMAGE" ∷ codes "FROM" ∷ codes "TO" ∷ codes "NOW" ∷ [])) }
 {
-    on_volume(alloc, editions, "ln", texts::LN_ABOUT, texts::LN_MORE)?
+    on_volume(alloc, editions, Verb::Ln, texts::LN_ABOUT, texts::LN_MORE)?
         .arg(required(alloc, FROM, texts::NAMED))?
         .arg(required(alloc, TO, texts::NEW_NAME))?
         .arg(required(alloc, NOW, texts::CALL_NOW))

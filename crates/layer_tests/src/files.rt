@@ -119,12 +119,6 @@ fn found(rt: &impl Abort, image: &Image, geometry: &Geometry, i: u16, number: &N
     }
 }
 
-/// Bytes have these at a place.
-pub(crate) fn check_bytes(rt: &impl Abort, bytes: &[u8], place: usize, wanted: &[u8]) {
-    let found = bytes.get(place..place.saturating_add(wanted.len()));
-    assert_eq!(rt; found, Some(wanted), "from byte {place}");
-}
-
 /// Writes, if there are blocks enough; answers how many are needed.
 fn put(image: &mut Image, geometry: &Geometry, i: u16, offset: u32, text: &[u8]) -> u32
     requires file { IsFile geometry.now image.old i }

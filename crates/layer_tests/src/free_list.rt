@@ -4,7 +4,7 @@ ghost use Rattle.std.specs.Prelude.{◌≡◌, ℕ, ◌*◌, ◌≤◌, List, []
 ghost use Rattle.vol_layout.specs.Geometry.{Fits};
 ghost use Rattle.vol_free.specs.Stack.{IsIn, IsFree, HasStack};
 
-use crate::pieces::Piece;
+use crate::pieces::{Piece, check_bytes};
 use pdp_words::{BLOCK, Image};
 use std::alloc::{AllocError, Global};
 use std::process::Abort;
@@ -216,12 +216,6 @@ fn check_pieces(rt: &impl Abort, image: &Image, pieces: &[Piece]) {
     for (place, wanted) in pieces {
         check_bytes(rt, image.as_bytes(), *place, wanted);
     }
-}
-
-// Bytes have these at a place.
-fn check_bytes(rt: &impl Abort, bytes: &[u8], place: usize, wanted: &[u8]) {
-    let found = bytes.get(place..place.saturating_add(wanted.len()));
-    assert_eq!(rt; found, Some(wanted), "from byte {place}");
 }
 
 static ZEROS: [u8; BLOCK] = [0; BLOCK];

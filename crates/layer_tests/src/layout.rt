@@ -1,25 +1,15 @@
 ghost use Rattle.std.specs.Prelude.{◌≡◌, ◌≤◌, length};
 ghost use Rattle.vol_layout.specs.Geometry.{Fits};
 
+use crate::pieces::{check, check_whole};
 use pdp_words::Image;
 use std::alloc::Global;
-use std::fmt::Debug;
 use std::process::Abort;
 use vol_layout::i_list::{address, mode, size};
 use vol_layout::{
     Constants, Edition, Flag, Form, Geometry, GeometryFault, Inode, Kind, Mode, Slot, Super,
     clear_inode, inode, number, put_inode, put_number,
 };
-
-/// A value is the one that is wanted.
-fn check<T: PartialEq + Debug + Copy>(rt: &impl Abort, found: T, wanted: T, label: &str) {
-    assert_eq!(rt; found, wanted, "{label}");
-}
-
-/// Bytes are those that are wanted.
-fn check_bytes(rt: &impl Abort, found: &[u8], wanted: &[u8], label: &str) {
-    check(rt, found, wanted, label);
-}
 
 /// An image of zero bytes.
 fn zeros(rt: &impl Abort, alloc: Global, len: usize) -> Image
@@ -181,7 +171,7 @@ fn puts_the_super_block_of_the_sixth_edition(rt: HostRuntime) {
     block.put_flag(&mut image, Flag::ReadOnly, 20);
     block.put_time(&mut image, 0x1615_1817);
     let wanted = super_v6(&rt, rt.alloc());
-    check_bytes(&rt, image.as_bytes(), wanted.as_bytes(), "the bytes");
+    check_whole(&rt, image.as_bytes(), wanted.as_bytes(), "the bytes");
 }
 
 #[test]
@@ -204,7 +194,7 @@ fn puts_the_super_block_of_the_seventh_edition(rt: HostRuntime) {
     block.put_flag(&mut image, Flag::ReadOnly, 26);
     block.put_time(&mut image, 0x1C1B_1E1D);
     let wanted = super_v7(&rt, rt.alloc());
-    check_bytes(&rt, image.as_bytes(), wanted.as_bytes(), "the bytes");
+    check_whole(&rt, image.as_bytes(), wanted.as_bytes(), "the bytes");
 }
 
 #[test]
@@ -367,9 +357,9 @@ fn copy_node_v6(rt: &impl Abort, image: &mut Image) {
     let node = inode(image, &geometry, 2);
     put_inode(image, &geometry, 4, &node);
     let bytes = image.as_bytes();
-    check_bytes(rt, &bytes[1088..1120], &[0; 32], "i-node 3");
-    check_bytes(rt, &bytes[1120..1152], &NODE_V6, "i-node 4");
-    check_bytes(rt, &bytes[1152..1184], &[0; 32], "i-node 5");
+    check_whole(rt, &bytes[1088..1120], &[0; 32], "i-node 3");
+    check_whole(rt, &bytes[1120..1152], &NODE_V6, "i-node 4");
+    check_whole(rt, &bytes[1152..1184], &[0; 32], "i-node 5");
 }
 
 /// An i-node of the seventh edition, no two bytes of which are the same.
@@ -432,9 +422,9 @@ fn check_copy_v7(rt: &impl Abort, image: &mut Image) {
     check(rt, image.byte(1216 + 51), 0x5A, "the byte of no field");
     image.put_byte(1216 + 51, 52);
     let bytes = image.as_bytes();
-    check_bytes(rt, &bytes[1152..1216], &[0; 64], "i-node 3");
-    check_bytes(rt, &bytes[1216..1280], &NODE_V7, "i-node 4");
-    check_bytes(rt, &bytes[1280..1344], &[0; 64], "i-node 5");
+    check_whole(rt, &bytes[1152..1216], &[0; 64], "i-node 3");
+    check_whole(rt, &bytes[1216..1280], &NODE_V7, "i-node 4");
+    check_whole(rt, &bytes[1280..1344], &[0; 64], "i-node 5");
 }
 
 #[test]
@@ -444,9 +434,9 @@ fn clears_an_inode(rt: HostRuntime) {
     let geometry = geometry_of(&rt, Edition::V6, &image, 16);
     clear_inode(&mut image, &geometry, 2);
     let bytes = image.as_bytes();
-    check_bytes(&rt, &bytes[1024..1056], &[0xFF; 32], "i-node 1");
-    check_bytes(&rt, &bytes[1056..1088], &[0; 32], "i-node 2");
-    check_bytes(&rt, &bytes[1088..1120], &[0xFF; 32], "i-node 3");
+    check_whole(&rt, &bytes[1024..1056], &[0xFF; 32], "i-node 1");
+    check_whole(&rt, &bytes[1056..1088], &[0; 32], "i-node 2");
+    check_whole(&rt, &bytes[1088..1120], &[0xFF; 32], "i-node 3");
 }
 
 /// Modes of the sixth edition, and what an i-node with each is.
@@ -557,19 +547,19 @@ fn keeps_slots(rt: HostRuntime) {
 fn put_slots(rt: &impl Abort, bytes: &mut [u8; 48]) {
     Slot::new(1, b".").put(bytes, 0);
     Slot::new(0x0201, b"abcdefghijklmn").put(bytes, 16);
-    check_bytes(rt, &bytes[0..4], &[1, 0, b'.', 0], "a short name");
-    check_bytes(rt, &bytes[16..32], b"\x01\x02abcdefghijklmn", "a long name");
-    check_bytes(rt, &bytes[32..48], &[0; 16], "an empty slot");
+    check_whole(rt, &bytes[0..4], &[1, 0, b'.', 0], "a short name");
+    check_whole(rt, &bytes[16..32], b"\x01\x02abcdefghijklmn", "a long name");
+    check_whole(rt, &bytes[32..48], &[0; 16], "an empty slot");
 }
 
 /// Reads the second slot and the third.
 fn check_slots(rt: &impl Abort, bytes: &[u8; 48]) {
     let slot = Slot::read(bytes, 16);
     check(rt, slot.inode, 0x0201, "the i-number");
-    check_bytes(rt, slot.name(), b"abcdefghijklmn", "a long name");
+    check_whole(rt, slot.name(), b"abcdefghijklmn", "a long name");
     let mut cut = slot;
     cut.name = *b"ab\0defghijklmn";
-    check_bytes(rt, cut.name(), b"ab", "a name up to a zero byte");
+    check_whole(rt, cut.name(), b"ab", "a name up to a zero byte");
     let empty = Slot::read(bytes, 32);
     check(rt, empty, Slot::new(0, b""), "an empty slot");
 }
@@ -591,7 +581,7 @@ fn keeps_block_numbers_of_the_seventh_edition(rt: HostRuntime) {
     let mut image = zeros(&rt, rt.alloc(), 1024);
     put_number(&mut image, Edition::V7, 514, 49, 51);
     let bytes = &image.as_bytes()[710..714];
-    check_bytes(&rt, bytes, &[0, 0, 51, 0], "number 49");
+    check_whole(&rt, bytes, &[0, 0, 51, 0], "number 49");
     let last = number(&image, Edition::V7, 514, 49);
     check(&rt, last, 51, "number 49, read");
 }

@@ -2,7 +2,7 @@
 ghost use Rattle.std.specs.Prelude.{IfOk, IfSome};
 ghost use Rattle.vol_node.specs.Whole.{IsWhole};
 
-use crate::pieces::{SMALL_VOLUME, filled};
+use crate::pieces::{SMALL_VOLUME, check_bytes, filled};
 use pdp_words::Image;
 use std::alloc::{AllocError, Global};
 use std::process::Abort;
@@ -113,12 +113,6 @@ fn make_two(image: &mut Image, geometry: &Geometry) -> Option<(u16, u16)>
     Some((file, directory))
 }
 
-/// Compares the bytes from a place on.
-pub(crate) fn check_at(rt: &impl Abort, image: &Image, at: usize, wanted: &[u8]) {
-    let found = image.as_bytes().get(at..at.saturating_add(wanted.len()));
-    assert_eq!(rt; found, Some(wanted));
-}
-
 /// Compares the word at a place.
 fn check_word(rt: &impl Abort, image: &Image, at: usize, wanted: u16) {
     assert!(rt; at.saturating_add(1) < image.len());
@@ -133,6 +127,11 @@ fn nodes_are_made_and_freed(rt: HostRuntime) {
     // The i-number 32 lies in the cache again, behind the 27 that are left of its filling.
     check_word(&rt, &image, 718, 28);
     check_word(&rt, &image, 720 + 2 * 27, 32);
-    check_at(&rt, &image, 1024 + 32 * 31, &[0; 32]);
-    check_at(&rt, &image, 1984, b"\xED\xC1\x02\x03\x04\x00\x00\x00");
+    check_bytes(&rt, image.as_bytes(), 1024 + 32 * 31, &[0; 32]);
+    check_bytes(
+        &rt,
+        image.as_bytes(),
+        1984,
+        b"\xED\xC1\x02\x03\x04\x00\x00\x00",
+    );
 }

@@ -1,9 +1,10 @@
-//! Bytes and words that are put into zeros, and a small volume that is made so.
+//! Bytes and words that are put into zeros, a small volume that is made so, and what tests compare.
 ghost use Rattle.std.specs.Prelude.{◌≡◌, length};
 
 use pdp_words::Image;
 use pdp_words::words::{put_bytes, put_word};
 use std::alloc::Global;
+use std::fmt::Debug;
 use std::process::Abort;
 
 /// Bytes that stand at a place.
@@ -70,4 +71,25 @@ pub(crate) fn put_words(bytes: &mut [u8], words: &[Word])
             put_word(bytes, *at, *value);
         }
     }
+}
+
+/// Bytes have these at a place.
+pub(crate) fn check_bytes(rt: &impl Abort, bytes: &[u8], place: usize, wanted: &[u8]) {
+    let found = bytes.get(place..place.saturating_add(wanted.len()));
+    assert_eq!(rt; found, Some(wanted), "from byte {place}");
+}
+
+/// A value is the one that is wanted.
+pub(crate) fn check<T: PartialEq + Debug + Copy>(
+    rt: &impl Abort,
+    found: T,
+    wanted: T,
+    label: &str,
+) {
+    assert_eq!(rt; found, wanted, "{label}");
+}
+
+/// Bytes are these, from the first to the last.
+pub(crate) fn check_whole(rt: &impl Abort, found: &[u8], wanted: &[u8], label: &str) {
+    check(rt, found, wanted, label);
 }

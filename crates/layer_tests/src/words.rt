@@ -1,25 +1,16 @@
 // Worked values, and devices that go wrong at each of their calls.
 ghost use Rattle.std.specs.Prelude.{◌<◌};
 
+use crate::pieces::{check, check_whole};
 use pdp_words::testing::{ScriptedReader, ScriptedWriter, WriteMishap};
 use pdp_words::{
     BLOCK, FromRead, Image, IntoWrite, LoadFault, SaveFault, Sink, Source, load,
     load_with_capacity, save, words, write_all,
 };
 use std::alloc::Global;
-use std::fmt::{Debug, Display};
+use std::fmt::Display;
 use std::io::{ErrorKind, Write};
 use std::process::Abort;
-
-// A value is the one that is wanted.
-fn check<T: PartialEq + Debug + Copy>(rt: &impl Abort, found: T, wanted: T, label: &str) {
-    assert_eq!(rt; found, wanted, "{label}");
-}
-
-// Bytes are those that are wanted.
-fn check_bytes(rt: &impl Abort, found: &[u8], wanted: &[u8], label: &str) {
-    check(rt, found, wanted, label);
-}
 
 // The words that a value is shown as.
 fn text(rt: &impl Abort, alloc: Global, value: &impl Display) -> String {
@@ -40,7 +31,7 @@ fn sample(rt: &impl Abort, alloc: Global, len: usize) -> Vec<u8> {
 fn words_have_the_low_byte_first(rt: HostRuntime) {
     let mut bytes = [0xEE; 4];
     words::put_word(&mut bytes, 1, 0x0A0B);
-    check_bytes(&rt, &bytes, &[0xEE, 0x0B, 0x0A, 0xEE], "put");
+    check_whole(&rt, &bytes, &[0xEE, 0x0B, 0x0A, 0xEE], "put");
     check(&rt, words::word(&bytes, 1), 0x0A0B, "read");
 }
 
@@ -48,7 +39,7 @@ fn words_have_the_low_byte_first(rt: HostRuntime) {
 fn longs_have_the_high_word_first(rt: HostRuntime) {
     let mut bytes = [0xEE; 6];
     words::put_long(&mut bytes, 1, 0x0A0B_0C0D);
-    check_bytes(&rt, &bytes, &[0xEE, 0x0B, 0x0A, 0x0D, 0x0C, 0xEE], "put");
+    check_whole(&rt, &bytes, &[0xEE, 0x0B, 0x0A, 0x0D, 0x0C, 0xEE], "put");
     check(&rt, words::long(&bytes, 1), 0x0A0B_0C0D, "read");
 }
 
@@ -56,7 +47,7 @@ fn longs_have_the_high_word_first(rt: HostRuntime) {
 fn addresses_have_the_high_byte_first_and_then_a_word(rt: HostRuntime) {
     let mut bytes = [0xEE; 5];
     words::put_addr3(&mut bytes, 1, 0x0A_0B0C);
-    check_bytes(&rt, &bytes, &[0xEE, 0x0A, 0x0C, 0x0B, 0xEE], "put");
+    check_whole(&rt, &bytes, &[0xEE, 0x0A, 0x0C, 0x0B, 0xEE], "put");
     check(&rt, words::addr3(&bytes, 1), 0x0A_0B0C, "read");
 }
 
@@ -71,7 +62,7 @@ fn numbers_come_back_at_both_ends(rt: HostRuntime) {
 fn check_words(rt: &impl Abort, bytes: &mut [u8; 8]) {
     words::put_word(bytes, 0, 0xFFFE);
     words::put_word(bytes, 6, 1);
-    check_bytes(rt, bytes, &[0xFE, 0xFF, 0, 0, 0, 0, 1, 0], "words put");
+    check_whole(rt, bytes, &[0xFE, 0xFF, 0, 0, 0, 0, 1, 0], "words put");
     check(rt, words::word(bytes, 0), 0xFFFE, "the first word");
     check(rt, words::word(bytes, 6), 1, "the last word");
 }
@@ -79,7 +70,7 @@ fn check_words(rt: &impl Abort, bytes: &mut [u8; 8]) {
 fn check_longs(rt: &impl Abort, bytes: &mut [u8; 8]) {
     words::put_long(bytes, 0, 0xFFFF_FFFE);
     words::put_long(bytes, 4, 1);
-    check_bytes(
+    check_whole(
         rt,
         bytes,
         &[0xFF, 0xFF, 0xFE, 0xFF, 0, 0, 1, 0],
@@ -92,7 +83,7 @@ fn check_longs(rt: &impl Abort, bytes: &mut [u8; 8]) {
 fn check_addresses(rt: &impl Abort, bytes: &mut [u8; 8]) {
     words::put_addr3(bytes, 0, 0xFF_FFFE);
     words::put_addr3(bytes, 5, 1);
-    check_bytes(
+    check_whole(
         rt,
         bytes,
         &[0xFF, 0xFE, 0xFF, 0xFF, 0, 0, 1, 0],
@@ -107,9 +98,9 @@ fn bytes_are_put_and_cleared(rt: HostRuntime) {
     let mut bytes = [1, 2, 3, 4, 5, 6];
     words::put_byte(&mut bytes, 5, 9);
     words::put_bytes(&mut bytes, 0, &[7, 8]);
-    check_bytes(&rt, &bytes, &[7, 8, 3, 4, 5, 9], "put");
+    check_whole(&rt, &bytes, &[7, 8, 3, 4, 5, 9], "put");
     words::clear(&mut bytes, 1, 5);
-    check_bytes(&rt, &bytes, &[7, 0, 0, 0, 0, 9], "cleared");
+    check_whole(&rt, &bytes, &[7, 0, 0, 0, 0, 9], "cleared");
 }
 
 #[test]
@@ -135,7 +126,7 @@ fn images_put_and_give_back(rt: HostRuntime) {
 fn put_a_block(rt: &impl Abort, image: &mut Image) {
     assert!(rt; image.len() == 3 * BLOCK);
     image.put_block(1, &[0xEE; BLOCK]);
-    check_bytes(rt, image.block(1), &[0xEE; BLOCK], "the block");
+    check_whole(rt, image.block(1), &[0xEE; BLOCK], "the block");
     check(rt, image.byte(511), 9, "the byte before it");
     check(rt, image.byte(512), 0xEE, "its first byte");
     check(rt, image.byte(1023), 0xEE, "its last byte");
@@ -151,7 +142,7 @@ fn put_numbers(rt: &impl Abort, image: &mut Image) {
     image.put_addr3(519, 0x08_090A);
     image.put_bytes(522, &[11, 12]);
     let wanted = [1, 3, 2, 5, 4, 7, 6, 8, 10, 9, 11, 12, 0xEE];
-    check_bytes(rt, &image.as_bytes()[512..525], &wanted, "numbers");
+    check_whole(rt, &image.as_bytes()[512..525], &wanted, "numbers");
 }
 
 // The image gives those numbers back.
@@ -169,8 +160,8 @@ fn clear_the_rest(rt: &impl Abort, mut image: Image) {
     image.clear(513, 1024);
     let bytes = image.into_bytes();
     assert!(rt; bytes.len() == 3 * BLOCK);
-    check_bytes(rt, &bytes[511..515], &[9, 1, 0, 0], "where the zeros begin");
-    check_bytes(rt, &bytes[1022..1026], &[0, 0, 20, 21], "where they end");
+    check_whole(rt, &bytes[511..515], &[9, 1, 0, 0], "where the zeros begin");
+    check_whole(rt, &bytes[1022..1026], &[0, 0, 20, 21], "where they end");
 }
 
 // Bytes in the run that the devices below move.
@@ -225,7 +216,7 @@ fn check_whole_load(
 ) {
     let mut source = FromRead::new(reader);
     let image = load(alloc, &mut source).expect(rt, label);
-    check_bytes(rt, image.as_bytes(), bytes, label);
+    check_whole(rt, image.as_bytes(), bytes, label);
     check_source(rt, source, false, &[], label);
 }
 
@@ -238,7 +229,7 @@ fn check_source(
     label: &str,
 ) {
     check(rt, source.failed(), has_failed, label);
-    check_bytes(rt, source.into_inner().rest, left, label);
+    check_whole(rt, source.into_inner().rest, left, label);
 }
 
 #[test]
@@ -292,7 +283,7 @@ fn check_sink(
     label: &str,
 ) {
     check(rt, sink.failed(), has_failed, label);
-    check_bytes(rt, &sink.into_inner().taken, taken, label);
+    check_whole(rt, &sink.into_inner().taken, taken, label);
 }
 
 #[test]
@@ -308,7 +299,7 @@ fn check_interrupted_read(rt: &impl Abort, alloc: Global, bytes: &[u8], at: u64)
     let label = text(rt, alloc, &format_args!("read {at}"));
     let mut reader = ScriptedReader::new(bytes, 512).failing_at(at, ErrorKind::Interrupted);
     let image = load(alloc, &mut FromRead::new(&mut reader)).expect(rt, &label);
-    check_bytes(rt, image.as_bytes(), bytes, &label);
+    check_whole(rt, image.as_bytes(), bytes, &label);
     check(rt, reader.mishap.kind.is_none(), true, &label);
 }
 
@@ -319,7 +310,7 @@ fn check_interrupted_write(rt: &impl Abort, alloc: Global, bytes: &[u8], at: u64
     let result = write_all(&mut IntoWrite::new(&mut writer), bytes);
     check(rt, result, Ok(()), &label);
     writer.flush().expect(rt, &label);
-    check_bytes(rt, &writer.taken, bytes, &label);
+    check_whole(rt, &writer.taken, bytes, &label);
 }
 
 #[test]
@@ -335,7 +326,7 @@ fn check_read<const N: usize>(rt: &impl Abort, source: &mut impl Source, wanted:
     let mut bytes = [0; N];
     let count = source.read(&mut bytes).expect(rt, "a read");
     check(rt, count, N, "how many were read");
-    check_bytes(rt, &bytes, wanted, "what was read");
+    check_whole(rt, &bytes, wanted, "what was read");
 }
 
 #[test]
@@ -364,7 +355,7 @@ fn check_long_load(rt: &impl Abort, alloc: Global, bytes: &[u8], capacity: usize
     let label = text(rt, alloc, &format_args!("with room for {capacity}"));
     let mut source = FromRead::new(ScriptedReader::new(bytes, 65_536));
     let image = load_with_capacity(alloc, capacity, &mut source).expect(rt, &label);
-    check_bytes(rt, image.as_bytes(), bytes, &label);
+    check_whole(rt, image.as_bytes(), bytes, &label);
 }
 
 #[test]

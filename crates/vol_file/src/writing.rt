@@ -84,8 +84,8 @@ fn put_in_blocks(image: &mut Image, geometry: &Geometry, i: u16, offset: u32, te
 /// for each logical block in turn what is missing on its way, from the i-node down. The size grows
 /// where it must; a write of no bytes changes nothing.
 ///
-/// Costs a copy of `text`, and the way of each logical block that it touches, and of each between the
-/// old size and `offset`.
+/// Costs a copy of `text`, twice the way of each logical block that it touches, and once that of each
+/// between the old size and `offset`.
 pub fn write(image: &mut Image, geometry: &Geometry, i: u16, offset: u32, text: &[u8])
     requires file { IsFile geometry.now image.old i }
     requires sound { HasSoundFiles geometry.now image.old }

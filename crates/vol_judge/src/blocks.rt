@@ -2,7 +2,7 @@
 ghost use Rattle.std.specs.Prelude.{◌≡◌, ◌≢◌, ℕ, ◌<◌, ◌≤◌, true, false, length, slice_index, slice_index_or, IsTrue, ◌↔◌};
 
 /// Whether no block is both named and free. Reads each mark once. Takes no memory.
-pub fn are_apart(named: &[u8], free: &[bool]) -> bool
+pub(crate) fn are_apart(named: &[u8], free: &[bool]) -> bool
     requires { length free.now ≡ length named.now }
     ensures { IsTrue result ↔ ((k : ℕ) → slice_index named.now k ≢ 0 → slice_index_or free.now k false ≡ true → ⊥) }
 {
@@ -15,7 +15,7 @@ pub fn are_apart(named: &[u8], free: &[bool]) -> bool
 }
 
 /// Whether each block from `start` on is named or free. Reads each of their marks once. Takes no memory.
-pub fn are_covered(named: &[u8], free: &[bool], start: usize) -> bool
+pub(crate) fn are_covered(named: &[u8], free: &[bool], start: usize) -> bool
     requires { length free.now ≡ length named.now }
     ensures { IsTrue result ↔ ((k : ℕ) → start ≤ k → k < length named.now → slice_index named.now k ≡ 0
         → slice_index_or free.now k false ≡ true) }

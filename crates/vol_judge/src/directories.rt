@@ -23,7 +23,7 @@ use vol_layout::Geometry;
 /// Costs some looks at each i-node and at each slot of each directory, and for each directory as much as
 /// sorting its names. Memory is taken for a few bytes an i-number, and for the names of one directory at
 /// a time.
-pub fn judge_directories(
+pub(crate) fn judge_directories(
     alloc: Global,
     image: &Image,
     geometry: &Geometry,

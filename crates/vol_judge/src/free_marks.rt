@@ -29,7 +29,7 @@ enum Outcome {
 /// Whether rule 6 holds. Then the marks that are set are those of the free blocks; else some are set. There is
 /// a mark for each block below the end of the data zone, none of them set before. Reads the free list, and
 /// each block of it at most once. Takes no memory.
-pub fn mark_free(image: &Image, geometry: &Geometry, marks: &mut [bool]) -> bool
+pub(crate) fn mark_free(image: &Image, geometry: &Geometry, marks: &mut [bool]) -> bool
     requires fits { Fits geometry.now image.now }
     requires room { length marks.old ≡ geometry.now.zone_end }
     requires clear { (k : ℕ) → slice_index_or marks.old k false ≡ false }

@@ -13,7 +13,7 @@ use vol_layout::{Edition, Form, Geometry, Kind, inode};
 const SMALL_BYTES: u32 = 4096;
 
 /// Whether rule 3 holds. Reads the mode of each i-node. Takes no memory.
-pub fn has_kinds(image: &Image, geometry: &Geometry) -> bool
+pub(crate) fn has_kinds(image: &Image, geometry: &Geometry) -> bool
     requires { Fits geometry.now image.now }
     ensures { IsTrue result ↔ HasKinds geometry.now image.now }
 {
@@ -26,7 +26,7 @@ pub fn has_kinds(image: &Image, geometry: &Geometry) -> bool
 }
 
 /// Whether rule 4 holds. Reads each i-node. Takes no memory.
-pub fn has_sizes(image: &Image, geometry: &Geometry) -> bool
+pub(crate) fn has_sizes(image: &Image, geometry: &Geometry) -> bool
     requires { Fits geometry.now image.now }
     ensures { IsTrue result ↔ HasSizes geometry.now image.now }
 {

@@ -18,8 +18,9 @@ use vol_layout::{Edition, Geometry, GeometryFault};
 /// image may be any bytes. Where `free` is false, the free list is neither asked nor read: then rules 6 and
 /// 8 ask nothing, and rule 7 only of the places of files.
 ///
-/// The time grows with the image's blocks and the slots of its directories, whatever they hold, and the
-/// memory with its blocks and i-numbers: a few bytes for each. An error only where memory is refused.
+/// The time grows with the image's blocks and the slots of its directories, whatever they hold, and with
+/// sorting the names of each directory. The memory is a few bytes for each block and i-number, and the names
+/// of one directory at a time. An error only where memory is refused.
 pub fn judge(
     alloc: Global,
     edition: Edition,

@@ -19,7 +19,7 @@ use vol_layout::{Form, Geometry, number};
 
 /// What the places of all files name.
 #[derive(Clone, Copy, Debug, PartialEq, Eq)]
-pub enum Places {
+pub(crate) enum Places {
     /// A place names a number that is no data block's.
     OutOfZone,
     /// Each number is a data block's, and two places name the same one.
@@ -33,7 +33,7 @@ pub enum Places {
 ///
 /// Costs two reads of each i-node and at most four of each entry of the indirect blocks, however they
 /// lead to one another.
-pub fn mark_places(image: &Image, geometry: &Geometry, marks: &mut [u8]) -> Places
+pub(crate) fn mark_places(image: &Image, geometry: &Geometry, marks: &mut [u8]) -> Places
     requires fits { Fits geometry.now image.now }
     requires len { length marks.old ≡ geometry.now.zone_end }
     ensures { Finds geometry.now image.now marks.new result }

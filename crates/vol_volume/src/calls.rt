@@ -4,9 +4,14 @@ use vol_dir::Cred;
 
 /// A call, in the name of a user and at a moment in seconds, which becomes the time of the super-block
 /// and of what the call changes. Paths start at the root, whether or not they begin with a slash.
+///
+/// Each variant lists its refusals in their order. A walk is refused where it meets what is no directory
+/// (NotDirectory), a directory that doesn't grant execute (Access), or one that hasn't the name (NoEntry).
 #[derive(Debug, Drop)]
 pub enum Call {
-    /// Makes an empty regular file.
+    /// Makes an empty regular file. Refused: a path without component (Exists); the walk to the parent; a
+    /// name that is there (Exists); a parent that doesn't grant write (Access), or whose size is past the
+    /// greatest with the name (TooBig); where no i-number (NoInode) or too few blocks (NoSpace) are free.
     Create {
         /// Who calls; the file is theirs.
         cred: Cred,
@@ -17,7 +22,8 @@ pub enum Call {
         /// Its permission bits, of which those under octal 7777 count.
         perm: u16,
     },
-    /// Makes a directory that has `.` and `..` alone.
+    /// Makes a directory that has `.` and `..` alone. Refused: as Create, and between Access and
+    /// TooBig a parent whose links are at the limit (TooManyLinks).
     Mkdir {
         /// Who calls; the directory is theirs.
         cred: Cred,
@@ -28,7 +34,11 @@ pub enum Call {
         /// Its permission bits, of which those under octal 7777 count.
         perm: u16,
     },
-    /// Gives what is no directory a further name.
+    /// Gives what is no directory a further name. Refused: the walk of the source; a source that is a
+    /// directory (IsDirectory); a target without component (Exists); the walk to the target's parent; a name
+    /// that is there (Exists); a parent that doesn't grant write (Access); a source whose links are at the
+    /// limit (TooManyLinks); a parent whose size is past the greatest with the name (TooBig); where too few
+    /// blocks are free (NoSpace).
     Link {
         /// Who calls.
         cred: Cred,
@@ -39,7 +49,9 @@ pub enum Call {
         /// The path of the new name.
         target: Bytes,
     },
-    /// Takes a name away from what is no directory, which is freed with its last name.
+    /// Takes a name away from what is no directory, which is freed with its last name. Refused: a path without
+    /// component (IsDirectory); the walk to the parent; a name that isn't there (NoEntry); a parent that
+    /// doesn't grant write (Access); a directory (IsDirectory).
     Unlink {
         /// Who calls.
         cred: Cred,
@@ -48,7 +60,9 @@ pub enum Call {
         /// The path of the name.
         path: Bytes,
     },
-    /// Frees a directory that has `.` and `..` alone.
+    /// Frees a directory that has `.` and `..` alone. Refused: a path without component (Invalid); the walk to
+    /// the parent; the last name `.` or `..` (Invalid); a name that isn't there (NoEntry); a parent that
+    /// doesn't grant write (Access); what is no directory (NotDirectory), or has other names (NotEmpty).
     Rmdir {
         /// Who calls.
         cred: Cred,
@@ -58,6 +72,9 @@ pub enum Call {
         path: Bytes,
     },
     /// Writes bytes into a regular file, all or none. Bytes between its end and the offset become zeros.
+    /// Refused: the walk; a directory (IsDirectory); a special file (NotRegular); a file that doesn't grant
+    /// write (Access); an end of the bytes past the greatest size (TooBig); where too few blocks are free
+    /// (NoSpace).
     Write {
         /// Who calls.
         cred: Cred,
@@ -70,7 +87,8 @@ pub enum Call {
         /// The bytes. A write of none changes nothing but the super-block's time.
         bytes: Bytes,
     },
-    /// Makes a regular file empty.
+    /// Makes a regular file empty. Refused: the walk; a directory (IsDirectory); a special file (NotRegular);
+    /// a file that doesn't grant write (Access).
     Truncate {
         /// Who calls.
         cred: Cred,

@@ -156,16 +156,14 @@ impl Volume {
     /// was made. A call that is refused comes back, and changes nothing.
     ///
     /// The refusals are asked in this order. BadId: the numbers of the user or the group are above the
-    /// edition's. Invalid: a path has a zero byte. NotDirectory, Access, NoEntry: what the walks of the
-    /// paths meet. Then what is asked of the node, the parent and the last name: Exists, Access, NoEntry,
-    /// IsDirectory, NotDirectory, Invalid, NotEmpty, NotRegular, TooManyLinks, TooBig, NoInode, NoSpace, in
-    /// the order of the definition. NoMemory comes last, before the first byte changes, and only where the
-    /// journal has no room for one record more.
+    /// edition's. Invalid: a path has a zero byte. Then what the variant of [`Call`] lists, in that order.
+    /// NoMemory comes last, before the first byte changes, and only where the journal has no room for one
+    /// record more.
     ///
     /// Takes memory for the journal alone. Costs two walks of each path, searches of the last directory, and
     /// the change. A new entry costs one search for its name and three for its slot, an entry that goes
     /// three for its name, and a new node two searches of the i-list, where no cached i-number is free. A
-    /// write costs a copy of its bytes, three times the ways of their blocks, and once those of the blocks
+    /// write costs a copy of its bytes, four times the ways of their blocks, and once those of the blocks
     /// between the old size and the offset; what becomes free costs the places of the file, twice.
     pub fn call(&mut self, alloc: Global, call: Call) -> Result<Done, (Refusal, Call)>
         ensures accepted { IfOk result (λ done. Accepts self.old self.new call done) }

@@ -8,6 +8,7 @@ ghost use Rattle.vol_dir.specs.Editing.{HasNamesOnce};
 
 use self::Found::{IsEmpty, Name, NextPlace, Size};
 use self::Step::{At, Enter, TakeOut, Then};
+use crate::pieces::check_bytes;
 use crate::volumes::{SEVENTH, SIXTH, volume};
 use pdp_words::Image;
 use std::process::Abort;
@@ -92,7 +93,7 @@ fn check_step(rt: &impl Abort, image: &mut Image, step: &Step)
         Enter(name, i) => assert!(rt; enter(image, &SIXTH, 1, name, *i)),
         TakeOut(name) => take_out(image, &SIXTH, 1, name),
         Then(found) => check_found(rt, image, &SIXTH, 1, found),
-        At(at, wanted) => check_at(rt, image, *at, wanted),
+        At(at, wanted) => check_bytes(rt, image.as_bytes(), *at, wanted),
     }
 }
 
@@ -108,12 +109,6 @@ fn check_found(rt: &impl Abort, image: &Image, geometry: &Geometry, dir: u16, fo
         NextPlace(place) => assert_eq!(rt; place_for(image, geometry, dir), *place),
         IsEmpty(is_empty) => assert_eq!(rt; is_empty_dir(image, geometry, dir), *is_empty),
     }
-}
-
-/// Compares the bytes from a place on.
-fn check_at(rt: &impl Abort, image: &Image, at: usize, wanted: &[u8]) {
-    let found = image.as_bytes().get(at..at.saturating_add(wanted.len()));
-    assert_eq!(rt; found, Some(wanted));
 }
 
 static WITH_A_HOLE: [Found; 5] = [

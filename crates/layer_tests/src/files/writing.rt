@@ -5,7 +5,8 @@ ghost use Rattle.vol_layout.specs.Names.{IsFile};
 ghost use Rattle.vol_file.specs.Rules.{HasSoundFiles};
 
 use crate::files::Number::{self, Address, ModeBits, Size};
-use crate::files::{check_bytes, check_numbers, check_put, seventh, sixth};
+use crate::files::{check_numbers, check_put, seventh, sixth};
+use crate::pieces::check_bytes;
 use crate::volumes::{SEVENTH, SIXTH};
 use pdp_words::Image;
 use std::process::Abort;

@@ -7,8 +7,7 @@ ghost use Rattle.vol_dir.specs.Editing.{HasNamesOnce};
 ghost use Rattle.vol_dir.specs.Entries.{HasEntries};
 ghost use Rattle.vol_node.specs.Whole.{IsWhole};
 
-use crate::nodes::check_at;
-use crate::pieces::{Piece, filled};
+use crate::pieces::{Piece, check_bytes, filled};
 use pdp_words::Image;
 use std::alloc::{AllocError, Global};
 use std::process::Abort;
@@ -147,13 +146,23 @@ fn a_file_is_written_and_emptied(rt: HostRuntime) {
     let found = sound_geometry(rt.alloc(), &image).expect(&rt, "memory for the check");
     let geometry = found.expect(&rt, "a sound volume");
     assert!(rt; put(&mut image, &geometry, 2, 510, b"abc"));
-    check_at(&rt, &image, 1056, b"\xA4\x81\x01\0\0\0\x01\x02\x04\0\x05\0");
-    check_at(&rt, &image, 2558, b"abc");
+    check_bytes(
+        &rt,
+        image.as_bytes(),
+        1056,
+        b"\xA4\x81\x01\0\0\0\x01\x02\x04\0\x05\0",
+    );
+    check_bytes(&rt, image.as_bytes(), 2558, b"abc");
     assert_eq!(rt; free_count(&image, &geometry), 6);
     assert!(rt; put(&mut image, &geometry, 2, 0, b""));
     assert_eq!(rt; free_count(&image, &geometry), 6);
     assert!(rt; empty(&mut image, &geometry, 2));
-    check_at(&rt, &image, 1056, b"\xA4\x81\x01\0\0\0\0\0\0\0\0\0");
+    check_bytes(
+        &rt,
+        image.as_bytes(),
+        1056,
+        b"\xA4\x81\x01\0\0\0\0\0\0\0\0\0",
+    );
     assert_eq!(rt; free_count(&image, &geometry), 8);
 }
 
@@ -165,12 +174,17 @@ fn names_come_and_go(rt: HostRuntime) {
     assert!(rt; is_kind(&image, &geometry, 1, Kind::Directory));
     begin(&image, &geometry, 1);
     assert!(rt; enter(&mut image, &geometry, 1, b"link", 2));
-    check_at(&rt, &image, 1584, b"\x02\0link\0\0");
-    check_at(&rt, &image, 1024, b"\xED\xC1\x02\0\0\0\x40\0\x03\0");
+    check_bytes(&rt, image.as_bytes(), 1584, b"\x02\0link\0\0");
+    check_bytes(
+        &rt,
+        image.as_bytes(),
+        1024,
+        b"\xED\xC1\x02\0\0\0\x40\0\x03\0",
+    );
     assert!(rt; take_out(&mut image, &geometry, 1, b"file"));
-    check_at(&rt, &image, 1568, b"\0\0file");
+    check_bytes(&rt, image.as_bytes(), 1568, b"\0\0file");
     assert!(rt; enter(&mut image, &geometry, 1, b"new", 2));
-    check_at(&rt, &image, 1568, b"\x02\0new\0");
+    check_bytes(&rt, image.as_bytes(), 1568, b"\x02\0new\0");
     assert!(rt; 1031 < image.len());
     assert_eq!(rt; image.word(1030), 64);
 }

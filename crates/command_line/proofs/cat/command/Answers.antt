@@ -1,6 +1,6 @@
 use Rattle.command_line.specs.Words.{command_shape}
 use Rattle.command_line.proofs.Shapes.{adds_last}
-use Rattle.command_line.proofs.cat_command.Goals as goal
+use Rattle.command_line.proofs.cat.command.Goals as goal
 
 pub returns : goal.returns
 unfolding command_shape

@@ -1,4 +1,4 @@
-use Rattle.std.proofs.Common.{◌≡◌, rules, refl, sym, ◌∙◌}
+use Rattle.std.proofs.Common.{◌≡◌, rules, sym, ◌∙◌}
 use Rattle.std.proofs.lemmas.Result.{err_from_is_err_and}
 use Rattle.vol_dir.specs.Tree.{tree}
 use Rattle.vol_volume.proofs.AnsweredQueries.{list_refused, list_tested, list_unmade, list_replied}

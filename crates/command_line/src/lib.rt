@@ -1,10 +1,10 @@
 //! The words of the command line.
 #![tactic(auto)]
 
-ghost use Rattle.std.specs.Prelude.{◌≡◌, ◌∷◌, [], None, IfOk, IfErr, IfSome, IsOkAnd, codes, map, string_bytes};
+ghost use Rattle.std.specs.Prelude.{◌≡◌, None, IfOk, IfErr, IfSome, IsOkAnd, map, string_bytes};
 ghost use Rattle.clap.specs.Words.{AddsSubcommand, subcommand_rows_of};
-ghost use Rattle.command_line.specs.CommandLine.{Asks, AsksFor, AsksNothing, IsEditionNamed, IsNoCat, IsNoCommand, IsNoEdition, IsNoValue, IsRead, IsRefused, TellsOf, given_in};
-ghost use Rattle.command_line.specs.Words.{app, changing, command_shape, printing, shape, unixvol_app, with_commands};
+ghost use Rattle.command_line.specs.CommandLine.{Asks, AsksFor, AsksNothing, IsNoCommand, IsNoValue, IsRead, IsRefused, TellsOf, given_in};
+ghost use Rattle.command_line.specs.Words.{app, changing, printing, unixvol_app, with_commands};
 
 use clap::error::ErrorKind;
 use clap::{ArgMatches, Command, Error};

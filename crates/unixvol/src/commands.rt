@@ -31,6 +31,9 @@ const BAD_COMMAND_LINE: u8 = 2;
 /// The status where a file can't be read or written.
 const BAD_FILE: u8 = 3;
 
+/// The status where memory ran out.
+const NO_MEMORY: u8 = 4;
+
 /// What the line of a fault calls standard output.
 const STANDARD_OUTPUT: &str = "-";
 
@@ -264,12 +267,14 @@ fn explain_unwritten(rt: &impl Eprint, path: &str) -> u8
 fn explain_cat(rt: &impl Eprint, fault: CatFault, image: &str) -> u8
     ensures { result ≡ cat_status fault }
 {
-    // Where standard error can't be written either, the status tells.
-    let _ = match fault {
-        CatFault::Device => eprintln!(rt; "unixvol: cannot read {image}"),
-        _ => eprintln!(rt; "{fault}"),
-    };
-    fault.status()
+    match fault {
+        CatFault::Device => explain_unread(rt, image),
+        _ => {
+            // Where standard error can't be written either, the status tells.
+            let _ = eprintln!(rt; "{fault}");
+            fault.status()
+        }
+    }
 }
 
 /// Prints the text of a command line that asks for nothing that can be done, or the help that it
@@ -332,7 +337,6 @@ fn explain_words(rt: &impl Eprint, error: &io::Error) -> u8
 fn explain_no_memory(rt: &impl Eprint) -> u8
     ensures { result ≡ 4 }
 {
-    let fault = CatFault::NoMemory;
-    let _ = eprintln!(rt; "{fault}");
-    fault.status()
+    let _ = eprintln!(rt; "unixvol: 12 NoMemory");
+    NO_MEMORY
 }

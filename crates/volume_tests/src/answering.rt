@@ -1,13 +1,10 @@
 // Queries of worked volumes: their replies, and each refusal.
-use crate::fixtures::{put, with_numbers};
+use crate::fixtures::{NOW, Piece, put, with_numbers};
 use std::alloc::Global;
 use std::process::Abort;
 use vol_dir::{Cred, Refusal};
 use vol_layout::{Edition, Kind};
 use vol_volume::{Bytes, Query, Reply, Stat, Volume, mkfs};
-
-/// The moment of the worked volumes.
-const NOW: u32 = 0x0A0B_0C0D;
 
 /// The user who may do everything.
 const ROOT: Cred = Cred { uid: 0, gid: 0 };
@@ -40,7 +37,7 @@ fn volume_with_file(rt: &impl Abort, alloc: Global) -> Volume {
 }
 
 /// What the file puts into a new volume.
-static FILE: [(usize, &[u8]); 6] = [
+static FILE: [Piece; 6] = [
     // The top of the free list goes.
     (516, b"\x0F"),
     // The root's size, 48.

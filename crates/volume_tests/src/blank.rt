@@ -4,6 +4,7 @@ ghost use Rattle.pdp_words.specs.Words.{word};
 ghost use Rattle.vol_layout.specs.Geometry.{Fits};
 ghost use Rattle.vol_layout.specs.Super.{free_head};
 
+use crate::fixtures::NOW;
 use pdp_words::testing::{ScriptedWriter, WriteMishap};
 use pdp_words::{BLOCK, Image, IntoWrite};
 use std::alloc::Global;
@@ -13,9 +14,6 @@ use std::test::Fail;
 use vol_free::give;
 use vol_layout::{Edition, Geometry, Super};
 use vol_volume::{BlankVolume, NewVolume, mkfs};
-
-/// The moment of the volumes.
-const NOW: u32 = 0x0A0B_0C0D;
 
 /// Sizes around those at which an array of either edition is full, and a buffer.
 static SIZES: [(u32, u16); 12] = [

@@ -1,7 +1,13 @@
-//! What the tests of several modules put into bytes, and compare.
+//! What the tests of several modules put into bytes, and compare, and the moment of their volumes.
 use std::alloc::{AllocError, Global};
 use std::process::Abort;
 use vol_volume::Listing;
+
+/// Bytes that stand at a place.
+pub(crate) type Piece = (usize, &'static [u8]);
+
+/// The moment of the worked volumes, which stands on the disk as 0B 0A 0D 0C.
+pub(crate) const NOW: u32 = 0x0A0B_0C0D;
 
 /// Names, each with the low byte of its i-number behind it.
 pub(crate) fn with_numbers(alloc: Global, names: &Listing) -> Result<Vec<u8>, AllocError> {

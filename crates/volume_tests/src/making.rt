@@ -3,7 +3,7 @@ ghost use Rattle.std.specs.Prelude.{IfOk};
 ghost use Rattle.vol_layout.specs.Geometry.{Fits};
 ghost use Rattle.vol_free.specs.Stack.{HasStack};
 
-use crate::fixtures::{check_whole, put};
+use crate::fixtures::{NOW, Piece, check_whole, put};
 use pdp_words::Image;
 use std::alloc::Global;
 use std::process::Abort;
@@ -11,12 +11,6 @@ use std::test::Fail;
 use vol_free::{free_count, take, take_inode};
 use vol_layout::{Edition, Geometry, inode, put_inode};
 use vol_volume::{MkfsFault, mkfs};
-
-/// Bytes that stand at a place.
-type Piece = (usize, &'static [u8]);
-
-/// The moment of the worked volumes, which stands on the disk as 0B 0A 0D 0C.
-const NOW: u32 = 0x0A0B_0C0D;
 
 /// Twenty blocks of the sixth edition, two of them the i-list: what isn't zero.
 static SIXTH: [Piece; 7] = [

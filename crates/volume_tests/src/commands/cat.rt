@@ -1,7 +1,7 @@
 // `cat` from an image's bytes to the output's: volumes with one file, and devices that go wrong.
 ghost use Rattle.std.specs.Prelude.{◌<◌};
 
-use crate::fixtures::put;
+use crate::fixtures::{Piece, put};
 use pdp_words::testing::{ScriptedReader, ScriptedWriter, WriteMishap};
 use pdp_words::{FromRead, IntoWrite, Sink, Source};
 use std::alloc::Global;
@@ -11,18 +11,15 @@ use std::process::Abort;
 use vol_commands::cat::{CatFault, cat};
 use vol_layout::{Edition, GeometryFault};
 
-/// Bytes to be put at a place.
-type Edit = (usize, &'static [u8]);
-
 /// A volume of the sixth edition of five blocks: i-node 1 is a file of five bytes in block 3.
-static SIXTH: [Edit; 3] = [
+static SIXTH: [Piece; 3] = [
     (512, b"\x01\x00\x05\x00"),
     (1024, b"\xA4\x81\x01\x00\x00\x00\x05\x00\x03\x00"),
     (1536, b"hello"),
 ];
 
 /// A volume of the seventh edition of five blocks: i-node 2 is a file of five bytes in block 3.
-static SEVENTH: [Edit; 3] = [
+static SEVENTH: [Piece; 3] = [
     (512, b"\x03\x00\x00\x00\x05\x00"),
     (
         1088,
@@ -34,7 +31,7 @@ static SEVENTH: [Edit; 3] = [
 /// A volume of the sixth edition of ten blocks: i-node 1 is a large file of 1793 blocks. Block 3 names the
 /// blocks from logical block 0 on, block 4 those up to 1791, and block 5 is the double indirect block. Beside
 /// them stand numbers outside the zone.
-static SIXTH_LARGE: [Edit; 9] = [
+static SIXTH_LARGE: [Piece; 9] = [
     (512, b"\x01\x00\x0A\x00"),
     (
         1024,
@@ -50,11 +47,11 @@ static SIXTH_LARGE: [Edit; 9] = [
 ];
 
 /// Where the texts stand in its body.
-static SIXTH_TEXTS: [Edit; 3] = [(0, b"first"), (916_992, b"single"), (917_504, b"double")];
+static SIXTH_TEXTS: [Piece; 3] = [(0, b"first"), (916_992, b"single"), (917_504, b"double")];
 
 /// A volume of the seventh edition of ten blocks: i-node 2 is a file of 139 blocks. Block 3 is the indirect
 /// block, and block 4 the double indirect one. Beside them stand numbers outside the zone.
-static SEVENTH_LARGE: [Edit; 10] = [
+static SEVENTH_LARGE: [Piece; 10] = [
     (512, b"\x03\x00\x00\x00\x0A\x00"),
     (1088, b"\xA4\x81\x01\x00\x00\x00\x00\x00\x01\x00\x00\x16"),
     (1127, b"\x00\x09\x00\x00\x03\x00\x00\x04\x00"),
@@ -68,7 +65,7 @@ static SEVENTH_LARGE: [Edit; 10] = [
 ];
 
 /// Where the texts stand in its body.
-static SEVENTH_TEXTS: [Edit; 3] = [(5120, b"first"), (70_144, b"single"), (70_656, b"double")];
+static SEVENTH_TEXTS: [Piece; 3] = [(5120, b"first"), (70_144, b"single"), (70_656, b"double")];
 
 /// What `cat` is to do.
 #[derive(Clone, Copy)]
@@ -90,7 +87,7 @@ const RULE_2: Wanted = Wanted::Line("unixvol: unsound, rule 2", 1);
 const HELLO: Wanted = Wanted::Bytes("hello", 5);
 
 /// Files of the sixth edition: the i-number, bytes put into the volume, and what `cat` does.
-static SIXTH_ROWS: [(u16, Edit, Wanted); 20] = [
+static SIXTH_ROWS: [(u16, Piece, Wanted); 20] = [
     (1, (0, b""), HELLO),
     (16, (0, b""), NO_ENTRY),
     (17, (0, b""), NO_ENTRY),
@@ -114,7 +111,7 @@ static SIXTH_ROWS: [(u16, Edit, Wanted); 20] = [
 ];
 
 /// Files of the seventh edition.
-static SEVENTH_ROWS: [(u16, Edit, Wanted); 14] = [
+static SEVENTH_ROWS: [(u16, Piece, Wanted); 14] = [
     (2, (0, b""), HELLO),
     (1, (0, b""), NO_ENTRY),
     (8, (0, b""), NO_ENTRY),
@@ -147,8 +144,8 @@ fn check(
     rt: &impl Abort,
     alloc: Global,
     edition: Edition,
-    volume: &[Edit],
-    edit: Edit,
+    volume: &[Piece],
+    edit: Piece,
     ino: u16,
     wanted: Wanted,
 ) {
@@ -365,7 +362,7 @@ fn faults_have_their_line_and_status(rt: HostRuntime) {
 }
 
 /// The bytes of a volume of five blocks with an edit.
-fn image(rt: &impl Abort, alloc: Global, volume: &[Edit], edit: Edit) -> Vec<u8> {
+fn image(rt: &impl Abort, alloc: Global, volume: &[Piece], edit: Piece) -> Vec<u8> {
     let mut bytes = edited(rt, alloc, 2560, volume);
     let (at, new) = edit;
     put(&mut bytes, at, new);
@@ -373,7 +370,7 @@ fn image(rt: &impl Abort, alloc: Global, volume: &[Edit], edit: Edit) -> Vec<u8>
 }
 
 /// Zeros with edits.
-fn edited(rt: &impl Abort, alloc: Global, len: usize, edits: &[Edit]) -> Vec<u8> {
+fn edited(rt: &impl Abort, alloc: Global, len: usize, edits: &[Piece]) -> Vec<u8> {
     let mut bytes = vec![in alloc; 0; len].expect(rt, "memory for the bytes");
     for (at, new) in edits {
         put(&mut bytes, *at, new);

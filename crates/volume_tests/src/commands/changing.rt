@@ -1,5 +1,6 @@
 // `put`, `rm`, `rmdir`, `mkdir` and `ln` from a volume's bytes to those that are saved, their lines and their statuses.
-use super::worked::{self, NOW, Outcome, listed, printed};
+use super::worked::{self, Outcome, listed, printed};
+use crate::fixtures::NOW;
 use std::alloc::Global;
 use std::process::Abort;
 use vol_commands::changing::{ln, mkdir, put, rm, rmdir};

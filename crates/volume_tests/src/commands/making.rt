@@ -1,5 +1,5 @@
 // `mkfs` from its numbers to its bytes, its lines and its statuses, and writers that go wrong.
-use crate::fixtures::check_whole;
+use crate::fixtures::{NOW, check_whole};
 use pdp_words::IntoWrite;
 use pdp_words::testing::{ScriptedWriter, WriteMishap};
 use std::alloc::Global;
@@ -16,7 +16,7 @@ const TWENTY: NewVolume = NewVolume {
     list_blocks: 2,
     uid: 0,
     gid: 0,
-    now: 0x0A0B_0C0D,
+    now: NOW,
 };
 
 #[test]

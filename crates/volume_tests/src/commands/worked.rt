@@ -1,5 +1,5 @@
 //! A worked volume, and runs of commands on it.
-use crate::fixtures::{check_whole, put};
+use crate::fixtures::{NOW, Piece, check_whole, put};
 use pdp_words::IntoWrite;
 use pdp_words::testing::ScriptedWriter;
 use std::alloc::Global;
@@ -9,12 +9,9 @@ use vol_commands::showing::{get, ls};
 use vol_layout::Edition;
 use vol_volume::mkfs;
 
-/// The moment of the worked volume.
-pub(crate) const NOW: u32 = 0x0A0B_0C0D;
-
 /// What is put into a new volume of the sixth edition of twenty blocks. Its root then has a directory `d`
 /// (i-number 3), a file `hello` (2) and a special file `tty` (4).
-static PIECES: [(usize, &[u8]); 12] = [
+static PIECES: [Piece; 12] = [
     // Blocks 5 and 6 leave the free list.
     (516, b"\x0E"),
     // The root's links and size.

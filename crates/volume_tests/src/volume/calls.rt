@@ -4,7 +4,7 @@ ghost use Rattle.vol_volume.specs.Journal.{MayAnswer, MayFollow};
 ghost use Rattle.vol_volume.specs.Verdict.{is_free_number};
 ghost use Rattle.vol_volume.specs.Volume.{mounted, reads_as};
 
-use crate::fixtures::{check_whole, put};
+use crate::fixtures::{NOW, check_whole, put};
 use std::alloc::Global;
 use std::process::Abort;
 use vol_dir::{Cred, Refusal};
@@ -17,9 +17,6 @@ mod files;
 mod kept_bytes;
 mod refusals;
 mod replays;
-
-/// The moment at which the worked volumes are made.
-const NOW: u32 = 0x0A0B_0C0D;
 
 /// The moment of the calls, which stands on the disk as 02 01 04 03.
 const LATER: u32 = 0x0102_0304;

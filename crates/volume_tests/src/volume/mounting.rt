@@ -1,13 +1,11 @@
 // Worked volumes that are mounted, and those that aren't, by the least rule that they break.
+use crate::fixtures::NOW;
 use std::alloc::Global;
 use std::fmt::Display;
 use std::process::Abort;
 use std::test::Fail;
 use vol_layout::Edition;
 use vol_volume::{MountFault, Volume, mkfs};
-
-/// The moment of the worked volumes.
-const NOW: u32 = 0x0A0B_0C0D;
 
 #[test]
 fn a_new_volume_is_mounted_and_comes_back(rt: HostRuntime) {

@@ -1,15 +1,12 @@
 // Each of the twelve rules broken in both editions, beside images next to them that are sound; where two are broken
 // the lesser is named.
 use super::mounting::check_mount;
-use crate::fixtures::put;
+use crate::fixtures::{NOW, Piece, put};
 use pdp_words::Image;
 use std::alloc::Global;
 use std::process::Abort;
 use vol_layout::Edition;
 use vol_volume::{judge, mkfs};
-
-/// Bytes that are put at a place.
-type Piece = (usize, &'static [u8]);
 
 /// What is put into a new volume, and the least rule that it breaks then, where the free list is asked and where it isn't.
 struct Row {
@@ -355,7 +352,7 @@ fn check_rows(rt: &impl Abort, alloc: Global, edition: Edition, blocks: u32, row
 
 /// Judges and mounts the volume of a row, and compares what is answered.
 fn check_row(rt: &impl Abort, alloc: Global, edition: Edition, blocks: u32, row: &Row) {
-    let mut bytes = mkfs(alloc, edition, blocks, 2, 0, 0, 0x0A0B_0C0D).expect(rt, "a new volume");
+    let mut bytes = mkfs(alloc, edition, blocks, 2, 0, 0, NOW).expect(rt, "a new volume");
     for (at, piece) in row.pieces {
         put(&mut bytes, *at, piece);
     }

@@ -1,8 +1,8 @@
 // Bytes that no call changes.
 use super::Asked::{Create, Fill, Mkdir, Rmdir, Truncate, Unlink};
 use super::Step::{self, Call};
-use super::{NOW, check_bytes, check_run, copied, mount};
-use crate::fixtures::put;
+use super::{check_bytes, check_run, copied, mount};
+use crate::fixtures::{NOW, Piece, put};
 use std::alloc::Global;
 use std::process::Abort;
 use vol_layout::Edition;
@@ -19,7 +19,7 @@ static COMING_AND_GOING: [Step; 6] = [
 ];
 
 /// Bytes of ours in the first block, behind the super-block's time, and behind the last block.
-static OURS: [(usize, &[u8]); 3] = [
+static OURS: [Piece; 3] = [
     (0, &[0xA5; 512]),
     (930, &[0x5A; 94]),
     (51_200, b"\x01\x02\x03"),

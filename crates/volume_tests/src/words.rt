@@ -4,8 +4,8 @@ use command_line::{Invocation, VolumeFile, read};
 use std::alloc::{AllocError, Global};
 use std::process::Abort;
 use vol_commands::Job;
-use vol_volume::NewVolume;
 use vol_layout::Edition;
+use vol_volume::NewVolume;
 
 /// The volume of each row.
 const VOLUME: VolumeFile<'static> = VolumeFile {

@@ -2,8 +2,8 @@
 use Rattle.std.specs.Prelude.{ℕ, ◌==◌, Bool, if◌then◌else◌, List, [], codes}
 use Rattle.vol_commands.specs.Faults.{line_of_refusal}
 use Rattle.vol_dir.specs.declared.refusal.Refusal.TheVariants as refusals
-use Rattle.vol_volume.specs.declared.making.MkfsFault.{MkfsFault}
-use Rattle.vol_volume.specs.declared.making.MkfsFault.TheVariants.{Bounds, BadId, NoMemory}
+use Rattle.vol_volume.specs.declared.blank.MkfsFault.{MkfsFault}
+use Rattle.vol_volume.specs.declared.blank.MkfsFault.TheVariants.{Bounds, BadId, NoMemory}
 
 -- the status that the program ends with at a fault of `mkfs`: 1 for a refusal, 4 for memory (this project)
 abbrev pub mkfs_status : MkfsFault → ℕ

@@ -6,13 +6,17 @@ ghost use Rattle.vol_volume.specs.Mkfs.{is_size, is_bad_id};
 mod blocks;
 mod first;
 
-use crate::making::{MkfsFault, is_bad_id, is_size, volume_of};
+use crate::sizes::{is_bad_id, is_size, volume_of};
 use blocks::{gather, write_blocks};
 use first::{FIRST_BYTES, fill};
 use pdp_words::{BLOCK, Image, SaveFault, Sink};
 use std::alloc::{AllocError, Global};
 use std::marker::Model;
+use thiserror::Error;
 use vol_layout::{Edition, Geometry};
+
+/// How many blocks of a volume stand up to the first of the i-list.
+const FIRST_BLOCKS: u32 = 3;
 
 /// The volume that is to be made: its sizes, in blocks of 512 bytes, the root's user and group, and the
 /// moment, in seconds since the beginning of 1970.
@@ -30,6 +34,21 @@ pub struct NewVolume {
     pub gid: u16,
     /// The time of the super-block and the root.
     pub now: u32,
+}
+
+/// Why no volume was made.
+#[derive(Clone, Copy, Debug, PartialEq, Eq, Error)]
+pub enum MkfsFault {
+    /// The sizes aren't those of a volume: rule 2 would fail, or a sixth edition volume would have more
+    /// than 65,535 blocks.
+    #[error("bounds")]
+    Bounds,
+    /// The user or group number is above 255 in the sixth edition, or 32,767 in the seventh.
+    #[error("104 BadId")]
+    BadId,
+    /// An allocation was refused.
+    #[error("12 NoMemory")]
+    NoMemory,
 }
 
 /// A new volume whose bytes aren't in memory: the root alone is on it, and all other data blocks are

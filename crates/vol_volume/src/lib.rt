@@ -10,14 +10,15 @@ pub mod laws;
 pub mod making;
 mod performing;
 pub mod queries;
+mod sizes;
 mod verdicts;
 pub mod volume;
 
 pub use asking::ask;
-pub use blank::{BlankVolume, NewVolume};
+pub use blank::{BlankVolume, MkfsFault, NewVolume};
 pub use bytes::Bytes;
 pub use calls::{Call, Done, Record};
-pub use making::{MkfsFault, mkfs};
+pub use making::mkfs;
 pub use queries::{Listing, Query, Reply, Stat};
 pub use vol_judge::judge;
 pub use volume::{MountFault, Volume};

@@ -7,7 +7,7 @@ ghost use Rattle.vol_layout.specs.Edition.{constants, number};
 ghost use Rattle.vol_volume.specs.Blank.{listed, HasHead, is_chain, first_chain, block_byte, volume_byte, volume_bytes};
 ghost use Rattle.vol_volume.specs.Mkfs.{IsMakeable};
 
-use crate::blank::first::FIRST_BLOCKS;
+use crate::blank::FIRST_BLOCKS;
 use pdp_words::{BLOCK, Image, SaveFault, Sink, words, write_all};
 use vol_layout::{Edition, Geometry};
 

@@ -10,17 +10,15 @@ ghost use Rattle.vol_layout.specs.Super.{free_head, time_place};
 ghost use Rattle.vol_volume.specs.Blank.{HasHead, first_chain, IsFirst};
 ghost use Rattle.vol_volume.specs.Mkfs.{is_bad_id, root_inode, IsMakeable};
 
+use crate::blank::FIRST_BLOCKS;
 use crate::blank::blocks::{first_chain, put_free_head};
-use crate::making::volume_of;
+use crate::sizes::volume_of;
 use pdp_words::{BLOCK, Image};
 use vol_layout::slot::SLOT;
 use vol_layout::super_block::HEAD_BYTES;
 use vol_layout::{Edition, Geometry, Inode, Mode, Slot, Super, put_inode};
 
-/// How many blocks of a volume stand up to the first of the i-list.
-pub const FIRST_BLOCKS: u32 = 3;
-
-/// Where the root's block stands behind them: at its place in the least volume, of four blocks.
+/// Where the root's block stands behind the first blocks: at its place in the least volume, of four blocks.
 const ROOT_PLACE: usize = FIRST_BLOCKS as usize * BLOCK;
 
 /// Bytes of these blocks.

@@ -15,7 +15,7 @@ ghost use Rattle.vol_volume.specs.Standing.{Stands};
 ghost use Rattle.vol_volume.specs.Verdict.{has_others, is_device, has_free_number, is_too_great, is_full, is_above_free, of_parent};
 ghost use Rattle.vol_change.specs.Ready.{entry_need};
 
-use crate::making::is_bad_id;
+use crate::sizes::is_bad_id;
 use pdp_words::Image;
 use vol_dir::{Access, Cred, Refusal, find, grants, is_empty_dir, place_for, walk_parent};
 use vol_file::need;

@@ -1,3 +1,4 @@
+pub mod Concluded
 pub mod Lines
 pub mod Reasons
 pub mod Replies

@@ -1,6 +1,7 @@
-use Rattle.std.proofs.Common.{rules, [], ◌∷◌}
+use Rattle.std.proofs.Common.{[], ◌∷◌}
 use Rattle.vol_volume.specs.declared.calls.Call.TheVariants as calls
 use Rattle.vol_commands.specs.Faults.{user}
+use Rattle.vol_commands.proofs.Concluded.{concluded}
 use Rattle.vol_commands.proofs.Reasons.{outcome_ruled}
 use Rattle.vol_commands.proofs.changing.rmdir.Goals as goal
 
@@ -8,4 +9,5 @@ pub conclude-requires : goal.conclude-requires
 conclude-requires g c = outcome_ruled _ _ (calls.Rmdir user c.args.now c.args.path.now ∷ []) _ (c.change.ensures.fault (calls.Rmdir user c.args.now c.args.path.now) c.rmdir_call-call.ensures)
 
 pub returns-clause-changed : goal.returns-clause-changed
-returns-clause-changed g c = search (rules, c.change.ensures.made (calls.Rmdir user c.args.now c.args.path.now) c.rmdir_call-call.ensures, c.change.ensures.fault (calls.Rmdir user c.args.now c.args.path.now) c.rmdir_call-call.ensures)
+returns-clause-changed g c =
+    concluded _ _ _ _ _ _ (c.change.ensures.made (calls.Rmdir user c.args.now c.args.path.now) c.rmdir_call-call.ensures) (c.change.ensures.fault (calls.Rmdir user c.args.now c.args.path.now) c.rmdir_call-call.ensures) c.conclude.ensures.made c.conclude.ensures.fault

@@ -9,6 +9,7 @@ use Rattle.vol_volume.specs.Blank.{blank_of, IsMade}
 use Rattle.vol_volume.specs.Mkfs.{is_size, is_bad_id}
 use Rattle.pdp_words.specs.Devices.{IsReadWhole}
 use Rattle.vol_commands.specs.Cat.{Shows, IsNoWriters, cat_status, file_of}
+use Rattle.vol_commands.specs.Faults.{Gets}
 use Rattle.vol_commands.specs.Jobs.{Streams, Does}
 use Rattle.vol_commands.specs.Making.{mkfs_line_at}
 use Rattle.vol_layout.specs.declared.edition.Edition.{Edition}
@@ -116,3 +117,16 @@ pub record Ends (streams : Streams) (status : ℕ) : Type 0 where
   pub within : status ≤ 4
   pub silent : status ≢ 0 → status ≢ 3 → Keeps streams.old streams.new
   pub whole : status ≡ 0 → (streams.failed ≡ streams.had_failed) × streams.said []
+
+-- the program runs: on some words, or these can't be had, and nothing is told (this project)
+abbrev pub RunsSome : Streams → (List ℕ → Type 0) → (List ℕ → Type 0) → ℕ → Type 0
+RunsSome streams given taken status = ((words : List (List ℕ)) × RunsWords streams given taken status words)
+    ⊎ (((status ≡ 2) ⊎ (status ≡ 4)) × streams.said [])
+
+-- the program runs to its end, from what its two streams hold: there is what they come to hold, whether they fail, and the status of the run, and that is the status at the end, or 3 in place of 0 (this project)
+abbrev pub RunsToEnd : (List ℕ → Type 0) → (List ℕ → Type 0) → Option (List ℕ) → Option (List ℕ) → ℕ → Type 0
+RunsToEnd given taken output errors end =
+    (new : Option (List ℕ)) × (failed : Bool) × (told : Option (List ℕ)) × (untold : Bool) × (status : ℕ)
+    × RunsSome (record { old = output; new = new; had_failed = false; failed = failed; said = Gets untold errors told }) given taken status
+    × Ends (record { old = output; new = new; had_failed = false; failed = failed; said = Gets untold errors told }) status
+    × ((end ≡ status) ⊎ ((status ≡ 0) × (end ≡ 3)))

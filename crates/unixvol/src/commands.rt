@@ -2,22 +2,24 @@
 ghost use Rattle.std.specs.Prelude.{◌≡◌, ◌≢◌, ◌⊎◌, [], ◌≤◌, false, true, ℕ, List, IfErr, IfOk, IsErrAnd, OnOk, map, string_bytes};
 ghost use Rattle.std.specs.Io.KnownBytes.{Keeps};
 ghost use Rattle.std.specs.IoError.{error_kind};
+ghost use Rattle.std.specs.Process.{exit_status};
 ghost use Rattle.std.specs.declared.io.ErrorKind.TheVariants as io_kinds;
 ghost use Rattle.clap.specs.Words.{kind_of};
 ghost use Rattle.clap.specs.declared.error.kind.ErrorKind.TheVariants as clap_kinds;
 ghost use Rattle.vol_commands.specs.Cat.{IsNoWriters, cat_status};
 ghost use Rattle.vol_commands.specs.Faults.{Gets};
 ghost use Rattle.vol_commands.specs.declared.cat.CatFault.TheVariants as faults;
-ghost use Rattle.unixvol.specs.Running.{IsGiven, IsGivenFor, IsStatusOfFileOrMemory, CatsGiven, EndsSaved, MadeSaved, PrintsBody, RunsJob, Runs, RunsWords, Ends};
+ghost use Rattle.unixvol.specs.Running.{IsGiven, IsGivenFor, IsStatusOfFileOrMemory, CatsGiven, EndsSaved, MadeSaved, PrintsBody, RunsJob, Runs, RunsWords, RunsSome, RunsToEnd, Ends};
 ghost use Rattle.unixvol.specs.Saving.{IsTaken, Saves};
 
 use crate::saving_file::{Content, save_file};
 use clap::error::ErrorKind;
 use command_line::{Invocation, VolumeFile};
-use pdp_words::{FromRead, LoadFault, Sink, load, write_all};
+use pdp_words::{FromRead, IntoWrite, LoadFault, Sink, load, write_all};
 use std::env::{self, Env};
 use std::fs::{self, Files};
 use std::io::{self, Write};
+use std::process::ExitCode;
 use vol_commands::cat::cat;
 use vol_commands::{Answer, CatFault, Job, Made, do_job, mkfs_command};
 use vol_layout::Edition;
@@ -37,22 +39,35 @@ const NO_MEMORY: u8 = 4;
 /// What the line of a fault calls standard output.
 const STANDARD_OUTPUT: &str = "-";
 
-/// Does what the command line asks for, and answers the status to end with, if [`finish`] goes well. What it
-/// prints goes to `output`, which is standard output; a fault is one line on standard error, or clap's text.
-/// `errors` writes to standard error too.
-pub fn run<R: Env + Files + Eprint + AllocGlobal, O: Sink, E: Sink>(
+/// Does what the command line asks for, and answers how the program ends. What it prints goes to `output`,
+/// which is standard output; a fault is one line on standard error, or clap's text. `errors` writes to
+/// standard error too.
+pub fn run_to_end<R: Env + Files + Eprint + AllocGlobal, O: Write + Drop, E: Write + Drop>(
+    rt: &R,
+    output: O,
+    errors: E,
+) -> ExitCode
+    ensures { RunsToEnd (IsGiven R.File.remaining) (IsTaken R.File.contents) (O.contents output) (E.contents errors) (exit_status result) }
+{
+    let mut output = IntoWrite::new(output);
+    let mut errors = IntoWrite::new(errors);
+    let status = run(rt, &mut output, &mut errors);
+    ExitCode::from(finish(rt, output.into_inner(), status))
+}
+
+/// Does what the command line asks for, and answers the status to end with, if [`finish`] goes well.
+fn run<R: Env + Files + Eprint + AllocGlobal, O: Sink, E: Sink>(
     rt: &R,
     output: &mut O,
     errors: &mut E,
 ) -> u8
-    ensures runs { ((words : List (List ℕ)) × RunsWords (record {
+    ensures runs { RunsSome (record {
       old = O.contents output.old;
       new = O.contents output.new;
       had_failed = O.failed output.old;
       failed = O.failed output.new;
       said = Gets (E.failed errors.new) (E.contents errors.old) (E.contents errors.new);
-    }) (IsGiven R.File.remaining) (IsTaken R.File.contents) result words) ⊎ (((result ≡ 2) ⊎ (result ≡ 4))
-        × Gets (E.failed errors.new) (E.contents errors.old) (E.contents errors.new) []) }
+    }) (IsGiven R.File.remaining) (IsTaken R.File.contents) result }
     ensures ends { Ends (record {
       old = O.contents output.old;
       new = O.contents output.new;
@@ -311,7 +326,7 @@ fn explain_command_line<R: Eprint + AllocGlobal, O: Sink>(
 }
 
 /// Sees to what standard output may have kept back, and answers the status of a run that would end with `status`.
-pub fn finish<W: Write + Drop>(rt: &impl Eprint, mut output: W, status: u8) -> u8
+fn finish<W: Write + Drop>(rt: &impl Eprint, mut output: W, status: u8) -> u8
     ensures { (result ≡ status) ⊎ ((status ≡ 0) × (result ≡ 3)) }
 {
     if status == DONE && output.flush().is_err() {

@@ -24,6 +24,7 @@ pub mod Sizing
 pub mod Soundness
 pub mod Splicing
 pub mod Stores
+pub mod Subtrees
 pub mod Taking
 pub mod Truncated
 pub mod Whole

@@ -1,5 +1,6 @@
 pub mod Changes
 pub mod Clears
+pub mod Holes
 pub mod Laws
 pub mod Missing
 pub mod Need

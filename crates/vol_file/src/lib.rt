@@ -2,6 +2,7 @@
 #![tactic(auto)]
 
 pub mod block_map;
+pub mod holes;
 pub mod laws;
 pub mod needing;
 mod pieces;
@@ -11,6 +12,7 @@ mod ways;
 pub mod writing;
 
 pub use block_map::block_at;
+pub use holes::next_block;
 pub use needing::need;
 pub use reading::read;
 pub use truncating::truncate;

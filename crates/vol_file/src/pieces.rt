@@ -6,6 +6,7 @@ ghost use Rattle.vol_file.specs.Rules.{IsSoundWith, HasSoundFiles};
 ghost use Rattle.vol_file.specs.Steps.{Rewrites, text_at, zeros_at};
 
 use crate::block_map::number_at;
+use crate::holes::next_stored;
 use pdp_words::{BLOCK, Image};
 use vol_layout::{Form, Geometry};
 
@@ -70,6 +71,9 @@ pub(crate) fn put_text(
 }
 
 /// Makes the bytes of file `i` from byte `from` up to `to` zero; holes stay.
+///
+/// Costs what [`next_block`](crate::next_block) does for each logical block that is named there: time follows the
+/// blocks of the file, and not how far apart `from` and `to` are.
 pub(crate) fn clear_between(
     image: &mut Image,
     geometry: &Geometry,
@@ -85,11 +89,14 @@ pub(crate) fn clear_between(
     ensures { (blocks : List ℕ) → IsSoundWith geometry.now image.old blocks
         → Rewrites geometry.now image.old image.new i from to zeros_at blocks }
 {
-    let mut at = from as usize;
     let end = to as usize;
+    let mut at = from as usize;
     while at < end {
-        let count = (BLOCK - at % BLOCK).min(end - at);
-        clear_piece(image, geometry, i, form, at, count);
-        at += count;
+        let first = (at / BLOCK) as u32;
+        let b = next_stored(image, geometry, i, form, first, end.div_ceil(BLOCK) as u32);
+        let start = (BLOCK * b as usize).clamp(at, end);
+        let count = (BLOCK - start % BLOCK).min(end - start);
+        clear_piece(image, geometry, i, form, start, count);
+        at = start + count;
     }
 }

@@ -1,0 +1,99 @@
+//! Going over the logical blocks of a file without its holes.
+ghost use Rattle.std.specs.Prelude.{◌≡◌, ℕ, ◌-◌, ◌^◌, ◌<◌, ◌≤◌, slice_index};
+ghost use Rattle.vol_layout.specs.Edition.{constants};
+ghost use Rattle.vol_layout.specs.Geometry.{Fits};
+ghost use Rattle.vol_layout.specs.Names.{form_at, stored};
+ghost use Rattle.vol_layout.specs.Places.{end_of};
+ghost use Rattle.vol_file.specs.Holes.{IsHole, IsNextStored, blocks_left};
+
+use crate::block_map::entry;
+use pdp_words::Image;
+use vol_layout::i_list::{address, mode};
+use vol_layout::{Form, Geometry, Way};
+
+/// The first logical block of i-node `i`, from 1 to the last, from block `from` up to `end`, for which the
+/// block map has a number, which may be outside the data zone; `end` where there is none.
+///
+/// Costs the way of that block, and one way for each pointer that is passed because it names no data block:
+/// whatever lies below it is passed as a whole, however many logical blocks that is.
+pub fn next_block(image: &Image, geometry: &Geometry, i: u16, from: u32, end: u32) -> u32
+    requires fits { Fits geometry.now image.now }
+    requires first { 1 ≤ i }
+    requires last { i ≤ geometry.now.last_inode }
+    requires order { from ≤ end }
+    ensures { IsNextStored geometry.now image.now i (form_at geometry.now image.now i) from end result }
+{
+    let form = Form::of(geometry.edition, mode(image, geometry, i));
+    next_stored(image, geometry, i, form, from, end)
+}
+
+/// The block that [`next_block`] answers, in a file of some form.
+pub(crate) fn next_stored(
+    image: &Image,
+    geometry: &Geometry,
+    i: u16,
+    form: Form,
+    from: u32,
+    end: u32,
+) -> u32
+    requires fits { Fits geometry.now image.now }
+    requires first { 1 ≤ i }
+    requires last { i ≤ geometry.now.last_inode }
+    requires form { form ≡ form_at geometry.now image.now i }
+    requires order { from ≤ end }
+    ensures { IsNextStored geometry.now image.now i form from end result }
+{
+    let mut b = from;
+    while b < end {
+        let past = hole_end(image, geometry, i, form, b);
+        if past == b {
+            return b;
+        }
+        b = past;
+    }
+    end
+}
+
+/// The end of the hole in which logical block `b` lies, as far as it is one because of the same missing
+/// pointer; `b` itself where a number is stored for it.
+#[tactic(auto, using(crate::proofs::Indexes::way_address, crate::proofs::Indexes::way_entry))]
+fn hole_end(image: &Image, geometry: &Geometry, i: u16, form: Form, b: u32) -> u32
+    requires fits { Fits geometry.now image.now }
+    requires first { 1 ≤ i }
+    requires last { i ≤ geometry.now.last_inode }
+    requires form { form ≡ form_at geometry.now image.now i }
+    requires below { b < 2 ^ 32 - 1 }
+    ensures from { b ≤ result }
+    ensures hole { IsHole geometry.now image.now i form b result }
+    ensures none { result ≡ b → stored geometry.now image.now i form b ≡ 0 → ⊥ }
+{
+    let Some(way) = form.way(b) else {
+        return u32::MAX;
+    };
+    let mut block = address(image, geometry, i, way.address);
+    for d in 0..way.depth {
+        if !geometry.in_zone(block) {
+            return b + left_below(geometry, &way, d);
+        }
+        block = entry(image, geometry, block, way.entries[d]);
+    }
+    if block == 0 { b + 1 } else { b }
+}
+
+/// How many logical blocks, from the one with this way on, lie below the indirect block that the first `d`
+/// entries of the way lead to.
+fn left_below(geometry: &Geometry, way: &Way, d: usize) -> u32
+    requires depth { way.now.depth ≤ 3 }
+    requires above { d ≤ way.now.depth }
+    requires entries { (k : ℕ) → k < way.now.depth → slice_index way.now.entries k < (constants geometry.now.edition).pointers }
+    ensures exact { result ≡ blocks_left (constants geometry.now.edition).pointers (way.now.depth - d) (end_of way.now) }
+    ensures some { 1 ≤ result }
+    ensures bound { result ≤ 2 ^ 24 }
+{
+    let pointers = geometry.edition.constants().pointers;
+    let mut left = 1;
+    for level in d..way.depth {
+        left = left * pointers - way.entries[level];
+    }
+    left
+}

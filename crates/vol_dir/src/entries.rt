@@ -1,5 +1,5 @@
 //! The entries of a directory: finding one, and the place of a new one.
-ghost use Rattle.std.specs.Prelude.{◌≡◌, ◌+◌, ◌-◌, ◌*◌, ◌<◌, ◌≤◌, not, length, IsSome};
+ghost use Rattle.std.specs.Prelude.{◌≡◌, ℕ, ◌+◌, ◌-◌, ◌*◌, ◌<◌, ◌≤◌, not, false, length, IsSome};
 ghost use Rattle.std.specs.List.{list_any};
 ghost use Rattle.vol_layout.specs.Geometry.{Fits};
 ghost use Rattle.vol_layout.specs.Slot.{slot_at};
@@ -9,7 +9,7 @@ ghost use Rattle.vol_dir.specs.Scanning.{GoesOn};
 ghost use Rattle.vol_dir.specs.Searching.{is_sought, Searches, new_slot};
 
 use pdp_words::{BLOCK, Image};
-use vol_file::block_at;
+use vol_file::{block_at, next_block};
 use vol_layout::i_list::size;
 use vol_layout::slot::{NAME, SLOT};
 use vol_layout::{Geometry, Slot};
@@ -121,9 +121,36 @@ fn first_in_block(
     }
 }
 
+/// The logical block of directory `dir` where a search goes on after block `b`, of `blocks`: the next one, but
+/// where holes have nothing that is sought the next that is none.
+fn block_after(
+    image: &Image,
+    geometry: &Geometry,
+    dir: u16,
+    b: u32,
+    blocks: u32,
+    sought: Sought<'_>,
+) -> u32
+    requires fits { Fits geometry.now image.now }
+    requires first { 1 ≤ dir }
+    requires last { dir ≤ geometry.now.last_inode }
+    requires below { b < blocks }
+    ensures onward { b < result }
+    ensures within { result ≤ blocks }
+    ensures passed { (t : ℕ) → 32 * (b + 1) ≤ t → t < 32 * result → t < slot_count geometry.now image.now dir
+        → is_sought sought.entry (entry_at geometry.now image.now dir t) ≡ false }
+{
+    match sought {
+        Sought::Empty => b + 1,
+        _ => next_block(image, geometry, dir, b + 1, blocks),
+    }
+}
+
 /// The first slot of directory `dir` from slot `from` on that is sought, and what it holds.
 ///
-/// Costs the way of each logical block that is passed, and a look at each slot of those that aren't holes.
+/// Costs two ways for each logical block that is passed and isn't a hole, a look at each of its slots, and what
+/// [`next_block`] does for the holes between: time follows the blocks that the directory names, pointers among
+/// them, and not its size.
 pub(crate) fn first_slot(
     image: &Image,
     geometry: &Geometry,
@@ -137,12 +164,15 @@ pub(crate) fn first_slot(
     ensures { Searches sought.entry (entry_at geometry.now image.now dir) from (slot_count geometry.now image.now dir) result }
 {
     let count = slot_count(image, geometry, dir);
-    for b in from / SLOTS..count.div_ceil(SLOTS) {
+    let blocks = count.div_ceil(SLOTS);
+    let mut b = from / SLOTS;
+    while b < blocks {
         let start = from.saturating_sub(SLOTS * b);
         let few = (count - SLOTS * b).min(SLOTS);
         if let Some((s, slot)) = first_in_block(image, geometry, dir, b, start, few, sought) {
             return Some((SLOTS * b + s, slot));
         }
+        b = block_after(image, geometry, dir, b, blocks, sought);
     }
     None
 }
@@ -150,7 +180,8 @@ pub(crate) fn first_slot(
 /// The first slot of directory `dir` from slot `from` on that has an entry, with its i-number and name. Which
 /// bytes stand behind the name's first zero byte is left open.
 ///
-/// Costs the way of each logical block that is passed, and a look at each slot of those that aren't holes.
+/// Costs a way for each logical block that is passed and isn't a hole, a look at each of its slots, and a step for each
+/// pointer that is passed because it names nothing, whatever the directory's size is.
 pub fn next_entry(image: &Image, geometry: &Geometry, dir: u16, from: u32) -> Option<(u32, Slot)>
     requires fits { Fits geometry.now image.now }
     requires directory { IsDirectory geometry.now image.now dir }
@@ -162,8 +193,7 @@ pub fn next_entry(image: &Image, geometry: &Geometry, dir: u16, from: u32) -> Op
 /// The i-number that `name` has in directory `dir`; None where the name isn't there. Of slots with one
 /// name the first counts.
 ///
-/// Costs the way of each logical block up to the entry, and a look at each slot of those that aren't
-/// holes.
+/// Costs what [`next_entry`] does for what stands before the entry.
 pub fn find(image: &Image, geometry: &Geometry, dir: u16, name: &[u8]) -> Option<u16>
     requires fits { Fits geometry.now image.now }
     requires first { 1 ≤ dir }

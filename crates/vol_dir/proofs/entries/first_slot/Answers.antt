@@ -27,8 +27,11 @@ returns-in-Some c =
 pub loop-b-preserved : goal.loop-b-preserved
 loop-b-preserved c = λ t low h within. elim (cases_lt t (32 * c.loop-b.b)) [
   | inl before ↦ c.loop-b.invariant t low before within
-  | inr high ↦
-      let place : t ≡ 32 * c.loop-b.b + (t - 32 * c.loop-b.b) = omega (arith, high) in
-      ap (λ n. is_sought c.args.sought (entry_at c.args.geometry.now c.args.image.now c.args.dir n)) place
-      ∙ c.in_default.ensures (t - 32 * c.loop-b.b) (omega (arith, low, high, c.saturating_sub-start.ensures)) (omega (arith, h, high, within, c.min-few.ensures))
+  | inr high ↦ elim (cases_lt t (32 * (c.loop-b.b + 1))) [
+    | inl here ↦
+        let place : t ≡ 32 * c.loop-b.b + (t - 32 * c.loop-b.b) = omega (arith, high) in
+        ap (λ n. is_sought c.args.sought (entry_at c.args.geometry.now c.args.image.now c.args.dir n)) place
+        ∙ c.in_default.ensures (t - 32 * c.loop-b.b) (omega (arith, low, high, c.saturating_sub-start.ensures)) (omega (arith, here, high, within, c.min-few.ensures))
+    | inr after ↦ c.block_after-b.ensures.passed t after h (omega (arith, within, c.slot_count-count.ensures))
+  ]
 ]

@@ -633,6 +633,33 @@ wait
 edition=6
 lists piped / '    1 .' '    1 ..'
 
+# A volume that Linux wrote, as samples/README.md says: its names, i-numbers, sizes and sums are those that Linux told of it.
+linux="$samples/linux_made.v7"
+# told DIRECTORY: the lines that Linux listed its entries with
+told() { sed -n "\\|^$1:\$|,/^\$/p" "$samples/linux_made.txt" | sed '1d;/^$/d'; }
+
+while read -r directory own parent; do
+    { printf '%5d .\n%5d ..\n' "$own" "$parent" && told "$directory" | awk '{ printf "%5d %s\n", $1, $NF }'; } | LC_ALL=C sort -k 2 > lines
+    prints lines ls 7 "$linux" "${directory#.}"
+    while read -r number mode size name; do
+        case $mode in
+            -*) runs get 7 "$linux" "${directory#.}/$name" ;;
+            *) runs cat 7 "$linux" "$number" ;;
+        esac
+        has "the size of $directory/$name" "0 $size" "$(cat status) $(wc -c < output)"
+    done < <(told "$directory" | awk '{ print $1, $2, $6, $NF }')
+done <<< $'. 2 2\n./etc 94 2\n./usr 96 2\n./usr/games 95 96'
+while read -r sum path; do
+    runs get 7 "$linux" "$path"
+    has "the bytes of $path" "0 $sum" "$(cat status) $(md5sum < output | cut -c 1-32)"
+done < <(grep -E '^[0-9a-f]{32} ' "$samples/linux_made.txt")
+"$program" get 7 "$linux" /etc/passwd > wanted
+prints wanted get 7 "$linux" /usr/games/passwd.link
+body wanted 72000 # all but the last four bytes are a hole
+"$program" get 7 "$linux" /usr/sparse | head -c 72000 > output
+has 'the hole of a file' same "$(cmp -s output wanted && echo same)"
+for path in /tmp /usr/games/f3; do refuses 1 'unixvol: 2 NoEntry' get 7 "$linux" "$path"; done
+
 # The examples of README.md and of the help; where a word is `disk.img`, it is a volume in which the example has a file.
 prints hello cat 6 "$samples/hello.v6" 1
 prints none mkfs 6 disk.img 4000 100 0 0 173750400

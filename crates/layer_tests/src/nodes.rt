@@ -1,19 +1,19 @@
 // A small volume by hand, on which each change of a node is made once.
 ghost use Rattle.std.specs.Prelude.{IfOk, IfSome};
-ghost use Rattle.vol_node.specs.Whole.{IsWhole};
+ghost use Rattle.vol_change.specs.Whole.{IsWhole};
 
 use crate::pieces::{SMALL_VOLUME, check_bytes, filled};
 use pdp_words::Image;
 use std::alloc::{AllocError, Global};
 use std::process::Abort;
+use vol_change::{
+    NewNode, add_link, drop_link, free_node, make_directory, make_file, place_count, put_links,
+    put_time, take_number, touch,
+};
 use vol_dir::Cred;
 use vol_judge::judge;
 use vol_layout::i_list::{inode, kind};
 use vol_layout::{Edition, Geometry, Kind};
-use vol_node::{
-    NewNode, add_link, drop_link, free_node, make_directory, make_file, place_count, put_links,
-    put_time, take_number, touch,
-};
 
 mod entries;
 
@@ -27,7 +27,7 @@ fn volume(rt: &impl Abort, alloc: Global) -> (Geometry, Image)
 }
 
 /// The image, and its sizes, if all rules hold.
-#[tactic(auto, using(vol_node::proofs::WholeLaws::whole_read))]
+#[tactic(auto, using(vol_change::proofs::WholeLaws::whole_read))]
 fn whole(alloc: Global, image: Image) -> Result<Option<(Geometry, Image)>, AllocError>
     ensures { IfOk result (λ found. IfSome found (λ volume. IsWhole volume.0 volume.1)) }
 {

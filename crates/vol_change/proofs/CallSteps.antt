@@ -7,11 +7,11 @@ use Rattle.vol_judge.specs.Graph.{graph_of, IsGraphSound}
 use Rattle.vol_judge.specs.GraphEdits.{IsSameGraph}
 use Rattle.vol_judge.proofs.GraphParts.{same_sound}
 use Rattle.vol_judge.proofs.ImageGraphs.{graph_within}
-use Rattle.vol_node.specs.Edits.{at_time, change_node, modified, after_write, after_truncate}
-use Rattle.vol_node.specs.Contents.{write_body, empty_body}
-use Rattle.vol_node.specs.Whole.{Keeps}
-use Rattle.vol_node.proofs.TimedEdits.{timed_write, timed_truncate}
-use Rattle.vol_node.proofs.WholeLaws.{keeps_then}
+use Rattle.vol_change.specs.Edits.{at_time, change_node, modified, after_write, after_truncate}
+use Rattle.vol_change.specs.Contents.{write_body, empty_body}
+use Rattle.vol_change.specs.Whole.{Keeps}
+use Rattle.vol_change.proofs.TimedEdits.{timed_write, timed_truncate}
+use Rattle.vol_change.proofs.WholeLaws.{keeps_then}
 use Rattle.vol_change.specs.Ready.{IsReady, Changes}
 use Rattle.vol_change.proofs.ReadyLaws.{ready_whole, ready_graph, ready_from}
 

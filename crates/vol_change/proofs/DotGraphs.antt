@@ -5,8 +5,8 @@ use Rattle.vol_judge.specs.Graph.{Graph}
 use Rattle.vol_judge.specs.GraphEdits.{ChangesSlot, AddsDirectory}
 use Rattle.vol_judge.proofs.GraphParts.{not_free}
 use Rattle.vol_layout.specs.declared.mode.Kind.TheVariants as kinds
-use Rattle.vol_node.specs.Beside.{StaysBeside}
-use Rattle.vol_node.specs.NodeGraphs.{AddsNode, SetsLinks}
+use Rattle.vol_change.specs.Beside.{StaysBeside}
+use Rattle.vol_change.specs.NodeGraphs.{AddsNode, SetsLinks}
 use Rattle.vol_change.specs.Dots.{AddsDots}
 
 -- what is beside a directory, one change after the other

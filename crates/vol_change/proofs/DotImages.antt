@@ -16,15 +16,15 @@ use Rattle.vol_dir.specs.Tree.{Shape, no_shape, state, tree, shapes, free_count}
 use Rattle.vol_dir.specs.Walk.{map_of}
 use Rattle.vol_judge.specs.Graph.{graph_of, entry_by}
 use Rattle.vol_judge.proofs.ImageGraphs.{directory_to, graph_within}
-use Rattle.vol_node.specs.Contents.{put_entry}
-use Rattle.vol_node.specs.Nodes.{no_node}
-use Rattle.vol_node.specs.Shapes.{need_in, entry_blocks, shape_with_entry}
-use Rattle.vol_node.specs.Whole.{IsWhole}
-use Rattle.vol_node.proofs.EntryStates.{names_is, shape_is, size_is}
-use Rattle.vol_node.proofs.FileRooms.{entry_room}
-use Rattle.vol_node.proofs.PlaceCounts.{first_in}
-use Rattle.vol_node.proofs.WrittenStates.{IsKind}
-use Rattle.vol_node.specs.Beside.{StaysBeside}
+use Rattle.vol_change.specs.Contents.{put_entry}
+use Rattle.vol_change.specs.Nodes.{no_node}
+use Rattle.vol_change.specs.Shapes.{need_in, entry_blocks, shape_with_entry}
+use Rattle.vol_change.specs.Whole.{IsWhole}
+use Rattle.vol_change.proofs.EntryStates.{names_is, shape_is, size_is}
+use Rattle.vol_change.proofs.FileRooms.{entry_room}
+use Rattle.vol_change.proofs.PlaceCounts.{first_in}
+use Rattle.vol_change.proofs.WrittenStates.{IsKind}
+use Rattle.vol_change.specs.Beside.{StaysBeside}
 use Rattle.vol_change.specs.Dots.{HoldsNames}
 use Rattle.vol_change.proofs.DotRooms.{second_need}
 use Rattle.vol_change.proofs.DotStates.{entry_held}

@@ -11,7 +11,7 @@ use Rattle.vol_file.specs.Shape.{is_on_ways}
 use Rattle.vol_file.proofs.PlaceLists.{count_none}
 use Rattle.vol_dir.specs.Names.{dot}
 use Rattle.vol_dir.specs.Tree.{no_shape}
-use Rattle.vol_node.specs.Shapes.{need_in, shape_with_entry}
+use Rattle.vol_change.specs.Shapes.{need_in, shape_with_entry}
 
 -- what is asked and passed
 asked_twice : (t : Bool) → (t && not (false || t)) ≡ false

@@ -9,9 +9,9 @@ use Rattle.vol_dir.specs.Names.{Names, dot, dot_dot, insert}
 use Rattle.vol_dir.specs.Searching.{new_slot}
 use Rattle.vol_dir.specs.Tree.{Directory, Node, Shape, State, no_shape}
 use Rattle.vol_dir.specs.declared.cred.Cred.{Cred}
-use Rattle.vol_node.specs.Contents.{put_entry}
-use Rattle.vol_node.specs.Edits.{add_entry, change_names, new_node, new_directory}
-use Rattle.vol_node.specs.Shapes.{new_directory_shape, shape_with_entry}
+use Rattle.vol_change.specs.Contents.{put_entry}
+use Rattle.vol_change.specs.Edits.{add_entry, change_names, new_node, new_directory}
+use Rattle.vol_change.specs.Shapes.{new_directory_shape, shape_with_entry}
 use Rattle.vol_change.specs.Dots.{HoldsNames}
 use Rattle.vol_change.proofs.NodeEdits.{edit, set_here, with_entry, entry_here, entry_over, entry_apart}
 

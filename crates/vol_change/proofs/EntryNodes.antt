@@ -20,8 +20,8 @@ use Rattle.vol_judge.specs.Graph.{graph_of}
 use Rattle.vol_judge.proofs.EditedGraphs.{only_dots}
 use Rattle.vol_judge.proofs.GraphParts.{not_free}
 use Rattle.vol_judge.proofs.ImageGraphs.{entry_to, used_from, directory_to}
-use Rattle.vol_node.specs.Nodes.{names_at}
-use Rattle.vol_node.proofs.EntryStates.{names_is, named_slot}
+use Rattle.vol_change.specs.Nodes.{names_at}
+use Rattle.vol_change.proofs.EntryStates.{names_is, named_slot}
 use Rattle.vol_change.specs.Ready.{IsReady}
 use Rattle.vol_change.proofs.ReadyLaws.{ready_whole, ready_graph}
 

@@ -16,10 +16,10 @@ use Rattle.vol_dir.specs.Entries.{IsDirectory}
 use Rattle.vol_dir.specs.Names.{get, remove}
 use Rattle.vol_dir.specs.Tree.{Node, Shape, State, no_shape, form_in, place_count, free_count, shapes, tree, state}
 use Rattle.vol_dir.specs.declared.cred.Cred.{Cred}
-use Rattle.vol_node.specs.Edits.{set_at, at_time, modified, change_names, remove_entry, remove_node, drop_link, release, after_write, after_truncate}
-use Rattle.vol_node.specs.Nodes.{no_node, node_at, names_at, number_of_name}
-use Rattle.vol_node.specs.Shapes.{need_in, stored_shape, entry_blocks, shape_with_entry, shape_without_entry, new_directory_shape}
-use Rattle.vol_node.proofs.PlaceCounts.{stored_count, entry_count, gone_count, none_count, new_directory_count, set_other, set_count, set_counts, free_less, free_same, free_gone}
+use Rattle.vol_change.specs.Edits.{set_at, at_time, modified, change_names, remove_entry, remove_node, drop_link, release, after_write, after_truncate}
+use Rattle.vol_change.specs.Nodes.{no_node, node_at, names_at, number_of_name}
+use Rattle.vol_change.specs.Shapes.{need_in, stored_shape, entry_blocks, shape_with_entry, shape_without_entry, new_directory_shape}
+use Rattle.vol_change.proofs.PlaceCounts.{stored_count, entry_count, gone_count, none_count, new_directory_count, set_other, set_count, set_counts, free_less, free_same, free_gone}
 use Rattle.vol_change.specs.Effects.{after_create, after_mkdir, after_link, after_unlink, after_rmdir}
 use Rattle.vol_change.specs.Ready.{IsReady, entry_need, free_in}
 use Rattle.vol_change.proofs.ReadyLaws.{ready_whole}

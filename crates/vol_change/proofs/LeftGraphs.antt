@@ -4,8 +4,8 @@ use Rattle.vol_dir.specs.Names.{is_dots}
 use Rattle.vol_judge.specs.Graph.{Graph}
 use Rattle.vol_judge.specs.GraphEdits.{ChangesSlot, KeepsOthers, DropsName, DropsFile, DropsDirectory}
 use Rattle.vol_layout.specs.declared.mode.Kind.TheVariants as kinds
-use Rattle.vol_node.specs.Beside.{StaysBeside}
-use Rattle.vol_node.specs.NodeGraphs.{SetsLinks, DropsNode}
+use Rattle.vol_change.specs.Beside.{StaysBeside}
+use Rattle.vol_change.specs.NodeGraphs.{SetsLinks, DropsNode}
 
 -- the entry of a name, which i-number i has, goes from slot s of directory d
 pub record LeavesSlot (old mid : Graph) (i d s : ℕ) (name : List ℕ) : Type 0 where

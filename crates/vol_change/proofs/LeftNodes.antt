@@ -17,12 +17,12 @@ use Rattle.vol_judge.specs.GraphEdits.{ChangesSlot}
 use Rattle.vol_judge.proofs.DroppedGraphs.{dropped_name_sound, dropped_file_sound}
 use Rattle.vol_judge.proofs.EmptiedGraphs.{dropped_directory_sound}
 use Rattle.vol_judge.proofs.ImageGraphs.{graph_within, kind_inside, used_to, directory_to}
-use Rattle.vol_node.specs.Beside.{StaysBeside}
-use Rattle.vol_node.specs.Edits.{release, remove_node, remove_entry, drop_link}
-use Rattle.vol_node.specs.NodeGraphs.{SetsLinks, DropsNode}
-use Rattle.vol_node.specs.Nodes.{node_at, names_at, number_of_name}
-use Rattle.vol_node.specs.Whole.{Keeps}
-use Rattle.vol_node.proofs.WholeLaws.{keeps_then}
+use Rattle.vol_change.specs.Beside.{StaysBeside}
+use Rattle.vol_change.specs.Edits.{release, remove_node, remove_entry, drop_link}
+use Rattle.vol_change.specs.NodeGraphs.{SetsLinks, DropsNode}
+use Rattle.vol_change.specs.Nodes.{node_at, names_at, number_of_name}
+use Rattle.vol_change.specs.Whole.{Keeps}
+use Rattle.vol_change.proofs.WholeLaws.{keeps_then}
 use Rattle.vol_change.specs.Effects.{after_unlink, after_rmdir}
 use Rattle.vol_change.specs.Ready.{IsReady}
 use Rattle.vol_change.proofs.CallSteps.{HasMade}

@@ -15,10 +15,10 @@ use Rattle.vol_judge.specs.GraphEdits.{AddsDirectory}
 use Rattle.vol_judge.proofs.GraphParts.{not_free}
 use Rattle.vol_judge.proofs.ImageGraphs.{graph_within}
 use Rattle.vol_judge.proofs.MadeGraphs.{added_directory_sound}
-use Rattle.vol_node.specs.Contents.{put_entry}
-use Rattle.vol_node.specs.Edits.{add_entry, add_link}
-use Rattle.vol_node.specs.Nodes.{node_at}
-use Rattle.vol_node.specs.Whole.{Keeps}
+use Rattle.vol_change.specs.Contents.{put_entry}
+use Rattle.vol_change.specs.Edits.{add_entry, add_link}
+use Rattle.vol_change.specs.Nodes.{node_at}
+use Rattle.vol_change.specs.Whole.{Keeps}
 use Rattle.vol_change.specs.Dots.{HoldsNames}
 use Rattle.vol_change.specs.Effects.{after_mkdir}
 use Rattle.vol_change.specs.Ready.{IsReady, TakesName, entry_need, free_in}

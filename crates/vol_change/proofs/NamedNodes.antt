@@ -15,10 +15,10 @@ use Rattle.vol_judge.specs.Graph.{Graph, graph_of}
 use Rattle.vol_judge.specs.GraphEdits.{IsNewName, ChangesSlot, KeepsOthers, AddsFile, AddsLink}
 use Rattle.vol_judge.proofs.ImageGraphs.{graph_within, entry_from}
 use Rattle.vol_judge.proofs.NamedGraphs.{added_file_sound, added_link_sound}
-use Rattle.vol_node.specs.Beside.{StaysBeside}
-use Rattle.vol_node.specs.NodeGraphs.{SetsLinks, AddsNode}
-use Rattle.vol_node.specs.Whole.{Keeps}
-use Rattle.vol_node.proofs.EntryStates.{names_is}
+use Rattle.vol_change.specs.Beside.{StaysBeside}
+use Rattle.vol_change.specs.NodeGraphs.{SetsLinks, AddsNode}
+use Rattle.vol_change.specs.Whole.{Keeps}
+use Rattle.vol_change.proofs.EntryStates.{names_is}
 use Rattle.vol_change.specs.Ready.{IsReady, TakesName}
 use Rattle.vol_change.proofs.ReadyLaws.{ready_graph, ready_from}
 use Rattle.vol_change.proofs.SideStates.{KeepsDirectory}

@@ -5,10 +5,10 @@ use Rattle.std.proofs.lemmas.Bool.{cases_eq}
 use Rattle.vol_dir.specs.Names.{insert}
 use Rattle.vol_dir.specs.Searching.{new_slot}
 use Rattle.vol_dir.specs.Tree.{Node, Shape, State}
-use Rattle.vol_node.specs.Contents.{put_entry}
-use Rattle.vol_node.specs.Edits.{set_at, put_node, put_shape, change_names, modified, add_entry}
-use Rattle.vol_node.specs.Nodes.{no_node}
-use Rattle.vol_node.specs.Shapes.{shape_with_entry}
+use Rattle.vol_change.specs.Contents.{put_entry}
+use Rattle.vol_change.specs.Edits.{set_at, put_node, put_shape, change_names, modified, add_entry}
+use Rattle.vol_change.specs.Nodes.{no_node}
+use Rattle.vol_change.specs.Shapes.{shape_with_entry}
 use Rattle.vol_change.proofs.SideStates.{set_beside}
 
 -- node i and its shape are put

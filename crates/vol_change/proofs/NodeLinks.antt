@@ -11,9 +11,9 @@ use Rattle.vol_file.specs.Rules.{kind_at, HasKinds}
 use Rattle.vol_dir.specs.Entries.{slots}
 use Rattle.vol_dir.specs.Names.{names_of}
 use Rattle.vol_dir.specs.Tree.{Content, Body, Directory, Device, content_of, tree}
-use Rattle.vol_node.specs.Nodes.{no_node, node_at}
+use Rattle.vol_change.specs.Nodes.{no_node, node_at}
 use Rattle.vol_dir.proofs.WalkLaws.{node_inside}
-use Rattle.vol_node.proofs.WrittenStates.{node_holds}
+use Rattle.vol_change.proofs.WrittenStates.{node_holds}
 
 -- what is in use and not odd holds something
 pub content_there : (geometry : Geometry) (image : List ℕ) (i : ℕ) (kind : Kind) → kind ≢ kinds.Free → kind ≢ kinds.Odd

@@ -15,10 +15,10 @@ use Rattle.vol_judge.specs.Sound.{IsSound}
 use Rattle.vol_judge.proofs.GraphParts.{same_sound}
 use Rattle.vol_judge.proofs.ImageGraphs.{graph_within, graph_from_rules, rules_from_graph, directory_to, directory_from}
 use Rattle.vol_judge.proofs.Parts.{sound_whole, sound_bounded, sound_entries, sound_dots, sound_tree, sound_links, sound_of}
-use Rattle.vol_node.specs.Beside.{StaysBeside}
-use Rattle.vol_node.specs.Whole.{IsWhole, Keeps}
-use Rattle.vol_node.proofs.EntryStates.{names_once}
-use Rattle.vol_node.proofs.WholeLaws.{whole_of, geometry_kept}
+use Rattle.vol_change.specs.Beside.{StaysBeside}
+use Rattle.vol_change.specs.Whole.{IsWhole, Keeps}
+use Rattle.vol_change.proofs.EntryStates.{names_once}
+use Rattle.vol_change.proofs.WholeLaws.{whole_of, geometry_kept}
 use Rattle.vol_change.specs.Ready.{IsReady}
 
 -- the geometry fits, and rules 3 to 8 hold

@@ -16,9 +16,9 @@ use Rattle.vol_dir.specs.Tree.{Node, Shape, State, no_shape, shape_of, shapes, s
 use Rattle.vol_dir.specs.Walk.{map_of}
 use Rattle.vol_judge.specs.Graph.{Graph, graph_of, entry_by}
 use Rattle.vol_judge.proofs.ImageGraphs.{directory_to}
-use Rattle.vol_node.specs.Edits.{set_at, put_node, put_shape}
-use Rattle.vol_node.specs.Nodes.{no_node}
-use Rattle.vol_node.proofs.States.{shape_here}
+use Rattle.vol_change.specs.Edits.{set_at, put_node, put_shape}
+use Rattle.vol_change.specs.Nodes.{no_node}
+use Rattle.vol_change.proofs.States.{shape_here}
 use Rattle.vol_change.specs.Ready.{IsReady, TakesName, entry_need, free_in}
 use Rattle.vol_change.proofs.ReadyLaws.{ready_slots, ready_once, directory_kept}
 

@@ -3,8 +3,8 @@ use Rattle.std.proofs.Common.{ℕ, ◌+◌, List}
 use Rattle.pdp_words.specs.Words.{SameOutside}
 use Rattle.vol_layout.specs.Super.{cache_head, time_place}
 use Rattle.vol_layout.specs.declared.geometry.Geometry.{Geometry}
-use Rattle.vol_node.specs.Unused.{KeepsUnused, IsCleared}
-use Rattle.vol_node.proofs.UnusedBytes.{low_unused, cleared_still, cache_low, time_low}
+use Rattle.vol_change.specs.Unused.{KeepsUnused, IsCleared}
+use Rattle.vol_change.proofs.UnusedBytes.{low_unused, cleared_still, cache_low, time_low}
 
 -- a write of the time of the volume leaves the byte that has no use
 pub time_unused : (geometry : Geometry) (old new : List ℕ) (j : ℕ)

@@ -1,9 +1,9 @@
 -- What each call makes of a state, once its paths are walked.
 use Rattle.std.specs.Prelude.{ℕ, List, [], Some}
 use Rattle.vol_dir.specs.Tree.{Body, State, no_shape}
-use Rattle.vol_node.specs.Edits.{put_node, put_shape, remove_node, new_node, add_entry, remove_entry, add_link, drop_link, release, new_directory}
-use Rattle.vol_node.specs.Nodes.{number_of_name}
-use Rattle.vol_node.specs.Shapes.{new_directory_shape}
+use Rattle.vol_change.specs.Edits.{put_node, put_shape, remove_node, new_node, add_entry, remove_entry, add_link, drop_link, release, new_directory}
+use Rattle.vol_change.specs.Nodes.{number_of_name}
+use Rattle.vol_change.specs.Shapes.{new_directory_shape}
 use Rattle.vol_dir.specs.declared.cred.Cred.{Cred}
 
 -- a regular file without bytes, of number `made`, with a name in d (Lions on maknode)

@@ -1,3 +1,13 @@
+pub mod Alone
+pub mod Beside
+pub mod Contents
 pub mod Dots
+pub mod Edits
 pub mod Effects
+pub mod Inodes
+pub mod NodeGraphs
+pub mod Nodes
 pub mod Ready
+pub mod Shapes
+pub mod Unused
+pub mod Whole

@@ -5,9 +5,9 @@ use Rattle.vol_layout.specs.Geometry.{Fits, geometry_of}
 use Rattle.vol_dir.specs.Names.{get}
 use Rattle.vol_dir.specs.Tree.{State, state, free_count}
 use Rattle.vol_judge.specs.Sound.{IsSound}
-use Rattle.vol_node.specs.Nodes.{names_at, size_with_entry}
-use Rattle.vol_node.specs.Shapes.{need_in, entry_blocks}
-use Rattle.vol_node.specs.Whole.{StaysAround}
+use Rattle.vol_change.specs.Nodes.{names_at, size_with_entry}
+use Rattle.vol_change.specs.Shapes.{need_in, entry_blocks}
+use Rattle.vol_change.specs.Whole.{StaysAround}
 use Rattle.vol_layout.specs.declared.geometry.Geometry.{Geometry}
 
 -- a sound image with its own geometry (icheck, dcheck)

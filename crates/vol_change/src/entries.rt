@@ -1,24 +1,82 @@
-//! An entry that comes, and one that goes, with the times of its directory.
-ghost use Rattle.std.specs.Prelude.{◌≡◌, ℕ, ◌%◌, ◌≤◌, false, None, Some, IsSome};
+//! The entries of a directory: one that comes, and one that goes; with and without the times of the directory.
+ghost use Rattle.std.specs.Prelude.{◌≡◌, ◌≢◌, ℕ, ◌+◌, ◌*◌, ◌%◌, ◌<◌, ◌≤◌, List, None, Some, length, slice_index, IsSome, false};
 ghost use Rattle.std.specs.Option.{option_map};
+ghost use Rattle.vol_layout.specs.Edition.{constants};
+ghost use Rattle.vol_layout.specs.declared.mode.Kind.TheVariants as kinds;
+ghost use Rattle.vol_file.specs.Rules.{kind_at, size_of, IsSoundWith};
+ghost use Rattle.vol_file.specs.Need.{need};
 ghost use Rattle.vol_dir.specs.Editing.{HasNamesOnce};
-ghost use Rattle.vol_dir.specs.Entries.{IsDirectory, slots};
+ghost use Rattle.vol_dir.specs.Entries.{slots, IsDirectory};
 ghost use Rattle.vol_dir.specs.Names.{get, names_of, names_in};
 ghost use Rattle.vol_dir.specs.Searching.{new_slot, slot_named};
 ghost use Rattle.vol_dir.specs.Tree.{state};
 ghost use Rattle.vol_dir.specs.Walk.{IsComponent, has_zero};
-ghost use Rattle.vol_file.specs.Rules.{size_of};
 ghost use Rattle.vol_judge.specs.Graph.{graph_of};
 ghost use Rattle.vol_judge.specs.GraphEdits.{ChangesSlot};
-ghost use Rattle.vol_node.specs.Beside.{StaysBeside};
-ghost use Rattle.vol_node.specs.Edits.{add_entry, remove_entry};
-ghost use Rattle.vol_node.specs.Unused.{KeepsUnused};
-ghost use Rattle.vol_node.specs.Whole.{IsWhole, Keeps};
+ghost use Rattle.vol_change.specs.Beside.{StaysBeside};
+ghost use Rattle.vol_change.specs.Contents.{put_entry, drop_entry};
+ghost use Rattle.vol_change.specs.Unused.{KeepsUnused};
+ghost use Rattle.vol_change.specs.Whole.{IsWhole, Keeps};
+ghost use Rattle.vol_change.specs.Edits.{add_entry, remove_entry};
 ghost use Rattle.vol_change.specs.Ready.{TakesName, entry_need, free_in};
 
+use crate::times::touch;
 use pdp_words::Image;
+use vol_dir::{add, remove};
 use vol_layout::Geometry;
-use vol_node::{add_name, remove_name, touch};
+
+/// Gives `name`, which isn't there yet, to i-number `i` in directory `dir`, as [`add`] does. The times
+/// of the directory stay, and so does the link count of `i`.
+///
+/// Costs as much as [`add`].
+pub fn add_name(image: &mut Image, geometry: &Geometry, dir: u16, name: &[u8], i: u16)
+    requires whole { IsWhole geometry.now image.old }
+    requires first { 1 ≤ dir }
+    requires last { dir ≤ geometry.now.last_inode }
+    requires directory { kind_at geometry.now image.old dir ≡ kinds.Directory }
+    requires slots { size_of geometry.now image.old dir % 16 ≡ 0 }
+    requires once { HasNamesOnce geometry.now image.old dir }
+    requires new { get (names_of (slots geometry.now image.old dir)) name.now ≡ None }
+    requires short { length name.now ≤ 14 }
+    requires text { (k : ℕ) → k < length name.now → slice_index name.now k ≢ 0 }
+    requires inode { 1 ≤ i }
+    requires greatest { 16 * new_slot (names_in (slots geometry.now image.old dir)) + 16 ≤ (constants geometry.now.edition).greatest }
+    requires room { (blocks : List ℕ) → IsSoundWith geometry.now image.old blocks
+        → need geometry.now image.old dir (16 * new_slot (names_in (slots geometry.now image.old dir))) 16 ≤ length blocks }
+    ensures keeps { Keeps geometry.now image.old image.new }
+    ensures makes { state geometry.now image.new ≡ put_entry dir name.now i (state geometry.now image.old) }
+    ensures slot { ChangesSlot (graph_of geometry.now image.old) (graph_of geometry.now image.new) dir
+        (new_slot (names_in (slots geometry.now image.old dir))) None (Some (name.now, i)) }
+    ensures beside { StaysBeside (graph_of geometry.now image.old) (graph_of geometry.now image.new) dir }
+    ensures once { HasNamesOnce geometry.now image.new dir }
+    ensures unused { (j : ℕ) → 1 ≤ j → j ≤ geometry.now.last_inode → KeepsUnused geometry.now image.old image.new j }
+{
+    add(image, geometry, dir, name, i);
+}
+
+/// Takes `name`, which is there, out of directory `dir`, as [`remove`] does. The size and the times of
+/// the directory stay, and so does the link count of what was named.
+///
+/// Costs as much as [`remove`].
+pub fn remove_name(image: &mut Image, geometry: &Geometry, dir: u16, name: &[u8])
+    requires whole { IsWhole geometry.now image.old }
+    requires first { 1 ≤ dir }
+    requires last { dir ≤ geometry.now.last_inode }
+    requires directory { kind_at geometry.now image.old dir ≡ kinds.Directory }
+    requires slots { size_of geometry.now image.old dir % 16 ≡ 0 }
+    requires once { HasNamesOnce geometry.now image.old dir }
+    requires there { IsSome (get (names_of (slots geometry.now image.old dir)) name.now) }
+    ensures keeps { Keeps geometry.now image.old image.new }
+    ensures makes { state geometry.now image.new ≡ drop_entry dir name.now (state geometry.now image.old) }
+    ensures slot { ChangesSlot (graph_of geometry.now image.old) (graph_of geometry.now image.new) dir
+        (slot_named name.now (slots geometry.now image.old dir))
+        (option_map (λ i. (name.now, i)) (get (names_of (slots geometry.now image.old dir)) name.now)) None }
+    ensures beside { StaysBeside (graph_of geometry.now image.old) (graph_of geometry.now image.new) dir }
+    ensures once { HasNamesOnce geometry.now image.new dir }
+    ensures unused { (j : ℕ) → 1 ≤ j → j ≤ geometry.now.last_inode → KeepsUnused geometry.now image.old image.new j }
+{
+    remove(image, geometry, dir, name);
+}
 
 /// Gives `name`, which isn't there yet, to i-number `i` in directory `dir`, whose bytes were then last
 /// changed at `moment`, in seconds.

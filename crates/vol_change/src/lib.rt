@@ -1,19 +1,27 @@
-//! The changes that accepted calls make of a volume, once their paths are walked: each of the seven.
+//! The changes that accepted calls make of a volume, once their paths are walked: each of the seven, and
+//! the changes of one node of the tree, of which they are made.
 #![tactic(auto)]
 
-mod bodies;
-mod entries;
-mod lost_directories;
-mod lost_names;
-mod new_directories;
-mod new_files;
-mod new_names;
+pub mod bytes;
+mod calls;
+mod counting;
+pub mod entries;
+mod freeing;
+mod links;
 mod new_nodes;
+mod times;
 
-pub use bodies::{truncate, write};
-pub use lost_directories::rmdir;
-pub use lost_names::unlink;
-pub use new_directories::mkdir;
-pub use new_files::create;
-pub use new_names::link;
-pub use vol_node::NewNode;
+pub use bytes::{empty_file, write_bytes};
+pub use calls::create::create;
+pub use calls::link::link;
+pub use calls::mkdir::mkdir;
+pub use calls::rmdir::rmdir;
+pub use calls::truncate::truncate;
+pub use calls::unlink::unlink;
+pub use calls::write::write;
+pub use counting::place_count;
+pub use entries::{add_name, remove_name};
+pub use freeing::free_node;
+pub use links::{add_link, drop_link, put_links};
+pub use new_nodes::{NewNode, make_directory, make_file, take_number};
+pub use times::{put_time, touch};

@@ -1,15 +1,52 @@
-//! The i-number that a new node gets.
-ghost use Rattle.std.specs.Prelude.{◌≡◌, ℕ, ◌≤◌, IfSome};
-ghost use Rattle.vol_dir.specs.Tree.{state};
+//! New nodes, and the i-numbers that they get.
+ghost use Rattle.std.specs.Prelude.{◌≡◌, ◌≢◌, ℕ, ◌+◌, ◌≤◌, true, false, [], Some, None, IfSome, slice_index};
+ghost use Rattle.pdp_words.specs.Words.{SameOutside};
+ghost use Rattle.vol_layout.specs.Edition.{constants};
+ghost use Rattle.vol_layout.specs.Inode.{inode_place, is_large, kind_of, new_inode};
+ghost use Rattle.vol_layout.specs.Places.{has_places};
+ghost use Rattle.vol_layout.specs.Super.{cache_head};
+ghost use Rattle.vol_layout.specs.declared.edition.Edition.TheVariants as editions;
+ghost use Rattle.vol_layout.specs.declared.mode.Kind.TheVariants as kinds;
 ghost use Rattle.vol_free.specs.Numbers.{IsFreeNumber};
+ghost use Rattle.vol_dir.specs.Tree.{Body, Directory, no_shape, state};
 ghost use Rattle.vol_judge.specs.Graph.{graph_of};
 ghost use Rattle.vol_judge.specs.GraphEdits.{IsSameGraph};
-ghost use Rattle.vol_node.specs.Unused.{KeepsUnused};
-ghost use Rattle.vol_node.specs.Whole.{IsWhole, Keeps};
+ghost use Rattle.vol_change.specs.Edits.{new_node, put_node, put_shape};
+ghost use Rattle.vol_change.specs.Inodes.{MakesInode};
+ghost use Rattle.vol_change.specs.NodeGraphs.{AddsNode};
+ghost use Rattle.vol_change.specs.Unused.{KeepsUnused};
+ghost use Rattle.vol_change.specs.Whole.{IsWhole, Keeps};
 
 use pdp_words::Image;
-use vol_layout::Geometry;
-use vol_node::take_number;
+use vol_dir::Cred;
+use vol_free::take_inode;
+use vol_layout::{Geometry, Inode, Mode, clear_inode, put_inode};
+
+/// What a call says of a node that it makes.
+#[derive(Clone, Copy, Debug, PartialEq, Eq)]
+pub struct NewNode {
+    /// Whose the node is.
+    pub owner: Cred,
+    /// Its permission bits, of which those under octal 7777 count.
+    pub permissions: u16,
+    /// The moment at which it is made, in seconds.
+    pub moment: u32,
+}
+
+/// Takes a free i-number above the root's for a new node, from the cache or the i-list, as `take_inode`
+/// does. None exactly where there is none. What the volume reads as stays: the cache alone changes.
+pub fn take_number(image: &mut Image, geometry: &Geometry) -> Option<u16>
+    requires whole { IsWhole geometry.now image.old }
+    ensures free { IfSome result (λ i. IsFreeNumber geometry.now image.new i) }
+    ensures none { result ≡ None → (i : ℕ) → IsFreeNumber geometry.now image.old i → ⊥ }
+    ensures keeps { Keeps geometry.now image.old image.new }
+    ensures makes { state geometry.now image.new ≡ state geometry.now image.old }
+    ensures graph { IsSameGraph (graph_of geometry.now image.old) (graph_of geometry.now image.new) }
+    ensures others { SameOutside image.old image.new
+        (cache_head geometry.now.edition) (cache_head geometry.now.edition + 202) }
+{
+    take_inode(image, geometry)
+}
 
 /// The i-number for a new node: the recorded one, or else one that is taken from the cache or the i-list.
 /// The cache changes as if one were taken in either case.
@@ -28,4 +65,63 @@ pub(crate) fn pick_number(image: &mut Image, geometry: &Geometry, recorded: Opti
         unreachable!()
     };
     recorded.unwrap_or(taken)
+}
+
+/// Makes node `i`, whose i-number is free, a new regular file with one link. It has no bytes and names no
+/// block, and all its times are `node.moment`. Unused bytes of its i-node are zero.
+pub fn make_file(image: &mut Image, geometry: &Geometry, i: u16, node: NewNode)
+    requires whole { IsWhole geometry.now image.old }
+    requires free { IsFreeNumber geometry.now image.old i }
+    requires user { node.owner.uid ≤ (constants geometry.now.edition).id_limit }
+    requires group { node.owner.gid ≤ (constants geometry.now.edition).id_limit }
+    ensures keeps { Keeps geometry.now image.old image.new }
+    ensures makes { state geometry.now image.new
+        ≡ put_shape i no_shape (put_node i (Some (new_node geometry.now.edition node.owner node.moment node.permissions (Body []) 1 0))
+        (state geometry.now image.old)) }
+    ensures graph { AddsNode (graph_of geometry.now image.old) (graph_of geometry.now image.new) i kinds.Regular 1 }
+    ensures unused { geometry.now.edition ≡ editions.V7 → slice_index image.new (inode_place editions.V7 i + 51) ≡ 0 }
+    ensures others { (j : ℕ) → 1 ≤ j → j ≤ geometry.now.last_inode → j ≢ i → KeepsUnused geometry.now image.old image.new j }
+{
+    let mode = Mode::regular(geometry.edition, node.permissions);
+    make_node(image, geometry, i, mode, 1, node);
+}
+
+/// Makes node `i`, whose i-number is free, a new directory with two links. It has no slots and names no
+/// block, and all its times are `node.moment`. Unused bytes of its i-node are zero.
+pub fn make_directory(image: &mut Image, geometry: &Geometry, i: u16, node: NewNode)
+    requires whole { IsWhole geometry.now image.old }
+    requires free { IsFreeNumber geometry.now image.old i }
+    requires user { node.owner.uid ≤ (constants geometry.now.edition).id_limit }
+    requires group { node.owner.gid ≤ (constants geometry.now.edition).id_limit }
+    ensures keeps { Keeps geometry.now image.old image.new }
+    ensures makes { state geometry.now image.new
+        ≡ put_shape i no_shape (put_node i (Some (new_node geometry.now.edition node.owner node.moment node.permissions (Directory []) 2 0))
+        (state geometry.now image.old)) }
+    ensures graph { AddsNode (graph_of geometry.now image.old) (graph_of geometry.now image.new) i kinds.Directory 2 }
+    ensures unused { geometry.now.edition ≡ editions.V7 → slice_index image.new (inode_place editions.V7 i + 51) ≡ 0 }
+    ensures others { (j : ℕ) → 1 ≤ j → j ≤ geometry.now.last_inode → j ≢ i → KeepsUnused geometry.now image.old image.new j }
+{
+    let mode = Mode::directory(geometry.edition, node.permissions);
+    make_node(image, geometry, i, mode, 2, node);
+}
+
+/// Makes node `i`, whose i-number is free, a file with this mode and so many links, and nothing in it.
+fn make_node(image: &mut Image, geometry: &Geometry, i: u16, mode: Mode, links: u16, node: NewNode)
+    requires whole { IsWhole geometry.now image.old }
+    requires free { IsFreeNumber geometry.now image.old i }
+    requires file { has_places (kind_of geometry.now.edition mode.bits) ≡ true }
+    requires small { is_large geometry.now.edition mode.bits ≡ false }
+    requires few { links ≤ 2 }
+    requires user { node.owner.uid ≤ (constants geometry.now.edition).id_limit }
+    requires group { node.owner.gid ≤ (constants geometry.now.edition).id_limit }
+    ensures makes { MakesInode geometry.now image.old image.new i
+        (new_inode geometry.now.edition mode links node.owner.uid node.owner.gid node.moment) }
+    ensures keeps { Keeps geometry.now image.old image.new }
+    ensures unused { geometry.now.edition ≡ editions.V7 → slice_index image.new (inode_place editions.V7 i + 51) ≡ 0 }
+    ensures others { (j : ℕ) → 1 ≤ j → j ≤ geometry.now.last_inode → j ≢ i → KeepsUnused geometry.now image.old image.new j }
+{
+    let NewNode { owner, moment, .. } = node;
+    let inode = Inode::new(geometry.edition, mode, links, owner.uid, owner.gid, moment);
+    clear_inode(image, geometry, i);
+    put_inode(image, geometry, i, &inode);
 }

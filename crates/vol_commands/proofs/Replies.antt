@@ -10,8 +10,8 @@ use Rattle.vol_layout.specs.Geometry.{geometry_of}
 use Rattle.vol_layout.specs.Inode.{inode_of, kind_of}
 use Rattle.vol_layout.specs.Names.{mode_of}
 use Rattle.vol_layout.proofs.BodyLaws.{length-body}
-use Rattle.vol_node.specs.Edits.{body_of}
-use Rattle.vol_node.specs.Nodes.{no_node, node_at, names_at}
+use Rattle.vol_change.specs.Edits.{body_of}
+use Rattle.vol_change.specs.Nodes.{no_node, node_at, names_at}
 use Rattle.vol_volume.specs.Answer.{refused_or, reply_at, reply_of, query_refusal, read_bytes}
 use Rattle.vol_volume.specs.Volume.{reads_as}
 use Rattle.vol_commands.specs.Faults.{user}

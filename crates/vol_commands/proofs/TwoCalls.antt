@@ -8,8 +8,8 @@ use Rattle.vol_volume.specs.Step.{step}
 use Rattle.vol_volume.specs.Verdict.{verdict}
 use Rattle.vol_volume.specs.Volume.{Mounted, Accepts, Performs, reads_as}
 use Rattle.vol_volume.proofs.Journals.{reads_made}
-use Rattle.vol_node.specs.Whole.{StaysAround}
-use Rattle.vol_node.proofs.WholeLaws.{around_then, geometry_kept}
+use Rattle.vol_change.specs.Whole.{StaysAround}
+use Rattle.vol_change.proofs.WholeLaws.{around_then, geometry_kept}
 use Rattle.vol_commands.specs.Changing.{Makes, AreRefused, IsReason}
 use Rattle.vol_layout.specs.declared.edition.Edition.{Edition}
 use Rattle.vol_volume.specs.declared.calls.Call.{Call}

@@ -3,7 +3,7 @@ use Rattle.std.specs.Prelude.{◌≡◌, ◌⊎◌, ◌↔◌, ℕ, List, [], �
 use Rattle.vol_layout.specs.Geometry.{geometry_of}
 use Rattle.vol_dir.specs.Tree.{Tree, State}
 use Rattle.vol_judge.specs.Sound.{IsSound}
-use Rattle.vol_node.specs.Whole.{StaysAround}
+use Rattle.vol_change.specs.Whole.{StaysAround}
 use Rattle.vol_volume.specs.Answer.{answer}
 use Rattle.vol_volume.specs.Journal.{Refuses, MayFollow, IsLegal, after}
 use Rattle.vol_volume.specs.Step.{step}

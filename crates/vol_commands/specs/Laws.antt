@@ -1,8 +1,8 @@
 -- Statements of what the replies to the commands' queries are.
 use Rattle.std.specs.Prelude.{◌≡◌, ℕ, List, Ok}
 use Rattle.vol_dir.specs.Walk.{walk}
-use Rattle.vol_node.specs.Edits.{body_of}
-use Rattle.vol_node.specs.Nodes.{node_at, names_at}
+use Rattle.vol_change.specs.Edits.{body_of}
+use Rattle.vol_change.specs.Nodes.{node_at, names_at}
 use Rattle.vol_volume.specs.Volume.{reads_as}
 use Rattle.vol_commands.specs.Faults.{user}
 use Rattle.vol_commands.specs.Showing.{answer_of, text_of, listing_text}

@@ -9,7 +9,7 @@ use Rattle.vol_dir.specs.Access.{may_write}
 use Rattle.vol_dir.specs.Names.{get, is_dots}
 use Rattle.vol_dir.specs.Tree.{Tree, State}
 use Rattle.vol_dir.specs.Walk.{has_zero, walk, walk_parent, is_directory}
-use Rattle.vol_node.specs.Nodes.{node_at, names_at, number_of_name}
+use Rattle.vol_change.specs.Nodes.{node_at, names_at, number_of_name}
 use Rattle.vol_change.specs.Ready.{TakesName, entry_need, free_in}
 use Rattle.vol_volume.specs.Mkfs.{is_bad_id}
 use Rattle.vol_volume.specs.Performing.{LeadsToParent, LeadsToNode}

@@ -9,8 +9,8 @@ use Rattle.vol_dir.specs.declared.cred.Cred.{Cred}
 use Rattle.vol_dir.specs.declared.refusal.Refusal.{Refusal}
 use Rattle.vol_dir.specs.declared.refusal.Refusal.TheVariants as refusals
 use Rattle.vol_layout.specs.declared.geometry.Geometry.{Geometry}
-use Rattle.vol_node.specs.Nodes.{node_at, names_at}
-use Rattle.vol_node.specs.Edits.{body_of}
+use Rattle.vol_change.specs.Nodes.{node_at, names_at}
+use Rattle.vol_change.specs.Edits.{body_of}
 use Rattle.vol_volume.specs.Answer.{list_tests, query_refusal, read_bytes, reply_at, reply_of, refused_or, stat_of, Answers}
 use Rattle.vol_volume.specs.Answering.{IsRefused, LeadsTo}
 use Rattle.vol_volume.specs.Mkfs.{is_bad_id}

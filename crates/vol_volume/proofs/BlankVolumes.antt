@@ -17,7 +17,7 @@ use Rattle.vol_free.proofs.Stacks.{head_end}
 use Rattle.vol_file.proofs.Naming.{root_first}
 use Rattle.vol_volume.proofs.BlankStacks.{blank_free}
 use Rattle.vol_volume.proofs.NewRules.{new_sound}
-use Rattle.vol_node.proofs.WholeLaws.{super_order}
+use Rattle.vol_change.proofs.WholeLaws.{super_order}
 use Rattle.vol_volume.proofs.NewSizes.{fits_makeable, read_makeable, sizes_kept, time_kept}
 use Rattle.vol_volume.specs.Blank.{blank_in, head_byte, HasHead, is_chain, block_byte, volume_byte, volume_bytes, IsBlank, IsFirst, IsMade}
 use Rattle.vol_volume.specs.Mkfs.{is_size, IsMakeable, IsNewVolume}

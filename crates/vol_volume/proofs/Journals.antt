@@ -2,7 +2,7 @@
 use Rattle.std.proofs.Common.{◌≡◌, ◌↔◌, ℕ, List, [], ◌∷◌, ◌++◌, refl, ap, sym, ◌∙◌, subst, Result, Ok, Err}
 use Rattle.vol_layout.specs.Geometry.{geometry_of}
 use Rattle.vol_dir.specs.Tree.{State, state}
-use Rattle.vol_node.specs.Edits.{after_write}
+use Rattle.vol_change.specs.Edits.{after_write}
 use Rattle.vol_volume.specs.Step.{step, on_node}
 use Rattle.vol_volume.specs.Journal.{after, MayFollow, IsLegal}
 use Rattle.vol_volume.specs.Volume.{Mounted, reads_as, IsConsistent, Performs, Accepts}

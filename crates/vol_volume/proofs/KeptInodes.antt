@@ -10,10 +10,10 @@ use Rattle.vol_layout.specs.declared.geometry.Geometry.{Geometry}
 use Rattle.vol_dir.specs.Names.{get, insert, remove}
 use Rattle.vol_dir.specs.Tree.{Body, Node, State, no_shape, state}
 use Rattle.vol_dir.specs.declared.cred.Cred.{Cred}
-use Rattle.vol_node.specs.Edits.{put_node, put_shape, change_node, remove_node, at_time, stamped, modified, new_node, change_names, add_entry, remove_entry, add_link, drop_link, release, body_of, new_directory, after_write, after_truncate}
-use Rattle.vol_node.specs.Nodes.{node_at, names_at, size_with_entry}
-use Rattle.vol_node.specs.Shapes.{new_directory_shape}
-use Rattle.vol_node.specs.Unused.{IsCleared, KeepsUnused}
+use Rattle.vol_change.specs.Edits.{put_node, put_shape, change_node, remove_node, at_time, stamped, modified, new_node, change_names, add_entry, remove_entry, add_link, drop_link, release, body_of, new_directory, after_write, after_truncate}
+use Rattle.vol_change.specs.Nodes.{node_at, names_at, size_with_entry}
+use Rattle.vol_change.specs.Shapes.{new_directory_shape}
+use Rattle.vol_change.specs.Unused.{IsCleared, KeepsUnused}
 use Rattle.vol_change.specs.Effects.{after_create, after_mkdir, after_link, after_unlink, after_rmdir}
 use Rattle.vol_change.proofs.FreeAfter.{entry_is, links_kept}
 use Rattle.vol_change.proofs.NodeEdits.{set_here}

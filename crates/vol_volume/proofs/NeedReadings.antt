@@ -14,10 +14,10 @@ use Rattle.vol_dir.specs.Entries.{slots, IsDirectory}
 use Rattle.vol_dir.specs.Names.{names_in}
 use Rattle.vol_dir.specs.Searching.{new_slot}
 use Rattle.vol_dir.specs.Tree.{shapes, tree, state}
-use Rattle.vol_node.specs.Nodes.{size_with_entry}
-use Rattle.vol_node.specs.Shapes.{entry_blocks}
-use Rattle.vol_node.proofs.EntryStates.{slot_block, shape_is, size_is}
-use Rattle.vol_node.proofs.FileRooms.{need_is}
+use Rattle.vol_change.specs.Nodes.{size_with_entry}
+use Rattle.vol_change.specs.Shapes.{entry_blocks}
+use Rattle.vol_change.proofs.EntryStates.{slot_block, shape_is, size_is}
+use Rattle.vol_change.proofs.FileRooms.{need_is}
 use Rattle.vol_change.specs.Ready.{entry_need}
 use Rattle.vol_volume.specs.Verdict.{write_need, is_too_great}
 use Rattle.vol_volume.proofs.NodeReadings.{tree_geometry, kind_of_directory}

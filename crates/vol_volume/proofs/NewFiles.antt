@@ -21,8 +21,8 @@ use Rattle.vol_free.proofs.Stacks.{zone_from, zone_below, IsFree_unique}
 use Rattle.vol_file.specs.Rules.{size_of, kind_at, HasKinds, HasSizes, IsZoned, IsApart, IsOutside, IsCovered}
 use Rattle.vol_volume.specs.Mkfs.{root_mode, IsNewVolume}
 use Rattle.vol_file.proofs.Naming.{root_first}
-use Rattle.vol_node.proofs.FreedNodes.{mode_room}
-use Rattle.vol_node.proofs.NewInodes.{few_links}
+use Rattle.vol_change.proofs.FreedNodes.{mode_room}
+use Rattle.vol_change.proofs.NewInodes.{few_links}
 use Rattle.vol_change.proofs.DotImages.{dots_fit}
 use Rattle.vol_volume.proofs.NewVolumes.{addresses_above, none_below}
 

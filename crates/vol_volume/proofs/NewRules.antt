@@ -12,7 +12,7 @@ use Rattle.vol_dir.specs.Entries.{HasEntries}
 use Rattle.vol_judge.specs.Directories.{HasDots, IsTree, HasLinks}
 use Rattle.vol_judge.specs.Sound.{IsSound}
 use Rattle.vol_judge.proofs.Parts.{sound_of}
-use Rattle.vol_node.proofs.SoundVolumes.{geometry_is}
+use Rattle.vol_change.proofs.SoundVolumes.{geometry_is}
 use Rattle.vol_volume.specs.Mkfs.{IsMakeable, IsNewVolume}
 use Rattle.vol_volume.proofs.NewSizes.{fits_makeable}
 use Rattle.vol_volume.proofs.NewFiles

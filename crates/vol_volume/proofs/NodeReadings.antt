@@ -13,10 +13,10 @@ use Rattle.vol_dir.specs.Entries.{slots, IsDirectory, IsInUse}
 use Rattle.vol_dir.specs.Names.{names_of}
 use Rattle.vol_dir.specs.Tree.{Node, node_of, node_with, content_of, tree}
 use Rattle.vol_dir.specs.Walk.{is_directory}
-use Rattle.vol_node.proofs.EntryStates.{names_is}
+use Rattle.vol_change.proofs.EntryStates.{names_is}
 use Rattle.vol_dir.proofs.WalkLaws.{node_inside}
-use Rattle.vol_node.proofs.WrittenStates.{IsKind}
-use Rattle.vol_node.specs.Nodes.{no_node, node_at, names_at}
+use Rattle.vol_change.proofs.WrittenStates.{IsKind}
+use Rattle.vol_change.specs.Nodes.{no_node, node_at, names_at}
 use Rattle.vol_change.proofs.NodeLinks.{content_there, links_is}
 use Rattle.vol_volume.specs.Verdict.{is_device}
 

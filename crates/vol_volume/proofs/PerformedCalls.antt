@@ -8,9 +8,9 @@ use Rattle.vol_layout.specs.declared.edition.Edition.TheVariants.{V6, V7}
 use Rattle.vol_dir.specs.Names.{get}
 use Rattle.vol_dir.specs.Tree.{State, tree, shapes, state, place_count, free_count}
 use Rattle.vol_dir.specs.Walk.{walk, walk_parent}
-use Rattle.vol_node.specs.Edits.{at_time, after_write, after_truncate}
+use Rattle.vol_change.specs.Edits.{at_time, after_write, after_truncate}
 use Rattle.vol_change.specs.Effects.{after_create, after_mkdir, after_link, after_unlink, after_rmdir}
-use Rattle.vol_node.specs.Nodes.{node_at, names_at}
+use Rattle.vol_change.specs.Nodes.{node_at, names_at}
 use Rattle.vol_change.specs.Ready.{IsReady, Changes, free_in}
 use Rattle.vol_change.proofs.FreeAfter.{free_after_unlink, free_after_last_unlink}
 use Rattle.vol_volume.specs.Inodes.{KeepsInodes}

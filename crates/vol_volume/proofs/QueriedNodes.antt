@@ -9,8 +9,8 @@ use Rattle.vol_layout.specs.declared.mode.Kind.TheVariants as kinds
 use Rattle.vol_file.specs.Rules.{kind_at, HasSoundFiles}
 use Rattle.vol_dir.specs.Entries.{IsInUse}
 use Rattle.vol_dir.specs.Tree.{tree}
-use Rattle.vol_node.specs.Edits.{body_of}
-use Rattle.vol_node.specs.Nodes.{node_at}
+use Rattle.vol_change.specs.Edits.{body_of}
+use Rattle.vol_change.specs.Nodes.{node_at}
 use Rattle.vol_volume.specs.Answer.{stat_of}
 use Rattle.vol_volume.specs.declared.queries.Stat.{Stat}
 use Rattle.vol_volume.proofs.NodeReadings.{node_is, used_first}

@@ -11,7 +11,7 @@ use Rattle.vol_free.specs.Stack.{IsFree}
 use Rattle.vol_dir.specs.Tree.{free_count, shapes}
 use Rattle.vol_judge.specs.Sound.{IsSound}
 use Rattle.vol_judge.proofs.Parts.{sound_whole, sound_bounded, sound_fits, sound_files, sound_covered, sound_entries}
-use Rattle.vol_node.proofs.FreeCounts.{free_blocks}
+use Rattle.vol_change.proofs.FreeCounts.{free_blocks}
 use Rattle.vol_volume.specs.Standing.{Stands}
 
 -- a sound image has blocks 0 and 1

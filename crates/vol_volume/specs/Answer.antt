@@ -3,9 +3,9 @@ use Rattle.std.specs.Prelude.{◌≡◌, ℕ, Bool, true, false, not, List, [], 
 use Rattle.vol_dir.specs.Access.{grants, may_read}
 use Rattle.vol_dir.specs.Tree.{Content, Body, Directory, Device, Node, Tree}
 use Rattle.vol_dir.specs.Walk.{is_directory, walk}
-use Rattle.vol_node.specs.Nodes.{node_at, names_at}
+use Rattle.vol_change.specs.Nodes.{node_at, names_at}
 use Rattle.vol_volume.specs.Verdict.{first_of, then_others, of_node, body_tests}
-use Rattle.vol_node.specs.Edits.{body_of}
+use Rattle.vol_change.specs.Edits.{body_of}
 use Rattle.vol_dir.specs.declared.cred.Cred.{Cred}
 use Rattle.vol_dir.specs.declared.refusal.Refusal.{Refusal}
 use Rattle.vol_dir.specs.declared.refusal.Refusal.TheVariants as refusals

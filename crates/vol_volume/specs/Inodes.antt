@@ -2,7 +2,7 @@
 use Rattle.std.specs.Prelude.{◌≡◌, ℕ, ◌+◌, ◌≤◌, Bool, true, false, List, slice_index, is_none}
 use Rattle.vol_layout.specs.Inode.{inode_place}
 use Rattle.vol_dir.specs.Tree.{tree}
-use Rattle.vol_node.specs.Unused.{IsCleared, KeepsUnused}
+use Rattle.vol_change.specs.Unused.{IsCleared, KeepsUnused}
 use Rattle.vol_layout.specs.declared.edition.Edition.TheVariants.{V7}
 use Rattle.vol_layout.specs.declared.geometry.Geometry.{Geometry}
 

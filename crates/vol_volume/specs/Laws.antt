@@ -3,7 +3,7 @@ use Rattle.std.specs.Prelude.{◌≡◌, ◌≢◌, ◌↔◌, ℕ, List, [], �
 use Rattle.vol_dir.specs.Tree.{Tree, State}
 use Rattle.vol_dir.specs.Walk.{root, walk}
 use Rattle.vol_volume.specs.Verdict.{verdict}
-use Rattle.vol_node.specs.Edits.{at_time}
+use Rattle.vol_change.specs.Edits.{at_time}
 use Rattle.vol_volume.specs.Step.{step}
 use Rattle.vol_volume.specs.Answer.{query_refusal}
 use Rattle.vol_volume.specs.Journal.{after, IsLegal}

@@ -2,7 +2,7 @@
 use Rattle.std.specs.Prelude.{ℕ, List, Option, None, Some, Result, Ok, Err}
 use Rattle.vol_dir.specs.Tree.{State}
 use Rattle.vol_dir.specs.Walk.{walk, walk_parent}
-use Rattle.vol_node.specs.Edits.{at_time, after_write, after_truncate}
+use Rattle.vol_change.specs.Edits.{at_time, after_write, after_truncate}
 use Rattle.vol_change.specs.Effects.{after_create, after_mkdir, after_link, after_unlink, after_rmdir}
 use Rattle.vol_dir.specs.declared.refusal.Refusal.{Refusal}
 use Rattle.vol_volume.specs.declared.calls.Call.{Call}

@@ -8,7 +8,7 @@ ghost use Rattle.vol_dir.specs.Entries.{slots, IsDirectory, IsInUse};
 ghost use Rattle.vol_dir.specs.Names.{names_of};
 ghost use Rattle.vol_dir.specs.Tree.{tree};
 ghost use Rattle.vol_judge.specs.Sound.{IsSound};
-ghost use Rattle.vol_node.specs.Nodes.{node_at};
+ghost use Rattle.vol_change.specs.Nodes.{node_at};
 ghost use Rattle.vol_volume.specs.Answer.{stat_of, list_tests, read_bytes, Answers};
 ghost use Rattle.vol_volume.specs.Answering.{IsRefused, LeadsTo, named};
 ghost use Rattle.vol_volume.specs.Standing.{Stands};

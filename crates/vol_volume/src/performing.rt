@@ -9,7 +9,7 @@ ghost use Rattle.vol_volume.specs.Journal.{MayAnswer};
 ghost use Rattle.vol_volume.specs.Performing.{LeadsToParent, LeadsToNode, IsPerformed, caller_of, recorded_number};
 ghost use Rattle.vol_volume.specs.Standing.{Stands};
 ghost use Rattle.vol_dir.specs.Names.{get};
-ghost use Rattle.vol_node.specs.Nodes.{names_at};
+ghost use Rattle.vol_change.specs.Nodes.{names_at};
 ghost use Rattle.vol_volume.specs.Verdict.{has_name, verdict};
 
 mod body;

@@ -5,19 +5,19 @@ ghost use Rattle.vol_file.specs.Rules.{kind_at};
 ghost use Rattle.vol_layout.specs.declared.mode.Kind.TheVariants as kinds;
 ghost use Rattle.vol_dir.specs.Editing.{HasNamesOnce};
 ghost use Rattle.vol_dir.specs.Entries.{HasEntries};
-ghost use Rattle.vol_node.specs.Whole.{IsWhole};
+ghost use Rattle.vol_change.specs.Whole.{IsWhole};
 
 use crate::pieces::{Piece, check_bytes, filled};
 use pdp_words::Image;
 use std::alloc::{AllocError, Global};
 use std::process::Abort;
+use vol_change::{add_name, empty_file, remove_name, write_bytes};
 use vol_dir::{find, place_for};
 use vol_file::need;
 use vol_free::free_count;
 use vol_judge::judge;
 use vol_layout::i_list::{mode, size};
 use vol_layout::{Edition, Geometry, Kind};
-use vol_node::{add_name, empty_file, remove_name, write_bytes};
 
 /// Twelve blocks: i-numbers 1 to 16, the root's entries in block 3, an empty file with the name `file`,
 /// and blocks 4 to 11 free.
@@ -58,7 +58,7 @@ fn is_kind(image: &Image, geometry: &Geometry, i: u16, kind: Kind) -> bool
 }
 
 /// The names of a directory of a sound volume come once.
-#[tactic(auto, using(vol_node::proofs::EntryStates::names_once))]
+#[tactic(auto, using(vol_change::proofs::EntryStates::names_once))]
 fn begin(image: &Image, geometry: &Geometry, dir: u16)
     requires entries { HasEntries geometry.now image.now }
     requires first { 1 ≤ dir }

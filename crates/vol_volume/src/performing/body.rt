@@ -8,9 +8,9 @@ ghost use Rattle.vol_volume.specs.Verdict.{verdict};
 use crate::calls::{Call, Done};
 use crate::performing::{Caller, Performed, node, ready_stands};
 use pdp_words::Image;
+use vol_change::place_count;
 use vol_file::need;
 use vol_layout::Geometry;
-use vol_node::place_count;
 
 /// Performs a call that writes `bytes` from byte `offset` on.
 pub(crate) fn write(

@@ -8,8 +8,8 @@ ghost use Rattle.vol_volume.specs.Verdict.{verdict};
 use crate::calls::{Call, Done};
 use crate::performing::{Caller, Performed, named, parent, ready_stands};
 use pdp_words::Image;
+use vol_change::place_count;
 use vol_layout::Geometry;
-use vol_node::place_count;
 
 /// Performs a call by which a directory goes.
 pub(crate) fn rmdir(

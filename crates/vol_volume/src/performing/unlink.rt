@@ -2,7 +2,7 @@
 ghost use Rattle.std.specs.Prelude.{◌≡◌, None, nat_le, if◌then◌else◌};
 ghost use Rattle.vol_dir.specs.Entries.{IsInUse};
 ghost use Rattle.vol_dir.specs.Tree.{tree, shapes, state, place_count};
-ghost use Rattle.vol_node.specs.Nodes.{node_at};
+ghost use Rattle.vol_change.specs.Nodes.{node_at};
 ghost use Rattle.vol_change.specs.Ready.{IsReady, free_in};
 ghost use Rattle.vol_volume.specs.Performing.{IsPerformed};
 ghost use Rattle.vol_volume.specs.Standing.{Stands};
@@ -11,8 +11,8 @@ ghost use Rattle.vol_volume.specs.Verdict.{verdict};
 use crate::calls::{Call, Done};
 use crate::performing::{Caller, Performed, named, parent, ready_stands};
 use pdp_words::Image;
+use vol_change::place_count;
 use vol_layout::{Geometry, inode};
-use vol_node::place_count;
 
 /// How many blocks become free where node `i` loses a name: with the last one all of its blocks.
 fn freed(image: &Image, geometry: &Geometry, i: u16) -> u32

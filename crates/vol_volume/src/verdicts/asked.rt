@@ -9,7 +9,7 @@ ghost use Rattle.vol_dir.specs.Names.{get, names_in};
 ghost use Rattle.vol_dir.specs.Searching.{new_slot};
 ghost use Rattle.vol_dir.specs.Tree.{tree, state, free_count, shapes};
 ghost use Rattle.vol_dir.specs.Walk.{has_zero, is_directory, walk_parent};
-ghost use Rattle.vol_node.specs.Nodes.{node_at, names_at, size_with_entry};
+ghost use Rattle.vol_change.specs.Nodes.{node_at, names_at, size_with_entry};
 ghost use Rattle.vol_volume.specs.Mkfs.{is_bad_id};
 ghost use Rattle.vol_volume.specs.Standing.{Stands};
 ghost use Rattle.vol_volume.specs.Verdict.{has_others, is_device, has_free_number, is_too_great, is_full, is_above_free, of_parent};

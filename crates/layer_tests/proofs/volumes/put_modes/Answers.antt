@@ -1,11 +1,9 @@
-use Rattle.std.proofs.Common.{◌≡◌, ◌+◌, ◌≤◌, ap, subst, arith, List, ℕ}
+use Rattle.std.proofs.Common.{◌≡◌, ◌+◌, ap, subst, arith, List, ℕ}
 use Rattle.pdp_words.specs.Words.{SameOutside}
 use Rattle.vol_layout.specs.Edition.{constants}
 use Rattle.vol_layout.specs.Inode.{inode_place}
 use Rattle.vol_layout.specs.Names.{mode_of, IsFile}
 use Rattle.vol_layout.specs.Places.{has_places}
-use Rattle.vol_layout.specs.declared.edition.Edition.{Edition}
-use Rattle.vol_layout.specs.declared.edition.Edition.TheVariants.{V6, V7}
 use Rattle.vol_layout.specs.declared.geometry.Geometry.{Geometry}
 use Rattle.vol_file.specs.Rules.{IsSoundWith}
 use Rattle.vol_file.proofs.EmptyVolumes.{volume_sound}

@@ -5,12 +5,12 @@ use Rattle.vol_dir.specs.Names.{get, names_in}
 use Rattle.vol_dir.specs.Searching.{new_slot}
 use Rattle.vol_dir.specs.Tree.{Shape, shapes, tree}
 use Rattle.vol_judge.specs.Graph.{graph_of}
-use Rattle.vol_node.proofs.EntryStates.{names_is, shape_is}
-use Rattle.vol_node.proofs.FileRooms.{entry_room}
-use Rattle.vol_node.proofs.WholeLaws.{keeps_then}
-use Rattle.vol_node.proofs.WrittenStates.{IsKind}
+use Rattle.vol_change.proofs.EntryStates.{names_is, shape_is}
+use Rattle.vol_change.proofs.FileRooms.{entry_room}
+use Rattle.vol_change.proofs.WholeLaws.{keeps_then}
+use Rattle.vol_change.proofs.WrittenStates.{IsKind}
 use Rattle.vol_change.proofs.ReadyLaws.{slot_same, beside_same}
-use Rattle.vol_node.proofs.UnusedBytes.{unused_then}
+use Rattle.vol_change.proofs.UnusedBytes.{unused_then}
 use Rattle.vol_change.proofs.entries.enter.Goals as goal
 
 pub add_name-requires-clause-new : goal.add_name-requires-clause-new

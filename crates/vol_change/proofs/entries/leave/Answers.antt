@@ -4,9 +4,9 @@ use Rattle.vol_dir.specs.Entries.{slots}
 use Rattle.vol_dir.specs.Names.{get, names_of}
 use Rattle.vol_dir.specs.Searching.{slot_named}
 use Rattle.vol_judge.specs.Graph.{graph_of}
-use Rattle.vol_node.proofs.WholeLaws.{keeps_then}
+use Rattle.vol_change.proofs.WholeLaws.{keeps_then}
 use Rattle.vol_change.proofs.ReadyLaws.{slot_same, beside_same}
-use Rattle.vol_node.proofs.UnusedBytes.{unused_then}
+use Rattle.vol_change.proofs.UnusedBytes.{unused_then}
 use Rattle.vol_change.proofs.entries.leave.Goals as goal
 
 pub returns-clause-keeps : goal.returns-clause-keeps

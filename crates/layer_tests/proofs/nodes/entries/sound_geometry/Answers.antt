@@ -4,9 +4,9 @@ use Rattle.vol_layout.specs.declared.edition.Edition.TheVariants.{V6}
 use Rattle.vol_dir.specs.Entries.{HasEntries}
 use Rattle.vol_judge.specs.Sound.{IsSound, IsJudged}
 use Rattle.vol_judge.proofs.Parts.{sound_entries}
-use Rattle.vol_node.specs.Whole.{IsWhole}
-use Rattle.vol_node.proofs.SoundVolumes.{geometry_is}
-use Rattle.vol_node.proofs.WholeLaws.{whole_of}
+use Rattle.vol_change.specs.Whole.{IsWhole}
+use Rattle.vol_change.proofs.SoundVolumes.{geometry_is}
+use Rattle.vol_change.proofs.WholeLaws.{whole_of}
 use Rattle.layer_tests.proofs.nodes.entries.sound_geometry.Goals as goal
 
 pub returns-in-None-clause-whole : goal.returns-in-None-clause-whole

@@ -5,7 +5,7 @@ use Rattle.vol_layout.specs.Super.{free_head, time_place}
 use Rattle.vol_layout.proofs.CopyLaws.{IsCopy}
 use Rattle.vol_layout.proofs.InodeLaws.{place_from}
 use Rattle.vol_free.proofs.Stacks.{head_end}
-use Rattle.vol_node.proofs.WholeLaws.{super_order}
+use Rattle.vol_change.proofs.WholeLaws.{super_order}
 use Rattle.vol_volume.proofs.NewSizes.{start_limit, sizes_kept, time_kept}
 use Rattle.vol_volume.proofs.NewVolumes.{root_storable}
 use Rattle.vol_volume.proofs.blank.first.fill.Goals as goal

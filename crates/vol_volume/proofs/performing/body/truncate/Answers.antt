@@ -1,6 +1,6 @@
 use Rattle.std.proofs.Common.{◌≡◌, ◌+◌, ◌^◌, ◌<◌, arith}
 use Rattle.vol_dir.specs.Tree.{tree, shapes, state, place_count}
-use Rattle.vol_node.specs.Edits.{at_time, after_truncate}
+use Rattle.vol_change.specs.Edits.{at_time, after_truncate}
 use Rattle.vol_change.specs.Ready.{free_in}
 use Rattle.vol_change.proofs.FreeAfter.{free_after_truncate}
 use Rattle.vol_change.proofs.ReadyLaws.{ready_whole}

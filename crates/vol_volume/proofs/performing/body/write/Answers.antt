@@ -3,8 +3,8 @@ use Rattle.vol_layout.specs.Edition.{constants}
 use Rattle.vol_layout.specs.Places.{has_places}
 use Rattle.vol_file.specs.Shape.{touched}
 use Rattle.vol_dir.specs.Tree.{tree, shapes, state}
-use Rattle.vol_node.specs.Edits.{at_time, after_write}
-use Rattle.vol_node.specs.Shapes.{need_in}
+use Rattle.vol_change.specs.Edits.{at_time, after_write}
+use Rattle.vol_change.specs.Shapes.{need_in}
 use Rattle.vol_change.specs.Ready.{free_in}
 use Rattle.vol_change.proofs.FreeAfter.{free_after_write}
 use Rattle.vol_volume.proofs.Accepted.{write_led, write_passed}

@@ -1,6 +1,6 @@
 use Rattle.std.proofs.Common.{◌≡◌, ◌-◌, ◌≤◌, arith}
 use Rattle.vol_dir.specs.Tree.{tree, state}
-use Rattle.vol_node.specs.Edits.{at_time}
+use Rattle.vol_change.specs.Edits.{at_time}
 use Rattle.vol_change.specs.Effects.{after_link}
 use Rattle.vol_change.specs.Ready.{entry_need, free_in}
 use Rattle.vol_change.proofs.FreeAfter.{free_after_link}

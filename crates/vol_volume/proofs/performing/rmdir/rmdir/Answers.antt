@@ -1,8 +1,8 @@
 use Rattle.std.proofs.Common.{◌≡◌, ℕ, ◌+◌, ◌^◌, ◌<◌, ◌∙◌, ap, sym, arith}
 use Rattle.vol_dir.specs.Tree.{tree, shapes, state, place_count}
 use Rattle.vol_dir.specs.Walk.{is_directory}
-use Rattle.vol_node.specs.Edits.{at_time}
-use Rattle.vol_node.specs.Nodes.{node_at}
+use Rattle.vol_change.specs.Edits.{at_time}
+use Rattle.vol_change.specs.Nodes.{node_at}
 use Rattle.vol_change.specs.Effects.{after_rmdir}
 use Rattle.vol_change.specs.Ready.{free_in}
 use Rattle.vol_change.proofs.FreeAfter.{free_after_rmdir}

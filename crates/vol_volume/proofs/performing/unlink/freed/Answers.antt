@@ -2,7 +2,7 @@ use Rattle.std.proofs.Common.{◌≡◌, ◌∙◌, ap, sym, true, false, nat_le
 use Rattle.std.proofs.lemmas.Bool.Decides.{nat_tests}
 use Rattle.vol_layout.specs.declared.i_node.Inode.{Inode}
 use Rattle.vol_dir.specs.Tree.{tree, shapes, place_count}
-use Rattle.vol_node.specs.Nodes.{node_at}
+use Rattle.vol_change.specs.Nodes.{node_at}
 use Rattle.vol_change.proofs.ReadyLaws.{ready_whole}
 use Rattle.vol_volume.proofs.NodeReadings.{used_first, links_are}
 use Rattle.vol_volume.proofs.performing.unlink.freed.Goals as goal

@@ -2,8 +2,8 @@ use Rattle.std.proofs.Common.{◌≡◌, ℕ, ◌+◌, ◌^◌, ◌<◌, ◌∙�
 use Rattle.vol_layout.specs.Inode.{inode_of}
 use Rattle.vol_dir.specs.Tree.{tree, state}
 use Rattle.vol_dir.specs.Walk.{is_directory}
-use Rattle.vol_node.specs.Edits.{at_time}
-use Rattle.vol_node.specs.Nodes.{node_at}
+use Rattle.vol_change.specs.Edits.{at_time}
+use Rattle.vol_change.specs.Nodes.{node_at}
 use Rattle.vol_change.specs.Effects.{after_unlink}
 use Rattle.vol_change.specs.Ready.{free_in}
 use Rattle.vol_volume.proofs.Accepted.{unlink_led, unlink_passed}

@@ -1,0 +1,73 @@
+-- Whether there is room for a change of a file, as the state says.
+use Rattle.std.proofs.Common.{◌≡◌, ◌∙◌, sym, ap, ℕ, ◌*◌, ◌/◌, ◌≤◌, List, [], ◌∷◌, length, true, true≢false, arith}
+use Rattle.vol_layout.specs.Names.{mode_of, form_at, IsFile}
+use Rattle.vol_layout.specs.Places.{has_places}
+use Rattle.vol_layout.specs.declared.geometry.Geometry.{Geometry}
+use Rattle.vol_layout.specs.declared.mode.Kind.{Kind}
+use Rattle.vol_layout.specs.declared.mode.Kind.TheVariants as kinds
+use Rattle.vol_free.proofs.Stacks.{zone_behind, IsFree_unique}
+use Rattle.vol_file.specs.Need.{need_of, need}
+use Rattle.vol_file.specs.Rules.{kind_at, IsSoundWith}
+use Rattle.vol_file.specs.Shape.{is_named}
+use Rattle.vol_dir.specs.Entries.{slots}
+use Rattle.vol_dir.specs.Names.{names_in}
+use Rattle.vol_dir.specs.Searching.{new_slot}
+use Rattle.vol_dir.specs.Tree.{free_count, is_named_place, shape_of, shapes}
+use Rattle.vol_change.specs.Shapes.{need_in, entry_blocks}
+use Rattle.vol_change.specs.Whole.{IsWhole}
+use Rattle.vol_change.proofs.FreeCounts.{form_shape, free_blocks}
+use Rattle.vol_change.proofs.States.{shape_here}
+use Rattle.vol_change.proofs.ShapePlaces.{need_places}
+use Rattle.vol_change.proofs.WrittenStates.{IsKind}
+use Rattle.vol_change.proofs.EntryStates.{slot_block, shape_is}
+
+-- what a file of some kind needs
+need_by : (geometry : Geometry) (image : List ℕ) (i : ℕ) (blocks : List ℕ) (kind : Kind) → has_places (kind_at geometry image i) ≡ true
+    → has_places kind ≡ true → need_in geometry.edition (shape_of geometry image i kind) blocks ≡ need_of (form_at geometry image i) (is_named geometry image i) blocks
+need_by geometry image i blocks kinds.Regular file h =
+    ap (λ f. need_of f (is_named_place geometry image i) blocks) (form_shape geometry.edition (mode_of geometry image i) file)
+    ∙ need_places (form_at geometry image i) (is_named geometry image i) blocks
+need_by geometry image i blocks kinds.Directory file h =
+    ap (λ f. need_of f (is_named_place geometry image i) blocks) (form_shape geometry.edition (mode_of geometry image i) file)
+    ∙ need_places (form_at geometry image i) (is_named geometry image i) blocks
+need_by geometry image i blocks kinds.Free file h = absurd (true≢false (sym h))
+need_by geometry image i blocks kinds.Special file h = absurd (true≢false (sym h))
+need_by geometry image i blocks kinds.Odd file h = absurd (true≢false (sym h))
+
+-- a file needs as many blocks as its shape says
+pub need_is : (geometry : Geometry) (image : List ℕ) (i : ℕ) (blocks : List ℕ) → IsFile geometry image i
+    → need_in geometry.edition (shapes geometry image i) blocks ≡ need_of (form_at geometry image i) (is_named geometry image i) blocks
+need_is geometry image i blocks file =
+    ap (λ shape. need_in geometry.edition shape blocks) (shape_here geometry image i file.first file.last)
+    ∙ need_by geometry image i blocks (kind_at geometry image i) file.kind file.kind
+
+-- what is within the free blocks that the shapes leave is within those of the image
+pub room_is : (geometry : Geometry) (image : List ℕ) (n : ℕ) → IsWhole geometry image → n ≤ free_count geometry (shapes geometry image)
+    → (blocks : List ℕ) → IsSoundWith geometry image blocks → n ≤ length blocks
+room_is geometry image n whole within blocks sound =
+    let zone = zone_behind whole.sound.fits in
+    let count = free_blocks geometry image whole.blocks whole.sound whole.covered in
+    let same = ap length (IsFree_unique (omega (arith, zone)) whole.sound.free sound.free) in
+    omega (arith, within, count, same)
+
+-- where the shapes leave room for a file's blocks, there is room
+pub file_room : (geometry : Geometry) (image : List ℕ) (i : ℕ) (blocks : List ℕ) → IsWhole geometry image → IsFile geometry image i
+    → need_in geometry.edition (shapes geometry image i) blocks ≤ free_count geometry (shapes geometry image)
+    → (free : List ℕ) → IsSoundWith geometry image free → need_of (form_at geometry image i) (is_named geometry image i) blocks ≤ length free
+file_room geometry image i blocks whole file within =
+    let is = need_is geometry image i blocks file in
+    room_is geometry image (need_of (form_at geometry image i) (is_named geometry image i) blocks) whole (omega (arith, within, is))
+
+-- where the shapes leave room for a new entry, there is room
+pub entry_room : (geometry : Geometry) (image : List ℕ) (d : ℕ) → IsWhole geometry image → IsKind geometry image d kinds.Directory
+    → need_in geometry.edition (shapes geometry image d) (entry_blocks (shapes geometry image d)) ≤ free_count geometry (shapes geometry image)
+    → (free : List ℕ) → IsSoundWith geometry image free
+    → need geometry image d (16 * new_slot (names_in (slots geometry image d))) 16 ≤ length free
+entry_room geometry image d whole is within free sound =
+    let file : IsFile geometry image d = record { first = is.first; last = is.last; kind = ap has_places is.kind } in
+    let s = new_slot (names_in (slots geometry image d)) in
+    let list : entry_blocks (shapes geometry image d) ≡ s / 32 ∷ [] = ap entry_blocks (shape_is geometry image d is) in
+    let here = ap (need_in geometry.edition (shapes geometry image d)) list in
+    let there = ap (need_of (form_at geometry image d) (is_named geometry image d)) (slot_block s) in
+    let room = file_room geometry image d (s / 32 ∷ []) whole file (omega (arith, within, here)) free sound in
+    omega (arith, room, there)

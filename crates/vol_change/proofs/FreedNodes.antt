@@ -1,0 +1,163 @@
+-- A node that goes: its file is truncated, and its i-node cleared.
+use Rattle.std.proofs.Common.{◌≡◌, ◌∙◌, sym, ap, ℕ, ◌+◌, ◌<◌, ◌≤◌, ◌++◌, if◌then◌else◌, List, slice_index, None, inl, inr, arith}
+use Rattle.std.specs.Option.{option_map}
+use Rattle.std.proofs.lemmas.Bool.{cases_lt, lt-ltb, le-ltb, false≢true}
+use Rattle.pdp_words.proofs.Outside.{unchanged}
+use Rattle.pdp_words.specs.Words.{word, SameOutside}
+use Rattle.vol_layout.specs.Edition.{constants}
+use Rattle.vol_layout.specs.Inode.{inode_of, inode_place, kind_of}
+use Rattle.vol_layout.specs.Names.{mode_of, IsPlaceOf, named}
+use Rattle.vol_layout.specs.Places.{has_places}
+use Rattle.vol_layout.specs.declared.edition.Edition.{Edition}
+use Rattle.vol_layout.specs.declared.edition.Edition.TheVariants.{V6, V7}
+use Rattle.vol_layout.specs.declared.geometry.Geometry.{Geometry}
+use Rattle.vol_layout.specs.declared.mode.Kind.TheVariants as kinds
+use Rattle.vol_layout.proofs.InodeLaws.{place_from, place_room}
+use Rattle.vol_layout.proofs.KindLaws.{kind_zero}
+use Rattle.vol_layout.specs.Super.{cache_head}
+use Rattle.vol_free.specs.Numbers.{cache_len, Cached}
+use Rattle.vol_free.proofs.Frames.{IsFree-before_zone}
+use Rattle.vol_file.specs.Rules.{kind_at, IsSoundWith}
+use Rattle.vol_file.specs.Changes.{Truncates, blocks_of}
+use Rattle.vol_dir.specs.Tree.{no_shape, content_of, node_with, node_of, shape_of, state}
+use Rattle.vol_judge.specs.Graph.{graph_of}
+use Rattle.vol_judge.proofs.ImageGraphs.{kind_inside}
+use Rattle.vol_change.specs.Alone.{ChangesOnly}
+use Rattle.vol_change.specs.Edits.{remove_node}
+use Rattle.vol_change.specs.NodeGraphs.{DropsNode}
+use Rattle.vol_change.specs.Whole.{IsWhole, Keeps}
+use Rattle.vol_change.proofs.NewRules.{bare_whole}
+use Rattle.vol_change.proofs.OneNode.{only_file, only_inode, only_then, cache_node, cache_only, cache_keeps, only_makes, only_graph, only_links}
+
+-- a truncation keeps the rules
+pub truncated_whole : (geometry : Geometry) (old new : List ℕ) (i : ℕ) → (whole : IsWhole geometry old)
+    → ((blocks : List ℕ) → IsSoundWith geometry old blocks → Truncates geometry old new i blocks) → IsWhole geometry new
+truncated_whole geometry old new i whole truncates =
+    let done = truncates whole.blocks whole.sound in
+    record { blocks = blocks_of geometry old i ++ whole.blocks; sound = done.sound; covered = done.covered whole.covered }
+
+-- and changes that file alone
+pub truncated_only : (geometry : Geometry) (old new : List ℕ) (i : ℕ) → (whole : IsWhole geometry old) → 1 ≤ i
+    → ((blocks : List ℕ) → IsSoundWith geometry old blocks → Truncates geometry old new i blocks) → ChangesOnly geometry old new i
+truncated_only geometry old new i whole first truncates =
+    only_file geometry old new i whole.sound.fits (truncates whole.blocks whole.sound).alone first
+
+-- an i-node has room for its mode
+pub mode_room : (edition : Edition) → 2 ≤ (constants edition).inode_bytes
+mode_room V6 = omega arith
+mode_room V7 = omega arith
+
+module _ (geometry : Geometry) (old new : List ℕ) (i : ℕ) (whole : IsWhole geometry old) (above : (constants geometry.edition).root < i)
+    (last : i ≤ geometry.last_inode) (none : (p : List ℕ) → IsPlaceOf geometry old i p → named geometry old i p ≡ 0)
+    (zero : (k : ℕ) → inode_place geometry.edition i ≤ k → k < inode_place geometry.edition i + (constants geometry.edition).inode_bytes
+    → slice_index new k ≡ 0)
+    (same : SameOutside old new (inode_place geometry.edition i) (inode_place geometry.edition i + (constants geometry.edition).inode_bytes)) where
+  -- an i-node of zeros is free
+  pub cleared_mode : mode_of geometry new i ≡ 0
+  cleared_mode =
+      let room : 2 ≤ (constants geometry.edition).inode_bytes = mode_room geometry.edition in
+      let low : slice_index new (inode_place geometry.edition i) ≡ 0 = zero (inode_place geometry.edition i) (omega arith) (omega (arith, room)) in
+      let high : slice_index new (inode_place geometry.edition i + 1) ≡ 0 = zero (inode_place geometry.edition i + 1) (omega arith) (omega (arith, room)) in
+      omega (arith, low, high)
+
+  cleared_kind : kind_at geometry new i ≡ kinds.Free
+  cleared_kind = ap (kind_of geometry.edition) cleared_mode ∙ kind_zero geometry.edition
+
+  -- clearing it changes it alone
+  pub cleared_only : ChangesOnly geometry old new i
+  cleared_only = only_inode geometry old new i whole.sound.fits (omega (arith, above)) last same
+
+  -- and keeps the rules
+  pub cleared_whole : IsWhole geometry new
+  cleared_whole =
+      let room = place_room geometry old i whole.sound.fits (omega (arith, above)) last in
+      let start = place_from geometry.edition i in
+      bare_whole geometry old new i whole (record {
+        above = above;
+        others = cleared_only.others;
+        known = λ odd. let clash : kinds.Free ≡ kinds.Odd = sym cleared_kind ∙ odd in cc;
+        size = λ file. absurd (false≢true (sym (ap has_places cleared_kind) ∙ file.kind));
+        links = λ used. absurd (used cleared_kind);
+        before = none;
+        after = λ p place. absurd (false≢true (sym (ap has_places cleared_kind) ∙ place.file.kind));
+      }) same.len (λ blocks free. IsFree-before_zone same (omega (arith, start)) room free)
+
+-- the cache holds at most 100 numbers
+cache_most : (edition : Edition) (image : List ℕ) → cache_len edition image ≤ 100
+cache_most edition image =
+    elim (cases_lt 100 (word image (cache_head edition))) [
+      | inl more ↦ let none : cache_len edition image ≡ 0 = ap (λ t. if t then 0 else word image (cache_head edition)) (lt-ltb 100 (word image (cache_head edition)) more) in
+          omega (arith, none)
+      | inr few ↦
+          let all : cache_len edition image ≡ word image (cache_head edition) =
+          ap (λ t. if t then 0 else word image (cache_head edition)) (le-ltb 100 (word image (cache_head edition)) few) in
+          omega (arith, all, few)
+    ]
+
+-- what a number is given to changes within the cache alone
+pub given_inside : (edition : Edition) (old new : List ℕ) (i : ℕ)
+    → (cache_len edition old < 100 → Cached edition old new (cache_len edition old) i) → (cache_len edition old ≡ 100 → new ≡ old)
+    → SameOutside old new (cache_head edition) (cache_head edition + 202)
+given_inside edition old new i cached full =
+    let most = cache_most edition old in
+    elim (cases_lt (cache_len edition old) 100) [
+      | inl room ↦
+          let put = cached room in
+          record { len = put.len; below = put.below; above = λ k h. put.above k (omega (arith, room, h)) }
+      | inr none ↦ rw (full (omega (arith, most, none))) (unchanged old)
+    ]
+
+-- a node is freed: its blocks, its i-node, and its number
+pub record FreesNode (geometry : Geometry) (old mid low new : List ℕ) (i : ℕ) : Type 0 where
+  pub above : (constants geometry.edition).root < i
+  pub last : i ≤ geometry.last_inode
+  pub whole : IsWhole geometry mid
+  pub only : ChangesOnly geometry old mid i
+  pub none : (p : List ℕ) → IsPlaceOf geometry mid i p → named geometry mid i p ≡ 0
+  pub zero : (k : ℕ) → inode_place geometry.edition i ≤ k → k < inode_place geometry.edition i + (constants geometry.edition).inode_bytes
+      → slice_index low k ≡ 0
+  pub cleared : SameOutside mid low (inode_place geometry.edition i) (inode_place geometry.edition i + (constants geometry.edition).inode_bytes)
+  pub given : SameOutside low new (cache_head geometry.edition) (cache_head geometry.edition + 202)
+
+module _ (geometry : Geometry) (old mid low new : List ℕ) (i : ℕ) (frees : FreesNode geometry old mid low new i) where
+  first : 1 ≤ i
+  first = omega (arith, frees.above)
+
+  low_whole : IsWhole geometry low
+  low_whole = cleared_whole geometry mid low i frees.whole frees.above frees.last frees.none frees.zero frees.cleared
+
+  -- nothing else changes
+  freed_only : ChangesOnly geometry old new i
+  freed_only =
+      only_then geometry old mid new i frees.only
+      (only_then geometry mid low new i (cleared_only geometry mid low i frees.whole frees.above frees.last frees.none frees.zero frees.cleared)
+      (cache_only geometry low new low_whole frees.given i))
+
+  -- the i-node is free
+  freed_mode : mode_of geometry new i ≡ 0
+  freed_mode =
+      (cache_node geometry low new low_whole frees.given i).content.mode
+      ∙ cleared_mode geometry mid low i frees.whole frees.above frees.last frees.none frees.zero frees.cleared
+
+  freed_kind : kind_at geometry new i ≡ kinds.Free
+  freed_kind = ap (kind_of geometry.edition) freed_mode ∙ kind_zero geometry.edition
+
+  -- the rules hold, and what no call changes stays
+  pub freed_keeps : Keeps geometry old new
+  freed_keeps = record { whole = (cache_keeps geometry low new low_whole frees.given).whole; around = freed_only.around }
+
+  -- it is the edit that removes the node
+  pub freed_makes : state geometry new ≡ remove_node i (state geometry old)
+  unfolding node_of
+  freed_makes =
+      only_makes geometry old new i None no_shape first frees.last freed_only
+      (ap (λ k. option_map (node_with (inode_of geometry.edition new i)) (content_of geometry new i k)) freed_kind)
+      (ap (shape_of geometry new i) freed_kind)
+
+  -- and drops it from the graph
+  pub freed_graph : DropsNode (graph_of geometry old) (graph_of geometry new) i
+  freed_graph = record {
+    others = only_graph geometry old new i freed_only;
+    kind = kind_inside geometry new i first frees.last ∙ freed_kind;
+    kept = λ x other used. only_links geometry old new i x freed_only other used;
+  }

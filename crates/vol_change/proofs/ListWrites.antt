@@ -1,0 +1,247 @@
+-- What writes below the data zone, of the super-block's time or of one i-node, leave of the nodes.
+use Rattle.std.proofs.Common.{◌≡◌, ◌≢◌, ◌∙◌, sym, ap, refl, ℕ, ◌+◌, ◌*◌, ◌≤◌, List, Option, None, Some, get_or, min, inl, inr, arith}
+use Rattle.std.specs.Option.{option_map}
+use Rattle.std.proofs.lemmas.Bool.{cases_eq}
+use Rattle.pdp_words.specs.Words.{long, SameOutside}
+use Rattle.vol_layout.specs.Edition.{constants}
+use Rattle.vol_layout.specs.Geometry.{Fits}
+use Rattle.vol_layout.specs.Inode.{inode_of, inode_place}
+use Rattle.vol_layout.specs.Names.{mode_of}
+use Rattle.vol_layout.specs.Places.{form_of, has_places}
+use Rattle.vol_layout.specs.Super.{time_place}
+use Rattle.vol_layout.specs.declared.geometry.Geometry.{Geometry}
+use Rattle.vol_layout.specs.declared.i_node.Inode.{Inode}
+use Rattle.vol_layout.proofs.CopyLaws.{copy_above, copy_below, long_copied}
+use Rattle.vol_layout.proofs.InodeLaws.{KeepsInode, inode_apart, inode_mode, inode_size, inode_address, mode_kept, size_kept, inode_of_kept, place_from, place_room}
+use Rattle.vol_layout.proofs.FrameLaws.{KeepsPlaces, named_list_kept, body_byte_list_kept}
+use Rattle.vol_layout.proofs.BodyLaws.{same_body}
+use Rattle.vol_free.proofs.Frames.{IsFree-before_zone}
+use Rattle.vol_file.specs.Rules.{size_of, kind_at}
+use Rattle.vol_dir.specs.Entries.{IsDirectory, entry_at}
+use Rattle.vol_dir.specs.Tree.{Content, Node, node_with, node_of, content_of, state}
+use Rattle.vol_judge.specs.Graph.{graph_of}
+use Rattle.vol_judge.specs.GraphEdits.{IsSameGraph}
+use Rattle.vol_judge.proofs.EditedGraphs.{same_graph, kind_kept, entry_kept}
+use Rattle.vol_judge.proofs.ImageGraphs.{directory_from, inside_from}
+use Rattle.vol_change.specs.Edits.{at_time, change_node}
+use Rattle.vol_change.specs.NodeGraphs.{SetsLinks}
+use Rattle.vol_change.specs.Alone.{KeepsContent}
+use Rattle.vol_change.specs.Whole.{IsWhole, Keeps}
+use Rattle.vol_change.proofs.Contents.{kind_same, entry_same, shape_same, node_same, node_of_content}
+use Rattle.vol_dir.proofs.WalkLaws.{node_inside}
+use Rattle.vol_change.proofs.States.{makes_node, makes_time}
+use Rattle.vol_change.proofs.WholeLaws.{whole_kept, around_list, zone_behind, super_order}
+
+-- a write below the data zone keeps what i-node i stands for, where its mode, size and addresses stay
+content_fields : (geometry : Geometry) (old new : List ℕ) (from to i : ℕ) → SameOutside old new from to → to ≤ 512 * geometry.zone_start
+    → mode_of geometry new i ≡ mode_of geometry old i → size_of geometry new i ≡ size_of geometry old i
+    → (inode_of geometry.edition new i).addresses ≡ (inode_of geometry.edition old i).addresses → KeepsContent geometry old new i
+content_fields geometry old new from to i same below mode size addresses =
+    let places : KeepsPlaces geometry old new i = record {
+      form = ap (form_of geometry.edition) mode;
+      addresses = λ k h.
+          sym (inode_address geometry.edition new (inode_place geometry.edition i) k h)
+          ∙ (ap (λ xs. get_or xs k 0) addresses ∙ inode_address geometry.edition old (inode_place geometry.edition i) k h);
+    } in
+    record {
+      mode = mode;
+      size = size;
+      addresses = addresses;
+      bytes = λ file. same_body geometry old new i (ap (λ n. min n (constants geometry.edition).greatest) size)
+          (λ n h. body_byte_list_kept geometry old new from to i n places same below);
+      names = λ p place. named_list_kept geometry old new from to i p places same below place.place;
+    }
+
+-- and so it does where the i-node itself stays
+pub content_kept : (geometry : Geometry) (old new : List ℕ) (from to i : ℕ) → SameOutside old new from to → to ≤ 512 * geometry.zone_start
+    → KeepsInode geometry old new i → KeepsContent geometry old new i
+content_kept geometry old new from to i same below kept =
+    content_fields geometry old new from to i same below (mode_kept geometry old new i kept) (size_kept geometry old new i kept)
+    (ap (λ node. node.addresses) (inode_of_kept geometry old new i kept))
+
+-- the entries of directories stay where all contents do
+entries_stay : (geometry : Geometry) (old new : List ℕ) (x s : ℕ)
+    → ((j : ℕ) → 1 ≤ j → j ≤ geometry.last_inode → KeepsContent geometry old new j) → IsDirectory geometry old x
+    → entry_at geometry new x s ≡ entry_at geometry old x s
+entries_stay geometry old new x s kept is =
+    entry_same geometry old new x s (kept x is.first is.last) (record { first = is.first; last = is.last; kind = ap has_places is.kind })
+
+-- a write of the time leaves each i-node
+time_inode : (geometry : Geometry) (old new : List ℕ) (j : ℕ)
+    → SameOutside old new (time_place geometry.edition) (time_place geometry.edition + 4) → KeepsInode geometry old new j
+time_inode geometry old new j same =
+    let order = super_order geometry.edition in
+    let start = place_from geometry.edition j in
+    copy_above old new (time_place geometry.edition) (time_place geometry.edition + 4) (inode_place geometry.edition j)
+    (constants geometry.edition).inode_bytes same (omega (arith, order, start))
+
+-- and what it stands for
+time_content : (geometry : Geometry) (old new : List ℕ) (j : ℕ) → Fits geometry old
+    → SameOutside old new (time_place geometry.edition) (time_place geometry.edition + 4) → KeepsContent geometry old new j
+time_content geometry old new j fits same =
+    let order = super_order geometry.edition in
+    let behind = zone_behind geometry old fits in
+    content_kept geometry old new (time_place geometry.edition) (time_place geometry.edition + 4) j same (omega (arith, order, behind))
+    (time_inode geometry old new j same)
+
+-- a write of the time keeps the rules and what no call changes
+pub time_keeps : (geometry : Geometry) (old new : List ℕ) → IsWhole geometry old
+    → SameOutside old new (time_place geometry.edition) (time_place geometry.edition + 4) → Keeps geometry old new
+time_keeps geometry old new whole same =
+    let order = super_order geometry.edition in
+    let behind = zone_behind geometry old whole.sound.fits in
+    record {
+      whole = whole_kept geometry old new same.len (λ j first last. time_content geometry old new j whole.sound.fits same)
+          (λ j first last used.
+          rw (inode_of_kept geometry old new j (time_inode geometry old new j same)) (whole.sound.sizes.links j first last used))
+          (λ blocks free. IsFree-before_zone same (omega (arith, order)) (omega (arith, order, behind)) free) whole;
+      around = record {
+        len = same.len;
+        before = λ k h. same.below k (omega (arith, order));
+        flags = λ k a b. same.below k b;
+        rest = λ k a b. same.above k a;
+        behind = λ k h. same.above k (omega (arith, order, behind, whole.sound.fits.zone));
+      };
+    }
+
+-- and is the edit of the time
+pub time_makes : (geometry : Geometry) (old new : List ℕ) (now : ℕ) → IsWhole geometry old
+    → SameOutside old new (time_place geometry.edition) (time_place geometry.edition + 4) → long new (time_place geometry.edition) ≡ now
+    → state geometry new ≡ at_time now (state geometry old)
+time_makes geometry old new now whole same time =
+    makes_time geometry old new now time
+    (λ j first last.
+    let kept = time_content geometry old new j whole.sound.fits same in (
+      node_same geometry old new j kept first last (inode_of_kept geometry old new j (time_inode geometry old new j same)),
+      shape_same geometry old new j kept first last,
+    ))
+
+-- and leaves the graph
+pub time_graph : (geometry : Geometry) (old new : List ℕ) → IsWhole geometry old
+    → SameOutside old new (time_place geometry.edition) (time_place geometry.edition + 4)
+    → IsSameGraph (graph_of geometry old) (graph_of geometry new)
+time_graph geometry old new whole same =
+    let kept = λ (j : ℕ). time_content geometry old new j whole.sound.fits same in
+    same_graph geometry old new (λ x first last. kind_same geometry old new x (kept x))
+    (λ x first last. ap (λ node. node.links) (inode_of_kept geometry old new x (time_inode geometry old new x same)))
+    (λ x is. (kept x).size) (λ x t is. entries_stay geometry old new x t (λ j first last. kept j) is)
+
+-- i-node i was put with the mode, the size and the addresses that it had, and no other byte has changed
+pub record PutsInode (geometry : Geometry) (old new : List ℕ) (i : ℕ) (node : Inode) : Type 0 where
+  pub first : 1 ≤ i
+  pub last : i ≤ geometry.last_inode
+  pub same : SameOutside old new (inode_place geometry.edition i) (inode_place geometry.edition i + (constants geometry.edition).inode_bytes)
+  pub is : inode_of geometry.edition new i ≡ node
+  pub mode : node.mode ≡ (inode_of geometry.edition old i).mode
+  pub size : node.size ≡ (inode_of geometry.edition old i).size
+  pub addresses : node.addresses ≡ (inode_of geometry.edition old i).addresses
+
+-- then every i-node stands for what it did
+put_content : (geometry : Geometry) (old new : List ℕ) (i j : ℕ) (node : Inode) → Fits geometry old → PutsInode geometry old new i node
+    → 1 ≤ j → j ≤ geometry.last_inode → KeepsContent geometry old new j
+put_content geometry old new i j node fits puts first last =
+    let room = place_room geometry old i fits puts.first puts.last in
+    let from = inode_place geometry.edition i in
+    let to = inode_place geometry.edition i + (constants geometry.edition).inode_bytes in
+    elim (cases_eq j i) [
+      | inl e ↦
+          rw e (content_fields geometry old new from to i puts.same room
+          (sym (inode_mode geometry.edition new from) ∙ (ap (λ n. n.mode.bits) puts.is ∙ (ap (λ m. m.bits) puts.mode ∙ inode_mode geometry.edition old from)))
+          (sym (inode_size geometry.edition new from) ∙ (ap (λ n. n.size) puts.is ∙ (puts.size ∙ inode_size geometry.edition old from)))
+          (ap (λ n. n.addresses) puts.is ∙ puts.addresses))
+      | inr other ↦ content_kept geometry old new from to j puts.same room (inode_apart geometry old new i j puts.first first other puts.same)
+    ]
+
+-- the others stay themselves
+put_other : (geometry : Geometry) (old new : List ℕ) (i j : ℕ) (node : Inode) → PutsInode geometry old new i node → 1 ≤ j → j ≢ i
+    → inode_of geometry.edition new j ≡ inode_of geometry.edition old j
+put_other geometry old new i j node puts first other =
+    inode_of_kept geometry old new j (inode_apart geometry old new i j puts.first first other puts.same)
+
+-- the time of the super-block stands before the i-nodes
+put_time : (geometry : Geometry) (old new : List ℕ) (i : ℕ) (node : Inode) → PutsInode geometry old new i node
+    → long new (time_place geometry.edition) ≡ long old (time_place geometry.edition)
+put_time geometry old new i node puts =
+    let start = place_from geometry.edition i in
+    let order = super_order geometry.edition in
+    let copy = copy_below old new (inode_place geometry.edition i) (inode_place geometry.edition i + (constants geometry.edition).inode_bytes)
+    (time_place geometry.edition) 4 puts.same (omega (arith, start, order)) in
+    long_copied old new (time_place geometry.edition) (time_place geometry.edition) 4 0 (time_place geometry.edition) (time_place geometry.edition) copy
+    (omega arith) (omega arith) (omega arith)
+
+-- such a put keeps the rules and what no call changes, where the links are within the limit
+pub put_keeps : (geometry : Geometry) (old new : List ℕ) (i : ℕ) (node : Inode) → IsWhole geometry old → PutsInode geometry old new i node
+    → node.links ≤ (constants geometry.edition).link_limit → Keeps geometry old new
+put_keeps geometry old new i node whole puts limit =
+    let room = place_room geometry old i whole.sound.fits puts.first puts.last in
+    let start = place_from geometry.edition i in
+    record {
+      whole = whole_kept geometry old new puts.same.len (λ j first last. put_content geometry old new i j node whole.sound.fits puts first last)
+          (λ j first last used. elim (cases_eq j i) [
+            | inl e ↦ rw e (rw puts.is limit)
+            | inr other ↦ rw (put_other geometry old new i j node puts first other) (whole.sound.sizes.links j first last used)
+          ])
+          (λ blocks free. IsFree-before_zone puts.same (omega (arith, start)) room free) whole;
+      around = around_list geometry old new (inode_place geometry.edition i) (inode_place geometry.edition i + (constants geometry.edition).inode_bytes)
+          whole.sound.fits puts.same start room;
+    }
+
+-- a node with another i-node, whatever it holds
+node_put : (change : Node → Node) (was node : Inode) (content : Option Content)
+    → ((c : Content) → node_with node c ≡ change (node_with was c))
+    → option_map (node_with node) content ≡ option_map change (option_map (node_with was) content)
+node_put change was node None each = refl
+node_put change was node (Some c) each = ap (λ n. Some n) (each c)
+
+-- and is the edit that changes node i as the i-node's links and times do
+pub put_makes : (geometry : Geometry) (old new : List ℕ) (i : ℕ) (node : Inode) (change : Node → Node) → IsWhole geometry old
+    → PutsInode geometry old new i node → ((c : Content) → node_with node c ≡ change (node_with (inode_of geometry.edition old i) c))
+    → state geometry new ≡ change_node i change (state geometry old)
+unfolding node_of
+put_makes geometry old new i node change whole puts each =
+    let kept = λ (j : ℕ) (first : 1 ≤ j) (last : j ≤ geometry.last_inode). put_content geometry old new i j node whole.sound.fits puts first last in
+    makes_node geometry old new i (option_map change ((state geometry old).tree.nodes i)) (record {
+      first = puts.first;
+      last = puts.last;
+      time = put_time geometry old new i node puts;
+      others = λ j first last other. (
+        node_same geometry old new j (kept j first last) first last (put_other geometry old new i j node puts first other),
+        shape_same geometry old new j (kept j first last) first last,
+      );
+      here = node_of_content geometry old new i (kept i puts.first puts.last) puts.first puts.last
+          ∙ (ap (λ n. option_map (node_with n) (content_of geometry old i (kind_at geometry old i))) puts.is
+          ∙ (node_put change (inode_of geometry.edition old i) node (content_of geometry old i (kind_at geometry old i)) each
+          ∙ sym (ap (option_map change) (node_inside geometry old i puts.first puts.last))));
+      places = shape_same geometry old new i (kept i puts.first puts.last) puts.first puts.last;
+    })
+
+-- and leaves the graph but for the links of i
+pub put_graph : (geometry : Geometry) (old new : List ℕ) (i : ℕ) (node : Inode) → IsWhole geometry old → PutsInode geometry old new i node
+    → SetsLinks (graph_of geometry old) (graph_of geometry new) i node.links
+put_graph geometry old new i node whole puts =
+    let kept = λ (j : ℕ) (first : 1 ≤ j) (last : j ≤ geometry.last_inode). put_content geometry old new i j node whole.sound.fits puts first last in
+    let kind = λ (x : ℕ). kind_kept geometry old new x (λ first last. kind_same geometry old new x (kept x first last)) in
+    record {
+      kind = kind;
+      size = λ x is. let inside = directory_from geometry old x is in (kept x inside.first inside.last).size;
+      entry = λ x t. entry_kept geometry old new x t (kind x) (λ is. entries_stay geometry old new x t kept is);
+      links = ap (λ n. n.links) puts.is;
+      kept = λ x other used.
+          let inside = inside_from geometry old x used in
+          ap (λ n. n.links) (put_other geometry old new i x node puts inside.0 other);
+    }
+
+-- where the links stay too, the graph is the same
+pub put_same : (geometry : Geometry) (old new : List ℕ) (i : ℕ) (node : Inode) → IsWhole geometry old → PutsInode geometry old new i node
+    → node.links ≡ (inode_of geometry.edition old i).links → IsSameGraph (graph_of geometry old) (graph_of geometry new)
+put_same geometry old new i node whole puts links =
+    let sets = put_graph geometry old new i node whole puts in
+    record {
+      kind = sets.kind;
+      links = λ x used. elim (cases_eq x i) [
+        | inl e ↦ rw e (sets.links ∙ links)
+        | inr other ↦ sets.kept x other used
+      ];
+      size = sets.size;
+      entry = sets.entry;
+    }

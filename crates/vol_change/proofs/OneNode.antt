@@ -1,0 +1,248 @@
+-- Changes of one node alone: one after another, and what all others keep.
+use Rattle.std.proofs.Common.{◌≡◌, ◌≢◌, ◌∙◌, ap, ℕ, ◌+◌, ◌≤◌, List, Option, None, Some, inr, arith}
+use Rattle.pdp_words.specs.Words.{long, SameOutside}
+use Rattle.vol_layout.specs.Edition.{constants}
+use Rattle.vol_layout.specs.Geometry.{Fits}
+use Rattle.vol_layout.specs.Inode.{inode_place}
+use Rattle.vol_layout.specs.Places.{has_places}
+use Rattle.vol_layout.specs.Super.{free_head, cache_head, time_place}
+use Rattle.vol_layout.specs.declared.geometry.Geometry.{Geometry}
+use Rattle.vol_layout.specs.declared.mode.Kind.TheVariants as kinds
+use Rattle.vol_layout.proofs.CopyLaws.{IsCopy, copy_above, copy_below, long_copied}
+use Rattle.vol_layout.proofs.InodeLaws.{KeepsInode, inode_apart, mode_kept, size_kept, inode_of_kept, place_from, place_room}
+use Rattle.std.specs.Prelude.{IfSome}
+use Rattle.vol_free.specs.Numbers.{IsFreeNumber}
+use Rattle.vol_free.proofs.Frames.{IsFree-behind, free_from}
+use Rattle.vol_file.specs.Changes.{ChangesFileAlone}
+use Rattle.vol_file.specs.Steps.{StaysElsewhere}
+use Rattle.vol_file.proofs.Alone.{elsewhere_inode}
+use Rattle.vol_file.proofs.Naming.{place_same}
+use Rattle.vol_dir.specs.Entries.{IsDirectory, entry_at}
+use Rattle.vol_dir.specs.Tree.{Node, Shape, node_of, tree, state}
+use Rattle.vol_judge.specs.Graph.{graph_of}
+use Rattle.vol_judge.specs.GraphEdits.{IsSameGraph, KeepsOthers}
+use Rattle.vol_judge.proofs.EditedGraphs.{same_graph, keeps_others}
+use Rattle.vol_judge.proofs.ImageGraphs.{inside_from}
+use Rattle.vol_change.specs.Alone.{KeepsContent, KeepsNode, ChangesOnly}
+use Rattle.vol_change.specs.Edits.{put_node, put_shape}
+use Rattle.vol_change.specs.Whole.{IsWhole, Keeps, StaysAround}
+use Rattle.vol_change.proofs.Contents.{kind_same, entry_same, shape_same, node_same}
+use Rattle.vol_change.proofs.ListWrites.{content_kept}
+use Rattle.vol_change.proofs.States.{shape_at, makes_both, makes_time}
+use Rattle.vol_change.proofs.WholeLaws.{around_then, around_list, super_order, whole_kept, zone_behind}
+
+-- what stays by one change and by the next stays by both
+node_then : (geometry : Geometry) (old mid new : List ℕ) (j : ℕ) → KeepsNode geometry old mid j → KeepsNode geometry mid new j
+    → KeepsNode geometry old new j
+node_then geometry old mid new j a b = record {
+  content = record {
+    mode = b.content.mode ∙ a.content.mode;
+    size = b.content.size ∙ a.content.size;
+    addresses = b.content.addresses ∙ a.content.addresses;
+    bytes = λ file.
+        b.content.bytes (record {
+          first = file.first;
+          last = file.last;
+          kind = ap has_places (kind_same geometry old mid j a.content) ∙ file.kind;
+        }) ∙ a.content.bytes file;
+    names = λ p place. b.content.names p (place_same geometry old mid j p a.content.mode place) ∙ a.content.names p place;
+  };
+  inode = b.inode ∙ a.inode;
+}
+
+-- two such changes, one after the other
+pub only_then : (geometry : Geometry) (old mid new : List ℕ) (i : ℕ) → ChangesOnly geometry old mid i → ChangesOnly geometry mid new i
+    → ChangesOnly geometry old new i
+only_then geometry old mid new i a b = record {
+  around = around_then geometry old mid new a.around b.around;
+  time = b.time ∙ a.time;
+  others = λ j first last other. node_then geometry old mid new j (a.others j first last other) (b.others j first last other);
+}
+
+-- a write of i-node i alone
+pub only_inode : (geometry : Geometry) (old new : List ℕ) (i : ℕ) → Fits geometry old → 1 ≤ i → i ≤ geometry.last_inode
+    → SameOutside old new (inode_place geometry.edition i) (inode_place geometry.edition i + (constants geometry.edition).inode_bytes)
+    → ChangesOnly geometry old new i
+only_inode geometry old new i fits first last same =
+    let from = inode_place geometry.edition i in
+    let to = inode_place geometry.edition i + (constants geometry.edition).inode_bytes in
+    let room = place_room geometry old i fits first last in
+    let start = place_from geometry.edition i in
+    let order = super_order geometry.edition in
+    record {
+      around = around_list geometry old new from to fits same start room;
+      time = long_copied old new (time_place geometry.edition) (time_place geometry.edition) 4 0 (time_place geometry.edition) (time_place geometry.edition)
+          (copy_below old new from to (time_place geometry.edition) 4 same (omega (arith, start, order))) (omega arith) (omega arith) (omega arith);
+      others = λ j low high other.
+          let kept = inode_apart geometry old new i j first low other same in
+          record { content = content_kept geometry old new from to j same room kept; inode = inode_of_kept geometry old new j kept };
+    }
+
+-- what is no other file's stays
+pub alone_elsewhere : (geometry : Geometry) (old new : List ℕ) (i : ℕ) → ChangesFileAlone geometry old new i → StaysElsewhere geometry old new i
+alone_elsewhere geometry old new i alone = record {
+  len = alone.len;
+  before = alone.before;
+  super_block = alone.super_block;
+  lower_inodes = alone.lower_inodes;
+  higher_inodes = alone.higher_inodes;
+  inode = alone.inode;
+  blocks = alone.blocks;
+  behind = alone.behind;
+}
+
+-- the bytes of another i-node stay where a file is changed
+pub alone_inode : (geometry : Geometry) (old new : List ℕ) (i j : ℕ) → Fits geometry old → ChangesFileAlone geometry old new i → 1 ≤ i → 1 ≤ j
+    → j ≤ geometry.last_inode → j ≢ i → KeepsInode geometry old new j
+alone_inode geometry old new i j fits alone first low high other =
+    elsewhere_inode geometry old new i j fits (alone_elsewhere geometry old new i alone) first low high other
+
+-- the super-block's time stays
+pub alone_time : (geometry : Geometry) (old new : List ℕ) (i : ℕ) → ChangesFileAlone geometry old new i
+    → long new (time_place geometry.edition) ≡ long old (time_place geometry.edition)
+alone_time geometry old new i alone =
+    let order = super_order geometry.edition in
+    let at = time_place geometry.edition in
+    let copy : IsCopy old new at at 4 = record { bytes = λ r h. alone.super_block (at + r) (omega (arith, order)) (omega (arith, order, h)) } in
+    long_copied old new at at 4 0 at at copy (omega arith) (omega arith) (omega arith)
+
+-- the bytes that no call changes stay
+pub alone_around : (geometry : Geometry) (old new : List ℕ) (i : ℕ) → ChangesFileAlone geometry old new i → StaysAround geometry old new
+alone_around geometry old new i alone =
+    let order = super_order geometry.edition in
+    record {
+      len = alone.len;
+      before = alone.before;
+      flags = λ k low high. alone.super_block k (omega arith) (omega (arith, order));
+      rest = λ k low high. alone.super_block k (omega (arith, order)) high;
+      behind = alone.behind;
+    }
+
+-- the change of a file
+pub only_file : (geometry : Geometry) (old new : List ℕ) (i : ℕ) → Fits geometry old → ChangesFileAlone geometry old new i → 1 ≤ i
+    → ChangesOnly geometry old new i
+only_file geometry old new i fits alone first = record {
+  around = alone_around geometry old new i alone;
+  time = alone_time geometry old new i alone;
+  others = λ j low high other.
+      let kept = alone_inode geometry old new i j fits alone first low high other in
+      record {
+        content = record {
+          mode = mode_kept geometry old new j kept;
+          size = size_kept geometry old new j kept;
+          addresses = ap (λ node. node.addresses) (inode_of_kept geometry old new j kept);
+          bytes = λ file. alone.bodies j other file;
+          names = λ p place. alone.places j p other place;
+        };
+        inode = inode_of_kept geometry old new j kept;
+      };
+}
+
+-- a change of i alone is the edit that puts there what is read then
+pub only_makes : (geometry : Geometry) (old new : List ℕ) (i : ℕ) (node : Option Node) (shape : Shape) → 1 ≤ i → i ≤ geometry.last_inode
+    → ChangesOnly geometry old new i → node_of geometry new i ≡ node → shape_at geometry new i ≡ shape
+    → state geometry new ≡ put_shape i shape (put_node i node (state geometry old))
+only_makes geometry old new i node shape first last only is places =
+    makes_both geometry old new i node shape (record {
+      first = first;
+      last = last;
+      time = only.time;
+      others = λ j low high other.
+          let kept = only.others j low high other in
+          (node_same geometry old new j kept.content low high kept.inode, shape_same geometry old new j kept.content low high);
+      here = is;
+      places = places;
+    })
+
+-- entries stay where the content of a directory does
+pub entry_stays : (geometry : Geometry) (old new : List ℕ) (x s : ℕ) → KeepsContent geometry old new x → IsDirectory geometry old x
+    → entry_at geometry new x s ≡ entry_at geometry old x s
+entry_stays geometry old new x s kept is =
+    entry_same geometry old new x s kept (record { first = is.first; last = is.last; kind = ap has_places is.kind })
+
+-- a change of i alone leaves the graph beside i
+pub only_graph : (geometry : Geometry) (old new : List ℕ) (i : ℕ) → ChangesOnly geometry old new i
+    → KeepsOthers (graph_of geometry old) (graph_of geometry new) i i
+only_graph geometry old new i only =
+    keeps_others geometry old new i i (λ x first last other. kind_same geometry old new x (only.others x first last other).content)
+    (λ x is other too. (only.others x is.first is.last other).content.size)
+    (λ x t is other too. entry_stays geometry old new x t (only.others x is.first is.last other).content is)
+
+-- and the link counts of all that isn't free
+pub only_links : (geometry : Geometry) (old new : List ℕ) (i x : ℕ) → ChangesOnly geometry old new i → x ≢ i
+    → (graph_of geometry old).kind x ≢ kinds.Free → (graph_of geometry new).links x ≡ (graph_of geometry old).links x
+only_links geometry old new i x only other used =
+    let inside = inside_from geometry old x used in
+    ap (λ node. node.links) (only.others x inside.0 inside.1 other).inode
+
+module _ (geometry : Geometry) (old new : List ℕ) (whole : IsWhole geometry old)
+    (same : SameOutside old new (cache_head geometry.edition) (cache_head geometry.edition + 202)) where
+  -- the cache stands before the i-nodes and the time, and behind the free list
+  cache_order : (free_head geometry.edition + 202 ≡ cache_head geometry.edition) × (cache_head geometry.edition + 202 ≤ time_place geometry.edition)
+      × (time_place geometry.edition + 4 ≤ 1024)
+  cache_order = let order = super_order geometry.edition in (order.0, omega (arith, order), order.3)
+
+  -- a write of the i-number cache leaves each node
+  pub cache_node : (j : ℕ) → KeepsNode geometry old new j
+  cache_node j =
+      let start = place_from geometry.edition j in
+      let behind = zone_behind geometry old whole.sound.fits in
+      let kept = copy_above old new (cache_head geometry.edition) (cache_head geometry.edition + 202) (inode_place geometry.edition j)
+      (constants geometry.edition).inode_bytes same (omega (arith, start, cache_order)) in
+      record {
+        content = content_kept geometry old new (cache_head geometry.edition) (cache_head geometry.edition + 202) j same (omega (arith, behind, cache_order)) kept;
+        inode = inode_of_kept geometry old new j kept;
+      }
+
+  -- and what no call changes, and the time
+  pub cache_only : (i : ℕ) → ChangesOnly geometry old new i
+  cache_only i =
+      let behind = zone_behind geometry old whole.sound.fits in
+      record {
+        around = record {
+          len = same.len;
+          before = λ k h. same.below k (omega (arith, cache_order));
+          flags = λ k a b. same.above k (omega (arith, cache_order));
+          rest = λ k a b. same.above k (omega (arith, cache_order));
+          behind = λ k h. same.above k (omega (arith, cache_order, behind, whole.sound.fits.zone));
+        };
+        time = long_copied old new (time_place geometry.edition) (time_place geometry.edition) 4 0 (time_place geometry.edition) (time_place geometry.edition)
+            (copy_above old new (cache_head geometry.edition) (cache_head geometry.edition + 202) (time_place geometry.edition) 4 same (omega (arith, cache_order)))
+            (omega arith) (omega arith) (omega arith);
+        others = λ j first last other. cache_node j;
+      }
+
+  -- and the rules
+  pub cache_keeps : Keeps geometry old new
+  cache_keeps =
+      let behind = zone_behind geometry old whole.sound.fits in
+      record {
+        whole = whole_kept geometry old new same.len (λ j first last. (cache_node j).content)
+            (λ j first last used. rw (cache_node j).inode (whole.sound.sizes.links j first last used))
+            (λ blocks free. IsFree-behind same (omega (arith, cache_order)) (λ b is. inr (omega (arith, free_from free b is, behind, cache_order))) free) whole;
+        around = (cache_only 0).around;
+      }
+
+  -- so the state stays
+  pub cache_makes : state geometry new ≡ state geometry old
+  unfolding tree
+  cache_makes =
+      makes_time geometry old new (long old (time_place geometry.edition)) (cache_only 0).time
+      (λ j first last.
+      (node_same geometry old new j (cache_node j).content first last (cache_node j).inode, shape_same geometry old new j (cache_node j).content first last))
+
+  -- and the graph
+  pub cache_graph : IsSameGraph (graph_of geometry old) (graph_of geometry new)
+  cache_graph =
+      same_graph geometry old new (λ x first last. kind_same geometry old new x (cache_node x).content)
+      (λ x first last. ap (λ node. node.links) (cache_node x).inode) (λ x is. (cache_node x).content.size)
+      (λ x t is. entry_stays geometry old new x t (cache_node x).content is)
+
+  -- a free number stays one
+  pub cache_free : (i : ℕ) → IsFreeNumber geometry old i → IsFreeNumber geometry new i
+  cache_free i free = record { above = free.above; within = free.within; mode = (cache_node i).content.mode ∙ free.mode }
+
+  -- and so does one that was taken
+  pub cache_taken : (taken : Option ℕ) → IfSome taken (λ i. IsFreeNumber geometry old i) → IfSome taken (λ i. IsFreeNumber geometry new i)
+  cache_taken None free = free
+  cache_taken (Some i) free = cache_free i free

@@ -1,0 +1,142 @@
+-- What the shape of a file says of its places, it says as the image does; and how many blocks they need.
+use Rattle.std.proofs.Common.{◌≡◌, ◌∙◌, sym, ap, refl, ℕ, ◌+◌, ◌&&◌, Bool, not, if◌then◌else◌, nat_lt, List, [], ◌∷◌, true, false, true≢false, arith, inl, inr, ◌==◌}
+use Rattle.std.specs.Prelude.{◌||◌, Some, None}
+use Rattle.std.specs.Option.{option_map_or}
+use Rattle.vol_layout.specs.Laws.{IsFront}
+use Rattle.std.specs.List.{list_any}
+use Rattle.std.specs.Str.{bytes_eq}
+use Rattle.std.proofs.lemmas.Bool.{cases_Bool, cases_eq, and_parts, leb-true, ltb-true}
+use Rattle.std.proofs.lemmas.Bool.Decides.{nat_tests}
+use Rattle.vol_layout.specs.Places.{IsPlace, first_count, pointer_count, levels_below, last_place, places, fronts, way}
+use Rattle.vol_layout.specs.declared.places.Form.{Form}
+use Rattle.vol_layout.specs.declared.places.Form.TheVariants.{Small, Large, Deep, Bare}
+use Rattle.vol_layout.proofs.PlaceLaws.{last_leaf, place_front}
+use Rattle.vol_file.specs.Need.{missing_count, need_of}
+use Rattle.vol_file.specs.Shape.{is_on_ways, grows_large, moved_down, fit_form, fit_names, filled}
+use Rattle.vol_file.proofs.PlaceLists.{count_among, among_places, same_bytes}
+use Rattle.vol_dir.specs.Tree.{is_place}
+use Rattle.vol_change.proofs.FreeCounts.{place_test}
+
+-- what passes the test for places is one
+pub place_passed : (form : Form) (p : List ℕ) → is_place form p ≡ true → IsPlace form p
+place_passed form [] h = absurd (true≢false (sym h))
+place_passed form (k ∷ []) h = ltb-true k (first_count form) h
+place_passed form (j ∷ (a ∷ p)) h =
+    let low = and_parts _ _ h in
+    let deep = and_parts _ _ low.1 in
+    (ltb-true j (pointer_count form) low.0, leb-true 1 (levels_below form (a ∷ p)) deep.0, place_passed form (a ∷ p) deep.1)
+
+-- the names of places alone
+abbrev pub at_places : Form → (List ℕ → Bool) → List ℕ → Bool
+at_places form names p = is_place form p && names p
+
+-- tests that agree where another passes
+pub guarded : (t x y : Bool) → (t ≡ true → x ≡ y) → (t && x) ≡ (t && y)
+guarded true x y same = same refl
+guarded false x y same = refl
+
+-- the same of a choice, where what is chosen passes
+guarded_or : (t x on : Bool) → (on ≡ true → t ≡ true) → (t && (x || on)) ≡ ((t && x) || on)
+guarded_or true x on h = refl
+guarded_or false x true h = absurd (true≢false (sym (h refl)))
+guarded_or false x false h = refl
+
+-- nothing passes both
+and_none : (t : Bool) → false ≡ (t && false)
+and_none true = refl
+and_none false = refl
+
+-- an entry of the block that holds the eight old addresses
+moved_entry : (names : List ℕ → Bool) (k a : ℕ)
+    → moved_down (at_places Small names) (k ∷ (a ∷ [])) ≡ (is_place Large (k ∷ (a ∷ [])) && moved_down names (k ∷ (a ∷ [])))
+moved_entry names k a = elim (cases_eq a 0) [
+  | inl e ↦ rw e (elim (cases_Bool (nat_lt k 8)) [
+    | inl low ↦
+        let within : nat_lt k 256 ≡ true = grind (arith, nat_tests) in
+        ap (λ t. t && (t && names (k ∷ []))) low ∙ sym (ap (λ t. (t && true) && (nat_lt k 8 && names (k ∷ []))) within ∙ ap (λ t. t && names (k ∷ [])) low)
+    | inr high ↦
+        ap (λ t. t && (t && names (k ∷ []))) high
+        ∙ (and_none (is_place Large (k ∷ (0 ∷ []))) ∙ ap (λ t. is_place Large (k ∷ (0 ∷ [])) && (t && names (k ∷ []))) (sym high))
+  ])
+  | inr other ↦
+      let differ : (a == 0) ≡ false = grind (arith, nat_tests) in
+      ap (λ t. t && (nat_lt k 8 && at_places Small names (k ∷ []))) differ
+      ∙ (and_none (is_place Large (k ∷ (a ∷ [])))
+      ∙ ap (λ t. is_place Large (k ∷ (a ∷ [])) && (t && (nat_lt k 8 && names (k ∷ [])))) (sym differ))
+]
+
+-- an address of a file made large
+moved_first : (k : ℕ) → (k == 0) ≡ (nat_lt k 8 && (k == 0))
+moved_first k = grind (arith, nat_tests)
+
+-- the places of a file made large are places
+moved_places : (names : List ℕ → Bool) (p : List ℕ) → moved_down (at_places Small names) p ≡ (is_place Large p && moved_down names p)
+moved_places names [] = refl
+moved_places names (k ∷ []) = moved_first k
+moved_places names (k ∷ (a ∷ [])) = moved_entry names k a
+moved_places names (j ∷ (k ∷ (a ∷ p))) = and_none (is_place Large (j ∷ (k ∷ (a ∷ p))))
+
+-- only a small file is made large
+grows_small : (form : Form) (blocks : List ℕ) → grows_large form blocks ≡ true → form ≡ Small
+grows_small Small blocks h = refl
+grows_small Large blocks h = absurd (true≢false (sym h))
+grows_small Deep blocks h = absurd (true≢false (sym h))
+grows_small Bare blocks h = absurd (true≢false (sym h))
+
+-- what names something before blocks are touched, of places alone
+pub fit_places : (form : Form) (names : List ℕ → Bool) (blocks p : List ℕ)
+    → fit_names form (at_places form names) blocks p ≡ (is_place (fit_form form blocks) p && fit_names form names blocks p)
+fit_places form names blocks p = elim (cases_Bool (grows_large form blocks)) [
+  | inl grows ↦
+      ap (λ t. (if t then moved_down (at_places form names) else at_places form names) p) grows
+      ∙ (ap (λ f. moved_down (at_places f names) p) (grows_small form blocks grows)
+      ∙ (moved_places names p
+      ∙ sym (ap (λ t. is_place (if t then Large else form) p && (if t then moved_down names else names) p) grows)))
+  | inr stays ↦
+      ap (λ t. (if t then moved_down (at_places form names) else at_places form names) p) stays
+      ∙ sym (ap (λ t. is_place (if t then Large else form) p && (if t then moved_down names else names) p) stays)
+]
+
+-- what is found among the fronts of a place is one
+front_passed : (p q : List ℕ) → list_any (bytes_eq p) (fronts q) ≡ true → IsFront p q
+front_passed p [] h = true≢false (sym h)
+front_passed p (j ∷ q) h = elim (cases_Bool (bytes_eq p (j ∷ q))) [
+  | inl same ↦ inl (same_bytes p (j ∷ q) same)
+  | inr other ↦ inr (front_passed p q (sym (ap (λ t. t || list_any (bytes_eq p) (fronts q)) other) ∙ h))
+]
+
+-- what is on the way of a block is a place
+way_place : (form : Form) (b : ℕ) (p : List ℕ) → list_any (bytes_eq p) (way form b) ≡ true → IsPlace form p
+way_place form b p h =
+    elim (last_place form b) as (λ o. last_place form b ≡ o → list_any (bytes_eq p) (option_map_or fronts o []) ≡ true → IsPlace form p) [
+      | None ↦ λ e passes. absurd (true≢false (sym passes))
+      | Some q ↦ λ e passes. place_front form q p (last_leaf form b q e).place (front_passed p q passes)
+    ] refl h
+
+-- what is on the ways of blocks is a place
+pub ways_place : (form : Form) (blocks p : List ℕ) → is_on_ways form blocks p ≡ true → IsPlace form p
+ways_place form [] p h = absurd (true≢false (sym h))
+ways_place form (b ∷ blocks) p h = elim (cases_Bool (list_any (bytes_eq p) (way form b))) [
+  | inl here ↦ way_place form b p here
+  | inr there ↦ ways_place form blocks p (sym (ap (λ t. t || is_on_ways form blocks p) there) ∙ h)
+]
+
+-- what names something once blocks are touched, of places alone
+pub filled_places : (form : Form) (names : List ℕ → Bool) (blocks p : List ℕ)
+    → filled form (at_places form names) blocks p ≡ (is_place (fit_form form blocks) p && filled form names blocks p)
+filled_places form names blocks p =
+    let fit = fit_form form blocks in
+    ap (λ t. t || is_on_ways fit blocks p) (fit_places form names blocks p)
+    ∙ sym (guarded_or (is_place fit p) (fit_names form names blocks p) (is_on_ways fit blocks p)
+    (λ on. place_test fit p (ways_place fit blocks p on)))
+
+-- a file needs as many blocks whether all is asked or places alone
+pub need_places : (form : Form) (names : List ℕ → Bool) (blocks : List ℕ) → need_of form (at_places form names) blocks ≡ need_of form names blocks
+unfolding need_of missing_count
+need_places form names blocks =
+    let fit = fit_form form blocks in
+    ap (λ n. n + (if grows_large form blocks then 1 else 0))
+    (count_among (λ p. is_on_ways fit blocks p && not (fit_names form (at_places form names) blocks p))
+    (λ p. is_on_ways fit blocks p && not (fit_names form names blocks p)) (places fit)
+    (λ p among. ap (λ t. is_on_ways fit blocks p && not t)
+    (fit_places form names blocks p ∙ ap (λ t. t && fit_names form names blocks p) (place_test fit p (among_places fit p among)))))

@@ -1,0 +1,218 @@
+-- What keeps the rules from 1 to 8, and the bytes that no call changes.
+use Rattle.std.proofs.Common.{◌≡◌, ◌≢◌, ℕ, ◌+◌, ◌*◌, ◌<◌, ◌≤◌, ◌∙◌, sym, ap, subst, refl, List, length, slice_index, inl, inr, Ok, arith}
+use Rattle.std.proofs.lemmas.Bool.{false≢true}
+use Rattle.pdp_words.specs.Words.{SameOutside}
+use Rattle.vol_layout.specs.Edition.{constants}
+use Rattle.vol_layout.specs.Geometry.{geometry_of, geometry_read, in_zone, Fits}
+use Rattle.vol_layout.specs.Inode.{inode_of}
+use Rattle.vol_layout.specs.Names.{IsFile, IsPlaceOf, named}
+use Rattle.vol_layout.specs.Places.{form_of, has_places, IsPlace}
+use Rattle.vol_layout.specs.Super.{free_head, cache_head, time_place}
+use Rattle.vol_layout.specs.declared.edition.Edition.{Edition}
+use Rattle.vol_layout.specs.declared.edition.Edition.TheVariants.{V6, V7}
+use Rattle.vol_layout.specs.declared.geometry.Geometry.{Geometry}
+use Rattle.vol_layout.specs.declared.mode.Kind.TheVariants as kinds
+use Rattle.vol_layout.proofs.NameLaws.{zero_out, named_holds, holds_named}
+use Rattle.vol_free.specs.Stack.{IsIn, IsFree}
+use Rattle.vol_free.proofs.Frames.{free_zone}
+use Rattle.vol_file.specs.Rules.{kind_at, HasKinds, HasSizes}
+use Rattle.vol_file.proofs.Alone.{fits_len}
+use Rattle.vol_file.proofs.Naming.{kinds_kept}
+use Rattle.vol_change.specs.Alone.{KeepsContent}
+use Rattle.vol_judge.specs.Sound.{IsSound}
+use Rattle.vol_judge.proofs.Parts.{sound_whole, sound_bounded, sound_stack, sound_with, sound_covered}
+use Rattle.vol_change.specs.Whole.{IsWhole, StaysAround, Keeps}
+use Rattle.vol_change.proofs.Contents.{kind_same}
+
+-- what stays by one change and by the next stays by both
+pub around_then : (geometry : Geometry) (old mid new : List ℕ) → StaysAround geometry old mid → StaysAround geometry mid new → StaysAround geometry old new
+around_then geometry old mid new a b = record {
+  len = b.len ∙ a.len;
+  before = λ k h. b.before k h ∙ a.before k h;
+  flags = λ k from to. b.flags k from to ∙ a.flags k from to;
+  rest = λ k from to. b.rest k from to ∙ a.rest k from to;
+  behind = λ k h. b.behind k h ∙ a.behind k h;
+}
+
+-- what is kept by one change and by the next is kept by both
+pub keeps_then : (geometry : Geometry) (old mid new : List ℕ) → Keeps geometry old mid → Keeps geometry mid new → Keeps geometry old new
+keeps_then geometry old mid new a b = record { whole = b.whole; around = around_then geometry old mid new a.around b.around }
+
+-- the sizes stand before the free list
+sizes_kept : (edition : Edition) (old new : List ℕ) → ((k : ℕ) → k < free_head edition → slice_index new k ≡ slice_index old k)
+    → geometry_of edition new ≡ geometry_of edition old
+sizes_kept V6 old new same =
+    let a : slice_index new 512 ≡ slice_index old 512 = same 512 (omega arith) in
+    let b : slice_index new 513 ≡ slice_index old 513 = same 513 (omega arith) in
+    let c : slice_index new 514 ≡ slice_index old 514 = same 514 (omega arith) in
+    let d : slice_index new 515 ≡ slice_index old 515 = same 515 (omega arith) in
+    cc
+sizes_kept V7 old new same =
+    let a : slice_index new 512 ≡ slice_index old 512 = same 512 (omega arith) in
+    let b : slice_index new 513 ≡ slice_index old 513 = same 513 (omega arith) in
+    let c : slice_index new 514 ≡ slice_index old 514 = same 514 (omega arith) in
+    let d : slice_index new 515 ≡ slice_index old 515 = same 515 (omega arith) in
+    let e : slice_index new 516 ≡ slice_index old 516 = same 516 (omega arith) in
+    let f : slice_index new 517 ≡ slice_index old 517 = same 517 (omega arith) in
+    cc
+
+-- the super-block states the same sizes
+pub geometry_kept : (geometry : Geometry) (old new : List ℕ) → StaysAround geometry old new
+    → geometry_of geometry.edition new ≡ geometry_of geometry.edition old
+geometry_kept geometry old new around = sizes_kept geometry.edition old new around.before
+
+-- the data zone begins behind blocks 0 and 1
+pub zone_behind : (geometry : Geometry) (image : List ℕ) → Fits geometry image → 1024 ≤ 512 * geometry.zone_start
+zone_behind geometry image fits = omega (arith, fits.i_list)
+
+-- the parts of the super-block stand one behind another
+pub super_order : (edition : Edition) → (free_head edition + 202 ≡ cache_head edition) × (free_head edition + 404 ≤ time_place edition)
+    × (720 ≤ time_place edition) × (time_place edition + 4 ≤ 1024)
+super_order V6 = (omega arith, omega arith, omega arith, omega arith)
+super_order V7 = (omega arith, omega arith, omega arith, omega arith)
+
+-- a write of some of the bytes from the i-list on, up to the data zone, keeps what no call changes
+pub around_list : (geometry : Geometry) (old new : List ℕ) (from to : ℕ) → Fits geometry old → SameOutside old new from to → 1024 ≤ from
+    → to ≤ 512 * geometry.zone_start → StaysAround geometry old new
+around_list geometry old new from to fits same low high =
+    let order = super_order geometry.edition in
+    record {
+      len = same.len;
+      before = λ k h. same.below k (omega (arith, order));
+      flags = λ k a b. same.below k (omega (arith, order));
+      rest = λ k a b. same.below k (omega arith);
+      behind = λ k h. same.above k (omega (arith, fits.zone));
+    }
+
+-- the places that name something are the same in both images, and name the same
+pub record SameNames (geometry : Geometry) (old new : List ℕ) : Type 0 where
+  pub from : (j : ℕ) (p : List ℕ) → IsPlaceOf geometry new j p → named geometry new j p ≢ 0
+      → IsPlaceOf geometry old j p × (named geometry new j p ≡ named geometry old j p)
+  pub to : (j : ℕ) (p : List ℕ) → IsPlaceOf geometry old j p → named geometry old j p ≢ 0
+      → IsPlaceOf geometry new j p × (named geometry old j p ≡ named geometry new j p)
+
+-- a free block is not 0
+free_some : (geometry : Geometry) (image blocks : List ℕ) (k : ℕ) → Fits geometry image → IsFree geometry image blocks → IsIn k blocks → k ≢ 0
+free_some geometry image blocks k fits free is zero =
+    false≢true (sym (zero_out geometry image fits) ∙ (sym (ap (in_zone geometry) zero) ∙ free_zone free k is))
+
+-- the rules hold where they held, the places name the same, the free blocks stay, and rules 3 and 4 hold
+pub whole_names : (geometry : Geometry) (old new : List ℕ) → length new ≡ length old → SameNames geometry old new
+    → ((blocks : List ℕ) → IsFree geometry old blocks → IsFree geometry new blocks) → HasKinds geometry new → HasSizes geometry new
+    → IsWhole geometry old → IsWhole geometry new
+whole_names geometry old new len same free kind size whole =
+    let fits = fits_len geometry old new len whole.sound.fits in
+    let kept = free whole.blocks whole.sound.free in
+    record {
+      blocks = whole.blocks;
+      sound = record {
+        fits = fits;
+        kinds = kind;
+        sizes = size;
+        zoned = λ j p place some.
+            let before = same.from j p place some in
+            ap (in_zone geometry) before.1 ∙ whole.sound.zoned j p before.0 (λ zero. some (before.1 ∙ zero));
+        free = kept;
+        apart = λ j k p q place other some e.
+            let before = same.from j p place some in
+            let too = same.from k q other (λ zero. some (e ∙ zero)) in
+            whole.sound.apart j k p q before.0 too.0 (λ zero. some (before.1 ∙ zero)) (sym before.1 ∙ (e ∙ too.1));
+        outside = λ j p place is.
+            let before = same.from j p place (free_some geometry new whole.blocks (named geometry new j p) fits kept is) in
+            whole.sound.outside j p before.0 (subst (λ k. IsIn k whole.blocks) before.1 is);
+      };
+      covered = λ k zone. elim (whole.covered k zone) [
+        | inl is ↦ inl is
+        | inr found ↦
+            let is = holds_named geometry old found.0 found.1 k found.2.holds in
+            let now = same.to found.0 found.1 found.2.place (λ zero. is.1 (sym is.0 ∙ zero)) in
+            inr (
+              found.0,
+              found.1,
+              record {
+                place = now.0;
+                holds = named_holds geometry new found.0 found.1 k fits (sym now.1 ∙ is.0) is.1;
+              },
+            )
+      ];
+    }
+
+-- a file whose kind stays stays one
+file_to : (geometry : Geometry) (old new : List ℕ) (j : ℕ) → (1 ≤ j → j ≤ geometry.last_inode → kind_at geometry new j ≡ kind_at geometry old j)
+    → IsFile geometry old j → IsFile geometry new j
+file_to geometry old new j same file = record {
+  first = file.first;
+  last = file.last;
+  kind = ap has_places (same file.first file.last) ∙ file.kind;
+}
+
+-- where all contents stay, the places name the same
+pub names_stay : (geometry : Geometry) (old new : List ℕ)
+    → ((j : ℕ) → 1 ≤ j → j ≤ geometry.last_inode → KeepsContent geometry old new j) → SameNames geometry old new
+names_stay geometry old new kept = record {
+  from = λ j p place some.
+      let here = kept j place.file.first place.file.last in
+      let before : IsPlaceOf geometry old j p = record {
+        file = file_to geometry new old j (λ first last. sym (kind_same geometry old new j here)) place.file;
+        place = subst (λ form. IsPlace form p) (ap (form_of geometry.edition) here.mode) place.place;
+      } in
+      (before, here.names p before);
+  to = λ j p place some.
+      let here = kept j place.file.first place.file.last in (
+        record {
+          file = file_to geometry old new j (λ first last. kind_same geometry old new j here) place.file;
+          place = subst (λ form. IsPlace form p) (sym (ap (form_of geometry.edition) here.mode)) place.place;
+        },
+        sym (here.names p place),
+      );
+}
+
+-- where all contents stay and the link counts are within the limit, rule 4 holds
+sizes_stay : (geometry : Geometry) (old new : List ℕ)
+    → ((j : ℕ) → 1 ≤ j → j ≤ geometry.last_inode → KeepsContent geometry old new j)
+    → ((j : ℕ) → 1 ≤ j → j ≤ geometry.last_inode → kind_at geometry old j ≢ kinds.Free
+    → (inode_of geometry.edition new j).links ≤ (constants geometry.edition).link_limit)
+    → HasSizes geometry old → HasSizes geometry new
+sizes_stay geometry old new kept links has = record {
+  greatest = λ j file.
+      let here = kept j file.first file.last in
+      subst (λ n. n ≤ (constants geometry.edition).greatest) (sym here.size)
+      (has.greatest j (file_to geometry new old j (λ first last. sym (kind_same geometry old new j here)) file));
+  small = λ j file small.
+      let here = kept j file.first file.last in
+      subst (λ n. n ≤ 4096) (sym here.size)
+      (has.small j (file_to geometry new old j (λ first last. sym (kind_same geometry old new j here)) file)
+      (sym (ap (form_of geometry.edition) here.mode) ∙ small));
+  links = λ j first last used. links j first last (λ free. used (kind_same geometry old new j (kept j first last) ∙ free));
+}
+
+-- the rules hold where all contents stay, the link counts are within the limit, and the free blocks stay
+pub whole_kept : (geometry : Geometry) (old new : List ℕ) → length new ≡ length old
+    → ((j : ℕ) → 1 ≤ j → j ≤ geometry.last_inode → KeepsContent geometry old new j)
+    → ((j : ℕ) → 1 ≤ j → j ≤ geometry.last_inode → kind_at geometry old j ≢ kinds.Free
+    → (inode_of geometry.edition new j).links ≤ (constants geometry.edition).link_limit)
+    → ((blocks : List ℕ) → IsFree geometry old blocks → IsFree geometry new blocks) → IsWhole geometry old → IsWhole geometry new
+whole_kept geometry old new len kept links free whole =
+    whole_names geometry old new len (names_stay geometry old new kept) free
+    (kinds_kept geometry old new whole.sound.fits (λ j first last. kind_same geometry old new j (kept j first last)) whole.sound.kinds)
+    (sizes_stay geometry old new kept links whole.sound.sizes) whole
+
+-- a sound image whose geometry fits is whole
+pub whole_of : (edition : Edition) (image : List ℕ) → Fits (geometry_of edition image) image → IsSound edition image
+    → IsWhole (geometry_of edition image) image
+whole_of edition image fits sound =
+    let stack = sound_stack edition image sound in
+    record {
+      blocks = stack.blocks;
+      sound = sound_with edition image stack.blocks fits sound stack.free;
+      covered = sound_covered edition image stack.blocks sound stack.free;
+    }
+
+-- and so with the sizes that were read
+pub whole_read : (edition : Edition) (image : List ℕ) (geometry : Geometry) → IsSound edition image → Ok geometry ≡ geometry_read edition image
+    → Fits geometry image → IsWhole geometry image
+unfolding geometry_read
+whole_read edition image geometry sound read fits =
+    let is : geometry_read edition image ≡ Ok (geometry_of edition image) = rw (sound_whole edition image sound, sound_bounded edition image sound) refl in
+    let same : geometry ≡ geometry_of edition image = cc in
+    subst (λ g. IsWhole g image) (sym same) (whole_of edition image (subst (λ g. Fits g image) same fits) sound)

@@ -1,0 +1,89 @@
+use Rattle.std.proofs.Common.{◌∙◌, sym, ap, ◌+◌, arith}
+use Rattle.vol_layout.specs.Inode.{inode_of}
+use Rattle.vol_file.specs.Rules.{kind_at}
+use Rattle.vol_file.proofs.Naming.{root_first}
+use Rattle.vol_dir.specs.Entries.{slots}
+use Rattle.vol_dir.specs.Names.{names_in}
+use Rattle.vol_dir.specs.Searching.{new_slot}
+use Rattle.vol_dir.specs.Tree.{tree}
+use Rattle.vol_judge.specs.Graph.{graph_of}
+use Rattle.vol_judge.proofs.ImageGraphs.{directory_to, kind_inside}
+use Rattle.vol_change.specs.Edits.{add_entry, at_time}
+use Rattle.vol_change.proofs.UnusedBytes.{unused_then}
+use Rattle.vol_change.proofs.WholeLaws.{keeps_then}
+use Rattle.vol_change.proofs.NamedNodes.{linked_keeps, link_added, link_ready}
+use Rattle.vol_change.proofs.NodeLinks.{links_is}
+use Rattle.vol_change.proofs.ReadyLaws.{ready_whole, ready_same}
+use Rattle.vol_change.proofs.SideStates.{takes_ready, takes_kept}
+use Rattle.vol_change.proofs.UnusedNodes.{time_unused}
+use Rattle.vol_change.proofs.calls.link.link.Goals as goal
+
+pub add_link-requires-clause-whole : goal.add_link-requires-clause-whole
+add_link-requires-clause-whole c = ready_whole c.args.geometry.now c.args.image.now c.requires.ready
+
+pub add_link-requires-clause-room : goal.add_link-requires-clause-room
+unfolding tree
+add_link-requires-clause-room c =
+    let geometry = c.args.geometry.now in
+    let one = root_first geometry.edition in
+    let same = links_is geometry c.args.image.now c.args.i (ready_whole geometry c.args.image.now c.requires.ready).sound.kinds
+    (omega (arith, one, c.requires.used.first)) c.requires.used.last c.requires.used.allocated in
+    omega (arith, same, c.requires.links)
+
+pub enter-requires : goal.enter-requires
+enter-requires c =
+    let geometry = c.args.geometry.now in
+    let old = c.args.image.now in
+    let new = c.add_link.new.image in
+    let d = c.args.dir in
+    let i = c.args.i in
+    let name = c.args.name.now in
+    let one = root_first geometry.edition in
+    let takes = takes_ready geometry old d name c.requires.ready c.requires.directory c.requires.takes c.requires.room in
+    let made = takes_kept geometry old new d i _ name
+    (λ same. c.requires.other (sym (ap (kind_at geometry old) same) ∙ c.requires.directory.kind))
+    (linked_keeps (graph_of geometry old) (graph_of geometry new) d i ((inode_of geometry.edition old i).links + 1) c.add_link.ensures.graph
+    (directory_to geometry old d c.requires.directory))
+    c.add_link.ensures.makes takes in
+    record {
+      whole = c.add_link.ensures.keeps.whole;
+      directory = made.directory;
+      slots = made.slots;
+      once = made.once;
+      takes = made.takes;
+      component = c.requires.component;
+      text = c.requires.text;
+      inode = omega (arith, one, c.requires.used.first);
+      room = made.room;
+    }
+
+pub returns : goal.returns
+returns c =
+    let geometry = c.args.geometry.now in
+    let old = c.args.image.now in
+    let mid = c.add_link.new.image in
+    let entered = c.enter.new.image in
+    let new = c.put_time.new.image in
+    let d = c.args.dir in
+    let i = c.args.i in
+    let name = c.args.name.now in
+    let one = root_first geometry.edition in
+    let kind = kind_inside geometry old i (omega (arith, one, c.requires.used.first)) c.requires.used.last in
+    let added = keeps_then geometry old mid entered c.add_link.ensures.keeps c.enter.ensures.keeps in
+    let s = new_slot (names_in (slots geometry mid d)) in
+    let file = link_ready geometry old entered i d s name c.requires.ready c.requires.directory c.requires.takes c.requires.component
+    c.requires.used.first added
+    (link_added (graph_of geometry old) (graph_of geometry mid) (graph_of geometry entered) i d s name c.add_link.ensures.graph
+    (λ free. c.requires.used.allocated (sym kind ∙ free)) (λ is. c.requires.other (sym kind ∙ is))
+    (directory_to geometry old d c.requires.directory) c.enter.ensures.slot c.enter.ensures.beside) in
+    record {
+      changes = record {
+        ready = ready_same geometry entered new file c.put_time.ensures.keeps c.put_time.ensures.graph;
+        around = (keeps_then geometry old entered new added c.put_time.ensures.keeps).around;
+        makes = c.put_time.ensures.makes
+            ∙ ap (at_time c.args.moment) (c.enter.ensures.makes ∙ ap (add_entry c.args.moment d name i) c.add_link.ensures.makes);
+      };
+      unused = λ j low high.
+          unused_then geometry old mid new j (c.add_link.ensures.unused j low high)
+          (unused_then geometry mid entered new j (c.enter.ensures.unused j low high) (time_unused geometry entered new j c.put_time.ensures.others));
+    }

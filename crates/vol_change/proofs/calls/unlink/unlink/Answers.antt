@@ -1,0 +1,166 @@
+use Rattle.std.proofs.Common.{◌≢◌, ℕ, ◌<◌, ◌≤◌, arith}
+use Rattle.std.proofs.lemmas.Bool.Decides.{nat_tests}
+use Rattle.vol_layout.specs.Inode.{inode_of}
+use Rattle.vol_dir.specs.Tree.{state}
+use Rattle.vol_change.specs.Unused.{IsCleared, KeepsUnused}
+use Rattle.vol_change.proofs.UnusedBytes.{unused_then}
+use Rattle.vol_change.specs.Effects.{after_unlink}
+use Rattle.vol_change.proofs.CallSteps.{HasMade, changed}
+use Rattle.vol_change.proofs.EntryNodes.{name_there, named_used, used_first, file_above}
+use Rattle.vol_change.proofs.LeftNodes.{LeavesEntry, left_same, left_used, made_unnamed, made_unlinked}
+use Rattle.vol_change.proofs.ReadyLaws.{ready_whole, ready_slots, ready_once}
+use Rattle.vol_change.proofs.UnusedNodes.{time_unused, time_cleared}
+use Rattle.vol_change.proofs.calls.unlink.unlink.Goals as goal
+use Rattle.vol_change.proofs.calls.unlink.unlink.Goals.{After-put_time, then-inode-le1, else-inode-le1}
+
+-- src/lost_names.rt:31:5
+pub leave-requires-clause-whole : goal.leave-requires-clause-whole
+leave-requires-clause-whole c = ready_whole _ _ c.requires.ready
+
+-- src/lost_names.rt:31:5
+pub leave-requires-clause-slots : goal.leave-requires-clause-slots
+leave-requires-clause-slots c = ready_slots _ _ _ c.requires.ready c.requires.directory
+
+-- src/lost_names.rt:31:5
+pub leave-requires-clause-once : goal.leave-requires-clause-once
+leave-requires-clause-once c = ready_once _ _ _ c.requires.ready c.requires.directory
+
+-- src/lost_names.rt:31:5
+pub leave-requires-clause-there : goal.leave-requires-clause-there
+leave-requires-clause-there c = name_there c.args.geometry.now c.args.image.now c.args.name.now c.args.dir c.args.i c.requires.directory c.requires.named
+
+-- src/lost_names.rt:32:8
+pub inode-requires-clause-first : goal.inode-requires-clause-first
+inode-requires-clause-first c = used_first _ _ _ (named_used c.args.geometry.now c.args.image.now c.args.name.now c.args.dir c.args.i c.requires.ready c.requires.directory c.requires.named)
+
+-- src/lost_names.rt:32:8
+pub inode-requires-clause-last : goal.inode-requires-clause-last
+inode-requires-clause-last c = (named_used c.args.geometry.now c.args.image.now c.args.name.now c.args.dir c.args.i c.requires.ready c.requires.directory c.requires.named).last
+
+-- src/lost_names.rt:33:9
+pub free_node-requires-clause-above : goal.free_node-requires-clause-above
+free_node-requires-clause-above c =
+    file_above _ _ _ c.requires.ready (named_used c.args.geometry.now c.args.image.now c.args.name.now c.args.dir c.args.i c.requires.ready c.requires.directory c.requires.named) c.requires.other
+
+-- src/lost_names.rt:33:9
+pub free_node-requires-clause-last : goal.free_node-requires-clause-last
+free_node-requires-clause-last c = (named_used c.args.geometry.now c.args.image.now c.args.name.now c.args.dir c.args.i c.requires.ready c.requires.directory c.requires.named).last
+
+-- src/lost_names.rt:35:9
+pub drop_link-requires-clause-first : goal.drop_link-requires-clause-first
+drop_link-requires-clause-first c = used_first _ _ _ (named_used c.args.geometry.now c.args.image.now c.args.name.now c.args.dir c.args.i c.requires.ready c.requires.directory c.requires.named)
+
+-- src/lost_names.rt:35:9
+pub drop_link-requires-clause-last : goal.drop_link-requires-clause-last
+drop_link-requires-clause-last c = (named_used c.args.geometry.now c.args.image.now c.args.name.now c.args.dir c.args.i c.requires.ready c.requires.directory c.requires.named).last
+
+-- src/lost_names.rt:35:9
+pub drop_link-requires-clause-used : goal.drop_link-requires-clause-used
+drop_link-requires-clause-used c =
+    left_used c.args.geometry.now c.args.image.now c.leave.new.image c.args.dir c.args.i c.args.name.now c.args.moment
+    (record {
+      ready = c.requires.ready;
+      directory = c.requires.directory;
+      named = c.requires.named;
+      keeps = c.leave.ensures.keeps;
+      makes = c.leave.ensures.makes;
+      slot = c.leave.ensures.slot;
+      beside = c.leave.ensures.beside;
+    })
+
+-- src/lost_names.rt:37:5
+pub put_time-requires : goal.put_time-requires
+put_time-requires c = record {
+  whole = elim c.if-inode-le1.branch [
+    | then-inode-le1 w ↦ rw w.image-is w.free_node.ensures.keeps.whole
+    | else-inode-le1 w ↦ rw w.image-is w.drop_link.ensures.keeps.whole
+  ];
+}
+
+-- the entry goes
+leaves : (c : After-put_time)
+    → LeavesEntry c.args.geometry.now c.args.image.now c.leave.new.image c.args.dir c.args.i c.args.name.now c.args.moment
+leaves c = record {
+  ready = c.requires.ready;
+  directory = c.requires.directory;
+  named = c.requires.named;
+  keeps = c.leave.ensures.keeps;
+  makes = c.leave.ensures.makes;
+  slot = c.leave.ensures.slot;
+  beside = c.leave.ensures.beside;
+}
+
+-- what goes, before the time of the volume is put
+unlinked : (c : After-put_time)
+    → HasMade c.args.geometry.now c.args.image.now c.if-inode-le1.image
+    (after_unlink (state c.args.geometry.now c.args.image.now) c.args.moment c.args.dir c.args.name.now)
+unlinked c = elim c.if-inode-le1.branch [
+  | then-inode-le1 w ↦
+      let value = c.inode.ensures.value in
+      let last : (inode_of c.args.geometry.now.edition c.leave.new.image c.args.i).links ≤ 1 =
+      rw (← value) (grind (arith, nat_tests)) in
+      rw w.image-is
+      (made_unlinked c.args.geometry.now c.args.image.now c.leave.new.image w.free_node.new.image c.args.dir c.args.i c.args.name.now c.args.moment
+      (leaves c) c.requires.other last w.free_node.ensures.keeps w.free_node.ensures.makes w.free_node.ensures.graph)
+  | else-inode-le1 w ↦
+      let value = c.inode.ensures.value in
+      let most : 1 < (inode_of c.args.geometry.now.edition c.leave.new.image c.args.i).links =
+      rw (← value) (grind (arith, nat_tests)) in
+      rw w.image-is
+      (made_unnamed c.args.geometry.now c.args.image.now c.leave.new.image w.drop_link.new.image c.args.dir c.args.i c.args.name.now c.args.moment
+      (leaves c) c.requires.other most w.drop_link.ensures.keeps w.drop_link.ensures.makes w.drop_link.ensures.graph)
+]
+
+-- with its last link the i-node is cleared
+cleared : (c : After-put_time) → (inode_of c.args.geometry.now.edition c.args.image.now c.args.i).links ≤ 1
+    → IsCleared c.args.geometry.now c.if-inode-le1.image c.args.i
+cleared c last = elim c.if-inode-le1.branch [
+  | then-inode-le1 w ↦ rw w.image-is w.free_node.ensures.cleared
+  | else-inode-le1 w ↦
+      let value = c.inode.ensures.value in
+      let most : 1 < (inode_of c.args.geometry.now.edition c.leave.new.image c.args.i).links =
+      rw (← value) (grind (arith, nat_tests)) in
+      let same = left_same c.args.geometry.now c.args.image.now c.leave.new.image c.args.dir c.args.i c.args.name.now c.args.moment (leaves c) in
+      absurd (omega (arith, most, last, same))
+]
+
+-- with another it keeps what has no use
+unused : (c : After-put_time) → 1 < (inode_of c.args.geometry.now.edition c.args.image.now c.args.i).links → 1 ≤ c.args.i
+    → c.args.i ≤ c.args.geometry.now.last_inode → KeepsUnused c.args.geometry.now c.leave.new.image c.if-inode-le1.image c.args.i
+unused c more low high = elim c.if-inode-le1.branch [
+  | then-inode-le1 w ↦
+      let value = c.inode.ensures.value in
+      let last : (inode_of c.args.geometry.now.edition c.leave.new.image c.args.i).links ≤ 1 =
+      rw (← value) (grind (arith, nat_tests)) in
+      let same = left_same c.args.geometry.now c.args.image.now c.leave.new.image c.args.dir c.args.i c.args.name.now c.args.moment (leaves c) in
+      absurd (omega (arith, more, last, same))
+  | else-inode-le1 w ↦ rw w.image-is (w.drop_link.ensures.unused c.args.i low high)
+]
+
+-- and so do the others
+others : (c : After-put_time) (j : ℕ) → 1 ≤ j → j ≤ c.args.geometry.now.last_inode → j ≢ c.args.i
+    → KeepsUnused c.args.geometry.now c.leave.new.image c.if-inode-le1.image j
+others c j low high other = elim c.if-inode-le1.branch [
+  | then-inode-le1 w ↦ rw w.image-is (w.free_node.ensures.others j low high other)
+  | else-inode-le1 w ↦ rw w.image-is (w.drop_link.ensures.unused j low high)
+]
+
+-- src/lost_names.rt:23:1
+pub returns : goal.returns
+returns c = record {
+  changes = changed _ _ _ _ _ c.args.moment c.requires.ready (unlinked c)
+      (record { keeps = c.put_time.ensures.keeps; makes = c.put_time.ensures.makes; graph = c.put_time.ensures.graph });
+  cleared = λ last.
+      time_cleared c.args.geometry.now c.if-inode-le1.image c.put_time.new.image c.args.i c.put_time.ensures.others (cleared c last);
+  unused = λ more.
+      let used = named_used c.args.geometry.now c.args.image.now c.args.name.now c.args.dir c.args.i c.requires.ready c.requires.directory c.requires.named in
+      unused_then c.args.geometry.now c.args.image.now c.leave.new.image c.put_time.new.image c.args.i
+      (c.leave.ensures.unused c.args.i (used_first _ _ _ used) used.last)
+      (unused_then c.args.geometry.now c.leave.new.image c.if-inode-le1.image c.put_time.new.image c.args.i
+      (unused c more (used_first _ _ _ used) used.last)
+      (time_unused c.args.geometry.now c.if-inode-le1.image c.put_time.new.image c.args.i c.put_time.ensures.others));
+  others = λ j low high other.
+      unused_then c.args.geometry.now c.args.image.now c.leave.new.image c.put_time.new.image j (c.leave.ensures.unused j low high)
+      (unused_then c.args.geometry.now c.leave.new.image c.if-inode-le1.image c.put_time.new.image j (others c j low high other)
+      (time_unused c.args.geometry.now c.if-inode-le1.image c.put_time.new.image j c.put_time.ensures.others));
+}

@@ -1,0 +1,44 @@
+use Rattle.std.proofs.Common.{◌∙◌, ◌*◌, ap, sym, None, Some}
+use Rattle.vol_layout.specs.Names.{IsFile}
+use Rattle.vol_layout.specs.Places.{has_places}
+use Rattle.vol_layout.specs.declared.mode.Kind.TheVariants as kinds
+use Rattle.vol_dir.specs.Editing.{slot_bytes}
+use Rattle.vol_dir.specs.Entries.{slots, IsDirectory}
+use Rattle.vol_dir.specs.Names.{names_in}
+use Rattle.vol_dir.specs.Searching.{new_slot}
+use Rattle.vol_dir.proofs.NewEntries.{adds, new_empty}
+use Rattle.vol_dir.proofs.SlotReading.{slot_is}
+use Rattle.vol_judge.proofs.EditedGraphs.{changes_slot}
+use Rattle.vol_change.proofs.EntryStates.{added_state}
+use Rattle.vol_change.proofs.FileGraphs.{directory_beside}
+use Rattle.vol_change.proofs.UnusedBytes.{file_unused}
+use Rattle.vol_change.proofs.WrittenStates.{IsKind, writes_keeps, written_kind}
+use Rattle.vol_change.proofs.entries.add_name.Goals as goal
+
+pub returns : goal.returns
+returns c =
+    let geometry = c.args.geometry.now in
+    let old = c.args.image.now in
+    let new = c.add.new.image in
+    let d = c.args.dir in
+    let name = c.args.name.now in
+    let whole = c.requires.whole in
+    let s = new_slot (names_in (slots geometry old d)) in
+    let text = slot_bytes name c.args.i in
+    let file : IsFile geometry old d = record { first = c.requires.first; last = c.requires.last; kind = ap has_places c.requires.directory } in
+    let is : IsDirectory geometry old d = record { first = c.requires.first; last = c.requires.last; kind = c.requires.directory } in
+    let at : IsKind geometry old d kinds.Directory = record { first = c.requires.first; last = c.requires.last; kind = c.requires.directory } in
+    let writes = c.add.ensures.written whole.blocks whole.sound in
+    let kind = written_kind geometry old new whole.blocks d (16 * s) text file writes in
+    record {
+      keeps = writes_keeps geometry old new d (16 * s) text whole writes;
+      makes = added_state geometry old new whole.blocks name d c.args.i at whole.sound.fits c.requires.short writes c.add.ensures.names c.add.ensures.slots;
+      slot = changes_slot geometry old new d s None (Some (name, c.args.i)) is (kind ∙ c.requires.directory) c.add.ensures.whole
+          (sym (slot_is geometry old d s) ∙ new_empty geometry old d)
+          (adds geometry old new whole.blocks name d c.args.i file whole.sound c.requires.slots c.requires.short c.requires.text c.requires.inode
+          c.requires.greatest writes);
+      beside = directory_beside geometry old new d whole.sound.fits writes.alone c.requires.first kind;
+      once = c.add.ensures.once;
+      unused = λ j first last. file_unused geometry old new d j whole.sound.fits writes.alone
+          (λ free. absurd (cc (free, c.requires.directory))) c.requires.first first last;
+    }

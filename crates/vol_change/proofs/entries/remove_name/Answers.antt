@@ -1,0 +1,43 @@
+use Rattle.std.proofs.Common.{◌∙◌, ◌%◌, ◌*◌, ap, ℕ, [], ◌∷◌, None}
+use Rattle.std.specs.Option.{option_map}
+use Rattle.vol_layout.specs.Names.{IsFile}
+use Rattle.vol_layout.specs.Places.{has_places}
+use Rattle.vol_layout.specs.declared.mode.Kind.TheVariants as kinds
+use Rattle.vol_dir.specs.Entries.{slots, IsDirectory}
+use Rattle.vol_dir.specs.Names.{get, names_of}
+use Rattle.vol_dir.specs.Searching.{slot_named}
+use Rattle.vol_dir.proofs.GoneEntries.{removes}
+use Rattle.vol_judge.proofs.EditedGraphs.{changes_slot}
+use Rattle.vol_change.proofs.EntryStates.{named_slot, removed_state}
+use Rattle.vol_change.proofs.FileGraphs.{directory_beside}
+use Rattle.vol_change.proofs.UnusedBytes.{file_unused}
+use Rattle.vol_change.proofs.WrittenStates.{IsKind, writes_keeps, written_kind}
+use Rattle.vol_change.proofs.entries.remove_name.Goals as goal
+
+pub returns : goal.returns
+returns c =
+    let geometry = c.args.geometry.now in
+    let old = c.args.image.now in
+    let new = c.remove.new.image in
+    let d = c.args.dir in
+    let name = c.args.name.now in
+    let whole = c.requires.whole in
+    let s = slot_named name (slots geometry old d) in
+    let file : IsFile geometry old d = record { first = c.requires.first; last = c.requires.last; kind = ap has_places c.requires.directory } in
+    let is : IsDirectory geometry old d = record { first = c.requires.first; last = c.requires.last; kind = c.requires.directory } in
+    let at : IsKind geometry old d kinds.Directory = record { first = c.requires.first; last = c.requires.last; kind = c.requires.directory } in
+    let writes = c.remove.ensures.written whole.blocks whole.sound in
+    let kind = written_kind geometry old new whole.blocks d (16 * s) (0 ∷ (0 ∷ [])) file writes in
+    let named = named_slot geometry old name d c.requires.there in
+    record {
+      keeps = writes_keeps geometry old new d (16 * s) (0 ∷ (0 ∷ [])) whole writes;
+      makes = removed_state geometry old new whole.blocks name d s at whole.sound.fits writes c.remove.ensures.none c.remove.ensures.size
+          c.remove.ensures.names c.remove.ensures.slots;
+      slot = changes_slot geometry old new d s (option_map (λ (i : ℕ). (name, i)) (get (names_of (slots geometry old d)) name)) None is
+          (kind ∙ c.requires.directory) (ap (λ n. n % 16) c.remove.ensures.size ∙ c.requires.slots) named.entry
+          (removes geometry old new whole.blocks d s file whole.sound c.requires.slots named.within writes);
+      beside = directory_beside geometry old new d whole.sound.fits writes.alone c.requires.first kind;
+      once = c.remove.ensures.once;
+      unused = λ j first last. file_unused geometry old new d j whole.sound.fits writes.alone
+          (λ free. absurd (cc (free, c.requires.directory))) c.requires.first first last;
+    }

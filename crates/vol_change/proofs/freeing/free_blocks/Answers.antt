@@ -1,0 +1,20 @@
+use Rattle.vol_change.proofs.FreedNodes.{truncated_whole, truncated_only}
+use Rattle.vol_change.proofs.OneNode.{alone_inode}
+use Rattle.vol_change.proofs.UnusedBytes.{kept_unused}
+use Rattle.vol_change.proofs.freeing.free_blocks.Goals as goal
+
+-- src/freeing.rt:38:1
+pub returns-in-Regular-clause-whole : goal.returns-in-Regular-clause-whole
+returns-in-Regular-clause-whole c =
+    truncated_whole c.args.geometry.now c.args.image.now c.truncate.new.image c.args.i c.requires.whole c.truncate.ensures.truncated
+
+-- src/freeing.rt:38:1
+pub returns-in-Regular-clause-only : goal.returns-in-Regular-clause-only
+returns-in-Regular-clause-only c =
+    truncated_only c.args.geometry.now c.args.image.now c.truncate.new.image c.args.i c.requires.whole c.requires.first c.truncate.ensures.truncated
+
+pub returns-in-Regular-clause-others : goal.returns-in-Regular-clause-others
+returns-in-Regular-clause-others c = λ j first last other.
+    kept_unused c.args.geometry.now c.args.image.now c.truncate.new.image j
+    (alone_inode c.args.geometry.now c.args.image.now c.truncate.new.image c.args.i j c.requires.whole.sound.fits
+    (c.truncate.ensures.truncated c.requires.whole.blocks c.requires.whole.sound).alone c.requires.first first last other)

@@ -1,0 +1,16 @@
+use Rattle.std.proofs.Common.{◌∙◌, ap, subst, ◌+◌}
+use Rattle.vol_judge.specs.Graph.{graph_of}
+use Rattle.vol_change.specs.NodeGraphs.{SetsLinks}
+use Rattle.vol_change.proofs.OneLink.{link_more}
+use Rattle.vol_change.proofs.links.add_link.Goals as goal
+
+pub returns-clause-makes : goal.returns-clause-makes
+returns-clause-makes c =
+    c.put_links.ensures.makes
+    ∙ link_more c.args.geometry.now c.args.image.now c.args.i c.args.now (c.inode-links.result.links + 1) c.requires.first c.requires.last
+    (ap (λ node. node.links + 1) c.inode-links.ensures.value)
+
+pub returns-clause-graph : goal.returns-clause-graph
+returns-clause-graph c =
+    subst (SetsLinks (graph_of c.args.geometry.now c.args.image.now) (graph_of c.args.geometry.now c.put_links.new.image) c.args.i)
+    (ap (λ node. node.links + 1) c.inode-links.ensures.value) c.put_links.ensures.graph

@@ -1,0 +1,29 @@
+-- What a change of one node leaves of the others.
+use Rattle.std.specs.Prelude.{◌≡◌, ◌≢◌, ℕ, ◌≤◌, List}
+use Rattle.pdp_words.specs.Words.{long}
+use Rattle.vol_layout.specs.Inode.{inode_of}
+use Rattle.vol_layout.specs.Names.{mode_of, IsFile, IsPlaceOf, named}
+use Rattle.vol_layout.specs.Body.{body}
+use Rattle.vol_layout.specs.Super.{time_place}
+use Rattle.vol_layout.specs.declared.geometry.Geometry.{Geometry}
+use Rattle.vol_file.specs.Rules.{size_of}
+use Rattle.vol_change.specs.Whole.{StaysAround}
+
+-- what i-node i stands for stays: its mode, size and addresses, its bytes, and what its places name (manual section 5, file system)
+pub record KeepsContent (geometry : Geometry) (old new : List ℕ) (i : ℕ) : Type 0 where
+  pub mode : mode_of geometry new i ≡ mode_of geometry old i
+  pub size : size_of geometry new i ≡ size_of geometry old i
+  pub addresses : (inode_of geometry.edition new i).addresses ≡ (inode_of geometry.edition old i).addresses
+  pub bytes : IsFile geometry old i → body geometry new i ≡ body geometry old i
+  pub names : (p : List ℕ) → IsPlaceOf geometry old i p → named geometry new i p ≡ named geometry old i p
+
+-- i-node j stays, and what it stands for (manual section 5, file system)
+pub record KeepsNode (geometry : Geometry) (old new : List ℕ) (j : ℕ) : Type 0 where
+  pub content : KeepsContent geometry old new j
+  pub inode : inode_of geometry.edition new j ≡ inode_of geometry.edition old j
+
+-- but for i-node i, the free list and the i-number cache, all that an image reads as stays (this project)
+pub record ChangesOnly (geometry : Geometry) (old new : List ℕ) (i : ℕ) : Type 0 where
+  pub around : StaysAround geometry old new
+  pub time : long new (time_place geometry.edition) ≡ long old (time_place geometry.edition)
+  pub others : (j : ℕ) → 1 ≤ j → j ≤ geometry.last_inode → j ≢ i → KeepsNode geometry old new j

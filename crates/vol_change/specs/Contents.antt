@@ -1,0 +1,24 @@
+-- Changes of a file's bytes and of a directory's entries, before the times of the node are put.
+use Rattle.std.specs.Prelude.{ℕ, List}
+use Rattle.vol_dir.specs.Tree.{Node, State}
+use Rattle.vol_change.specs.Edits.{entry_added, entry_removed, bytes_written, bytes_lost}
+
+-- the node as it is: its times stay (this project)
+abbrev pub untimed : Node → Node
+untimed node = node
+
+-- bytes are written into file i from an offset on, and its times stay (Lions on writei)
+abbrev pub write_body : ℕ → ℕ → List ℕ → State → State
+write_body = bytes_written untimed
+
+-- file i loses its bytes and all its places, and its times stay (Lions on itrunc)
+abbrev pub empty_body : ℕ → State → State
+empty_body = bytes_lost untimed
+
+-- directory d gets an entry, a name for i, and its times stay (Lions on wdir)
+abbrev pub put_entry : ℕ → List ℕ → ℕ → State → State
+put_entry = entry_added untimed
+
+-- an entry of directory d goes, and its times stay (Lions on unlink)
+abbrev pub drop_entry : ℕ → List ℕ → State → State
+drop_entry = entry_removed untimed

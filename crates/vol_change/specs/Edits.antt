@@ -1,0 +1,139 @@
+-- Changes of one node of the tree, of which calls are made.
+use Rattle.std.specs.Prelude.{ℕ, ◌+◌, ◌-◌, ◌%◌, ◌==◌, max, nat_le, if◌then◌else◌, List, [], ◌∷◌, length, Option, None}
+use Rattle.std.specs.Option.{option_map}
+use Rattle.vol_file.specs.Changes.{spliced}
+use Rattle.vol_file.specs.Shape.{touched}
+use Rattle.vol_dir.specs.Names.{Names, insert, remove, dot, dot_dot}
+use Rattle.vol_dir.specs.Tree.{Content, Body, Directory, Device, Node, Shape, State, no_shape}
+use Rattle.vol_change.specs.Nodes.{node_at, size_with_entry}
+use Rattle.vol_change.specs.Shapes.{stored_shape, shape_with_entry, shape_without_entry}
+use Rattle.vol_layout.specs.Inode.{first_change}
+use Rattle.vol_layout.specs.declared.edition.Edition.{Edition}
+use Rattle.vol_dir.specs.declared.cred.Cred.{Cred}
+
+-- values by i-number, with another one at i (this project)
+abbrev pub set_at : {X : Type 0} → (ℕ → X) → ℕ → X → ℕ → X
+set_at values i value j = if j == i then value else values j
+
+-- the state with another node at i, or with none (this project)
+abbrev pub put_node : ℕ → Option Node → State → State
+put_node i node state = record state { tree = record state.tree { nodes = set_at state.tree.nodes i node } }
+
+-- the state with node i changed (this project)
+abbrev pub change_node : ℕ → (Node → Node) → State → State
+change_node i change state = put_node i (option_map change (state.tree.nodes i)) state
+
+-- the state with another shape at i (this project)
+abbrev pub put_shape : ℕ → Shape → State → State
+put_shape i shape state = record state { shapes = set_at state.shapes i shape }
+
+-- the state without node i and without its places (Lions on iput)
+abbrev pub remove_node : ℕ → State → State
+remove_node i state = put_shape i no_shape (put_node i None state)
+
+-- the state with the super-block's time set to that of the call (filsys.h)
+abbrev pub at_time : ℕ → State → State
+at_time now state = record state { tree = record state.tree { time = now } }
+
+-- a node whose i-node was changed: the seventh edition keeps the time of that (ino.h)
+abbrev pub stamped : ℕ → Node → Node
+stamped now node = record node { changed = option_map (λ _. now) node.changed }
+
+-- a node whose bytes or entries were changed too (manual section 5, file system)
+abbrev pub modified : ℕ → Node → Node
+modified now node = record (stamped now node) { modified = now }
+
+-- a new node of the caller, with all its times those of the call (Lions on maknode)
+abbrev pub new_node : Edition → Cred → ℕ → ℕ → Content → ℕ → ℕ → Node
+new_node edition cred now perm content links size = record {
+  content = content;
+  permissions = perm % 4096;
+  links = links;
+  uid = cred.uid;
+  gid = cred.gid;
+  size = size;
+  accessed = now;
+  modified = now;
+  changed = first_change edition now;
+}
+
+-- what a directory holds, with its map changed (manual section 5, directories)
+abbrev pub change_names : (Names → Names) → Content → Content
+change_names change (Directory names) = Directory (change names)
+change_names change (Body bytes) = Body bytes
+change_names change (Device type addresses) = Device type addresses
+
+-- directory d gets an entry, a name for i: the map, the size, the slot, and the block of the slot where it is missing; its times
+-- change as `timed` says (Lions on wdir)
+abbrev pub entry_added : (Node → Node) → ℕ → List ℕ → ℕ → State → State
+entry_added timed d name i state =
+    put_shape d (shape_with_entry state.tree.geometry.edition (state.shapes d) name)
+    (change_node d (λ node. record (timed node) {
+      content = change_names (λ names. insert names name i) node.content;
+      size = size_with_entry state d;
+    }) state)
+
+-- directory d gets an entry, a name for i, and its entries were last changed now (Lions on wdir)
+abbrev pub add_entry : ℕ → ℕ → List ℕ → ℕ → State → State
+add_entry now = entry_added (modified now)
+
+-- an entry of directory d goes, and its slot becomes empty; the size stays, and the times change as `timed` says (Lions on unlink)
+abbrev pub entry_removed : (Node → Node) → ℕ → List ℕ → State → State
+entry_removed timed d name state =
+    put_shape d (shape_without_entry (state.shapes d) name)
+    (change_node d (λ node. record (timed node) {
+      content = change_names (λ names. remove names name) node.content;
+    }) state)
+
+-- an entry of directory d goes, and its entries were last changed now (Lions on unlink)
+abbrev pub remove_entry : ℕ → ℕ → List ℕ → State → State
+remove_entry now = entry_removed (modified now)
+
+-- a node with another link count, whose i-node was changed by that (Lions on link)
+abbrev pub with_links : ℕ → ℕ → Node → Node
+with_links now links node = record (stamped now node) { links = links }
+
+-- node i gets one link more (Lions on link)
+abbrev pub add_link : ℕ → ℕ → State → State
+add_link now i state = change_node i (λ node. record (stamped now node) { links = node.links + 1 }) state
+
+-- node i gets one link less (Lions on unlink)
+abbrev pub drop_link : ℕ → ℕ → State → State
+drop_link now i state = change_node i (λ node. record (stamped now node) { links = node.links - 1 }) state
+
+-- node i gets one link less, and with the last one it goes (Lions on iput)
+abbrev pub release : ℕ → ℕ → State → State
+release now i state = if nat_le (node_at state.tree i).links 1 then remove_node i state else drop_link now i state
+
+-- the bytes of a regular file; what is none has none (manual section 5, file system)
+abbrev pub body_of : Content → List ℕ
+body_of (Body bytes) = bytes
+body_of (Directory names) = []
+body_of (Device type addresses) = []
+
+-- what a new directory holds: `.` for itself and `..` for its parent (mkdir)
+abbrev pub new_directory : ℕ → ℕ → Content
+new_directory made d = Directory (insert (insert [] dot made) dot_dot d)
+
+-- bytes are written into file i from an offset on, and its times change as `timed` says (Lions on writei)
+abbrev pub bytes_written : (Node → Node) → ℕ → ℕ → List ℕ → State → State
+bytes_written timed i offset bytes state =
+    put_shape i (stored_shape state.tree.geometry.edition (state.shapes i) (touched offset (length bytes)))
+    (change_node i (λ node. record (timed node) {
+      content = Body (spliced (body_of node.content) offset bytes);
+      size = max node.size (offset + length bytes);
+    }) state)
+
+-- bytes are written into file i from an offset on, and its bytes were last changed now; no bytes change nothing (Lions on writei)
+abbrev pub after_write : State → ℕ → ℕ → List ℕ → ℕ → State
+after_write state now offset [] i = state
+after_write state now offset (byte ∷ bytes) i = bytes_written (modified now) i offset (byte ∷ bytes) state
+
+-- file i loses its bytes and all its places, and its times change as `timed` says (Lions on itrunc)
+abbrev pub bytes_lost : (Node → Node) → ℕ → State → State
+bytes_lost timed i state =
+    put_shape i no_shape (change_node i (λ node. record (timed node) { content = Body []; size = 0 }) state)
+
+-- file i loses its bytes and all its places, and its bytes were last changed now (Lions on itrunc)
+abbrev pub after_truncate : State → ℕ → ℕ → State
+after_truncate state now i = bytes_lost (modified now) i state

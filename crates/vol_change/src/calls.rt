@@ -1,0 +1,9 @@
+//! The seven calls, once their paths are walked.
+
+pub mod create;
+pub mod link;
+pub mod mkdir;
+pub mod rmdir;
+pub mod truncate;
+pub mod unlink;
+pub mod write;

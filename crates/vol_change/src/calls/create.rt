@@ -1,0 +1,56 @@
+//! A new file.
+ghost use Rattle.std.specs.Prelude.{◌≡◌, ◌≢◌, ℕ, ◌+◌, ◌≤◌, false, IfSome, slice_index};
+ghost use Rattle.vol_layout.specs.Edition.{constants};
+ghost use Rattle.vol_layout.specs.Inode.{inode_place};
+ghost use Rattle.vol_layout.specs.declared.edition.Edition.TheVariants as editions;
+ghost use Rattle.vol_dir.specs.Entries.{IsDirectory};
+ghost use Rattle.vol_dir.specs.Tree.{state};
+ghost use Rattle.vol_dir.specs.Walk.{IsComponent, has_zero};
+ghost use Rattle.vol_free.specs.Numbers.{IsFreeNumber};
+ghost use Rattle.vol_change.specs.Edits.{at_time};
+ghost use Rattle.vol_change.specs.Unused.{KeepsUnused};
+ghost use Rattle.vol_change.specs.Effects.{after_create};
+ghost use Rattle.vol_change.specs.Ready.{IsReady, TakesName, Changes, entry_need, free_in};
+
+use crate::entries::enter;
+use crate::new_nodes::{NewNode, make_file, pick_number};
+use crate::times::put_time;
+use pdp_words::Image;
+use vol_layout::Geometry;
+
+/// Makes an empty regular file with `name` in directory `dir`. Its i-number is the recorded one, if
+/// there is one, and else one that is free; the answer is that number.
+///
+/// Costs what a new entry of the directory does; the i-list is searched only where no cached i-number is
+/// free.
+pub fn create(
+    image: &mut Image,
+    geometry: &Geometry,
+    node: NewNode,
+    dir: u16,
+    name: &[u8],
+    recorded: Option<u16>,
+) -> u16
+    requires ready { IsReady geometry.now image.old }
+    requires user { node.owner.uid ≤ (constants geometry.now.edition).id_limit }
+    requires group { node.owner.gid ≤ (constants geometry.now.edition).id_limit }
+    requires directory { IsDirectory geometry.now image.old dir }
+    requires takes { TakesName (state geometry.now image.old) dir name.now }
+    requires component { IsComponent name.now }
+    requires text { has_zero name.now ≡ false }
+    requires room { entry_need (state geometry.now image.old) dir ≤ free_in (state geometry.now image.old) }
+    requires some { ((i : ℕ) → IsFreeNumber geometry.now image.old i → ⊥) → ⊥ }
+    requires recorded { IfSome recorded (λ i. IsFreeNumber geometry.now image.old i) }
+    ensures free { IsFreeNumber geometry.now image.old result }
+    ensures recorded { IfSome recorded (λ i. result ≡ i) }
+    ensures changes { Changes geometry.now image.old image.new
+        (at_time node.moment (after_create (state geometry.now image.old) node.owner node.moment node.permissions result dir name.now)) }
+    ensures unused { geometry.now.edition ≡ editions.V7 → slice_index image.new (inode_place editions.V7 result + 51) ≡ 0 }
+    ensures others { (j : ℕ) → 1 ≤ j → j ≤ geometry.now.last_inode → j ≢ result → KeepsUnused geometry.now image.old image.new j }
+{
+    let made = pick_number(image, geometry, recorded);
+    make_file(image, geometry, made, node);
+    enter(image, geometry, dir, name, made, node.moment);
+    put_time(image, geometry, node.moment);
+    made
+}

@@ -1,0 +1,41 @@
+//! A further name.
+ghost use Rattle.std.specs.Prelude.{◌≡◌, ◌≢◌, ℕ, ◌<◌, ◌≤◌, false};
+ghost use Rattle.vol_layout.specs.Edition.{constants};
+ghost use Rattle.vol_layout.specs.declared.mode.Kind.TheVariants as kinds;
+ghost use Rattle.vol_file.specs.Rules.{kind_at};
+ghost use Rattle.vol_dir.specs.Entries.{IsDirectory, IsInUse};
+ghost use Rattle.vol_dir.specs.Tree.{state};
+ghost use Rattle.vol_dir.specs.Walk.{IsComponent, has_zero};
+ghost use Rattle.vol_change.specs.Edits.{at_time};
+ghost use Rattle.vol_change.specs.Nodes.{node_at};
+ghost use Rattle.vol_change.specs.Unused.{KeepsUnused};
+ghost use Rattle.vol_change.specs.Effects.{after_link};
+ghost use Rattle.vol_change.specs.Ready.{IsReady, TakesName, Changes, entry_need, free_in};
+
+use crate::entries::enter;
+use crate::links::add_link;
+use crate::times::put_time;
+use pdp_words::Image;
+use vol_layout::Geometry;
+
+/// Gives node `i`, which is no directory, the further `name` in directory `dir`, at `moment`, in seconds.
+///
+/// Costs what a new entry of the directory does.
+pub fn link(image: &mut Image, geometry: &Geometry, i: u16, dir: u16, name: &[u8], moment: u32)
+    requires ready { IsReady geometry.now image.old }
+    requires used { IsInUse geometry.now image.old i }
+    requires other { kind_at geometry.now image.old i ≢ kinds.Directory }
+    requires directory { IsDirectory geometry.now image.old dir }
+    requires takes { TakesName (state geometry.now image.old) dir name.now }
+    requires component { IsComponent name.now }
+    requires text { has_zero name.now ≡ false }
+    requires links { (node_at (state geometry.now image.old).tree i).links < (constants geometry.now.edition).link_limit }
+    requires room { entry_need (state geometry.now image.old) dir ≤ free_in (state geometry.now image.old) }
+    ensures changes { Changes geometry.now image.old image.new
+        (at_time moment (after_link (state geometry.now image.old) moment i dir name.now)) }
+    ensures unused { (j : ℕ) → 1 ≤ j → j ≤ geometry.now.last_inode → KeepsUnused geometry.now image.old image.new j }
+{
+    add_link(image, geometry, i, moment);
+    enter(image, geometry, dir, name, i, moment);
+    put_time(image, geometry, moment);
+}

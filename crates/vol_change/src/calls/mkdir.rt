@@ -1,0 +1,83 @@
+//! A new directory.
+ghost use Rattle.std.specs.Prelude.{◌≡◌, ◌≢◌, ℕ, ◌+◌, ◌<◌, ◌≤◌, false, [], IfSome, slice_index};
+ghost use Rattle.vol_layout.specs.Edition.{constants};
+ghost use Rattle.vol_layout.specs.Inode.{inode_place};
+ghost use Rattle.vol_layout.specs.declared.edition.Edition.TheVariants as editions;
+ghost use Rattle.vol_dir.specs.Entries.{IsDirectory};
+ghost use Rattle.vol_dir.specs.Names.{dot, dot_dot};
+ghost use Rattle.vol_dir.specs.Tree.{no_shape, state};
+ghost use Rattle.vol_dir.specs.Walk.{IsComponent, has_zero};
+ghost use Rattle.vol_free.specs.Numbers.{IsFreeNumber};
+ghost use Rattle.vol_judge.specs.Graph.{graph_of};
+ghost use Rattle.vol_change.specs.Contents.{put_entry};
+ghost use Rattle.vol_change.specs.Edits.{at_time};
+ghost use Rattle.vol_change.specs.Nodes.{node_at};
+ghost use Rattle.vol_change.specs.Whole.{IsWhole, Keeps};
+ghost use Rattle.vol_change.specs.Dots.{HoldsNames, AddsDots};
+ghost use Rattle.vol_change.specs.Unused.{KeepsUnused};
+ghost use Rattle.vol_change.specs.Effects.{after_mkdir};
+ghost use Rattle.vol_change.specs.Ready.{IsReady, TakesName, Changes, entry_need, free_in};
+
+use crate::entries::{add_name, enter};
+use crate::links::add_link;
+use crate::new_nodes::{NewNode, make_directory, pick_number};
+use crate::times::put_time;
+use pdp_words::Image;
+use vol_layout::Geometry;
+
+/// Makes a directory with `name` in directory `dir`, with `.` and `..` alone. Its i-number is the
+/// recorded one, if there is one, and else one that is free; the answer is that number. The blocks of
+/// the entry in `dir` are taken first, then that of the new directory.
+///
+/// Costs what a new entry of `dir` does; the i-list is searched only where no cached i-number is free.
+pub fn mkdir(
+    image: &mut Image,
+    geometry: &Geometry,
+    node: NewNode,
+    dir: u16,
+    name: &[u8],
+    recorded: Option<u16>,
+) -> u16
+    requires ready { IsReady geometry.now image.old }
+    requires user { node.owner.uid ≤ (constants geometry.now.edition).id_limit }
+    requires group { node.owner.gid ≤ (constants geometry.now.edition).id_limit }
+    requires directory { IsDirectory geometry.now image.old dir }
+    requires takes { TakesName (state geometry.now image.old) dir name.now }
+    requires component { IsComponent name.now }
+    requires text { has_zero name.now ≡ false }
+    requires links { (node_at (state geometry.now image.old).tree dir).links < (constants geometry.now.edition).link_limit }
+    requires room { entry_need (state geometry.now image.old) dir + 1 ≤ free_in (state geometry.now image.old) }
+    requires some { ((i : ℕ) → IsFreeNumber geometry.now image.old i → ⊥) → ⊥ }
+    requires recorded { IfSome recorded (λ i. IsFreeNumber geometry.now image.old i) }
+    ensures free { IsFreeNumber geometry.now image.old result }
+    ensures recorded { IfSome recorded (λ i. result ≡ i) }
+    ensures changes { Changes geometry.now image.old image.new
+        (at_time node.moment (after_mkdir (state geometry.now image.old) node.owner node.moment node.permissions result dir name.now)) }
+    ensures unused { geometry.now.edition ≡ editions.V7 → slice_index image.new (inode_place editions.V7 result + 51) ≡ 0 }
+    ensures others { (j : ℕ) → 1 ≤ j → j ≤ geometry.now.last_inode → j ≢ result → KeepsUnused geometry.now image.old image.new j }
+{
+    let made = pick_number(image, geometry, recorded);
+    make_directory(image, geometry, made, node);
+    enter(image, geometry, dir, name, made, node.moment);
+    add_dots(image, geometry, made, dir);
+    add_link(image, geometry, dir, node.moment);
+    put_time(image, geometry, node.moment);
+    made
+}
+
+/// Gives directory `i`, which has no slots, its entries `.` and `..`, the latter for directory `dir`.
+/// The times of `i` stay, and so do the link counts. That takes one block.
+fn add_dots(image: &mut Image, geometry: &Geometry, i: u16, dir: u16)
+    requires whole { IsWhole geometry.now image.old }
+    requires directory { IsDirectory geometry.now image.old i }
+    requires empty { HoldsNames (state geometry.now image.old) i [] 0 no_shape }
+    requires parent { 1 ≤ dir }
+    requires room { 1 ≤ free_in (state geometry.now image.old) }
+    ensures keeps { Keeps geometry.now image.old image.new }
+    ensures makes { state geometry.now image.new ≡ put_entry i dot_dot dir (put_entry i dot i (state geometry.now image.old)) }
+    ensures graph { AddsDots (graph_of geometry.now image.old) (graph_of geometry.now image.new) i dir }
+    ensures unused { (j : ℕ) → 1 ≤ j → j ≤ geometry.now.last_inode → KeepsUnused geometry.now image.old image.new j }
+{
+    add_name(image, geometry, i, b".", i);
+    add_name(image, geometry, i, b"..", dir);
+}

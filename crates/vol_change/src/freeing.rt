@@ -1,0 +1,53 @@
+//! Nodes that go.
+ghost use Rattle.std.specs.Prelude.{◌≡◌, ◌≢◌, ℕ, ◌<◌, ◌≤◌, List};
+ghost use Rattle.vol_layout.specs.Edition.{constants};
+ghost use Rattle.vol_layout.specs.Names.{IsPlaceOf, named};
+ghost use Rattle.vol_layout.specs.declared.mode.Kind.TheVariants as kinds;
+ghost use Rattle.vol_dir.specs.Tree.{state};
+ghost use Rattle.vol_judge.specs.Graph.{graph_of};
+ghost use Rattle.vol_change.specs.Alone.{ChangesOnly};
+ghost use Rattle.vol_change.specs.Edits.{remove_node};
+ghost use Rattle.vol_change.specs.NodeGraphs.{DropsNode};
+ghost use Rattle.vol_change.specs.Unused.{IsCleared, KeepsUnused};
+ghost use Rattle.vol_change.specs.Whole.{IsWhole, Keeps};
+
+use pdp_words::Image;
+use vol_file::truncate;
+use vol_free::give_inode;
+use vol_layout::i_list::kind;
+use vol_layout::{Geometry, Kind, clear_inode};
+
+/// Frees node `i`, which isn't the root: its blocks go back to the free list, all bytes of its i-node are
+/// zero then, and its i-number goes to the cache, if there is room. Takes no memory.
+///
+/// Costs what the truncation of its file does, if it has one.
+pub fn free_node(image: &mut Image, geometry: &Geometry, i: u16)
+    requires whole { IsWhole geometry.now image.old }
+    requires above { (constants geometry.now.edition).root < i }
+    requires last { i ≤ geometry.now.last_inode }
+    ensures keeps { Keeps geometry.now image.old image.new }
+    ensures makes { state geometry.now image.new ≡ remove_node i (state geometry.now image.old) }
+    ensures graph { DropsNode (graph_of geometry.now image.old) (graph_of geometry.now image.new) i }
+    ensures cleared { IsCleared geometry.now image.new i }
+    ensures others { (j : ℕ) → 1 ≤ j → j ≤ geometry.now.last_inode → j ≢ i → KeepsUnused geometry.now image.old image.new j }
+{
+    free_blocks(image, geometry, i);
+    clear_inode(image, geometry, i);
+    give_inode(image, geometry, i);
+}
+
+/// Truncates file `i`, if `i` is one.
+fn free_blocks(image: &mut Image, geometry: &Geometry, i: u16)
+    requires whole { IsWhole geometry.now image.old }
+    requires first { 1 ≤ i }
+    requires last { i ≤ geometry.now.last_inode }
+    ensures whole { IsWhole geometry.now image.new }
+    ensures only { ChangesOnly geometry.now image.old image.new i }
+    ensures others { (j : ℕ) → 1 ≤ j → j ≤ geometry.now.last_inode → j ≢ i → KeepsUnused geometry.now image.old image.new j }
+    ensures none { (p : List ℕ) → IsPlaceOf geometry.now image.new i p → named geometry.now image.new i p ≡ 0 }
+{
+    match kind(image, geometry, i) {
+        Kind::Regular | Kind::Directory => truncate(image, geometry, i),
+        Kind::Free | Kind::Special | Kind::Odd => {}
+    }
+}

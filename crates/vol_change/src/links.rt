@@ -1,0 +1,73 @@
+//! The link counts.
+ghost use Rattle.std.specs.Prelude.{◌≡◌, ◌≢◌, ℕ, ◌+◌, ◌-◌, ◌<◌, ◌≤◌};
+ghost use Rattle.vol_layout.specs.Edition.{constants};
+ghost use Rattle.vol_layout.specs.Inode.{inode_of};
+ghost use Rattle.vol_layout.specs.declared.mode.Kind.TheVariants as kinds;
+ghost use Rattle.vol_file.specs.Rules.{kind_at};
+ghost use Rattle.vol_dir.specs.Tree.{state};
+ghost use Rattle.vol_judge.specs.Graph.{graph_of};
+ghost use Rattle.vol_change.specs.Edits.{add_link, change_node, drop_link, with_links};
+ghost use Rattle.vol_change.specs.NodeGraphs.{SetsLinks};
+ghost use Rattle.vol_change.specs.Unused.{KeepsUnused};
+ghost use Rattle.vol_change.specs.Whole.{IsWhole, Keeps};
+
+use crate::times::stamp;
+use pdp_words::Image;
+use vol_layout::i_list::inode;
+use vol_layout::{Geometry, Inode, put_inode};
+
+/// Makes the link count of i-node `i`, which isn't free, the given one, and in the seventh edition `now`
+/// the time, in seconds, at which it was last changed.
+pub fn put_links(image: &mut Image, geometry: &Geometry, i: u16, links: u16, now: u32)
+    requires whole { IsWhole geometry.now image.old }
+    requires first { 1 ≤ i }
+    requires last { i ≤ geometry.now.last_inode }
+    requires used { kind_at geometry.now image.old i ≢ kinds.Free }
+    requires limit { links ≤ (constants geometry.now.edition).link_limit }
+    ensures keeps { Keeps geometry.now image.old image.new }
+    ensures makes { state geometry.now image.new ≡ change_node i (with_links now links) (state geometry.now image.old) }
+    ensures graph { SetsLinks (graph_of geometry.now image.old) (graph_of geometry.now image.new) i links }
+    ensures unused { (j : ℕ) → 1 ≤ j → j ≤ geometry.now.last_inode → KeepsUnused geometry.now image.old image.new j }
+{
+    let node = inode(image, geometry, i);
+    let linked = Inode {
+        links,
+        changed: stamp(node.changed, now),
+        ..node
+    };
+    put_inode(image, geometry, i, &linked);
+}
+
+/// Gives i-node `i`, which isn't free and has fewer links than the limit, one link more, as `put_links` does.
+pub fn add_link(image: &mut Image, geometry: &Geometry, i: u16, now: u32)
+    requires whole { IsWhole geometry.now image.old }
+    requires first { 1 ≤ i }
+    requires last { i ≤ geometry.now.last_inode }
+    requires used { kind_at geometry.now image.old i ≢ kinds.Free }
+    requires room { (inode_of geometry.now.edition image.old i).links < (constants geometry.now.edition).link_limit }
+    ensures keeps { Keeps geometry.now image.old image.new }
+    ensures makes { state geometry.now image.new ≡ add_link now i (state geometry.now image.old) }
+    ensures graph { SetsLinks (graph_of geometry.now image.old) (graph_of geometry.now image.new) i
+        ((inode_of geometry.now.edition image.old i).links + 1) }
+    ensures unused { (j : ℕ) → 1 ≤ j → j ≤ geometry.now.last_inode → KeepsUnused geometry.now image.old image.new j }
+{
+    let links = inode(image, geometry, i).links;
+    put_links(image, geometry, i, links + 1, now);
+}
+
+/// Takes a link from i-node `i`, which isn't free and has one at least, as `put_links` does.
+pub fn drop_link(image: &mut Image, geometry: &Geometry, i: u16, now: u32)
+    requires whole { IsWhole geometry.now image.old }
+    requires first { 1 ≤ i }
+    requires last { i ≤ geometry.now.last_inode }
+    requires used { kind_at geometry.now image.old i ≢ kinds.Free }
+    requires some { 1 ≤ (inode_of geometry.now.edition image.old i).links }
+    ensures keeps { Keeps geometry.now image.old image.new }
+    ensures makes { state geometry.now image.new ≡ drop_link now i (state geometry.now image.old) }
+    ensures graph { SetsLinks (graph_of geometry.now image.old) (graph_of geometry.now image.new) i
+        ((inode_of geometry.now.edition image.old i).links - 1) }
+    ensures unused { (j : ℕ) → 1 ≤ j → j ≤ geometry.now.last_inode → KeepsUnused geometry.now image.old image.new j }
+{
+    let links = inode(image, geometry, i).links;
+    put_links(image, geometry, i, links - 1, now);
+}

@@ -1,0 +1,60 @@
+//! The times: of the volume's last change, and of a node's.
+ghost use Rattle.std.specs.Prelude.{◌≡◌, ◌≢◌, ℕ, ◌+◌, ◌≤◌};
+ghost use Rattle.std.specs.Option.{option_map};
+ghost use Rattle.pdp_words.specs.Words.{SameOutside};
+ghost use Rattle.vol_layout.specs.Super.{time_place};
+ghost use Rattle.vol_layout.specs.declared.mode.Kind.TheVariants as kinds;
+ghost use Rattle.vol_file.specs.Rules.{kind_at};
+ghost use Rattle.vol_dir.specs.Tree.{state};
+ghost use Rattle.vol_judge.specs.Graph.{graph_of};
+ghost use Rattle.vol_judge.specs.GraphEdits.{IsSameGraph};
+ghost use Rattle.vol_change.specs.Edits.{at_time, change_node, modified};
+ghost use Rattle.vol_change.specs.Unused.{KeepsUnused};
+ghost use Rattle.vol_change.specs.Whole.{IsWhole, Keeps};
+
+use pdp_words::Image;
+use vol_layout::i_list::inode;
+use vol_layout::{Geometry, Inode, Super, put_inode};
+
+/// Makes `now` the time at which the volume was last changed, in seconds. No other byte changes.
+#[tactic(auto, using(crate::proofs::ListWrites::time_keeps, crate::proofs::ListWrites::time_makes, crate::proofs::ListWrites::time_graph))]
+pub fn put_time(image: &mut Image, geometry: &Geometry, now: u32)
+    requires whole { IsWhole geometry.now image.old }
+    ensures keeps { Keeps geometry.now image.old image.new }
+    ensures makes { state geometry.now image.new ≡ at_time now (state geometry.now image.old) }
+    ensures graph { IsSameGraph (graph_of geometry.now image.old) (graph_of geometry.now image.new) }
+    ensures others { SameOutside image.old image.new (time_place geometry.now.edition) (time_place geometry.now.edition + 4) }
+{
+    let super_block = Super {
+        edition: geometry.edition,
+    };
+    super_block.put_time(image, now);
+}
+
+/// Makes `now` the time, in seconds, at which what node `i` holds was last changed, and in the seventh
+/// edition that of its i-node too. Node `i` is any that isn't free.
+pub fn touch(image: &mut Image, geometry: &Geometry, i: u16, now: u32)
+    requires whole { IsWhole geometry.now image.old }
+    requires first { 1 ≤ i }
+    requires last { i ≤ geometry.now.last_inode }
+    requires used { kind_at geometry.now image.old i ≢ kinds.Free }
+    ensures keeps { Keeps geometry.now image.old image.new }
+    ensures makes { state geometry.now image.new ≡ change_node i (modified now) (state geometry.now image.old) }
+    ensures graph { IsSameGraph (graph_of geometry.now image.old) (graph_of geometry.now image.new) }
+    ensures unused { (j : ℕ) → 1 ≤ j → j ≤ geometry.now.last_inode → KeepsUnused geometry.now image.old image.new j }
+{
+    let node = inode(image, geometry, i);
+    let touched = Inode {
+        modified: now,
+        changed: stamp(node.changed, now),
+        ..node
+    };
+    put_inode(image, geometry, i, &touched);
+}
+
+/// The time of an i-node's change, now: the sixth edition has none.
+pub(crate) fn stamp(changed: Option<u32>, now: u32) -> Option<u32>
+    ensures { result ≡ option_map (λ _. now) changed }
+{
+    changed.map(|_| now)
+}

@@ -17,7 +17,7 @@ mkdir -p "$bench/out" "${FOLDER:=$bench/out}"
 plain=$bench/out/plain
 rustc -O --edition 2021 "$bench/plain/main.rs" -o "$plain" || exit 1
 cd "$FOLDER" || exit 1
-trap 'rm -f ours theirs output made.img work.img full.img six.img seven.img big' EXIT
+trap 'rm -f ours theirs output made.img work.img full.img six.img seven.img sparse.img plain.img big' EXIT
 
 # reset: puts the files back that a command changes; `base` names the image of which it is given a copy, if it is
 base=
@@ -84,6 +84,22 @@ compare() {
         printf "\n" }'
 }
 
+# against LABEL TIMES IMAGE ORDINARY EDITION PATH: the program lists a directory of two images of as many bytes; a row of the table,
+# which has the second's time in place of plain Rust's. The first is to take at most so many TIMES that of the second.
+against() {
+    local label=$1 times=$2 image=$3 ordinary=$4 edition=$5 path=$6 first=999999999 second=999999999
+    for _ in 1 2 3 4 5; do
+        microseconds output "$program" ls "$edition" "$image" "$path"
+        [ "$taken" -lt "$first" ] && first=$taken
+        microseconds output "$program" ls "$edition" "$ordinary" "$path"
+        [ "$taken" -lt "$second" ] && second=$taken
+    done
+    awk -v label="$label" -v times="$times" -v first="$first" -v second="$second" 'BEGIN {
+        printf "%-34s %9.1f %9.1f %6.2f", label, first / 1000, second / 1000, first / second
+        if (first > times * second) printf "  time above %s", times
+        printf "\n" }'
+}
+
 echo "load before: $(cut -d ' ' -f 1-3 /proc/loadavg)"
 printf '%-34s %9s %9s %6s %9s %9s %6s %6s\n' job 'ms' 'plain ms' ratio 'MiB' 'plain MiB' ratio copies
 
@@ -94,6 +110,19 @@ compare 'cat 16,000,000 bytes, edition 6' 0 0 output cat 6 six.img 2
 compare 'cat 200,000,000 bytes, edition 7' 0 0 output cat 7 seven.img 3
 compare 'mkfs 340,670 blocks, edition 7' 0 0 made.img mkfs 7 made.img 340670 2000 0 0 173750400
 rm -f ours theirs six.img seven.img
+
+# Directories of the greatest size that are nearly all holes, against an ordinary volume of as many bytes.
+sparse() {
+    local label=$1 edition=$2 blocks=$3 list_blocks=$4 directories=$5 files=$6
+    "$plain" sparse "$edition" sparse.img "$blocks" "$list_blocks" "$directories" || exit 1
+    "$plain" fill "$edition" plain.img "$blocks" "$list_blocks" "$files" || exit 1
+    against "$label" 5 sparse.img plain.img "$edition" /
+}
+sparse 'ls /, 1 GB of holes in 62 KB' 7 124 10 20 0
+sparse 'ls /, 340 GB of holes in 722 KB' 7 1444 50 340 100
+sparse 'ls /, 18 TB of holes in 38 MB' 7 76000 2300 18000 5000
+sparse 'ls /, 2 GB of holes in 9 MB' 6 18000 50 120 400
+rm -f sparse.img plain.img
 
 # A volume of 340,670 blocks with 10,000 files, and 100,000,000 bytes that are put into it as a further file.
 "$plain" fill 7 full.img 340670 1263 10000 || exit 1

@@ -8,6 +8,7 @@
 //! plain rm 6|7 IMAGE PATH NOW
 //! plain sample 6|7 IMAGE FSIZE IBLOCKS BYTES     a new volume with a file of so many bytes, the i-node after the root's
 //! plain fill 6|7 IMAGE FSIZE IBLOCKS FILES       a new volume with so many files of various sizes, half of them in /many
+//! plain sparse 6|7 IMAGE FSIZE IBLOCKS COUNT     a new volume with so many directories of the greatest size, nearly all holes
 
 mod files;
 mod judging;
@@ -116,7 +117,12 @@ fn run(words: &[String]) -> Outcome<()> {
             volume.fill(files.parse()?)?;
             save(&volume, image)
         }
-        _ => Err("plain cat|ls|mkfs|put|rm|sample|fill, see bench/plain/main.rs".into()),
+        ["sparse", edition, image, blocks, list_blocks, count] => {
+            let mut volume = make(edition, [blocks, list_blocks, "0", "0", "0"])?;
+            volume.make_sparse(count.parse()?)?;
+            save(&volume, image)
+        }
+        _ => Err("plain cat|ls|mkfs|put|rm|sample|fill|sparse, see bench/plain/main.rs".into()),
     }
 }
 

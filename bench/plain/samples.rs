@@ -87,4 +87,25 @@ impl Volume {
         }
         Ok(())
     }
+
+    /// Makes so many directories in the root that are of the greatest size and nearly all holes: the two slots
+    /// that each has are its last, behind a pointer at the end of each indirect block on the way.
+    pub fn make_sparse(&mut self, directories: usize) -> Outcome<()> {
+        let root = self.layout.root;
+        let size = self.layout.greatest / SLOT * SLOT;
+        for number in 0..directories {
+            let dir = self.make_directory(root, format!("sparse{number}").as_bytes(), MOMENT)?;
+            self.empty(dir);
+            if self.edition == Edition::V6 {
+                self.put_large(dir, true);
+            }
+            let is_large = self.is_large(dir);
+            let end = size - (size - 1) / BLOCK * BLOCK;
+            let start = self.block_taken(dir, is_large, (size - 1) / BLOCK)? * BLOCK;
+            self.put_slot(start + end - 2 * SLOT, dir, b".");
+            self.put_slot(start + end - SLOT, root, b"..");
+            self.put_size(dir, size);
+        }
+        Ok(())
+    }
 }

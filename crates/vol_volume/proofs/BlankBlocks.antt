@@ -10,7 +10,8 @@ use Rattle.vol_layout.specs.declared.edition.Edition.TheVariants.{V6, V7}
 use Rattle.vol_layout.specs.declared.geometry.Geometry.{Geometry}
 use Rattle.vol_layout.proofs.BodyLaws.{get_or-slice_range}
 use Rattle.vol_volume.proofs.BlankVolumes.{block_early, block_root, block_chain, block_rest, chain_zone}
-use Rattle.vol_volume.specs.Blank.{HasHead, is_chain, block_byte, volume_byte}
+use Rattle.vol_volume.specs.Blank.{HasHead, block_byte, volume_byte}
+use Rattle.vol_volume.specs.Mkfs.{is_chain}
 
 -- as many blocks as an array has numbers follow a chain block, and where more follow, as many again
 room_by : (edition : Edition) (b end : ℕ) → b < end → (end - b) % (constants edition).free_slots ≡ 0

@@ -15,7 +15,8 @@ use Rattle.vol_free.proofs.Stacks.{stack_above, stack_chained, stack_zero}
 use Rattle.vol_free.proofs.Frames.{IsFree-none}
 use Rattle.vol_volume.proofs.NewVolumes.{IsIn-range_with_len, range_before}
 use Rattle.vol_volume.proofs.BlankHeads.{head_count, head_number, listed_chain, listed_last, listed_below}
-use Rattle.vol_volume.specs.Blank.{HasHead, is_chain, first_chain}
+use Rattle.vol_volume.specs.Blank.{HasHead, first_chain}
+use Rattle.vol_volume.specs.Mkfs.{is_chain}
 
 -- an array has 50 numbers at least
 pub slots_some : (edition : Edition) → 50 ≤ (constants edition).free_slots

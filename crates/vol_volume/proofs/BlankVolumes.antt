@@ -1,6 +1,6 @@
 -- The bytes of a new volume, block by block, are those that making one asks for.
 use Rattle.std.proofs.Common.{◌≡◌, ◌≢◌, ℕ, ◌+◌, ◌-◌, ◌*◌, ◌/◌, ◌%◌, ◌<◌, ◌≤◌, ◌==◌, ◌&&◌, List, length, refl, sym, ap, subst, ◌∙◌, arith, inl, inr, get_or, true, false, nat_lt}
-use Rattle.std.proofs.lemmas.Bool.{cases_lt}
+use Rattle.std.proofs.lemmas.Bool.{cases_lt, cases_eq, le-ltb}
 use Rattle.std.proofs.lemmas.Bool.Decides.{nat_tests}
 use Rattle.std.proofs.lemmas.List.FromFn.{length-map-range_with_len, get_or-map-range_with_len}
 use Rattle.vol_layout.specs.Edition.{constants}
@@ -19,8 +19,8 @@ use Rattle.vol_volume.proofs.BlankStacks.{blank_free}
 use Rattle.vol_volume.proofs.NewRules.{new_sound}
 use Rattle.vol_change.proofs.WholeLaws.{super_order}
 use Rattle.vol_volume.proofs.NewSizes.{fits_makeable, read_makeable, sizes_kept, time_kept}
-use Rattle.vol_volume.specs.Blank.{blank_in, head_byte, HasHead, is_chain, block_byte, volume_byte, volume_bytes, IsBlank, IsFirst, IsMade}
-use Rattle.vol_volume.specs.Mkfs.{is_size, IsMakeable, IsNewVolume}
+use Rattle.vol_volume.specs.Blank.{blank_in, head_byte, HasHead, block_byte, volume_byte, volume_bytes, IsBlank, IsFirst, IsMade}
+use Rattle.vol_volume.specs.Mkfs.{is_chain, is_size, size_bytes, IsMakeable, IsOutside, IsUnused, IsNewVolume}
 
 -- the root's i-node ends within the first block of the i-list
 pub root_end : (edition : Edition) → inode_place edition (constants edition).root + (constants edition).inode_bytes ≤ 1536
@@ -97,6 +97,15 @@ volume_at geometry first k b r within small place =
     let low : k < 512 * geometry.zone_end = omega arith in
     get_or-map-range_with_len (volume_byte geometry first) 0 (512 * geometry.zone_end) k k 0 low (omega arith) ∙ rw (block, offset)
 
+-- what the super-block has ends within it
+order_end : (edition : Edition) → (512 + size_bytes edition ≤ 1024) × (free_head edition + 202 ≤ 1024) × (time_place edition + 4 ≤ 1024)
+order_end V6 = (omega arith, omega arith, omega arith)
+order_end V7 = (omega arith, omega arith, omega arith)
+
+-- a byte of a chain block that is none of its head
+outside_chain : (b r k : ℕ) → k ≡ 512 * b + r → IsOutside (512 * b) 202 k → 202 ≤ r
+outside_chain b r k place apart = elim (cases_lt r 202) [ inl low ↦ absurd (apart (omega arith) (omega arith)) | inr high ↦ high ]
+
 module _ (geometry : Geometry) (uid gid now : ℕ) (first : List ℕ) (makeable : IsMakeable geometry) (is : IsFirst geometry uid gid now first)
     (some : geometry.zone_start < geometry.zone_end) where
   -- all bytes
@@ -164,6 +173,44 @@ module _ (geometry : Geometry) (uid gid now : ℕ) (first : List ℕ) (makeable 
             ]
       ]
 
+  -- a byte that has no part in what is put is zero
+  rest : (k : ℕ) → k < 512 * geometry.zone_end → IsUnused geometry.edition (512 * geometry.zone_start) k
+      → ((b : ℕ) → is_chain geometry b ≡ true → IsOutside (512 * b) 202 k) → get_or bytes k 0 ≡ 0
+  unfolding bytes
+  rest k within blank apart =
+      let edition = geometry.edition in
+      let start = makeable.start in
+      let b = k / 512 in
+      let r = k % 512 in
+      let place : k ≡ 512 * b + r = omega arith in
+      let high = order_end edition in
+      let end : inode_place edition (constants edition).root + (constants edition).inode_bytes ≤ 1536 = root_end edition in
+      elim (cases_lt k 1536) [
+        | inl near ↦
+            early k near
+            ∙ is.rest k (record { sizes = blank.sizes; free = blank.free; time = blank.time; root = blank.root; names = λ from to. absurd (omega (arith, from, near)) })
+        | inr far ↦ elim (cases_eq b geometry.zone_start) [
+            | inl same ↦
+                let there : k ≡ 512 * geometry.zone_start + r = omega (arith, same, place) in
+                ap (λ n. get_or bytes n 0) there
+                ∙ (rooted r (omega arith)
+                ∙ is.rest (1536 + r) (record {
+                  sizes = λ from to. absurd (omega (arith, to, high));
+                  free = λ from to. absurd (omega (arith, to, high));
+                  time = λ from to. absurd (omega (arith, to, high));
+                  root = λ from to. absurd (omega (arith, to, end));
+                  names = λ from to. blank.names (omega (arith, there)) (omega (arith, there, to));
+                }))
+            | inr other ↦
+                volume_at geometry first k b r (omega arith) (omega arith) place
+                ∙ block_rest geometry first b r (omega arith) other
+                (elim (is_chain geometry b) as (λ t. is_chain geometry b ≡ t → (t && nat_lt r 202) ≡ false) [
+                  | true ↦ λ chain. le-ltb r 202 (outside_chain b r k place (apart b chain))
+                  | false ↦ λ chain. refl
+                ] refl)
+          ]
+      ]
+
   -- they are those of a new volume
   pub blank_new : IsNewVolume geometry uid gid now (volume_bytes geometry first)
   unfolding bytes
@@ -201,6 +248,8 @@ module _ (geometry : Geometry) (uid gid now : ℕ) (first : List ℕ) (makeable 
             (λ one. word_copied first bytes (free_head edition) (free_head edition) 2 0 (free_head edition) (free_head edition) count (omega arith) (omega arith) (omega arith)
             ∙ is.none one)
             (λ more. let stands = is.head more in record { bytes = λ r h. early (free_head edition + r) (omega arith) ∙ stands.bytes r h });
+        unused = λ seventh. early (inode_place V7 (constants V7).root + 51) (omega arith) ∙ is.unused seventh;
+        rest = rest;
       }
 
   -- and the volume is sound

@@ -10,7 +10,7 @@ use Rattle.vol_layout.specs.Inode.{inode_place, inode_of}
 use Rattle.vol_layout.specs.Super.{free_head, time_place}
 use Rattle.vol_layout.specs.Slot.{padded_name, slot_at}
 use Rattle.vol_judge.specs.Sound.{IsSound}
-use Rattle.vol_volume.specs.Mkfs.{volume_of, root_inode, IsMakeable, IsNewVolume}
+use Rattle.vol_volume.specs.Mkfs.{volume_of, root_inode, is_chain, IsMakeable, IsUnused, IsNewVolume}
 use Rattle.vol_layout.specs.declared.edition.Edition.{Edition}
 use Rattle.vol_layout.specs.declared.edition.Edition.TheVariants.{V6, V7}
 use Rattle.vol_layout.specs.declared.geometry.Geometry.{Geometry}
@@ -75,12 +75,6 @@ head_byte geometry top count r =
 pub record HasHead (geometry : Geometry) (image : List ℕ) (at top count : ℕ) : Type 0 where
   pub bytes : (r : ℕ) → r < 202 → slice_index image (at + r) ≡ head_byte geometry top count r
 
--- whether a block is one of those that the free list is chained by: a full array's number of blocks lies between two of them,
--- and between the last and the volume's end (free of both editions)
-unfoldable pub is_chain : Geometry → ℕ → Bool
-is_chain geometry b =
-    nat_lt geometry.zone_start b && (nat_lt b geometry.zone_end && ((geometry.zone_end - b) % (constants geometry.edition).free_slots == 0))
-
 -- the first of them, or the volume's end where there is none (free of both editions)
 unfoldable pub first_chain : Geometry → ℕ
 first_chain geometry =
@@ -102,7 +96,7 @@ unfoldable pub volume_bytes : Geometry → List ℕ → List ℕ
 volume_bytes geometry first = map (volume_byte geometry first) (range_with_len 0 (512 * geometry.zone_end))
 
 -- the blocks 0, 1 and 2 of a new volume, and then the root's: the sizes, the time and the free list stand in the super-block, the
--- root has its i-node and its two slots, and the other i-nodes are zeros (mkfs)
+-- root has its i-node and its two slots, and all other bytes are zeros (mkfs)
 pub record IsFirst (geometry : Geometry) (uid gid now : ℕ) (first : List ℕ) : Type 0 where
   pub len : length first ≡ 2048
   pub start : first_data_block geometry.edition first ≡ geometry.zone_start
@@ -114,6 +108,8 @@ pub record IsFirst (geometry : Geometry) (uid gid now : ℕ) (first : List ℕ) 
   pub before : (k : ℕ) → 1024 ≤ k → k < inode_place geometry.edition (constants geometry.edition).root → slice_index first k ≡ 0
   pub behind : (k : ℕ) → inode_place geometry.edition (constants geometry.edition).root + (constants geometry.edition).inode_bytes ≤ k
       → k < 1536 → slice_index first k ≡ 0
+  pub unused : geometry.edition ≡ V7 → slice_index first (inode_place V7 (constants V7).root + 51) ≡ 0
+  pub rest : (k : ℕ) → IsUnused geometry.edition 1536 k → slice_index first k ≡ 0
   pub none : geometry.zone_end ≡ geometry.zone_start + 1 → word first (free_head geometry.edition) ≡ 0
   pub head : geometry.zone_start + 1 < geometry.zone_end
       → HasHead geometry first (free_head geometry.edition) (first_chain geometry) (first_chain geometry - geometry.zone_start)

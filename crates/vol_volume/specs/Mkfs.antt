@@ -1,11 +1,11 @@
 -- What `mkfs` makes: a volume with the root alone. (mkfs of the seventh edition, without its prototype file.)
-use Rattle.std.specs.Prelude.{◌≡◌, ◌≢◌, ℕ, ◌+◌, ◌-◌, ◌*◌, ◌<◌, ◌≤◌, ◌&&◌, ◌||◌, Bool, true, nat_lt, nat_le, List, [], ◌∷◌, length, replicate, slice_index, Ok}
+use Rattle.std.specs.Prelude.{◌≡◌, ◌≢◌, ℕ, ◌+◌, ◌-◌, ◌*◌, ◌%◌, ◌<◌, ◌≤◌, ◌==◌, ◌&&◌, ◌||◌, Bool, true, nat_lt, nat_le, List, [], ◌∷◌, length, replicate, slice_index, Ok}
 use Rattle.std.specs.List.{range_with_len}
 use Rattle.pdp_words.specs.Words.{long}
 use Rattle.vol_layout.specs.Edition.{constants}
 use Rattle.vol_layout.specs.Geometry.{geometry_read}
 use Rattle.vol_layout.specs.Inode.{inode_place, inode_of, new_inode}
-use Rattle.vol_layout.specs.Super.{time_place}
+use Rattle.vol_layout.specs.Super.{free_head, time_place}
 use Rattle.vol_layout.specs.Slot.{padded_name, slot_at}
 use Rattle.vol_free.specs.Stack.{IsFree}
 use Rattle.vol_layout.specs.declared.edition.Edition.{Edition}
@@ -48,9 +48,33 @@ pub record IsMakeable (geometry : Geometry) : Type 0 where
   pub start : 3 ≤ geometry.zone_start
   pub inodes : geometry.last_inode ≡ (constants geometry.edition).inodes_per_block * (geometry.zone_start - 2)
 
+-- whether a block is one of those that the free list is chained by: a full array's number of blocks lies between two of them,
+-- and between the last and the volume's end (free of both editions)
+unfoldable pub is_chain : Geometry → ℕ → Bool
+is_chain geometry b =
+    nat_lt geometry.zone_start b && (nat_lt b geometry.zone_end && ((geometry.zone_end - b) % (constants geometry.edition).free_slots == 0))
+
+-- byte k is none of `count` bytes from byte `at` on (a frame)
+abbrev pub IsOutside : ℕ → ℕ → ℕ → Type 0
+IsOutside at count k = at ≤ k → k < at + count → ⊥
+
+-- how many bytes the two sizes at the front of the super-block have: two words in the sixth edition, a word and a long in the seventh (filsys.h)
+abbrev pub size_bytes : Edition → ℕ
+size_bytes V6 = 4
+size_bytes V7 = 6
+
+-- byte k of a new volume is none of the sizes, the free list's head, the time, the root's i-node, or the root's two slots, which
+-- stand at byte `slots` (mkfs)
+pub record IsUnused (edition : Edition) (slots k : ℕ) : Type 0 where
+  pub sizes : IsOutside 512 (size_bytes edition) k
+  pub free : IsOutside (free_head edition) 202 k
+  pub time : IsOutside (time_place edition) 4 k
+  pub root : IsOutside (inode_place edition (constants edition).root) (constants edition).inode_bytes k
+  pub names : IsOutside slots 32 k
+
 -- an image is that of a new volume: its geometry is the one asked for and it has no more bytes, its time is `now`, the
--- root has its i-node and its two slots, both of which name it, each other i-node is all zeros, and the free blocks are all
--- data blocks but the root's, ascending (mkfs)
+-- root has its i-node and its two slots, both of which name it, each other i-node is all zeros, the free blocks are all
+-- data blocks but the root's, ascending, and all bytes that have no part in this are zero (mkfs)
 pub record IsNewVolume (geometry : Geometry) (uid gid now : ℕ) (image : List ℕ) : Type 0 where
   pub len : length image ≡ 512 * geometry.zone_end
   pub sizes : geometry_read geometry.edition image ≡ Ok geometry
@@ -62,3 +86,6 @@ pub record IsNewVolume (geometry : Geometry) (uid gid now : ℕ) (image : List �
   pub others : (i k : ℕ) → 1 ≤ i → i ≤ geometry.last_inode → i ≢ (constants geometry.edition).root
       → k < (constants geometry.edition).inode_bytes → slice_index image (inode_place geometry.edition i + k) ≡ 0
   pub free : IsFree geometry image (range_with_len (geometry.zone_start + 1) (geometry.zone_end - (geometry.zone_start + 1)))
+  pub unused : geometry.edition ≡ V7 → slice_index image (inode_place V7 (constants V7).root + 51) ≡ 0
+  pub rest : (k : ℕ) → k < 512 * geometry.zone_end → IsUnused geometry.edition (512 * geometry.zone_start) k
+      → ((b : ℕ) → is_chain geometry b ≡ true → IsOutside (512 * b) 202 k) → slice_index image k ≡ 0

@@ -4,8 +4,8 @@ ghost use Rattle.std.specs.Io.KnownBytes.{Appends};
 ghost use Rattle.pdp_words.specs.Devices.{AppendsFront};
 ghost use Rattle.pdp_words.specs.Words.{SameOutside};
 ghost use Rattle.vol_layout.specs.Edition.{constants, number};
-ghost use Rattle.vol_volume.specs.Blank.{listed, HasHead, is_chain, first_chain, block_byte, volume_byte, volume_bytes};
-ghost use Rattle.vol_volume.specs.Mkfs.{IsMakeable};
+ghost use Rattle.vol_volume.specs.Blank.{listed, HasHead, first_chain, block_byte, volume_byte, volume_bytes};
+ghost use Rattle.vol_volume.specs.Mkfs.{is_chain, IsMakeable};
 
 use crate::blank::FIRST_BLOCKS;
 use pdp_words::{BLOCK, Image, SaveFault, Sink, words, write_all};
@@ -83,7 +83,7 @@ fn put_block(buffer: &mut [u8], at: usize, first: &Image, geometry: &Geometry, b
 
 /// Whether block `b` is one of those that the free list is chained by: as many blocks as an array has
 /// numbers lie from one of them to the next, and from the last to the volume's end.
-#[tactic(auto, unfolding(crate::specs::Blank::is_chain))]
+#[tactic(auto, unfolding(crate::specs::Mkfs::is_chain))]
 fn is_chain(geometry: &Geometry, b: u32) -> bool
     ensures { result ≡ is_chain geometry.now b }
 {

@@ -8,7 +8,7 @@ ghost use Rattle.vol_layout.specs.Inode.{inode_place, inode_of, IsStorable};
 ghost use Rattle.vol_layout.specs.Slot.{padded_name, slot_at};
 ghost use Rattle.vol_layout.specs.Super.{free_head, time_place};
 ghost use Rattle.vol_volume.specs.Blank.{HasHead, first_chain, IsFirst};
-ghost use Rattle.vol_volume.specs.Mkfs.{is_bad_id, root_inode, IsMakeable};
+ghost use Rattle.vol_volume.specs.Mkfs.{is_bad_id, root_inode, size_bytes, IsMakeable, IsOutside};
 
 use crate::blank::FIRST_BLOCKS;
 use crate::blank::blocks::{first_chain, put_free_head};
@@ -77,6 +77,8 @@ fn put_super(image: &mut Image, geometry: &Geometry, now: u32)
     ensures kept { (k : ℕ) → free_head geometry.now.edition ≤ k → k < free_head geometry.now.edition + 202
         → slice_index image.new k ≡ slice_index image.old k }
     ensures others { SameOutside image.old image.new 512 1024 }
+    ensures rest { (k : ℕ) → IsOutside 512 (size_bytes geometry.now.edition) k → IsOutside (time_place geometry.now.edition) 4 k
+        → slice_index image.new k ≡ slice_index image.old k }
 {
     let super_block = Super {
         edition: geometry.edition,
@@ -100,6 +102,10 @@ fn put_root(image: &mut Image, edition: Edition, node: &Inode)
     ensures before { (k : ℕ) → k < inode_place edition (constants edition).root → slice_index image.new k ≡ slice_index image.old k }
     ensures behind { (k : ℕ) → inode_place edition (constants edition).root + (constants edition).inode_bytes ≤ k → k < 1536
         → slice_index image.new k ≡ slice_index image.old k }
+    ensures after { (k : ℕ) → 1568 ≤ k → slice_index image.new k ≡ slice_index image.old k }
+    ensures unused { edition ≡ Edition.V7
+        → slice_index image.new (inode_place Edition.V7 (constants Edition.V7).root + 51)
+        ≡ slice_index image.old (inode_place Edition.V7 (constants Edition.V7).root + 51) }
     ensures len { length image.new ≡ length image.old }
 {
     let root = edition.constants().root;

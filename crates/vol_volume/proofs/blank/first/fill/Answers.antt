@@ -1,6 +1,8 @@
-use Rattle.std.proofs.Common.{◌≡◌, ℕ, ◌+◌, ◌<◌, ◌≤◌, ◌∙◌, sym, ap, subst, arith, get_or}
+use Rattle.std.proofs.Common.{◌≡◌, ℕ, ◌+◌, ◌<◌, ◌≤◌, ◌∙◌, sym, ap, subst, arith, get_or, inl, inr}
+use Rattle.std.proofs.lemmas.Bool.{cases_lt}
 use Rattle.vol_layout.specs.Edition.{constants}
 use Rattle.vol_layout.specs.Inode.{IsStorable, inode_place}
+use Rattle.vol_layout.specs.declared.edition.Edition.TheVariants as editions
 use Rattle.vol_layout.specs.Super.{free_head, time_place}
 use Rattle.vol_layout.proofs.CopyLaws.{IsCopy}
 use Rattle.vol_layout.proofs.InodeLaws.{place_from}
@@ -43,6 +45,31 @@ returns c =
       dot_dot = c.put_root.ensures.dot_dot;
       before = λ k from to. c.put_root.ensures.before k to ∙ zero k from;
       behind = λ k from to. c.put_root.ensures.behind k from to ∙ zero k (omega arith);
+      unused = λ seventh. c.put_root.ensures.unused seventh ∙ zero (inode_place editions.V7 (constants editions.V7).root + 51) (omega arith);
+      rest = λ k blank. elim (cases_lt k 1024) [
+        | inl early ↦
+            let listed_at : get_or listed k 0 ≡ get_or c.args.image.now k 0 = elim (cases_lt k (free_head edition)) [
+              | inl below ↦ c.put_free_list.ensures.others.below k below
+              | inr from ↦ elim (cases_lt k (free_head edition + 202)) [
+                  | inl within ↦ absurd (blank.free from within)
+                  | inr above ↦ c.put_free_list.ensures.others.above k above
+                ]
+            ] in
+            super k early ∙ (c.put_super.ensures.rest k blank.sizes blank.time ∙ (listed_at ∙ c.requires.zeros k))
+        | inr late ↦ elim (cases_lt k (inode_place edition root)) [
+            | inl below ↦ c.put_root.ensures.before k below ∙ zero k late
+            | inr from ↦ elim (cases_lt k (inode_place edition root + (constants edition).inode_bytes)) [
+                | inl within ↦ absurd (blank.root from within)
+                | inr past ↦ elim (cases_lt k 1536) [
+                    | inl low ↦ c.put_root.ensures.behind k past low ∙ zero k late
+                    | inr high ↦ elim (cases_lt k 1568) [
+                        | inl named ↦ absurd (blank.names high (omega arith))
+                        | inr after ↦ c.put_root.ensures.after k after ∙ zero k late
+                      ]
+                  ]
+              ]
+          ]
+      ];
       none = λ one.
           let low : get_or all (free_head edition) 0 ≡ 0 =
           free (free_head edition) (omega arith) (omega arith)

@@ -286,7 +286,8 @@ fn explain_cat(rt: &impl Eprint, fault: CatFault, image: &str) -> u8
         CatFault::Device => explain_unread(rt, image),
         _ => {
             // Where standard error can't be written either, the status tells.
-            let _ = eprintln!(rt; "{fault}");
+            let line = fault.line();
+            let _ = eprint!(rt; "{line}");
             fault.status()
         }
     }

@@ -1,5 +1,5 @@
 -- What `cat` answers and writes.
-use Rattle.std.specs.Prelude.{◌≡◌, ℕ, ◌==◌, ◌||◌, nat_lt, if◌then◌else◌, List, Option, Result, Ok, Err}
+use Rattle.std.specs.Prelude.{◌≡◌, ℕ, ◌==◌, ◌||◌, nat_lt, if◌then◌else◌, List, Option, Result, Ok, Err, codes}
 use Rattle.std.specs.Io.KnownBytes.{Appends, Keeps}
 use Rattle.pdp_words.specs.Devices.{IsReadWhole, AppendsFront}
 use Rattle.vol_layout.specs.Geometry.{geometry_read}
@@ -9,8 +9,11 @@ use Rattle.vol_layout.specs.Body.{body}
 use Rattle.vol_layout.specs.declared.edition.Edition.{Edition}
 use Rattle.vol_layout.specs.declared.geometry.Geometry.{Geometry}
 use Rattle.vol_layout.specs.declared.geometry.GeometryFault.{GeometryFault}
+use Rattle.vol_layout.specs.declared.geometry.GeometryFault.TheVariants.{Short, Bounds}
+use Rattle.vol_dir.specs.declared.refusal.Refusal.TheVariants as refusals
 use Rattle.vol_layout.specs.declared.mode.Kind.{Kind}
 use Rattle.vol_layout.specs.declared.mode.Kind.TheVariants as kinds
+use Rattle.vol_commands.specs.Faults.{line_of_refusal, line_of_rule}
 use Rattle.vol_commands.specs.declared.cat.CatFault.{CatFault}
 use Rattle.vol_commands.specs.declared.cat.CatFault.TheVariants as faults
 
@@ -22,6 +25,20 @@ cat_status faults.NoMemory = 4
 cat_status (faults.Unsound fault) = 1
 cat_status faults.NoEntry = 1
 cat_status faults.NotRegular = 1
+
+-- the rule that a volume's sizes break (this project)
+abbrev pub broken_rule : GeometryFault → ℕ
+broken_rule Short = 1
+broken_rule Bounds = 2
+
+-- the line on standard error of a fault of `cat`, but that the program names the file that it can't read (this project)
+abbrev pub cat_line : CatFault → List ℕ
+cat_line faults.Device = codes "unixvol: cannot read the image\n"
+cat_line (faults.Writer written) = codes "unixvol: cannot write -\n"
+cat_line faults.NoMemory = line_of_refusal refusals.NoMemory
+cat_line (faults.Unsound fault) = line_of_rule (broken_rule fault)
+cat_line faults.NoEntry = line_of_refusal refusals.NoEntry
+cat_line faults.NotRegular = line_of_refusal refusals.NotRegular
 
 -- a fault that an image which was read gives rise to (this project)
 abbrev pub IsOfImage : CatFault → Type 0

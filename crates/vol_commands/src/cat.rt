@@ -4,35 +4,30 @@ ghost use Rattle.std.specs.Io.KnownBytes.{Appends};
 ghost use Rattle.pdp_words.specs.Devices.{AppendsFront};
 ghost use Rattle.vol_layout.specs.Geometry.{Fits};
 ghost use Rattle.vol_layout.specs.Body.{body};
-ghost use Rattle.vol_commands.specs.Cat.{file_of, Cats, cat_status, IsNoWriters, IsOfImage};
+ghost use Rattle.vol_commands.specs.Cat.{file_of, Cats, cat_line, cat_status, IsNoWriters, IsOfImage};
 
+use crate::faults::{CANNOT_WRITE, refusal_line, unsound_line};
 use pdp_words::{Image, LoadFault, Sink, Source, load, write_all};
 use std::alloc::Global;
-use thiserror::Error;
+use vol_dir::Refusal;
 use vol_file::read;
 use vol_layout::i_list::kind;
 use vol_layout::{Edition, Geometry, GeometryFault, Kind};
 
-/// Why `cat` didn't print a file. Its text is the line that the program prints.
-#[derive(Clone, Copy, Debug, PartialEq, Eq, Error)]
+/// Why `cat` didn't print a file.
+#[derive(Clone, Copy, Debug, PartialEq, Eq)]
 pub enum CatFault {
-    /// The image could not be read; the program names the file.
-    #[error("unixvol: cannot read the image")]
+    /// The image could not be read.
     Device,
     /// Memory ran out while the image was loaded.
-    #[error("unixvol: 12 NoMemory")]
     NoMemory,
     /// The image breaks rule 1 or rule 2.
-    #[error("unixvol: unsound, {0}")]
     Unsound(GeometryFault),
     /// The i-number is 0, past the last, or that of a free i-node.
-    #[error("unixvol: 2 NoEntry")]
     NoEntry,
     /// The i-node is a special file, or its mode is none of the edition's.
-    #[error("unixvol: 102 NotRegular")]
     NotRegular,
     /// The output failed after so many bytes.
-    #[error("unixvol: cannot write -")]
     Writer(u64),
 }
 
@@ -45,6 +40,22 @@ impl CatFault {
             CatFault::Device | CatFault::Writer(_) => 3,
             CatFault::NoMemory => 4,
             CatFault::Unsound(_) | CatFault::NoEntry | CatFault::NotRegular => 1,
+        }
+    }
+
+    /// The line on standard error, with its newline. Where the image can't be read, the program names its file
+    /// in place of `the image`.
+    pub fn line(self) -> &'static str
+        ensures { result.now ≡ cat_line self }
+    {
+        match self {
+            CatFault::Device => "unixvol: cannot read the image\n",
+            CatFault::NoMemory => refusal_line(Refusal::NoMemory),
+            CatFault::Unsound(GeometryFault::Short) => unsound_line(1),
+            CatFault::Unsound(GeometryFault::Bounds) => unsound_line(2),
+            CatFault::NoEntry => refusal_line(Refusal::NoEntry),
+            CatFault::NotRegular => refusal_line(Refusal::NotRegular),
+            CatFault::Writer(_) => CANNOT_WRITE,
         }
     }
 }

@@ -6,6 +6,9 @@ use std::alloc::AllocError;
 use vol_dir::Refusal;
 use vol_volume::MountFault;
 
+/// The line where standard output fails.
+pub(crate) const CANNOT_WRITE: &str = "unixvol: cannot write -\n";
+
 /// Why a command on a mounted volume did not do what it was asked for.
 #[derive(Clone, Copy, Debug, PartialEq, Eq)]
 pub enum Fault {
@@ -38,7 +41,7 @@ impl Fault {
         match self {
             Fault::Unsound(rule) => unsound_line(rule),
             Fault::Refused(refusal) => refusal_line(refusal),
-            Fault::Output => "unixvol: cannot write -\n",
+            Fault::Output => CANNOT_WRITE,
         }
     }
 }
@@ -63,7 +66,7 @@ impl From<MountFault> for Fault {
 }
 
 /// The line of a rule that an image breaks.
-fn unsound_line(rule: u8) -> &'static str
+pub(crate) fn unsound_line(rule: u8) -> &'static str
     requires least { 1 ≤ rule }
     requires most { rule ≤ 12 }
     ensures { result.now ≡ line_of_rule rule }
@@ -86,7 +89,7 @@ fn unsound_line(rule: u8) -> &'static str
 }
 
 /// The line of a refusal.
-fn refusal_line(refusal: Refusal) -> &'static str
+pub(crate) fn refusal_line(refusal: Refusal) -> &'static str
     ensures { result.now ≡ line_of_refusal refusal }
 {
     match refusal {

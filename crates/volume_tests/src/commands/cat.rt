@@ -223,20 +223,6 @@ impl Outcome {
     }
 }
 
-/// Compares the line and the status of a fault.
-fn check_fault(
-    rt: &impl Abort,
-    alloc: Global,
-    fault: &CatFault,
-    line: &str,
-    status: u8,
-    label: &impl Display,
-) {
-    let text = format!(in alloc; "{fault}").expect(rt, "memory for the line");
-    assert_eq!(rt; text.as_str(), line, "{label}");
-    assert_eq!(rt; fault.status(), status, "{label}");
-}
-
 #[test]
 fn cat_follows_indirect_blocks(rt: HostRuntime) {
     let alloc = rt.alloc();
@@ -332,32 +318,6 @@ fn check_writes(
             Ok(())
         };
         outcome.check(rt, answer, &body[..written], &label);
-    }
-}
-
-static FAULTS: [(CatFault, &str, u8); 7] = [
-    (CatFault::Device, "unixvol: cannot read the image", 3),
-    (CatFault::NoMemory, "unixvol: 12 NoMemory", 4),
-    (
-        CatFault::Unsound(GeometryFault::Short),
-        "unixvol: unsound, rule 1",
-        1,
-    ),
-    (
-        CatFault::Unsound(GeometryFault::Bounds),
-        "unixvol: unsound, rule 2",
-        1,
-    ),
-    (CatFault::NoEntry, "unixvol: 2 NoEntry", 1),
-    (CatFault::NotRegular, "unixvol: 102 NotRegular", 1),
-    (CatFault::Writer(7), "unixvol: cannot write -", 3),
-];
-
-#[test]
-fn faults_have_their_line_and_status(rt: HostRuntime) {
-    for (fault, line, status) in &FAULTS {
-        let label = format_args!("of {fault:?}");
-        check_fault(&rt, rt.alloc(), fault, line, *status, &label);
     }
 }
 

@@ -1,15 +1,15 @@
 -- The logical blocks that lie below one place of a file.
-use Rattle.std.proofs.Common.{◌≡◌, ℕ, zero, suc, ◌+◌, ◌-◌, ◌*◌, ◌/◌, ◌%◌, ◌<◌, ◌≤◌, ◌∙◌, sym, ap, subst, List, [], ◌∷◌, length, drop, slice_index, refl, arith, inl, inr, true, false, if◌then◌else◌, Option, Some, None}
+use Rattle.std.proofs.Common.{◌≡◌, ℕ, zero, suc, ◌+◌, ◌-◌, ◌*◌, ◌/◌, ◌%◌, ◌<◌, ◌≤◌, ◌∙◌, sym, ap, subst, List, [], ◌∷◌, length, drop, length-drop, not, ◌==◌, ◌^◌, slice_index, refl, arith, inl, inr, true, false, if◌then◌else◌, Option, Some, None}
 use Rattle.std.specs.Option.{option_map_or}
 use Rattle.std.proofs.lemmas.Bool.{cases_lt}
+use Rattle.std.proofs.lemmas.Bool.Decides.{nat_tests}
 use Rattle.vol_layout.specs.Edition.{constants}
 use Rattle.vol_layout.specs.declared.edition.Edition.{Edition}
 use Rattle.vol_layout.specs.declared.edition.Edition.TheVariants.{V6, V7}
-use Rattle.vol_layout.specs.declared.edition.Constants.{Constants}
 use Rattle.vol_layout.specs.Geometry.{Fits, in_zone}
 use Rattle.vol_layout.specs.Inode.{kind_of}
-use Rattle.vol_layout.specs.Names.{mode_of, form_at, named, stored}
-use Rattle.vol_layout.specs.Places.{form_of, file_form, has_places, block_limit, pointer_count, last_place, place_to, end_of}
+use Rattle.vol_layout.specs.Names.{mode_of, form_at, pointer_in, named}
+use Rattle.vol_layout.specs.Places.{form_of, file_form, first_count, has_places, block_limit, pointer_count, last_place, place_to, end_of}
 use Rattle.vol_layout.specs.declared.geometry.Geometry.{Geometry}
 use Rattle.vol_layout.specs.declared.places.Form.{Form}
 use Rattle.vol_layout.specs.declared.places.Form.TheVariants.{Small, Large, Deep, Bare}
@@ -17,120 +17,161 @@ use Rattle.vol_layout.specs.declared.places.Way.{Way}
 use Rattle.vol_layout.proofs.FrameLaws.{pointers_in}
 use Rattle.vol_layout.proofs.NameLaws.{zero_out, named_stops}
 use Rattle.vol_layout.proofs.PlaceLaws.{has_no_way, last_none, last_leaf, entry_to, way_place}
-use Rattle.vol_file.specs.Holes.{IsHole, blocks_left}
+use Rattle.vol_file.specs.Holes.{IsHole, blocks_left, leads_on}
 use Rattle.vol_file.proofs.Lasts.{last_small, last_large, last_huge, last_direct, last_single, last_double, last_triple}
 
--- a last place, if there is one, lies below the same place as p, n + 1 levels above
-abbrev pub LiesBeside : ℕ → List ℕ → Option (List ℕ) → Type 0
-LiesBeside n p None = Unit {0}
-LiesBeside n p (Some q) = (suc n < length q) × (drop (suc n) q ≡ drop (suc n) p)
+-- the first index of a list, and the others
+abbrev head_of : List ℕ → ℕ
+head_of [] = 0
+head_of (j ∷ p) = j
+
+abbrev tail_of : List ℕ → List ℕ
+tail_of [] = []
+tail_of (j ∷ p) = p
+
+-- a last place, if there is one, lies below an entry of the block that `above` names, n levels below it, from entry `low` to before `high`
+abbrev LiesAmong : ℕ → List ℕ → ℕ → ℕ → Option (List ℕ) → Type 0
+LiesAmong n above low high None = Unit {0}
+LiesAmong n above low high (Some q) = (x : ℕ) × (drop n q ≡ x ∷ above) × (low ≤ x) × (x < high)
+
+-- place p without its last n indexes may be followed by k more in its block: an address by none
+pub record HasMore (pointers n : ℕ) (p : List ℕ) (k : ℕ) : Type 0 where
+  pub within : head_of (drop n p) + k < pointers
+  pub address : tail_of (drop n p) ≡ [] → k ≡ 0
+
+-- the last place of block t lies below p without its last n indexes, or below one of the k that follow it
+abbrev IsAmong : Form → ℕ → List ℕ → ℕ → ℕ → Type 0
+IsAmong form n p k t = LiesAmong n (tail_of (drop n p)) (head_of (drop n p)) (head_of (drop n p) + k + 1) (last_place form t)
 
 -- what is held by a value is held by that of an equation
 some_is : (p q : List ℕ) → Some p ≡ Some q → p ≡ q
 some_is p q e = cc
 
--- of a large file, below an indirect block
-beside_large : (b t n : ℕ) → b < 1792 → b ≤ t → suc n < 2 → t < b + blocks_left 256 (suc n) ((b % 256) ∷ ((b / 256) ∷ []))
-    → LiesBeside n ((b % 256) ∷ ((b / 256) ∷ [])) (last_place Large t)
-beside_large b t zero low from few within =
+-- a last place lies among others, by what it is
+lies : (form : Form) (n low high x t : ℕ) (above q : List ℕ) → last_place form t ≡ Some q → drop n q ≡ x ∷ above → low ≤ x → x < high
+    → LiesAmong n above low high (last_place form t)
+lies form n low high x t above q is top from to = subst (LiesAmong n above low high) (sym is) (x, top, from, to)
+
+-- past the last block nothing lies
+lies_past : (form : Form) (n low high t : ℕ) (above : List ℕ) → block_limit form ≤ t → LiesAmong n above low high (last_place form t)
+lies_past form n low high t above past = subst (LiesAmong n above low high) (sym (has_no_way form t past)) tt
+
+-- of a large file, below the indirect blocks
+among_large : (b t n k : ℕ) → b < 1792 → b ≤ t → n < 2 → HasMore 256 n ((b % 256) ∷ ((b / 256) ∷ [])) k
+    → t < b + blocks_left 256 n ((b % 256) ∷ ((b / 256) ∷ [])) + k * 256 ^ n → IsAmong Large n ((b % 256) ∷ ((b / 256) ∷ [])) k t
+among_large b t zero k low from few more within =
     let same : t / 256 ≡ b / 256 = omega arith in
-    let under : t < 1792 = omega arith in
-    subst (LiesBeside zero ((b % 256) ∷ ((b / 256) ∷ []))) (sym (last_large t under)) (omega arith, ap (λ k. k ∷ []) same)
-beside_large b t (suc n) low from few within = absurd (omega arith)
+    lies Large 0 (b % 256) (b % 256 + k + 1) (t % 256) t ((b / 256) ∷ []) ((t % 256) ∷ ((t / 256) ∷ [])) (last_large t (omega arith))
+    (ap (λ a. (t % 256) ∷ (a ∷ [])) same) (omega arith) (omega arith)
+among_large b t (suc zero) k low from few more within =
+    let none : k ≡ 0 = more.address refl in
+    let same : t / 256 ≡ b / 256 = omega arith in
+    lies Large 1 (b / 256) (b / 256 + k + 1) (t / 256) t [] ((t % 256) ∷ ((t / 256) ∷ [])) (last_large t (omega arith)) refl (omega arith) (omega arith)
+among_large b t (suc (suc n)) k low from few more within = absurd (omega arith)
 
 -- of a large file, below the doubly indirect block
-beside_huge : (b t n : ℕ) → 1792 ≤ b → b < 32768 → b ≤ t → suc n < 3
-    → t < b + blocks_left 256 (suc n) ((b % 256) ∷ ((b / 256 - 7) ∷ (7 ∷ [])))
-    → LiesBeside n ((b % 256) ∷ ((b / 256 - 7) ∷ (7 ∷ []))) (last_place Large t)
-beside_huge b t zero low high from few within =
+among_huge : (b t n k : ℕ) → 1792 ≤ b → b < 32768 → b ≤ t → n < 3 → HasMore 256 n ((b % 256) ∷ ((b / 256 - 7) ∷ (7 ∷ []))) k
+    → t < b + blocks_left 256 n ((b % 256) ∷ ((b / 256 - 7) ∷ (7 ∷ []))) + k * 256 ^ n → IsAmong Large n ((b % 256) ∷ ((b / 256 - 7) ∷ (7 ∷ []))) k t
+among_huge b t zero k low high from few more within =
     let same : t / 256 ≡ b / 256 = omega arith in
-    let under : t < 32768 = omega arith in
-    subst (LiesBeside zero ((b % 256) ∷ ((b / 256 - 7) ∷ (7 ∷ [])))) (sym (last_huge t (omega arith) under))
-    (omega arith, ap (λ k. (k - 7) ∷ (7 ∷ [])) same)
-beside_huge b t (suc zero) low high from few within = elim (cases_lt t 32768) [
-  | inl under ↦ subst (LiesBeside 1 ((b % 256) ∷ ((b / 256 - 7) ∷ (7 ∷ [])))) (sym (last_huge t (omega arith) under)) (omega arith, refl)
-  | inr past ↦ subst (LiesBeside 1 ((b % 256) ∷ ((b / 256 - 7) ∷ (7 ∷ [])))) (sym (has_no_way Large t past)) tt
+    lies Large 0 (b % 256) (b % 256 + k + 1) (t % 256) t ((b / 256 - 7) ∷ (7 ∷ [])) ((t % 256) ∷ ((t / 256 - 7) ∷ (7 ∷ []))) (last_huge t (omega arith) (omega arith))
+    (ap (λ a. (t % 256) ∷ ((a - 7) ∷ (7 ∷ []))) same) (omega arith) (omega arith)
+among_huge b t (suc zero) k low high from few more within = elim (cases_lt t 32768) [
+  | inl under ↦
+      lies Large 1 (b / 256 - 7) (b / 256 - 7 + k + 1) (t / 256 - 7) t (7 ∷ []) ((t % 256) ∷ ((t / 256 - 7) ∷ (7 ∷ []))) (last_huge t (omega arith) under)
+      refl (omega arith) (omega arith)
+  | inr past ↦ lies_past Large 1 (b / 256 - 7) (b / 256 - 7 + k + 1) t (7 ∷ []) past
 ]
-beside_huge b t (suc (suc n)) low high from few within = absurd (omega arith)
+among_huge b t (suc (suc zero)) k low high from few more within =
+    let none : k ≡ 0 = more.address refl in
+    elim (cases_lt t 32768) [
+      | inl under ↦ lies Large 2 7 (7 + k + 1) 7 t [] ((t % 256) ∷ ((t / 256 - 7) ∷ (7 ∷ []))) (last_huge t (omega arith) under) refl (omega arith) (omega arith)
+      | inr past ↦ lies_past Large 2 7 (7 + k + 1) t [] past
+    ]
+among_huge b t (suc (suc (suc n))) k low high from few more within = absurd (omega arith)
 
 -- of the seventh edition, below the indirect block
-beside_single : (b t n : ℕ) → 10 ≤ b → b < 138 → b ≤ t → suc n < 2 → t < b + blocks_left 128 (suc n) ((b - 10) ∷ (10 ∷ []))
-    → LiesBeside n ((b - 10) ∷ (10 ∷ [])) (last_place Deep t)
-beside_single b t zero low high from few within =
-    subst (LiesBeside zero ((b - 10) ∷ (10 ∷ []))) (sym (last_single t (omega arith) (omega arith))) (omega arith, refl)
-beside_single b t (suc n) low high from few within = absurd (omega arith)
+among_single : (b t n k : ℕ) → 10 ≤ b → b < 138 → b ≤ t → n < 2 → HasMore 128 n ((b - 10) ∷ (10 ∷ [])) k
+    → t < b + blocks_left 128 n ((b - 10) ∷ (10 ∷ [])) + k * 128 ^ n → IsAmong Deep n ((b - 10) ∷ (10 ∷ [])) k t
+among_single b t zero k low high from few more within =
+    lies Deep 0 (b - 10) (b - 10 + k + 1) (t - 10) t (10 ∷ []) ((t - 10) ∷ (10 ∷ [])) (last_single t (omega arith) (omega arith)) refl (omega arith) (omega arith)
+among_single b t (suc zero) k low high from few more within =
+    let none : k ≡ 0 = more.address refl in
+    lies Deep 1 10 (10 + k + 1) 10 t [] ((t - 10) ∷ (10 ∷ [])) (last_single t (omega arith) (omega arith)) refl (omega arith) (omega arith)
+among_single b t (suc (suc n)) k low high from few more within = absurd (omega arith)
 
 -- of the seventh edition, below the doubly indirect block
-beside_double : (b t n : ℕ) → 138 ≤ b → b < 16522 → b ≤ t → suc n < 3
-    → t < b + blocks_left 128 (suc n) (((b - 138) % 128) ∷ (((b - 138) / 128) ∷ (11 ∷ [])))
-    → LiesBeside n (((b - 138) % 128) ∷ (((b - 138) / 128) ∷ (11 ∷ []))) (last_place Deep t)
-beside_double b t zero low high from few within =
+among_double : (b t n k : ℕ) → 138 ≤ b → b < 16522 → b ≤ t → n < 3 → HasMore 128 n (((b - 138) % 128) ∷ (((b - 138) / 128) ∷ (11 ∷ []))) k
+    → t < b + blocks_left 128 n (((b - 138) % 128) ∷ (((b - 138) / 128) ∷ (11 ∷ []))) + k * 128 ^ n → IsAmong Deep n (((b - 138) % 128) ∷ (((b - 138) / 128) ∷ (11 ∷ []))) k t
+among_double b t zero k low high from few more within =
     let same : (t - 138) / 128 ≡ (b - 138) / 128 = omega arith in
     let under : t < 16522 = omega arith in
-    subst (LiesBeside zero (((b - 138) % 128) ∷ (((b - 138) / 128) ∷ (11 ∷ [])))) (sym (last_double t (omega arith) under))
-    (omega arith, ap (λ k. k ∷ (11 ∷ [])) same)
-beside_double b t (suc zero) low high from few within =
+    lies Deep 0 ((b - 138) % 128) ((b - 138) % 128 + k + 1) ((t - 138) % 128) t (((b - 138) / 128) ∷ (11 ∷ [])) (((t - 138) % 128) ∷ (((t - 138) / 128) ∷ (11 ∷ [])))
+    (last_double t (omega arith) under) (ap (λ a. ((t - 138) % 128) ∷ (a ∷ (11 ∷ []))) same) (omega arith) (omega arith)
+among_double b t (suc zero) k low high from few more within =
     let under : t < 16522 = omega arith in
-    subst (LiesBeside 1 (((b - 138) % 128) ∷ (((b - 138) / 128) ∷ (11 ∷ [])))) (sym (last_double t (omega arith) under)) (omega arith, refl)
-beside_double b t (suc (suc n)) low high from few within = absurd (omega arith)
+    lies Deep 1 ((b - 138) / 128) ((b - 138) / 128 + k + 1) ((t - 138) / 128) t (11 ∷ []) (((t - 138) % 128) ∷ (((t - 138) / 128) ∷ (11 ∷ []))) (last_double t (omega arith) under)
+    refl (omega arith) (omega arith)
+among_double b t (suc (suc zero)) k low high from few more within =
+    let none : k ≡ 0 = more.address refl in
+    let under : t < 16522 = omega arith in
+    lies Deep 2 11 (11 + k + 1) 11 t [] (((t - 138) % 128) ∷ (((t - 138) / 128) ∷ (11 ∷ []))) (last_double t (omega arith) under) refl (omega arith) (omega arith)
+among_double b t (suc (suc (suc n))) k low high from few more within = absurd (omega arith)
 
 -- of the seventh edition, below the triply indirect block
-beside_triple : (b t n : ℕ) → 16522 ≤ b → b < 2113674 → b ≤ t → suc n < 4
-    → t < b + blocks_left 128 (suc n) (((b - 16522) % 128) ∷ (((b - 16522) / 128 % 128) ∷ (((b - 16522) / 16384) ∷ (12 ∷ []))))
-    → LiesBeside n (((b - 16522) % 128) ∷ (((b - 16522) / 128 % 128) ∷ (((b - 16522) / 16384) ∷ (12 ∷ [])))) (last_place Deep t)
-beside_triple b t zero low high from few within =
+among_triple : (b t n k : ℕ) → 16522 ≤ b → b < 2113674 → b ≤ t → n < 4
+    → HasMore 128 n (((b - 16522) % 128) ∷ (((b - 16522) / 128 % 128) ∷ (((b - 16522) / 16384) ∷ (12 ∷ [])))) k
+    → t < b + blocks_left 128 n (((b - 16522) % 128) ∷ (((b - 16522) / 128 % 128) ∷ (((b - 16522) / 16384) ∷ (12 ∷ [])))) + k * 128 ^ n
+    → IsAmong Deep n (((b - 16522) % 128) ∷ (((b - 16522) / 128 % 128) ∷ (((b - 16522) / 16384) ∷ (12 ∷ [])))) k t
+among_triple b t zero k low high from few more within =
     let same : (t - 16522) / 128 ≡ (b - 16522) / 128 = omega arith in
-    let above : (t - 16522) / 16384 ≡ (b - 16522) / 16384 = omega arith in
+    let over : (t - 16522) / 16384 ≡ (b - 16522) / 16384 = omega arith in
     let under : t < 2113674 = omega arith in
-    subst (LiesBeside zero (((b - 16522) % 128) ∷ (((b - 16522) / 128 % 128) ∷ (((b - 16522) / 16384) ∷ (12 ∷ [])))))
-    (sym (last_triple t (omega arith) under))
-    (omega arith, ap (λ k. (k % 128) ∷ (((t - 16522) / 16384) ∷ (12 ∷ []))) same ∙ ap (λ k. ((b - 16522) / 128 % 128) ∷ (k ∷ (12 ∷ []))) above)
-beside_triple b t (suc zero) low high from few within =
-    let above : (t - 16522) / 16384 ≡ (b - 16522) / 16384 = omega arith in
+    lies Deep 0 ((b - 16522) % 128) ((b - 16522) % 128 + k + 1) ((t - 16522) % 128) t (((b - 16522) / 128 % 128) ∷ (((b - 16522) / 16384) ∷ (12 ∷ [])))
+    (((t - 16522) % 128) ∷ (((t - 16522) / 128 % 128) ∷ (((t - 16522) / 16384) ∷ (12 ∷ [])))) (last_triple t (omega arith) under)
+    (ap (λ a. ((t - 16522) % 128) ∷ ((a % 128) ∷ (((t - 16522) / 16384) ∷ (12 ∷ [])))) same
+    ∙ ap (λ a. ((t - 16522) % 128) ∷ (((b - 16522) / 128 % 128) ∷ (a ∷ (12 ∷ [])))) over) (omega arith) (omega arith)
+among_triple b t (suc zero) k low high from few more within =
+    let over : (t - 16522) / 16384 ≡ (b - 16522) / 16384 = omega arith in
     let under : t < 2113674 = omega arith in
-    subst (LiesBeside 1 (((b - 16522) % 128) ∷ (((b - 16522) / 128 % 128) ∷ (((b - 16522) / 16384) ∷ (12 ∷ [])))))
-    (sym (last_triple t (omega arith) under)) (omega arith, ap (λ k. k ∷ (12 ∷ [])) above)
-beside_triple b t (suc (suc zero)) low high from few within =
+    lies Deep 1 ((b - 16522) / 128 % 128) ((b - 16522) / 128 % 128 + k + 1) ((t - 16522) / 128 % 128) t (((b - 16522) / 16384) ∷ (12 ∷ []))
+    (((t - 16522) % 128) ∷ (((t - 16522) / 128 % 128) ∷ (((t - 16522) / 16384) ∷ (12 ∷ [])))) (last_triple t (omega arith) under)
+    (ap (λ a. ((t - 16522) / 128 % 128) ∷ (a ∷ (12 ∷ []))) over) (omega arith) (omega arith)
+among_triple b t (suc (suc zero)) k low high from few more within =
     let under : t < 2113674 = omega arith in
-    subst (LiesBeside 2 (((b - 16522) % 128) ∷ (((b - 16522) / 128 % 128) ∷ (((b - 16522) / 16384) ∷ (12 ∷ [])))))
-    (sym (last_triple t (omega arith) under)) (omega arith, refl)
-beside_triple b t (suc (suc (suc n))) low high from few within = absurd (omega arith)
+    lies Deep 2 ((b - 16522) / 16384) ((b - 16522) / 16384 + k + 1) ((t - 16522) / 16384) t (12 ∷ [])
+    (((t - 16522) % 128) ∷ (((t - 16522) / 128 % 128) ∷ (((t - 16522) / 16384) ∷ (12 ∷ [])))) (last_triple t (omega arith) under) refl (omega arith) (omega arith)
+among_triple b t (suc (suc (suc zero))) k low high from few more within =
+    let none : k ≡ 0 = more.address refl in
+    let under : t < 2113674 = omega arith in
+    lies Deep 3 12 (12 + k + 1) 12 t [] (((t - 16522) % 128) ∷ (((t - 16522) / 128 % 128) ∷ (((t - 16522) / 16384) ∷ (12 ∷ [])))) (last_triple t (omega arith) under) refl (omega arith) (omega arith)
+among_triple b t (suc (suc (suc (suc n)))) k low high from few more within = absurd (omega arith)
 
 -- an indirect block has at most 256 pointers
 pub few_pointers : (edition : Edition) → (constants edition).pointers ≤ 256
 few_pointers V6 = omega arith
 few_pointers V7 = omega arith
 
--- what lies below a place that names no data block names nothing
-below_none : (geometry : Geometry) (image : List ℕ) (i n : ℕ) (p : List ℕ) → Fits geometry image → suc n < length p
-    → in_zone geometry (named geometry image i (drop (suc n) p)) ≡ false → named geometry image i p ≡ 0
-below_none geometry image i n [] fits few outside = absurd (omega arith)
-below_none geometry image i n (j ∷ []) fits few outside = absurd (omega arith)
-below_none geometry image i zero (j ∷ (a ∷ p)) fits few outside = named_stops geometry image i j a p outside
-below_none geometry image i (suc n) (j ∷ (a ∷ p)) fits few outside =
-    named_stops geometry image i j a p
-    (ap (in_zone geometry) (below_none geometry image i n (a ∷ p) fits (omega arith) outside) ∙ zero_out geometry image fits)
-
--- what each last place lies beside, by the form
-beside : (form : Form) (b t n : ℕ) (p : List ℕ) → last_place form b ≡ Some p → suc n < length p → b ≤ t
-    → t < b + blocks_left (pointer_count form) (suc n) p → LiesBeside n p (last_place form t)
-beside Small b t n p e few from within =
+-- the last place of each logical block that is left below a place, or below one of k that follow it
+among : (form : Form) (b t n k : ℕ) (p : List ℕ) → last_place form b ≡ Some p → 2 ≤ length p → n < length p → b ≤ t → HasMore (pointer_count form) n p k
+    → t < b + blocks_left (pointer_count form) n p + k * pointer_count form ^ n → IsAmong form n p k t
+among Small b t n k p e deep few from more within =
     let low : b < 8 = (last_leaf Small b p e).limit in
     let is : (b ∷ []) ≡ p = some_is (b ∷ []) p (sym (last_small b low) ∙ e) in
     let short : length p ≡ 1 = sym (ap length is) in
     absurd (omega arith)
-beside Large b t n p e few from within = elim (cases_lt b 1792) [
+among Large b t n k p e deep few from more within = elim (cases_lt b 1792) [
   | inl low ↦
       let is : ((b % 256) ∷ ((b / 256) ∷ [])) ≡ p = some_is ((b % 256) ∷ ((b / 256) ∷ [])) p (sym (last_large b low) ∙ e) in
-      subst (λ q. suc n < length q → t < b + blocks_left 256 (suc n) q → LiesBeside n q (last_place Large t)) is
-      (λ few within. beside_large b t n low from few within) few within
+      subst (λ q. n < length q → HasMore 256 n q k → t < b + blocks_left 256 n q + k * 256 ^ n → IsAmong Large n q k t) is
+      (λ few more within. among_large b t n k low from few more within) few more within
   | inr low ↦
       let high : b < 32768 = (last_leaf Large b p e).limit in
       let is : ((b % 256) ∷ ((b / 256 - 7) ∷ (7 ∷ []))) ≡ p = some_is ((b % 256) ∷ ((b / 256 - 7) ∷ (7 ∷ []))) p (sym (last_huge b low high) ∙ e) in
-      subst (λ q. suc n < length q → t < b + blocks_left 256 (suc n) q → LiesBeside n q (last_place Large t)) is
-      (λ few within. beside_huge b t n low high from few within) few within
+      subst (λ q. n < length q → HasMore 256 n q k → t < b + blocks_left 256 n q + k * 256 ^ n → IsAmong Large n q k t) is
+      (λ few more within. among_huge b t n k low high from few more within) few more within
 ]
-beside Deep b t n p e few from within =
+among Deep b t n k p e deep few from more within =
     let limit : b < 2113674 = (last_leaf Deep b p e).limit in
     elim (cases_lt b 10) [
       | inl low ↦
@@ -140,30 +181,50 @@ beside Deep b t n p e few from within =
       | inr first ↦ elim (cases_lt b 138) [
         | inl low ↦
             let is : ((b - 10) ∷ (10 ∷ [])) ≡ p = some_is ((b - 10) ∷ (10 ∷ [])) p (sym (last_single b first low) ∙ e) in
-            subst (λ q. suc n < length q → t < b + blocks_left 128 (suc n) q → LiesBeside n q (last_place Deep t)) is
-            (λ few within. beside_single b t n first low from few within) few within
+            subst (λ q. n < length q → HasMore 128 n q k → t < b + blocks_left 128 n q + k * 128 ^ n → IsAmong Deep n q k t) is
+            (λ few more within. among_single b t n k first low from few more within) few more within
         | inr second ↦ elim (cases_lt b 16522) [
           | inl low ↦
-              let is : (((b - 138) % 128) ∷ (((b - 138) / 128) ∷ (11 ∷ []))) ≡ p =
-              some_is (((b - 138) % 128) ∷ (((b - 138) / 128) ∷ (11 ∷ []))) p (sym (last_double b second low) ∙ e) in
-              subst (λ q. suc n < length q → t < b + blocks_left 128 (suc n) q → LiesBeside n q (last_place Deep t)) is
-              (λ few within. beside_double b t n second low from few within) few within
+              let is : (((b - 138) % 128) ∷ (((b - 138) / 128) ∷ (11 ∷ []))) ≡ p = some_is (((b - 138) % 128) ∷ (((b - 138) / 128) ∷ (11 ∷ []))) p (sym (last_double b second low) ∙ e) in
+              subst (λ q. n < length q → HasMore 128 n q k → t < b + blocks_left 128 n q + k * 128 ^ n → IsAmong Deep n q k t) is
+              (λ few more within. among_double b t n k second low from few more within) few more within
           | inr third ↦
-              let is : (((b - 16522) % 128) ∷ (((b - 16522) / 128 % 128) ∷ (((b - 16522) / 16384) ∷ (12 ∷ [])))) ≡ p =
-              some_is (((b - 16522) % 128) ∷ (((b - 16522) / 128 % 128) ∷ (((b - 16522) / 16384) ∷ (12 ∷ [])))) p (sym (last_triple b third limit) ∙ e) in
-              subst (λ q. suc n < length q → t < b + blocks_left 128 (suc n) q → LiesBeside n q (last_place Deep t)) is
-              (λ few within. beside_triple b t n third limit from few within) few within
+              let is : (((b - 16522) % 128) ∷ (((b - 16522) / 128 % 128) ∷ (((b - 16522) / 16384) ∷ (12 ∷ [])))) ≡ p = some_is (((b - 16522) % 128) ∷ (((b - 16522) / 128 % 128) ∷ (((b - 16522) / 16384) ∷ (12 ∷ [])))) p (sym (last_triple b third limit) ∙ e) in
+              subst (λ q. n < length q → HasMore 128 n q k → t < b + blocks_left 128 n q + k * 128 ^ n → IsAmong Deep n q k t) is
+              (λ few more within. among_triple b t n k third limit from few more within) few more within
         ]
       ]
     ]
-beside Bare b t n p e few from within = let limit : b < 0 = (last_leaf Bare b p e).limit in absurd (omega arith)
+among Bare b t n k p e deep few from more within = let limit : b < 0 = (last_leaf Bare b p e).limit in absurd (omega arith)
 
--- nothing is stored for the logical blocks below a place that names no data block
-stored_none : (geometry : Geometry) (image : List ℕ) (i n : ℕ) (p : List ℕ) (o : Option (List ℕ)) → Fits geometry image → LiesBeside n p o
-    → in_zone geometry (named geometry image i (drop (suc n) p)) ≡ false → option_map_or (named geometry image i) o 0 ≡ 0
-stored_none geometry image i n p None fits beside outside = refl
-stored_none geometry image i n p (Some q) fits beside outside =
-    below_none geometry image i n q fits beside.0 (ap (λ r. in_zone geometry (named geometry image i r)) beside.1 ∙ outside)
+-- a number that leads on from the last indirect block nowhere
+zero_is : (n : ℕ) → not (n == 0) ≡ false → n ≡ 0
+zero_is n none = grind (arith, nat_tests)
+
+-- what lies below a pointer that leads to nothing names nothing
+below_none : (geometry : Geometry) (image : List ℕ) (i n : ℕ) (p : List ℕ) → Fits geometry image → n < length p
+    → leads_on geometry n (named geometry image i (drop n p)) ≡ false → named geometry image i p ≡ 0
+below_none geometry image i zero p fits few none = zero_is (named geometry image i p) none
+below_none geometry image i (suc n) [] fits few none = absurd (omega arith)
+below_none geometry image i (suc n) (j ∷ []) fits few none = absurd (omega arith)
+below_none geometry image i (suc zero) (j ∷ (a ∷ p)) fits few none = named_stops geometry image i j a p none
+below_none geometry image i (suc (suc n)) (j ∷ (a ∷ p)) fits few none =
+    named_stops geometry image i j a p
+    (ap (in_zone geometry) (below_none geometry image i (suc n) (a ∷ p) fits (omega arith) none) ∙ zero_out geometry image fits)
+
+-- a place is longer than what is taken off it where some of it is left
+long_enough : (n : ℕ) (q : List ℕ) (x : ℕ) (above : List ℕ) → drop n q ≡ x ∷ above → n < length q
+long_enough n q x above top = let left : length q - n ≡ suc (length above) = sym (length-drop n q) ∙ ap length top in omega arith
+
+-- nothing is stored for a logical block below pointers that lead to nothing
+stored_none : (geometry : Geometry) (image : List ℕ) (i n low high : ℕ) (above : List ℕ) (o : Option (List ℕ)) → Fits geometry image
+    → LiesAmong n above low high o
+    → ((x : ℕ) → low ≤ x → x < high → leads_on geometry n (named geometry image i (x ∷ above)) ≡ false)
+    → option_map_or (named geometry image i) o 0 ≡ 0
+stored_none geometry image i n low high above None fits among none = refl
+stored_none geometry image i n low high above (Some q) fits (x, top, from, to) none =
+    below_none geometry image i n q fits (long_enough n q x above top)
+    (ap (λ r. leads_on geometry n (named geometry image i r)) top ∙ none x from to)
 
 -- the place that is left of a way's without its last n entries
 drop_to : (k : ℕ) (entries : List ℕ) (n d : ℕ) → drop n (place_to k entries (n + d)) ≡ place_to k entries d
@@ -185,34 +246,40 @@ pointers_by edition mode b p =
       | false ↦ λ e. let none : b < 0 = (last_leaf Bare b p e).limit in absurd (omega arith)
     ]
 
--- nothing is stored for the logical blocks that are left below a place of a way that names no data block
-pub hole_below : (geometry : Geometry) (image : List ℕ) (i : ℕ) (form : Form) (b d : ℕ) (way : Way) → Fits geometry image
-    → form ≡ form_at geometry image i → Some (end_of way) ≡ last_place form b → d < way.depth
-    → in_zone geometry (named geometry image i (place_to way.address way.entries d)) ≡ false
-    → IsHole geometry image i form b (b + blocks_left (constants geometry.edition).pointers (way.depth - d) (end_of way))
-hole_below geometry image i form b d way fits is end above outside = λ t from within.
-    let n = way.depth - d - 1 in
-    let more : way.depth - d ≡ suc n = omega arith in
-    let whole : suc n + d ≡ way.depth = omega arith in
-    let front : drop (suc n) (end_of way) ≡ place_to way.address way.entries d =
-    ap (λ m. drop (suc n) (place_to way.address way.entries m)) (sym whole) ∙ drop_to way.address way.entries (suc n) d in
-    let few : suc n < length (end_of way) = omega (arith, length_to way.address way.entries way.depth) in
-    let same : pointer_count form ≡ (constants geometry.edition).pointers =
+-- the pointers of an indirect block by the form of a file, where a logical block of it has a way
+pointers_at : (geometry : Geometry) (image : List ℕ) (i : ℕ) (form : Form) (b : ℕ) (way : Way) → form ≡ form_at geometry image i
+    → Some (end_of way) ≡ last_place form b → pointer_count form ≡ (constants geometry.edition).pointers
+pointers_at geometry image i form b way is end =
     ap pointer_count is
-    ∙ pointers_by geometry.edition (mode_of geometry image i) b (end_of way) (ap (λ f. last_place f b) (sym is) ∙ sym end) in
-    let near : t < b + blocks_left (pointer_count form) (suc n) (end_of way) =
-    subst (λ m. t < b + blocks_left m (suc n) (end_of way)) (sym same) (subst (λ m. t < b + blocks_left (constants geometry.edition).pointers m (end_of way)) more within) in
-    stored_none geometry image i n (end_of way) (last_place form t) fits (beside form b t n (end_of way) (sym end) few from near)
-    (ap (λ r. in_zone geometry (named geometry image i r)) front ∙ outside)
+    ∙ pointers_by geometry.edition (mode_of geometry image i) b (end_of way) (ap (λ f. last_place f b) (sym is) ∙ sym end)
+
+-- nothing is stored for the logical blocks that are left below the place of a way's first `d` entries, and for those below the `k` pointers
+-- that follow it, where none of these leads on
+pub hole_below : (geometry : Geometry) (image : List ℕ) (i : ℕ) (form : Form) (b d n k : ℕ) (way : Way) → Fits geometry image
+    → form ≡ form_at geometry image i → Some (end_of way) ≡ last_place form b → 1 ≤ way.depth → n + d ≡ way.depth
+    → HasMore (constants geometry.edition).pointers n (end_of way) k
+    → ((x : ℕ) → head_of (place_to way.address way.entries d) ≤ x → x < head_of (place_to way.address way.entries d) + k + 1
+    → leads_on geometry n (named geometry image i (x ∷ tail_of (place_to way.address way.entries d))) ≡ false)
+    → IsHole geometry image i form b
+    (b + blocks_left (constants geometry.edition).pointers n (end_of way) + k * (constants geometry.edition).pointers ^ n)
+hole_below geometry image i form b d n k way fits is end deep whole more none = λ t from within.
+    let p = end_of way in
+    let front : drop n p ≡ place_to way.address way.entries d =
+    ap (λ m. drop n (place_to way.address way.entries m)) (sym whole) ∙ drop_to way.address way.entries n d in
+    let long : length p ≡ suc way.depth = length_to way.address way.entries way.depth in
+    let same : (constants geometry.edition).pointers ≡ pointer_count form = sym (pointers_at geometry image i form b way is end) in
+    let lies : IsAmong form n p k t =
+    among form b t n k p (sym end) (omega arith) (omega arith) from (subst (λ m. HasMore m n p k) same more)
+    (subst (λ m. t < b + blocks_left m n p + k * m ^ n) same within) in
+    stored_none geometry image i n (head_of (drop n p)) (head_of (drop n p) + k + 1) (tail_of (drop n p)) (last_place form t) fits lies
+    (subst (λ q. (x : ℕ) → head_of q ≤ x → x < head_of q + k + 1 → leads_on geometry n (named geometry image i (x ∷ tail_of q)) ≡ false) (sym front) none)
 
 -- each entry on a way is one of an indirect block
 pub few_entries : (geometry : Geometry) (image : List ℕ) (i : ℕ) (form : Form) (b : ℕ) (way : Way) → form ≡ form_at geometry image i
     → Some (end_of way) ≡ last_place form b → (k : ℕ) → k < way.depth → slice_index way.entries k < (constants geometry.edition).pointers
 few_entries geometry image i form b way is end k h =
     let low : slice_index way.entries k < pointer_count form = entry_to form way.address way.entries k (way_place form b way (suc k) end (omega arith)) in
-    let same : pointer_count form ≡ (constants geometry.edition).pointers =
-    ap pointer_count is
-    ∙ pointers_by geometry.edition (mode_of geometry image i) b (end_of way) (ap (λ f. last_place f b) (sym is) ∙ sym end) in
+    let same = pointers_at geometry image i form b way is end in
     omega arith
 
 -- how many logical blocks a file can have at most
@@ -231,3 +298,76 @@ pub hole_past : (geometry : Geometry) (image : List ℕ) (i : ℕ) (form : Form)
 hole_past geometry image i form b end none = λ t from within.
     let past : block_limit form ≤ t = omega (arith, last_none form b none) in
     ap (λ o. option_map_or (named geometry image i) o 0) (has_no_way form t past)
+
+-- an address that names no data block leads to nothing
+leads_deep : (geometry : Geometry) (n v : ℕ) → 1 ≤ n → in_zone geometry v ≡ false → leads_on geometry n v ≡ false
+leads_deep geometry zero v some outside = absurd (omega arith)
+leads_deep geometry (suc n) v some outside = outside
+
+-- what an entry of the block at the end of a front of a way names
+named_under : (geometry : Geometry) (image : List ℕ) (i k : ℕ) (entries : List ℕ) (d x : ℕ)
+    → named geometry image i (x ∷ place_to k entries d) ≡ pointer_in geometry image (named geometry image i (place_to k entries d)) x
+named_under geometry image i k entries zero x = refl
+named_under geometry image i k entries (suc d) x = refl
+
+-- the blocks of a file have at least 128 pointers
+many_pointers : (edition : Edition) → 128 ≤ (constants edition).pointers
+many_pointers V6 = omega arith
+many_pointers V7 = omega arith
+
+-- the address of a way is one of thirteen
+few_addresses : (form : Form) → first_count form ≤ 13
+few_addresses Small = omega arith
+few_addresses Large = omega arith
+few_addresses Deep = omega arith
+few_addresses Bare = omega arith
+
+-- nothing is stored for the logical blocks that are left below an address that names no data block
+pub hole_at_address : (geometry : Geometry) (image : List ℕ) (i : ℕ) (form : Form) (b : ℕ) (way : Way) → Fits geometry image
+    → form ≡ form_at geometry image i → Some (end_of way) ≡ last_place form b → 1 ≤ way.depth
+    → in_zone geometry (named geometry image i (way.address ∷ [])) ≡ false
+    → IsHole geometry image i form b (b + blocks_left (constants geometry.edition).pointers way.depth (end_of way))
+hole_at_address geometry image i form b way fits is end deep outside = λ t from within.
+    let pointers = (constants geometry.edition).pointers in
+    let many = many_pointers geometry.edition in
+    let few = few_addresses form in
+    let address : way.address < first_count form = way_place form b way 0 end (omega arith) in
+    let whole : way.depth + 0 ≡ way.depth = omega arith in
+    let front : drop way.depth (end_of way) ≡ way.address ∷ [] =
+    ap (λ m. drop way.depth (place_to way.address way.entries m)) (sym whole) ∙ drop_to way.address way.entries way.depth 0 in
+    let more : HasMore pointers way.depth (end_of way) 0 = record {
+      within = subst (λ q. head_of q + 0 < pointers) (sym front) (omega arith);
+      address = λ none. refl;
+    } in
+    hole_below geometry image i form b 0 way.depth 0 way fits is end deep whole more
+    (λ x low high.
+    let same : x ≡ way.address = omega arith in
+    leads_deep geometry way.depth (named geometry image i (x ∷ [])) deep (ap (λ y. in_zone geometry (named geometry image i (y ∷ []))) same ∙ outside))
+    t from (omega (arith, within))
+
+-- nothing is stored for the logical blocks that are left below an entry of a way, and below the entries that follow it, up to m of them,
+-- where none leads on
+pub hole_at_entries : (geometry : Geometry) (image : List ℕ) (i : ℕ) (form : Form) (b d m : ℕ) (way : Way) → Fits geometry image
+    → form ≡ form_at geometry image i → Some (end_of way) ≡ last_place form b → d < way.depth → 1 ≤ m
+    → slice_index way.entries d + m ≤ (constants geometry.edition).pointers
+    → ((x : ℕ) → slice_index way.entries d ≤ x → x < slice_index way.entries d + m
+    → leads_on geometry (way.depth - d - 1) (pointer_in geometry image (named geometry image i (place_to way.address way.entries d)) x) ≡ false)
+    → IsHole geometry image i form b
+    (b + blocks_left (constants geometry.edition).pointers (way.depth - (d + 1)) (end_of way)
+    + (m - 1) * (constants geometry.edition).pointers ^ (way.depth - d - 1))
+hole_at_entries geometry image i form b d m way fits is end below some room none =
+    let pointers = (constants geometry.edition).pointers in
+    let n = way.depth - d - 1 in
+    let levels : way.depth - (d + 1) ≡ n = omega arith in
+    let whole : n + suc d ≡ way.depth = omega arith in
+    let front : drop n (end_of way) ≡ slice_index way.entries d ∷ place_to way.address way.entries d =
+    ap (λ m. drop n (place_to way.address way.entries m)) (sym whole) ∙ drop_to way.address way.entries n (suc d) in
+    let more : HasMore pointers n (end_of way) (m - 1) = record {
+      within = subst (λ q. head_of q + (m - 1) < pointers) (sym front) (omega arith);
+      address = λ empty.
+          let long : length (place_to way.address way.entries d) ≡ 0 = ap length (subst (λ q. tail_of q ≡ []) front empty) in
+          absurd (omega (arith, length_to way.address way.entries d));
+    } in
+    subst (λ l. IsHole geometry image i form b (b + blocks_left pointers l (end_of way) + (m - 1) * pointers ^ n)) (sym levels)
+    (hole_below geometry image i form b (suc d) n (m - 1) way fits is end (omega arith) whole more
+    (λ x low high. ap (leads_on geometry n) (named_under geometry image i way.address way.entries d x) ∙ none x low (omega arith)))

@@ -1,10 +1,10 @@
 //! Going over the logical blocks of a file without its holes.
-ghost use Rattle.std.specs.Prelude.{◌≡◌, ℕ, ◌-◌, ◌^◌, ◌<◌, ◌≤◌, slice_index};
+ghost use Rattle.std.specs.Prelude.{◌≡◌, ℕ, ◌+◌, ◌-◌, ◌^◌, ◌<◌, ◌≤◌, false, true, slice_index};
 ghost use Rattle.vol_layout.specs.Edition.{constants};
 ghost use Rattle.vol_layout.specs.Geometry.{Fits};
-ghost use Rattle.vol_layout.specs.Names.{form_at, stored};
+ghost use Rattle.vol_layout.specs.Names.{form_at, pointer_in, stored};
 ghost use Rattle.vol_layout.specs.Places.{end_of};
-ghost use Rattle.vol_file.specs.Holes.{IsHole, IsNextStored, blocks_left};
+ghost use Rattle.vol_file.specs.Holes.{IsHole, IsNextStored, blocks_left, leads_on};
 
 use crate::block_map::entry;
 use pdp_words::Image;
@@ -14,8 +14,8 @@ use vol_layout::{Form, Geometry, Way};
 /// The first logical block of i-node `i`, from 1 to the last, from block `from` up to `end`, for which the
 /// block map has a number, which may be outside the data zone; `end` where there is none.
 ///
-/// Costs the way of that block, and one way for each pointer that is passed because it names no data block:
-/// whatever lies below it is passed as a whole, however many logical blocks that is.
+/// Costs the way of that block, and one look at each pointer that is passed because it leads to nothing: whatever
+/// lies below it is passed as a whole, however many logical blocks that is.
 pub fn next_block(image: &Image, geometry: &Geometry, i: u16, from: u32, end: u32) -> u32
     requires fits { Fits geometry.now image.now }
     requires first { 1 ≤ i }
@@ -54,8 +54,8 @@ pub(crate) fn next_stored(
     end
 }
 
-/// The end of the hole in which logical block `b` lies, as far as it is one because of the same missing
-/// pointer; `b` itself where a number is stored for it.
+/// The end of the hole in which logical block `b` lies, as far as it is one because of missing pointers of the
+/// same block; `b` itself where a number is stored for it.
 #[tactic(auto, using(crate::proofs::Indexes::way_address, crate::proofs::Indexes::way_entry))]
 fn hole_end(image: &Image, geometry: &Geometry, i: u16, form: Form, b: u32) -> u32
     requires fits { Fits geometry.now image.now }
@@ -71,13 +71,66 @@ fn hole_end(image: &Image, geometry: &Geometry, i: u16, form: Form, b: u32) -> u
         return u32::MAX;
     };
     let mut block = address(image, geometry, i, way.address);
+    if way.depth > 0 && !geometry.in_zone(block) {
+        return b + left_below(geometry, &way, 0);
+    }
     for d in 0..way.depth {
-        if !geometry.in_zone(block) {
-            return b + left_below(geometry, &way, d);
+        let levels = way.depth - d - 1;
+        let missing = missing_from(image, geometry, block, way.entries[d], levels);
+        if missing > 0 {
+            let more = (missing - 1) * blocks_below(geometry, levels);
+            return b + left_below(geometry, &way, d + 1) + more;
         }
         block = entry(image, geometry, block, way.entries[d]);
     }
     if block == 0 { b + 1 } else { b }
+}
+
+/// How many pointers of indirect block `m`, from pointer `j` on, lead to nothing, one after the other; below each
+/// lie so many `levels` of indirect blocks.
+fn missing_from(image: &Image, geometry: &Geometry, m: u32, j: u32, levels: usize) -> u32
+    requires fits { Fits geometry.now image.now }
+    requires within { j ≤ (constants geometry.now.edition).pointers }
+    ensures within { j + result ≤ (constants geometry.now.edition).pointers }
+    ensures missing { (k : ℕ) → j ≤ k → k < j + result → leads_on geometry.now levels (pointer_in geometry.now image.now m k) ≡ false }
+    ensures some { result ≡ 0 → j < (constants geometry.now.edition).pointers
+        → leads_on geometry.now levels (pointer_in geometry.now image.now m j) ≡ true }
+{
+    let mut k = j;
+    while k < geometry.edition.constants().pointers {
+        let number = entry(image, geometry, m, k);
+        if leads_on(geometry, levels, number) {
+            return k - j;
+        }
+        k += 1;
+    }
+    k - j
+}
+
+/// Whether a pointer leads on: one with no levels of indirect blocks below it where it isn't 0, others where they name a data
+/// block.
+fn leads_on(geometry: &Geometry, levels: usize, number: u32) -> bool
+    ensures { result ≡ leads_on geometry.now levels number }
+{
+    if levels == 0 {
+        number != 0
+    } else {
+        geometry.in_zone(number)
+    }
+}
+
+/// How many logical blocks lie below a pointer with so many levels of indirect blocks below it.
+fn blocks_below(geometry: &Geometry, levels: usize) -> u32
+    requires { levels ≤ 2 }
+    ensures exact { result ≡ (constants geometry.now.edition).pointers ^ levels }
+    ensures bound { result ≤ 65536 }
+{
+    let pointers = geometry.edition.constants().pointers;
+    match levels {
+        0 => 1,
+        1 => pointers,
+        _ => pointers * pointers,
+    }
 }
 
 /// How many logical blocks, from the one with this way on, lie below the indirect block that the first `d`

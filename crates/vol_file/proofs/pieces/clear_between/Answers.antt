@@ -1,4 +1,4 @@
-use Rattle.std.proofs.Common.{◌≡◌, ◌+◌, ◌*◌, ◌/◌, ◌<◌, ◌≤◌, ◌∙◌, ap, sym, subst, arith, refl}
+use Rattle.std.proofs.Common.{◌≡◌, ◌+◌, ◌/◌, ◌∙◌, ap, sym, subst, arith, refl}
 use Rattle.vol_layout.specs.Names.{form_at, stored}
 use Rattle.vol_layout.specs.Places.{form_of}
 use Rattle.vol_file.specs.Steps.{Rewrites, zeros_at}

@@ -14,7 +14,8 @@ use Rattle.vol_layout.proofs.InodeLaws.{body_size_kept, KeepsInode, place_apart,
 use Rattle.vol_layout.proofs.PlaceLaws.{place_front, last_leaf}
 use Rattle.vol_layout.proofs.NameLaws.{zone_some, named_holds, holds_named}
 use Rattle.vol_layout.proofs.FrameLaws.{named_frame, places_kept, stored_kept, body_frame}
-use Rattle.vol_file.specs.Changes.{ChangesFileAlone}
+use Rattle.vol_free.specs.Stack.{IsIn}
+use Rattle.vol_file.specs.Changes.{ChangesFileAlone, KeepsBlocks}
 use Rattle.vol_file.specs.Steps.{StaysElsewhere}
 
 -- an image of the same length fits too
@@ -161,3 +162,8 @@ elsewhere_changes geometry old new i fits one s = record {
   bodies = λ j other file. elsewhere_body geometry old new i j fits s one other file;
   behind = s.behind;
 }
+
+-- blocks keep their bytes in two steps
+pub keeps_then : (old mid new blocks rest : List ℕ) → ((k : ℕ) → IsIn k rest → IsIn k blocks) → KeepsBlocks old mid blocks → KeepsBlocks mid new rest
+    → KeepsBlocks old new rest
+keeps_then old mid new blocks rest less first second k r within low = second k r within low ∙ first k r (less k within) low

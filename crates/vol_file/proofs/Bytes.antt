@@ -11,6 +11,7 @@ use Rattle.vol_layout.specs.Body.{body_byte, zone_byte}
 use Rattle.vol_layout.specs.declared.geometry.Geometry.{Geometry}
 use Rattle.vol_layout.specs.declared.places.Form.{Form}
 use Rattle.pdp_words.proofs.Outside.{widen}
+use Rattle.vol_layout.proofs.CopyLaws.{copy_block}
 use Rattle.vol_layout.proofs.InodeLaws.{KeepsInode, mode_kept, size_kept}
 use Rattle.vol_layout.proofs.PlaceLaws.{last_leaf, last_apart}
 use Rattle.vol_layout.proofs.BodyLaws.{body_byte_is, zone_byte_in, zone_byte_out}
@@ -20,7 +21,7 @@ use Rattle.vol_free.specs.Stack.{IsIn, IsFree}
 use Rattle.vol_free.proofs.Frames.{IsFree-within}
 use Rattle.vol_file.specs.Rules.{size_of, IsSoundWith, IsCovered}
 use Rattle.vol_file.specs.Steps.{StaysElsewhere, Rewrites}
-use Rattle.vol_file.proofs.Alone.{fits_len, elsewhere_self, elsewhere_then, elsewhere_before, elsewhere_named, elsewhere_names}
+use Rattle.vol_file.proofs.Alone.{fits_len, elsewhere_self, elsewhere_then, elsewhere_before, elsewhere_named, elsewhere_names, keeps_then}
 use Rattle.vol_file.proofs.Cells.{block_elsewhere}
 use Rattle.vol_file.proofs.Naming.{kinds_kept, sizes_kept, modes_kept, place_same}
 use Rattle.vol_file.proofs.Taking.{zone_two}
@@ -163,6 +164,8 @@ rewrites_block geometry old new blocks i b k s e p content sound file last is zo
           ∙ (put (n % 512) (omega arith) (omega arith) ∙ ap content rest);
       below = λ n low. outside n (λ block. inl (omega arith));
       above = λ n high. outside n (λ block. inr (omega arith));
+      unused = λ m r within low.
+          (copy_block old new m k wide (λ e. sound.outside i p place (subst (λ x. IsIn x blocks) (e ∙ sym is) within))).bytes r low;
     }
 
 -- nothing is written where the bytes are the wanted ones
@@ -178,6 +181,7 @@ rewrites_none geometry image blocks i lo hi content sound bytes = record {
   inside = bytes;
   below = λ n h. refl;
   above = λ n h. refl;
+  unused = λ k r within low. refl;
 }
 
 -- two pieces one after the other
@@ -194,6 +198,7 @@ rewrites_then geometry old mid new blocks i lo at hi content sound one low high 
   inside = λ n from to. elim (cases_lt n at) [ inl less ↦ b.below n less ∙ a.inside n from less | inr more ↦ b.inside n more to ];
   below = λ n h. b.below n (omega arith) ∙ a.below n h;
   above = λ n h. b.above n h ∙ a.above n (omega arith);
+  unused = keeps_then old mid new blocks blocks (λ k within. within) a.unused b.unused;
 }
 
 -- bytes from byte `at` on are written, in the data block that is stored for their logical block

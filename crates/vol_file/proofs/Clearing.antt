@@ -14,6 +14,7 @@ use Rattle.vol_file.proofs.Alone.{elsewhere_self, elsewhere_then}
 use Rattle.vol_file.proofs.BlockLists.{at_nil, at_some, from_below, below_same, from_none, among_step}
 use Rattle.vol_file.proofs.Fronts.{front_zero, under_front, under_longer, under_later, under_apart, under_more, under_here, under_split}
 use Rattle.vol_file.proofs.Naming.{place_same}
+use Rattle.vol_file.proofs.Taking.{rest_within}
 
 -- where places name nothing already, nothing is done to clear them
 pub clears_none : (geometry : Geometry) (image : List ℕ) (i : ℕ) (Cleared : List ℕ → Type 0) (blocks : List ℕ) → IsSoundWith geometry image blocks
@@ -28,6 +29,7 @@ clears_none geometry image i Cleared blocks sound none = record {
   less = λ q place. inl refl;
   gone = none;
   kept = λ q place apart. refl;
+  unused = λ k r within low. refl;
 }
 
 -- two steps one after the other clear what each clears
@@ -57,6 +59,7 @@ clears_then geometry old mid new i First Second Both given more blocks fits one 
       ];
       kept = λ q place apart.
           t.kept q (place_same geometry old mid i q s.mode place) (λ g. apart (second q g)) ∙ s.kept q place (λ f. apart (first q f));
+      unused = λ k r within low. t.unused k r (rest_within k given blocks (given ++ blocks) refl within) low ∙ s.unused k r within low;
     }
 
 -- another way to say which places are cleared, and which blocks were given
@@ -73,6 +76,7 @@ clears_as geometry old new i Cleared Other given same blocks e split other s = r
   less = s.less;
   gone = λ q place o. elim (split q place o) [ inl cleared ↦ s.gone q place cleared | inr none ↦ none ];
   kept = λ q place apart. s.kept q place (λ cleared. apart (other q cleared));
+  unused = s.unused;
 }
 
 -- the entries of place p from entry j on are cleared, of `count` entries, below each of which so many more levels lie

@@ -1,5 +1,5 @@
 -- Making a small file of the sixth edition large: names, soundness and bytes.
-use Rattle.std.proofs.Common.{◌≡◌, ◌≢◌, ℕ, ◌+◌, ◌-◌, ◌*◌, ◌/◌, ◌%◌, ◌<◌, ◌≤◌, ◌∙◌, sym, ap, subst, List, [], ◌∷◌, get_or, refl, arith, inl, inr, true, Some, None, ltb, eqb}
+use Rattle.std.proofs.Common.{◌≡◌, ◌≢◌, ℕ, ◌+◌, ◌-◌, ◌*◌, ◌/◌, ◌%◌, ◌<◌, ◌≤◌, ◌∙◌, sym, ap, subst, List, [], ◌∷◌, ◌++◌, get_or, refl, arith, inl, inr, true, Some, None, ltb, eqb}
 use Rattle.std.specs.Prelude.{◌&&◌, not}
 use Rattle.std.specs.Option.{option_map_or}
 use Rattle.std.proofs.lemmas.Bool.{cases_lt, cases_eq, lt-ltb, le-ltb, ne_eqb}
@@ -16,7 +16,7 @@ use Rattle.vol_layout.proofs.BodyLaws.{body_byte_is, zone_byte_out}
 use Rattle.vol_layout.proofs.NameLaws.{zone_some, zero_out, named_stops, holds_named, named_holds}
 use Rattle.vol_layout.proofs.FrameLaws.{zone_byte_kept}
 use Rattle.vol_free.specs.Stack.{IsIn, IsFree}
-use Rattle.vol_free.proofs.Frames.{free_from}
+use Rattle.vol_free.proofs.Frames.{free_zone, free_from}
 use Rattle.vol_file.specs.Shape.{is_named, moved_down}
 use Rattle.vol_file.specs.Rules.{size_of, kind_at, HasSizes, IsSoundWith, IsCovered}
 use Rattle.vol_file.specs.Steps.{StaysElsewhere, Enlarges}
@@ -382,4 +382,17 @@ enlarges geometry old new i b rest sound file moves =
       size = moves.size;
       names = large_names geometry old new i b rest fits some moves;
       bytes = large_bytes geometry old new i b rest sound file moves;
+      is = moves.first;
+      some = some;
+      kept = λ p place.
+          let at = small_place p (subst (λ f. IsPlace f p) moves.small place.place) in
+          ap (λ q. named geometry new i (q ++ (0 ∷ []))) at.is ∙ (moves.moved at.index at.low ∙ sym (ap (named geometry old i) at.is));
+      moved = λ p place.
+          let at = small_place p (subst (λ f. IsPlace f p) moves.small place.place) in
+          subst (λ q. IsPlaceOf geometry new i (q ++ (0 ∷ []))) (sym at.is) (record {
+            file = file_new;
+            place = subst (λ f. IsPlace f (at.index ∷ (0 ∷ []))) (sym moves.large) (moved_place at.index at.low);
+          });
+      unused = λ k r within low.
+          moves.bytes k r (free_zone moves.free k within) (λ e. first_once geometry old b rest sound (subst (λ x. IsIn x rest) e within)) low;
     }

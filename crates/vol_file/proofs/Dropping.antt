@@ -20,7 +20,7 @@ use Rattle.vol_file.proofs.Alone.{fits_len, elsewhere_before, elsewhere_named, e
 use Rattle.vol_file.proofs.Fronts.{front_or, front_under, front_zero}
 use Rattle.vol_file.proofs.Soundness.{Lessens, named_before, sound_after}
 use Rattle.vol_file.proofs.Naming.{place_same}
-use Rattle.vol_file.proofs.Taking.{IsUnnamed, stays_inode, stays_named, stays_around, rest_in}
+use Rattle.vol_file.proofs.Taking.{IsUnnamed, stays_block, stays_inode, stays_named, stays_around, zone_two, rest_in}
 
 -- block b is a data block that no place names
 pub record IsReleased (geometry : Geometry) (image : List ℕ) (b : ℕ) : Type 0 where
@@ -178,4 +178,9 @@ drops geometry old mid new blocks i b q sound is empty store stays free =
       less = λ p place. elim (front_or q p) [ inl front ↦ inr (drop.gone p place front) | inr apart ↦ inl (drop.kept p place apart) ];
       gone = drop.gone;
       kept = drop.kept;
+      unused = λ k r within low.
+          let zone = free_zone sound.free k within in
+          let other : k ≢ b = λ e. sound.outside i q is.place (subst (λ x. IsIn x blocks) (e ∙ sym is.names) within) in
+          (stays_block geometry mid new b 202 k stays (omega arith) (zone_two geometry old k sound.fits zone) other).bytes r low
+          ∙ store.bytes k r zone (λ p place deep e. sound.outside i p place (subst (λ x. IsIn x blocks) (sym e) within)) low;
     }

@@ -21,9 +21,11 @@ use Rattle.vol_layout.proofs.BodyLaws.{body_byte_is, zone_byte_in, zone_byte_out
 use Rattle.vol_layout.proofs.NameLaws.{zone_some, zero_out, holds_named, named_holds, named_past, entry_in}
 use Rattle.vol_layout.proofs.FrameLaws.{zone_byte_kept}
 use Rattle.vol_free.specs.Stack.{IsIn, Popped}
+use Rattle.vol_free.proofs.Frames.{free_zone}
+use Rattle.vol_file.specs.Changes.{KeepsBlocks}
 use Rattle.vol_file.specs.Shape.{is_named}
 use Rattle.vol_file.specs.Rules.{IsSoundWith, IsCovered}
-use Rattle.vol_file.specs.Steps.{StaysElsewhere, lacking, Extends}
+use Rattle.vol_file.specs.Steps.{StaysElsewhere, lacking, HasName, Extends}
 use Rattle.vol_file.proofs.Stores.{Stores}
 use Rattle.vol_file.specs.Laws.{IsAmong}
 use Rattle.vol_file.proofs.PlaceLists.{bytes_same, other_place, places_once, among_places}
@@ -193,11 +195,20 @@ extends_names geometry old new i b q none here some only p place =
           same ∙ sym (ap (λ t. is_named geometry old i p || t) (other_place p q differ) ∙ or-false (is_named geometry old i p))
     ]
 
+-- the blocks that stay free keep their bytes where the first was taken and put at a place
+keeps_stored : (geometry : Geometry) (old mid new : List ℕ) (i b : ℕ) (q rest : List ℕ) → IsSoundWith geometry old (b ∷ rest)
+    → Popped geometry old mid b rest → IsSoundWith geometry mid rest → Stores geometry mid new i q b rest → KeepsBlocks old new rest
+keeps_stored geometry old mid new i b q rest sound popped after_take stores k r within low =
+    let zone = free_zone after_take.free k within in
+    let other : k ≢ b = λ e. first_once geometry old b rest sound (subst (λ x. IsIn x rest) e within) in
+    stores.bytes k r zone (λ p place deep e. after_take.outside i p place (subst (λ x. IsIn x rest) (sym e) within)) low
+    ∙ (stays_block geometry old mid b 512 k popped.stays (omega arith) (zone_two geometry old k sound.fits zone) other).bytes r low
+
 -- the block taken is put at a place that named nothing
 pub extends_one : (geometry : Geometry) (old mid new : List ℕ) (i b : ℕ) (q rest : List ℕ) (wanted : List ℕ → Bool)
     → IsSoundWith geometry old (b ∷ rest) → IsPlaceOf geometry old i q → named geometry old i q ≡ 0 → wanted q ≡ true
     → Popped geometry old mid b rest → Stores geometry mid new i q b rest
-    → Extends geometry old new i wanted (λ p. bytes_eq p q) (b ∷ rest) rest
+    → Extends geometry old new i wanted (λ p. bytes_eq p q) (q ∷ []) (b ∷ rest) rest
 extends_one geometry old mid new i b q rest wanted sound place none want popped stores =
     let file : IsFile geometry old i = place.file in
     let zoned = first_zoned geometry old b rest sound in
@@ -240,4 +251,12 @@ extends_one geometry old mid new i b q rest wanted sound place none want popped 
       size = stores.size ∙ size_kept geometry old mid i kept;
       names = extends_names geometry old new i b q none stores.here some only;
       bytes = extends_bytes geometry old mid new i b q rest sound file place none popped sound_mid mode_mid (same i) stores only_mid zero;
+      kept = λ p at is. only p at (λ e. is (ap (named geometry old i) e ∙ none));
+      some = λ p among. elim among [
+        | inl e ↦ subst (HasName geometry new i) (sym e)
+            (record { place = place_same geometry old new i q mode place; some = λ z. some (sym stores.here ∙ z) })
+        | inr nothing ↦ absurd nothing
+      ];
+      order = ap (λ k. k ∷ []) (sym stores.here);
+      unused = keeps_stored geometry old mid new i b q rest sound popped sound_mid stores;
     }

@@ -1,5 +1,5 @@
 -- All places on the ways of the touched blocks named: how many blocks that takes, and the form that the file has then.
-use Rattle.std.proofs.Common.{◌≡◌, ℕ, zero, suc, ◌+◌, ◌*◌, ◌<◌, ◌≤◌, ◌∙◌, sym, ap, subst, List, ◌∷◌, ◌++◌, length, refl, arith, true, false, Bool, if◌then◌else◌, leb}
+use Rattle.std.proofs.Common.{◌≡◌, ℕ, zero, suc, ◌+◌, ◌*◌, ◌<◌, ◌≤◌, ◌∙◌, sym, ap, subst, List, [], ◌∷◌, ◌++◌, length, map, refl, arith, inl, inr, true, false, Bool, if◌then◌else◌, leb}
 use Rattle.std.specs.Prelude.{◌&&◌, ◌||◌, not}
 use Rattle.std.specs.List.{count_by, list_any, range_with_len}
 use Rattle.std.proofs.lemmas.Bool.{lt-leb, le-leb}
@@ -16,13 +16,16 @@ use Rattle.vol_layout.specs.declared.places.Form.{Form}
 use Rattle.vol_layout.specs.declared.places.Form.TheVariants.{Small, Large, Deep, Bare}
 use Rattle.vol_layout.proofs.InodeLaws.{form_same}
 use Rattle.vol_file.specs.Shape.{is_named, is_on_ways, grows_large, moved_down}
-use Rattle.vol_file.specs.Need.{missing_count, need_of}
+use Rattle.vol_file.specs.Laws.{IsAmong}
+use Rattle.vol_file.specs.Need.{missing_count, need_of, missing_places, places_taken}
 use Rattle.vol_file.specs.Rules.{IsSoundWith}
 use Rattle.vol_file.specs.Steps.{lacking, WantsWays, NamesWays, Enlarges, Fills}
 use Rattle.vol_file.specs.Missing.{grows_at}
 use Rattle.vol_file.proofs.PlaceLists.{count_among, count_none, among_places}
-use Rattle.vol_file.proofs.Alone.{elsewhere_then}
-use Rattle.vol_file.proofs.Naming.{file_same}
+use Rattle.vol_file.proofs.Alone.{elsewhere_then, keeps_then}
+use Rattle.vol_file.proofs.Naming.{place_same, file_same}
+use Rattle.vol_file.proofs.Taking.{rest_within}
+use Rattle.vol_file.proofs.Ranges.{missing_all_same}
 use Rattle.vol_file.proofs.Lasts.{or_true}
 
 -- a test that holds of what is there
@@ -102,22 +105,34 @@ wants_plain geometry image i from n blocks file sound grows room limit =
 taken_count : (blocks taken rest : List ℕ) → blocks ≡ taken ++ rest → length blocks ≡ length taken + length rest
 taken_count blocks taken rest e = ap length e ∙ length-append taken rest
 
+-- the places for which blocks are taken where the file keeps its form
+taken_plain : (form : Form) (names : List ℕ → Bool) (touches : List ℕ) → grows_large form touches ≡ false
+    → places_taken form names touches ≡ missing_places form names touches
+taken_plain form names touches grows =
+    ap (λ t. (if t then (0 ∷ []) ∷ [] else []) ++ missing_places (if t then Large else form) (if t then moved_down names else names) touches) grows
+
+-- the places for which blocks are taken where the file becomes large
+taken_large : (form : Form) (names : List ℕ → Bool) (touches : List ℕ) → grows_large form touches ≡ true
+    → places_taken form names touches ≡ (0 ∷ []) ∷ missing_places Large (moved_down names) touches
+taken_large form names touches grows =
+    ap (λ t. (if t then (0 ∷ []) ∷ [] else []) ++ missing_places (if t then Large else form) (if t then moved_down names else names) touches) grows
+
 -- all ways are named, where the file keeps its form
 pub fills_plain : (geometry : Geometry) (old new : List ℕ) (i from n : ℕ) (blocks : List ℕ) → IsFile geometry old i
     → grows_large (form_at geometry old i) (range_with_len from n) ≡ false
     → NamesWays geometry old new i (is_on_ways (form_at geometry old i) (range_with_len from n)) from n blocks
     → Fills geometry old new i (range_with_len from n) blocks
-fills_plain geometry old new i from n blocks file grows named =
+fills_plain geometry old new i from n blocks file grows ways =
     let form = form_at geometry old i in
     let touches = range_with_len from n in
-    let e = named.extends in
+    let e = ways.extends in
     let lacks = lacking_missing geometry old i form (is_named geometry old i) touches refl (λ p place. refl) in
     let need = need_plain form (is_named geometry old i) touches grows in
     let none = lacking_none geometry old new i (is_on_ways form touches) file e.mode e.names in
-    let many = taken_count blocks e.taken named.rest e.free in
+    let many = taken_count blocks e.taken ways.rest e.free in
     let form_new : form_at geometry new i ≡ form = form_same geometry old new i e.mode in
     record {
-      rest = named.rest;
+      rest = ways.rest;
       taken = e.taken;
       free = e.free;
       count = omega (arith, many, none, need, lacks, e.count);
@@ -133,6 +148,12 @@ fills_plain geometry old new i from n blocks file grows named =
           ∙ sym (ap (λ t. (if t then moved_down (is_named geometry old i) else is_named geometry old i) p
           || is_on_ways (if t then Large else form) touches p) grows);
       bytes = e.bytes;
+      kept = λ p place some. ap (λ t. named geometry new i (if t then p ++ (0 ∷ []) else p)) grows ∙ e.kept p place some;
+      moved = λ p place.
+          subst (IsPlaceOf geometry new i) (sym (ap (λ t. if t then p ++ (0 ∷ []) else p) grows)) (place_same geometry old new i p e.mode place);
+      gained = λ p among. (e.some p (subst (IsAmong p) (taken_plain form (is_named geometry old i) touches grows) among)).place;
+      order = e.order ∙ ap (map (named geometry new i)) (sym (taken_plain form (is_named geometry old i) touches grows));
+      unused = e.unused;
     }
 
 -- the ways are wanted once the file is large
@@ -158,19 +179,25 @@ pub fills_large : (geometry : Geometry) (old mid new : List ℕ) (i from n : ℕ
     → grows_large (form_at geometry old i) (range_with_len from n) ≡ true → (enlarged : Enlarges geometry old mid i blocks)
     → NamesWays geometry mid new i (is_on_ways Large (range_with_len from n)) from n enlarged.rest
     → Fills geometry old new i (range_with_len from n) blocks
-fills_large geometry old mid new i from n blocks sound file file_mid grows enlarged named =
+fills_large geometry old mid new i from n blocks sound file file_mid grows enlarged ways =
     let form = form_at geometry old i in
     let touches = range_with_len from n in
-    let e = named.extends in
+    let e = ways.extends in
     let lacks = lacking_missing geometry mid i Large (moved_down (is_named geometry old i)) touches enlarged.form enlarged.names in
     let need = need_large form (is_named geometry old i) touches grows in
     let names : (p : List ℕ) → IsPlaceOf geometry mid i p → is_named geometry new i p ≡ (is_named geometry mid i p || is_on_ways Large touches p) =
     λ p place. e.names p place ∙ ap (λ f. is_named geometry mid i p || is_on_ways f touches p) enlarged.form in
     let none = lacking_none geometry mid new i (is_on_ways Large touches) file_mid e.mode names in
-    let many = taken_count enlarged.rest e.taken named.rest e.free in
+    let many = taken_count enlarged.rest e.taken ways.rest e.free in
     let form_new : form_at geometry new i ≡ Large = form_same geometry mid new i e.mode ∙ enlarged.form in
+    let list = taken_large form (is_named geometry old i) touches grows in
+    let missing : missing_places (form_at geometry mid i) (is_named geometry mid i) touches ≡ missing_places Large (moved_down (is_named geometry old i)) touches =
+    ap (λ f. missing_places f (is_named geometry mid i) touches) enlarged.form
+    ∙ missing_all_same Large (is_named geometry mid i) (moved_down (is_named geometry old i)) touches enlarged.names in
+    let front : IsPlaceOf geometry mid i (0 ∷ []) =
+    record { file = file_mid; place = subst (λ f. IsPlace f (0 ∷ [])) (sym enlarged.form) (omega arith) } in
     record {
-      rest = named.rest;
+      rest = ways.rest;
       taken = enlarged.first ∷ e.taken;
       free = enlarged.free ∙ ap (λ xs. enlarged.first ∷ xs) e.free;
       count = omega (arith, many, none, need, lacks, e.count);
@@ -188,6 +215,23 @@ fills_large geometry old mid new i from n blocks sound file file_mid grows enlar
           ∙ sym (ap (λ t. (if t then moved_down (is_named geometry old i) else is_named geometry old i) p
           || is_on_ways (if t then Large else form) touches p) grows));
       bytes = λ m. e.bytes m ∙ enlarged.bytes m;
+      kept = λ p place some.
+          let same = enlarged.kept p place in
+          ap (λ t. named geometry new i (if t then p ++ (0 ∷ []) else p)) grows
+          ∙ (e.kept (p ++ (0 ∷ [])) (enlarged.moved p place) (λ zero. some (sym same ∙ zero)) ∙ same);
+      moved = λ p place.
+          subst (IsPlaceOf geometry new i) (sym (ap (λ t. if t then p ++ (0 ∷ []) else p) grows))
+          (place_same geometry mid new i (p ++ (0 ∷ [])) e.mode (enlarged.moved p place));
+      gained = λ p among. elim (subst (IsAmong p) list among) [
+        | inl first ↦ subst (IsPlaceOf geometry new i) (sym first) (place_same geometry mid new i (0 ∷ []) e.mode front)
+        | inr later ↦ (e.some p (subst (IsAmong p) (sym missing) later)).place
+      ];
+      order =
+          ap (λ k. k ∷ e.taken) (sym (e.kept (0 ∷ []) front (λ zero. enlarged.some (sym enlarged.is ∙ zero)) ∙ enlarged.is))
+          ∙ (ap (λ ks. named geometry new i (0 ∷ []) ∷ ks) (e.order ∙ ap (map (named geometry new i)) missing)
+          ∙ ap (map (named geometry new i)) (sym list));
+      unused = keeps_then old mid new enlarged.rest ways.rest (λ k within. rest_within k e.taken ways.rest enlarged.rest e.free within)
+          enlarged.unused e.unused;
     }
 
 -- no block of a run is its ninth or later

@@ -13,7 +13,8 @@ use Rattle.vol_layout.specs.declared.places.Form.{Form}
 use Rattle.vol_layout.specs.declared.places.Way.{Way}
 use Rattle.vol_layout.specs.declared.places.Form.TheVariants.{Small, Large, Deep}
 use Rattle.vol_layout.proofs.PlaceLaws.{front_to, way_place}
-use Rattle.vol_file.specs.Steps.{Reaches, IsWanted, MayName, IsNext, MayNameEntry, MayNameWay, WantsWay, NamesWay, has_front}
+use Rattle.vol_file.specs.Steps.{Reaches, IsWanted, MayName, IsNext, MayNameEntry, MayNameWay, WantsWay, NamesWay, has_front, unnamed_of}
+use Rattle.vol_file.specs.Shape.{is_named}
 use Rattle.vol_file.proofs.PlaceLists.{bytes_same}
 use Rattle.vol_file.proofs.Reaching.{extends_as}
 
@@ -99,8 +100,9 @@ way_named geometry old new i form wanted b blocks way d k is end all reached =
     let last = subst (λ n. Reaches geometry old new i wanted (place_to way.address way.entries n) blocks k) all reached in
     record {
       rest = last.rest;
-      extends = extends_as geometry old new i wanted (has_front (end_of way)) _ blocks last.rest
-          (λ p. sym (ap (list_any (bytes_eq p)) (way_is (form_at geometry old i) b (end_of way) e))) last.extends;
+      extends = extends_as geometry old new i wanted (has_front (end_of way)) _ (unnamed_of (is_named geometry old i) (fronts (end_of way))) _ blocks last.rest
+          (λ p. sym (ap (list_any (bytes_eq p)) (way_is (form_at geometry old i) b (end_of way) e)))
+          (sym (ap (unnamed_of (is_named geometry old i)) (way_is (form_at geometry old i) b (end_of way) e))) last.extends;
     }
 
 -- the address of the way may be named

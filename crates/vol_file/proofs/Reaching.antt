@@ -1,14 +1,17 @@
 -- One place of a way more that names something, and the way so far.
-use Rattle.std.proofs.Common.{◌≡◌, ◌≢◌, ℕ, ◌+◌, ◌*◌, ◌<◌, ◌≤◌, ◌∙◌, sym, ap, subst, List, [], ◌∷◌, ◌++◌, length, refl, arith, rules, true, false, Bool, None, Some}
+use Rattle.std.proofs.Common.{◌≡◌, ◌≢◌, ℕ, ◌+◌, ◌*◌, ◌<◌, ◌≤◌, ◌⊎◌, ◌∙◌, sym, ap, subst, List, [], ◌∷◌, ◌++◌, length, map, filter, reverse, refl, arith, rules, true, false, true≢false, Bool, None, Some, inl, inr}
 use Rattle.std.specs.Prelude.{◌&&◌, ◌||◌, not}
 use Rattle.std.specs.Str.{bytes_eq}
-use Rattle.std.proofs.lemmas.List.{append_assoc}
+use Rattle.std.proofs.lemmas.Bool.{or_cases, false_from_ne_true}
+use Rattle.std.proofs.lemmas.List.{append_assoc, map-append, reverse-append}
+use Rattle.std.proofs.lemmas.List.Elements.{filter-append}
 use Rattle.std.proofs.Math.Bool.{or-false, or_assoc}
 use Rattle.pdp_words.specs.Words.{SameOutside}
 use Rattle.vol_layout.specs.Edition.{constants, number}
 use Rattle.vol_layout.specs.Geometry.{in_zone, Fits}
 use Rattle.vol_layout.specs.Inode.{inode_place, address_at, address_bytes, address_place}
-use Rattle.vol_layout.specs.Places.{first_count, pointer_count, places}
+use Rattle.vol_layout.specs.Places.{first_count, pointer_count, fronts, places}
+use Rattle.vol_layout.specs.Laws.{IsFront}
 use Rattle.vol_layout.specs.Names.{mode_of, form_at, IsPlaceOf, named, pointer_in}
 use Rattle.vol_layout.specs.declared.geometry.Geometry.{Geometry}
 use Rattle.vol_layout.proofs.BodyLaws.{zone_bounds, zone_room}
@@ -17,21 +20,31 @@ use Rattle.vol_layout.proofs.FrameLaws.{pointers_of, addresses_few}
 use Rattle.vol_layout.proofs.NameLaws.{entry_in, zone_some}
 use Rattle.vol_layout.proofs.InodeLaws.{mode_kept}
 use Rattle.vol_free.specs.Stack.{Popped, Pops}
+use Rattle.vol_file.specs.Laws.{IsAmong}
 use Rattle.vol_file.specs.Shape.{is_named}
 use Rattle.vol_file.specs.Rules.{IsSoundWith}
-use Rattle.vol_file.specs.Steps.{lacking, Extends, Reaches, IsReady, IsWanted, IsNext, has_front}
+use Rattle.vol_file.specs.Steps.{lacking, Extends, Reaches, IsReady, IsWanted, IsNext, has_front, unnamed_of}
 use Rattle.vol_file.proofs.Stores.{Stores}
 use Rattle.vol_file.proofs.PlaceLists.{bytes_same, other_place, same_bytes, places_once}
-use Rattle.vol_file.proofs.Alone.{elsewhere_self, elsewhere_then}
+use Rattle.vol_file.proofs.Alone.{elsewhere_self, elsewhere_then, keeps_then}
 use Rattle.vol_file.proofs.Cells.{stores_address, stores_entry, entry_end}
 use Rattle.vol_file.proofs.Naming.{place_same, file_same}
-use Rattle.vol_file.proofs.Taking.{stays_inode, stays_named, first_unnamed, first_zoned, taken_sound}
+use Rattle.vol_file.proofs.Taking.{stays_inode, stays_named, first_unnamed, first_zoned, taken_sound, rest_within}
+use Rattle.vol_file.proofs.Fronts.{front_longer}
 use Rattle.vol_file.proofs.Extending.{count_less, unnamed_false, named_true, extends_one}
+
+-- what has a place as a front, by the test, has it
+pub has_front_is : (q p : List ℕ) → has_front q p ≡ true → IsFront p q
+has_front_is [] p e = absurd (true≢false (sym e))
+has_front_is (j ∷ q) p e = elim (or_cases (bytes_eq p (j ∷ q)) (has_front q p) e) [
+  | inl here ↦ inl (same_bytes p (j ∷ q) here)
+  | inr above ↦ inr (has_front_is q p above)
+]
 
 -- one step: place q names block k now
 pub record Steps (geometry : Geometry) (old new : List ℕ) (i : ℕ) (wanted : List ℕ → Bool) (q blocks : List ℕ) (k : ℕ) : Type 0 where
   pub rest : List ℕ
-  pub extends : Extends geometry old new i wanted (λ p. bytes_eq p q) blocks rest
+  pub extends : Extends geometry old new i wanted (λ p. bytes_eq p q) (unnamed_of (is_named geometry old i) (q ∷ [])) blocks rest
   pub is : named geometry new i q ≡ k
   pub some : k ≢ 0
 
@@ -43,9 +56,10 @@ or_comm false true = refl
 or_comm false false = refl
 
 -- the same set by other words
-pub extends_as : (geometry : Geometry) (old new : List ℕ) (i : ℕ) (wanted set same : List ℕ → Bool) (blocks rest : List ℕ)
-    → ((p : List ℕ) → set p ≡ same p) → Extends geometry old new i wanted set blocks rest → Extends geometry old new i wanted same blocks rest
-extends_as geometry old new i wanted set same blocks rest equal e = record {
+pub extends_as : (geometry : Geometry) (old new : List ℕ) (i : ℕ) (wanted set same : List ℕ → Bool) (gained list : List (List ℕ)) (blocks rest : List ℕ)
+    → ((p : List ℕ) → set p ≡ same p) → gained ≡ list → Extends geometry old new i wanted set gained blocks rest
+    → Extends geometry old new i wanted same list blocks rest
+extends_as geometry old new i wanted set same gained list blocks rest equal is e = record {
   alone = e.alone;
   sound = e.sound;
   covered = e.covered;
@@ -56,14 +70,30 @@ extends_as geometry old new i wanted set same blocks rest equal e = record {
   size = e.size;
   names = λ p place. e.names p place ∙ ap (λ t. is_named geometry old i p || t) (equal p);
   bytes = e.bytes;
+  kept = e.kept;
+  some = λ p among. e.some p (subst (IsAmong p) (sym is) among);
+  order = e.order ∙ ap (map (named geometry new i)) is;
+  unused = e.unused;
 }
 
+-- a member of two lists in a row is one of the first or of the second
+pub among_append : (p : List ℕ) (ps qs : List (List ℕ)) → IsAmong p (ps ++ qs) → IsAmong p ps ⊎ IsAmong p qs
+among_append p [] qs among = inr among
+among_append p (q ∷ ps) qs (inl e) = inl (inl e)
+among_append p (q ∷ ps) qs (inr later) = elim (among_append p ps qs later) [ inl first ↦ inl (inr first) | inr second ↦ inr second ]
+
+-- the names of a list of places, where each is the same
+pub map_same : (f g : List ℕ → ℕ) (ps : List (List ℕ)) → ((p : List ℕ) → IsAmong p ps → f p ≡ g p) → map f ps ≡ map g ps
+map_same f g [] same = refl
+map_same f g (p ∷ ps) same =
+    ap (λ k. k ∷ map f ps) (same p (inl refl)) ∙ ap (λ ks. g p ∷ ks) (map_same f g ps (λ q among. same q (inr among)))
+
 -- two steps one after the other
-pub extends_then : (geometry : Geometry) (old mid new : List ℕ) (i : ℕ) (wanted first second : List ℕ → Bool) (blocks some rest : List ℕ)
-    → IsReady geometry old i wanted blocks
-    → Extends geometry old mid i wanted first blocks some → Extends geometry mid new i wanted second some rest
-    → Extends geometry old new i wanted (λ p. first p || second p) blocks rest
-extends_then geometry old mid new i wanted first second blocks some rest ready e f = record {
+pub extends_then : (geometry : Geometry) (old mid new : List ℕ) (i : ℕ) (wanted first second : List ℕ → Bool) (gained more : List (List ℕ))
+    (blocks some rest : List ℕ) → IsReady geometry old i wanted blocks
+    → Extends geometry old mid i wanted first gained blocks some → Extends geometry mid new i wanted second more some rest
+    → Extends geometry old new i wanted (λ p. first p || second p) (gained ++ more) blocks rest
+extends_then geometry old mid new i wanted first second gained more blocks some rest ready e f = record {
   alone = elsewhere_then geometry old mid new i ready.sound.fits ready.file.first e.alone f.alone;
   sound = f.sound;
   covered = λ all. f.covered (e.covered all);
@@ -75,6 +105,23 @@ extends_then geometry old mid new i wanted first second blocks some rest ready e
   names = λ p place. f.names p (place_same geometry old mid i p e.mode place)
       ∙ (ap (λ t. t || second p) (e.names p place) ∙ or_assoc (is_named geometry old i p) (first p) (second p));
   bytes = λ n. f.bytes n ∙ e.bytes n;
+  kept = λ p place some.
+      let same = e.kept p place some in
+      f.kept p (place_same geometry old mid i p e.mode place) (λ zero. some (sym same ∙ zero)) ∙ same;
+  some = λ p among. elim (among_append p gained more among) [
+    | inl early ↦
+        let has = e.some p early in
+        record {
+          place = place_same geometry mid new i p f.mode has.place;
+          some = λ zero. has.some (sym (f.kept p has.place has.some) ∙ zero);
+        }
+    | inr late ↦ f.some p late
+  ];
+  order =
+      ap (λ xs. xs ++ f.taken) (e.order ∙ map_same (named geometry mid i) (named geometry new i) gained
+      (λ p among. let has = e.some p among in sym (f.kept p has.place has.some)))
+      ∙ (ap (λ xs. map (named geometry new i) gained ++ xs) f.order ∙ sym (map-append (named geometry new i) gained more));
+  unused = keeps_then old mid new some rest (λ k within. rest_within k f.taken rest some f.free within) e.unused f.unused;
 }
 
 -- what is there is there with a part of it
@@ -85,7 +132,7 @@ or_there false false h = refl
 
 -- nothing is done where the places of the set name something
 pub extends_none : (geometry : Geometry) (image : List ℕ) (i : ℕ) (wanted set : List ℕ → Bool) (blocks : List ℕ) → IsSoundWith geometry image blocks
-    → ((p : List ℕ) → set p ≡ true → is_named geometry image i p ≡ true) → Extends geometry image image i wanted set blocks blocks
+    → ((p : List ℕ) → set p ≡ true → is_named geometry image i p ≡ true) → Extends geometry image image i wanted set [] blocks blocks
 extends_none geometry image i wanted set blocks sound all = record {
   alone = elsewhere_self geometry image i;
   sound = sound;
@@ -97,12 +144,16 @@ extends_none geometry image i wanted set blocks sound all = record {
   size = refl;
   names = λ p place. or_there (is_named geometry image i p) (set p) (all p);
   bytes = λ n. refl;
+  kept = λ p place some. refl;
+  some = λ p among. absurd among;
+  order = refl;
+  unused = λ k r within low. refl;
 }
 
 -- there is room left after a step
-pub ready_after : (geometry : Geometry) (old new : List ℕ) (i : ℕ) (wanted set : List ℕ → Bool) (blocks rest : List ℕ)
-    → IsReady geometry old i wanted blocks → Extends geometry old new i wanted set blocks rest → IsReady geometry new i wanted rest
-ready_after geometry old new i wanted set blocks rest ready e = record {
+pub ready_after : (geometry : Geometry) (old new : List ℕ) (i : ℕ) (wanted set : List ℕ → Bool) (gained : List (List ℕ)) (blocks rest : List ℕ)
+    → IsReady geometry old i wanted blocks → Extends geometry old new i wanted set gained blocks rest → IsReady geometry new i wanted rest
+ready_after geometry old new i wanted set gained blocks rest ready e = record {
   file = file_same geometry old new i e.mode ready.file;
   sound = e.sound;
   room = omega (arith, e.count, ready.room);
@@ -148,13 +199,28 @@ pops_some geometry old new (c ∷ rest) b pops =
     let e : b ≡ c = some_same b c pops.0 in
     record { rest = rest; is = ap (λ x. x ∷ rest) (sym e); popped = subst (λ x. Popped geometry old new x rest) (sym e) pops.1 }
 
+-- a place that names something isn't among those that don't
+unnamed_none : (names : List ℕ → Bool) (q : List ℕ) → names q ≡ true → unnamed_of names (q ∷ []) ≡ []
+unnamed_none names q e = rw e refl
+
+-- a place that names nothing is one of those that don't
+unnamed_one : (names : List ℕ → Bool) (q : List ℕ) → names q ≡ false → unnamed_of names (q ∷ []) ≡ q ∷ []
+unnamed_one names q e = rw e refl
+
+-- a place after its fronts
+unnamed_step : (names : List ℕ → Bool) (q : List ℕ) (qs : List (List ℕ)) → unnamed_of names (q ∷ qs) ≡ unnamed_of names qs ++ unnamed_of names (q ∷ [])
+unnamed_step names q qs =
+    ap (filter (λ p. not (names p))) (reverse-append (q ∷ []) qs) ∙ filter-append (λ p. not (names p)) (reverse qs) (q ∷ [])
+
 -- a place that names something needs no step
 pub steps_named : (geometry : Geometry) (image : List ℕ) (i : ℕ) (wanted : List ℕ → Bool) (q blocks : List ℕ) (k : ℕ)
     → IsWanted geometry image i wanted q blocks → named geometry image i q ≡ k → k ≢ 0 → Steps geometry image image i wanted q blocks k
 steps_named geometry image i wanted q blocks k want is some = record {
   rest = blocks;
-  extends = extends_none geometry image i wanted (λ p. bytes_eq p q) blocks want.ready.sound
-      (λ p e. named_true geometry image i p (λ zero. some (sym is ∙ (ap (named geometry image i) (sym (same_bytes p q e)) ∙ zero))));
+  extends = extends_as geometry image image i wanted (λ p. bytes_eq p q) (λ p. bytes_eq p q) [] (unnamed_of (is_named geometry image i) (q ∷ [])) blocks blocks
+      (λ p. refl) (sym (unnamed_none (is_named geometry image i) q (named_true geometry image i q (λ zero. some (sym is ∙ zero)))))
+      (extends_none geometry image i wanted (λ p. bytes_eq p q) blocks want.ready.sound
+      (λ p e. named_true geometry image i p (λ zero. some (sym is ∙ (ap (named geometry image i) (sym (same_bytes p q e)) ∙ zero)))));
   is = is;
   some = some;
 }
@@ -181,8 +247,10 @@ steps_taken geometry old mid new i wanted q blocks b want none pops stores =
     (λ p place. stays_named geometry old mid b 512 i p sound.fits first.popped.stays (omega arith) zoned (first_unnamed geometry old b first.rest sound) place) in
     record {
       rest = first.rest;
-      extends = subst (λ xs. Extends geometry old new i wanted (λ p. bytes_eq p q) xs first.rest) (sym first.is)
-          (extends_one geometry old mid new i b q first.rest wanted sound want.place none want.want first.popped put);
+      extends = subst (λ xs. Extends geometry old new i wanted (λ p. bytes_eq p q) (unnamed_of (is_named geometry old i) (q ∷ [])) xs first.rest) (sym first.is)
+          (subst (λ qs. Extends geometry old new i wanted (λ p. bytes_eq p q) qs (b ∷ first.rest) first.rest)
+          (sym (unnamed_one (is_named geometry old i) q (unnamed_false geometry old i q none)))
+          (extends_one geometry old mid new i b q first.rest wanted sound want.place none want.want first.popped put));
       is = put.here;
       some = zone_some geometry old b sound.fits zoned;
     }
@@ -214,11 +282,27 @@ pub reaches_first : (geometry : Geometry) (old new : List ℕ) (i : ℕ) (wanted
     → Steps geometry old new i wanted (k ∷ []) blocks b → Reaches geometry old new i wanted (k ∷ []) blocks b
 reaches_first geometry old new i wanted k blocks b steps = record {
   rest = steps.rest;
-  extends = extends_as geometry old new i wanted (λ p. bytes_eq p (k ∷ [])) (has_front (k ∷ [])) blocks steps.rest
-      (λ p. sym (or-false (bytes_eq p (k ∷ [])))) steps.extends;
+  extends = extends_as geometry old new i wanted (λ p. bytes_eq p (k ∷ [])) (has_front (k ∷ []))
+      (unnamed_of (is_named geometry old i) ((k ∷ []) ∷ [])) (unnamed_of (is_named geometry old i) (fronts (k ∷ []))) blocks steps.rest
+      (λ p. sym (or-false (bytes_eq p (k ∷ [])))) refl steps.extends;
   is = steps.is;
   some = steps.some;
 }
+
+-- one place alone, by the same answer
+unnamed_same : (names same : List ℕ → Bool) (q : List ℕ) → names q ≡ same q → unnamed_of names (q ∷ []) ≡ unnamed_of same (q ∷ [])
+unnamed_same names same q e = rw e refl
+
+-- a place is none of the fronts of what it lies below
+front_below : (j : ℕ) (p : List ℕ) → has_front p (j ∷ p) ≡ false
+front_below j p = false_from_ne_true (has_front p (j ∷ p)) (λ e. front_longer j p (has_front_is p (j ∷ p) e))
+
+-- whether an entry names something isn't changed by naming the fronts of its block
+next_same : (geometry : Geometry) (old mid : List ℕ) (i : ℕ) (wanted : List ℕ → Bool) (j a : ℕ) (p blocks : List ℕ) (m : ℕ)
+    → IsNext geometry old mid i wanted j a p blocks m → is_named geometry mid i (j ∷ (a ∷ p)) ≡ is_named geometry old i (j ∷ (a ∷ p))
+next_same geometry old mid i wanted j a p blocks m next =
+    next.reached.extends.names (j ∷ (a ∷ p)) next.want.place
+    ∙ (ap (λ t. is_named geometry old i (j ∷ (a ∷ p)) || t) (front_below j (a ∷ p)) ∙ or-false (is_named geometry old i (j ∷ (a ∷ p))))
 
 -- an entry reached by a step from where its block was reached
 pub reaches_next : (geometry : Geometry) (old mid new : List ℕ) (i : ℕ) (wanted : List ℕ → Bool) (j a : ℕ) (p blocks : List ℕ) (m b : ℕ)
@@ -226,10 +310,16 @@ pub reaches_next : (geometry : Geometry) (old mid new : List ℕ) (i : ℕ) (wan
     → Reaches geometry old new i wanted (j ∷ (a ∷ p)) blocks b
 reaches_next geometry old mid new i wanted j a p blocks m b next steps = record {
   rest = steps.rest;
-  extends = extends_as geometry old new i wanted (λ q. has_front (a ∷ p) q || bytes_eq q (j ∷ (a ∷ p))) (has_front (j ∷ (a ∷ p))) blocks steps.rest
+  extends = extends_as geometry old new i wanted (λ q. has_front (a ∷ p) q || bytes_eq q (j ∷ (a ∷ p))) (has_front (j ∷ (a ∷ p)))
+      (unnamed_of (is_named geometry old i) (fronts (a ∷ p)) ++ unnamed_of (is_named geometry mid i) ((j ∷ (a ∷ p)) ∷ []))
+      (unnamed_of (is_named geometry old i) (fronts (j ∷ (a ∷ p)))) blocks steps.rest
       (λ q. or_comm (has_front (a ∷ p) q) (bytes_eq q (j ∷ (a ∷ p))))
-      (extends_then geometry old mid new i wanted (has_front (a ∷ p)) (λ q. bytes_eq q (j ∷ (a ∷ p))) blocks next.reached.rest steps.rest
-      next.want.ready next.reached.extends steps.extends);
+      (ap (λ qs. unnamed_of (is_named geometry old i) (fronts (a ∷ p)) ++ qs)
+      (unnamed_same (is_named geometry mid i) (is_named geometry old i) (j ∷ (a ∷ p)) (next_same geometry old mid i wanted j a p blocks m next))
+      ∙ sym (unnamed_step (is_named geometry old i) (j ∷ (a ∷ p)) (fronts (a ∷ p))))
+      (extends_then geometry old mid new i wanted (has_front (a ∷ p)) (λ q. bytes_eq q (j ∷ (a ∷ p)))
+      (unnamed_of (is_named geometry old i) (fronts (a ∷ p))) (unnamed_of (is_named geometry mid i) ((j ∷ (a ∷ p)) ∷ []))
+      blocks next.reached.rest steps.rest next.want.ready next.reached.extends steps.extends);
   is = steps.is;
   some = steps.some;
 }
@@ -238,7 +328,7 @@ reaches_next geometry old mid new i wanted j a p blocks m b next steps = record 
 pub wanted_next : (geometry : Geometry) (old mid : List ℕ) (i : ℕ) (wanted : List ℕ → Bool) (j a : ℕ) (p blocks : List ℕ) (m : ℕ)
     → (next : IsNext geometry old mid i wanted j a p blocks m) → IsWanted geometry mid i wanted (j ∷ (a ∷ p)) next.reached.rest
 wanted_next geometry old mid i wanted j a p blocks m next = record {
-  ready = ready_after geometry old mid i wanted (has_front (a ∷ p)) blocks next.reached.rest next.want.ready next.reached.extends;
+  ready = ready_after geometry old mid i wanted (has_front (a ∷ p)) (unnamed_of (is_named geometry old i) (fronts (a ∷ p))) blocks next.reached.rest next.want.ready next.reached.extends;
   place = place_same geometry old mid i (j ∷ (a ∷ p)) next.reached.extends.mode next.want.place;
   want = next.want.want;
 }

@@ -19,11 +19,11 @@ use Rattle.vol_layout.proofs.FrameLaws.{named_kept, zone_byte_kept}
 use Rattle.vol_layout.proofs.PlaceLaws.{last_leaf}
 use Rattle.vol_free.specs.Stack.{IsIn, IsFree}
 use Rattle.vol_free.proofs.Stacks.{head_end}
-use Rattle.vol_free.proofs.Frames.{IsFree-before_zone}
-use Rattle.vol_file.specs.Changes.{is_kept_byte}
+use Rattle.vol_free.proofs.Frames.{free_zone, IsFree-before_zone}
+use Rattle.vol_file.specs.Changes.{is_kept_byte, KeepsBlocks}
 use Rattle.vol_file.specs.Rules.{size_of, IsSoundWith, IsCovered}
 use Rattle.vol_file.specs.Steps.{StaysElsewhere, Rewrites, Puts, text_at, zeros_at}
-use Rattle.vol_file.proofs.Alone.{fits_len, elsewhere_then, elsewhere_inode}
+use Rattle.vol_file.proofs.Alone.{fits_len, elsewhere_then, elsewhere_inode, keeps_then}
 use Rattle.vol_file.proofs.Cells.{number_above, names_zoned}
 use Rattle.vol_file.proofs.Naming.{kinds_kept, links_kept, modes_kept, file_same, place_same}
 use Rattle.vol_file.proofs.Extending.{body_same}
@@ -70,6 +70,7 @@ pub record Resized (geometry : Geometry) (old new : List ℕ) (i s : ℕ) (block
   pub names : (p : List ℕ) → IsPlaceOf geometry old i p → named geometry new i p ≡ named geometry old i p
   pub size : size_of geometry new i ≡ s
   pub bytes : (n : ℕ) → body_byte geometry new i n ≡ body_byte geometry old i n
+  pub unused : KeepsBlocks old new blocks
 
 -- a write of the size
 pub resized : (geometry : Geometry) (old new blocks : List ℕ) (i s : ℕ) → IsSoundWith geometry old blocks → IsFile geometry old i
@@ -136,6 +137,9 @@ resized geometry old new blocks i s sound file same put great low =
           ∙ zone_byte_kept geometry old new (named geometry old i p) r
           (λ zone. let bounds = zone_bounds geometry (named geometry old i p) zone in
           same.above (512 * named geometry old i p + r) (omega (arith, within.1, within.2, room, bounds.0))));
+      unused = λ k r inside low.
+          let bounds = zone_bounds geometry k (free_zone free k inside) in
+          same.above (512 * k + r) (omega (arith, within.1, within.2, room, bounds.0));
     }
 
 -- zeros up to the offset, then the text, then the size
@@ -161,4 +165,6 @@ puts geometry old a b new blocks i offset from text sound file is r s t =
       gap = λ n past before. t.bytes n ∙ (s.below n before ∙ r.inside n (omega (arith, is, past, before)) before);
       middle = λ n after before. t.bytes n ∙ s.inside n after before;
       high = λ n past. t.bytes n ∙ (s.above n past ∙ r.above n (omega arith));
+      unused = keeps_then old a new blocks blocks (λ k within. within) r.unused
+          (keeps_then a b new blocks blocks (λ k within. within) s.unused t.unused);
     }

@@ -1,5 +1,5 @@
 -- What taking a block from the free list leaves, and putting it at a place of a file.
-use Rattle.std.proofs.Common.{◌≡◌, ◌≢◌, ℕ, ◌+◌, ◌*◌, ◌≤◌, ◌∙◌, sym, ap, subst, List, ◌∷◌, refl, arith, inl, inr, true}
+use Rattle.std.proofs.Common.{◌≡◌, ◌≢◌, ℕ, ◌+◌, ◌*◌, ◌≤◌, ◌∙◌, sym, ap, subst, List, [], ◌∷◌, ◌++◌, refl, arith, inl, inr, true}
 use Rattle.pdp_words.specs.Words.{word}
 use Rattle.vol_layout.specs.Edition.{constants}
 use Rattle.vol_layout.specs.Geometry.{in_zone, Fits}
@@ -154,6 +154,11 @@ first_once geometry image b rest sound = sound.free.once.0
 pub rest_in : (b k : ℕ) (rest : List ℕ) → IsIn k rest → IsIn k (b ∷ rest)
 unfolding IsIn
 rest_in b k rest within = inr within
+
+-- what is free after some more were taken was free before
+pub rest_within : (k : ℕ) (taken rest blocks : List ℕ) → blocks ≡ taken ++ rest → IsIn k rest → IsIn k blocks
+rest_within k [] rest blocks e within = subst (IsIn k) (sym e) within
+rest_within k (b ∷ taken) rest blocks e within = subst (IsIn k) (sym e) (rest_in b k (taken ++ rest) (rest_within k taken rest (taken ++ rest) refl within))
 
 -- the rules hold with the others once the first block was taken
 pub taken_sound : (geometry : Geometry) (old new : List ℕ) (b : ℕ) (rest : List ℕ) → IsSoundWith geometry old (b ∷ rest)

@@ -27,6 +27,7 @@ use Rattle.vol_file.specs.Changes.{is_kept_byte, blocks_of, truncated_mode, Trun
 use Rattle.vol_file.specs.Steps.{StaysElsewhere}
 use Rattle.vol_file.specs.Clears.{IsUnder, Clears}
 use Rattle.vol_file.proofs.Alone.{fits_len, elsewhere_names, elsewhere_then, elsewhere_changes}
+use Rattle.vol_file.proofs.Taking.{rest_within}
 use Rattle.vol_file.proofs.Cells.{names_zoned}
 use Rattle.vol_file.proofs.Fronts.{front_zero}
 use Rattle.vol_file.proofs.Soundness.{Lessens, named_before, sound_after}
@@ -168,6 +169,9 @@ truncated geometry old low new blocks i fits file clear end =
       size = end.size;
       body = body_empty geometry new i end.size;
       names = λ p place. ends_named geometry old low new blocks i p file clear end place;
+      unused = λ k r inside small.
+          let bounds = zone_bounds geometry k (free_zone free k (rest_within k (blocks_of geometry old i) blocks after refl inside)) in
+          end.same.above (512 * k + r) (omega (arith, within.2, room, bounds.0)) ∙ clear.unused k r inside small;
     }
 
 -- the last steps in the sixth edition: the size is 0, and the mode has no large flag

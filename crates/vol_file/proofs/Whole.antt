@@ -1,5 +1,5 @@
 -- A whole write: the places named, then the bytes.
-use Rattle.std.proofs.Common.{◌≡◌, ◌≢◌, ℕ, zero, suc, ◌+◌, ◌-◌, ◌/◌, ◌<◌, ◌≤◌, ◌∙◌, sym, ap, subst, List, length, max, min, arith, true, false, eqb}
+use Rattle.std.proofs.Common.{◌≡◌, ◌≢◌, ℕ, zero, suc, ◌+◌, ◌-◌, ◌/◌, ◌<◌, ◌≤◌, ◌∙◌, sym, ap, subst, List, length, map, max, min, arith, true, false, eqb}
 use Rattle.std.specs.Prelude.{◌||◌, not}
 use Rattle.std.specs.List.{list_any, range_with_len}
 use Rattle.std.specs.Str.{bytes_eq}
@@ -14,11 +14,12 @@ use Rattle.vol_layout.proofs.PlaceLaws.{last_leaf, has_way, front_self}
 use Rattle.vol_layout.proofs.NameLaws.{stored_is}
 use Rattle.vol_layout.proofs.BodyLaws.{length-body, get_or-body}
 use Rattle.vol_file.specs.Shape.{is_named, touched, is_on_ways, fit_names, filled}
-use Rattle.vol_file.specs.Need.{need_of, need}
+use Rattle.vol_file.specs.Need.{need_of, need, places_taken}
 use Rattle.vol_file.specs.Rules.{size_of, IsSoundWith}
-use Rattle.vol_file.specs.Changes.{Writes, mode_after, spliced}
+use Rattle.vol_file.specs.Changes.{Writes, mode_after, place_after, spliced}
 use Rattle.vol_file.specs.Steps.{Fills, Puts, HasRoom}
-use Rattle.vol_file.proofs.Alone.{elsewhere_then, elsewhere_changes}
+use Rattle.vol_file.proofs.Alone.{elsewhere_then, elsewhere_changes, keeps_then}
+use Rattle.vol_file.proofs.Reaching.{map_same}
 use Rattle.vol_file.proofs.Extending.{unnamed_false}
 use Rattle.vol_file.proofs.Lasts.{front_true, way_is, or_true}
 use Rattle.vol_file.proofs.Ranges.{is_on_at}
@@ -118,6 +119,15 @@ writes geometry old mid new i offset text touches blocks file sound great run fi
           let at : IsPlace (form_at geometry mid i) p = subst (λ f. IsPlace f p) form_new place in
           ap (λ m. not (eqb m 0)) (puts.names p (record { file = fills.file; place = at }))
           ∙ (fills.names p at ∙ ap (λ t. filled (form_at geometry old i) (is_named geometry old i) t p) (sym run));
+      kept = λ p place some.
+          ap (λ t. named geometry new i (place_after (form_at geometry old i) t p)) run
+          ∙ (puts.names (place_after (form_at geometry old i) touches p) (fills.moved p place) ∙ fills.kept p place some);
+      order =
+          fills.order
+          ∙ (map_same (named geometry mid i) (named geometry new i) (places_taken (form_at geometry old i) (is_named geometry old i) touches)
+          (λ p among. sym (puts.names p (fills.gained p among)))
+          ∙ ap (λ t. map (named geometry new i) (places_taken (form_at geometry old i) (is_named geometry old i) t)) (sym run));
+      unused = keeps_then old mid new fills.rest fills.rest (λ k within. within) fills.unused puts.unused;
     }
 
 -- a length that isn't 0 is at least 1

@@ -1,5 +1,5 @@
 -- What a write and a truncation leave.
-use Rattle.std.specs.Prelude.{◌≡◌, ◌≢◌, ℕ, ◌+◌, ◌-◌, ◌*◌, ◌<◌, ◌≤◌, ◌==◌, ◌&&◌, ◌||◌, Bool, true, false, not, max, nat_lt, nat_le, if◌then◌else◌, List, [], ◌++◌, length, map, filter, take, drop, replicate, slice_index}
+use Rattle.std.specs.Prelude.{◌≡◌, ◌≢◌, ℕ, ◌+◌, ◌-◌, ◌*◌, ◌<◌, ◌≤◌, ◌==◌, ◌&&◌, ◌||◌, Bool, true, false, not, max, nat_lt, nat_le, if◌then◌else◌, List, [], ◌∷◌, ◌++◌, length, map, filter, take, drop, replicate, slice_index}
 use Rattle.vol_layout.specs.Edition.{constants}
 use Rattle.vol_layout.specs.Inode.{inode_place, with_large}
 use Rattle.vol_layout.specs.Super.{free_head}
@@ -7,8 +7,10 @@ use Rattle.vol_layout.specs.Places.{IsPlace, places}
 use Rattle.vol_layout.specs.Names.{mode_of, form_at, IsFile, IsPlaceOf, named, Names}
 use Rattle.vol_layout.specs.Body.{body}
 use Rattle.vol_file.specs.Shape.{is_named, touched, grows_large, filled}
-use Rattle.vol_file.specs.Need.{need}
+use Rattle.vol_file.specs.Need.{need, places_taken}
 use Rattle.vol_file.specs.Rules.{size_of, IsSoundWith, IsCovered}
+use Rattle.vol_free.specs.Stack.{IsIn}
+use Rattle.vol_layout.specs.declared.places.Form.{Form}
 use Rattle.vol_layout.specs.declared.edition.Edition.{Edition}
 use Rattle.vol_layout.specs.declared.edition.Edition.TheVariants.{V6, V7}
 use Rattle.vol_layout.specs.declared.geometry.Geometry.{Geometry}
@@ -35,6 +37,10 @@ pub record ChangesFileAlone (geometry : Geometry) (old new : List ℕ) (i : ℕ)
   pub bodies : (j : ℕ) → j ≢ i → IsFile geometry old j → body geometry new j ≡ body geometry old j
   pub behind : (k : ℕ) → 512 * geometry.zone_end ≤ k → slice_index new k ≡ slice_index old k
 
+-- these blocks keep all their bytes (a frame)
+abbrev pub KeepsBlocks : List ℕ → List ℕ → List ℕ → Type 0
+KeepsBlocks old new blocks = (k r : ℕ) → IsIn k blocks → r < 512 → slice_index new (512 * k + r) ≡ slice_index old (512 * k + r)
+
 -- bytes with others put at an offset over them, and zeros between their end and the offset (Lions on
 -- writei; the zeros are this project's)
 abbrev pub spliced : List ℕ → ℕ → List ℕ → List ℕ
@@ -45,8 +51,14 @@ abbrev pub mode_after : Geometry → List ℕ → ℕ → List ℕ → ℕ
 mode_after geometry image i blocks =
     if grows_large (form_at geometry image i) blocks then with_large (mode_of geometry image i) true else mode_of geometry image i
 
+-- where a place of a file stands once these logical blocks are touched: `[k]` of a small file that becomes large is entry k of
+-- the block that `[0]` names (Lions on bmap)
+abbrev pub place_after : Form → List ℕ → List ℕ → List ℕ
+place_after form blocks p = if grows_large form blocks then p ++ (0 ∷ []) else p
+
 -- a write of at least one byte at an offset of file i, where `blocks` were free: those taken are the first of them, as
--- many as are needed, and the rest stay free (Lions on writei and bmap)
+-- many as are needed, each for one of the places that lacked a block, in their order; the rest stay free, and keep their
+-- bytes; a place that named something names it still (Lions on writei and bmap)
 pub record Writes (geometry : Geometry) (old new : List ℕ) (i offset : ℕ) (text blocks : List ℕ) : Type 0 where
   pub taken : List ℕ
   pub rest : List ℕ
@@ -60,6 +72,10 @@ pub record Writes (geometry : Geometry) (old new : List ℕ) (i offset : ℕ) (t
   pub body : body geometry new i ≡ spliced (body geometry old i) offset text
   pub names : (p : List ℕ) → IsPlace (form_at geometry new i) p
       → is_named geometry new i p ≡ filled (form_at geometry old i) (is_named geometry old i) (touched offset (length text)) p
+  pub kept : (p : List ℕ) → IsPlaceOf geometry old i p → named geometry old i p ≢ 0
+      → named geometry new i (place_after (form_at geometry old i) (touched offset (length text)) p) ≡ named geometry old i p
+  pub order : taken ≡ map (named geometry new i) (places_taken (form_at geometry old i) (is_named geometry old i) (touched offset (length text)))
+  pub unused : KeepsBlocks old new rest
 
 -- the blocks that a file names, in the order of its places (Lions on itrunc)
 unfoldable pub blocks_of : Geometry → List ℕ → ℕ → List ℕ
@@ -71,7 +87,7 @@ truncated_mode V6 mode = with_large mode false
 truncated_mode V7 mode = mode
 
 -- a truncation of file i to nothing, where `blocks` were free: its blocks lie upon them, in the order of its places,
--- since they are given back from the last place to the first (Lions on itrunc)
+-- since they are given back from the last place to the first, and those that were free keep their bytes (Lions on itrunc)
 pub record Truncates (geometry : Geometry) (old new : List ℕ) (i : ℕ) (blocks : List ℕ) : Type 0 where
   pub sound : IsSoundWith geometry new (blocks_of geometry old i ++ blocks)
   pub covered : IsCovered geometry old blocks → IsCovered geometry new (blocks_of geometry old i ++ blocks)
@@ -80,3 +96,4 @@ pub record Truncates (geometry : Geometry) (old new : List ℕ) (i : ℕ) (block
   pub size : size_of geometry new i ≡ 0
   pub body : body geometry new i ≡ []
   pub names : (p : List ℕ) → IsPlaceOf geometry new i p → named geometry new i p ≡ 0
+  pub unused : KeepsBlocks old new blocks

@@ -6,6 +6,7 @@ use Rattle.vol_layout.specs.Places.{levels_below, places_from}
 use Rattle.vol_layout.specs.Laws.{IsFront}
 use Rattle.vol_layout.specs.Names.{mode_of, form_at, IsPlaceOf, named}
 use Rattle.vol_file.specs.Rules.{size_of, IsSoundWith, IsCovered}
+use Rattle.vol_file.specs.Changes.{KeepsBlocks}
 use Rattle.vol_file.specs.Steps.{StaysElsewhere}
 use Rattle.vol_layout.specs.declared.geometry.Geometry.{Geometry}
 
@@ -50,6 +51,7 @@ pub record Clears (geometry : Geometry) (old new : List ℕ) (i : ℕ) (Cleared 
   pub less : (q : List ℕ) → IsPlaceOf geometry old i q → (named geometry new i q ≡ named geometry old i q) ⊎ (named geometry new i q ≡ 0)
   pub gone : (q : List ℕ) → IsPlaceOf geometry old i q → Cleared q → named geometry new i q ≡ 0
   pub kept : (q : List ℕ) → IsPlaceOf geometry old i q → (Cleared q → ⊥) → named geometry new i q ≡ named geometry old i q
+  pub unused : KeepsBlocks old new blocks
 
 -- where place q of file i names b and nothing below it names anything, it names nothing any more, and b is free (Lions on itrunc)
 abbrev pub Drops : Geometry → List ℕ → List ℕ → ℕ → List ℕ → ℕ → List ℕ → Type 0

@@ -1,8 +1,9 @@
--- How many blocks a write takes. (Lions on bmap.)
-use Rattle.std.specs.Prelude.{ℕ, ◌+◌, ◌&&◌, Bool, not, if◌then◌else◌, List}
-use Rattle.std.specs.List.{count_by}
+-- How many blocks a write takes, and for which places. (Lions on bmap.)
+use Rattle.std.specs.Prelude.{ℕ, ◌+◌, ◌&&◌, ◌||◌, Bool, not, if◌then◌else◌, List, [], ◌∷◌, ◌++◌, filter, reverse}
+use Rattle.std.specs.List.{count_by, list_any}
+use Rattle.std.specs.Str.{bytes_eq}
 use Rattle.vol_layout.specs.Names.{form_at}
-use Rattle.vol_layout.specs.Places.{places}
+use Rattle.vol_layout.specs.Places.{way, places}
 use Rattle.vol_file.specs.Shape.{is_named, touched, is_on_ways, grows_large, fit_form, fit_names}
 use Rattle.vol_layout.specs.declared.geometry.Geometry.{Geometry}
 use Rattle.vol_layout.specs.declared.places.Form.{Form}
@@ -20,3 +21,20 @@ need_of form names blocks =
 -- how many blocks a write of len bytes from an offset on needs in i-node i (Lions on bmap)
 abbrev pub need : Geometry → List ℕ → ℕ → ℕ → ℕ → ℕ
 need geometry image i offset len = need_of (form_at geometry image i) (is_named geometry image i) (touched offset len)
+
+-- the places on the way of a logical block that name nothing, from the i-node down (Lions on bmap)
+abbrev pub missing_on_way : Form → (List ℕ → Bool) → ℕ → List (List ℕ)
+missing_on_way form names b = filter (λ p. not (names p)) (reverse (way form b))
+
+-- the places on the ways of these logical blocks that name nothing, block by block and from the i-node down, each at the first
+-- block on whose way it is (Lions on bmap; the order is this project's)
+unfoldable pub missing_places : Form → (List ℕ → Bool) → List ℕ → List (List ℕ)
+missing_places form names [] = []
+missing_places form names (b ∷ blocks) =
+    missing_on_way form names b ++ missing_places form (λ p. names p || list_any (bytes_eq p) (way form b)) blocks
+
+-- the places for which blocks are taken when these logical blocks are touched, in the order in which they are taken: `[0]` first
+-- where the file becomes large, then those that are missing (Lions on bmap; the order is this project's)
+abbrev pub places_taken : Form → (List ℕ → Bool) → List ℕ → List (List ℕ)
+places_taken form names blocks =
+    (if grows_large form blocks then (0 ∷ []) ∷ [] else []) ++ missing_places (fit_form form blocks) (fit_names form names blocks) blocks

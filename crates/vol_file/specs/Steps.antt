@@ -1,5 +1,5 @@
 -- What single steps of a change of one file leave, from which the whole change is put together.
-use Rattle.std.specs.Prelude.{◌≡◌, ◌≢◌, ℕ, ◌+◌, ◌-◌, ◌*◌, ◌<◌, ◌≤◌, ◌&&◌, ◌||◌, Bool, not, max, true, List, ◌∷◌, ◌++◌, length, slice_index}
+use Rattle.std.specs.Prelude.{◌≡◌, ◌≢◌, ℕ, ◌+◌, ◌-◌, ◌*◌, ◌<◌, ◌≤◌, ◌&&◌, ◌||◌, Bool, not, max, true, List, [], ◌∷◌, ◌++◌, length, map, filter, reverse, slice_index}
 use Rattle.std.specs.List.{count_by, list_any, range_with_len}
 use Rattle.std.specs.Str.{bytes_eq}
 use Rattle.vol_layout.specs.Edition.{constants}
@@ -9,9 +9,10 @@ use Rattle.vol_layout.specs.Places.{IsPlace, block_limit, fronts, way, places}
 use Rattle.vol_layout.specs.Body.{body_byte}
 use Rattle.vol_layout.specs.Names.{mode_of, form_at, IsFile, IsPlaceOf, named, Names}
 use Rattle.vol_file.specs.Shape.{is_named, is_on_ways, moved_down, fit_form, filled}
-use Rattle.vol_file.specs.Need.{need_of}
+use Rattle.vol_file.specs.Laws.{IsAmong}
+use Rattle.vol_file.specs.Need.{need_of, missing_on_way, missing_places, places_taken}
 use Rattle.vol_file.specs.Rules.{size_of, IsSoundWith, IsCovered}
-use Rattle.vol_file.specs.Changes.{is_kept_byte, mode_after}
+use Rattle.vol_file.specs.Changes.{is_kept_byte, mode_after, place_after, KeepsBlocks}
 use Rattle.vol_layout.specs.declared.geometry.Geometry.{Geometry}
 use Rattle.vol_layout.specs.declared.places.Form.TheVariants.{Large}
 
@@ -34,9 +35,15 @@ pub record StaysElsewhere (geometry : Geometry) (old new : List ℕ) (i : ℕ) :
 unfoldable pub lacking : Geometry → List ℕ → ℕ → (List ℕ → Bool) → ℕ
 lacking geometry image i wanted = count_by (λ p. wanted p && not (is_named geometry image i p)) (places (form_at geometry image i))
 
--- the places of a set of file i's name something now, each that didn't by the next of the free blocks, which was zeroed:
--- the file's bytes are as before (Lions on bmap)
-pub record Extends (geometry : Geometry) (old new : List ℕ) (i : ℕ) (wanted set : List ℕ → Bool) (blocks rest : List ℕ) : Type 0 where
+-- place p of file i names something (manual section 5, file system)
+pub record HasName (geometry : Geometry) (image : List ℕ) (i : ℕ) (p : List ℕ) : Type 0 where
+  pub place : IsPlaceOf geometry image i p
+  pub some : named geometry image i p ≢ 0
+
+-- the places of a set of file i's name something now: those that didn't are `gained`, and each names the next of the free blocks,
+-- which was zeroed; the file's bytes are as before, and so are those of the other free blocks (Lions on bmap)
+pub record Extends (geometry : Geometry) (old new : List ℕ) (i : ℕ) (wanted set : List ℕ → Bool) (gained : List (List ℕ))
+    (blocks rest : List ℕ) : Type 0 where
   pub alone : StaysElsewhere geometry old new i
   pub sound : IsSoundWith geometry new rest
   pub covered : IsCovered geometry old blocks → IsCovered geometry new rest
@@ -47,6 +54,14 @@ pub record Extends (geometry : Geometry) (old new : List ℕ) (i : ℕ) (wanted 
   pub size : size_of geometry new i ≡ size_of geometry old i
   pub names : (p : List ℕ) → IsPlaceOf geometry old i p → is_named geometry new i p ≡ (is_named geometry old i p || set p)
   pub bytes : (n : ℕ) → body_byte geometry new i n ≡ body_byte geometry old i n
+  pub kept : (p : List ℕ) → IsPlaceOf geometry old i p → named geometry old i p ≢ 0 → named geometry new i p ≡ named geometry old i p
+  pub some : (p : List ℕ) → IsAmong p gained → HasName geometry new i p
+  pub order : taken ≡ map (named geometry new i) gained
+  pub unused : KeepsBlocks old new rest
+
+-- those of a list of places that name nothing, the last one first (Lions on bmap)
+abbrev pub unnamed_of : (List ℕ → Bool) → List (List ℕ) → List (List ℕ)
+unnamed_of names places = filter (λ p. not (names p)) (reverse places)
 
 -- whether place q has front p: a place that the way to q goes through, or q itself (Lions on bmap)
 abbrev pub has_front : List ℕ → List ℕ → Bool
@@ -55,7 +70,7 @@ has_front q p = list_any (bytes_eq p) (fronts q)
 -- place q of file i names block k now, and all its fronts name something (Lions on bmap)
 pub record Reaches (geometry : Geometry) (old new : List ℕ) (i : ℕ) (wanted : List ℕ → Bool) (q blocks : List ℕ) (k : ℕ) : Type 0 where
   pub rest : List ℕ
-  pub extends : Extends geometry old new i wanted (has_front q) blocks rest
+  pub extends : Extends geometry old new i wanted (has_front q) (unnamed_of (is_named geometry old i) (fronts q)) blocks rest
   pub is : named geometry new i q ≡ k
   pub some : k ≢ 0
 
@@ -109,7 +124,8 @@ pub record MayNameWay (geometry : Geometry) (image : List ℕ) (i b : ℕ) : Typ
 -- the places on the way of logical block b name something now (Lions on bmap)
 pub record NamesWay (geometry : Geometry) (old new : List ℕ) (i : ℕ) (wanted : List ℕ → Bool) (b : ℕ) (blocks : List ℕ) : Type 0 where
   pub rest : List ℕ
-  pub extends : Extends geometry old new i wanted (λ p. list_any (bytes_eq p) (way (form_at geometry old i) b)) blocks rest
+  pub extends : Extends geometry old new i wanted (λ p. list_any (bytes_eq p) (way (form_at geometry old i) b))
+      (missing_on_way (form_at geometry old i) (is_named geometry old i) b) blocks rest
 
 -- the rules hold with these free blocks, which are enough for the wanted places of file i, those on the ways of n logical
 -- blocks from `from` on among them (this project)
@@ -127,7 +143,8 @@ pub record MayNameWays (geometry : Geometry) (image : List ℕ) (i from n : ℕ)
 -- the places on the ways of n logical blocks name something now (Lions on bmap)
 pub record NamesWays (geometry : Geometry) (old new : List ℕ) (i : ℕ) (wanted : List ℕ → Bool) (from n : ℕ) (blocks : List ℕ) : Type 0 where
   pub rest : List ℕ
-  pub extends : Extends geometry old new i wanted (is_on_ways (form_at geometry old i) (range_with_len from n)) blocks rest
+  pub extends : Extends geometry old new i wanted (is_on_ways (form_at geometry old i) (range_with_len from n))
+      (missing_places (form_at geometry old i) (is_named geometry old i) (range_with_len from n)) blocks rest
 
 -- the bytes of file i from byte lo up to hi are those of a function now, and all else is as before (Lions on writei)
 pub record Rewrites (geometry : Geometry) (old new : List ℕ) (i lo hi : ℕ) (content : ℕ → ℕ) (blocks : List ℕ) : Type 0 where
@@ -140,6 +157,7 @@ pub record Rewrites (geometry : Geometry) (old new : List ℕ) (i lo hi : ℕ) (
   pub inside : (n : ℕ) → lo ≤ n → n < hi → body_byte geometry new i n ≡ content n
   pub below : (n : ℕ) → n < lo → body_byte geometry new i n ≡ body_byte geometry old i n
   pub above : (n : ℕ) → hi ≤ n → body_byte geometry new i n ≡ body_byte geometry old i n
+  pub unused : KeepsBlocks old new blocks
 
 -- the bytes of a text that is put at an offset (Lions on writei)
 abbrev pub text_at : ℕ → List ℕ → ℕ → ℕ
@@ -162,6 +180,11 @@ pub record Enlarges (geometry : Geometry) (old new : List ℕ) (i : ℕ) (blocks
   pub size : size_of geometry new i ≡ size_of geometry old i
   pub names : (p : List ℕ) → IsPlace Large p → is_named geometry new i p ≡ moved_down (is_named geometry old i) p
   pub bytes : (n : ℕ) → body_byte geometry new i n ≡ body_byte geometry old i n
+  pub is : named geometry new i (0 ∷ []) ≡ first
+  pub some : first ≢ 0
+  pub kept : (p : List ℕ) → IsPlaceOf geometry old i p → named geometry new i (p ++ (0 ∷ [])) ≡ named geometry old i p
+  pub moved : (p : List ℕ) → IsPlaceOf geometry old i p → IsPlaceOf geometry new i (p ++ (0 ∷ []))
+  pub unused : KeepsBlocks old new rest
 
 -- file i may be made large: the rules hold, and a block is free (this project)
 pub record MayEnlarge (geometry : Geometry) (image : List ℕ) (i : ℕ) : Type 0 where
@@ -186,6 +209,12 @@ pub record Fills (geometry : Geometry) (old new : List ℕ) (i : ℕ) (touches b
   pub names : (p : List ℕ) → IsPlace (form_at geometry new i) p
       → is_named geometry new i p ≡ filled (form_at geometry old i) (is_named geometry old i) touches p
   pub bytes : (n : ℕ) → body_byte geometry new i n ≡ body_byte geometry old i n
+  pub kept : (p : List ℕ) → IsPlaceOf geometry old i p → named geometry old i p ≢ 0
+      → named geometry new i (place_after (form_at geometry old i) touches p) ≡ named geometry old i p
+  pub moved : (p : List ℕ) → IsPlaceOf geometry old i p → IsPlaceOf geometry new i (place_after (form_at geometry old i) touches p)
+  pub gained : (p : List ℕ) → IsAmong p (places_taken (form_at geometry old i) (is_named geometry old i) touches) → IsPlaceOf geometry new i p
+  pub order : taken ≡ map (named geometry new i) (places_taken (form_at geometry old i) (is_named geometry old i) touches)
+  pub unused : KeepsBlocks old new rest
 
 -- the rules hold with these free blocks, which are enough for the ways of the logical blocks from `from` up to `to` (this project)
 pub record HasRoom (geometry : Geometry) (image : List ℕ) (i from to : ℕ) (blocks : List ℕ) : Type 0 where
@@ -211,3 +240,4 @@ pub record Puts (geometry : Geometry) (old new : List ℕ) (i offset : ℕ) (tex
   pub gap : (n : ℕ) → size_of geometry old i ≤ n → n < offset → body_byte geometry new i n ≡ 0
   pub middle : (n : ℕ) → offset ≤ n → n < offset + length text → body_byte geometry new i n ≡ text_at offset text n
   pub high : (n : ℕ) → offset + length text ≤ n → body_byte geometry new i n ≡ body_byte geometry old i n
+  pub unused : KeepsBlocks old new blocks

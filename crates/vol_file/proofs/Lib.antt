@@ -25,6 +25,7 @@ pub mod Soundness
 pub mod Splicing
 pub mod Stores
 pub mod Subtrees
+pub mod TakenPlaces
 pub mod Taking
 pub mod Truncated
 pub mod Whole

@@ -24,7 +24,7 @@ use Rattle.vol_file.proofs.Lasts.{last_small, last_large, last_huge, last_direct
 -- Counts
 
 -- 1 for yes
-abbrev one_if : Bool → ℕ
+abbrev pub one_if : Bool → ℕ
 one_if t = cond t 1 0
 
 -- the count of a longer list
@@ -39,7 +39,7 @@ ones false true h = refl
 ones false false h = refl
 
 -- what passes one of two tests is counted by both together, where nothing passes both
-count_apart : (s t : List ℕ → Bool) (qs : List (List ℕ)) → ((q : List ℕ) → s q ≡ true → t q ≡ false)
+pub count_apart : (s t : List ℕ → Bool) (qs : List (List ℕ)) → ((q : List ℕ) → s q ≡ true → t q ≡ false)
     → count_by (λ q. s q || t q) qs ≡ count_by s qs + count_by t qs
 count_apart s t [] h = refl
 count_apart s t (q ∷ qs) h =
@@ -56,7 +56,7 @@ bytes_eq_sym p q =
     (Decides-like (bytes_eq q p) (λ (e : q ≡ p). sym e) (λ (e : p ≡ q). sym e) (bytes_eq-Decides q p))
 
 -- one of two answers is yes
-either : (x y : Bool) → (x || y) ≡ true → (x ≡ true) ⊎ ((x ≡ false) × (y ≡ true))
+pub either : (x y : Bool) → (x || y) ≡ true → (x ≡ true) ⊎ ((x ≡ false) × (y ≡ true))
 either true y e = inl refl
 either false y e = inr (refl, e)
 
@@ -74,14 +74,14 @@ yes_after true y e = refl
 yes_after false y e = e
 
 -- an answer that isn't yes is no
-no_from : (x : Bool) → (x ≡ true → ⊥) → x ≡ false
+pub no_from : (x : Bool) → (x ≡ true → ⊥) → x ≡ false
 no_from true h = absurd (h refl)
 no_from false h = refl
 
 -- The places that are new on a way
 
 -- whether q is a front of p that counts: any if the whole way counts, else one with no index after it but 0
-abbrev is_new : Bool → List ℕ → List ℕ → Bool
+abbrev pub is_new : Bool → List ℕ → List ℕ → Bool
 is_new whole [] q = false
 is_new whole (k ∷ []) q = bytes_eq q (k ∷ [])
 is_new whole (j ∷ (a ∷ p)) q = bytes_eq q (j ∷ (a ∷ p)) || ((whole || j == 0) && is_new whole (a ∷ p) q)
@@ -107,7 +107,7 @@ front_new (j ∷ (a ∷ p)) q (inr deeper) =
     yes_after (bytes_eq q (j ∷ (a ∷ p))) (is_new true (a ∷ p) q) above
 
 -- the fronts of a place are those that count where the whole way does
-fronts_new : (p q : List ℕ) → list_any (bytes_eq q) (fronts p) ≡ is_new true p q
+pub fronts_new : (p q : List ℕ) → list_any (bytes_eq q) (fronts p) ≡ is_new true p q
 fronts_new [] q = refl
 fronts_new (k ∷ []) q = or-false (bytes_eq q (k ∷ []))
 fronts_new (j ∷ (a ∷ p)) q = ap (λ x. bytes_eq q (j ∷ (a ∷ p)) || x) (fronts_new (a ∷ p) q)
@@ -135,7 +135,7 @@ count_if true s names qs n h = h
 count_if false s names qs n h = count_none (λ q. false) qs (λ q. refl)
 
 -- of a form's places, those that count on the way to p and name nothing are as many as the recursion says
-count_new : (form : Form) (names : List ℕ → Bool) (whole : Bool) (p : List ℕ) → IsPlace form p
+pub count_new : (form : Form) (names : List ℕ → Bool) (whole : Bool) (p : List ℕ) → IsPlace form p
     → count_by (λ q. is_new whole p q && not (names q)) (places form) ≡ missing_to names whole p
 count_new form names whole [] place = absurd place
 count_new form names whole (k ∷ []) place = count_at names (k ∷ []) (places form) (places_once form (k ∷ []) place)

@@ -51,7 +51,7 @@ is_on_at form p a (suc n) (suc d) h on =
     ∙ or_true (list_any (bytes_eq p) (way form a))
 
 -- of no blocks no place is missing
-missing_nil : (form : Form) (names : List ℕ → Bool) → missing_places form names [] ≡ []
+pub missing_nil : (form : Form) (names : List ℕ → Bool) → missing_places form names [] ≡ []
 unfolding missing_places
 missing_nil form names = refl
 
@@ -63,7 +63,7 @@ filter_same f g (q ∷ qs) same =
     let rest : filter f qs ≡ filter g qs = filter_same f g qs (λ p among. same p (inr among)) in rw (here, rest) refl
 
 -- a member of a list turned round is one of the list
-among_reverse : (p : List ℕ) (qs : List (List ℕ)) → IsAmong p (reverse qs) → IsAmong p qs
+pub among_reverse : (p : List ℕ) (qs : List (List ℕ)) → IsAmong p (reverse qs) → IsAmong p qs
 among_reverse p [] among = among
 among_reverse p (q ∷ qs) among =
     elim (among_append p (reverse qs) (q ∷ []) (subst (IsAmong p) (reverse-append (q ∷ []) qs) among)) [
@@ -73,13 +73,13 @@ among_reverse p (q ∷ qs) among =
     ]
 
 -- a member of the fronts of a place is one of its fronts
-among_fronts : (p q : List ℕ) → IsAmong p (fronts q) → IsFront p q
+pub among_fronts : (p q : List ℕ) → IsAmong p (fronts q) → IsFront p q
 among_fronts p [] among = among
 among_fronts p (j ∷ q) (inl e) = inl e
 among_fronts p (j ∷ q) (inr above) = inr (among_fronts p q above)
 
 -- each place on the way of a logical block is a place
-way_places : (form : Form) (b : ℕ) (p : List ℕ) → IsAmong p (way form b) → IsPlace form p
+pub way_places : (form : Form) (b : ℕ) (p : List ℕ) → IsAmong p (way form b) → IsPlace form p
 way_places form b p among =
     elim (last_place form b) as (λ o. last_place form b ≡ o → IsAmong p (option_map_or fronts o []) → IsPlace form p) [
       | None ↦ λ e none. absurd none
@@ -87,7 +87,7 @@ way_places form b p among =
     ] refl among
 
 -- what is missing on a way hangs on which of its places name something
-missing_same : (form : Form) (names same : List ℕ → Bool) (b : ℕ) → ((p : List ℕ) → IsPlace form p → names p ≡ same p)
+pub missing_same : (form : Form) (names same : List ℕ → Bool) (b : ℕ) → ((p : List ℕ) → IsPlace form p → names p ≡ same p)
     → missing_on_way form names b ≡ missing_on_way form same b
 missing_same form names same b equal =
     filter_same (λ p. not (names p)) (λ p. not (same p)) (reverse (way form b))

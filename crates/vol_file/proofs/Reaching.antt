@@ -208,7 +208,7 @@ unnamed_one : (names : List ℕ → Bool) (q : List ℕ) → names q ≡ false �
 unnamed_one names q e = rw e refl
 
 -- a place after its fronts
-unnamed_step : (names : List ℕ → Bool) (q : List ℕ) (qs : List (List ℕ)) → unnamed_of names (q ∷ qs) ≡ unnamed_of names qs ++ unnamed_of names (q ∷ [])
+pub unnamed_step : (names : List ℕ → Bool) (q : List ℕ) (qs : List (List ℕ)) → unnamed_of names (q ∷ qs) ≡ unnamed_of names qs ++ unnamed_of names (q ∷ [])
 unnamed_step names q qs =
     ap (filter (λ p. not (names p))) (reverse-append (q ∷ []) qs) ∙ filter-append (λ p. not (names p)) (reverse qs) (q ∷ [])
 

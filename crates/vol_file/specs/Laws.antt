@@ -1,9 +1,10 @@
 -- Words and statements of the laws about lists of places, and about how many blocks a write takes.
-use Rattle.std.specs.Prelude.{◌≡◌, ℕ, ◌⊎◌, ◌↔◌, Bool, List, [], ◌∷◌}
+use Rattle.std.specs.Prelude.{◌≡◌, ℕ, ◌⊎◌, ◌↔◌, Bool, true, false, List, [], ◌∷◌, length}
 use Rattle.std.specs.List.{count_by, range_with_len}
 use Rattle.std.specs.Str.{bytes_eq}
 use Rattle.vol_layout.specs.Places.{IsPlace, places}
-use Rattle.vol_file.specs.Need.{missing_count, need}
+use Rattle.vol_file.specs.Shape.{is_on_ways}
+use Rattle.vol_file.specs.Need.{missing_count, need_of, need, missing_places, places_taken}
 use Rattle.vol_file.specs.Missing.{missing_from}
 use Rattle.vol_layout.specs.declared.geometry.Geometry.{Geometry}
 use Rattle.vol_layout.specs.declared.places.Form.{Form}
@@ -30,3 +31,12 @@ CountsBlockByBlock = (form : Form) (names : List ℕ → Bool) (first n : ℕ)
 -- a write of no bytes needs nothing (this project)
 abbrev pub NeedsNothingForNothing : Type 0
 NeedsNothingForNothing = (geometry : Geometry) (image : List ℕ) (i offset : ℕ) → need geometry image i offset 0 ≡ 0
+
+-- just the places on the ways of some logical blocks that name nothing are missing (this project)
+abbrev pub MissesWhatIsUnnamed : Type 0
+MissesWhatIsUnnamed = (form : Form) (names : List ℕ → Bool) (blocks p : List ℕ)
+    → IsAmong p (missing_places form names blocks) ↔ ((is_on_ways form blocks p ≡ true) × (names p ≡ false))
+
+-- a block is taken for as many places as are needed (this project)
+abbrev pub TakesWhatIsNeeded : Type 0
+TakesWhatIsNeeded = (form : Form) (names : List ℕ → Bool) (blocks : List ℕ) → length (places_taken form names blocks) ≡ need_of form names blocks

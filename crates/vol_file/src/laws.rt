@@ -5,6 +5,8 @@ ghost use Rattle.vol_file.specs.Laws.{
   ListsPlacesOnce,
   CountsBlockByBlock,
   NeedsNothingForNothing,
+  MissesWhatIsUnnamed,
+  TakesWhatIsNeeded,
 };
 
 /// The list of a form's places has each of its places once, and nothing else.
@@ -19,4 +21,11 @@ pub fn places_are_listed_once()
 pub fn need_is_counted_by_blocks()
     ensures count { CountsBlockByBlock }
     ensures nothing { NeedsNothingForNothing }
+{}
+
+/// The places for which a write takes blocks: those on the ways of the touched blocks that name
+/// nothing, and as many as the need says, also where a small file becomes large.
+pub fn blocks_are_taken_for_what_is_missing()
+    ensures missing { MissesWhatIsUnnamed }
+    ensures needed { TakesWhatIsNeeded }
 {}

@@ -12,6 +12,7 @@ pub mod Entries
 pub mod Extending
 pub mod Filling
 pub mod Fronts
+pub mod Gaining
 pub mod Indexes
 pub mod Lasts
 pub mod Naming

@@ -1,10 +1,11 @@
 -- What the steps of a truncation leave: which places name nothing any more, and which blocks are free in exchange.
-use Rattle.std.specs.Prelude.{◌≡◌, ◌≢◌, ℕ, zero, suc, ◌≤◌, ◌⊎◌, ◌==◌, not, List, [], ◌∷◌, ◌++◌, map, filter}
+use Rattle.std.specs.Prelude.{◌≡◌, ◌≢◌, ℕ, zero, suc, ◌+◌, ◌≤◌, ◌⊎◌, ◌==◌, not, List, [], ◌∷◌, ◌++◌, length, map, filter}
 use Rattle.std.specs.List.{flat_map, range_with_len}
 use Rattle.vol_layout.specs.Edition.{constants}
 use Rattle.vol_layout.specs.Places.{levels_below, places_from}
 use Rattle.vol_layout.specs.Laws.{IsFront}
 use Rattle.vol_layout.specs.Names.{mode_of, form_at, IsPlaceOf, named}
+use Rattle.vol_free.specs.Stack.{IsFree}
 use Rattle.vol_file.specs.Rules.{size_of, IsSoundWith, IsCovered}
 use Rattle.vol_file.specs.Changes.{KeepsBlocks}
 use Rattle.vol_file.specs.Steps.{StaysElsewhere}
@@ -52,6 +53,10 @@ pub record Clears (geometry : Geometry) (old new : List ℕ) (i : ℕ) (Cleared 
   pub gone : (q : List ℕ) → IsPlaceOf geometry old i q → Cleared q → named geometry new i q ≡ 0
   pub kept : (q : List ℕ) → IsPlaceOf geometry old i q → (Cleared q → ⊥) → named geometry new i q ≡ named geometry old i q
   pub unused : KeepsBlocks old new blocks
+
+-- so many blocks more are free (Lions on itrunc)
+abbrev pub Gains : Geometry → List ℕ → List ℕ → ℕ → Type 0
+Gains geometry old new count = (before after : List ℕ) → IsFree geometry old before → IsFree geometry new after → length after ≡ count + length before
 
 -- where place q of file i names b and nothing below it names anything, it names nothing any more, and b is free (Lions on itrunc)
 abbrev pub Drops : Geometry → List ℕ → List ℕ → ℕ → List ℕ → ℕ → List ℕ → Type 0

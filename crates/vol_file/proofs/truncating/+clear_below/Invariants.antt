@@ -1,5 +1,6 @@
 use Rattle.std.proofs.Common.{◌≤◌}
 use Rattle.vol_layout.specs.Edition.{constants}
+use Rattle.vol_file.specs.Clears.{Gains}
 use Rattle.vol_file.proofs.Nodes.{ClearsEntries}
 use Rattle.vol_file.proofs.truncating.+clear_below.Given as goal
 
@@ -7,11 +8,12 @@ use Rattle.vol_file.proofs.truncating.+clear_below.Given as goal
 abbrev pub decreases-clear_below : goal.decreases-clear_below
 decreases-clear_below l = l.level
 
--- the entries from j on are cleared
+-- the entries from j on are cleared, and so many blocks given
 abbrev pub invariant-loop-j : goal.invariant-loop-j
 invariant-loop-j l = record {
   few : l.j ≤ (constants l.geometry.edition).pointers;
   cleared : ClearsEntries l.geometry l.fn.image l.image l.m l.level l.j;
+  counted : Gains l.geometry l.fn.image l.image l.given;
 }
 
 -- each step clears one entry

@@ -1,14 +1,16 @@
 use Rattle.std.proofs.Common.{◌≤◌}
 use Rattle.vol_layout.specs.Names.{form_at}
 use Rattle.vol_layout.specs.Places.{first_count}
+use Rattle.vol_file.specs.Clears.{Gains}
 use Rattle.vol_file.proofs.Nodes.{ClearsAddresses}
 use Rattle.vol_file.proofs.truncating.clear_addresses.Given as goal
 
--- the addresses from k on are cleared
+-- the addresses from k on are cleared, and so many blocks given
 abbrev pub invariant-loop-k : goal.invariant-loop-k
 invariant-loop-k l = record {
   few : l.k ≤ first_count (form_at l.geometry l.fn.image l.i);
   cleared : ClearsAddresses l.geometry l.fn.image l.image l.i l.k;
+  counted : Gains l.geometry l.fn.image l.image l.given;
 }
 
 -- each step clears one address

@@ -1,6 +1,7 @@
 use Rattle.std.proofs.Common.{◌∷◌}
 use Rattle.vol_file.proofs.Dropping.{drops}
 use Rattle.vol_file.proofs.Entries.{named_zone, entry_room, entry_stores, stored_fresh}
+use Rattle.vol_file.proofs.Gaining.{gains_one, zone_some}
 use Rattle.vol_file.proofs.truncating.drop_entry.Goals as goal
 
 pub put_number-requires-clause-room : goal.put_number-requires-clause-room
@@ -27,9 +28,17 @@ give-requires-clause-fresh c =
     (entry_stores c.args.geometry.now c.args.image.now c.put_number.new.image r.blocks r.file c.args.j r.index c.args.m c.args.b r.place
     r.sound r.block r.is c.put_number.ensures.others c.put_number.ensures.put)
 
-pub returns : goal.returns
-returns c = λ i a p blocks block sound is empty.
+pub returns-clause-dropped : goal.returns-clause-dropped
+returns-clause-dropped c = λ i a p blocks block sound is empty.
     let store = entry_stores c.args.geometry.now c.args.image.now c.put_number.new.image blocks i c.args.j a c.args.m c.args.b p
     sound block is c.put_number.ensures.others c.put_number.ensures.put in
     drops c.args.geometry.now c.args.image.now c.put_number.new.image c.give.new.image blocks i c.args.b (c.args.j ∷ (a ∷ p))
     sound is empty store c.give.ensures.others (c.give.ensures.pushed blocks store.free)
+
+pub returns-clause-counted : goal.returns-clause-counted
+returns-clause-counted c =
+    let r = c.requires in
+    let store = entry_stores c.args.geometry.now c.args.image.now c.put_number.new.image r.blocks r.file c.args.j r.index c.args.m c.args.b r.place
+    r.sound r.block r.is c.put_number.ensures.others c.put_number.ensures.put in
+    gains_one c.args.geometry.now c.args.image.now c.give.new.image c.args.b r.blocks (zone_some c.args.geometry.now c.args.image.now r.sound.fits)
+    r.sound.free (c.give.ensures.pushed r.blocks store.free)

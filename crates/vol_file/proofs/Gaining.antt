@@ -1,0 +1,84 @@
+-- How many blocks more are free after the steps of a truncation.
+use Rattle.std.proofs.Common.{◌≡◌, ◌≢◌, ℕ, ◌+◌, ◌≤◌, ◌∙◌, sym, ap, subst, List, ◌∷◌, ◌++◌, length, arith}
+use Rattle.std.proofs.lemmas.List.{length-append}
+use Rattle.vol_layout.specs.Edition.{constants}
+use Rattle.vol_layout.specs.Geometry.{Fits}
+use Rattle.vol_layout.specs.declared.edition.Edition.{Edition}
+use Rattle.vol_layout.specs.declared.edition.Edition.TheVariants.{V6, V7}
+use Rattle.vol_layout.specs.declared.geometry.Geometry.{Geometry}
+use Rattle.vol_free.specs.Stack.{IsFree, HasStack}
+use Rattle.vol_free.proofs.Lengths.{free_within}
+use Rattle.vol_free.proofs.Stacks.{IsFree_unique, zone_behind}
+use Rattle.vol_file.specs.Clears.{Gains, HasNode, ClearsBelow}
+
+-- the list of free blocks is one
+free_same : (geometry : Geometry) (image xs ys : List ℕ) → 1 ≤ geometry.zone_start → IsFree geometry image xs → IsFree geometry image ys
+    → length xs ≡ length ys
+free_same geometry image xs ys low first second = ap length (IsFree_unique low first second)
+
+-- the data zone doesn't begin with block 0
+pub zone_some : (geometry : Geometry) (image : List ℕ) → Fits geometry image → 1 ≤ geometry.zone_start
+zone_some geometry image fits = let behind = zone_behind fits in omega (arith, behind)
+
+-- where nothing is done no block more is free
+pub gains_none : (geometry : Geometry) (image : List ℕ) → 1 ≤ geometry.zone_start → Gains geometry image image 0
+gains_none geometry image low before after first second = let same = free_same geometry image after before low second first in omega (arith, same)
+
+-- two steps one after the other
+pub gains_then : (geometry : Geometry) (old mid new : List ℕ) (m n : ℕ) → HasStack geometry mid → Gains geometry old mid m → Gains geometry mid new n
+    → Gains geometry old new (m + n)
+gains_then geometry old mid new m n has first second before after from to =
+    let early = first before has.blocks from has.free in
+    let late = second has.blocks after has.free to in omega (arith, early, late)
+
+-- one block was given
+pub gains_one : (geometry : Geometry) (old new : List ℕ) (b : ℕ) (blocks : List ℕ) → 1 ≤ geometry.zone_start → IsFree geometry old blocks
+    → IsFree geometry new (b ∷ blocks) → Gains geometry old new 1
+gains_one geometry old new b blocks low from to before after first second =
+    let early = free_same geometry old before blocks low first from in
+    let late = free_same geometry new after (b ∷ blocks) low second to in omega (arith, early, late)
+
+-- the blocks that were given are as many as the free ones are more
+pub gains_given : (geometry : Geometry) (old new given blocks : List ℕ) (count : ℕ) → Gains geometry old new count → IsFree geometry old blocks
+    → IsFree geometry new (given ++ blocks) → count ≡ length given
+gains_given geometry old new given blocks count gains from to =
+    let more = gains blocks (given ++ blocks) from to in omega (arith, more, length-append given blocks)
+
+-- what an edition's numbers can be
+number_limit : (edition : Edition) (end : ℕ) → end ≤ (constants edition).number_limit → end ≤ 16777216
+number_limit V6 end h = omega arith
+number_limit V7 end h = h
+
+-- no more blocks are given than there are
+gains_few : (geometry : Geometry) (image old new : List ℕ) (count : ℕ) → Fits geometry image → HasStack geometry old → HasStack geometry new
+    → Gains geometry old new count → count ≤ 16777216
+gains_few geometry image old new count fits from to gains =
+    let more = gains from.blocks to.blocks from.free to.free in
+    let few = free_within to.free in
+    let limit = number_limit geometry.edition geometry.zone_end fits.limit in omega (arith, more, few, limit)
+
+-- some blocks are free once all below a block is cleared
+pub below_stack : (geometry : Geometry) (old new : List ℕ) (b level : ℕ) → ClearsBelow geometry old new b level → HasNode geometry old b level
+    → HasStack geometry new
+below_stack geometry old new b level cleared node =
+    let s = cleared node.file node.index node.place node.blocks node.sound node.is node.below in record { blocks = _; free = s.sound.free }
+
+-- some blocks are free where one is named
+node_stack : (geometry : Geometry) (image : List ℕ) (b level : ℕ) → HasNode geometry image b level → HasStack geometry image
+node_stack geometry image b level node = record { blocks = node.blocks; free = node.sound.free }
+
+-- the blocks given by one step more are no more than can be counted
+pub step_few : (geometry : Geometry) (old mid low : List ℕ) (b level given count : ℕ) → HasStack geometry old → HasNode geometry mid b level
+    → Gains geometry old mid given → ClearsBelow geometry mid low b level → Gains geometry mid low count → given + (count + 1) ≤ 33554433
+step_few geometry old mid low b level given count has node gains cleared more =
+    let first = gains_few geometry mid old mid given node.sound.fits has (node_stack geometry mid b level node) gains in
+    let second = gains_few geometry mid mid low count node.sound.fits (node_stack geometry mid b level node) (below_stack geometry mid low b level cleared node) more in
+    omega (arith, first, second)
+
+-- the blocks given by one step more: those below a block, and the block
+pub step_gains : (geometry : Geometry) (old mid low new : List ℕ) (b level given count : ℕ) → HasNode geometry mid b level
+    → Gains geometry old mid given → ClearsBelow geometry mid low b level → Gains geometry mid low count → Gains geometry low new 1
+    → Gains geometry old new (given + (count + 1))
+step_gains geometry old mid low new b level given count node gains cleared more one =
+    gains_then geometry old mid new given (count + 1) (node_stack geometry mid b level node) gains
+    (gains_then geometry mid low new count 1 (below_stack geometry mid low b level cleared node) more one)

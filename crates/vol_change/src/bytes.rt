@@ -52,5 +52,5 @@ pub fn empty_file(image: &mut Image, geometry: &Geometry, i: u16)
     ensures graph { IsSameGraph (graph_of geometry.now image.old) (graph_of geometry.now image.new) }
     ensures unused { (j : ℕ) → 1 ≤ j → j ≤ geometry.now.last_inode → KeepsUnused geometry.now image.old image.new j }
 {
-    truncate(image, geometry, i);
+    let _ = truncate(image, geometry, i);
 }

@@ -47,7 +47,9 @@ fn free_blocks(image: &mut Image, geometry: &Geometry, i: u16)
     ensures none { (p : List ℕ) → IsPlaceOf geometry.now image.new i p → named geometry.now image.new i p ≡ 0 }
 {
     match kind(image, geometry, i) {
-        Kind::Regular | Kind::Directory => truncate(image, geometry, i),
+        Kind::Regular | Kind::Directory => {
+            let _ = truncate(image, geometry, i);
+        }
         Kind::Free | Kind::Special | Kind::Odd => {}
     }
 }

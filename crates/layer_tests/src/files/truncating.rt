@@ -26,7 +26,7 @@ fn check_unchanged(rt: &impl Abort, alloc: Global, image: Image, geometry: &Geom
 {
     let mut image = image;
     let before = Vec::from_slice(alloc, image.as_bytes()).expect(rt, "memory for the bytes");
-    truncate(&mut image, geometry, i);
+    assert_eq!(rt; truncate(&mut image, geometry, i), 0);
     assert_eq!(rt; image.as_bytes(), before.as_slice());
 }
 
@@ -55,7 +55,7 @@ fn the_block_of_the_first_place_is_free_first(rt: HostRuntime) {
     check_put(&rt, &mut image, &SIXTH, 32, 0, &[1], 1);
     check_put(&rt, &mut image, &SIXTH, 32, 4096, &[1], 2);
     check_numbers(&rt, &image, &SIXTH, 32, &LARGE);
-    truncate(&mut image, &SIXTH, 32);
+    assert_eq!(&rt; truncate(&mut image, &SIXTH, 32), 3);
     check_numbers(&rt, &image, &SIXTH, 32, &WAS_LARGE);
 }
 
@@ -78,7 +78,7 @@ fn a_doubly_indirect_file_of_the_sixth_edition(rt: HostRuntime) {
     let mut image = sixth(&rt, rt.alloc());
     check_put(&rt, &mut image, &SIXTH, 32, 917_504, &[1], 4);
     check_numbers(&rt, &image, &SIXTH, 32, &TWICE_INDIRECT);
-    truncate(&mut image, &SIXTH, 32);
+    assert_eq!(&rt; truncate(&mut image, &SIXTH, 32), 4);
     check_numbers(&rt, &image, &SIXTH, 32, &WAS_TWICE_INDIRECT);
 }
 
@@ -110,6 +110,6 @@ fn a_triply_indirect_file_of_the_seventh_edition(rt: HostRuntime) {
     check_numbers(&rt, &image, &SEVENTH, 16, &EMPTY);
     check_put(&rt, &mut image, &SEVENTH, 16, 1_082_201_087, &[1], 4);
     check_numbers(&rt, &image, &SEVENTH, 16, &THRICE_INDIRECT);
-    truncate(&mut image, &SEVENTH, 16);
+    assert_eq!(&rt; truncate(&mut image, &SEVENTH, 16), 4);
     check_numbers(&rt, &image, &SEVENTH, 16, &WAS_THRICE_INDIRECT);
 }

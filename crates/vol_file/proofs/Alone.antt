@@ -15,8 +15,7 @@ use Rattle.vol_layout.proofs.PlaceLaws.{place_front, last_leaf}
 use Rattle.vol_layout.proofs.NameLaws.{zone_some, named_holds, holds_named}
 use Rattle.vol_layout.proofs.FrameLaws.{named_frame, places_kept, stored_kept, body_frame}
 use Rattle.vol_free.specs.Stack.{IsIn}
-use Rattle.vol_file.specs.Changes.{ChangesFileAlone, KeepsBlocks}
-use Rattle.vol_file.specs.Steps.{StaysElsewhere}
+use Rattle.vol_file.specs.Changes.{StaysElsewhere, ChangesFileAlone, KeepsBlocks}
 
 -- an image of the same length fits too
 pub fits_len : (geometry : Geometry) (old new : List ℕ) → length new ≡ length old → Fits geometry old → Fits geometry new
@@ -151,16 +150,9 @@ elsewhere_then geometry old mid new i fits one s t = record {
 pub elsewhere_changes : (geometry : Geometry) (old new : List ℕ) (i : ℕ) → Fits geometry old → 1 ≤ i → StaysElsewhere geometry old new i
     → ChangesFileAlone geometry old new i
 elsewhere_changes geometry old new i fits one s = record {
-  len = s.len;
-  before = s.before;
-  super_block = s.super_block;
-  lower_inodes = s.lower_inodes;
-  higher_inodes = s.higher_inodes;
-  inode = s.inode;
-  blocks = s.blocks;
+  elsewhere = s;
   places = λ j p other place. elsewhere_named geometry old new i j p fits s one other place;
   bodies = λ j other file. elsewhere_body geometry old new i j fits s one other file;
-  behind = s.behind;
 }
 
 -- blocks keep their bytes in two steps

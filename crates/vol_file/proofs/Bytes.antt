@@ -20,11 +20,12 @@ use Rattle.vol_layout.proofs.FrameLaws.{block_keeps_inode, places_kept, named_ap
 use Rattle.vol_free.specs.Stack.{IsIn, IsFree}
 use Rattle.vol_free.proofs.Frames.{IsFree-within}
 use Rattle.vol_file.specs.Rules.{size_of, IsSoundWith, IsCovered}
-use Rattle.vol_file.specs.Steps.{StaysElsewhere, Rewrites}
+use Rattle.vol_file.specs.Steps.{Rewrites}
 use Rattle.vol_file.proofs.Alone.{fits_len, elsewhere_self, elsewhere_then, elsewhere_before, elsewhere_named, elsewhere_names, keeps_then}
 use Rattle.vol_file.proofs.Cells.{block_elsewhere}
 use Rattle.vol_file.proofs.Naming.{kinds_kept, sizes_kept, modes_kept, place_same}
 use Rattle.vol_file.proofs.Taking.{zone_two}
+use Rattle.vol_file.specs.Changes.{StaysElsewhere}
 
 -- each place of the new image was one, and names what it did
 pub same_names : (geometry : Geometry) (old new : List ℕ) (i j : ℕ) (p : List ℕ) → Fits geometry old → 1 ≤ i → StaysElsewhere geometry old new i

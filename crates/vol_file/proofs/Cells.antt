@@ -25,8 +25,7 @@ use Rattle.vol_free.specs.Stack.{IsIn}
 use Rattle.vol_free.proofs.Stacks.{head_end}
 use Rattle.vol_free.proofs.Frames.{IsFree-before_zone, IsFree-within}
 use Rattle.vol_file.specs.Rules.{IsSoundWith}
-use Rattle.vol_file.specs.Changes.{is_kept_byte}
-use Rattle.vol_file.specs.Steps.{StaysElsewhere}
+use Rattle.vol_file.specs.Changes.{StaysElsewhere, is_kept_byte}
 use Rattle.vol_file.proofs.Stores.{Stores}
 use Rattle.vol_file.proofs.Fronts.{front_longer}
 

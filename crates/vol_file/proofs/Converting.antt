@@ -19,12 +19,13 @@ use Rattle.vol_free.specs.Stack.{IsIn, IsFree}
 use Rattle.vol_free.proofs.Frames.{free_zone, free_from}
 use Rattle.vol_file.specs.Shape.{is_named, moved_down}
 use Rattle.vol_file.specs.Rules.{size_of, kind_at, HasSizes, IsSoundWith, IsCovered}
-use Rattle.vol_file.specs.Steps.{StaysElsewhere, Enlarges}
+use Rattle.vol_file.specs.Steps.{Enlarges}
 use Rattle.vol_file.proofs.Alone.{fits_len, elsewhere_inode, elsewhere_before, elsewhere_named, elsewhere_names}
 use Rattle.vol_file.proofs.Naming.{kinds_kept, links_kept, sizes_stay}
 use Rattle.vol_file.proofs.Extending.{unnamed_false, named_true}
 use Rattle.vol_file.proofs.Lasts.{last_small, last_large}
 use Rattle.vol_file.proofs.Taking.{first_unnamed, first_zoned, first_once, rest_in}
+use Rattle.vol_file.specs.Changes.{StaysElsewhere}
 
 -- what was done to file i, by the free block b: its addresses are moved down into it, and it is large
 pub record Moves (geometry : Geometry) (old new : List ℕ) (i b : ℕ) (rest : List ℕ) : Type 0 where

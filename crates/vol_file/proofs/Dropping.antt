@@ -13,7 +13,6 @@ use Rattle.vol_layout.proofs.NameLaws.{zone_some, named_holds, holds_named}
 use Rattle.vol_free.specs.Stack.{IsIn, IsFree, StaysBut}
 use Rattle.vol_free.proofs.Frames.{free_zone}
 use Rattle.vol_file.specs.Rules.{size_of, IsSoundWith, IsCovered}
-use Rattle.vol_file.specs.Steps.{StaysElsewhere}
 use Rattle.vol_file.proofs.Stores.{Stores}
 use Rattle.vol_file.specs.Clears.{IsNamedAt, IsEmptyUnder, Clears}
 use Rattle.vol_file.proofs.Alone.{fits_len, elsewhere_before, elsewhere_named, elsewhere_names, elsewhere_then}
@@ -21,6 +20,7 @@ use Rattle.vol_file.proofs.Fronts.{front_or, front_under, front_zero}
 use Rattle.vol_file.proofs.Soundness.{Lessens, named_before, sound_after}
 use Rattle.vol_file.proofs.Naming.{place_same}
 use Rattle.vol_file.proofs.Taking.{IsUnnamed, stays_block, stays_inode, stays_named, stays_around, zone_two, rest_in}
+use Rattle.vol_file.specs.Changes.{StaysElsewhere}
 
 -- block b is a data block that no place names
 pub record IsReleased (geometry : Geometry) (image : List ℕ) (b : ℕ) : Type 0 where

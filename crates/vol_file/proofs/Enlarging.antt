@@ -21,9 +21,8 @@ use Rattle.vol_layout.proofs.KindLaws.{file_allocated}
 use Rattle.vol_free.specs.Stack.{IsFree, StaysBut, Popped}
 use Rattle.vol_free.proofs.Stacks.{head_end}
 use Rattle.vol_free.proofs.Frames.{IsFree-before_zone, IsFree-within}
-use Rattle.vol_file.specs.Changes.{is_kept_byte}
+use Rattle.vol_file.specs.Changes.{StaysElsewhere, is_kept_byte}
 use Rattle.vol_file.specs.Rules.{kind_at, IsSoundWith}
-use Rattle.vol_file.specs.Steps.{StaysElsewhere}
 use Rattle.vol_file.proofs.Alone.{elsewhere_then}
 use Rattle.vol_file.proofs.Cells.{number_above, names_zoned}
 use Rattle.vol_file.proofs.Taking.{IsUnnamed, stays_block, stays_inode, stays_named, stays_before, stays_elsewhere, stays_sound, zone_two, first_unnamed, first_zoned, first_once, taken_sound}

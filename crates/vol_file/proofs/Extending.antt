@@ -22,10 +22,10 @@ use Rattle.vol_layout.proofs.NameLaws.{zone_some, zero_out, holds_named, named_h
 use Rattle.vol_layout.proofs.FrameLaws.{zone_byte_kept}
 use Rattle.vol_free.specs.Stack.{IsIn, Popped}
 use Rattle.vol_free.proofs.Frames.{free_zone}
-use Rattle.vol_file.specs.Changes.{KeepsBlocks}
+use Rattle.vol_file.specs.Changes.{StaysElsewhere, KeepsBlocks}
 use Rattle.vol_file.specs.Shape.{is_named}
 use Rattle.vol_file.specs.Rules.{IsSoundWith, IsCovered}
-use Rattle.vol_file.specs.Steps.{StaysElsewhere, lacking, HasName, Extends}
+use Rattle.vol_file.specs.Steps.{lacking, HasName, Extends}
 use Rattle.vol_file.proofs.Stores.{Stores}
 use Rattle.vol_file.specs.Laws.{IsAmong}
 use Rattle.vol_file.proofs.PlaceLists.{bytes_same, other_place, places_once, among_places}

@@ -16,9 +16,8 @@ use Rattle.vol_layout.proofs.InodeLaws.{mode_kept, size_kept, inode_of_kept, ino
 use Rattle.vol_layout.proofs.NameLaws.{zero_out, named_stops}
 use Rattle.vol_free.specs.Stack.{IsIn}
 use Rattle.vol_free.proofs.Frames.{free_from}
-use Rattle.vol_file.specs.Changes.{is_kept_byte}
+use Rattle.vol_file.specs.Changes.{StaysElsewhere, is_kept_byte}
 use Rattle.vol_file.specs.Rules.{size_of, kind_at, HasKinds, HasSizes, IsSoundWith}
-use Rattle.vol_file.specs.Steps.{StaysElsewhere}
 use Rattle.vol_file.proofs.Stores.{Stores}
 use Rattle.vol_file.proofs.Alone.{fits_len, elsewhere_inode, elsewhere_before, elsewhere_named}
 use Rattle.vol_file.proofs.Fronts.{same_or, front_or}

@@ -1,5 +1,5 @@
 -- One place of a way more that names something, and the way so far.
-use Rattle.std.proofs.Common.{◌≡◌, ◌≢◌, ℕ, ◌+◌, ◌*◌, ◌<◌, ◌≤◌, ◌⊎◌, ◌∙◌, sym, ap, subst, List, [], ◌∷◌, ◌++◌, length, map, filter, reverse, refl, arith, rules, true, false, true≢false, Bool, None, Some, inl, inr}
+use Rattle.std.proofs.Common.{◌≡◌, ◌≢◌, ℕ, ◌+◌, ◌*◌, ◌<◌, ◌≤◌, ◌∙◌, sym, ap, subst, List, [], ◌∷◌, ◌++◌, length, map, filter, reverse, refl, arith, rules, true, false, true≢false, Bool, None, Some, inl, inr}
 use Rattle.std.specs.Prelude.{◌&&◌, ◌||◌, not}
 use Rattle.std.specs.Str.{bytes_eq}
 use Rattle.std.proofs.lemmas.Bool.{or_cases, false_from_ne_true}
@@ -25,7 +25,7 @@ use Rattle.vol_file.specs.Shape.{is_named}
 use Rattle.vol_file.specs.Rules.{IsSoundWith}
 use Rattle.vol_file.specs.Steps.{lacking, Extends, Reaches, IsReady, IsWanted, IsNext, has_front, unnamed_of}
 use Rattle.vol_file.proofs.Stores.{Stores}
-use Rattle.vol_file.proofs.PlaceLists.{bytes_same, other_place, same_bytes, places_once}
+use Rattle.vol_file.proofs.PlaceLists.{among_append, bytes_same, other_place, same_bytes, places_once}
 use Rattle.vol_file.proofs.Alone.{elsewhere_self, elsewhere_then, keeps_then}
 use Rattle.vol_file.proofs.Cells.{stores_address, stores_entry, entry_end}
 use Rattle.vol_file.proofs.Naming.{place_same, file_same}
@@ -75,12 +75,6 @@ extends_as geometry old new i wanted set same gained list blocks rest equal is e
   order = e.order ∙ ap (map (named geometry new i)) is;
   unused = e.unused;
 }
-
--- a member of two lists in a row is one of the first or of the second
-pub among_append : (p : List ℕ) (ps qs : List (List ℕ)) → IsAmong p (ps ++ qs) → IsAmong p ps ⊎ IsAmong p qs
-among_append p [] qs among = inr among
-among_append p (q ∷ ps) qs (inl e) = inl (inl e)
-among_append p (q ∷ ps) qs (inr later) = elim (among_append p ps qs later) [ inl first ↦ inl (inr first) | inr second ↦ inr second ]
 
 -- the names of a list of places, where each is the same
 pub map_same : (f g : List ℕ → ℕ) (ps : List (List ℕ)) → ((p : List ℕ) → IsAmong p ps → f p ≡ g p) → map f ps ≡ map g ps

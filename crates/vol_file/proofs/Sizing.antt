@@ -20,9 +20,9 @@ use Rattle.vol_layout.proofs.PlaceLaws.{last_leaf}
 use Rattle.vol_free.specs.Stack.{IsIn, IsFree}
 use Rattle.vol_free.proofs.Stacks.{head_end}
 use Rattle.vol_free.proofs.Frames.{free_zone, IsFree-before_zone}
-use Rattle.vol_file.specs.Changes.{is_kept_byte, KeepsBlocks}
+use Rattle.vol_file.specs.Changes.{StaysElsewhere, is_kept_byte, KeepsBlocks}
 use Rattle.vol_file.specs.Rules.{size_of, IsSoundWith, IsCovered}
-use Rattle.vol_file.specs.Steps.{StaysElsewhere, Rewrites, Puts, text_at, zeros_at}
+use Rattle.vol_file.specs.Steps.{Rewrites, Puts, text_at, zeros_at}
 use Rattle.vol_file.proofs.Alone.{fits_len, elsewhere_then, elsewhere_inode, keeps_then}
 use Rattle.vol_file.proofs.Cells.{number_above, names_zoned}
 use Rattle.vol_file.proofs.Naming.{kinds_kept, links_kept, modes_kept, file_same, place_same}

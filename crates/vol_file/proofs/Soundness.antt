@@ -12,9 +12,9 @@ use Rattle.vol_layout.specs.declared.places.Form.TheVariants.{Small}
 use Rattle.vol_layout.proofs.InodeLaws.{inode_of_kept, mode_kept, size_kept, form_kept}
 use Rattle.vol_free.specs.Stack.{IsIn, IsFree}
 use Rattle.vol_file.specs.Rules.{size_of, kind_at, HasKinds, HasSizes, IsSoundWith}
-use Rattle.vol_file.specs.Steps.{StaysElsewhere}
 use Rattle.vol_file.proofs.Alone.{fits_len, elsewhere_inode, elsewhere_before, elsewhere_named}
 use Rattle.vol_file.proofs.Naming.{kinds_kept, links_same, links_kept_byte}
+use Rattle.vol_file.specs.Changes.{StaysElsewhere}
 
 -- what changes of file i: it keeps its kind, its size is within the limits, and each of its places names what it did, or nothing
 pub record Lessens (geometry : Geometry) (old new : List ℕ) (i : ℕ) : Type 0 where

@@ -6,8 +6,8 @@ use Rattle.vol_layout.specs.Laws.{IsFront}
 use Rattle.vol_layout.specs.Names.{mode_of, form_at, IsPlaceOf, named}
 use Rattle.vol_free.specs.Stack.{IsFree}
 use Rattle.vol_file.specs.Rules.{size_of}
-use Rattle.vol_file.specs.Steps.{StaysElsewhere}
 use Rattle.vol_layout.specs.declared.geometry.Geometry.{Geometry}
+use Rattle.vol_file.specs.Changes.{StaysElsewhere}
 
 -- number v was put at place q of file i, where these blocks are free: nothing else has changed
 pub record Stores (geometry : Geometry) (old new : List ℕ) (i : ℕ) (q : List ℕ) (v : ℕ) (blocks : List ℕ) : Type 0 where

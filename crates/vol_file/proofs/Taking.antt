@@ -18,10 +18,10 @@ use Rattle.vol_free.specs.Stack.{IsIn, Once, IsFree, StaysBut, Popped}
 use Rattle.vol_free.proofs.Stacks.{head_end, stack_zoned}
 use Rattle.vol_free.proofs.Frames.{apart_blocks}
 use Rattle.vol_file.specs.Rules.{IsSoundWith}
-use Rattle.vol_file.specs.Steps.{StaysElsewhere}
 use Rattle.vol_file.proofs.Alone.{fits_len, copy_back, place_kept}
 use Rattle.vol_file.proofs.Cells.{kept_within, names_zoned}
 use Rattle.vol_file.proofs.Naming.{kinds_kept, file_same}
+use Rattle.vol_file.specs.Changes.{StaysElsewhere}
 
 -- no place names block b
 abbrev pub IsUnnamed : Geometry → List ℕ → ℕ → Type 0

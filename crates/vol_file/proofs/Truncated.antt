@@ -23,8 +23,7 @@ use Rattle.vol_free.specs.Stack.{IsIn, IsFree}
 use Rattle.vol_free.proofs.Stacks.{head_end}
 use Rattle.vol_free.proofs.Frames.{IsFree-before_zone, free_zone}
 use Rattle.vol_file.specs.Rules.{size_of, kind_at, IsSoundWith}
-use Rattle.vol_file.specs.Changes.{is_kept_byte, blocks_of, truncated_mode, Truncates}
-use Rattle.vol_file.specs.Steps.{StaysElsewhere}
+use Rattle.vol_file.specs.Changes.{StaysElsewhere, is_kept_byte, blocks_of, truncated_mode, Truncates}
 use Rattle.vol_file.specs.Clears.{IsUnder, Clears}
 use Rattle.vol_file.proofs.Alone.{fits_len, elsewhere_names, elsewhere_then, elsewhere_changes}
 use Rattle.vol_file.proofs.Taking.{rest_within}

@@ -122,6 +122,7 @@ writes geometry old mid new i offset text touches blocks file sound great run fi
       kept = λ p place some.
           ap (λ t. named geometry new i (place_after (form_at geometry old i) t p)) run
           ∙ (puts.names (place_after (form_at geometry old i) touches p) (fills.moved p place) ∙ fills.kept p place some);
+      past = λ n far. puts.high n (omega arith) ∙ fills.bytes n;
       order =
           fills.order
           ∙ (map_same (named geometry mid i) (named geometry new i) (places_taken (form_at geometry old i) (is_named geometry old i) touches)

@@ -5,7 +5,7 @@ use Rattle.vol_layout.specs.Inode.{inode_place, with_large}
 use Rattle.vol_layout.specs.Super.{free_head}
 use Rattle.vol_layout.specs.Places.{IsPlace, places}
 use Rattle.vol_layout.specs.Names.{mode_of, form_at, IsFile, IsPlaceOf, named, Names}
-use Rattle.vol_layout.specs.Body.{body}
+use Rattle.vol_layout.specs.Body.{body_byte, body}
 use Rattle.vol_file.specs.Shape.{is_named, touched, grows_large, filled}
 use Rattle.vol_file.specs.Need.{need, places_taken}
 use Rattle.vol_file.specs.Rules.{size_of, IsSoundWith, IsCovered}
@@ -21,8 +21,8 @@ is_kept_byte V6 r = (nat_le 2 r && nat_lt r 5) || (nat_le 24 r && nat_lt r 32)
 is_kept_byte V7 r = nat_lt r 8 || (nat_le 51 r && nat_lt r 64)
 
 -- what a change of file i leaves alone: block 0, block 1 outside the free list, the other i-nodes, the other bytes of i's own,
--- the blocks, bodies and places of all other files, and what lies behind the volume (a frame)
-pub record ChangesFileAlone (geometry : Geometry) (old new : List ℕ) (i : ℕ) : Type 0 where
+-- the blocks of all other files, and what lies behind the volume (a frame)
+pub record StaysElsewhere (geometry : Geometry) (old new : List ℕ) (i : ℕ) : Type 0 where
   pub len : length new ≡ length old
   pub before : (k : ℕ) → k < free_head geometry.edition → slice_index new k ≡ slice_index old k
   pub super_block : (k : ℕ) → free_head geometry.edition + 202 ≤ k → k < 1024 → slice_index new k ≡ slice_index old k
@@ -33,9 +33,13 @@ pub record ChangesFileAlone (geometry : Geometry) (old new : List ℕ) (i : ℕ)
       → slice_index new (inode_place geometry.edition i + r) ≡ slice_index old (inode_place geometry.edition i + r)
   pub blocks : (j : ℕ) (p : List ℕ) (k r : ℕ) → j ≢ i → Names geometry old j p k → r < 512
       → slice_index new (512 * k + r) ≡ slice_index old (512 * k + r)
+  pub behind : (k : ℕ) → 512 * geometry.zone_end ≤ k → slice_index new k ≡ slice_index old k
+
+-- what that says of the other files: their places name what they did, and their bodies stay (a frame)
+pub record ChangesFileAlone (geometry : Geometry) (old new : List ℕ) (i : ℕ) : Type 0 where
+  pub elsewhere : StaysElsewhere geometry old new i
   pub places : (j : ℕ) (p : List ℕ) → j ≢ i → IsPlaceOf geometry old j p → named geometry new j p ≡ named geometry old j p
   pub bodies : (j : ℕ) → j ≢ i → IsFile geometry old j → body geometry new j ≡ body geometry old j
-  pub behind : (k : ℕ) → 512 * geometry.zone_end ≤ k → slice_index new k ≡ slice_index old k
 
 -- these blocks keep all their bytes (a frame)
 abbrev pub KeepsBlocks : List ℕ → List ℕ → List ℕ → Type 0
@@ -58,7 +62,7 @@ place_after form blocks p = if grows_large form blocks then p ++ (0 ∷ []) else
 
 -- a write of at least one byte at an offset of file i, where `blocks` were free: those taken are the first of them, as
 -- many as are needed, each for one of the places that lacked a block, in their order; the rest stay free, and keep their
--- bytes; a place that named something names it still (Lions on writei and bmap)
+-- bytes; a place that named something names it still, and what is stored past the size stays (Lions on writei and bmap)
 pub record Writes (geometry : Geometry) (old new : List ℕ) (i offset : ℕ) (text blocks : List ℕ) : Type 0 where
   pub taken : List ℕ
   pub rest : List ℕ
@@ -74,6 +78,7 @@ pub record Writes (geometry : Geometry) (old new : List ℕ) (i offset : ℕ) (t
       → is_named geometry new i p ≡ filled (form_at geometry old i) (is_named geometry old i) (touched offset (length text)) p
   pub kept : (p : List ℕ) → IsPlaceOf geometry old i p → named geometry old i p ≢ 0
       → named geometry new i (place_after (form_at geometry old i) (touched offset (length text)) p) ≡ named geometry old i p
+  pub past : (n : ℕ) → max (size_of geometry old i) (offset + length text) ≤ n → body_byte geometry new i n ≡ body_byte geometry old i n
   pub order : taken ≡ map (named geometry new i) (places_taken (form_at geometry old i) (is_named geometry old i) (touched offset (length text)))
   pub unused : KeepsBlocks old new rest
 

@@ -7,8 +7,7 @@ use Rattle.vol_layout.specs.Laws.{IsFront}
 use Rattle.vol_layout.specs.Names.{mode_of, form_at, IsPlaceOf, named}
 use Rattle.vol_free.specs.Stack.{IsFree}
 use Rattle.vol_file.specs.Rules.{size_of, IsSoundWith, IsCovered}
-use Rattle.vol_file.specs.Changes.{KeepsBlocks}
-use Rattle.vol_file.specs.Steps.{StaysElsewhere}
+use Rattle.vol_file.specs.Changes.{StaysElsewhere, KeepsBlocks}
 use Rattle.vol_layout.specs.declared.geometry.Geometry.{Geometry}
 
 -- q is entry j or a later one of what place p names, or lies below such an entry (Lions on bmap)

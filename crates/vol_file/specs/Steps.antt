@@ -12,24 +12,9 @@ use Rattle.vol_file.specs.Shape.{is_named, is_on_ways, moved_down, fit_form, fil
 use Rattle.vol_file.specs.Laws.{IsAmong}
 use Rattle.vol_file.specs.Need.{need_of, missing_on_way, missing_places, places_taken}
 use Rattle.vol_file.specs.Rules.{size_of, IsSoundWith, IsCovered}
-use Rattle.vol_file.specs.Changes.{is_kept_byte, mode_after, place_after, KeepsBlocks}
+use Rattle.vol_file.specs.Changes.{StaysElsewhere, mode_after, place_after, KeepsBlocks}
 use Rattle.vol_layout.specs.declared.geometry.Geometry.{Geometry}
 use Rattle.vol_layout.specs.declared.places.Form.TheVariants.{Large}
-
--- what each step of a change of file i leaves alone: block 0, block 1 outside the free list, the other i-nodes, the other bytes of
--- i's own, the blocks of all other files, and what lies behind the volume (a frame)
-pub record StaysElsewhere (geometry : Geometry) (old new : List ℕ) (i : ℕ) : Type 0 where
-  pub len : length new ≡ length old
-  pub before : (k : ℕ) → k < free_head geometry.edition → slice_index new k ≡ slice_index old k
-  pub super_block : (k : ℕ) → free_head geometry.edition + 202 ≤ k → k < 1024 → slice_index new k ≡ slice_index old k
-  pub lower_inodes : (k : ℕ) → 1024 ≤ k → k < inode_place geometry.edition i → slice_index new k ≡ slice_index old k
-  pub higher_inodes : (k : ℕ) → inode_place geometry.edition i + (constants geometry.edition).inode_bytes ≤ k → k < 512 * geometry.zone_start
-      → slice_index new k ≡ slice_index old k
-  pub inode : (r : ℕ) → is_kept_byte geometry.edition r ≡ true
-      → slice_index new (inode_place geometry.edition i + r) ≡ slice_index old (inode_place geometry.edition i + r)
-  pub blocks : (j : ℕ) (p : List ℕ) (k r : ℕ) → j ≢ i → Names geometry old j p k → r < 512
-      → slice_index new (512 * k + r) ≡ slice_index old (512 * k + r)
-  pub behind : (k : ℕ) → 512 * geometry.zone_end ≤ k → slice_index new k ≡ slice_index old k
 
 -- how many of the wanted places of file i name nothing (Lions on bmap)
 unfoldable pub lacking : Geometry → List ℕ → ℕ → (List ℕ → Bool) → ℕ

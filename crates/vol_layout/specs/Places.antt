@@ -3,6 +3,7 @@
 use Rattle.std.specs.Prelude.{Bool, true, false, ℕ, zero, suc, ◌-◌, ◌/◌, ◌%◌, ◌<◌, ◌≤◌, ◌==◌, nat_lt, if◌then◌else◌, List, [], ◌∷◌, slice_index, Option, None, Some}
 use Rattle.std.specs.Option.{option_map_or}
 use Rattle.std.specs.List.{flat_map, range_with_len}
+use Rattle.vol_layout.specs.Edition.{constants}
 use Rattle.vol_layout.specs.Inode.{is_large, kind_of}
 use Rattle.vol_layout.specs.declared.edition.Edition.{Edition}
 use Rattle.vol_layout.specs.declared.edition.Edition.TheVariants.{V6, V7}
@@ -36,11 +37,11 @@ first_count Large = 8
 first_count Deep = 13
 first_count Bare = 0
 
--- how many numbers an indirect block holds (Lions on bmap; param.h)
+-- how many numbers an indirect block holds: as many as one of the form's edition (Lions on bmap; param.h)
 abbrev pub pointer_count : Form → ℕ
-pointer_count Small = 256
-pointer_count Large = 256
-pointer_count Deep = 128
+pointer_count Small = (constants V6).pointers
+pointer_count Large = (constants V6).pointers
+pointer_count Deep = (constants V7).pointers
 pointer_count Bare = 0
 
 -- how many levels of indirect blocks stand between an address and the data (Lions on bmap; ino.h)

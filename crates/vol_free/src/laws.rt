@@ -1,0 +1,9 @@
+//! Laws about the definition of the free list. A call does nothing: what matters is the contract, which
+//! is proved.
+ghost use Rattle.vol_free.specs.Laws.{HasOneList};
+
+/// The free blocks of a volume, the next to be taken first, are one list: what is said of each list of
+/// its free blocks is said of one.
+pub fn free_blocks_are_one_list()
+    ensures { HasOneList }
+{}

@@ -5,6 +5,7 @@ pub mod Finding
 pub mod GoneEntries
 pub mod NameMaps
 pub mod NewEntries
+pub mod PlaceTests
 pub mod Replacing
 pub mod SlotReading
 pub mod WalkLaws

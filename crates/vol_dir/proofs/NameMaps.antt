@@ -16,7 +16,7 @@ use Rattle.vol_file.proofs.PlaceLists.{bytes_same, same_bytes}
 use Rattle.vol_dir.specs.Editing.{with_item}
 use Rattle.vol_dir.specs.Names.{Names, get, insert, remove, names_of, names_in}
 use Rattle.vol_dir.specs.Names.{is_dots}
-use Rattle.vol_dir.specs.Searching.{holds, holds_other, emptied}
+use Rattle.vol_dir.specs.Searching.{holds, holds_other, emptied, slot_named}
 
 -- a name that is put in a map is found there, and every other name as before
 get_insert : (names : Names) (name q : List ℕ) (i : ℕ) → get (insert names name i) q ≡ cond (bytes_eq q name) (Some i) (get names q)
@@ -84,6 +84,28 @@ any_other [] = refl
 any_other (None ∷ slots) = any_other slots
 any_other (Some entry ∷ slots) =
     any_put (λ name. not (is_dots name)) entry.0 entry.1 (names_of slots) ∙ ap (λ b. not (is_dots entry.0) || b) (any_other slots)
+
+-- the slot that holds a name, behind one more
+slot_next : (name : List ℕ) (slot : Option (List ℕ × ℕ)) (slots : List (Option (List ℕ × ℕ))) → holds name slot ≡ false
+    → get_or (slot ∷ slots) (slot_named name (slot ∷ slots)) None ≡ get_or slots (slot_named name slots) None
+slot_next name slot slots e =
+    let k = slot_named name slots in
+    let next : 1 + k ≡ suc k = omega arith in
+    ap (λ b. get_or (slot ∷ slots) (cond (not b) (1 + k) 0) None) e ∙ ap (λ n. get_or (slot ∷ slots) n None) next
+
+-- a name has the i-number of the first slot that holds it, if one does
+pub get_named : (slots : List (Option (List ℕ × ℕ))) (name : List ℕ)
+    → get (names_of slots) name ≡ option_map (λ (entry : List ℕ × ℕ). entry.1) (get_or slots (slot_named name slots) None)
+get_named [] name = refl
+get_named (None ∷ slots) name =
+    get_named slots name ∙ sym (ap (option_map (λ (entry : List ℕ × ℕ). entry.1)) (slot_next name None slots refl))
+get_named (Some entry ∷ slots) name =
+    get_insert (names_of slots) entry.0 name entry.1
+    ∙ elim (bytes_eq name entry.0) as (λ b. bytes_eq name entry.0 ≡ b → cond b (Some entry.1) (get (names_of slots) name)
+    ≡ option_map (λ (entry : List ℕ × ℕ). entry.1) (get_or (Some entry ∷ slots) (slot_named name (Some entry ∷ slots)) None)) [
+      | true ↦ λ e. rw e refl
+      | false ↦ λ e. get_named slots name ∙ sym (ap (option_map (λ (entry : List ℕ × ℕ). entry.1)) (slot_next name (Some entry) slots e))
+    ] refl
 
 -- where a name isn't found, no slot holds it
 pub none_held : (slots : List (Option (List ℕ × ℕ))) (name : List ℕ) → get (names_of slots) name ≡ None → list_any (holds name) slots ≡ false

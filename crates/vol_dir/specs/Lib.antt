@@ -1,4 +1,5 @@
 pub mod Access
+pub mod DirectoryLaws
 pub mod Editing
 pub mod Entries
 pub mod Names

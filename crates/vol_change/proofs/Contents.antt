@@ -17,7 +17,7 @@ use Rattle.vol_dir.specs.Entries.{entry_in, entry_at, slots, slot_count}
 use Rattle.vol_dir.specs.Names.{names_of, names_in}
 use Rattle.vol_change.specs.Alone.{KeepsContent}
 use Rattle.vol_dir.specs.Tree.{Body, Directory, Device, content_of, node_with, node_of, shape_of, is_place, is_named_place}
-use Rattle.vol_change.proofs.ShapePlaces.{place_passed}
+use Rattle.vol_dir.proofs.PlaceTests.{place_passed}
 
 -- the kind stays
 pub kind_same : (geometry : Geometry) (old new : List ℕ) (i : ℕ) → KeepsContent geometry old new i

@@ -17,7 +17,7 @@ use Rattle.vol_judge.proofs.EditedGraphs.{same_graph, kind_kept, entry_kept}
 use Rattle.vol_judge.proofs.ImageGraphs.{inside_from, directory_from}
 use Rattle.vol_change.specs.Beside.{StaysBeside}
 use Rattle.vol_change.specs.Alone.{KeepsContent}
-use Rattle.vol_change.proofs.OneNode.{alone_elsewhere, alone_inode, entry_stays, only_file}
+use Rattle.vol_change.proofs.OneNode.{alone_inode, entry_stays, only_file}
 
 -- the kinds stay where file i's does
 kinds_stay : (geometry : Geometry) (old new : List ℕ) (i x : ℕ) → Fits geometry old → ChangesFileAlone geometry old new i → 1 ≤ i
@@ -52,7 +52,7 @@ pub regular_graph : (geometry : Geometry) (old new : List ℕ) (i : ℕ) → Fit
     → IsSameGraph (graph_of geometry old) (graph_of geometry new)
 regular_graph geometry old new i fits alone one regular kind =
     same_graph geometry old new (λ x first last. kinds_stay geometry old new i x fits alone one kind first last)
-    (λ x first last. links_kept geometry old new i x fits (alone_elsewhere geometry old new i alone) one first last)
+    (λ x first last. links_kept geometry old new i x fits alone.elsewhere one first last)
     (λ x is. (content_stays geometry old new i x fits alone one (not_regular geometry old i x regular is) is).size)
     (λ x s is. entry_stays geometry old new x s (content_stays geometry old new i x fits alone one (not_regular geometry old i x regular is) is) is)
 
@@ -63,7 +63,7 @@ directory_beside geometry old new d fits alone one kind = record {
   kind = λ x. kind_kept geometry old new x (λ first last. kinds_stay geometry old new d x fits alone one kind first last);
   links = λ x used.
       let inside = inside_from geometry old x used in
-      links_kept geometry old new d x fits (alone_elsewhere geometry old new d alone) one inside.0 inside.1;
+      links_kept geometry old new d x fits alone.elsewhere one inside.0 inside.1;
   size = λ x other is. (content_stays geometry old new d x fits alone one other (directory_from geometry old x is)).size;
   entry = λ x s other.
       entry_kept geometry old new x s (kind_kept geometry old new x (λ first last. kinds_stay geometry old new d x fits alone one kind first last))

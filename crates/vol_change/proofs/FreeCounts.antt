@@ -33,6 +33,7 @@ use Rattle.vol_dir.specs.Tree.{no_shape, form_in, is_place, is_named_place, plac
 use Rattle.vol_judge.proofs.AllBlocks.{all_blocks, all_named, all_zoned, apart_once, named_all}
 use Rattle.vol_judge.proofs.GraphCounts.{sum_same}
 use Rattle.vol_judge.proofs.NamedOnce.{in_append, in_left, in_right, once_append}
+use Rattle.vol_dir.proofs.PlaceTests.{place_test}
 
 -- a list without one number, where it first comes
 abbrev without : ℕ → List ℕ → List ℕ
@@ -78,16 +79,6 @@ all_within a (suc n) xs all =
     let rest : n ≤ length (without a xs) =
     all_within (a + 1) n (without a xs) (λ k from to. in_without a k xs (λ e. omega arith) (all k (omega arith) (omega arith))) in
     omega (arith, less, rest)
-
--- a place passes the test for places
-pub place_test : (form : Form) (p : List ℕ) → IsPlace form p → is_place form p ≡ true
-place_test form [] place = absurd place
-place_test form (k ∷ []) place = grind (arith, nat_tests)
-place_test form (j ∷ (a ∷ p)) place =
-    let rest : is_place form (a ∷ p) ≡ true = place_test form (a ∷ p) place.2 in
-    let low : nat_lt j (pointer_count form) ≡ true = grind (arith, nat_tests, place.0) in
-    let deep : nat_le 1 (levels_below form (a ∷ p)) ≡ true = grind (arith, nat_tests, place.1) in
-    ap (λ t. t && (nat_le 1 (levels_below form (a ∷ p)) && is_place form (a ∷ p))) low ∙ (ap (λ t. t && is_place form (a ∷ p)) deep ∙ rest)
 
 -- as many blocks are named as places name something
 blocks_length : (geometry : Geometry) (image : List ℕ) (i : ℕ) (ps : List (List ℕ)) → length (blocks_at geometry image i ps) ≡ count_by (is_named geometry image i) ps

@@ -32,7 +32,7 @@ use Rattle.vol_change.specs.Edits.{put_node, put_shape}
 use Rattle.vol_change.specs.Inodes.{MakesInode}
 use Rattle.vol_change.specs.NodeGraphs.{AddsNode}
 use Rattle.vol_change.specs.Whole.{IsWhole, Keeps}
-use Rattle.vol_change.proofs.ShapePlaces.{place_passed}
+use Rattle.vol_dir.proofs.PlaceTests.{place_passed}
 use Rattle.vol_change.proofs.NewRules.{bare_whole}
 use Rattle.vol_change.proofs.OneNode.{only_inode, only_makes, only_graph, only_links}
 

@@ -13,7 +13,7 @@ use Rattle.vol_layout.proofs.InodeLaws.{KeepsInode, inode_apart, mode_kept, size
 use Rattle.std.specs.Prelude.{IfSome}
 use Rattle.vol_free.specs.Numbers.{IsFreeNumber}
 use Rattle.vol_free.proofs.Frames.{IsFree-behind, free_from}
-use Rattle.vol_file.specs.Changes.{StaysElsewhere, ChangesFileAlone}
+use Rattle.vol_file.specs.Changes.{ChangesFileAlone}
 use Rattle.vol_file.proofs.Alone.{elsewhere_inode}
 use Rattle.vol_file.proofs.Naming.{place_same}
 use Rattle.vol_dir.specs.Entries.{IsDirectory, entry_at}
@@ -77,24 +77,11 @@ only_inode geometry old new i fits first last same =
           record { content = content_kept geometry old new from to j same room kept; inode = inode_of_kept geometry old new j kept };
     }
 
--- what is no other file's stays
-pub alone_elsewhere : (geometry : Geometry) (old new : List ℕ) (i : ℕ) → ChangesFileAlone geometry old new i → StaysElsewhere geometry old new i
-alone_elsewhere geometry old new i alone = record {
-  len = alone.len;
-  before = alone.before;
-  super_block = alone.super_block;
-  lower_inodes = alone.lower_inodes;
-  higher_inodes = alone.higher_inodes;
-  inode = alone.inode;
-  blocks = alone.blocks;
-  behind = alone.behind;
-}
-
 -- the bytes of another i-node stay where a file is changed
 pub alone_inode : (geometry : Geometry) (old new : List ℕ) (i j : ℕ) → Fits geometry old → ChangesFileAlone geometry old new i → 1 ≤ i → 1 ≤ j
     → j ≤ geometry.last_inode → j ≢ i → KeepsInode geometry old new j
 alone_inode geometry old new i j fits alone first low high other =
-    elsewhere_inode geometry old new i j fits (alone_elsewhere geometry old new i alone) first low high other
+    elsewhere_inode geometry old new i j fits alone.elsewhere first low high other
 
 -- the super-block's time stays
 pub alone_time : (geometry : Geometry) (old new : List ℕ) (i : ℕ) → ChangesFileAlone geometry old new i
@@ -102,7 +89,7 @@ pub alone_time : (geometry : Geometry) (old new : List ℕ) (i : ℕ) → Change
 alone_time geometry old new i alone =
     let order = super_order geometry.edition in
     let at = time_place geometry.edition in
-    let copy : IsCopy old new at at 4 = record { bytes = λ r h. alone.super_block (at + r) (omega (arith, order)) (omega (arith, order, h)) } in
+    let copy : IsCopy old new at at 4 = record { bytes = λ r h. alone.elsewhere.super_block (at + r) (omega (arith, order)) (omega (arith, order, h)) } in
     long_copied old new at at 4 0 at at copy (omega arith) (omega arith) (omega arith)
 
 -- the bytes that no call changes stay
@@ -110,11 +97,11 @@ pub alone_around : (geometry : Geometry) (old new : List ℕ) (i : ℕ) → Chan
 alone_around geometry old new i alone =
     let order = super_order geometry.edition in
     record {
-      len = alone.len;
-      before = alone.before;
-      flags = λ k low high. alone.super_block k (omega arith) (omega (arith, order));
-      rest = λ k low high. alone.super_block k (omega (arith, order)) high;
-      behind = alone.behind;
+      len = alone.elsewhere.len;
+      before = alone.elsewhere.before;
+      flags = λ k low high. alone.elsewhere.super_block k (omega arith) (omega (arith, order));
+      rest = λ k low high. alone.elsewhere.super_block k (omega (arith, order)) high;
+      behind = alone.elsewhere.behind;
     }
 
 -- the change of a file

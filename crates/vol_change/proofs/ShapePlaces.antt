@@ -15,16 +15,7 @@ use Rattle.vol_file.specs.Need.{missing_count, need_of}
 use Rattle.vol_file.specs.Shape.{is_on_ways, grows_large, moved_down, fit_form, fit_names, filled}
 use Rattle.vol_file.proofs.PlaceLists.{count_among, among_places, same_bytes}
 use Rattle.vol_dir.specs.Tree.{is_place}
-use Rattle.vol_change.proofs.FreeCounts.{place_test}
-
--- what passes the test for places is one
-pub place_passed : (form : Form) (p : List ℕ) → is_place form p ≡ true → IsPlace form p
-place_passed form [] h = absurd (true≢false (sym h))
-place_passed form (k ∷ []) h = ltb-true k (first_count form) h
-place_passed form (j ∷ (a ∷ p)) h =
-    let low = and_parts _ _ h in
-    let deep = and_parts _ _ low.1 in
-    (ltb-true j (pointer_count form) low.0, leb-true 1 (levels_below form (a ∷ p)) deep.0, place_passed form (a ∷ p) deep.1)
+use Rattle.vol_dir.proofs.PlaceTests.{place_passed, place_test}
 
 -- the names of places alone
 abbrev pub at_places : Form → (List ℕ → Bool) → List ℕ → Bool

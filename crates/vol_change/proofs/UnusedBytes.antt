@@ -102,6 +102,6 @@ own_byte V7 old new i kept v7 = kept 51 refl
 pub file_unused : (geometry : Geometry) (old new : List ℕ) (i j : ℕ) → Fits geometry old → ChangesFileAlone geometry old new i
     → kind_at geometry old i ≢ kinds.Free → 1 ≤ i → 1 ≤ j → j ≤ geometry.last_inode → KeepsUnused geometry old new j
 file_unused geometry old new i j fits alone used first second last = elim (cases_eq j i) [
-  | inl e ↦ rw e (record { stays = own_byte geometry.edition old new i alone.inode; free = λ is. absurd (used is) })
+  | inl e ↦ rw e (record { stays = own_byte geometry.edition old new i alone.elsewhere.inode; free = λ is. absurd (used is) })
   | inr other ↦ kept_unused geometry old new j (alone_inode geometry old new i j fits alone first second last other)
 ]

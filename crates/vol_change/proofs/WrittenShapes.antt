@@ -19,7 +19,8 @@ use Rattle.vol_file.proofs.PlaceLists.{places_among}
 use Rattle.vol_dir.specs.Tree.{form_in, is_place, is_named_place}
 use Rattle.vol_change.proofs.FreeCounts.{form_shape}
 use Rattle.vol_change.proofs.FileInodes.{KeepsMode, KeepsFields, touched_mode, touched_form, fields_kept}
-use Rattle.vol_change.proofs.ShapePlaces.{guarded, place_passed, filled_places, ways_place}
+use Rattle.vol_dir.proofs.PlaceTests.{place_passed}
+use Rattle.vol_change.proofs.ShapePlaces.{guarded, filled_places, ways_place}
 
 -- what a write leaves of file i, where these logical blocks are touched
 pub record StoresBlocks (geometry : Geometry) (old new : List ℕ) (i : ℕ) (blocks : List ℕ) : Type 0 where
@@ -44,7 +45,7 @@ stores_blocks geometry old new free i offset text file writes =
     let form : form_in edition (is_large edition (mode_of geometry old i)) ≡ form_at geometry old i = form_shape edition (mode_of geometry old i) file.kind in
     record {
       kind = mode.kind;
-      fields = fields_kept edition old new (inode_place edition i) writes.alone.inode mode.permissions;
+      fields = fields_kept edition old new (inode_place edition i) writes.alone.elsewhere.inode mode.permissions;
       large = mode.flag ∙ sym (ap (λ f. is_large edition (mode_of geometry old i) || grows_large f blocks) form);
       names = λ p.
           guarded (is_place (form_at geometry new i) p) (is_named geometry new i p) (filled (form_at geometry old i) (is_named geometry old i) blocks p)

@@ -24,7 +24,8 @@ use Rattle.vol_change.proofs.OneNode.{alone_around, only_file, only_makes}
 use Rattle.vol_change.proofs.States.{shape_here}
 use Rattle.vol_judge.specs.Graph.{graph_of}
 use Rattle.vol_judge.specs.GraphEdits.{IsSameGraph}
-use Rattle.vol_change.proofs.ShapePlaces.{guarded, place_passed}
+use Rattle.vol_dir.proofs.PlaceTests.{place_passed}
+use Rattle.vol_change.proofs.ShapePlaces.{guarded}
 use Rattle.vol_change.proofs.WrittenShapes.{StoresBlocks, stores_blocks}
 
 -- an i-number of a file of some kind
@@ -132,7 +133,7 @@ truncated_state geometry old new free i is fits cuts =
     only_makes geometry old new i _ _ is.first is.last (only_file geometry old new i fits cuts.alone is.first)
     (node_edited geometry old new i (λ node. record node { content = Body []; size = 0 }) (Body (body geometry old i)) (Body (body geometry new i)) 0
     is.first is.last (ap (content_of geometry old i) is.kind) (ap (content_of geometry new i) kind)
-    (fields_kept edition old new (inode_place edition i) cuts.alone.inode mode.permissions) cuts.size
+    (fields_kept edition old new (inode_place edition i) cuts.alone.elsewhere.inode mode.permissions) cuts.size
     (λ k. record (node_with old_node (Body (body geometry old i))) { content = Body (cuts.body k); size = 0 }))
     (ap (shape_of geometry new i) kind ∙ (λ k. record { names = λ p. none p k; large = mode.flag k; slots = [] }))
 

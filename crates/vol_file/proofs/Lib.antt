@@ -28,5 +28,6 @@ pub mod Stores
 pub mod Subtrees
 pub mod TakenPlaces
 pub mod Taking
+pub mod Touching
 pub mod Truncated
 pub mod Whole

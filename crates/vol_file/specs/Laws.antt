@@ -1,9 +1,10 @@
 -- Words and statements of the laws about lists of places, and about how many blocks a write takes.
-use Rattle.std.specs.Prelude.{◌≡◌, ℕ, ◌⊎◌, ◌↔◌, Bool, true, false, List, [], ◌∷◌, length}
+use Rattle.std.specs.Prelude.{◌≡◌, ℕ, ◌+◌, ◌/◌, ◌<◌, ◌≤◌, ◌⊎◌, ◌↔◌, Bool, true, false, List, [], ◌∷◌, length}
 use Rattle.std.specs.List.{count_by, range_with_len}
 use Rattle.std.specs.Str.{bytes_eq}
 use Rattle.vol_layout.specs.Places.{IsPlace, places}
-use Rattle.vol_file.specs.Shape.{is_on_ways}
+use Rattle.vol_free.specs.Stack.{IsIn}
+use Rattle.vol_file.specs.Shape.{touched, is_on_ways}
 use Rattle.vol_file.specs.Need.{missing_count, need_of, need, missing_places, places_taken}
 use Rattle.vol_file.specs.Missing.{missing_from}
 use Rattle.vol_layout.specs.declared.geometry.Geometry.{Geometry}
@@ -40,3 +41,7 @@ MissesWhatIsUnnamed = (form : Form) (names : List ℕ → Bool) (blocks p : List
 -- a block is taken for as many places as are needed (this project)
 abbrev pub TakesWhatIsNeeded : Type 0
 TakesWhatIsNeeded = (form : Form) (names : List ℕ → Bool) (blocks : List ℕ) → length (places_taken form names blocks) ≡ need_of form names blocks
+
+-- a logical block is touched where one of the bytes lies in it, and nowhere else (Lions on writei)
+abbrev pub TouchesWhereBytesLie : Type 0
+TouchesWhereBytesLie = (offset len b : ℕ) → IsIn b (touched offset len) ↔ ((n : ℕ) × (offset ≤ n) × (n < offset + len) × (n / 512 ≡ b))

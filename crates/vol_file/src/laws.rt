@@ -7,6 +7,7 @@ ghost use Rattle.vol_file.specs.Laws.{
   NeedsNothingForNothing,
   MissesWhatIsUnnamed,
   TakesWhatIsNeeded,
+  TouchesWhereBytesLie,
 };
 
 /// The list of a form's places has each of its places once, and nothing else.
@@ -28,4 +29,9 @@ pub fn need_is_counted_by_blocks()
 pub fn blocks_are_taken_for_what_is_missing()
     ensures missing { MissesWhatIsUnnamed }
     ensures needed { TakesWhatIsNeeded }
+{}
+
+/// The logical blocks that some bytes touch are those in which one of the bytes lies.
+pub fn blocks_are_touched_where_bytes_lie()
+    ensures { TouchesWhereBytesLie }
 {}

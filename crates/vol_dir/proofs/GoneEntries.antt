@@ -1,12 +1,12 @@
 -- What is left of a directory when an entry goes.
-use Rattle.std.proofs.Common.{◌≡◌, ◌≢◌, ◌∙◌, sym, ap, refl, ℕ, zero, suc, ◌+◌, ◌-◌, ◌*◌, ◌/◌, ◌%◌, ◌<◌, ◌≤◌, Bool, true, false, cond, ◌&&◌, true≢false, not, ◌||◌, List, [], ◌∷◌, map, length, get_or, None, Some, inl, inr, arith, ◌==◌, if◌then◌else◌}
+use Rattle.std.proofs.Common.{◌≡◌, ◌≢◌, ◌∙◌, sym, ap, subst, refl, ℕ, zero, suc, ◌+◌, ◌-◌, ◌*◌, ◌/◌, ◌%◌, ◌<◌, ◌≤◌, Bool, true, false, cond, ◌&&◌, true≢false, not, ◌||◌, List, [], ◌∷◌, map, length, get_or, None, Some, inl, inr, arith, ◌==◌, if◌then◌else◌}
 use Rattle.std.specs.Prelude.{Option}
 use Rattle.std.specs.List.{list_any, range_with_len, count_by}
 use Rattle.std.specs.Str.{bytes_eq}
 use Rattle.std.specs.Option.{is_some, option_map_or}
 use Rattle.std.proofs.lemmas.Bool.{cases_lt, cases_eq, ne_eqb, lt-leb, or_cases, true_from_ne_false, false_from_ne_true}
 use Rattle.std.proofs.lemmas.List.{same_lists, get_or-map, length-map}
-use Rattle.std.proofs.lemmas.List.Sums.{position_or_len_is, sum_by-cons}
+use Rattle.std.proofs.lemmas.List.Sums.{fails_before_first, passes_at_first, sum_by-cons}
 use Rattle.vol_layout.specs.Geometry.{in_zone, Fits}
 use Rattle.vol_layout.specs.Names.{form_at, stored, named, IsFile}
 use Rattle.vol_layout.specs.Places.{last_place, fronts, way, places}
@@ -26,7 +26,8 @@ use Rattle.vol_file.proofs.PlaceLists.{same_bytes}
 use Rattle.vol_dir.specs.Editing.{with_item, HasNamesOnce}
 use Rattle.vol_dir.specs.Entries.{slot_count, entry_at, slots}
 use Rattle.vol_dir.specs.Searching.{holds, slot_named}
-use Rattle.vol_dir.proofs.NameMaps.{cleared}
+use Rattle.vol_dir.specs.Names.{get, names_of}
+use Rattle.vol_dir.proofs.NameMaps.{cleared, get_none}
 use Rattle.vol_dir.proofs.Replacing.{Replaces, replaces, spliced_inside, length-with_item, with_item_here, with_item_else}
 use Rattle.vol_dir.proofs.SlotReading.{length-slots, slot_from, slot_is, entry_in_hole, empty_slot}
 
@@ -145,14 +146,28 @@ removes geometry old new blocks d s file sound whole within writes =
     })
     (empty_slot (slot_at (body geometry new d) (16 * s)) (omega (arith, low, high)))
 
--- the slot that a name has is the first that holds it
-pub slot_named_is : (geometry : Geometry) (image name : List ℕ) (d s : ℕ) → s < slot_count geometry image d
-    → holds name (entry_at geometry image d s) ≡ true → ((t : ℕ) → t < s → holds name (entry_at geometry image d t) ≡ false)
-    → slot_named name (slots geometry image d) ≡ s
-slot_named_is geometry image name d s within held before =
+-- a name that is there stands in its slot
+pub record StandsIn (geometry : Geometry) (image : List ℕ) (d : ℕ) (name : List ℕ) (s : ℕ) : Type 0 where
+  pub within : s < slot_count geometry image d
+  pub held : holds name (entry_at geometry image d s) ≡ true
+
+stands_there : (geometry : Geometry) (image name : List ℕ) (d : ℕ) → is_some (get (names_of (slots geometry image d)) name) ≡ true
+    → StandsIn geometry image d name (slot_named name (slots geometry image d))
+stands_there geometry image name d there =
+    let all = slots geometry image d in
     let len = length-slots geometry image d in
-    position_or_len_is (holds name) (slots geometry image d) s None (omega arith)
-    (λ t h. ap (holds name) (slot_is geometry image d t) ∙ before t h) (λ h. ap (holds name) (slot_is geometry image d s) ∙ held)
+    elim (cases_lt (slot_named name all) (length all)) [
+      | inl low ↦ record {
+        within = omega arith;
+        held = ap (holds name) (sym (slot_is geometry image d (slot_named name all))) ∙ passes_at_first (holds name) all None low;
+      }
+      | inr high ↦ absurd (true≢false (sym there
+          ∙ ap is_some (get_none all name (λ t h. fails_before_first (holds name) all t None (omega (arith, h, high))))))
+    ]
+
+pub stands_in : (geometry : Geometry) (image name : List ℕ) (d s : ℕ) → s ≡ slot_named name (slots geometry image d)
+    → is_some (get (names_of (slots geometry image d)) name) ≡ true → StandsIn geometry image d name s
+stands_in geometry image name d s is there = subst (StandsIn geometry image d name) (sym is) (stands_there geometry image name d there)
 
 -- a slot that doesn't hold the name stays
 stays : (name : List ℕ) (slot : Option (List ℕ × ℕ)) → holds name slot ≡ false → slot ≡ cleared name slot

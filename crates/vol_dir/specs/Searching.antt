@@ -1,13 +1,14 @@
 -- Searching the slots of a directory.
-use Rattle.std.specs.Prelude.{◌≡◌, ℕ, ◌<◌, ◌≤◌, Bool, true, false, not, if◌then◌else◌, List, Option, None, Some, MatchOption}
+use Rattle.std.specs.Prelude.{◌≡◌, ℕ, ◌<◌, ◌≤◌, ◌||◌, Bool, true, false, not, if◌then◌else◌, List, Option, None, Some, MatchOption}
 use Rattle.std.specs.List.{position_or_len}
-use Rattle.std.specs.Option.{is_none, is_some, option_map_or}
+use Rattle.std.specs.Option.{is_none, is_some, option_map, option_map_or}
 use Rattle.std.specs.Str.{bytes_eq}
 use Rattle.vol_layout.specs.declared.slot.Slot.{Slot}
 use Rattle.vol_dir.specs.Entries.{entry_in}
 use Rattle.vol_dir.specs.Names.{is_dots}
+use Rattle.vol_dir.specs.declared.entries.Entry.{Entry}
 use Rattle.vol_dir.specs.declared.entries.Sought.{Sought}
-use Rattle.vol_dir.specs.declared.entries.Sought.TheVariants.{Named, Empty, Any, Other}
+use Rattle.vol_dir.specs.declared.entries.Sought.TheVariants.{Named, Empty, NamedOrEmpty, Any, Other}
 
 -- whether a slot holds an entry with this name (manual section 5, directories)
 abbrev pub holds : List ℕ → Option (List ℕ × ℕ) → Bool
@@ -23,6 +24,7 @@ holds_other (Some entry) = not (is_dots entry.0)
 abbrev pub is_sought : Sought → Option (List ℕ × ℕ) → Bool
 is_sought (Named name) entry = holds name.now entry
 is_sought Empty entry = is_none entry
+is_sought (NamedOrEmpty name) entry = is_none entry || holds name.now entry
 is_sought Any entry = is_some entry
 is_sought Other entry = holds_other entry
 
@@ -41,6 +43,22 @@ pub record IsFirst (sought : Sought) (entry : ℕ → Option (List ℕ × ℕ)) 
 -- what a search from slot `from` on, of n, answers: the first that is sought, if one is (Lions on namei)
 abbrev pub Searches : Sought → (ℕ → Option (List ℕ × ℕ)) → ℕ → ℕ → Option (ℕ × Slot) → Type 0
 Searches sought entry from n result = MatchOption result (IsMissing sought entry from n) (λ first. IsFirst sought entry from n first.0 first.1)
+
+-- none of the slots from `from` on, below n, has a name (Lions on namei)
+abbrev pub IsUnnamed : List ℕ → (ℕ → Option (List ℕ × ℕ)) → ℕ → ℕ → Type 0
+IsUnnamed name entry from n = (t : ℕ) → from ≤ t → t < n → holds name (entry t) ≡ false
+
+-- slot s is the first from slot `from` on, of n, that has a name, and gives it to i-number i (Lions on namei)
+pub record IsFirstNamed (name : List ℕ) (entry : ℕ → Option (List ℕ × ℕ)) (from n s i : ℕ) : Type 0 where
+  pub reached : from ≤ s
+  pub within : s < n
+  pub found : holds name (entry s) ≡ true
+  pub number : option_map (λ (e : List ℕ × ℕ). e.1) (entry s) ≡ Some i
+  pub before : IsUnnamed name entry from s
+
+-- what a search for a name from slot `from` on, of n, finds: the first entry that has it, if one does (Lions on namei)
+abbrev pub Finds : List ℕ → (ℕ → Option (List ℕ × ℕ)) → ℕ → ℕ → Option Entry → Type 0
+Finds name entry from n result = MatchOption result (IsUnnamed name entry from n) (λ e. IsFirstNamed name entry from n e.slot e.inode)
 
 -- the slot where a new entry goes: the first empty one, else one after the last (Lions on wdir)
 abbrev pub new_slot : List (Option (List ℕ)) → ℕ

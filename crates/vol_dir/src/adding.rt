@@ -11,16 +11,17 @@ ghost use Rattle.vol_dir.specs.Entries.{slots};
 ghost use Rattle.vol_dir.specs.Names.{get, insert, names_of, names_in};
 ghost use Rattle.vol_dir.specs.Searching.{new_slot};
 
-use crate::entries::place_for;
+use crate::entries::new_slot;
 use pdp_words::Image;
 use vol_file::write;
+use vol_layout::slot::SLOT;
 use vol_layout::{Geometry, Slot};
 
 /// Gives `name` to i-number `i` in directory `dir`: in its first empty slot, else at its end. The name
 /// isn't there yet. All 16 bytes of the slot are written, as [`write`] writes them: blocks are taken
 /// where the slot's block, or one on the way to it, isn't named.
 ///
-/// Costs as much as [`place_for`], and the write.
+/// Costs as much as [`place_for`](crate::place_for), and the write.
 pub fn add(image: &mut Image, geometry: &Geometry, dir: u16, name: &[u8], i: u16)
     requires file { IsFile geometry.now image.old dir }
     requires sound { HasSoundFiles geometry.now image.old }
@@ -46,6 +47,40 @@ pub fn add(image: &mut Image, geometry: &Geometry, dir: u16, name: &[u8], i: u16
     ensures fits { Fits geometry.now image.new }
     ensures file { IsFile geometry.now image.new dir }
 {
-    let at = place_for(image, geometry, dir);
+    let slot = new_slot(image, geometry, dir);
+    add_at(image, geometry, dir, slot, name, i);
+}
+
+/// Gives `name` to i-number `i` in directory `dir`, as [`add`] does, in the slot where a new entry goes, as
+/// [`lookup`](crate::lookup) of the name found it.
+///
+/// Costs the write of 16 bytes.
+pub fn add_at(image: &mut Image, geometry: &Geometry, dir: u16, slot: u32, name: &[u8], i: u16)
+    requires slot { slot ≡ new_slot (names_in (slots geometry.now image.old dir)) }
+    requires file { IsFile geometry.now image.old dir }
+    requires sound { HasSoundFiles geometry.now image.old }
+    requires whole { size_of geometry.now image.old dir % 16 ≡ 0 }
+    requires once { HasNamesOnce geometry.now image.old dir }
+    requires new { get (names_of (slots geometry.now image.old dir)) name.now ≡ None }
+    requires short { length name.now ≤ 14 }
+    requires text { (k : ℕ) → k < length name.now → slice_index name.now k ≢ 0 }
+    requires inode { 1 ≤ i }
+    requires greatest { 16 * new_slot (names_in (slots geometry.now image.old dir)) + 16 ≤ (constants geometry.now.edition).greatest }
+    requires room { (blocks : List ℕ) → IsSoundWith geometry.now image.old blocks
+        → need geometry.now image.old dir (16 * new_slot (names_in (slots geometry.now image.old dir))) 16 ≤ length blocks }
+    ensures written { (blocks : List ℕ) → IsSoundWith geometry.now image.old blocks
+        → Writes geometry.now image.old image.new dir (16 * new_slot (names_in (slots geometry.now image.old dir)))
+        (slot_bytes name.now i) blocks }
+    ensures names { names_of (slots geometry.now image.new dir) ≡ insert (names_of (slots geometry.now image.old dir)) name.now i }
+    ensures slots { names_in (slots geometry.now image.new dir) ≡ with_item (names_in (slots geometry.now image.old dir))
+        (new_slot (names_in (slots geometry.now image.old dir))) (Some name.now) }
+    ensures others { (d : ℕ) → d ≢ dir → IsFile geometry.now image.old d → slots geometry.now image.new d ≡ slots geometry.now image.old d }
+    ensures once { HasNamesOnce geometry.now image.new dir }
+    ensures whole { size_of geometry.now image.new dir % 16 ≡ 0 }
+    ensures sound { HasSoundFiles geometry.now image.new }
+    ensures fits { Fits geometry.now image.new }
+    ensures file { IsFile geometry.now image.new dir }
+{
+    let at = SLOT as u32 * slot;
     write(image, geometry, dir, at, &Slot::new(i, name).to_bytes());
 }

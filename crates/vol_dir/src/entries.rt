@@ -1,12 +1,12 @@
 //! The entries of a directory: finding one, and the place of a new one.
-ghost use Rattle.std.specs.Prelude.{◌≡◌, ℕ, ◌+◌, ◌-◌, ◌*◌, ◌<◌, ◌≤◌, not, false, length, IsSome};
+ghost use Rattle.std.specs.Prelude.{◌≡◌, ℕ, ◌+◌, ◌-◌, ◌*◌, ◌<◌, ◌≤◌, not, false, length, OnErr, IfOk, IfErr, Some, None};
 ghost use Rattle.std.specs.List.{list_any};
 ghost use Rattle.vol_layout.specs.Geometry.{Fits};
 ghost use Rattle.vol_layout.specs.Slot.{slot_at};
 ghost use Rattle.vol_dir.specs.Entries.{entry_in, slot_count, entry_at, slots, IsDirectory};
 ghost use Rattle.vol_dir.specs.Names.{get, names_of, names_in, is_dots};
 ghost use Rattle.vol_dir.specs.Scanning.{GoesOn};
-ghost use Rattle.vol_dir.specs.Searching.{is_sought, Searches, new_slot};
+ghost use Rattle.vol_dir.specs.Searching.{is_sought, Searches, Finds, new_slot, slot_named};
 
 use pdp_words::{BLOCK, Image};
 use vol_file::{block_at, next_block};
@@ -24,10 +24,21 @@ pub(crate) enum Sought<'a> {
     Named(&'a [u8]),
     /// A slot without entry.
     Empty,
+    /// The entry with a name, or a slot without entry, whichever comes first.
+    NamedOrEmpty(&'a [u8]),
     /// Any entry.
     Any,
     /// An entry other than `.` and `..`.
     Other,
+}
+
+/// Where a name stands in a directory, and what it names.
+#[derive(Clone, Copy, Debug, PartialEq, Eq)]
+pub struct Entry {
+    /// The slot, counted from 0.
+    pub slot: u32,
+    /// The i-number.
+    pub inode: u16,
 }
 
 /// Whether a search ends at a slot.
@@ -38,6 +49,7 @@ fn is_sought(slot: &Slot, sought: Sought<'_>) -> bool
     match sought {
         Sought::Named(name) => !is_empty && name == slot.name(),
         Sought::Empty => is_empty,
+        Sought::NamedOrEmpty(name) => is_empty || name == slot.name(),
         Sought::Any => !is_empty,
         Sought::Other => !is_empty && !is_dots(slot.name()),
     }
@@ -91,7 +103,7 @@ fn first_in_hole(start: u32, count: u32, sought: Sought<'_>) -> Option<(u32, Slo
         name: [0; NAME],
     };
     match sought {
-        Sought::Empty if start < count => Some((start, empty)),
+        Sought::Empty | Sought::NamedOrEmpty(_) if start < count => Some((start, empty)),
         _ => None,
     }
 }
@@ -190,6 +202,52 @@ pub fn next_entry(image: &Image, geometry: &Geometry, dir: u16, from: u32) -> Op
     first_slot(image, geometry, dir, from, Sought::Any)
 }
 
+/// The entry that `name` has in directory `dir`; where the name isn't there, an Err with the slot of a new
+/// entry: the first empty one, else one behind the last. Of slots with one name the first counts.
+///
+/// Goes over the slots once. Costs the way of each logical block up to the entry, and a look at each slot
+/// of those that aren't holes; where the name isn't there, those of the whole directory.
+pub fn lookup(image: &Image, geometry: &Geometry, dir: u16, name: &[u8]) -> Result<Entry, u32>
+    requires fits { Fits geometry.now image.now }
+    requires first { 1 ≤ dir }
+    requires last { dir ≤ geometry.now.last_inode }
+    ensures number { IfOk result (λ entry. get (names_of (slots geometry.now image.now dir)) name.now ≡ Some entry.inode) }
+    ensures slot { IfOk result (λ entry. entry.slot ≡ slot_named name.now (slots geometry.now image.now dir)) }
+    ensures missing { OnErr result (get (names_of (slots geometry.now image.now dir)) name.now ≡ None) }
+    ensures new_slot { IfErr result (λ slot. slot ≡ new_slot (names_in (slots geometry.now image.now dir))) }
+{
+    let Some((slot, found)) = first_slot(image, geometry, dir, 0, Sought::NamedOrEmpty(name)) else {
+        return Err(slot_count(image, geometry, dir));
+    };
+    if found.inode != 0 {
+        return Ok(Entry {
+            slot,
+            inode: found.inode,
+        });
+    }
+    named(image, geometry, dir, slot + 1, name).ok_or(slot)
+}
+
+/// The first entry of directory `dir` from slot `from` on that has `name`.
+pub(crate) fn named(
+    image: &Image,
+    geometry: &Geometry,
+    dir: u16,
+    from: u32,
+    name: &[u8],
+) -> Option<Entry>
+    requires fits { Fits geometry.now image.now }
+    requires first { 1 ≤ dir }
+    requires last { dir ≤ geometry.now.last_inode }
+    ensures { Finds name.now (entry_at geometry.now image.now dir) from (slot_count geometry.now image.now dir) result }
+{
+    let (slot, found) = first_slot(image, geometry, dir, from, Sought::Named(name))?;
+    Some(Entry {
+        slot,
+        inode: found.inode,
+    })
+}
+
 /// The i-number that `name` has in directory `dir`; None where the name isn't there. Of slots with one
 /// name the first counts.
 ///
@@ -200,8 +258,7 @@ pub fn find(image: &Image, geometry: &Geometry, dir: u16, name: &[u8]) -> Option
     requires last { dir ≤ geometry.now.last_inode }
     ensures { result ≡ get (names_of (slots geometry.now image.now dir)) name.now }
 {
-    let (_, slot) = first_slot(image, geometry, dir, 0, Sought::Named(name))?;
-    Some(slot.inode)
+    Some(named(image, geometry, dir, 0, name)?.inode)
 }
 
 /// The byte of directory `dir` where its next entry goes: that of its first empty slot, else of its
@@ -214,11 +271,20 @@ pub fn place_for(image: &Image, geometry: &Geometry, dir: u16) -> u32
     requires last { dir ≤ geometry.now.last_inode }
     ensures { result ≡ 16 * new_slot (names_in (slots geometry.now image.now dir)) }
 {
-    let s = match first_slot(image, geometry, dir, 0, Sought::Empty) {
+    SLOT as u32 * new_slot(image, geometry, dir)
+}
+
+/// The slot of directory `dir` where its next entry goes: the first empty one, else one behind the last.
+pub(crate) fn new_slot(image: &Image, geometry: &Geometry, dir: u16) -> u32
+    requires fits { Fits geometry.now image.now }
+    requires first { 1 ≤ dir }
+    requires last { dir ≤ geometry.now.last_inode }
+    ensures { result ≡ new_slot (names_in (slots geometry.now image.now dir)) }
+{
+    match first_slot(image, geometry, dir, 0, Sought::Empty) {
         Some((s, _)) => s,
         None => slot_count(image, geometry, dir),
-    };
-    SLOT as u32 * s
+    }
 }
 
 /// Whether directory `dir` has no entries but `.` and `..`.

@@ -12,10 +12,10 @@ pub mod removing;
 pub mod walking;
 
 pub use access::{Access, grants};
-pub use adding::add;
+pub use adding::{add, add_at};
 pub use cred::Cred;
-pub use entries::{find, is_dots, is_empty_dir, next_entry, place_for};
+pub use entries::{Entry, find, is_dots, is_empty_dir, lookup, next_entry, place_for};
 pub use paths::split_component;
 pub use refusal::Refusal;
-pub use removing::remove;
+pub use removing::{remove, remove_at};
 pub use walking::{walk, walk_parent};

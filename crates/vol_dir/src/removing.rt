@@ -10,7 +10,7 @@ ghost use Rattle.vol_dir.specs.Entries.{slots};
 ghost use Rattle.vol_dir.specs.Names.{get, remove, names_of, names_in};
 ghost use Rattle.vol_dir.specs.Searching.{slot_named, emptied};
 
-use crate::entries::{Sought, first_slot};
+use crate::entries::named;
 use pdp_words::Image;
 use vol_file::write;
 use vol_layout::Geometry;
@@ -38,8 +38,35 @@ pub fn remove(image: &mut Image, geometry: &Geometry, dir: u16, name: &[u8])
     ensures fits { Fits geometry.now image.new }
     ensures file { IsFile geometry.now image.new dir }
 {
-    match first_slot(image, geometry, dir, 0, Sought::Named(name)) {
-        None => {}
-        Some((s, _)) => write(image, geometry, dir, SLOT as u32 * s, &[0, 0]),
+    if let Some(entry) = named(image, geometry, dir, 0, name) {
+        remove_at(image, geometry, dir, entry.slot, name);
     }
+}
+
+/// Takes `name` out of directory `dir`, as [`remove`] does, from its slot, as [`lookup`](crate::lookup) found
+/// it.
+///
+/// Costs the write of two bytes.
+pub fn remove_at(image: &mut Image, geometry: &Geometry, dir: u16, slot: u32, name: &[u8])
+    requires slot { slot ≡ slot_named name.now (slots geometry.now image.old dir) }
+    requires file { IsFile geometry.now image.old dir }
+    requires sound { HasSoundFiles geometry.now image.old }
+    requires whole { size_of geometry.now image.old dir % 16 ≡ 0 }
+    requires once { HasNamesOnce geometry.now image.old dir }
+    requires there { IsSome (get (names_of (slots geometry.now image.old dir)) name.now) }
+    ensures written { (blocks : List ℕ) → IsSoundWith geometry.now image.old blocks
+        → Writes geometry.now image.old image.new dir (16 * slot_named name.now (slots geometry.now image.old dir)) (0 ∷ 0 ∷ []) blocks }
+    ensures none { need geometry.now image.old dir (16 * slot_named name.now (slots geometry.now image.old dir)) 2 ≡ 0 }
+    ensures names { names_of (slots geometry.now image.new dir) ≡ remove (names_of (slots geometry.now image.old dir)) name.now }
+    ensures slots { names_in (slots geometry.now image.new dir) ≡ map (emptied name.now) (names_in (slots geometry.now image.old dir)) }
+    ensures others { (d : ℕ) → d ≢ dir → IsFile geometry.now image.old d → slots geometry.now image.new d ≡ slots geometry.now image.old d }
+    ensures once { HasNamesOnce geometry.now image.new dir }
+    ensures size { size_of geometry.now image.new dir ≡ size_of geometry.now image.old dir }
+    ensures sound { HasSoundFiles geometry.now image.new }
+    ensures fits { Fits geometry.now image.new }
+    ensures file { IsFile geometry.now image.new dir }
+{
+    // The slot says which name it is.
+    let _ = name;
+    write(image, geometry, dir, SLOT as u32 * slot, &[0, 0]);
 }

@@ -1,10 +1,10 @@
-use Rattle.std.proofs.Common.{◌∙◌, sym, ap, ◌*◌}
-use Rattle.vol_dir.proofs.Finding.{new_slot_found, new_slot_past}
+use Rattle.std.proofs.Common.{arith}
+use Rattle.vol_dir.proofs.Finding.{slots_low}
+use Rattle.vol_dir.proofs.NewEntries.{new_within}
 use Rattle.vol_dir.proofs.entries.place_for.Goals as goal
-use Rattle.vol_dir.proofs.entries.place_for.Goals.{in-Some, in-None}
 
-pub returns : goal.returns
-returns c = ap (λ s. 16 * s) (elim c.match-first_slot.branch [
-  | in-Some w ↦ w.s-is ∙ sym (new_slot_found c.args.geometry.now c.args.image.now c.args.dir w.in-Some.ensures)
-  | in-None w ↦ w.s-is ∙ (w.slot_count-s.ensures ∙ sym (new_slot_past c.args.geometry.now c.args.image.now c.args.dir w.in-None.ensures))
-])
+pub overflow_mul-result : goal.overflow_mul-result
+overflow_mul-result c =
+    let within = new_within c.args.geometry.now c.args.image.now c.args.dir in
+    let low = slots_low c.args.geometry.now c.args.image.now c.args.dir in
+    omega (arith, within, low, c.new_slot.ensures)

@@ -5,11 +5,12 @@ use Rattle.vol_dir.specs.Editing.{slot_bytes}
 use Rattle.vol_dir.specs.Entries.{slots}
 use Rattle.vol_dir.specs.Names.{names_of, names_in}
 use Rattle.vol_dir.specs.Searching.{new_slot}
+use Rattle.vol_dir.proofs.Finding.{slots_low}
 use Rattle.vol_dir.proofs.NameMaps.{none_held, names_with, names_in_with}
 use Rattle.vol_dir.proofs.NewEntries.{adds, new_empty, new_within, once_added, writes_as, length-slot_bytes}
 use Rattle.vol_dir.proofs.Replacing.{Replaces, slots_with, same_slots}
 use Rattle.vol_dir.proofs.SlotReading.{length-slots}
-use Rattle.vol_dir.proofs.adding.add.Goals as goal
+use Rattle.vol_dir.proofs.adding.add_at.Goals as goal
 
 pub returns : goal.returns
 returns c =
@@ -25,7 +26,7 @@ returns c =
     let some : 1 ≤ length c.to_bytes.result =
     let sixteen = length-slot_bytes name c.args.i c.requires.short in omega (arith, ap length text, sixteen) in
     let written : (blocks : List ℕ) → IsSoundWith geometry old blocks → Writes geometry old new d (16 * s) (slot_bytes name c.args.i) blocks = λ blocks sound.
-    writes_as geometry old new blocks d c.place_for-at.result (16 * s) c.to_bytes.result (slot_bytes name c.args.i) c.place_for-at.ensures text
+    writes_as geometry old new blocks d (16 * c.args.slot) (16 * s) c.to_bytes.result (slot_bytes name c.args.i) (ap (λ n. 16 * n) c.requires.slot) text
     (c.write.ensures.written some blocks sound) in
     let writes = written has.blocks has.sound in
     let added : Replaces geometry old new d s (Some (name, c.args.i)) =
@@ -44,3 +45,9 @@ returns c =
       fits = c.write.ensures.fits;
       file = c.write.ensures.file;
     }
+
+pub overflow_mul-at : goal.overflow_mul-at
+overflow_mul-at c =
+    let within = new_within c.args.geometry.now c.args.image.now c.args.dir in
+    let low = slots_low c.args.geometry.now c.args.image.now c.args.dir in
+    omega (arith, within, low, c.requires.slot)

@@ -22,14 +22,15 @@ ghost use Rattle.vol_change.specs.Ready.{TakesName, entry_need, free_in};
 
 use crate::times::touch;
 use pdp_words::Image;
-use vol_dir::{add, remove};
+use vol_dir::{add_at, remove_at};
 use vol_layout::Geometry;
 
-/// Gives `name`, which isn't there yet, to i-number `i` in directory `dir`, as [`add`] does. The times
-/// of the directory stay, and so does the link count of `i`.
+/// Gives `name`, which isn't there yet, to i-number `i` in directory `dir`, as [`add_at`] does, in the slot
+/// where a new entry goes. The times of the directory stay, and so does the link count of `i`.
 ///
-/// Costs as much as [`add`].
-pub fn add_name(image: &mut Image, geometry: &Geometry, dir: u16, name: &[u8], i: u16)
+/// Costs as much as [`add_at`].
+pub fn add_name(image: &mut Image, geometry: &Geometry, dir: u16, slot: u32, name: &[u8], i: u16)
+    requires slot { slot ≡ new_slot (names_in (slots geometry.now image.old dir)) }
     requires whole { IsWhole geometry.now image.old }
     requires first { 1 ≤ dir }
     requires last { dir ≤ geometry.now.last_inode }
@@ -51,14 +52,15 @@ pub fn add_name(image: &mut Image, geometry: &Geometry, dir: u16, name: &[u8], i
     ensures once { HasNamesOnce geometry.now image.new dir }
     ensures unused { (j : ℕ) → 1 ≤ j → j ≤ geometry.now.last_inode → KeepsUnused geometry.now image.old image.new j }
 {
-    add(image, geometry, dir, name, i);
+    add_at(image, geometry, dir, slot, name, i);
 }
 
-/// Takes `name`, which is there, out of directory `dir`, as [`remove`] does. The size and the times of
-/// the directory stay, and so does the link count of what was named.
+/// Takes `name`, which is there, out of its slot of directory `dir`, as [`remove_at`] does. The size and
+/// the times of the directory stay, and so does the link count of what was named.
 ///
-/// Costs as much as [`remove`].
-pub fn remove_name(image: &mut Image, geometry: &Geometry, dir: u16, name: &[u8])
+/// Costs as much as [`remove_at`].
+pub fn remove_name(image: &mut Image, geometry: &Geometry, dir: u16, slot: u32, name: &[u8])
+    requires slot { slot ≡ slot_named name.now (slots geometry.now image.old dir) }
     requires whole { IsWhole geometry.now image.old }
     requires first { 1 ≤ dir }
     requires last { dir ≤ geometry.now.last_inode }
@@ -75,19 +77,21 @@ pub fn remove_name(image: &mut Image, geometry: &Geometry, dir: u16, name: &[u8]
     ensures once { HasNamesOnce geometry.now image.new dir }
     ensures unused { (j : ℕ) → 1 ≤ j → j ≤ geometry.now.last_inode → KeepsUnused geometry.now image.old image.new j }
 {
-    remove(image, geometry, dir, name);
+    remove_at(image, geometry, dir, slot, name);
 }
 
-/// Gives `name`, which isn't there yet, to i-number `i` in directory `dir`, whose bytes were then last
-/// changed at `moment`, in seconds.
+/// Gives `name`, which isn't there yet, to i-number `i` in directory `dir`, in the slot where a new entry
+/// goes. The directory's bytes were then last changed at `moment`, in seconds.
 pub(crate) fn enter(
     image: &mut Image,
     geometry: &Geometry,
     dir: u16,
+    slot: u32,
     name: &[u8],
     i: u16,
     moment: u32,
 )
+    requires slot { slot ≡ new_slot ((state geometry.now image.old).shapes dir).slots }
     requires whole { IsWhole geometry.now image.old }
     requires directory { IsDirectory geometry.now image.old dir }
     requires slots { size_of geometry.now image.old dir % 16 ≡ 0 }
@@ -104,13 +108,21 @@ pub(crate) fn enter(
     ensures beside { StaysBeside (graph_of geometry.now image.old) (graph_of geometry.now image.new) dir }
     ensures unused { (j : ℕ) → 1 ≤ j → j ≤ geometry.now.last_inode → KeepsUnused geometry.now image.old image.new j }
 {
-    add_name(image, geometry, dir, name, i);
+    add_name(image, geometry, dir, slot, name, i);
     touch(image, geometry, dir, moment);
 }
 
-/// Takes `name`, which is there, out of directory `dir`, whose bytes were then last changed at `moment`,
-/// in seconds.
-pub(crate) fn leave(image: &mut Image, geometry: &Geometry, dir: u16, name: &[u8], moment: u32)
+/// Takes `name`, which is there, out of its slot of directory `dir`, whose bytes were then last changed at
+/// `moment`, in seconds.
+pub(crate) fn leave(
+    image: &mut Image,
+    geometry: &Geometry,
+    dir: u16,
+    slot: u32,
+    name: &[u8],
+    moment: u32,
+)
+    requires slot { slot ≡ slot_named name.now (slots geometry.now image.old dir) }
     requires whole { IsWhole geometry.now image.old }
     requires directory { IsDirectory geometry.now image.old dir }
     requires slots { size_of geometry.now image.old dir % 16 ≡ 0 }
@@ -124,6 +136,6 @@ pub(crate) fn leave(image: &mut Image, geometry: &Geometry, dir: u16, name: &[u8
     ensures beside { StaysBeside (graph_of geometry.now image.old) (graph_of geometry.now image.new) dir }
     ensures unused { (j : ℕ) → 1 ≤ j → j ≤ geometry.now.last_inode → KeepsUnused geometry.now image.old image.new j }
 {
-    remove_name(image, geometry, dir, name);
+    remove_name(image, geometry, dir, slot, name);
     touch(image, geometry, dir, moment);
 }

@@ -12,7 +12,7 @@ use pdp_words::Image;
 use std::alloc::{AllocError, Global};
 use std::process::Abort;
 use vol_change::{add_name, empty_file, remove_name, write_bytes};
-use vol_dir::{find, place_for};
+use vol_dir::{lookup, place_for};
 use vol_file::need;
 use vol_free::free_count;
 use vol_judge::judge;
@@ -107,19 +107,19 @@ fn enter(image: &mut Image, geometry: &Geometry, dir: u16, name: &[u8], i: u16) 
     if !is_kind(image, geometry, dir, Kind::Directory) || 14 < name.len() || name.contains(&0) {
         return false;
     }
-    if i == 0
-        || size(image, geometry, dir) % 16 != 0
-        || find(image, geometry, dir, name).is_some()
-    {
+    if i == 0 || size(image, geometry, dir) % 16 != 0 {
         return false;
     }
+    let Err(slot) = lookup(image, geometry, dir, name) else {
+        return false;
+    };
     let at = place_for(image, geometry, dir);
     if geometry.edition.constants().greatest - 16 < at
         || free_count(image, geometry) < need(image, geometry, dir, at, 16)
     {
         return false;
     }
-    add_name(image, geometry, dir, name, i);
+    add_name(image, geometry, dir, slot, name, i);
     true
 }
 
@@ -133,10 +133,10 @@ fn take_out(image: &mut Image, geometry: &Geometry, dir: u16, name: &[u8]) -> bo
     if !is_kind(image, geometry, dir, Kind::Directory) || size(image, geometry, dir) % 16 != 0 {
         return false;
     }
-    let Some(_) = find(image, geometry, dir, name) else {
+    let Ok(entry) = lookup(image, geometry, dir, name) else {
         return false;
     };
-    remove_name(image, geometry, dir, name);
+    remove_name(image, geometry, dir, entry.slot, name);
     true
 }
 

@@ -4,6 +4,7 @@ ghost use Rattle.vol_layout.specs.Edition.{constants};
 ghost use Rattle.vol_layout.specs.Inode.{inode_place};
 ghost use Rattle.vol_layout.specs.declared.edition.Edition.TheVariants as editions;
 ghost use Rattle.vol_dir.specs.Entries.{IsDirectory};
+ghost use Rattle.vol_dir.specs.Searching.{new_slot};
 ghost use Rattle.vol_dir.specs.Tree.{state};
 ghost use Rattle.vol_dir.specs.Walk.{IsComponent, has_zero};
 ghost use Rattle.vol_free.specs.Numbers.{IsFreeNumber};
@@ -18,16 +19,17 @@ use crate::times::put_time;
 use pdp_words::Image;
 use vol_layout::Geometry;
 
-/// Makes an empty regular file with `name` in directory `dir`. Its i-number is the recorded one, if
+/// Makes an empty regular file with `name` in directory `dir`, in the slot where a new entry goes. Its i-number is the recorded one, if
 /// there is one, and else one that is free; the answer is that number.
 ///
-/// Costs what a new entry of the directory does; the i-list is searched only where no cached i-number is
+/// Costs the write of the entry; the i-list is searched only where no cached i-number is
 /// free.
 pub fn create(
     image: &mut Image,
     geometry: &Geometry,
     node: NewNode,
     dir: u16,
+    slot: u32,
     name: &[u8],
     recorded: Option<u16>,
 ) -> u16
@@ -35,6 +37,7 @@ pub fn create(
     requires user { node.owner.uid ≤ (constants geometry.now.edition).id_limit }
     requires group { node.owner.gid ≤ (constants geometry.now.edition).id_limit }
     requires directory { IsDirectory geometry.now image.old dir }
+    requires slot { slot ≡ new_slot ((state geometry.now image.old).shapes dir).slots }
     requires takes { TakesName (state geometry.now image.old) dir name.now }
     requires component { IsComponent name.now }
     requires text { has_zero name.now ≡ false }
@@ -50,7 +53,7 @@ pub fn create(
 {
     let made = pick_number(image, geometry, recorded);
     make_file(image, geometry, made, node);
-    enter(image, geometry, dir, name, made, node.moment);
+    enter(image, geometry, dir, slot, name, made, node.moment);
     put_time(image, geometry, node.moment);
     made
 }

@@ -4,6 +4,7 @@ ghost use Rattle.vol_layout.specs.Edition.{constants};
 ghost use Rattle.vol_layout.specs.declared.mode.Kind.TheVariants as kinds;
 ghost use Rattle.vol_file.specs.Rules.{kind_at};
 ghost use Rattle.vol_dir.specs.Entries.{IsDirectory, IsInUse};
+ghost use Rattle.vol_dir.specs.Searching.{new_slot};
 ghost use Rattle.vol_dir.specs.Tree.{state};
 ghost use Rattle.vol_dir.specs.Walk.{IsComponent, has_zero};
 ghost use Rattle.vol_change.specs.Edits.{at_time};
@@ -18,14 +19,24 @@ use crate::times::put_time;
 use pdp_words::Image;
 use vol_layout::Geometry;
 
-/// Gives node `i`, which is no directory, the further `name` in directory `dir`, at `moment`, in seconds.
+/// Gives node `i`, which is no directory, the further `name` in directory `dir`, in the slot where a new entry
+/// goes, at `moment`, in seconds.
 ///
-/// Costs what a new entry of the directory does.
-pub fn link(image: &mut Image, geometry: &Geometry, i: u16, dir: u16, name: &[u8], moment: u32)
+/// Costs the write of the entry.
+pub fn link(
+    image: &mut Image,
+    geometry: &Geometry,
+    i: u16,
+    dir: u16,
+    slot: u32,
+    name: &[u8],
+    moment: u32,
+)
     requires ready { IsReady geometry.now image.old }
     requires used { IsInUse geometry.now image.old i }
     requires other { kind_at geometry.now image.old i ≢ kinds.Directory }
     requires directory { IsDirectory geometry.now image.old dir }
+    requires slot { slot ≡ new_slot ((state geometry.now image.old).shapes dir).slots }
     requires takes { TakesName (state geometry.now image.old) dir name.now }
     requires component { IsComponent name.now }
     requires text { has_zero name.now ≡ false }
@@ -36,6 +47,6 @@ pub fn link(image: &mut Image, geometry: &Geometry, i: u16, dir: u16, name: &[u8
     ensures unused { (j : ℕ) → 1 ≤ j → j ≤ geometry.now.last_inode → KeepsUnused geometry.now image.old image.new j }
 {
     add_link(image, geometry, i, moment);
-    enter(image, geometry, dir, name, i, moment);
+    enter(image, geometry, dir, slot, name, i, moment);
     put_time(image, geometry, moment);
 }

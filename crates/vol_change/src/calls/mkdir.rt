@@ -5,6 +5,7 @@ ghost use Rattle.vol_layout.specs.Inode.{inode_place};
 ghost use Rattle.vol_layout.specs.declared.edition.Edition.TheVariants as editions;
 ghost use Rattle.vol_dir.specs.Entries.{IsDirectory};
 ghost use Rattle.vol_dir.specs.Names.{dot, dot_dot};
+ghost use Rattle.vol_dir.specs.Searching.{new_slot};
 ghost use Rattle.vol_dir.specs.Tree.{no_shape, state};
 ghost use Rattle.vol_dir.specs.Walk.{IsComponent, has_zero};
 ghost use Rattle.vol_free.specs.Numbers.{IsFreeNumber};
@@ -25,16 +26,18 @@ use crate::times::put_time;
 use pdp_words::Image;
 use vol_layout::Geometry;
 
-/// Makes a directory with `name` in directory `dir`, with `.` and `..` alone. Its i-number is the
+/// Makes a directory with `name` in directory `dir`, in the slot where a new entry goes, with `.` and `..`
+/// alone. Its i-number is the
 /// recorded one, if there is one, and else one that is free; the answer is that number. The blocks of
 /// the entry in `dir` are taken first, then that of the new directory.
 ///
-/// Costs what a new entry of `dir` does; the i-list is searched only where no cached i-number is free.
+/// Costs the writes of the entries; the i-list is searched only where no cached i-number is free.
 pub fn mkdir(
     image: &mut Image,
     geometry: &Geometry,
     node: NewNode,
     dir: u16,
+    slot: u32,
     name: &[u8],
     recorded: Option<u16>,
 ) -> u16
@@ -42,6 +45,7 @@ pub fn mkdir(
     requires user { node.owner.uid ≤ (constants geometry.now.edition).id_limit }
     requires group { node.owner.gid ≤ (constants geometry.now.edition).id_limit }
     requires directory { IsDirectory geometry.now image.old dir }
+    requires slot { slot ≡ new_slot ((state geometry.now image.old).shapes dir).slots }
     requires takes { TakesName (state geometry.now image.old) dir name.now }
     requires component { IsComponent name.now }
     requires text { has_zero name.now ≡ false }
@@ -58,7 +62,7 @@ pub fn mkdir(
 {
     let made = pick_number(image, geometry, recorded);
     make_directory(image, geometry, made, node);
-    enter(image, geometry, dir, name, made, node.moment);
+    enter(image, geometry, dir, slot, name, made, node.moment);
     add_dots(image, geometry, made, dir);
     add_link(image, geometry, dir, node.moment);
     put_time(image, geometry, node.moment);
@@ -78,6 +82,6 @@ fn add_dots(image: &mut Image, geometry: &Geometry, i: u16, dir: u16)
     ensures graph { AddsDots (graph_of geometry.now image.old) (graph_of geometry.now image.new) i dir }
     ensures unused { (j : ℕ) → 1 ≤ j → j ≤ geometry.now.last_inode → KeepsUnused geometry.now image.old image.new j }
 {
-    add_name(image, geometry, i, b".", i);
-    add_name(image, geometry, i, b"..", dir);
+    add_name(image, geometry, i, 0, b".", i);
+    add_name(image, geometry, i, 1, b"..", dir);
 }

@@ -1,8 +1,9 @@
 //! A directory that goes.
 ghost use Rattle.std.specs.Prelude.{◌≡◌, ◌≢◌, ℕ, ◌≤◌, List, not, false, Some};
 ghost use Rattle.std.specs.List.{list_any};
-ghost use Rattle.vol_dir.specs.Entries.{IsDirectory};
+ghost use Rattle.vol_dir.specs.Entries.{IsDirectory, slots};
 ghost use Rattle.vol_dir.specs.Names.{get, is_dots};
+ghost use Rattle.vol_dir.specs.Searching.{slot_named};
 ghost use Rattle.vol_dir.specs.Tree.{state};
 ghost use Rattle.vol_change.specs.Edits.{at_time};
 ghost use Rattle.vol_change.specs.Nodes.{names_at};
@@ -17,13 +18,22 @@ use crate::times::put_time;
 use pdp_words::Image;
 use vol_layout::Geometry;
 
-/// Frees directory `i`, which has `.` and `..` alone and is `name` in directory `dir`, at `moment`, in
-/// seconds: its blocks, its i-node and its i-number. `dir` loses the link that `..` was.
+/// Frees directory `i`, which has `.` and `..` alone and is `name` in its slot of directory `dir`, at
+/// `moment`, in seconds: its blocks, its i-node and its i-number. `dir` loses the link that `..` was.
 ///
-/// Costs a search of `dir`, and what freeing the node does.
-pub fn rmdir(image: &mut Image, geometry: &Geometry, dir: u16, name: &[u8], i: u16, moment: u32)
+/// Costs the write of the slot, and what freeing the node does.
+pub fn rmdir(
+    image: &mut Image,
+    geometry: &Geometry,
+    dir: u16,
+    slot: u32,
+    name: &[u8],
+    i: u16,
+    moment: u32,
+)
     requires ready { IsReady geometry.now image.old }
     requires directory { IsDirectory geometry.now image.old dir }
+    requires slot { slot ≡ slot_named name.now (slots geometry.now image.old dir) }
     requires named { get (names_at (state geometry.now image.old).tree dir) name.now ≡ Some i }
     requires plain { is_dots name.now ≡ false }
     requires gone { IsDirectory geometry.now image.old i }
@@ -33,7 +43,7 @@ pub fn rmdir(image: &mut Image, geometry: &Geometry, dir: u16, name: &[u8], i: u
     ensures cleared { IsCleared geometry.now image.new i }
     ensures others { (j : ℕ) → 1 ≤ j → j ≤ geometry.now.last_inode → j ≢ i → KeepsUnused geometry.now image.old image.new j }
 {
-    leave(image, geometry, dir, name, moment);
+    leave(image, geometry, dir, slot, name, moment);
     drop_link(image, geometry, dir, moment);
     free_node(image, geometry, i);
     put_time(image, geometry, moment);

@@ -3,8 +3,9 @@ ghost use Rattle.std.specs.Prelude.{◌≡◌, ◌≢◌, ℕ, ◌<◌, ◌≤�
 ghost use Rattle.vol_layout.specs.Inode.{inode_of};
 ghost use Rattle.vol_layout.specs.declared.mode.Kind.TheVariants as kinds;
 ghost use Rattle.vol_file.specs.Rules.{kind_at};
-ghost use Rattle.vol_dir.specs.Entries.{IsDirectory};
+ghost use Rattle.vol_dir.specs.Entries.{IsDirectory, slots};
 ghost use Rattle.vol_dir.specs.Names.{get};
+ghost use Rattle.vol_dir.specs.Searching.{slot_named};
 ghost use Rattle.vol_dir.specs.Tree.{state};
 ghost use Rattle.vol_change.specs.Edits.{at_time};
 ghost use Rattle.vol_change.specs.Nodes.{names_at};
@@ -20,13 +21,22 @@ use pdp_words::Image;
 use vol_layout::Geometry;
 use vol_layout::i_list::inode;
 
-/// Takes `name`, which node `i` has and which is no directory, out of directory `dir`, at `moment`, in
-/// seconds. With its last name the node is freed: its blocks, its i-node and its i-number.
+/// Takes `name`, which node `i` has and which is no directory, out of its slot of directory `dir`, at `moment`,
+/// in seconds. With its last name the node is freed: its blocks, its i-node and its i-number.
 ///
-/// Costs a search of the directory, and with the last name what freeing the node does.
-pub fn unlink(image: &mut Image, geometry: &Geometry, dir: u16, name: &[u8], i: u16, moment: u32)
+/// Costs the write of the slot, and with the last name what freeing the node does.
+pub fn unlink(
+    image: &mut Image,
+    geometry: &Geometry,
+    dir: u16,
+    slot: u32,
+    name: &[u8],
+    i: u16,
+    moment: u32,
+)
     requires ready { IsReady geometry.now image.old }
     requires directory { IsDirectory geometry.now image.old dir }
+    requires slot { slot ≡ slot_named name.now (slots geometry.now image.old dir) }
     requires named { get (names_at (state geometry.now image.old).tree dir) name.now ≡ Some i }
     requires other { kind_at geometry.now image.old i ≢ kinds.Directory }
     ensures changes { Changes geometry.now image.old image.new
@@ -35,7 +45,7 @@ pub fn unlink(image: &mut Image, geometry: &Geometry, dir: u16, name: &[u8], i: 
     ensures unused { 1 < (inode_of geometry.now.edition image.old i).links → KeepsUnused geometry.now image.old image.new i }
     ensures others { (j : ℕ) → 1 ≤ j → j ≤ geometry.now.last_inode → j ≢ i → KeepsUnused geometry.now image.old image.new j }
 {
-    leave(image, geometry, dir, name, moment);
+    leave(image, geometry, dir, slot, name, moment);
     if inode(image, geometry, i).links <= 1 {
         free_node(image, geometry, i);
     } else {

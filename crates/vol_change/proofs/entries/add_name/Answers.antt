@@ -19,7 +19,7 @@ pub returns : goal.returns
 returns c =
     let geometry = c.args.geometry.now in
     let old = c.args.image.now in
-    let new = c.add.new.image in
+    let new = c.add_at.new.image in
     let d = c.args.dir in
     let name = c.args.name.now in
     let whole = c.requires.whole in
@@ -28,17 +28,17 @@ returns c =
     let file : IsFile geometry old d = record { first = c.requires.first; last = c.requires.last; kind = ap has_places c.requires.directory } in
     let is : IsDirectory geometry old d = record { first = c.requires.first; last = c.requires.last; kind = c.requires.directory } in
     let at : IsKind geometry old d kinds.Directory = record { first = c.requires.first; last = c.requires.last; kind = c.requires.directory } in
-    let writes = c.add.ensures.written whole.blocks whole.sound in
+    let writes = c.add_at.ensures.written whole.blocks whole.sound in
     let kind = written_kind geometry old new whole.blocks d (16 * s) text file writes in
     record {
       keeps = writes_keeps geometry old new d (16 * s) text whole writes;
-      makes = added_state geometry old new whole.blocks name d c.args.i at whole.sound.fits c.requires.short writes c.add.ensures.names c.add.ensures.slots;
-      slot = changes_slot geometry old new d s None (Some (name, c.args.i)) is (kind ∙ c.requires.directory) c.add.ensures.whole
+      makes = added_state geometry old new whole.blocks name d c.args.i at whole.sound.fits c.requires.short writes c.add_at.ensures.names c.add_at.ensures.slots;
+      slot = changes_slot geometry old new d s None (Some (name, c.args.i)) is (kind ∙ c.requires.directory) c.add_at.ensures.whole
           (sym (slot_is geometry old d s) ∙ new_empty geometry old d)
           (adds geometry old new whole.blocks name d c.args.i file whole.sound c.requires.slots c.requires.short c.requires.text c.requires.inode
           c.requires.greatest writes);
       beside = directory_beside geometry old new d whole.sound.fits writes.alone c.requires.first kind;
-      once = c.add.ensures.once;
+      once = c.add_at.ensures.once;
       unused = λ j first last. file_unused geometry old new d j whole.sound.fits writes.alone
           (λ free. absurd (cc (free, c.requires.directory))) c.requires.first first last;
     }

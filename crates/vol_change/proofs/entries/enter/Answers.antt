@@ -13,6 +13,12 @@ use Rattle.vol_change.proofs.ReadyLaws.{slot_same, beside_same}
 use Rattle.vol_change.proofs.UnusedBytes.{unused_then}
 use Rattle.vol_change.proofs.entries.enter.Goals as goal
 
+pub add_name-requires-clause-slot : goal.add_name-requires-clause-slot
+add_name-requires-clause-slot c =
+    let at : IsKind c.args.geometry.now c.args.image.now c.args.dir kinds.Directory =
+    record { first = c.requires.directory.first; last = c.requires.directory.last; kind = c.requires.directory.kind } in
+    c.requires.slot ∙ ap (λ (shape : Shape). new_slot shape.slots) (shape_is c.args.geometry.now c.args.image.now c.args.dir at)
+
 pub add_name-requires-clause-new : goal.add_name-requires-clause-new
 add_name-requires-clause-new c =
     let at : IsKind c.args.geometry.now c.args.image.now c.args.dir kinds.Directory =

@@ -18,7 +18,7 @@ pub returns : goal.returns
 returns c =
     let geometry = c.args.geometry.now in
     let old = c.args.image.now in
-    let new = c.remove.new.image in
+    let new = c.remove_at.new.image in
     let d = c.args.dir in
     let name = c.args.name.now in
     let whole = c.requires.whole in
@@ -26,18 +26,18 @@ returns c =
     let file : IsFile geometry old d = record { first = c.requires.first; last = c.requires.last; kind = ap has_places c.requires.directory } in
     let is : IsDirectory geometry old d = record { first = c.requires.first; last = c.requires.last; kind = c.requires.directory } in
     let at : IsKind geometry old d kinds.Directory = record { first = c.requires.first; last = c.requires.last; kind = c.requires.directory } in
-    let writes = c.remove.ensures.written whole.blocks whole.sound in
+    let writes = c.remove_at.ensures.written whole.blocks whole.sound in
     let kind = written_kind geometry old new whole.blocks d (16 * s) (0 ∷ (0 ∷ [])) file writes in
     let named = named_slot geometry old name d c.requires.there in
     record {
       keeps = writes_keeps geometry old new d (16 * s) (0 ∷ (0 ∷ [])) whole writes;
-      makes = removed_state geometry old new whole.blocks name d s at whole.sound.fits writes c.remove.ensures.none c.remove.ensures.size
-          c.remove.ensures.names c.remove.ensures.slots;
+      makes = removed_state geometry old new whole.blocks name d s at whole.sound.fits writes c.remove_at.ensures.none c.remove_at.ensures.size
+          c.remove_at.ensures.names c.remove_at.ensures.slots;
       slot = changes_slot geometry old new d s (option_map (λ (i : ℕ). (name, i)) (get (names_of (slots geometry old d)) name)) None is
-          (kind ∙ c.requires.directory) (ap (λ n. n % 16) c.remove.ensures.size ∙ c.requires.slots) named.entry
+          (kind ∙ c.requires.directory) (ap (λ n. n % 16) c.remove_at.ensures.size ∙ c.requires.slots) named.entry
           (removes geometry old new whole.blocks d s file whole.sound c.requires.slots named.within writes);
       beside = directory_beside geometry old new d whole.sound.fits writes.alone c.requires.first kind;
-      once = c.remove.ensures.once;
+      once = c.remove_at.ensures.once;
       unused = λ j first last. file_unused geometry old new d j whole.sound.fits writes.alone
           (λ free. absurd (cc (free, c.requires.directory))) c.requires.first first last;
     }

@@ -40,6 +40,10 @@ enter-requires c =
     (made_keeps (graph_of geometry mid) (graph_of geometry new) d i kinds.Regular 1 c.make_file.ensures.graph is)
     (c.make_file.ensures.makes ∙ made_state geometry mid i (Some node) c.pick_number-made.ensures.free) takes in
     record {
+      slot = c.requires.slot
+          ∙ ap (λ (s : State). new_slot (s.shapes d).slots)
+          (sym (c.make_file.ensures.makes ∙ (made_state geometry mid i (Some node) c.pick_number-made.ensures.free
+          ∙ ap (put_node i (Some node)) c.pick_number-made.ensures.makes)));
       whole = c.make_file.ensures.keeps.whole;
       directory = made.directory;
       slots = made.slots;

@@ -5,7 +5,7 @@ use Rattle.vol_file.proofs.Naming.{root_first}
 use Rattle.vol_dir.specs.Entries.{slots}
 use Rattle.vol_dir.specs.Names.{names_in}
 use Rattle.vol_dir.specs.Searching.{new_slot}
-use Rattle.vol_dir.specs.Tree.{tree}
+use Rattle.vol_dir.specs.Tree.{State, tree}
 use Rattle.vol_judge.specs.Graph.{graph_of}
 use Rattle.vol_judge.proofs.ImageGraphs.{directory_to, kind_inside}
 use Rattle.vol_change.specs.Edits.{add_entry, at_time}
@@ -46,6 +46,7 @@ enter-requires c =
     (directory_to geometry old d c.requires.directory))
     c.add_link.ensures.makes takes in
     record {
+      slot = c.requires.slot ∙ ap (λ (s : State). new_slot (s.shapes d).slots) (sym c.add_link.ensures.makes);
       whole = c.add_link.ensures.keeps.whole;
       directory = made.directory;
       slots = made.slots;

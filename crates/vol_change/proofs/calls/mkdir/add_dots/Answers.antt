@@ -1,4 +1,4 @@
-use Rattle.std.proofs.Common.{◌∙◌, ap, ◌%◌, [], arith}
+use Rattle.std.proofs.Common.{◌∙◌, ap, sym, ◌%◌, [], arith}
 use Rattle.vol_dir.specs.Entries.{slots}
 use Rattle.vol_dir.specs.Names.{dot, dot_dot, get, names_in}
 use Rattle.vol_dir.specs.Searching.{new_slot}
@@ -11,6 +11,14 @@ use Rattle.vol_change.proofs.DotGraphs.{dots_added}
 use Rattle.vol_change.proofs.DotImages.{names_held, size_held, first_slot, no_entry, none_twice, dots_fit, dot_room, dot_there, second_slot, dot_dot_new, dot_dot_room, dots_size}
 use Rattle.vol_change.proofs.UnusedBytes.{unused_then}
 use Rattle.vol_change.proofs.calls.mkdir.add_dots.Goals as goal
+
+pub add_name-requires-clause-slot : goal.add_name-requires-clause-slot
+add_name-requires-clause-slot c = sym (first_slot c.args.geometry.now c.args.image.now c.args.i c.requires.directory c.requires.empty)
+
+pub add_name-requires-2-clause-slot : goal.add_name-requires-2-clause-slot
+add_name-requires-2-clause-slot c =
+    sym (second_slot c.args.geometry.now c.add_name.new.image c.args.i
+    (dot_there c.args.geometry.now c.args.image.now c.add_name.new.image c.args.i c.requires.directory c.requires.empty c.add_name.ensures.makes c.add_name.ensures.beside))
 
 pub add_name-requires-clause-slots : goal.add_name-requires-clause-slots
 add_name-requires-clause-slots c =

@@ -46,6 +46,10 @@ enter-requires c =
     (made_keeps (graph_of geometry picked) (graph_of geometry bare) d i kinds.Directory 2 c.make_directory.ensures.graph is)
     (c.make_directory.ensures.makes ∙ made_state geometry picked i (Some node) c.pick_number-made.ensures.free) takes in
     record {
+      slot = c.requires.slot
+          ∙ ap (λ (s : State). new_slot (s.shapes d).slots)
+          (sym (c.make_directory.ensures.makes ∙ (made_state geometry picked i (Some node) c.pick_number-made.ensures.free
+          ∙ ap (put_node i (Some node)) c.pick_number-made.ensures.makes)));
       whole = c.make_directory.ensures.keeps.whole;
       directory = made.directory;
       slots = made.slots;

@@ -8,9 +8,10 @@ use std::alloc::{AllocError, Global};
 use std::process::Abort;
 use vol_change::{
     NewNode, add_link, drop_link, free_node, make_directory, make_file, place_count, put_links,
-    put_time, take_number, touch,
+    put_time, touch,
 };
 use vol_dir::Cred;
+use vol_free::take_inode;
 use vol_judge::judge;
 use vol_layout::i_list::{inode, kind};
 use vol_layout::{Edition, Geometry, Kind};
@@ -105,9 +106,9 @@ fn make_two(image: &mut Image, geometry: &Geometry) -> Option<(u16, u16)>
         moment: 14,
         ..new_file
     };
-    let file = take_number(image, geometry)?;
+    let file = take_inode(image, geometry)?;
     make_file(image, geometry, file, new_file);
-    let directory = take_number(image, geometry)?;
+    let directory = take_inode(image, geometry)?;
     make_directory(image, geometry, directory, new_directory);
     free_node(image, geometry, file);
     Some((file, directory))

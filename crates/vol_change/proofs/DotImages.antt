@@ -16,6 +16,7 @@ use Rattle.vol_dir.specs.Tree.{Shape, no_shape, state, tree, shapes, free_count}
 use Rattle.vol_dir.specs.Walk.{map_of}
 use Rattle.vol_judge.specs.Graph.{graph_of, entry_by}
 use Rattle.vol_judge.proofs.ImageGraphs.{directory_to, graph_within}
+use Rattle.vol_change.specs.Ready.{entry_need}
 use Rattle.vol_change.specs.Contents.{put_entry}
 use Rattle.vol_change.specs.Nodes.{no_node}
 use Rattle.vol_change.specs.Shapes.{need_in, entry_blocks, shape_with_entry}
@@ -79,26 +80,37 @@ pub dots_fit : (edition : Edition) → 32 ≤ (constants edition).greatest
 dots_fit V6 = omega arith
 dots_fit V7 = omega arith
 
+-- `.` takes a block
+pub dot_need : (geometry : Geometry) (image : List ℕ) (i : ℕ) → HoldsNames (state geometry image) i [] 0 no_shape
+    → entry_need (state geometry image) i ≡ 1
+unfolding tree
+dot_need geometry image i has =
+    ap (λ (x : Shape). need_in geometry.edition x (entry_blocks x)) has.shape ∙ first_in geometry.edition
+
+-- and then `..` none
+pub dot_dot_need : (geometry : Geometry) (image : List ℕ) (i : ℕ) (names : Names)
+    → HoldsNames (state geometry image) i names 16 (shape_with_entry geometry.edition no_shape dot) → entry_need (state geometry image) i ≡ 0
+unfolding tree
+dot_dot_need geometry image i names has =
+    ap (λ (x : Shape). need_in geometry.edition x (entry_blocks x)) has.shape ∙ second_need geometry.edition
+
 -- there is room for `.`
 pub dot_room : (geometry : Geometry) (image : List ℕ) (i : ℕ) → IsWhole geometry image → IsDirectory geometry image i
     → HoldsNames (state geometry image) i [] 0 no_shape → 1 ≤ free_count geometry (shapes geometry image)
     → (free : List ℕ) → IsSoundWith geometry image free → need geometry image i (16 * new_slot (names_in (slots geometry image i))) 16 ≤ length free
+unfolding tree
 dot_room geometry image i whole is has room =
-    let blocks : need_in geometry.edition (shapes geometry image i) (entry_blocks (shapes geometry image i)) ≡ need_in geometry.edition no_shape (0 ∷ []) =
-    ap (λ (x : Shape). need_in geometry.edition x (entry_blocks x)) has.shape in
-    let one = first_in geometry.edition in
-    entry_room geometry image i whole (is_kind geometry image i is) (omega (arith, blocks, one, room))
+    let one = dot_need geometry image i has in
+    entry_room geometry image i whole (is_kind geometry image i is) (omega (arith, one, room))
 
 -- and then for `..`
 pub dot_dot_room : (geometry : Geometry) (image : List ℕ) (i : ℕ) (names : Names) → IsWhole geometry image → IsDirectory geometry image i
     → HoldsNames (state geometry image) i names 16 (shape_with_entry geometry.edition no_shape dot)
     → (free : List ℕ) → IsSoundWith geometry image free → need geometry image i (16 * new_slot (names_in (slots geometry image i))) 16 ≤ length free
+unfolding tree
 dot_dot_room geometry image i names whole is has =
-    let blocks : need_in geometry.edition (shapes geometry image i) (entry_blocks (shapes geometry image i))
-    ≡ need_in geometry.edition (shape_with_entry geometry.edition no_shape dot) (0 ∷ []) =
-    ap (λ (x : Shape). need_in geometry.edition x (entry_blocks x)) has.shape in
-    let none = second_need geometry.edition in
-    entry_room geometry image i whole (is_kind geometry image i is) (omega (arith, blocks, none))
+    let none = dot_dot_need geometry image i names has in
+    entry_room geometry image i whole (is_kind geometry image i is) (omega (arith, none))
 
 -- a directory without entries gets `.`
 dot_held : (geometry : Geometry) (old new : List ℕ) (i : ℕ) → HoldsNames (state geometry old) i [] 0 no_shape

@@ -8,11 +8,13 @@ use Rattle.vol_layout.specs.declared.mode.Kind.TheVariants as kinds
 use Rattle.vol_free.proofs.Stacks.{zone_behind, IsFree_unique}
 use Rattle.vol_file.specs.Need.{need_of, need}
 use Rattle.vol_file.specs.Rules.{kind_at, IsSoundWith}
-use Rattle.vol_file.specs.Shape.{is_named}
+use Rattle.vol_file.proofs.MissingLaws.{need_nothing}
+use Rattle.vol_file.specs.Shape.{is_named, touched}
 use Rattle.vol_dir.specs.Entries.{slots}
 use Rattle.vol_dir.specs.Names.{names_in}
 use Rattle.vol_dir.specs.Searching.{new_slot}
-use Rattle.vol_dir.specs.Tree.{free_count, is_named_place, shape_of, shapes}
+use Rattle.vol_dir.specs.Tree.{free_count, is_named_place, shape_of, shapes, state, tree}
+use Rattle.vol_change.specs.Ready.{entry_need}
 use Rattle.vol_change.specs.Shapes.{need_in, entry_blocks}
 use Rattle.vol_change.specs.Whole.{IsWhole}
 use Rattle.vol_change.proofs.FreeCounts.{form_shape, free_blocks}
@@ -50,6 +52,12 @@ room_is geometry image n whole within blocks sound =
     let same = ap length (IsFree_unique (omega (arith, zone)) whole.sound.free sound.free) in
     omega (arith, within, count, same)
 
+-- a file needs nothing for no bytes
+pub nothing_needed : (geometry : Geometry) (image : List ℕ) (i offset len : ℕ) → IsFile geometry image i → len ≡ 0
+    → need_in geometry.edition (shapes geometry image i) (touched offset len) ≡ 0
+nothing_needed geometry image i offset len file none =
+    need_is geometry image i (touched offset len) file ∙ (ap (need geometry image i offset) none ∙ need_nothing (form_at geometry image i) (is_named geometry image i))
+
 -- where the shapes leave room for a file's blocks, there is room
 pub file_room : (geometry : Geometry) (image : List ℕ) (i : ℕ) (blocks : List ℕ) → IsWhole geometry image → IsFile geometry image i
     → need_in geometry.edition (shapes geometry image i) blocks ≤ free_count geometry (shapes geometry image)
@@ -58,16 +66,23 @@ file_room geometry image i blocks whole file within =
     let is = need_is geometry image i blocks file in
     room_is geometry image (need_of (form_at geometry image i) (is_named geometry image i) blocks) whole (omega (arith, within, is))
 
+-- a new entry of a directory needs as many blocks as its shape says
+pub entry_need_is : (geometry : Geometry) (image : List ℕ) (d : ℕ) → IsKind geometry image d kinds.Directory
+    → need geometry image d (16 * new_slot (names_in (slots geometry image d))) 16 ≡ entry_need (state geometry image) d
+unfolding tree
+entry_need_is geometry image d is =
+    let file : IsFile geometry image d = record { first = is.first; last = is.last; kind = ap has_places is.kind } in
+    let s = new_slot (names_in (slots geometry image d)) in
+    let list : entry_blocks (shapes geometry image d) ≡ s / 32 ∷ [] = ap entry_blocks (shape_is geometry image d is) in
+    ap (need_of (form_at geometry image d) (is_named geometry image d)) (slot_block s)
+    ∙ (sym (need_is geometry image d (s / 32 ∷ []) file) ∙ sym (ap (need_in geometry.edition (shapes geometry image d)) list))
+
 -- where the shapes leave room for a new entry, there is room
 pub entry_room : (geometry : Geometry) (image : List ℕ) (d : ℕ) → IsWhole geometry image → IsKind geometry image d kinds.Directory
     → need_in geometry.edition (shapes geometry image d) (entry_blocks (shapes geometry image d)) ≤ free_count geometry (shapes geometry image)
     → (free : List ℕ) → IsSoundWith geometry image free
     → need geometry image d (16 * new_slot (names_in (slots geometry image d))) 16 ≤ length free
+unfolding tree
 entry_room geometry image d whole is within free sound =
-    let file : IsFile geometry image d = record { first = is.first; last = is.last; kind = ap has_places is.kind } in
-    let s = new_slot (names_in (slots geometry image d)) in
-    let list : entry_blocks (shapes geometry image d) ≡ s / 32 ∷ [] = ap entry_blocks (shape_is geometry image d is) in
-    let here = ap (need_in geometry.edition (shapes geometry image d)) list in
-    let there = ap (need_of (form_at geometry image d) (is_named geometry image d)) (slot_block s) in
-    let room = file_room geometry image d (s / 32 ∷ []) whole file (omega (arith, within, here)) free sound in
-    omega (arith, room, there)
+    let need = entry_need_is geometry image d is in
+    omega (arith, need, room_is geometry image (entry_need (state geometry image) d) whole within free sound)

@@ -1,5 +1,5 @@
 -- A node that goes: its file is truncated, and its i-node cleared.
-use Rattle.std.proofs.Common.{◌≡◌, ◌∙◌, sym, ap, ℕ, ◌+◌, ◌<◌, ◌≤◌, ◌++◌, if◌then◌else◌, List, slice_index, None, inl, inr, arith}
+use Rattle.std.proofs.Common.{◌≡◌, ◌∙◌, sym, ap, subst, ℕ, ◌+◌, ◌<◌, ◌≤◌, ◌++◌, if◌then◌else◌, true, List, [], slice_index, None, inl, inr, arith}
 use Rattle.std.specs.Option.{option_map}
 use Rattle.std.proofs.lemmas.Bool.{cases_lt, lt-ltb, le-ltb, false≢true}
 use Rattle.pdp_words.proofs.Outside.{unchanged}
@@ -23,9 +23,11 @@ use Rattle.vol_dir.specs.Tree.{no_shape, content_of, node_with, node_of, shape_o
 use Rattle.vol_judge.specs.Graph.{graph_of}
 use Rattle.vol_judge.proofs.ImageGraphs.{kind_inside}
 use Rattle.vol_change.specs.Alone.{ChangesOnly}
+use Rattle.vol_change.specs.Changed.{FreeBecomes, as_before, blocks_freed}
 use Rattle.vol_change.specs.Edits.{remove_node}
 use Rattle.vol_change.specs.NodeGraphs.{DropsNode}
 use Rattle.vol_change.specs.Whole.{IsWhole, Keeps}
+use Rattle.vol_change.proofs.FreeLists.{cache_free_list, inode_free, truncated_free}
 use Rattle.vol_change.proofs.NewRules.{bare_whole}
 use Rattle.vol_change.proofs.OneNode.{only_file, only_inode, only_then, cache_node, cache_only, cache_keeps, only_makes, only_graph, only_links}
 
@@ -41,6 +43,14 @@ pub truncated_only : (geometry : Geometry) (old new : List ℕ) (i : ℕ) → (w
     → ((blocks : List ℕ) → IsSoundWith geometry old blocks → Truncates geometry old new i blocks) → ChangesOnly geometry old new i
 truncated_only geometry old new i whole first truncates =
     only_file geometry old new i whole.sound.fits (truncates whole.blocks whole.sound).alone first
+
+-- its blocks go back to the free list
+pub truncated_list : (geometry : Geometry) (old new : List ℕ) (i : ℕ) → (whole : IsWhole geometry old) → has_places (kind_at geometry old i) ≡ true
+    → ((blocks : List ℕ) → IsSoundWith geometry old blocks → Truncates geometry old new i blocks)
+    → FreeBecomes geometry old new (λ blocks. blocks_freed geometry old i ++ blocks)
+truncated_list geometry old new i whole file truncates =
+    subst (λ t. FreeBecomes geometry old new (λ blocks. (if t then blocks_of geometry old i else []) ++ blocks)) (sym file)
+    (truncated_free geometry old new i whole (truncates whole.blocks whole.sound))
 
 -- an i-node has room for its mode
 pub mode_room : (edition : Edition) → 2 ≤ (constants edition).inode_bytes
@@ -65,7 +75,7 @@ module _ (geometry : Geometry) (old new : List ℕ) (i : ℕ) (whole : IsWhole g
 
   -- clearing it changes it alone
   pub cleared_only : ChangesOnly geometry old new i
-  cleared_only = only_inode geometry old new i whole.sound.fits (omega (arith, above)) last same
+  cleared_only = only_inode geometry old new i whole (omega (arith, above)) last same
 
   -- and keeps the rules
   pub cleared_whole : IsWhole geometry new
@@ -127,7 +137,7 @@ module _ (geometry : Geometry) (old mid low new : List ℕ) (i : ℕ) (frees : F
   low_whole = cleared_whole geometry mid low i frees.whole frees.above frees.last frees.none frees.zero frees.cleared
 
   -- nothing else changes
-  freed_only : ChangesOnly geometry old new i
+  pub freed_only : ChangesOnly geometry old new i
   freed_only =
       only_then geometry old mid new i frees.only
       (only_then geometry mid low new i (cleared_only geometry mid low i frees.whole frees.above frees.last frees.none frees.zero frees.cleared)
@@ -145,6 +155,11 @@ module _ (geometry : Geometry) (old mid low new : List ℕ) (i : ℕ) (frees : F
   -- the rules hold, and what no call changes stays
   pub freed_keeps : Keeps geometry old new
   freed_keeps = record { whole = (cache_keeps geometry low new low_whole frees.given).whole; around = freed_only.around }
+
+  -- the free list stays once the blocks are given back
+  pub freed_list : FreeBecomes geometry mid new as_before
+  freed_list blocks free =
+      cache_free_list geometry low new low_whole frees.given blocks (inode_free geometry mid low i frees.whole first frees.last frees.cleared blocks free)
 
   -- it is the edit that removes the node
   pub freed_makes : state geometry new ≡ remove_node i (state geometry old)

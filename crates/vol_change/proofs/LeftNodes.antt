@@ -27,7 +27,7 @@ use Rattle.vol_change.specs.Effects.{after_unlink, after_rmdir}
 use Rattle.vol_change.specs.Ready.{IsReady}
 use Rattle.vol_change.proofs.CallSteps.{HasMade}
 use Rattle.vol_change.proofs.EntryNodes.{name_found, named_used, used_first, dots_only, directory_linked}
-use Rattle.vol_change.proofs.LeftGraphs.{LeavesSlot, left_name, left_file, left_directory}
+use Rattle.vol_change.proofs.LeftGraphs.{LeavesSlot, other_directory, left_name, left_file, left_directory}
 use Rattle.vol_change.proofs.NodeLinks.{links_is}
 use Rattle.vol_change.proofs.ReadyLaws.{ready_graph}
 
@@ -50,6 +50,14 @@ leaves_slot geometry old mid d i name now leaves = record {
       (ap (option_map (λ (j : ℕ). (name, j))) (name_found geometry old name d i leaves.directory leaves.named)) leaves.slot;
   beside = leaves.beside;
 }
+
+-- a directory that has `.` and `..` alone is another than the one from which its entry goes
+pub left_apart : (geometry : Geometry) (old mid : List ℕ) (d i : ℕ) (name : List ℕ) (now : ℕ) → LeavesEntry geometry old mid d i name now
+    → is_dots name ≡ false → IsDirectory geometry old i
+    → list_any (λ (entry : List ℕ × ℕ). not (is_dots entry.0)) (names_at (tree geometry old) i) ≡ false → d ≢ i
+left_apart geometry old mid d i name now leaves plain is only =
+    other_directory (graph_of geometry old) (graph_of geometry mid) i d (slot_named name (slots geometry old d)) name
+    (leaves_slot geometry old mid d i name now leaves) plain (λ t j word some. dots_only geometry old word i t j is only some)
 
 -- the kind of each i-number stays
 kind_beside : (geometry : Geometry) (old mid : List ℕ) (d x : ℕ) → StaysBeside (graph_of geometry old) (graph_of geometry mid) d → 1 ≤ x

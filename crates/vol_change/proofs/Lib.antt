@@ -1,4 +1,5 @@
 pub mod BlockCounts
+pub mod BodyChanges
 pub mod CallSteps
 pub mod ChangedInodes
 pub mod Contents
@@ -14,6 +15,7 @@ pub mod FileRooms
 pub mod FreeAfter
 pub mod FreeCounts
 pub mod FreeKinds
+pub mod FreeLists
 pub mod FreedNodes
 pub mod LeftGraphs
 pub mod LeftNodes

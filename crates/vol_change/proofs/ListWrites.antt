@@ -4,9 +4,8 @@ use Rattle.std.specs.Option.{option_map}
 use Rattle.std.proofs.lemmas.Bool.{cases_eq}
 use Rattle.pdp_words.specs.Words.{long, SameOutside}
 use Rattle.vol_layout.specs.Edition.{constants}
-use Rattle.vol_layout.specs.Geometry.{Fits}
 use Rattle.vol_layout.specs.Inode.{inode_of, inode_place}
-use Rattle.vol_layout.specs.Names.{mode_of}
+use Rattle.vol_layout.specs.Names.{mode_of, named}
 use Rattle.vol_layout.specs.Places.{form_of, has_places}
 use Rattle.vol_layout.specs.Super.{time_place}
 use Rattle.vol_layout.specs.declared.geometry.Geometry.{Geometry}
@@ -14,9 +13,9 @@ use Rattle.vol_layout.specs.declared.i_node.Inode.{Inode}
 use Rattle.vol_layout.proofs.CopyLaws.{copy_above, copy_below, long_copied}
 use Rattle.vol_layout.proofs.InodeLaws.{KeepsInode, inode_apart, inode_mode, inode_size, inode_address, mode_kept, size_kept, inode_of_kept, place_from, place_room}
 use Rattle.vol_layout.proofs.FrameLaws.{KeepsPlaces, named_list_kept, body_byte_list_kept}
-use Rattle.vol_layout.proofs.BodyLaws.{same_body}
+use Rattle.vol_layout.proofs.BodyLaws.{same_body, zone_bounds}
 use Rattle.vol_free.proofs.Frames.{IsFree-before_zone}
-use Rattle.vol_file.specs.Rules.{size_of, kind_at}
+use Rattle.vol_file.specs.Rules.{size_of, kind_at, IsZoned}
 use Rattle.vol_dir.specs.Entries.{IsDirectory, entry_at}
 use Rattle.vol_dir.specs.Tree.{Content, Node, node_with, node_of, content_of, state}
 use Rattle.vol_judge.specs.Graph.{graph_of}
@@ -33,10 +32,10 @@ use Rattle.vol_change.proofs.States.{makes_node, makes_time}
 use Rattle.vol_change.proofs.WholeLaws.{whole_kept, around_list, zone_behind, super_order}
 
 -- a write below the data zone keeps what i-node i stands for, where its mode, size and addresses stay
-content_fields : (geometry : Geometry) (old new : List ℕ) (from to i : ℕ) → SameOutside old new from to → to ≤ 512 * geometry.zone_start
+content_fields : (geometry : Geometry) (old new : List ℕ) (from to i : ℕ) → IsZoned geometry old → SameOutside old new from to → to ≤ 512 * geometry.zone_start
     → mode_of geometry new i ≡ mode_of geometry old i → size_of geometry new i ≡ size_of geometry old i
     → (inode_of geometry.edition new i).addresses ≡ (inode_of geometry.edition old i).addresses → KeepsContent geometry old new i
-content_fields geometry old new from to i same below mode size addresses =
+content_fields geometry old new from to i zoned same below mode size addresses =
     let places : KeepsPlaces geometry old new i = record {
       form = ap (form_of geometry.edition) mode;
       addresses = λ k h.
@@ -50,13 +49,16 @@ content_fields geometry old new from to i same below mode size addresses =
       bytes = λ file. same_body geometry old new i (ap (λ n. min n (constants geometry.edition).greatest) size)
           (λ n h. body_byte_list_kept geometry old new from to i n places same below);
       names = λ p place. named_list_kept geometry old new from to i p places same below place.place;
+      blocks = λ p r place some h.
+          let zone = zone_bounds geometry (named geometry old i p) (zoned i p place some) in
+          same.above (512 * named geometry old i p + r) (omega (arith, below, zone.0));
     }
 
 -- and so it does where the i-node itself stays
-pub content_kept : (geometry : Geometry) (old new : List ℕ) (from to i : ℕ) → SameOutside old new from to → to ≤ 512 * geometry.zone_start
+pub content_kept : (geometry : Geometry) (old new : List ℕ) (from to i : ℕ) → IsZoned geometry old → SameOutside old new from to → to ≤ 512 * geometry.zone_start
     → KeepsInode geometry old new i → KeepsContent geometry old new i
-content_kept geometry old new from to i same below kept =
-    content_fields geometry old new from to i same below (mode_kept geometry old new i kept) (size_kept geometry old new i kept)
+content_kept geometry old new from to i zoned same below kept =
+    content_fields geometry old new from to i zoned same below (mode_kept geometry old new i kept) (size_kept geometry old new i kept)
     (ap (λ node. node.addresses) (inode_of_kept geometry old new i kept))
 
 -- the entries of directories stay where all contents do
@@ -76,12 +78,12 @@ time_inode geometry old new j same =
     (constants geometry.edition).inode_bytes same (omega (arith, order, start))
 
 -- and what it stands for
-time_content : (geometry : Geometry) (old new : List ℕ) (j : ℕ) → Fits geometry old
+pub time_content : (geometry : Geometry) (old new : List ℕ) (j : ℕ) → IsWhole geometry old
     → SameOutside old new (time_place geometry.edition) (time_place geometry.edition + 4) → KeepsContent geometry old new j
-time_content geometry old new j fits same =
+time_content geometry old new j whole same =
     let order = super_order geometry.edition in
-    let behind = zone_behind geometry old fits in
-    content_kept geometry old new (time_place geometry.edition) (time_place geometry.edition + 4) j same (omega (arith, order, behind))
+    let behind = zone_behind geometry old whole.sound.fits in
+    content_kept geometry old new (time_place geometry.edition) (time_place geometry.edition + 4) j whole.sound.zoned same (omega (arith, order, behind))
     (time_inode geometry old new j same)
 
 -- a write of the time keeps the rules and what no call changes
@@ -91,7 +93,7 @@ time_keeps geometry old new whole same =
     let order = super_order geometry.edition in
     let behind = zone_behind geometry old whole.sound.fits in
     record {
-      whole = whole_kept geometry old new same.len (λ j first last. time_content geometry old new j whole.sound.fits same)
+      whole = whole_kept geometry old new same.len (λ j first last. time_content geometry old new j whole same)
           (λ j first last used.
           rw (inode_of_kept geometry old new j (time_inode geometry old new j same)) (whole.sound.sizes.links j first last used))
           (λ blocks free. IsFree-before_zone same (omega (arith, order)) (omega (arith, order, behind)) free) whole;
@@ -111,7 +113,7 @@ pub time_makes : (geometry : Geometry) (old new : List ℕ) (now : ℕ) → IsWh
 time_makes geometry old new now whole same time =
     makes_time geometry old new now time
     (λ j first last.
-    let kept = time_content geometry old new j whole.sound.fits same in (
+    let kept = time_content geometry old new j whole same in (
       node_same geometry old new j kept first last (inode_of_kept geometry old new j (time_inode geometry old new j same)),
       shape_same geometry old new j kept first last,
     ))
@@ -121,7 +123,7 @@ pub time_graph : (geometry : Geometry) (old new : List ℕ) → IsWhole geometry
     → SameOutside old new (time_place geometry.edition) (time_place geometry.edition + 4)
     → IsSameGraph (graph_of geometry old) (graph_of geometry new)
 time_graph geometry old new whole same =
-    let kept = λ (j : ℕ). time_content geometry old new j whole.sound.fits same in
+    let kept = λ (j : ℕ). time_content geometry old new j whole same in
     same_graph geometry old new (λ x first last. kind_same geometry old new x (kept x))
     (λ x first last. ap (λ node. node.links) (inode_of_kept geometry old new x (time_inode geometry old new x same)))
     (λ x is. (kept x).size) (λ x t is. entries_stay geometry old new x t (λ j first last. kept j) is)
@@ -137,19 +139,19 @@ pub record PutsInode (geometry : Geometry) (old new : List ℕ) (i : ℕ) (node 
   pub addresses : node.addresses ≡ (inode_of geometry.edition old i).addresses
 
 -- then every i-node stands for what it did
-put_content : (geometry : Geometry) (old new : List ℕ) (i j : ℕ) (node : Inode) → Fits geometry old → PutsInode geometry old new i node
+pub put_content : (geometry : Geometry) (old new : List ℕ) (i j : ℕ) (node : Inode) → IsWhole geometry old → PutsInode geometry old new i node
     → 1 ≤ j → j ≤ geometry.last_inode → KeepsContent geometry old new j
-put_content geometry old new i j node fits puts first last =
-    let room = place_room geometry old i fits puts.first puts.last in
+put_content geometry old new i j node whole puts first last =
+    let room = place_room geometry old i whole.sound.fits puts.first puts.last in
     let from = inode_place geometry.edition i in
     let to = inode_place geometry.edition i + (constants geometry.edition).inode_bytes in
     elim (cases_eq j i) [
       | inl e ↦
-          rw e (content_fields geometry old new from to i puts.same room
+          rw e (content_fields geometry old new from to i whole.sound.zoned puts.same room
           (sym (inode_mode geometry.edition new from) ∙ (ap (λ n. n.mode.bits) puts.is ∙ (ap (λ m. m.bits) puts.mode ∙ inode_mode geometry.edition old from)))
           (sym (inode_size geometry.edition new from) ∙ (ap (λ n. n.size) puts.is ∙ (puts.size ∙ inode_size geometry.edition old from)))
           (ap (λ n. n.addresses) puts.is ∙ puts.addresses))
-      | inr other ↦ content_kept geometry old new from to j puts.same room (inode_apart geometry old new i j puts.first first other puts.same)
+      | inr other ↦ content_kept geometry old new from to j whole.sound.zoned puts.same room (inode_apart geometry old new i j puts.first first other puts.same)
     ]
 
 -- the others stay themselves
@@ -176,7 +178,7 @@ put_keeps geometry old new i node whole puts limit =
     let room = place_room geometry old i whole.sound.fits puts.first puts.last in
     let start = place_from geometry.edition i in
     record {
-      whole = whole_kept geometry old new puts.same.len (λ j first last. put_content geometry old new i j node whole.sound.fits puts first last)
+      whole = whole_kept geometry old new puts.same.len (λ j first last. put_content geometry old new i j node whole puts first last)
           (λ j first last used. elim (cases_eq j i) [
             | inl e ↦ rw e (rw puts.is limit)
             | inr other ↦ rw (put_other geometry old new i j node puts first other) (whole.sound.sizes.links j first last used)
@@ -199,7 +201,7 @@ pub put_makes : (geometry : Geometry) (old new : List ℕ) (i : ℕ) (node : Ino
     → state geometry new ≡ change_node i change (state geometry old)
 unfolding node_of
 put_makes geometry old new i node change whole puts each =
-    let kept = λ (j : ℕ) (first : 1 ≤ j) (last : j ≤ geometry.last_inode). put_content geometry old new i j node whole.sound.fits puts first last in
+    let kept = λ (j : ℕ) (first : 1 ≤ j) (last : j ≤ geometry.last_inode). put_content geometry old new i j node whole puts first last in
     makes_node geometry old new i (option_map change ((state geometry old).tree.nodes i)) (record {
       first = puts.first;
       last = puts.last;
@@ -219,7 +221,7 @@ put_makes geometry old new i node change whole puts each =
 pub put_graph : (geometry : Geometry) (old new : List ℕ) (i : ℕ) (node : Inode) → IsWhole geometry old → PutsInode geometry old new i node
     → SetsLinks (graph_of geometry old) (graph_of geometry new) i node.links
 put_graph geometry old new i node whole puts =
-    let kept = λ (j : ℕ) (first : 1 ≤ j) (last : j ≤ geometry.last_inode). put_content geometry old new i j node whole.sound.fits puts first last in
+    let kept = λ (j : ℕ) (first : 1 ≤ j) (last : j ≤ geometry.last_inode). put_content geometry old new i j node whole puts first last in
     let kind = λ (x : ℕ). kind_kept geometry old new x (λ first last. kind_same geometry old new x (kept x first last)) in
     record {
       kind = kind;

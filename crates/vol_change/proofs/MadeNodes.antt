@@ -28,11 +28,15 @@ use Rattle.vol_dir.proofs.SlotReading.{entry_at_past}
 use Rattle.vol_judge.specs.Graph.{graph_of}
 use Rattle.vol_judge.proofs.ImageGraphs.{kind_inside, empty_by}
 use Rattle.vol_change.specs.Alone.{ChangesOnly}
+use Rattle.vol_change.specs.Changed.{FreeBecomes, as_before}
 use Rattle.vol_change.specs.Edits.{put_node, put_shape}
 use Rattle.vol_change.specs.Inodes.{MakesInode}
 use Rattle.vol_change.specs.NodeGraphs.{AddsNode}
+use Rattle.vol_change.specs.Unused.{KeepsUnused}
 use Rattle.vol_change.specs.Whole.{IsWhole, Keeps}
 use Rattle.vol_dir.proofs.PlaceTests.{place_passed}
+use Rattle.vol_change.proofs.FreeLists.{inode_free}
+use Rattle.vol_change.proofs.UnusedBytes.{other_unused}
 use Rattle.vol_change.proofs.NewRules.{bare_whole}
 use Rattle.vol_change.proofs.OneNode.{only_inode, only_makes, only_graph, only_links}
 
@@ -61,7 +65,7 @@ module _ (geometry : Geometry) (old new : List ℕ) (i : ℕ) (node : Inode) (wh
 
   -- nothing else changes
   pub made_only : ChangesOnly geometry old new i
-  made_only = only_inode geometry old new i whole.sound.fits first makes.last makes.same
+  made_only = only_inode geometry old new i whole first makes.last makes.same
 
   -- its places name nothing
   named_new : (p : List ℕ) → IsPlaceOf geometry new i p → named geometry new i p ≡ 0
@@ -94,6 +98,14 @@ module _ (geometry : Geometry) (old new : List ℕ) (i : ℕ) (node : Inode) (wh
         }) makes.same.len (λ blocks free. IsFree-before_zone makes.same (omega (arith, start)) room free);
         around = made_only.around;
       }
+
+  -- the free list stays
+  pub made_free : FreeBecomes geometry old new as_before
+  made_free = inode_free geometry old new i whole first makes.last makes.same
+
+  -- and what isn't used of the other i-nodes
+  pub made_unused : (j : ℕ) → 1 ≤ j → j ≢ i → KeepsUnused geometry old new j
+  made_unused j low other = other_unused geometry old new i j first low other makes.same
 
   -- it is of no size
   no_size : min (size_of geometry new i) (constants geometry.edition).greatest ≡ 0

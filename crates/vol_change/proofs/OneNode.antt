@@ -1,13 +1,15 @@
 -- Changes of one node alone: one after another, and what all others keep.
-use Rattle.std.proofs.Common.{◌≡◌, ◌≢◌, ◌∙◌, ap, ℕ, ◌+◌, ◌≤◌, List, Option, None, Some, inr, arith}
+use Rattle.std.proofs.Common.{◌≡◌, ◌≢◌, ◌∙◌, sym, ap, subst, refl, ℕ, ◌+◌, ◌*◌, ◌≤◌, List, slice_index, Option, None, Some, inr, arith}
 use Rattle.pdp_words.specs.Words.{long, SameOutside}
 use Rattle.vol_layout.specs.Edition.{constants}
 use Rattle.vol_layout.specs.Geometry.{Fits}
 use Rattle.vol_layout.specs.Inode.{inode_place}
+use Rattle.vol_layout.specs.Names.{named}
 use Rattle.vol_layout.specs.Places.{has_places}
 use Rattle.vol_layout.specs.Super.{free_head, cache_head, time_place}
 use Rattle.vol_layout.specs.declared.geometry.Geometry.{Geometry}
 use Rattle.vol_layout.specs.declared.mode.Kind.TheVariants as kinds
+use Rattle.vol_layout.proofs.NameLaws.{named_holds}
 use Rattle.vol_layout.proofs.CopyLaws.{IsCopy, copy_above, copy_below, long_copied}
 use Rattle.vol_layout.proofs.InodeLaws.{KeepsInode, inode_apart, mode_kept, size_kept, inode_of_kept, place_from, place_room}
 use Rattle.std.specs.Prelude.{IfSome}
@@ -31,21 +33,39 @@ use Rattle.vol_change.proofs.States.{shape_at, makes_both, makes_time}
 use Rattle.vol_change.proofs.WholeLaws.{around_then, around_list, super_order, whole_kept, zone_behind}
 
 -- what stays by one change and by the next stays by both
+pub content_then : (geometry : Geometry) (old mid new : List ℕ) (j : ℕ) → KeepsContent geometry old mid j → KeepsContent geometry mid new j
+    → KeepsContent geometry old new j
+content_then geometry old mid new j a b = record {
+  mode = b.mode ∙ a.mode;
+  size = b.size ∙ a.size;
+  addresses = b.addresses ∙ a.addresses;
+  bytes = λ file.
+      b.bytes (record { first = file.first; last = file.last; kind = ap has_places (kind_same geometry old mid j a) ∙ file.kind })
+      ∙ a.bytes file;
+  names = λ p place. b.names p (place_same geometry old mid j p a.mode place) ∙ a.names p place;
+  blocks = λ p r place some h.
+      let same = a.names p place in
+      subst (λ k. slice_index new (512 * k + r) ≡ slice_index mid (512 * k + r)) same
+      (b.blocks p r (place_same geometry old mid j p a.mode place) (λ zero. some (sym same ∙ zero)) h)
+      ∙ a.blocks p r place some h;
+}
+
+-- what an i-node stands for stays where nothing changes
+pub content_refl : (geometry : Geometry) (image : List ℕ) (j : ℕ) → KeepsContent geometry image image j
+content_refl geometry image j = record {
+  mode = refl;
+  size = refl;
+  addresses = refl;
+  bytes = λ file. refl;
+  names = λ p place. refl;
+  blocks = λ p r place some h. refl;
+}
+
+-- and so for the i-node itself
 node_then : (geometry : Geometry) (old mid new : List ℕ) (j : ℕ) → KeepsNode geometry old mid j → KeepsNode geometry mid new j
     → KeepsNode geometry old new j
 node_then geometry old mid new j a b = record {
-  content = record {
-    mode = b.content.mode ∙ a.content.mode;
-    size = b.content.size ∙ a.content.size;
-    addresses = b.content.addresses ∙ a.content.addresses;
-    bytes = λ file.
-        b.content.bytes (record {
-          first = file.first;
-          last = file.last;
-          kind = ap has_places (kind_same geometry old mid j a.content) ∙ file.kind;
-        }) ∙ a.content.bytes file;
-    names = λ p place. b.content.names p (place_same geometry old mid j p a.content.mode place) ∙ a.content.names p place;
-  };
+  content = content_then geometry old mid new j a.content b.content;
   inode = b.inode ∙ a.inode;
 }
 
@@ -59,22 +79,22 @@ only_then geometry old mid new i a b = record {
 }
 
 -- a write of i-node i alone
-pub only_inode : (geometry : Geometry) (old new : List ℕ) (i : ℕ) → Fits geometry old → 1 ≤ i → i ≤ geometry.last_inode
+pub only_inode : (geometry : Geometry) (old new : List ℕ) (i : ℕ) → IsWhole geometry old → 1 ≤ i → i ≤ geometry.last_inode
     → SameOutside old new (inode_place geometry.edition i) (inode_place geometry.edition i + (constants geometry.edition).inode_bytes)
     → ChangesOnly geometry old new i
-only_inode geometry old new i fits first last same =
+only_inode geometry old new i whole first last same =
     let from = inode_place geometry.edition i in
     let to = inode_place geometry.edition i + (constants geometry.edition).inode_bytes in
-    let room = place_room geometry old i fits first last in
+    let room = place_room geometry old i whole.sound.fits first last in
     let start = place_from geometry.edition i in
     let order = super_order geometry.edition in
     record {
-      around = around_list geometry old new from to fits same start room;
+      around = around_list geometry old new from to whole.sound.fits same start room;
       time = long_copied old new (time_place geometry.edition) (time_place geometry.edition) 4 0 (time_place geometry.edition) (time_place geometry.edition)
           (copy_below old new from to (time_place geometry.edition) 4 same (omega (arith, start, order))) (omega arith) (omega arith) (omega arith);
       others = λ j low high other.
           let kept = inode_apart geometry old new i j first low other same in
-          record { content = content_kept geometry old new from to j same room kept; inode = inode_of_kept geometry old new j kept };
+          record { content = content_kept geometry old new from to j whole.sound.zoned same room kept; inode = inode_of_kept geometry old new j kept };
     }
 
 -- the bytes of another i-node stay where a file is changed
@@ -119,6 +139,9 @@ only_file geometry old new i fits alone first = record {
           addresses = ap (λ node. node.addresses) (inode_of_kept geometry old new j kept);
           bytes = λ file. alone.bodies j other file;
           names = λ p place. alone.places j p other place;
+          blocks = λ p r place some h.
+              alone.elsewhere.blocks j p (named geometry old j p) r other
+              (record { place = place; holds = named_holds geometry old j p (named geometry old j p) fits refl some }) h;
         };
         inode = inode_of_kept geometry old new j kept;
       };
@@ -176,7 +199,7 @@ module _ (geometry : Geometry) (old new : List ℕ) (whole : IsWhole geometry ol
       let kept = copy_above old new (cache_head geometry.edition) (cache_head geometry.edition + 202) (inode_place geometry.edition j)
       (constants geometry.edition).inode_bytes same (omega (arith, start, cache_order)) in
       record {
-        content = content_kept geometry old new (cache_head geometry.edition) (cache_head geometry.edition + 202) j same (omega (arith, behind, cache_order)) kept;
+        content = content_kept geometry old new (cache_head geometry.edition) (cache_head geometry.edition + 202) j whole.sound.zoned same (omega (arith, behind, cache_order)) kept;
         inode = inode_of_kept geometry old new j kept;
       }
 

@@ -1,5 +1,5 @@
 -- What a change of one node leaves of the others.
-use Rattle.std.specs.Prelude.{◌≡◌, ◌≢◌, ℕ, ◌≤◌, List}
+use Rattle.std.specs.Prelude.{◌≡◌, ◌≢◌, ℕ, ◌+◌, ◌*◌, ◌<◌, ◌≤◌, List, slice_index}
 use Rattle.pdp_words.specs.Words.{long}
 use Rattle.vol_layout.specs.Inode.{inode_of}
 use Rattle.vol_layout.specs.Names.{mode_of, IsFile, IsPlaceOf, named}
@@ -9,13 +9,16 @@ use Rattle.vol_layout.specs.declared.geometry.Geometry.{Geometry}
 use Rattle.vol_file.specs.Rules.{size_of}
 use Rattle.vol_change.specs.Whole.{StaysAround}
 
--- what i-node i stands for stays: its mode, size and addresses, its bytes, and what its places name (manual section 5, file system)
+-- what i-node i stands for stays: its mode, size and addresses, its bytes, what its places name, and all bytes of the blocks that
+-- they name (manual section 5, file system)
 pub record KeepsContent (geometry : Geometry) (old new : List ℕ) (i : ℕ) : Type 0 where
   pub mode : mode_of geometry new i ≡ mode_of geometry old i
   pub size : size_of geometry new i ≡ size_of geometry old i
   pub addresses : (inode_of geometry.edition new i).addresses ≡ (inode_of geometry.edition old i).addresses
   pub bytes : IsFile geometry old i → body geometry new i ≡ body geometry old i
   pub names : (p : List ℕ) → IsPlaceOf geometry old i p → named geometry new i p ≡ named geometry old i p
+  pub blocks : (p : List ℕ) (r : ℕ) → IsPlaceOf geometry old i p → named geometry old i p ≢ 0 → r < 512
+      → slice_index new (512 * named geometry old i p + r) ≡ slice_index old (512 * named geometry old i p + r)
 
 -- i-node j stays, and what it stands for (manual section 5, file system)
 pub record KeepsNode (geometry : Geometry) (old new : List ℕ) (j : ℕ) : Type 0 where

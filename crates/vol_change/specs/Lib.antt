@@ -1,5 +1,6 @@
 pub mod Alone
 pub mod Beside
+pub mod Changed
 pub mod Contents
 pub mod Dots
 pub mod Edits

@@ -1,5 +1,5 @@
 //! The entries of a directory: one that comes, and one that goes; with and without the times of the directory.
-ghost use Rattle.std.specs.Prelude.{◌≡◌, ◌≢◌, ℕ, ◌+◌, ◌*◌, ◌%◌, ◌<◌, ◌≤◌, List, None, Some, length, slice_index, IsSome, false};
+ghost use Rattle.std.specs.Prelude.{◌≡◌, ◌≢◌, ℕ, ◌+◌, ◌*◌, ◌%◌, ◌<◌, ◌≤◌, List, None, Some, length, slice_index, IsSome, false, drop};
 ghost use Rattle.std.specs.Option.{option_map};
 ghost use Rattle.vol_layout.specs.Edition.{constants};
 ghost use Rattle.vol_layout.specs.declared.mode.Kind.TheVariants as kinds;
@@ -13,10 +13,11 @@ ghost use Rattle.vol_dir.specs.Tree.{state};
 ghost use Rattle.vol_dir.specs.Walk.{IsComponent, has_zero};
 ghost use Rattle.vol_judge.specs.Graph.{graph_of};
 ghost use Rattle.vol_judge.specs.GraphEdits.{ChangesSlot};
+ghost use Rattle.vol_change.specs.Changed.{Changed, IsOther, as_before};
 ghost use Rattle.vol_change.specs.Beside.{StaysBeside};
 ghost use Rattle.vol_change.specs.Contents.{put_entry, drop_entry};
 ghost use Rattle.vol_change.specs.Unused.{KeepsUnused};
-ghost use Rattle.vol_change.specs.Whole.{IsWhole, Keeps};
+ghost use Rattle.vol_change.specs.Whole.{IsWhole};
 ghost use Rattle.vol_change.specs.Edits.{add_entry, remove_entry};
 ghost use Rattle.vol_change.specs.Ready.{TakesName, entry_need, free_in};
 
@@ -44,8 +45,8 @@ pub fn add_name(image: &mut Image, geometry: &Geometry, dir: u16, slot: u32, nam
     requires greatest { 16 * new_slot (names_in (slots geometry.now image.old dir)) + 16 ≤ (constants geometry.now.edition).greatest }
     requires room { (blocks : List ℕ) → IsSoundWith geometry.now image.old blocks
         → need geometry.now image.old dir (16 * new_slot (names_in (slots geometry.now image.old dir))) 16 ≤ length blocks }
-    ensures keeps { Keeps geometry.now image.old image.new }
-    ensures makes { state geometry.now image.new ≡ put_entry dir name.now i (state geometry.now image.old) }
+    ensures changed { Changed geometry.now image.old image.new (IsOther dir)
+        (put_entry dir name.now i (state geometry.now image.old)) (drop (entry_need (state geometry.now image.old) dir)) }
     ensures slot { ChangesSlot (graph_of geometry.now image.old) (graph_of geometry.now image.new) dir
         (new_slot (names_in (slots geometry.now image.old dir))) None (Some (name.now, i)) }
     ensures beside { StaysBeside (graph_of geometry.now image.old) (graph_of geometry.now image.new) dir }
@@ -68,8 +69,8 @@ pub fn remove_name(image: &mut Image, geometry: &Geometry, dir: u16, slot: u32, 
     requires slots { size_of geometry.now image.old dir % 16 ≡ 0 }
     requires once { HasNamesOnce geometry.now image.old dir }
     requires there { IsSome (get (names_of (slots geometry.now image.old dir)) name.now) }
-    ensures keeps { Keeps geometry.now image.old image.new }
-    ensures makes { state geometry.now image.new ≡ drop_entry dir name.now (state geometry.now image.old) }
+    ensures changed { Changed geometry.now image.old image.new (IsOther dir)
+        (drop_entry dir name.now (state geometry.now image.old)) as_before }
     ensures slot { ChangesSlot (graph_of geometry.now image.old) (graph_of geometry.now image.new) dir
         (slot_named name.now (slots geometry.now image.old dir))
         (option_map (λ i. (name.now, i)) (get (names_of (slots geometry.now image.old dir)) name.now)) None }
@@ -101,8 +102,8 @@ pub(crate) fn enter(
     requires text { has_zero name.now ≡ false }
     requires inode { 1 ≤ i }
     requires room { entry_need (state geometry.now image.old) dir ≤ free_in (state geometry.now image.old) }
-    ensures keeps { Keeps geometry.now image.old image.new }
-    ensures makes { state geometry.now image.new ≡ add_entry moment dir name.now i (state geometry.now image.old) }
+    ensures changed { Changed geometry.now image.old image.new (IsOther dir)
+        (add_entry moment dir name.now i (state geometry.now image.old)) (drop (entry_need (state geometry.now image.old) dir)) }
     ensures slot { ChangesSlot (graph_of geometry.now image.old) (graph_of geometry.now image.new) dir
         (new_slot (names_in (slots geometry.now image.old dir))) None (Some (name.now, i)) }
     ensures beside { StaysBeside (graph_of geometry.now image.old) (graph_of geometry.now image.new) dir }
@@ -128,8 +129,8 @@ pub(crate) fn leave(
     requires slots { size_of geometry.now image.old dir % 16 ≡ 0 }
     requires once { HasNamesOnce geometry.now image.old dir }
     requires there { IsSome (get (names_of (slots geometry.now image.old dir)) name.now) }
-    ensures keeps { Keeps geometry.now image.old image.new }
-    ensures makes { state geometry.now image.new ≡ remove_entry moment dir name.now (state geometry.now image.old) }
+    ensures changed { Changed geometry.now image.old image.new (IsOther dir)
+        (remove_entry moment dir name.now (state geometry.now image.old)) as_before }
     ensures slot { ChangesSlot (graph_of geometry.now image.old) (graph_of geometry.now image.new) dir
         (slot_named name.now (slots geometry.now image.old dir))
         (option_map (λ i. (name.now, i)) (get (names_of (slots geometry.now image.old dir)) name.now)) None }

@@ -1,15 +1,16 @@
 //! Nodes that go.
-ghost use Rattle.std.specs.Prelude.{◌≡◌, ◌≢◌, ℕ, ◌<◌, ◌≤◌, List};
+ghost use Rattle.std.specs.Prelude.{◌≡◌, ◌≢◌, ℕ, ◌<◌, ◌≤◌, List, ◌++◌};
 ghost use Rattle.vol_layout.specs.Edition.{constants};
 ghost use Rattle.vol_layout.specs.Names.{IsPlaceOf, named};
 ghost use Rattle.vol_layout.specs.declared.mode.Kind.TheVariants as kinds;
 ghost use Rattle.vol_dir.specs.Tree.{state};
 ghost use Rattle.vol_judge.specs.Graph.{graph_of};
+ghost use Rattle.vol_change.specs.Changed.{Changed, FreeBecomes, IsOther, blocks_freed};
 ghost use Rattle.vol_change.specs.Alone.{ChangesOnly};
 ghost use Rattle.vol_change.specs.Edits.{remove_node};
 ghost use Rattle.vol_change.specs.NodeGraphs.{DropsNode};
 ghost use Rattle.vol_change.specs.Unused.{IsCleared, KeepsUnused};
-ghost use Rattle.vol_change.specs.Whole.{IsWhole, Keeps};
+ghost use Rattle.vol_change.specs.Whole.{IsWhole};
 
 use pdp_words::Image;
 use vol_file::truncate;
@@ -25,8 +26,8 @@ pub fn free_node(image: &mut Image, geometry: &Geometry, i: u16)
     requires whole { IsWhole geometry.now image.old }
     requires above { (constants geometry.now.edition).root < i }
     requires last { i ≤ geometry.now.last_inode }
-    ensures keeps { Keeps geometry.now image.old image.new }
-    ensures makes { state geometry.now image.new ≡ remove_node i (state geometry.now image.old) }
+    ensures changed { Changed geometry.now image.old image.new (IsOther i)
+        (remove_node i (state geometry.now image.old)) (λ blocks. blocks_freed geometry.now image.old i ++ blocks) }
     ensures graph { DropsNode (graph_of geometry.now image.old) (graph_of geometry.now image.new) i }
     ensures cleared { IsCleared geometry.now image.new i }
     ensures others { (j : ℕ) → 1 ≤ j → j ≤ geometry.now.last_inode → j ≢ i → KeepsUnused geometry.now image.old image.new j }
@@ -44,6 +45,7 @@ fn free_blocks(image: &mut Image, geometry: &Geometry, i: u16)
     ensures whole { IsWhole geometry.now image.new }
     ensures only { ChangesOnly geometry.now image.old image.new i }
     ensures others { (j : ℕ) → 1 ≤ j → j ≤ geometry.now.last_inode → j ≢ i → KeepsUnused geometry.now image.old image.new j }
+    ensures free { FreeBecomes geometry.now image.old image.new (λ blocks. blocks_freed geometry.now image.old i ++ blocks) }
     ensures none { (p : List ℕ) → IsPlaceOf geometry.now image.new i p → named geometry.now image.new i p ≡ 0 }
 {
     match kind(image, geometry, i) {

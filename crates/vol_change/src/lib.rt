@@ -2,7 +2,6 @@
 //! the changes of one node of the tree, of which they are made.
 #![tactic(auto)]
 
-pub mod bytes;
 mod calls;
 mod counting;
 pub mod entries;
@@ -11,7 +10,6 @@ mod links;
 mod new_nodes;
 mod times;
 
-pub use bytes::{empty_file, write_bytes};
 pub use calls::create::create;
 pub use calls::link::link;
 pub use calls::mkdir::mkdir;
@@ -23,5 +21,5 @@ pub use counting::place_count;
 pub use entries::{add_name, remove_name};
 pub use freeing::free_node;
 pub use links::{add_link, drop_link, put_links};
-pub use new_nodes::{NewNode, make_directory, make_file, take_number};
+pub use new_nodes::{NewNode, make_directory, make_file};
 pub use times::{put_time, touch};

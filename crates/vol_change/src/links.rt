@@ -6,10 +6,11 @@ ghost use Rattle.vol_layout.specs.declared.mode.Kind.TheVariants as kinds;
 ghost use Rattle.vol_file.specs.Rules.{kind_at};
 ghost use Rattle.vol_dir.specs.Tree.{state};
 ghost use Rattle.vol_judge.specs.Graph.{graph_of};
+ghost use Rattle.vol_change.specs.Changed.{Changed, IsAny, as_before};
 ghost use Rattle.vol_change.specs.Edits.{add_link, change_node, drop_link, with_links};
 ghost use Rattle.vol_change.specs.NodeGraphs.{SetsLinks};
 ghost use Rattle.vol_change.specs.Unused.{KeepsUnused};
-ghost use Rattle.vol_change.specs.Whole.{IsWhole, Keeps};
+ghost use Rattle.vol_change.specs.Whole.{IsWhole};
 
 use crate::times::stamp;
 use pdp_words::Image;
@@ -24,8 +25,8 @@ pub fn put_links(image: &mut Image, geometry: &Geometry, i: u16, links: u16, now
     requires last { i ≤ geometry.now.last_inode }
     requires used { kind_at geometry.now image.old i ≢ kinds.Free }
     requires limit { links ≤ (constants geometry.now.edition).link_limit }
-    ensures keeps { Keeps geometry.now image.old image.new }
-    ensures makes { state geometry.now image.new ≡ change_node i (with_links now links) (state geometry.now image.old) }
+    ensures changed { Changed geometry.now image.old image.new IsAny
+        (change_node i (with_links now links) (state geometry.now image.old)) as_before }
     ensures graph { SetsLinks (graph_of geometry.now image.old) (graph_of geometry.now image.new) i links }
     ensures unused { (j : ℕ) → 1 ≤ j → j ≤ geometry.now.last_inode → KeepsUnused geometry.now image.old image.new j }
 {
@@ -45,8 +46,8 @@ pub fn add_link(image: &mut Image, geometry: &Geometry, i: u16, now: u32)
     requires last { i ≤ geometry.now.last_inode }
     requires used { kind_at geometry.now image.old i ≢ kinds.Free }
     requires room { (inode_of geometry.now.edition image.old i).links < (constants geometry.now.edition).link_limit }
-    ensures keeps { Keeps geometry.now image.old image.new }
-    ensures makes { state geometry.now image.new ≡ add_link now i (state geometry.now image.old) }
+    ensures changed { Changed geometry.now image.old image.new IsAny
+        (add_link now i (state geometry.now image.old)) as_before }
     ensures graph { SetsLinks (graph_of geometry.now image.old) (graph_of geometry.now image.new) i
         ((inode_of geometry.now.edition image.old i).links + 1) }
     ensures unused { (j : ℕ) → 1 ≤ j → j ≤ geometry.now.last_inode → KeepsUnused geometry.now image.old image.new j }
@@ -62,8 +63,8 @@ pub fn drop_link(image: &mut Image, geometry: &Geometry, i: u16, now: u32)
     requires last { i ≤ geometry.now.last_inode }
     requires used { kind_at geometry.now image.old i ≢ kinds.Free }
     requires some { 1 ≤ (inode_of geometry.now.edition image.old i).links }
-    ensures keeps { Keeps geometry.now image.old image.new }
-    ensures makes { state geometry.now image.new ≡ drop_link now i (state geometry.now image.old) }
+    ensures changed { Changed geometry.now image.old image.new IsAny
+        (drop_link now i (state geometry.now image.old)) as_before }
     ensures graph { SetsLinks (graph_of geometry.now image.old) (graph_of geometry.now image.new) i
         ((inode_of geometry.now.edition image.old i).links - 1) }
     ensures unused { (j : ℕ) → 1 ≤ j → j ≤ geometry.now.last_inode → KeepsUnused geometry.now image.old image.new j }

@@ -1,21 +1,20 @@
 //! New nodes, and the i-numbers that they get.
 ghost use Rattle.std.specs.Prelude.{◌≡◌, ◌≢◌, ℕ, ◌+◌, ◌≤◌, true, false, [], Some, None, IfSome, slice_index};
-ghost use Rattle.pdp_words.specs.Words.{SameOutside};
 ghost use Rattle.vol_layout.specs.Edition.{constants};
 ghost use Rattle.vol_layout.specs.Inode.{inode_place, is_large, kind_of, new_inode};
 ghost use Rattle.vol_layout.specs.Places.{has_places};
-ghost use Rattle.vol_layout.specs.Super.{cache_head};
 ghost use Rattle.vol_layout.specs.declared.edition.Edition.TheVariants as editions;
 ghost use Rattle.vol_layout.specs.declared.mode.Kind.TheVariants as kinds;
 ghost use Rattle.vol_free.specs.Numbers.{IsFreeNumber};
 ghost use Rattle.vol_dir.specs.Tree.{Body, Directory, no_shape, state};
 ghost use Rattle.vol_judge.specs.Graph.{graph_of};
 ghost use Rattle.vol_judge.specs.GraphEdits.{IsSameGraph};
+ghost use Rattle.vol_change.specs.Changed.{Changed, IsAny, IsOther, as_before};
 ghost use Rattle.vol_change.specs.Edits.{new_node, put_node, put_shape};
 ghost use Rattle.vol_change.specs.Inodes.{MakesInode};
 ghost use Rattle.vol_change.specs.NodeGraphs.{AddsNode};
 ghost use Rattle.vol_change.specs.Unused.{KeepsUnused};
-ghost use Rattle.vol_change.specs.Whole.{IsWhole, Keeps};
+ghost use Rattle.vol_change.specs.Whole.{IsWhole};
 
 use pdp_words::Image;
 use vol_dir::Cred;
@@ -33,21 +32,6 @@ pub struct NewNode {
     pub moment: u32,
 }
 
-/// Takes a free i-number above the root's for a new node, from the cache or the i-list, as `take_inode`
-/// does. None exactly where there is none. What the volume reads as stays: the cache alone changes.
-pub fn take_number(image: &mut Image, geometry: &Geometry) -> Option<u16>
-    requires whole { IsWhole geometry.now image.old }
-    ensures free { IfSome result (λ i. IsFreeNumber geometry.now image.new i) }
-    ensures none { result ≡ None → (i : ℕ) → IsFreeNumber geometry.now image.old i → ⊥ }
-    ensures keeps { Keeps geometry.now image.old image.new }
-    ensures makes { state geometry.now image.new ≡ state geometry.now image.old }
-    ensures graph { IsSameGraph (graph_of geometry.now image.old) (graph_of geometry.now image.new) }
-    ensures others { SameOutside image.old image.new
-        (cache_head geometry.now.edition) (cache_head geometry.now.edition + 202) }
-{
-    take_inode(image, geometry)
-}
-
 /// The i-number for a new node: the recorded one, or else one that is taken from the cache or the i-list.
 /// The cache changes as if one were taken in either case.
 pub(crate) fn pick_number(image: &mut Image, geometry: &Geometry, recorded: Option<u16>) -> u16
@@ -56,12 +40,12 @@ pub(crate) fn pick_number(image: &mut Image, geometry: &Geometry, recorded: Opti
     requires recorded { IfSome recorded (λ i. IsFreeNumber geometry.now image.old i) }
     ensures free { IsFreeNumber geometry.now image.new result }
     ensures recorded { IfSome recorded (λ i. result ≡ i) }
-    ensures keeps { Keeps geometry.now image.old image.new }
-    ensures makes { state geometry.now image.new ≡ state geometry.now image.old }
+    ensures changed { Changed geometry.now image.old image.new IsAny
+        (state geometry.now image.old) as_before }
     ensures graph { IsSameGraph (graph_of geometry.now image.old) (graph_of geometry.now image.new) }
     ensures unused { (j : ℕ) → 1 ≤ j → j ≤ geometry.now.last_inode → KeepsUnused geometry.now image.old image.new j }
 {
-    let Some(taken) = take_number(image, geometry) else {
+    let Some(taken) = take_inode(image, geometry) else {
         unreachable!()
     };
     recorded.unwrap_or(taken)
@@ -74,10 +58,9 @@ pub fn make_file(image: &mut Image, geometry: &Geometry, i: u16, node: NewNode)
     requires free { IsFreeNumber geometry.now image.old i }
     requires user { node.owner.uid ≤ (constants geometry.now.edition).id_limit }
     requires group { node.owner.gid ≤ (constants geometry.now.edition).id_limit }
-    ensures keeps { Keeps geometry.now image.old image.new }
-    ensures makes { state geometry.now image.new
-        ≡ put_shape i no_shape (put_node i (Some (new_node geometry.now.edition node.owner node.moment node.permissions (Body []) 1 0))
-        (state geometry.now image.old)) }
+    ensures changed { Changed geometry.now image.old image.new (IsOther i)
+        (put_shape i no_shape (put_node i (Some (new_node geometry.now.edition node.owner node.moment node.permissions (Body []) 1 0))
+        (state geometry.now image.old))) as_before }
     ensures graph { AddsNode (graph_of geometry.now image.old) (graph_of geometry.now image.new) i kinds.Regular 1 }
     ensures unused { geometry.now.edition ≡ editions.V7 → slice_index image.new (inode_place editions.V7 i + 51) ≡ 0 }
     ensures others { (j : ℕ) → 1 ≤ j → j ≤ geometry.now.last_inode → j ≢ i → KeepsUnused geometry.now image.old image.new j }
@@ -93,10 +76,9 @@ pub fn make_directory(image: &mut Image, geometry: &Geometry, i: u16, node: NewN
     requires free { IsFreeNumber geometry.now image.old i }
     requires user { node.owner.uid ≤ (constants geometry.now.edition).id_limit }
     requires group { node.owner.gid ≤ (constants geometry.now.edition).id_limit }
-    ensures keeps { Keeps geometry.now image.old image.new }
-    ensures makes { state geometry.now image.new
-        ≡ put_shape i no_shape (put_node i (Some (new_node geometry.now.edition node.owner node.moment node.permissions (Directory []) 2 0))
-        (state geometry.now image.old)) }
+    ensures changed { Changed geometry.now image.old image.new (IsOther i)
+        (put_shape i no_shape (put_node i (Some (new_node geometry.now.edition node.owner node.moment node.permissions (Directory []) 2 0))
+        (state geometry.now image.old))) as_before }
     ensures graph { AddsNode (graph_of geometry.now image.old) (graph_of geometry.now image.new) i kinds.Directory 2 }
     ensures unused { geometry.now.edition ≡ editions.V7 → slice_index image.new (inode_place editions.V7 i + 51) ≡ 0 }
     ensures others { (j : ℕ) → 1 ≤ j → j ≤ geometry.now.last_inode → j ≢ i → KeepsUnused geometry.now image.old image.new j }
@@ -116,9 +98,7 @@ fn make_node(image: &mut Image, geometry: &Geometry, i: u16, mode: Mode, links: 
     requires group { node.owner.gid ≤ (constants geometry.now.edition).id_limit }
     ensures makes { MakesInode geometry.now image.old image.new i
         (new_inode geometry.now.edition mode links node.owner.uid node.owner.gid node.moment) }
-    ensures keeps { Keeps geometry.now image.old image.new }
     ensures unused { geometry.now.edition ≡ editions.V7 → slice_index image.new (inode_place editions.V7 i + 51) ≡ 0 }
-    ensures others { (j : ℕ) → 1 ≤ j → j ≤ geometry.now.last_inode → j ≢ i → KeepsUnused geometry.now image.old image.new j }
 {
     let NewNode { owner, moment, .. } = node;
     let inode = Inode::new(geometry.edition, mode, links, owner.uid, owner.gid, moment);

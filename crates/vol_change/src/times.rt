@@ -8,20 +8,20 @@ ghost use Rattle.vol_file.specs.Rules.{kind_at};
 ghost use Rattle.vol_dir.specs.Tree.{state};
 ghost use Rattle.vol_judge.specs.Graph.{graph_of};
 ghost use Rattle.vol_judge.specs.GraphEdits.{IsSameGraph};
+ghost use Rattle.vol_change.specs.Changed.{Changed, IsAny, as_before};
 ghost use Rattle.vol_change.specs.Edits.{at_time, change_node, modified};
 ghost use Rattle.vol_change.specs.Unused.{KeepsUnused};
-ghost use Rattle.vol_change.specs.Whole.{IsWhole, Keeps};
+ghost use Rattle.vol_change.specs.Whole.{IsWhole};
 
 use pdp_words::Image;
 use vol_layout::i_list::inode;
 use vol_layout::{Geometry, Inode, Super, put_inode};
 
 /// Makes `now` the time at which the volume was last changed, in seconds. No other byte changes.
-#[tactic(auto, using(crate::proofs::ListWrites::time_keeps, crate::proofs::ListWrites::time_makes, crate::proofs::ListWrites::time_graph))]
 pub fn put_time(image: &mut Image, geometry: &Geometry, now: u32)
     requires whole { IsWhole geometry.now image.old }
-    ensures keeps { Keeps geometry.now image.old image.new }
-    ensures makes { state geometry.now image.new ≡ at_time now (state geometry.now image.old) }
+    ensures changed { Changed geometry.now image.old image.new IsAny
+        (at_time now (state geometry.now image.old)) as_before }
     ensures graph { IsSameGraph (graph_of geometry.now image.old) (graph_of geometry.now image.new) }
     ensures others { SameOutside image.old image.new (time_place geometry.now.edition) (time_place geometry.now.edition + 4) }
 {
@@ -38,8 +38,8 @@ pub fn touch(image: &mut Image, geometry: &Geometry, i: u16, now: u32)
     requires first { 1 ≤ i }
     requires last { i ≤ geometry.now.last_inode }
     requires used { kind_at geometry.now image.old i ≢ kinds.Free }
-    ensures keeps { Keeps geometry.now image.old image.new }
-    ensures makes { state geometry.now image.new ≡ change_node i (modified now) (state geometry.now image.old) }
+    ensures changed { Changed geometry.now image.old image.new IsAny
+        (change_node i (modified now) (state geometry.now image.old)) as_before }
     ensures graph { IsSameGraph (graph_of geometry.now image.old) (graph_of geometry.now image.new) }
     ensures unused { (j : ℕ) → 1 ≤ j → j ≤ geometry.now.last_inode → KeepsUnused geometry.now image.old image.new j }
 {

@@ -153,7 +153,7 @@ fn block_after(
         → is_sought sought.entry (entry_at geometry.now image.now dir t) ≡ false }
 {
     match sought {
-        Sought::Empty => b + 1,
+        Sought::Empty | Sought::NamedOrEmpty(_) => b + 1,
         _ => next_block(image, geometry, dir, b + 1, blocks),
     }
 }

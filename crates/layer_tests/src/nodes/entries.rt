@@ -1,4 +1,4 @@
-// A volume of the sixth edition by hand, in which a file is written and emptied, and names come and go.
+// A volume of the sixth edition by hand, in which names come and go.
 ghost use Rattle.std.specs.Prelude.{◌≡◌, ◌%◌, ◌≤◌, IfOk, IfSome, IsTrue};
 ghost use Rattle.vol_layout.specs.Geometry.{Fits};
 ghost use Rattle.vol_file.specs.Rules.{kind_at};
@@ -11,7 +11,7 @@ use crate::pieces::{Piece, check_bytes, filled};
 use pdp_words::Image;
 use std::alloc::{AllocError, Global};
 use std::process::Abort;
-use vol_change::{add_name, empty_file, remove_name, write_bytes};
+use vol_change::{add_name, remove_name};
 use vol_dir::{lookup, place_for};
 use vol_file::need;
 use vol_free::free_count;
@@ -67,36 +67,6 @@ fn begin(image: &Image, geometry: &Geometry, dir: u16)
     ensures { HasNamesOnce geometry.now image.now dir }
 {}
 
-/// Writes a short text near the front of a file, if there are blocks enough; answers whether it did.
-fn put(image: &mut Image, geometry: &Geometry, i: u16, offset: u16, text: &[u8]) -> bool
-    requires whole { IsWhole geometry.now image.old }
-    ensures { IsWhole geometry.now image.new }
-{
-    if !is_kind(image, geometry, i, Kind::Regular) || 512 < text.len() {
-        return false;
-    }
-    let (offset, len) = (u32::from(offset), text.len() as u32);
-    if geometry.edition.constants().greatest < offset + len
-        || free_count(image, geometry) < need(image, geometry, i, offset, len)
-    {
-        return false;
-    }
-    write_bytes(image, geometry, i, offset, text);
-    true
-}
-
-/// Empties a file, if it is one; answers whether it did.
-fn empty(image: &mut Image, geometry: &Geometry, i: u16) -> bool
-    requires { IsWhole geometry.now image.old }
-    ensures { IsWhole geometry.now image.new }
-{
-    if !is_kind(image, geometry, i, Kind::Regular) {
-        return false;
-    }
-    empty_file(image, geometry, i);
-    true
-}
-
 /// Adds an entry, if that may be done; answers whether it did.
 fn enter(image: &mut Image, geometry: &Geometry, dir: u16, name: &[u8], i: u16) -> bool
     requires whole { IsWhole geometry.now image.old }
@@ -138,32 +108,6 @@ fn take_out(image: &mut Image, geometry: &Geometry, dir: u16, name: &[u8]) -> bo
     };
     remove_name(image, geometry, dir, entry.slot, name);
     true
-}
-
-#[test]
-fn a_file_is_written_and_emptied(rt: HostRuntime) {
-    let mut image = filled(&rt, rt.alloc(), 6144, &VOLUME);
-    let found = sound_geometry(rt.alloc(), &image).expect(&rt, "memory for the check");
-    let geometry = found.expect(&rt, "a sound volume");
-    assert!(rt; put(&mut image, &geometry, 2, 510, b"abc"));
-    check_bytes(
-        &rt,
-        image.as_bytes(),
-        1056,
-        b"\xA4\x81\x01\0\0\0\x01\x02\x04\0\x05\0",
-    );
-    check_bytes(&rt, image.as_bytes(), 2558, b"abc");
-    assert_eq!(rt; free_count(&image, &geometry), 6);
-    assert!(rt; put(&mut image, &geometry, 2, 0, b""));
-    assert_eq!(rt; free_count(&image, &geometry), 6);
-    assert!(rt; empty(&mut image, &geometry, 2));
-    check_bytes(
-        &rt,
-        image.as_bytes(),
-        1056,
-        b"\xA4\x81\x01\0\0\0\0\0\0\0\0\0",
-    );
-    assert_eq!(rt; free_count(&image, &geometry), 8);
 }
 
 #[test]

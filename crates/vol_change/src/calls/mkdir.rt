@@ -1,5 +1,5 @@
 //! A new directory.
-ghost use Rattle.std.specs.Prelude.{◌≡◌, ◌≢◌, ℕ, ◌+◌, ◌<◌, ◌≤◌, false, [], IfSome, slice_index};
+ghost use Rattle.std.specs.Prelude.{◌≡◌, ◌≢◌, ℕ, ◌+◌, ◌<◌, ◌≤◌, false, [], IfSome, slice_index, drop};
 ghost use Rattle.vol_layout.specs.Edition.{constants};
 ghost use Rattle.vol_layout.specs.Inode.{inode_place};
 ghost use Rattle.vol_layout.specs.declared.edition.Edition.TheVariants as editions;
@@ -10,10 +10,11 @@ ghost use Rattle.vol_dir.specs.Tree.{no_shape, state};
 ghost use Rattle.vol_dir.specs.Walk.{IsComponent, has_zero};
 ghost use Rattle.vol_free.specs.Numbers.{IsFreeNumber};
 ghost use Rattle.vol_judge.specs.Graph.{graph_of};
+ghost use Rattle.vol_change.specs.Changed.{Changed, IsOther, FreeBecomes, KeepsFilesBut};
 ghost use Rattle.vol_change.specs.Contents.{put_entry};
 ghost use Rattle.vol_change.specs.Edits.{at_time};
 ghost use Rattle.vol_change.specs.Nodes.{node_at};
-ghost use Rattle.vol_change.specs.Whole.{IsWhole, Keeps};
+ghost use Rattle.vol_change.specs.Whole.{IsWhole};
 ghost use Rattle.vol_change.specs.Dots.{HoldsNames, AddsDots};
 ghost use Rattle.vol_change.specs.Unused.{KeepsUnused};
 ghost use Rattle.vol_change.specs.Effects.{after_mkdir};
@@ -57,6 +58,8 @@ pub fn mkdir(
     ensures recorded { IfSome recorded (λ i. result ≡ i) }
     ensures changes { Changes geometry.now image.old image.new
         (at_time node.moment (after_mkdir (state geometry.now image.old) node.owner node.moment node.permissions result dir name.now)) }
+    ensures list { FreeBecomes geometry.now image.old image.new (drop (entry_need (state geometry.now image.old) dir + 1)) }
+    ensures files { KeepsFilesBut geometry.now image.old image.new dir result }
     ensures unused { geometry.now.edition ≡ editions.V7 → slice_index image.new (inode_place editions.V7 result + 51) ≡ 0 }
     ensures others { (j : ℕ) → 1 ≤ j → j ≤ geometry.now.last_inode → j ≢ result → KeepsUnused geometry.now image.old image.new j }
 {
@@ -77,8 +80,8 @@ fn add_dots(image: &mut Image, geometry: &Geometry, i: u16, dir: u16)
     requires empty { HoldsNames (state geometry.now image.old) i [] 0 no_shape }
     requires parent { 1 ≤ dir }
     requires room { 1 ≤ free_in (state geometry.now image.old) }
-    ensures keeps { Keeps geometry.now image.old image.new }
-    ensures makes { state geometry.now image.new ≡ put_entry i dot_dot dir (put_entry i dot i (state geometry.now image.old)) }
+    ensures changed { Changed geometry.now image.old image.new (IsOther i)
+        (put_entry i dot_dot dir (put_entry i dot i (state geometry.now image.old))) (drop 1) }
     ensures graph { AddsDots (graph_of geometry.now image.old) (graph_of geometry.now image.new) i dir }
     ensures unused { (j : ℕ) → 1 ≤ j → j ≤ geometry.now.last_inode → KeepsUnused geometry.now image.old image.new j }
 {

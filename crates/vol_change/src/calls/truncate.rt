@@ -1,13 +1,14 @@
 //! A regular file that loses all bytes.
-ghost use Rattle.std.specs.Prelude.{◌≡◌, ℕ, ◌≤◌};
+ghost use Rattle.std.specs.Prelude.{◌≡◌, ℕ, ◌≤◌, ◌++◌};
 ghost use Rattle.vol_layout.specs.declared.mode.Kind.TheVariants as kinds;
 ghost use Rattle.vol_file.specs.Rules.{kind_at};
 ghost use Rattle.vol_dir.specs.Tree.{state};
+ghost use Rattle.vol_file.specs.Changes.{blocks_of};
+ghost use Rattle.vol_change.specs.Changed.{FreeBecomes, KeepsFilesBut};
 ghost use Rattle.vol_change.specs.Edits.{at_time, after_truncate};
 ghost use Rattle.vol_change.specs.Unused.{KeepsUnused};
 ghost use Rattle.vol_change.specs.Ready.{IsReady, Changes};
 
-use crate::bytes::empty_file;
 use crate::times::{put_time, touch};
 use pdp_words::Image;
 use vol_layout::Geometry;
@@ -22,9 +23,11 @@ pub fn truncate(image: &mut Image, geometry: &Geometry, i: u16, moment: u32)
     requires regular { kind_at geometry.now image.old i ≡ kinds.Regular }
     ensures changes { Changes geometry.now image.old image.new
         (at_time moment (after_truncate (state geometry.now image.old) moment i)) }
+    ensures list { FreeBecomes geometry.now image.old image.new (λ blocks. blocks_of geometry.now image.old i ++ blocks) }
+    ensures files { KeepsFilesBut geometry.now image.old image.new i i }
     ensures unused { (j : ℕ) → 1 ≤ j → j ≤ geometry.now.last_inode → KeepsUnused geometry.now image.old image.new j }
 {
-    empty_file(image, geometry, i);
+    let _ = vol_file::truncate(image, geometry, i);
     touch(image, geometry, i, moment);
     put_time(image, geometry, moment);
 }

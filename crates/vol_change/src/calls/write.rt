@@ -1,16 +1,16 @@
 //! Bytes that are written into a regular file.
-ghost use Rattle.std.specs.Prelude.{◌≡◌, ℕ, ◌+◌, ◌≤◌, length};
+ghost use Rattle.std.specs.Prelude.{◌≡◌, ℕ, ◌+◌, ◌≤◌, length, drop};
 ghost use Rattle.vol_layout.specs.Edition.{constants};
 ghost use Rattle.vol_layout.specs.declared.mode.Kind.TheVariants as kinds;
 ghost use Rattle.vol_file.specs.Rules.{kind_at};
 ghost use Rattle.vol_file.specs.Shape.{touched};
 ghost use Rattle.vol_dir.specs.Tree.{state};
+ghost use Rattle.vol_change.specs.Changed.{FreeBecomes, KeepsFilesBut};
 ghost use Rattle.vol_change.specs.Edits.{at_time, after_write};
 ghost use Rattle.vol_change.specs.Shapes.{need_in};
 ghost use Rattle.vol_change.specs.Unused.{KeepsUnused};
 ghost use Rattle.vol_change.specs.Ready.{IsReady, Changes, free_in};
 
-use crate::bytes::write_bytes;
 use crate::times::{put_time, touch};
 use pdp_words::Image;
 use vol_layout::Geometry;
@@ -29,10 +29,13 @@ pub fn write(image: &mut Image, geometry: &Geometry, i: u16, offset: u32, bytes:
         ≤ free_in (state geometry.now image.old) }
     ensures changes { Changes geometry.now image.old image.new
         (at_time moment (after_write (state geometry.now image.old) moment offset bytes.now i)) }
+    ensures list { FreeBecomes geometry.now image.old image.new
+        (drop (need_in geometry.now.edition ((state geometry.now image.old).shapes i) (touched offset (length bytes.now)))) }
+    ensures files { KeepsFilesBut geometry.now image.old image.new i i }
     ensures unused { (j : ℕ) → 1 ≤ j → j ≤ geometry.now.last_inode → KeepsUnused geometry.now image.old image.new j }
 {
     if !bytes.is_empty() {
-        write_bytes(image, geometry, i, offset, bytes);
+        vol_file::write(image, geometry, i, offset, bytes);
         touch(image, geometry, i, moment);
     }
     put_time(image, geometry, moment);

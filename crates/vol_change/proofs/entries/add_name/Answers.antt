@@ -2,15 +2,21 @@ use Rattle.std.proofs.Common.{◌∙◌, ◌*◌, ap, sym, None, Some}
 use Rattle.vol_layout.specs.Names.{IsFile}
 use Rattle.vol_layout.specs.Places.{has_places}
 use Rattle.vol_layout.specs.declared.mode.Kind.TheVariants as kinds
+use Rattle.vol_file.specs.Need.{need}
 use Rattle.vol_dir.specs.Editing.{slot_bytes}
 use Rattle.vol_dir.specs.Entries.{slots, IsDirectory}
 use Rattle.vol_dir.specs.Names.{names_in}
 use Rattle.vol_dir.specs.Searching.{new_slot}
-use Rattle.vol_dir.proofs.NewEntries.{adds, new_empty}
+use Rattle.vol_dir.specs.Tree.{state}
+use Rattle.vol_dir.proofs.NewEntries.{adds, length-slot_bytes, new_empty}
 use Rattle.vol_dir.proofs.SlotReading.{slot_is}
 use Rattle.vol_judge.proofs.EditedGraphs.{changes_slot}
+use Rattle.vol_change.specs.Ready.{entry_need}
 use Rattle.vol_change.proofs.EntryStates.{added_state}
 use Rattle.vol_change.proofs.FileGraphs.{directory_beside}
+use Rattle.vol_change.proofs.FileRooms.{entry_need_is}
+use Rattle.vol_change.proofs.FreeLists.{written_free}
+use Rattle.vol_change.proofs.OneNode.{only_file}
 use Rattle.vol_change.proofs.UnusedBytes.{file_unused}
 use Rattle.vol_change.proofs.WrittenStates.{IsKind, writes_keeps, written_kind}
 use Rattle.vol_change.proofs.entries.add_name.Goals as goal
@@ -31,8 +37,13 @@ returns c =
     let writes = c.add_at.ensures.written whole.blocks whole.sound in
     let kind = written_kind geometry old new whole.blocks d (16 * s) text file writes in
     record {
-      keeps = writes_keeps geometry old new d (16 * s) text whole writes;
-      makes = added_state geometry old new whole.blocks name d c.args.i at whole.sound.fits c.requires.short writes c.add_at.ensures.names c.add_at.ensures.slots;
+      changed = record {
+        keeps = writes_keeps geometry old new d (16 * s) text whole writes;
+        makes = added_state geometry old new whole.blocks name d c.args.i at whole.sound.fits c.requires.short writes c.add_at.ensures.names c.add_at.ensures.slots;
+        free = written_free geometry old new d (16 * s) (entry_need (state geometry old) d) text whole writes
+            (ap (need geometry old d (16 * s)) (length-slot_bytes name c.args.i c.requires.short) ∙ entry_need_is geometry old d at);
+        content = λ j first last other. ((only_file geometry old new d whole.sound.fits writes.alone c.requires.first).others j first last other).content;
+      };
       slot = changes_slot geometry old new d s None (Some (name, c.args.i)) is (kind ∙ c.requires.directory) c.add_at.ensures.whole
           (sym (slot_is geometry old d s) ∙ new_empty geometry old d)
           (adds geometry old new whole.blocks name d c.args.i file whole.sound c.requires.slots c.requires.short c.requires.text c.requires.inode

@@ -3,10 +3,13 @@ use Rattle.vol_layout.specs.declared.mode.Kind.TheVariants as kinds
 use Rattle.vol_dir.specs.Entries.{slots}
 use Rattle.vol_dir.specs.Names.{get, names_in}
 use Rattle.vol_dir.specs.Searching.{new_slot}
-use Rattle.vol_dir.specs.Tree.{Shape, shapes, tree}
+use Rattle.vol_dir.specs.Tree.{Shape, shapes, state, tree}
 use Rattle.vol_judge.specs.Graph.{graph_of}
 use Rattle.vol_change.proofs.EntryStates.{names_is, shape_is}
 use Rattle.vol_change.proofs.FileRooms.{entry_room}
+use Rattle.vol_change.specs.Edits.{change_node, modified}
+use Rattle.vol_change.proofs.OneNode.{content_then}
+use Rattle.vol_change.proofs.TimedEdits.{change_twice}
 use Rattle.vol_change.proofs.WholeLaws.{keeps_then}
 use Rattle.vol_change.proofs.WrittenStates.{IsKind}
 use Rattle.vol_change.proofs.ReadyLaws.{slot_same, beside_same}
@@ -41,9 +44,17 @@ add_name-requires-clause-room c =
     entry_room c.args.geometry.now c.args.image.now c.args.dir c.requires.whole
     (record { first = c.requires.directory.first; last = c.requires.directory.last; kind = c.requires.directory.kind }) c.requires.room
 
-pub returns-clause-keeps : goal.returns-clause-keeps
-returns-clause-keeps c =
-    keeps_then c.args.geometry.now c.args.image.now c.add_name.new.image c.touch.new.image c.add_name.ensures.keeps c.touch.ensures.keeps
+pub returns-clause-changed : goal.returns-clause-changed
+returns-clause-changed c = record {
+  keeps = keeps_then c.args.geometry.now c.args.image.now c.add_name.new.image c.touch.new.image c.add_name.ensures.changed.keeps c.touch.ensures.changed.keeps;
+  makes = c.touch.ensures.changed.makes
+      ∙ (ap (change_node c.args.dir (modified c.args.moment)) c.add_name.ensures.changed.makes
+      ∙ change_twice (state c.args.geometry.now c.args.image.now) c.args.dir _ (modified c.args.moment) _);
+  free = λ blocks free. c.touch.ensures.changed.free _ (c.add_name.ensures.changed.free blocks free);
+  content = λ j first last other.
+      content_then c.args.geometry.now c.args.image.now c.add_name.new.image c.touch.new.image j
+      (c.add_name.ensures.changed.content j first last other) (c.touch.ensures.changed.content j first last tt);
+}
 
 pub returns-clause-slot : goal.returns-clause-slot
 returns-clause-slot c =

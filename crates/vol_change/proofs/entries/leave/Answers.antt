@@ -1,17 +1,29 @@
-use Rattle.std.proofs.Common.{None}
+use Rattle.std.proofs.Common.{◌∙◌, ap, None}
 use Rattle.std.specs.Option.{option_map}
 use Rattle.vol_dir.specs.Entries.{slots}
 use Rattle.vol_dir.specs.Names.{get, names_of}
 use Rattle.vol_dir.specs.Searching.{slot_named}
+use Rattle.vol_dir.specs.Tree.{state}
 use Rattle.vol_judge.specs.Graph.{graph_of}
+use Rattle.vol_change.specs.Edits.{change_node, modified}
+use Rattle.vol_change.proofs.OneNode.{content_then}
+use Rattle.vol_change.proofs.TimedEdits.{change_twice}
 use Rattle.vol_change.proofs.WholeLaws.{keeps_then}
 use Rattle.vol_change.proofs.ReadyLaws.{slot_same, beside_same}
 use Rattle.vol_change.proofs.UnusedBytes.{unused_then}
 use Rattle.vol_change.proofs.entries.leave.Goals as goal
 
-pub returns-clause-keeps : goal.returns-clause-keeps
-returns-clause-keeps c =
-    keeps_then c.args.geometry.now c.args.image.now c.remove_name.new.image c.touch.new.image c.remove_name.ensures.keeps c.touch.ensures.keeps
+pub returns-clause-changed : goal.returns-clause-changed
+returns-clause-changed c = record {
+  keeps = keeps_then c.args.geometry.now c.args.image.now c.remove_name.new.image c.touch.new.image c.remove_name.ensures.changed.keeps c.touch.ensures.changed.keeps;
+  makes = c.touch.ensures.changed.makes
+      ∙ (ap (change_node c.args.dir (modified c.args.moment)) c.remove_name.ensures.changed.makes
+      ∙ change_twice (state c.args.geometry.now c.args.image.now) c.args.dir _ (modified c.args.moment) _);
+  free = λ blocks free. c.touch.ensures.changed.free _ (c.remove_name.ensures.changed.free blocks free);
+  content = λ j first last other.
+      content_then c.args.geometry.now c.args.image.now c.remove_name.new.image c.touch.new.image j
+      (c.remove_name.ensures.changed.content j first last other) (c.touch.ensures.changed.content j first last tt);
+}
 
 pub returns-clause-slot : goal.returns-clause-slot
 returns-clause-slot c =

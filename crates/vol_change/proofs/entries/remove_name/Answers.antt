@@ -10,6 +10,8 @@ use Rattle.vol_dir.proofs.GoneEntries.{removes}
 use Rattle.vol_judge.proofs.EditedGraphs.{changes_slot}
 use Rattle.vol_change.proofs.EntryStates.{named_slot, removed_state}
 use Rattle.vol_change.proofs.FileGraphs.{directory_beside}
+use Rattle.vol_change.proofs.FreeLists.{written_free}
+use Rattle.vol_change.proofs.OneNode.{only_file}
 use Rattle.vol_change.proofs.UnusedBytes.{file_unused}
 use Rattle.vol_change.proofs.WrittenStates.{IsKind, writes_keeps, written_kind}
 use Rattle.vol_change.proofs.entries.remove_name.Goals as goal
@@ -30,9 +32,13 @@ returns c =
     let kind = written_kind geometry old new whole.blocks d (16 * s) (0 ∷ (0 ∷ [])) file writes in
     let named = named_slot geometry old name d c.requires.there in
     record {
-      keeps = writes_keeps geometry old new d (16 * s) (0 ∷ (0 ∷ [])) whole writes;
-      makes = removed_state geometry old new whole.blocks name d s at whole.sound.fits writes c.remove_at.ensures.none c.remove_at.ensures.size
-          c.remove_at.ensures.names c.remove_at.ensures.slots;
+      changed = record {
+        keeps = writes_keeps geometry old new d (16 * s) (0 ∷ (0 ∷ [])) whole writes;
+        makes = removed_state geometry old new whole.blocks name d s at whole.sound.fits writes c.remove_at.ensures.none c.remove_at.ensures.size
+            c.remove_at.ensures.names c.remove_at.ensures.slots;
+        free = written_free geometry old new d (16 * s) 0 (0 ∷ (0 ∷ [])) whole writes c.remove_at.ensures.none;
+        content = λ j first last other. ((only_file geometry old new d whole.sound.fits writes.alone c.requires.first).others j first last other).content;
+      };
       slot = changes_slot geometry old new d s (option_map (λ (i : ℕ). (name, i)) (get (names_of (slots geometry old d)) name)) None is
           (kind ∙ c.requires.directory) (ap (λ n. n % 16) c.remove_at.ensures.size ∙ c.requires.slots) named.entry
           (removes geometry old new whole.blocks d s file whole.sound c.requires.slots named.within writes);

@@ -1,4 +1,6 @@
-use Rattle.vol_change.proofs.FreedNodes.{truncated_whole, truncated_only}
+use Rattle.std.proofs.Common.{◌∙◌, ap, sym, inl, inr}
+use Rattle.vol_layout.specs.Places.{has_places}
+use Rattle.vol_change.proofs.FreedNodes.{truncated_list, truncated_whole, truncated_only}
 use Rattle.vol_change.proofs.OneNode.{alone_inode}
 use Rattle.vol_change.proofs.UnusedBytes.{kept_unused}
 use Rattle.vol_change.proofs.freeing.free_blocks.Goals as goal
@@ -18,3 +20,11 @@ returns-in-Regular-clause-others c = λ j first last other.
     kept_unused c.args.geometry.now c.args.image.now c.truncate.new.image j
     (alone_inode c.args.geometry.now c.args.image.now c.truncate.new.image c.args.i j c.requires.whole.sound.fits
     (c.truncate.ensures.truncated c.requires.whole.blocks c.requires.whole.sound).alone c.requires.first first last other)
+
+pub returns-in-Regular-clause-free : goal.returns-in-Regular-clause-free
+returns-in-Regular-clause-free c =
+    truncated_list c.args.geometry.now c.args.image.now c.truncate.new.image c.args.i c.requires.whole
+    (elim c.in-Regular.is [
+      | inl e ↦ ap has_places (sym c.kind.ensures ∙ e)
+      | inr e ↦ ap has_places (sym c.kind.ensures ∙ e)
+    ]) c.truncate.ensures.truncated

@@ -1,6 +1,6 @@
 use Rattle.std.proofs.Common.{◌+◌, arith}
 use Rattle.vol_layout.specs.Super.{cache_head}
-use Rattle.vol_change.proofs.FreedNodes.{FreesNode, given_inside, freed_keeps, freed_makes, freed_graph}
+use Rattle.vol_change.proofs.FreedNodes.{FreesNode, given_inside, freed_only, freed_keeps, freed_list, freed_makes, freed_graph}
 use Rattle.vol_change.proofs.UnusedBytes.{unused_then, other_unused, low_unused, cleared_by, cleared_still, cache_low}
 use Rattle.vol_change.proofs.freeing.free_node.Goals as goal
 use Rattle.vol_change.proofs.freeing.free_node.Goals.{After-give_inode}
@@ -19,15 +19,14 @@ frees c = record {
   given = given_inside c.args.geometry.now.edition c.clear_inode.new.image c.give_inode.new.image c.args.i c.give_inode.ensures.cached c.give_inode.ensures.full;
 }
 
--- src/freeing.rt:24:1
-pub returns-clause-keeps : goal.returns-clause-keeps
-returns-clause-keeps c = freed_keeps _ _ _ _ _ _ (frees c)
+pub returns-clause-changed : goal.returns-clause-changed
+returns-clause-changed c = record {
+  keeps = freed_keeps _ _ _ _ _ _ (frees c);
+  makes = freed_makes _ _ _ _ _ _ (frees c);
+  free = λ blocks free. freed_list _ _ _ _ _ _ (frees c) _ (c.free_blocks.ensures.free blocks free);
+  content = λ j first last other. ((freed_only _ _ _ _ _ _ (frees c)).others j first last other).content;
+}
 
--- src/freeing.rt:24:1
-pub returns-clause-makes : goal.returns-clause-makes
-returns-clause-makes c = freed_makes _ _ _ _ _ _ (frees c)
-
--- src/freeing.rt:24:1
 pub returns-clause-graph : goal.returns-clause-graph
 returns-clause-graph c = freed_graph _ _ _ _ _ _ (frees c)
 

@@ -4,11 +4,16 @@ use Rattle.vol_change.specs.NodeGraphs.{SetsLinks}
 use Rattle.vol_change.proofs.OneLink.{link_less}
 use Rattle.vol_change.proofs.links.drop_link.Goals as goal
 
-pub returns-clause-makes : goal.returns-clause-makes
-returns-clause-makes c =
-    c.put_links.ensures.makes
-    ∙ link_less c.args.geometry.now c.args.image.now c.args.i c.args.now (c.inode-links.result.links - 1) c.requires.first c.requires.last
-    (ap (λ node. node.links - 1) c.inode-links.ensures.value)
+pub returns-clause-changed : goal.returns-clause-changed
+returns-clause-changed c = record {
+  keeps = c.put_links.ensures.changed.keeps;
+  makes =
+      c.put_links.ensures.changed.makes
+      ∙ link_less c.args.geometry.now c.args.image.now c.args.i c.args.now (c.inode-links.result.links - 1) c.requires.first c.requires.last
+      (ap (λ node. node.links - 1) c.inode-links.ensures.value);
+  free = c.put_links.ensures.changed.free;
+  content = c.put_links.ensures.changed.content;
+}
 
 pub returns-clause-graph : goal.returns-clause-graph
 returns-clause-graph c =

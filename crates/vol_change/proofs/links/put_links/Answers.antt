@@ -4,7 +4,8 @@ use Rattle.vol_layout.specs.declared.i_node.Inode.{Inode}
 use Rattle.vol_dir.specs.Tree.{node_with}
 use Rattle.vol_change.specs.Edits.{with_links}
 use Rattle.vol_change.proofs.ChangedInodes.{storable_changed, puts_changed}
-use Rattle.vol_change.proofs.ListWrites.{PutsInode, put_keeps, put_makes, put_graph}
+use Rattle.vol_change.proofs.FreeLists.{inode_free}
+use Rattle.vol_change.proofs.ListWrites.{PutsInode, put_content, put_keeps, put_makes, put_graph}
 use Rattle.vol_change.proofs.UnusedBytes.{put_unused}
 use Rattle.vol_change.proofs.links.put_links.Goals as goal
 use Rattle.vol_change.proofs.links.put_links.Goals.{After-put_inode}
@@ -23,16 +24,18 @@ puts c =
     puts_changed c.args.geometry.now c.args.image.now c.put_inode.new.image c.args.i c.inode-node.result (put_node c) c.requires.first c.requires.last
     c.inode-node.ensures.value c.put_inode.ensures.put c.put_inode.ensures.others refl refl refl
 
-pub returns-clause-keeps : goal.returns-clause-keeps
-returns-clause-keeps c =
-    put_keeps c.args.geometry.now c.args.image.now c.put_inode.new.image c.args.i (put_node c) c.requires.whole (puts c) c.requires.limit
-
-pub returns-clause-makes : goal.returns-clause-makes
-returns-clause-makes c =
-    put_makes c.args.geometry.now c.args.image.now c.put_inode.new.image c.args.i (put_node c) (with_links c.args.now c.args.links) c.requires.whole (puts c)
-    (λ content.
-    ap (λ changed. node_with (record c.inode-node.result { links = c.args.links; changed = changed }) content) c.stamp.ensures
-    ∙ ap (λ was. node_with (record was { links = c.args.links; changed = option_map (λ _. c.args.now) was.changed }) content) c.inode-node.ensures.value)
+pub returns-clause-changed : goal.returns-clause-changed
+returns-clause-changed c = record {
+  keeps =
+    put_keeps c.args.geometry.now c.args.image.now c.put_inode.new.image c.args.i (put_node c) c.requires.whole (puts c) c.requires.limit;
+  makes =
+      put_makes c.args.geometry.now c.args.image.now c.put_inode.new.image c.args.i (put_node c) (with_links c.args.now c.args.links) c.requires.whole (puts c)
+      (λ content.
+      ap (λ changed. node_with (record c.inode-node.result { links = c.args.links; changed = changed }) content) c.stamp.ensures
+      ∙ ap (λ was. node_with (record was { links = c.args.links; changed = option_map (λ _. c.args.now) was.changed }) content) c.inode-node.ensures.value);
+  free = inode_free c.args.geometry.now c.args.image.now c.put_inode.new.image c.args.i c.requires.whole c.requires.first c.requires.last c.put_inode.ensures.others;
+  content = λ j first last any. put_content c.args.geometry.now c.args.image.now c.put_inode.new.image c.args.i j (put_node c) c.requires.whole (puts c) first last;
+}
 
 pub returns-clause-graph : goal.returns-clause-graph
 returns-clause-graph c =

@@ -1,11 +1,8 @@
 use Rattle.std.proofs.Common.{◌∙◌, sym, subst, arith}
 use Rattle.vol_layout.specs.Inode.{IsStorable}
 use Rattle.vol_layout.proofs.NewInodes.{new_storable}
-use Rattle.vol_change.proofs.MadeNodes.{made_keeps}
 use Rattle.vol_change.proofs.NewInodes.{few_links, makes_new, unused_zero}
-use Rattle.vol_change.proofs.UnusedBytes.{other_unused}
 use Rattle.vol_change.proofs.new_nodes.make_node.Goals as goal
-use Rattle.vol_change.proofs.new_nodes.make_node.Goals.{After-put_inode}
 
 pub put_inode-requires-clause-storable : goal.put_inode-requires-clause-storable
 put_inode-requires-clause-storable c =
@@ -14,24 +11,13 @@ put_inode-requires-clause-storable c =
     subst (IsStorable edition) (sym c.new-inode.ensures)
     (new_storable edition c.args.mode c.args.links node.owner.uid node.owner.gid node.moment (omega (arith, c.requires.few, few_links edition)) c.requires.user c.requires.group)
 
--- what the put leaves
-makes : goal.returns-clause-makes
-makes c =
+pub returns-clause-makes : goal.returns-clause-makes
+returns-clause-makes c =
     let node = c.args.node in
     makes_new c.args.geometry.now c.args.image.now c.clear_inode.new.image c.put_inode.new.image c.args.i c.args.mode c.args.links
     node.owner.uid node.owner.gid node.moment c.requires.few c.requires.free c.requires.file c.requires.small
     c.clear_inode.ensures.others c.put_inode.ensures.others (c.put_inode.ensures.put ∙ c.new-inode.ensures)
 
-pub returns-clause-makes : goal.returns-clause-makes
-returns-clause-makes = makes
-
-pub returns-clause-keeps : goal.returns-clause-keeps
-returns-clause-keeps c = made_keeps c.args.geometry.now c.args.image.now c.put_inode.new.image c.args.i _ c.requires.whole (makes c)
-
 pub returns-clause-unused : goal.returns-clause-unused
 returns-clause-unused c v7 =
     unused_zero c.args.geometry.now.edition c.clear_inode.new.image c.put_inode.new.image c.args.i v7 c.clear_inode.ensures.zero (c.put_inode.ensures.unused v7)
-
-pub returns-clause-others : goal.returns-clause-others
-returns-clause-others c = λ j first last other.
-    other_unused c.args.geometry.now c.args.image.now c.put_inode.new.image c.args.i j (omega (arith, c.requires.free.above)) first other (makes c).same

@@ -1,13 +1,16 @@
-use Rattle.std.proofs.Common.{◌∙◌, sym, ap, ◌+◌, arith}
+use Rattle.std.proofs.Common.{◌∙◌, sym, ap, ◌+◌, arith, ◌≡◌, subst, drop}
 use Rattle.vol_layout.specs.Inode.{inode_of}
 use Rattle.vol_file.specs.Rules.{kind_at}
 use Rattle.vol_file.proofs.Naming.{root_first}
 use Rattle.vol_dir.specs.Entries.{slots}
 use Rattle.vol_dir.specs.Names.{names_in}
 use Rattle.vol_dir.specs.Searching.{new_slot}
-use Rattle.vol_dir.specs.Tree.{State, tree}
+use Rattle.vol_dir.specs.Tree.{tree, State, state}
 use Rattle.vol_judge.specs.Graph.{graph_of}
 use Rattle.vol_judge.proofs.ImageGraphs.{directory_to, kind_inside}
+use Rattle.vol_free.specs.Stack.{IsFree}
+use Rattle.vol_change.specs.Ready.{entry_need}
+use Rattle.vol_change.proofs.OneNode.{content_then}
 use Rattle.vol_change.specs.Edits.{add_entry, at_time}
 use Rattle.vol_change.proofs.UnusedBytes.{unused_then}
 use Rattle.vol_change.proofs.WholeLaws.{keeps_then}
@@ -44,10 +47,10 @@ enter-requires c =
     (λ same. c.requires.other (sym (ap (kind_at geometry old) same) ∙ c.requires.directory.kind))
     (linked_keeps (graph_of geometry old) (graph_of geometry new) d i ((inode_of geometry.edition old i).links + 1) c.add_link.ensures.graph
     (directory_to geometry old d c.requires.directory))
-    c.add_link.ensures.makes takes in
+    c.add_link.ensures.changed.makes takes in
     record {
-      slot = c.requires.slot ∙ ap (λ (s : State). new_slot (s.shapes d).slots) (sym c.add_link.ensures.makes);
-      whole = c.add_link.ensures.keeps.whole;
+      slot = c.requires.slot ∙ ap (λ (s : State). new_slot (s.shapes d).slots) (sym c.add_link.ensures.changed.makes);
+      whole = c.add_link.ensures.changed.keeps.whole;
       directory = made.directory;
       slots = made.slots;
       once = made.once;
@@ -59,6 +62,7 @@ enter-requires c =
     }
 
 pub returns : goal.returns
+unfolding tree
 returns c =
     let geometry = c.args.geometry.now in
     let old = c.args.image.now in
@@ -70,7 +74,7 @@ returns c =
     let name = c.args.name.now in
     let one = root_first geometry.edition in
     let kind = kind_inside geometry old i (omega (arith, one, c.requires.used.first)) c.requires.used.last in
-    let added = keeps_then geometry old mid entered c.add_link.ensures.keeps c.enter.ensures.keeps in
+    let added = keeps_then geometry old mid entered c.add_link.ensures.changed.keeps c.enter.ensures.changed.keeps in
     let s = new_slot (names_in (slots geometry mid d)) in
     let file = link_ready geometry old entered i d s name c.requires.ready c.requires.directory c.requires.takes c.requires.component
     c.requires.used.first added
@@ -79,11 +83,18 @@ returns c =
     (directory_to geometry old d c.requires.directory) c.enter.ensures.slot c.enter.ensures.beside) in
     record {
       changes = record {
-        ready = ready_same geometry entered new file c.put_time.ensures.keeps c.put_time.ensures.graph;
-        around = (keeps_then geometry old entered new added c.put_time.ensures.keeps).around;
-        makes = c.put_time.ensures.makes
-            ∙ ap (at_time c.args.moment) (c.enter.ensures.makes ∙ ap (add_entry c.args.moment d name i) c.add_link.ensures.makes);
+        ready = ready_same geometry entered new file c.put_time.ensures.changed.keeps c.put_time.ensures.graph;
+        around = (keeps_then geometry old entered new added c.put_time.ensures.changed.keeps).around;
+        makes = c.put_time.ensures.changed.makes
+            ∙ ap (at_time c.args.moment) (c.enter.ensures.changed.makes ∙ ap (add_entry c.args.moment d name i) c.add_link.ensures.changed.makes);
       };
+      list = λ blocks free.
+          let need : entry_need (state geometry mid) d ≡ entry_need (state geometry old) d = ap (λ (s : State). entry_need s d) c.add_link.ensures.changed.makes in
+          subst (λ n. IsFree geometry new (drop n blocks)) need
+          (c.put_time.ensures.changed.free _ (c.enter.ensures.changed.free _ (c.add_link.ensures.changed.free blocks free)));
+      files = λ j low high there also.
+          content_then geometry old mid new j (c.add_link.ensures.changed.content j low high tt)
+          (content_then geometry mid entered new j (c.enter.ensures.changed.content j low high there) (c.put_time.ensures.changed.content j low high tt));
       unused = λ j low high.
           unused_then geometry old mid new j (c.add_link.ensures.unused j low high)
           (unused_then geometry mid entered new j (c.enter.ensures.unused j low high) (time_unused geometry entered new j c.put_time.ensures.others));

@@ -1,14 +1,17 @@
-use Rattle.std.proofs.Common.{◌∙◌, ap, sym, ◌%◌, [], arith}
+use Rattle.std.proofs.Common.{◌∙◌, ap, sym, ◌%◌, [], arith, subst, drop}
 use Rattle.vol_dir.specs.Entries.{slots}
 use Rattle.vol_dir.specs.Names.{dot, dot_dot, get, names_in}
 use Rattle.vol_dir.specs.Searching.{new_slot}
-use Rattle.vol_dir.specs.Tree.{no_shape, tree}
+use Rattle.vol_dir.specs.Tree.{no_shape, tree, state}
 use Rattle.vol_judge.specs.Graph.{graph_of, entry_by}
 use Rattle.vol_judge.proofs.ImageGraphs.{directory_to}
+use Rattle.vol_free.specs.Stack.{IsFree}
+use Rattle.vol_change.proofs.OneNode.{content_then}
+use Rattle.vol_change.specs.Ready.{entry_need}
 use Rattle.vol_change.specs.Contents.{put_entry}
 use Rattle.vol_change.proofs.WholeLaws.{keeps_then}
 use Rattle.vol_change.proofs.DotGraphs.{dots_added}
-use Rattle.vol_change.proofs.DotImages.{names_held, size_held, first_slot, no_entry, none_twice, dots_fit, dot_room, dot_there, second_slot, dot_dot_new, dot_dot_room, dots_size}
+use Rattle.vol_change.proofs.DotImages.{names_held, size_held, first_slot, no_entry, none_twice, dots_fit, dot_room, dot_there, second_slot, dot_dot_new, dot_dot_room, dots_size, dot_need, dot_dot_need}
 use Rattle.vol_change.proofs.UnusedBytes.{unused_then}
 use Rattle.vol_change.proofs.calls.mkdir.add_dots.Goals as goal
 
@@ -18,7 +21,7 @@ add_name-requires-clause-slot c = sym (first_slot c.args.geometry.now c.args.ima
 pub add_name-requires-2-clause-slot : goal.add_name-requires-2-clause-slot
 add_name-requires-2-clause-slot c =
     sym (second_slot c.args.geometry.now c.add_name.new.image c.args.i
-    (dot_there c.args.geometry.now c.args.image.now c.add_name.new.image c.args.i c.requires.directory c.requires.empty c.add_name.ensures.makes c.add_name.ensures.beside))
+    (dot_there c.args.geometry.now c.args.image.now c.add_name.new.image c.args.i c.requires.directory c.requires.empty c.add_name.ensures.changed.makes c.add_name.ensures.beside))
 
 pub add_name-requires-clause-slots : goal.add_name-requires-clause-slots
 add_name-requires-clause-slots c =
@@ -43,27 +46,39 @@ add_name-requires-clause-room c = dot_room c.args.geometry.now c.args.image.now 
 pub add_name-requires-2-clause-new : goal.add_name-requires-2-clause-new
 add_name-requires-2-clause-new c =
     dot_dot_new c.args.geometry.now c.add_name.new.image c.args.i
-    (dot_there c.args.geometry.now c.args.image.now c.add_name.new.image c.args.i c.requires.directory c.requires.empty c.add_name.ensures.makes c.add_name.ensures.beside)
+    (dot_there c.args.geometry.now c.args.image.now c.add_name.new.image c.args.i c.requires.directory c.requires.empty c.add_name.ensures.changed.makes c.add_name.ensures.beside)
 
 pub add_name-requires-2-clause-greatest : goal.add_name-requires-2-clause-greatest
 add_name-requires-2-clause-greatest c =
     let second =
     second_slot c.args.geometry.now c.add_name.new.image c.args.i
-    (dot_there c.args.geometry.now c.args.image.now c.add_name.new.image c.args.i c.requires.directory c.requires.empty c.add_name.ensures.makes c.add_name.ensures.beside) in
+    (dot_there c.args.geometry.now c.args.image.now c.add_name.new.image c.args.i c.requires.directory c.requires.empty c.add_name.ensures.changed.makes c.add_name.ensures.beside) in
     omega (arith, second, dots_fit c.args.geometry.now.edition)
 
 pub add_name-requires-2-clause-room : goal.add_name-requires-2-clause-room
 add_name-requires-2-clause-room c =
     let dotted =
-    dot_there c.args.geometry.now c.args.image.now c.add_name.new.image c.args.i c.requires.directory c.requires.empty c.add_name.ensures.makes c.add_name.ensures.beside in
-    dot_dot_room c.args.geometry.now c.add_name.new.image c.args.i _ c.add_name.ensures.keeps.whole dotted.is dotted.has
+    dot_there c.args.geometry.now c.args.image.now c.add_name.new.image c.args.i c.requires.directory c.requires.empty c.add_name.ensures.changed.makes c.add_name.ensures.beside in
+    dot_dot_room c.args.geometry.now c.add_name.new.image c.args.i _ c.add_name.ensures.changed.keeps.whole dotted.is dotted.has
 
-pub returns-clause-keeps : goal.returns-clause-keeps
-returns-clause-keeps c =
-    keeps_then c.args.geometry.now c.args.image.now c.add_name.new.image c.add_name-2.new.image c.add_name.ensures.keeps c.add_name-2.ensures.keeps
-
-pub returns-clause-makes : goal.returns-clause-makes
-returns-clause-makes c = c.add_name-2.ensures.makes ∙ ap (put_entry c.args.i dot_dot c.args.dir) c.add_name.ensures.makes
+pub returns-clause-changed : goal.returns-clause-changed
+returns-clause-changed c =
+    let geometry = c.args.geometry.now in
+    let old = c.args.image.now in
+    let mid = c.add_name.new.image in
+    let new = c.add_name-2.new.image in
+    let dotted = dot_there geometry old mid c.args.i c.requires.directory c.requires.empty c.add_name.ensures.changed.makes c.add_name.ensures.beside in
+    record {
+      keeps = keeps_then geometry old mid new c.add_name.ensures.changed.keeps c.add_name-2.ensures.changed.keeps;
+      makes = c.add_name-2.ensures.changed.makes ∙ ap (put_entry c.args.i dot_dot c.args.dir) c.add_name.ensures.changed.makes;
+      free = λ blocks free.
+          subst (λ n. IsFree geometry new (drop n blocks)) (dot_need geometry old c.args.i c.requires.empty)
+          (subst (λ n. IsFree geometry new (drop n (drop (entry_need (state geometry old) c.args.i) blocks)))
+          (dot_dot_need geometry mid c.args.i _ dotted.has)
+          (c.add_name-2.ensures.changed.free _ (c.add_name.ensures.changed.free blocks free)));
+      content = λ j first last other.
+          content_then geometry old mid new j (c.add_name.ensures.changed.content j first last other) (c.add_name-2.ensures.changed.content j first last other);
+    }
 
 pub returns-clause-graph : goal.returns-clause-graph
 returns-clause-graph c =
@@ -72,11 +87,11 @@ returns-clause-graph c =
     let mid = c.add_name.new.image in
     let new = c.add_name-2.new.image in
     let i = c.args.i in
-    let dotted = dot_there geometry old mid i c.requires.directory c.requires.empty c.add_name.ensures.makes c.add_name.ensures.beside in
+    let dotted = dot_there geometry old mid i c.requires.directory c.requires.empty c.add_name.ensures.changed.makes c.add_name.ensures.beside in
     dots_added (graph_of geometry old) (graph_of geometry mid) (graph_of geometry new) i c.args.dir (new_slot (names_in (slots geometry old i)))
     (new_slot (names_in (slots geometry mid i))) c.add_name.ensures.slot c.add_name.ensures.beside c.add_name-2.ensures.slot c.add_name-2.ensures.beside
     (first_slot geometry old i c.requires.directory c.requires.empty) (second_slot geometry mid i dotted)
-    (dots_size geometry mid new i c.args.dir dotted c.add_name-2.ensures.makes c.add_name-2.ensures.beside)
+    (dots_size geometry mid new i c.args.dir dotted c.add_name-2.ensures.changed.makes c.add_name-2.ensures.beside)
     (λ s. ap (λ k. entry_by k geometry old i s) (directory_to geometry old i c.requires.directory)
     ∙ no_entry geometry old i s no_shape c.requires.directory c.requires.empty)
 

@@ -1,4 +1,4 @@
-use Rattle.std.proofs.Common.{◌≢◌, ◌∙◌, sym, ap, subst, ◌+◌, ◌≤◌, Some, arith}
+use Rattle.std.proofs.Common.{◌≢◌, ◌∙◌, sym, ap, subst, ◌+◌, ◌≤◌, Some, arith, ◌≡◌, drop}
 use Rattle.vol_layout.specs.declared.mode.Kind.TheVariants as kinds
 use Rattle.vol_dir.specs.Entries.{slots}
 use Rattle.vol_dir.specs.Names.{names_in}
@@ -7,6 +7,9 @@ use Rattle.vol_dir.specs.Tree.{State, state, tree}
 use Rattle.vol_judge.specs.Graph.{graph_of}
 use Rattle.vol_judge.proofs.GraphParts.{not_free}
 use Rattle.vol_judge.proofs.ImageGraphs.{directory_to, directory_from}
+use Rattle.vol_free.specs.Stack.{IsFree}
+use Rattle.vol_change.proofs.FreeLists.{drop_next}
+use Rattle.vol_change.proofs.OneNode.{content_then}
 use Rattle.vol_change.specs.Edits.{at_time, put_node}
 use Rattle.vol_change.proofs.UnusedBytes.{unused_then}
 use Rattle.vol_change.proofs.WholeLaws.{keeps_then}
@@ -36,21 +39,21 @@ enter-requires c =
     let name = c.args.name.now in
     let node = bare_directory geometry.edition c.args.node.owner c.args.node.moment c.args.node.permissions in
     let same = c.pick_number-made.ensures.graph in
-    let ready = ready_same geometry old picked c.requires.ready c.pick_number-made.ensures.keeps same in
+    let ready = ready_same geometry old picked c.requires.ready c.pick_number-made.ensures.changed.keeps same in
     let less : entry_need (state geometry old) d ≤ free_in (state geometry old) = omega (arith, c.requires.room) in
     let takes = takes_ready geometry picked d name ready (directory_kept geometry old picked d (same.kind d) c.requires.directory)
-    (subst (λ (s : State). TakesName s d name) (sym c.pick_number-made.ensures.makes) c.requires.takes)
-    (subst (λ (s : State). entry_need s d ≤ free_in s) (sym c.pick_number-made.ensures.makes) less) in
+    (subst (λ (s : State). TakesName s d name) (sym c.pick_number-made.ensures.changed.makes) c.requires.takes)
+    (subst (λ (s : State). entry_need s d ≤ free_in s) (sym c.pick_number-made.ensures.changed.makes) less) in
     let is = directory_to geometry picked d takes.directory in
     let made = takes_kept geometry picked bare d i (Some node) name (not_made (graph_of geometry picked) d i is c.make_directory.ensures.graph.was)
     (made_keeps (graph_of geometry picked) (graph_of geometry bare) d i kinds.Directory 2 c.make_directory.ensures.graph is)
-    (c.make_directory.ensures.makes ∙ made_state geometry picked i (Some node) c.pick_number-made.ensures.free) takes in
+    (c.make_directory.ensures.changed.makes ∙ made_state geometry picked i (Some node) c.pick_number-made.ensures.free) takes in
     record {
       slot = c.requires.slot
           ∙ ap (λ (s : State). new_slot (s.shapes d).slots)
-          (sym (c.make_directory.ensures.makes ∙ (made_state geometry picked i (Some node) c.pick_number-made.ensures.free
-          ∙ ap (put_node i (Some node)) c.pick_number-made.ensures.makes)));
-      whole = c.make_directory.ensures.keeps.whole;
+          (sym (c.make_directory.ensures.changed.makes ∙ (made_state geometry picked i (Some node) c.pick_number-made.ensures.free
+          ∙ ap (put_node i (Some node)) c.pick_number-made.ensures.changed.makes)));
+      whole = c.make_directory.ensures.changed.keeps.whole;
       directory = made.directory;
       slots = made.slots;
       once = made.once;
@@ -74,7 +77,7 @@ add_dots-requires-clause-empty c =
     let i = c.pick_number-made.result in
     let is = c.pick_number-made.ensures.graph.kind d ∙ directory_to geometry c.args.image.now d c.requires.directory in
     made_empty geometry picked c.make_directory.new.image c.enter.new.image c.args.node.owner c.args.node.moment c.args.node.permissions i d c.args.name.now
-    (λ e. not_made (graph_of geometry picked) d i is c.make_directory.ensures.graph.was (sym e)) c.make_directory.ensures.makes c.enter.ensures.makes
+    (λ e. not_made (graph_of geometry picked) d i is c.make_directory.ensures.graph.was (sym e)) c.make_directory.ensures.changed.makes c.enter.ensures.changed.makes
 
 pub add_dots-requires-clause-room : goal.add_dots-requires-clause-room
 unfolding tree
@@ -85,12 +88,12 @@ add_dots-requires-clause-room c =
     let name = c.args.name.now in
     let moment = c.args.node.moment in
     let node = bare_directory geometry.edition c.args.node.owner moment c.args.node.permissions in
-    let made = c.make_directory.ensures.makes
+    let made = c.make_directory.ensures.changed.makes
     ∙ (made_state geometry c.pick_number-made.new.image i (Some node) c.pick_number-made.ensures.free
-    ∙ ap (put_node i (Some node)) c.pick_number-made.ensures.makes) in
+    ∙ ap (put_node i (Some node)) c.pick_number-made.ensures.changed.makes) in
     let room : entry_need (state geometry c.make_directory.new.image) d + 1 ≤ free_in (state geometry c.make_directory.new.image) =
     subst (λ (s : State). entry_need s d + 1 ≤ free_in s) (sym made) c.requires.room in
-    subst (λ (s : State). 1 ≤ free_in s) (sym c.enter.ensures.makes)
+    subst (λ (s : State). 1 ≤ free_in s) (sym c.enter.ensures.changed.makes)
     (room_entered (state geometry c.make_directory.new.image) moment d i name c.requires.directory.first c.requires.directory.last room)
 
 pub add_link-requires-clause-room : goal.add_link-requires-clause-room
@@ -139,28 +142,61 @@ returns-clause-changes c =
     let name = c.args.name.now in
     let moment = c.args.node.moment in
     let same = c.pick_number-made.ensures.graph in
-    let ready = ready_same geometry old picked c.requires.ready c.pick_number-made.ensures.keeps same in
+    let ready = ready_same geometry old picked c.requires.ready c.pick_number-made.ensures.changed.keeps same in
     let is = directory_kept geometry old picked d (same.kind d) c.requires.directory in
-    let takes = subst (λ (s : State). TakesName s d name) (sym c.pick_number-made.ensures.makes) c.requires.takes in
+    let takes = subst (λ (s : State). TakesName s d name) (sym c.pick_number-made.ensures.changed.makes) c.requires.takes in
     let apart : i ≢ d = λ e. not_made (graph_of geometry picked) d i (directory_to geometry picked d is) c.make_directory.ensures.graph.was (sym e) in
-    let keeps = keeps_then geometry picked bare linked c.make_directory.ensures.keeps
-    (keeps_then geometry bare named linked c.enter.ensures.keeps
-    (keeps_then geometry named dotted linked c.add_dots.ensures.keeps c.add_link.ensures.keeps)) in
+    let keeps = keeps_then geometry picked bare linked c.make_directory.ensures.changed.keeps
+    (keeps_then geometry bare named linked c.enter.ensures.changed.keeps
+    (keeps_then geometry named dotted linked c.add_dots.ensures.changed.keeps c.add_link.ensures.changed.keeps)) in
     let s = new_slot (names_in (slots geometry bare d)) in
     let made = directory_ready geometry picked linked i d s name ready is takes c.requires.component
     (omega (arith, c.pick_number-made.ensures.free.above)) keeps
     (directory_added (graph_of geometry picked) (graph_of geometry bare) (graph_of geometry named) (graph_of geometry dotted) (graph_of geometry linked)
     i d s name apart c.make_directory.ensures.graph c.enter.ensures.slot c.enter.ensures.beside c.add_dots.ensures.graph c.add_link.ensures.graph) in
     record {
-      ready = ready_same geometry linked new made c.put_time.ensures.keeps c.put_time.ensures.graph;
-      around = (keeps_then geometry old picked new c.pick_number-made.ensures.keeps
-          (keeps_then geometry picked linked new keeps c.put_time.ensures.keeps)).around;
-      makes = c.put_time.ensures.makes
+      ready = ready_same geometry linked new made c.put_time.ensures.changed.keeps c.put_time.ensures.graph;
+      around = (keeps_then geometry old picked new c.pick_number-made.ensures.changed.keeps
+          (keeps_then geometry picked linked new keeps c.put_time.ensures.changed.keeps)).around;
+      makes = c.put_time.ensures.changed.makes
           ∙ ap (at_time moment)
           (directory_makes geometry picked bare named dotted linked c.args.node.owner moment c.args.node.permissions i d name apart
-          c.make_directory.ensures.makes c.enter.ensures.makes c.add_dots.ensures.makes c.add_link.ensures.makes
-          ∙ ap (λ (s : State). after_mkdir s c.args.node.owner moment c.args.node.permissions i d name) c.pick_number-made.ensures.makes);
+          c.make_directory.ensures.changed.makes c.enter.ensures.changed.makes c.add_dots.ensures.changed.makes c.add_link.ensures.changed.makes
+          ∙ ap (λ (s : State). after_mkdir s c.args.node.owner moment c.args.node.permissions i d name) c.pick_number-made.ensures.changed.makes);
     }
+
+pub returns-clause-list : goal.returns-clause-list
+unfolding tree
+returns-clause-list c = λ blocks free.
+    let geometry = c.args.geometry.now in
+    let d = c.args.dir in
+    let i = c.pick_number-made.result in
+    let node = bare_directory geometry.edition c.args.node.owner c.args.node.moment c.args.node.permissions in
+    let same = c.make_directory.ensures.changed.makes
+    ∙ (made_state geometry c.pick_number-made.new.image i (Some node) c.pick_number-made.ensures.free
+    ∙ ap (put_node i (Some node)) c.pick_number-made.ensures.changed.makes) in
+    let need : entry_need (state geometry c.make_directory.new.image) d ≡ entry_need (state geometry c.args.image.now) d =
+    ap (λ (s : State). entry_need s d) same in
+    let n = entry_need (state geometry c.args.image.now) d in
+    subst (IsFree geometry c.put_time.new.image) (drop_next n blocks)
+    (subst (λ m. IsFree geometry c.put_time.new.image (drop 1 (drop m blocks))) need
+    (c.put_time.ensures.changed.free _ (c.add_link.ensures.changed.free _ (c.add_dots.ensures.changed.free _ (c.enter.ensures.changed.free _
+    (c.make_directory.ensures.changed.free _ (c.pick_number-made.ensures.changed.free blocks free)))))))
+
+pub returns-clause-files : goal.returns-clause-files
+returns-clause-files c = λ j low high there here.
+    let geometry = c.args.geometry.now in
+    let picked = c.pick_number-made.new.image in
+    let bare = c.make_directory.new.image in
+    let named = c.enter.new.image in
+    let dotted = c.add_dots.new.image in
+    let linked = c.add_link.new.image in
+    let new = c.put_time.new.image in
+    content_then geometry c.args.image.now picked new j (c.pick_number-made.ensures.changed.content j low high tt)
+    (content_then geometry picked bare new j (c.make_directory.ensures.changed.content j low high here)
+    (content_then geometry bare named new j (c.enter.ensures.changed.content j low high there)
+    (content_then geometry named dotted new j (c.add_dots.ensures.changed.content j low high here)
+    (content_then geometry dotted linked new j (c.add_link.ensures.changed.content j low high tt) (c.put_time.ensures.changed.content j low high tt)))))
 
 pub returns-clause-unused : goal.returns-clause-unused
 returns-clause-unused c = λ v7.

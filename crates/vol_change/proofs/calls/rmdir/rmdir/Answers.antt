@@ -1,7 +1,11 @@
+use Rattle.std.proofs.Common.{◌++◌, subst, sym}
+use Rattle.vol_free.specs.Stack.{IsFree}
+use Rattle.vol_change.proofs.OneNode.{content_then}
+use Rattle.vol_change.proofs.FreeLists.{freed_kept}
 use Rattle.vol_change.proofs.UnusedBytes.{unused_then}
 use Rattle.vol_change.proofs.CallSteps.{changed}
 use Rattle.vol_change.proofs.EntryNodes.{name_there, directory_above}
-use Rattle.vol_change.proofs.LeftNodes.{left_linked, made_emptied}
+use Rattle.vol_change.proofs.LeftNodes.{left_linked, made_emptied, LeavesEntry, left_apart}
 use Rattle.vol_change.proofs.ReadyLaws.{ready_whole, ready_slots, ready_once}
 use Rattle.vol_change.proofs.UnusedNodes.{time_unused, time_cleared}
 use Rattle.vol_change.proofs.calls.rmdir.rmdir.Goals as goal
@@ -31,8 +35,8 @@ drop_link-requires-clause-some c =
       ready = c.requires.ready;
       directory = c.requires.directory;
       named = c.requires.named;
-      keeps = c.leave.ensures.keeps;
-      makes = c.leave.ensures.makes;
+      keeps = c.leave.ensures.changed.keeps;
+      makes = c.leave.ensures.changed.makes;
       slot = c.leave.ensures.slot;
       beside = c.leave.ensures.beside;
     })
@@ -45,25 +49,46 @@ free_node-requires-clause-above c =
 
 -- src/lost_directories.rt:22:1
 pub returns : goal.returns
-returns c = record {
-  changes = changed _ _ _ _ _ c.args.moment c.requires.ready
-      (made_emptied c.args.geometry.now c.args.image.now c.leave.new.image c.drop_link.new.image c.free_node.new.image c.args.dir c.args.i
-      c.args.name.now c.args.moment
-      (record {
-        ready = c.requires.ready;
-        directory = c.requires.directory;
-        named = c.requires.named;
-        keeps = c.leave.ensures.keeps;
-        makes = c.leave.ensures.makes;
-        slot = c.leave.ensures.slot;
-        beside = c.leave.ensures.beside;
-      }) c.requires.plain c.requires.gone c.requires.only c.drop_link.ensures.keeps c.drop_link.ensures.makes c.drop_link.ensures.graph
-      c.free_node.ensures.keeps c.free_node.ensures.makes c.free_node.ensures.graph)
-      (record { keeps = c.put_time.ensures.keeps; makes = c.put_time.ensures.makes; graph = c.put_time.ensures.graph });
-  cleared = time_cleared c.args.geometry.now c.free_node.new.image c.put_time.new.image c.args.i c.put_time.ensures.others c.free_node.ensures.cleared;
-  others = λ j low high other.
-      unused_then c.args.geometry.now c.args.image.now c.leave.new.image c.put_time.new.image j (c.leave.ensures.unused j low high)
-      (unused_then c.args.geometry.now c.leave.new.image c.drop_link.new.image c.put_time.new.image j (c.drop_link.ensures.unused j low high)
-      (unused_then c.args.geometry.now c.drop_link.new.image c.free_node.new.image c.put_time.new.image j (c.free_node.ensures.others j low high other)
-      (time_unused c.args.geometry.now c.free_node.new.image c.put_time.new.image j c.put_time.ensures.others)));
-}
+returns c =
+    let geometry = c.args.geometry.now in
+    let old = c.args.image.now in
+    let left = c.leave.new.image in
+    let linked = c.drop_link.new.image in
+    let gone = c.free_node.new.image in
+    let new = c.put_time.new.image in
+    let i = c.args.i in
+    let leaves : LeavesEntry geometry old left c.args.dir i c.args.name.now c.args.moment = record {
+      ready = c.requires.ready;
+      directory = c.requires.directory;
+      named = c.requires.named;
+      keeps = c.leave.ensures.changed.keeps;
+      makes = c.leave.ensures.changed.makes;
+      slot = c.leave.ensures.slot;
+      beside = c.leave.ensures.beside;
+    } in
+    let apart = left_apart geometry old left c.args.dir i c.args.name.now c.args.moment leaves c.requires.plain c.requires.gone c.requires.only in
+    let first = c.requires.gone.first in
+    let last = c.requires.gone.last in
+    let kept = content_then geometry old left linked i (c.leave.ensures.changed.content i first last (λ same. apart (sym same)))
+    (c.drop_link.ensures.changed.content i first last tt) in
+    record {
+      changes = changed _ _ _ _ _ c.args.moment c.requires.ready
+          (made_emptied c.args.geometry.now c.args.image.now c.leave.new.image c.drop_link.new.image c.free_node.new.image c.args.dir c.args.i
+          c.args.name.now c.args.moment
+          leaves c.requires.plain c.requires.gone c.requires.only c.drop_link.ensures.changed.keeps c.drop_link.ensures.changed.makes c.drop_link.ensures.graph
+          c.free_node.ensures.changed.keeps c.free_node.ensures.changed.makes c.free_node.ensures.graph)
+          (record { keeps = c.put_time.ensures.changed.keeps; makes = c.put_time.ensures.changed.makes; graph = c.put_time.ensures.graph });
+      list = λ blocks free.
+          subst (λ xs. IsFree geometry new (xs ++ blocks)) (freed_kept geometry old linked i kept first last)
+          (c.put_time.ensures.changed.free _ (c.free_node.ensures.changed.free _ (c.drop_link.ensures.changed.free _ (c.leave.ensures.changed.free blocks free))));
+      files = λ j low high there here.
+          content_then geometry old left new j (c.leave.ensures.changed.content j low high there)
+          (content_then geometry left linked new j (c.drop_link.ensures.changed.content j low high tt)
+          (content_then geometry linked gone new j (c.free_node.ensures.changed.content j low high here) (c.put_time.ensures.changed.content j low high tt)));
+      cleared = time_cleared c.args.geometry.now c.free_node.new.image c.put_time.new.image c.args.i c.put_time.ensures.others c.free_node.ensures.cleared;
+      others = λ j low high other.
+          unused_then c.args.geometry.now c.args.image.now c.leave.new.image c.put_time.new.image j (c.leave.ensures.unused j low high)
+          (unused_then c.args.geometry.now c.leave.new.image c.drop_link.new.image c.put_time.new.image j (c.drop_link.ensures.unused j low high)
+          (unused_then c.args.geometry.now c.drop_link.new.image c.free_node.new.image c.put_time.new.image j (c.free_node.ensures.others j low high other)
+          (time_unused c.args.geometry.now c.free_node.new.image c.put_time.new.image j c.put_time.ensures.others)));
+    }

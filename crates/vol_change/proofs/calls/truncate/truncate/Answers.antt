@@ -1,24 +1,54 @@
-use Rattle.vol_change.proofs.UnusedBytes.{unused_then}
+use Rattle.std.proofs.Common.{ap}
+use Rattle.vol_layout.specs.Places.{has_places}
+use Rattle.vol_layout.specs.declared.mode.Kind.TheVariants as kinds
+use Rattle.vol_change.proofs.BodyChanges.{body_emptied, emptied_beside}
 use Rattle.vol_change.proofs.CallSteps.{changed, made_truncate}
+use Rattle.vol_change.proofs.OneNode.{content_then}
 use Rattle.vol_change.proofs.ReadyLaws.{ready_whole}
+use Rattle.vol_change.proofs.UnusedBytes.{unused_then}
 use Rattle.vol_change.proofs.UnusedNodes.{time_unused}
+use Rattle.vol_change.proofs.WrittenStates.{IsKind}
 use Rattle.vol_change.proofs.calls.truncate.truncate.Goals as goal
 
--- src/bodies.rt:49:5
-pub empty_file-requires-clause-whole : goal.empty_file-requires-clause-whole
-empty_file-requires-clause-whole c = ready_whole _ _ c.requires.ready
+pub truncate-requires-clause-file : goal.truncate-requires-clause-file
+truncate-requires-clause-file c = record { first = c.requires.first; last = c.requires.last; kind = ap has_places c.requires.regular }
 
--- src/bodies.rt:41:1
+pub truncate-requires-clause-sound : goal.truncate-requires-clause-sound
+truncate-requires-clause-sound c =
+    let whole = ready_whole c.args.geometry.now c.args.image.now c.requires.ready in record { blocks = whole.blocks; sound = whole.sound }
+
+pub touch-requires-clause-whole : goal.touch-requires-clause-whole
+touch-requires-clause-whole c =
+    (body_emptied _ _ _ _ (ready_whole _ _ c.requires.ready)
+    (record { first = c.requires.first; last = c.requires.last; kind = c.requires.regular }) c.truncate.ensures.truncated).keeps.whole
+
+pub touch-requires-clause-used : goal.touch-requires-clause-used
+touch-requires-clause-used c =
+    (emptied_beside _ _ _ _ (ready_whole _ _ c.requires.ready)
+    (record { first = c.requires.first; last = c.requires.last; kind = c.requires.regular }) c.truncate.ensures.truncated).kind
+
 pub returns : goal.returns
 returns c =
+    let geometry = c.args.geometry.now in
+    let old = c.args.image.now in
+    let mid = c.truncate.new.image in
+    let timed = c.touch.new.image in
+    let new = c.put_time.new.image in
+    let whole = ready_whole geometry old c.requires.ready in
+    let is : IsKind geometry old c.args.i kinds.Regular = record { first = c.requires.first; last = c.requires.last; kind = c.requires.regular } in
+    let emptied = body_emptied geometry old mid c.args.i whole is c.truncate.ensures.truncated in
+    let beside = emptied_beside geometry old mid c.args.i whole is c.truncate.ensures.truncated in
     record {
       changes = changed _ _ _ _ _ c.args.moment c.requires.ready
-          (made_truncate c.args.geometry.now c.args.image.now c.empty_file.new.image c.touch.new.image c.args.i c.args.moment c.requires.ready
-          (record { keeps = c.empty_file.ensures.keeps; makes = c.empty_file.ensures.makes; graph = c.empty_file.ensures.graph })
-          (record { keeps = c.touch.ensures.keeps; makes = c.touch.ensures.makes; graph = c.touch.ensures.graph }))
-          (record { keeps = c.put_time.ensures.keeps; makes = c.put_time.ensures.makes; graph = c.put_time.ensures.graph });
+          (made_truncate geometry old mid timed c.args.i c.args.moment c.requires.ready
+          (record { keeps = emptied.keeps; makes = emptied.makes; graph = beside.graph })
+          (record { keeps = c.touch.ensures.changed.keeps; makes = c.touch.ensures.changed.makes; graph = c.touch.ensures.graph }))
+          (record { keeps = c.put_time.ensures.changed.keeps; makes = c.put_time.ensures.changed.makes; graph = c.put_time.ensures.graph });
+      list = λ blocks free. c.put_time.ensures.changed.free _ (c.touch.ensures.changed.free _ (emptied.free blocks free));
+      files = λ j low high other also.
+          content_then geometry old mid new j (emptied.content j low high other)
+          (content_then geometry mid timed new j (c.touch.ensures.changed.content j low high tt) (c.put_time.ensures.changed.content j low high tt));
       unused = λ j low high.
-          unused_then c.args.geometry.now c.args.image.now c.empty_file.new.image c.put_time.new.image j (c.empty_file.ensures.unused j low high)
-          (unused_then c.args.geometry.now c.empty_file.new.image c.touch.new.image c.put_time.new.image j (c.touch.ensures.unused j low high)
-          (time_unused c.args.geometry.now c.touch.new.image c.put_time.new.image j c.put_time.ensures.others));
+          unused_then geometry old mid new j (beside.unused j low high)
+          (unused_then geometry mid timed new j (c.touch.ensures.unused j low high) (time_unused geometry timed new j c.put_time.ensures.others));
     }

@@ -1,7 +1,13 @@
-use Rattle.std.proofs.Common.{◌≢◌, ℕ, ◌<◌, ◌≤◌, arith}
+use Rattle.std.proofs.Common.{◌≢◌, ℕ, ◌<◌, ◌≤◌, arith, ◌∙◌, ap, subst, ◌++◌}
 use Rattle.std.proofs.lemmas.Bool.Decides.{nat_tests}
 use Rattle.vol_layout.specs.Inode.{inode_of}
 use Rattle.vol_dir.specs.Tree.{state}
+use Rattle.vol_file.specs.Rules.{kind_at}
+use Rattle.vol_change.proofs.OneNode.{content_then}
+use Rattle.vol_change.proofs.FreeLists.{freed_kept}
+use Rattle.vol_change.specs.Edits.{drop_link}
+use Rattle.vol_change.specs.Changed.{Changed, FreeBecomes, IsAny, as_before, blocks_freed}
+use Rattle.vol_change.specs.Alone.{KeepsContent}
 use Rattle.vol_change.specs.Unused.{IsCleared, KeepsUnused}
 use Rattle.vol_change.proofs.UnusedBytes.{unused_then}
 use Rattle.vol_change.specs.Effects.{after_unlink}
@@ -62,8 +68,8 @@ drop_link-requires-clause-used c =
       ready = c.requires.ready;
       directory = c.requires.directory;
       named = c.requires.named;
-      keeps = c.leave.ensures.keeps;
-      makes = c.leave.ensures.makes;
+      keeps = c.leave.ensures.changed.keeps;
+      makes = c.leave.ensures.changed.makes;
       slot = c.leave.ensures.slot;
       beside = c.leave.ensures.beside;
     })
@@ -72,8 +78,8 @@ drop_link-requires-clause-used c =
 pub put_time-requires : goal.put_time-requires
 put_time-requires c = record {
   whole = elim c.if-inode-le1.branch [
-    | then-inode-le1 w ↦ rw w.image-is w.free_node.ensures.keeps.whole
-    | else-inode-le1 w ↦ rw w.image-is w.drop_link.ensures.keeps.whole
+    | then-inode-le1 w ↦ rw w.image-is w.free_node.ensures.changed.keeps.whole
+    | else-inode-le1 w ↦ rw w.image-is w.drop_link.ensures.changed.keeps.whole
   ];
 }
 
@@ -84,8 +90,8 @@ leaves c = record {
   ready = c.requires.ready;
   directory = c.requires.directory;
   named = c.requires.named;
-  keeps = c.leave.ensures.keeps;
-  makes = c.leave.ensures.makes;
+  keeps = c.leave.ensures.changed.keeps;
+  makes = c.leave.ensures.changed.makes;
   slot = c.leave.ensures.slot;
   beside = c.leave.ensures.beside;
 }
@@ -101,14 +107,57 @@ unlinked c = elim c.if-inode-le1.branch [
       rw (← value) (grind (arith, nat_tests)) in
       rw w.image-is
       (made_unlinked c.args.geometry.now c.args.image.now c.leave.new.image w.free_node.new.image c.args.dir c.args.i c.args.name.now c.args.moment
-      (leaves c) c.requires.other last w.free_node.ensures.keeps w.free_node.ensures.makes w.free_node.ensures.graph)
+      (leaves c) c.requires.other last w.free_node.ensures.changed.keeps w.free_node.ensures.changed.makes w.free_node.ensures.graph)
   | else-inode-le1 w ↦
       let value = c.inode.ensures.value in
       let most : 1 < (inode_of c.args.geometry.now.edition c.leave.new.image c.args.i).links =
       rw (← value) (grind (arith, nat_tests)) in
       rw w.image-is
       (made_unnamed c.args.geometry.now c.args.image.now c.leave.new.image w.drop_link.new.image c.args.dir c.args.i c.args.name.now c.args.moment
-      (leaves c) c.requires.other most w.drop_link.ensures.keeps w.drop_link.ensures.makes w.drop_link.ensures.graph)
+      (leaves c) c.requires.other most w.drop_link.ensures.changed.keeps w.drop_link.ensures.changed.makes w.drop_link.ensures.graph)
+]
+
+-- the node that goes, or stays, is another than the directory
+apart : (c : After-put_time) → c.args.i ≢ c.args.dir
+apart c same = c.requires.other (ap (kind_at c.args.geometry.now c.args.image.now) same ∙ c.requires.directory.kind)
+
+-- with its last link its blocks go back to the free list
+freed : (c : After-put_time) → (inode_of c.args.geometry.now.edition c.args.image.now c.args.i).links ≤ 1 → 1 ≤ c.args.i
+    → c.args.i ≤ c.args.geometry.now.last_inode
+    → FreeBecomes c.args.geometry.now c.leave.new.image c.if-inode-le1.image (λ blocks. blocks_freed c.args.geometry.now c.args.image.now c.args.i ++ blocks)
+freed c last low high = elim c.if-inode-le1.branch [
+  | then-inode-le1 w ↦
+      let kept = c.leave.ensures.changed.content c.args.i low high (apart c) in
+      rw w.image-is
+      (subst (λ xs. FreeBecomes c.args.geometry.now c.leave.new.image w.free_node.new.image (λ blocks. xs ++ blocks))
+      (freed_kept c.args.geometry.now c.args.image.now c.leave.new.image c.args.i kept low high) w.free_node.ensures.changed.free)
+  | else-inode-le1 w ↦
+      let value = c.inode.ensures.value in
+      let most : 1 < (inode_of c.args.geometry.now.edition c.leave.new.image c.args.i).links =
+      rw (← value) (grind (arith, nat_tests)) in
+      let same = left_same c.args.geometry.now c.args.image.now c.leave.new.image c.args.dir c.args.i c.args.name.now c.args.moment (leaves c) in
+      absurd (omega (arith, most, last, same))
+]
+
+-- with another it stays, and so does the free list
+stays : (c : After-put_time) → 1 < (inode_of c.args.geometry.now.edition c.args.image.now c.args.i).links
+    → Changed c.args.geometry.now c.leave.new.image c.if-inode-le1.image IsAny (drop_link c.args.moment c.args.i (state c.args.geometry.now c.leave.new.image)) as_before
+stays c more = elim c.if-inode-le1.branch [
+  | then-inode-le1 w ↦
+      let value = c.inode.ensures.value in
+      let last : (inode_of c.args.geometry.now.edition c.leave.new.image c.args.i).links ≤ 1 =
+      rw (← value) (grind (arith, nat_tests)) in
+      let same = left_same c.args.geometry.now c.args.image.now c.leave.new.image c.args.dir c.args.i c.args.name.now c.args.moment (leaves c) in
+      absurd (omega (arith, more, last, same))
+  | else-inode-le1 w ↦ rw w.image-is w.drop_link.ensures.changed
+]
+
+-- all other files stay
+files : (c : After-put_time) (j : ℕ) → 1 ≤ j → j ≤ c.args.geometry.now.last_inode → j ≢ c.args.i
+    → KeepsContent c.args.geometry.now c.leave.new.image c.if-inode-le1.image j
+files c j low high other = elim c.if-inode-le1.branch [
+  | then-inode-le1 w ↦ rw w.image-is (w.free_node.ensures.changed.content j low high other)
+  | else-inode-le1 w ↦ rw w.image-is (w.drop_link.ensures.changed.content j low high tt)
 ]
 
 -- with its last link the i-node is cleared
@@ -149,7 +198,21 @@ others c j low high other = elim c.if-inode-le1.branch [
 pub returns : goal.returns
 returns c = record {
   changes = changed _ _ _ _ _ c.args.moment c.requires.ready (unlinked c)
-      (record { keeps = c.put_time.ensures.keeps; makes = c.put_time.ensures.makes; graph = c.put_time.ensures.graph });
+      (record { keeps = c.put_time.ensures.changed.keeps; makes = c.put_time.ensures.changed.makes; graph = c.put_time.ensures.graph });
+  freed = λ last blocks free.
+      let used = named_used c.args.geometry.now c.args.image.now c.args.name.now c.args.dir c.args.i c.requires.ready c.requires.directory c.requires.named in
+      c.put_time.ensures.changed.free _ (freed c last (used_first _ _ _ used) used.last _ (c.leave.ensures.changed.free blocks free));
+  list = λ more blocks free. c.put_time.ensures.changed.free _ ((stays c more).free _ (c.leave.ensures.changed.free blocks free));
+  kept = λ more.
+      let used = named_used c.args.geometry.now c.args.image.now c.args.name.now c.args.dir c.args.i c.requires.ready c.requires.directory c.requires.named in
+      content_then c.args.geometry.now c.args.image.now c.leave.new.image c.put_time.new.image c.args.i
+      (c.leave.ensures.changed.content c.args.i (used_first _ _ _ used) used.last (apart c))
+      (content_then c.args.geometry.now c.leave.new.image c.if-inode-le1.image c.put_time.new.image c.args.i
+      ((stays c more).content c.args.i (used_first _ _ _ used) used.last tt) (c.put_time.ensures.changed.content c.args.i (used_first _ _ _ used) used.last tt));
+  files = λ j low high there here.
+      content_then c.args.geometry.now c.args.image.now c.leave.new.image c.put_time.new.image j (c.leave.ensures.changed.content j low high there)
+      (content_then c.args.geometry.now c.leave.new.image c.if-inode-le1.image c.put_time.new.image j (files c j low high here)
+      (c.put_time.ensures.changed.content j low high tt));
   cleared = λ last.
       time_cleared c.args.geometry.now c.if-inode-le1.image c.put_time.new.image c.args.i c.put_time.ensures.others (cleared c last);
   unused = λ more.

@@ -1,0 +1,116 @@
+-- What becomes of the free list.
+use Rattle.std.proofs.Common.{◌≡◌, ◌∙◌, sym, ap, subst, ℕ, ◌+◌, ◌*◌, ◌≤◌, List, [], ◌∷◌, ◌++◌, length, map, filter, drop, not, ◌==◌, if◌then◌else◌, true, false, inl, inr, refl, arith, zero, suc, add-one}
+use Rattle.std.proofs.Math.Seq.{drop-append_seam}
+use Rattle.pdp_words.specs.Words.{SameOutside}
+use Rattle.vol_layout.specs.Edition.{constants}
+use Rattle.vol_layout.specs.Inode.{inode_place}
+use Rattle.vol_layout.specs.Names.{form_at, IsFile, named}
+use Rattle.vol_layout.specs.Places.{form_of, has_places, places}
+use Rattle.vol_layout.specs.Super.{free_head, cache_head, time_place}
+use Rattle.vol_layout.specs.declared.geometry.Geometry.{Geometry}
+use Rattle.vol_layout.proofs.InodeLaws.{place_from, place_room}
+use Rattle.vol_free.specs.Stack.{IsFree}
+use Rattle.vol_free.proofs.Frames.{IsFree-behind, free_from}
+use Rattle.vol_free.proofs.Stacks.{IsFree_unique}
+use Rattle.vol_file.specs.Changes.{Writes, Truncates, blocks_of}
+use Rattle.vol_file.specs.Laws.{IsAmong}
+use Rattle.vol_file.specs.Need.{need}
+use Rattle.vol_file.specs.Rules.{kind_at}
+use Rattle.vol_file.proofs.PlaceLists.{among_places}
+use Rattle.vol_change.specs.Alone.{KeepsContent}
+use Rattle.vol_change.specs.Changed.{FreeBecomes, as_before, blocks_freed}
+use Rattle.vol_change.specs.Whole.{IsWhole}
+use Rattle.vol_change.proofs.Contents.{kind_same}
+use Rattle.vol_change.proofs.WholeLaws.{super_order, zone_behind}
+
+-- a write behind the free list's head and before the data zone leaves it
+free_below : (geometry : Geometry) (old new : List ℕ) (from to : ℕ) → SameOutside old new from to → free_head geometry.edition + 202 ≤ from
+    → to ≤ 512 * geometry.zone_start → FreeBecomes geometry old new as_before
+free_below geometry old new from to same low high blocks free =
+    IsFree-behind same low (λ b is. inr (omega (arith, free_from free b is, high))) free
+
+-- so does a write of the time
+pub time_free : (geometry : Geometry) (old new : List ℕ) → IsWhole geometry old
+    → SameOutside old new (time_place geometry.edition) (time_place geometry.edition + 4) → FreeBecomes geometry old new as_before
+time_free geometry old new whole same =
+    let order = super_order geometry.edition in
+    let behind = zone_behind geometry old whole.sound.fits in
+    free_below geometry old new (time_place geometry.edition) (time_place geometry.edition + 4) same (omega (arith, order)) (omega (arith, order, behind))
+
+-- and of the i-number cache
+pub cache_free_list : (geometry : Geometry) (old new : List ℕ) → IsWhole geometry old
+    → SameOutside old new (cache_head geometry.edition) (cache_head geometry.edition + 202) → FreeBecomes geometry old new as_before
+cache_free_list geometry old new whole same =
+    let order = super_order geometry.edition in
+    let behind = zone_behind geometry old whole.sound.fits in
+    free_below geometry old new (cache_head geometry.edition) (cache_head geometry.edition + 202) same (omega (arith, order)) (omega (arith, order, behind))
+
+-- and of an i-node
+pub inode_free : (geometry : Geometry) (old new : List ℕ) (i : ℕ) → IsWhole geometry old → 1 ≤ i → i ≤ geometry.last_inode
+    → SameOutside old new (inode_place geometry.edition i) (inode_place geometry.edition i + (constants geometry.edition).inode_bytes)
+    → FreeBecomes geometry old new as_before
+inode_free geometry old new i whole first last same =
+    let order = super_order geometry.edition in
+    let start = place_from geometry.edition i in
+    free_below geometry old new (inode_place geometry.edition i) (inode_place geometry.edition i + (constants geometry.edition).inode_bytes) same
+    (omega (arith, order, start)) (place_room geometry old i whole.sound.fits first last)
+
+-- there is one free list
+one_list : (geometry : Geometry) (image blocks : List ℕ) → (whole : IsWhole geometry image) → IsFree geometry image blocks → whole.blocks ≡ blocks
+one_list geometry image blocks whole free =
+    let behind = zone_behind geometry image whole.sound.fits in IsFree_unique (omega (arith, behind)) whole.sound.free free
+
+-- a write takes what it needs off its front
+pub written_free : (geometry : Geometry) (old new : List ℕ) (i offset n : ℕ) (text : List ℕ) (whole : IsWhole geometry old)
+    → Writes geometry old new i offset text whole.blocks → need geometry old i offset (length text) ≡ n → FreeBecomes geometry old new (drop n)
+written_free geometry old new i offset n text whole writes needed blocks free =
+    let rest : drop n blocks ≡ writes.rest =
+    ap (drop n) (sym (one_list geometry old blocks whole free) ∙ writes.free)
+    ∙ (ap (λ m. drop m (writes.taken ++ writes.rest)) (sym needed ∙ sym writes.count)
+    ∙ drop-append_seam writes.taken writes.rest) in
+    subst (IsFree geometry new) (sym rest) writes.sound.free
+
+-- one taken after others is one more
+drop_suc : (n : ℕ) (xs : List ℕ) → drop 1 (drop n xs) ≡ drop (suc n) xs
+drop_suc zero xs = refl
+drop_suc (suc n) [] = refl
+drop_suc (suc n) (x ∷ xs) = drop_suc n xs
+
+pub drop_next : (n : ℕ) (xs : List ℕ) → drop 1 (drop n xs) ≡ drop (n + 1) xs
+drop_next n xs = drop_suc n xs ∙ ap (λ m. drop m xs) (sym (add-one n))
+
+-- a truncation puts the blocks of the file on top
+pub truncated_free : (geometry : Geometry) (old new : List ℕ) (i : ℕ) (whole : IsWhole geometry old)
+    → Truncates geometry old new i whole.blocks → FreeBecomes geometry old new (λ blocks. blocks_of geometry old i ++ blocks)
+truncated_free geometry old new i whole cuts blocks free =
+    subst (λ xs. IsFree geometry new (blocks_of geometry old i ++ xs)) (one_list geometry old blocks whole free) cuts.sound.free
+
+-- functions that agree on a list map it to the same
+map_among : (f g : List ℕ → ℕ) (qs : List (List ℕ)) → ((p : List ℕ) → IsAmong p qs → f p ≡ g p) → map f qs ≡ map g qs
+map_among f g [] same = refl
+map_among f g (q ∷ qs) same =
+    let here = same q (inl refl) in
+    let rest = map_among f g qs (λ p among. same p (inr among)) in
+    cc
+
+-- the blocks of a file whose content stays are the same
+pub blocks_kept : (geometry : Geometry) (old new : List ℕ) (i : ℕ) → KeepsContent geometry old new i → IsFile geometry old i
+    → blocks_of geometry new i ≡ blocks_of geometry old i
+unfolding blocks_of
+blocks_kept geometry old new i kept file =
+    let form : form_at geometry new i ≡ form_at geometry old i = ap (form_of geometry.edition) kept.mode in
+    ap (λ f. filter (λ k. not (k == 0)) (map (named geometry new i) (places f))) form
+    ∙ ap (filter (λ k. not (k == 0)))
+    (map_among (named geometry new i) (named geometry old i) (places (form_at geometry old i))
+    (λ p among. kept.names p (record { file = file; place = among_places (form_at geometry old i) p among })))
+
+-- and so are those that would go back with it
+pub freed_kept : (geometry : Geometry) (old new : List ℕ) (i : ℕ) → KeepsContent geometry old new i → 1 ≤ i → i ≤ geometry.last_inode
+    → blocks_freed geometry new i ≡ blocks_freed geometry old i
+freed_kept geometry old new i kept first last =
+    ap (λ kind. if has_places kind then blocks_of geometry new i else []) (kind_same geometry old new i kept)
+    ∙ elim (has_places (kind_at geometry old i)) as (λ t. has_places (kind_at geometry old i) ≡ t
+    → (if t then blocks_of geometry new i else []) ≡ (if t then blocks_of geometry old i else [])) [
+      | true ↦ λ test. blocks_kept geometry old new i kept (record { first = first; last = last; kind = test })
+      | false ↦ λ test. refl
+    ] refl

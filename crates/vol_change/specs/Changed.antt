@@ -1,0 +1,43 @@
+-- What each change of nodes leaves: the rules, the tree, the free list, and what it spares.
+use Rattle.std.specs.Prelude.{◌≡◌, ◌≢◌, ℕ, ◌≤◌, if◌then◌else◌, List, []}
+use Rattle.vol_layout.specs.Places.{has_places}
+use Rattle.vol_layout.specs.declared.geometry.Geometry.{Geometry}
+use Rattle.vol_free.specs.Stack.{IsFree}
+use Rattle.vol_file.specs.Changes.{blocks_of}
+use Rattle.vol_file.specs.Rules.{kind_at}
+use Rattle.vol_dir.specs.Tree.{State, state}
+use Rattle.vol_change.specs.Alone.{KeepsContent}
+use Rattle.vol_change.specs.Whole.{Keeps}
+
+-- i-number j is any (this project)
+abbrev pub IsAny : ℕ → Type 0
+IsAny j = Unit {0}
+
+-- i-number j is another than i (this project)
+abbrev pub IsOther : ℕ → ℕ → Type 0
+IsOther i j = j ≢ i
+
+-- the free list as it was (this project)
+abbrev pub as_before : List ℕ → List ℕ
+as_before blocks = blocks
+
+-- the blocks that go back to the free list with the bytes of i-node i, in the order of its places; what is no file has none
+-- (Lions on itrunc)
+abbrev pub blocks_freed : Geometry → List ℕ → ℕ → List ℕ
+blocks_freed geometry image i = if has_places (kind_at geometry image i) then blocks_of geometry image i else []
+
+-- the free list, whatever it was, is now what `listed` makes of it, in that order (fblk.h)
+abbrev pub FreeBecomes : Geometry → List ℕ → List ℕ → (List ℕ → List ℕ) → Type 0
+FreeBecomes geometry old new listed = (blocks : List ℕ) → IsFree geometry old blocks → IsFree geometry new (listed blocks)
+
+-- rules 3 to 8 hold, the bytes that no call changes stay, the image reads as another state, the free list is what `listed` makes
+-- of it, and what the i-nodes of a set stand for stays, with all bytes of their blocks (this project)
+pub record Changed (geometry : Geometry) (old new : List ℕ) (Kept : ℕ → Type 0) (made : State) (listed : List ℕ → List ℕ) : Type 0 where
+  pub keeps : Keeps geometry old new
+  pub makes : state geometry new ≡ made
+  pub free : FreeBecomes geometry old new listed
+  pub content : (j : ℕ) → 1 ≤ j → j ≤ geometry.last_inode → Kept j → KeepsContent geometry old new j
+
+-- each file but two stands for what it did, with all bytes of its blocks (this project)
+abbrev pub KeepsFilesBut : Geometry → List ℕ → List ℕ → ℕ → ℕ → Type 0
+KeepsFilesBut geometry old new a b = (j : ℕ) → 1 ≤ j → j ≤ geometry.last_inode → j ≢ a → j ≢ b → KeepsContent geometry old new j

@@ -29,15 +29,6 @@ use Rattle.vol_change.proofs.NodeEdits.{edit}
 use Rattle.vol_change.proofs.NodeLinks.{links_is}
 use Rattle.vol_change.proofs.ReadyLaws.{ready_graph, ready_from}
 
--- an image in which a directory was made stays sound
-pub directory_ready : (geometry : Geometry) (old new : List ℕ) (made d s : ℕ) (name : List ℕ) → IsReady geometry old → IsDirectory geometry old d
-    → TakesName (state geometry old) d name → IsComponent name → root_of geometry ≤ made → Keeps geometry old new
-    → AddsDirectory (graph_of geometry old) (graph_of geometry new) made d s name → IsReady geometry new
-directory_ready geometry old new made d s name ready is takes component above keeps adds =
-    ready_from geometry old new ready keeps
-    (added_directory_sound (graph_of geometry old) (graph_of geometry new) (root_of geometry) geometry.last_inode made d s name (graph_within geometry old)
-    (graph_within geometry new) (ready_graph geometry old ready) (new_name geometry old d name is takes component) above adds)
-
 -- a block is free once a directory has its new entry, where there was one more than that needed
 pub room_entered : (state : State) (now d i : ℕ) (name : List ℕ) → 1 ≤ d → d ≤ state.tree.geometry.last_inode
     → entry_need state d + 1 ≤ free_in state → 1 ≤ free_in (add_entry now d name i state)

@@ -11,10 +11,9 @@ use Rattle.vol_dir.specs.Tree.{state}
 use Rattle.vol_dir.specs.Walk.{IsComponent}
 use Rattle.vol_dir.proofs.NewEntries.{not_held}
 use Rattle.vol_judge.specs.Directories.{root_of}
-use Rattle.vol_judge.specs.Graph.{Graph, graph_of}
+use Rattle.vol_judge.specs.Graph.{Graph, graph_of, IsGraphSound}
 use Rattle.vol_judge.specs.GraphEdits.{IsNewName, ChangesSlot, KeepsOthers, AddsFile, AddsLink}
-use Rattle.vol_judge.proofs.ImageGraphs.{graph_within, entry_from}
-use Rattle.vol_judge.proofs.NamedGraphs.{added_file_sound, added_link_sound}
+use Rattle.vol_judge.proofs.ImageGraphs.{entry_from}
 use Rattle.vol_change.specs.Beside.{StaysBeside}
 use Rattle.vol_change.specs.NodeGraphs.{SetsLinks, AddsNode}
 use Rattle.vol_change.specs.Whole.{Keeps}
@@ -108,20 +107,10 @@ new_name geometry image d name is takes component =
       plain = component.plain;
     }
 
--- an image in which a file was made stays sound
-pub file_ready : (geometry : Geometry) (old new : List ℕ) (made d s : ℕ) (name : List ℕ) → IsReady geometry old → IsDirectory geometry old d
-    → TakesName (state geometry old) d name → IsComponent name → root_of geometry ≤ made → Keeps geometry old new
-    → AddsFile (graph_of geometry old) (graph_of geometry new) made d s name → IsReady geometry new
-file_ready geometry old new made d s name ready is takes component above keeps adds =
-    ready_from geometry old new ready keeps
-    (added_file_sound (graph_of geometry old) (graph_of geometry new) (root_of geometry) geometry.last_inode made d s name (graph_within geometry old)
-    (graph_within geometry new) (ready_graph geometry old ready) (new_name geometry old d name is takes component) above adds)
-
--- and so does one in which a file got one more name
-pub link_ready : (geometry : Geometry) (old new : List ℕ) (i d s : ℕ) (name : List ℕ) → IsReady geometry old → IsDirectory geometry old d
-    → TakesName (state geometry old) d name → IsComponent name → root_of geometry ≤ i → Keeps geometry old new
-    → AddsLink (graph_of geometry old) (graph_of geometry new) i d s name → IsReady geometry new
-link_ready geometry old new i d s name ready is takes component above keeps adds =
-    ready_from geometry old new ready keeps
-    (added_link_sound (graph_of geometry old) (graph_of geometry new) (root_of geometry) geometry.last_inode i d s name (graph_within geometry old)
-    (graph_within geometry new) (ready_graph geometry old ready) (new_name geometry old d name is takes component) above adds)
+-- an image in which a directory took a name stays sound, where its graph does
+pub named_ready : (geometry : Geometry) (old new : List ℕ) (d : ℕ) (name : List ℕ) → IsReady geometry old → IsDirectory geometry old d
+    → TakesName (state geometry old) d name → IsComponent name → Keeps geometry old new
+    → (IsGraphSound (graph_of geometry old) (root_of geometry) geometry.last_inode → IsNewName (graph_of geometry old) d name
+    → IsGraphSound (graph_of geometry new) (root_of geometry) geometry.last_inode) → IsReady geometry new
+named_ready geometry old new d name ready is takes component keeps sound =
+    ready_from geometry old new ready keeps (sound (ready_graph geometry old ready) (new_name geometry old d name is takes component))

@@ -5,15 +5,17 @@ use Rattle.vol_dir.specs.Names.{names_in}
 use Rattle.vol_dir.specs.Searching.{new_slot}
 use Rattle.vol_dir.specs.Tree.{Body, State, no_shape, tree, state}
 use Rattle.vol_judge.specs.Graph.{graph_of}
-use Rattle.vol_judge.proofs.ImageGraphs.{directory_to}
+use Rattle.vol_judge.proofs.ImageGraphs.{directory_to, graph_within}
 use Rattle.vol_free.specs.Stack.{IsFree}
+use Rattle.vol_judge.specs.Directories.{root_of}
+use Rattle.vol_judge.proofs.NamedGraphs.{added_file_sound}
 use Rattle.vol_change.proofs.OneNode.{content_then}
 use Rattle.vol_change.specs.Edits.{add_entry, at_time, new_node, put_node, put_shape}
 use Rattle.vol_change.proofs.UnusedBytes.{unused_then}
 use Rattle.vol_change.proofs.WholeLaws.{keeps_then}
 use Rattle.vol_change.specs.Ready.{TakesName, entry_need, free_in}
 use Rattle.vol_change.proofs.FreeKinds.{free_kept}
-use Rattle.vol_change.proofs.NamedNodes.{not_made, made_keeps, file_added, file_ready}
+use Rattle.vol_change.proofs.NamedNodes.{not_made, made_keeps, file_added, named_ready}
 use Rattle.vol_change.proofs.ReadyLaws.{ready_whole, ready_same, directory_kept}
 use Rattle.vol_change.proofs.SideStates.{made_state, takes_ready, takes_kept}
 use Rattle.vol_change.proofs.UnusedNodes.{time_unused}
@@ -82,10 +84,11 @@ returns-clause-changes c =
     let takes = subst (λ (s : State). TakesName s d name) (sym c.pick_number-made.ensures.changed.makes) c.requires.takes in
     let added = keeps_then geometry picked mid entered c.make_file.ensures.changed.keeps c.enter.ensures.changed.keeps in
     let s = new_slot (names_in (slots geometry mid d)) in
-    let file = file_ready geometry picked entered i d s name ready is takes c.requires.component
-    (omega (arith, c.pick_number-made.ensures.free.above)) added
+    let file = named_ready geometry picked entered d name ready is takes c.requires.component added
+    (λ sound fresh. added_file_sound (graph_of geometry picked) (graph_of geometry entered) (root_of geometry) geometry.last_inode i d s name
+    (graph_within geometry picked) (graph_within geometry entered) sound fresh (omega (arith, c.pick_number-made.ensures.free.above))
     (file_added (graph_of geometry picked) (graph_of geometry mid) (graph_of geometry entered) i d s name c.make_file.ensures.graph
-    (directory_to geometry picked d is) c.enter.ensures.slot c.enter.ensures.beside) in
+    (directory_to geometry picked d is) c.enter.ensures.slot c.enter.ensures.beside)) in
     record {
       ready = ready_same geometry entered new file c.put_time.ensures.changed.keeps c.put_time.ensures.graph;
       around = (keeps_then geometry old picked new c.pick_number-made.ensures.changed.keeps

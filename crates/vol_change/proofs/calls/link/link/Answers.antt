@@ -7,14 +7,16 @@ use Rattle.vol_dir.specs.Names.{names_in}
 use Rattle.vol_dir.specs.Searching.{new_slot}
 use Rattle.vol_dir.specs.Tree.{tree, State, state}
 use Rattle.vol_judge.specs.Graph.{graph_of}
-use Rattle.vol_judge.proofs.ImageGraphs.{directory_to, kind_inside}
+use Rattle.vol_judge.proofs.ImageGraphs.{directory_to, graph_within, kind_inside}
 use Rattle.vol_free.specs.Stack.{IsFree}
+use Rattle.vol_judge.specs.Directories.{root_of}
+use Rattle.vol_judge.proofs.NamedGraphs.{added_link_sound}
 use Rattle.vol_change.specs.Ready.{entry_need}
 use Rattle.vol_change.proofs.OneNode.{content_then}
 use Rattle.vol_change.specs.Edits.{add_entry, at_time}
 use Rattle.vol_change.proofs.UnusedBytes.{unused_then}
 use Rattle.vol_change.proofs.WholeLaws.{keeps_then}
-use Rattle.vol_change.proofs.NamedNodes.{linked_keeps, link_added, link_ready}
+use Rattle.vol_change.proofs.NamedNodes.{linked_keeps, link_added, named_ready}
 use Rattle.vol_change.proofs.NodeLinks.{links_is}
 use Rattle.vol_change.proofs.ReadyLaws.{ready_whole, ready_same}
 use Rattle.vol_change.proofs.SideStates.{takes_ready, takes_kept}
@@ -76,11 +78,12 @@ returns c =
     let kind = kind_inside geometry old i (omega (arith, one, c.requires.used.first)) c.requires.used.last in
     let added = keeps_then geometry old mid entered c.add_link.ensures.changed.keeps c.enter.ensures.changed.keeps in
     let s = new_slot (names_in (slots geometry mid d)) in
-    let file = link_ready geometry old entered i d s name c.requires.ready c.requires.directory c.requires.takes c.requires.component
-    c.requires.used.first added
+    let file = named_ready geometry old entered d name c.requires.ready c.requires.directory c.requires.takes c.requires.component added
+    (λ sound fresh. added_link_sound (graph_of geometry old) (graph_of geometry entered) (root_of geometry) geometry.last_inode i d s name
+    (graph_within geometry old) (graph_within geometry entered) sound fresh c.requires.used.first
     (link_added (graph_of geometry old) (graph_of geometry mid) (graph_of geometry entered) i d s name c.add_link.ensures.graph
     (λ free. c.requires.used.allocated (sym kind ∙ free)) (λ is. c.requires.other (sym kind ∙ is))
-    (directory_to geometry old d c.requires.directory) c.enter.ensures.slot c.enter.ensures.beside) in
+    (directory_to geometry old d c.requires.directory) c.enter.ensures.slot c.enter.ensures.beside)) in
     record {
       changes = record {
         ready = ready_same geometry entered new file c.put_time.ensures.changed.keeps c.put_time.ensures.graph;

@@ -6,8 +6,10 @@ use Rattle.vol_dir.specs.Searching.{new_slot}
 use Rattle.vol_dir.specs.Tree.{State, state, tree}
 use Rattle.vol_judge.specs.Graph.{graph_of}
 use Rattle.vol_judge.proofs.GraphParts.{not_free}
-use Rattle.vol_judge.proofs.ImageGraphs.{directory_to, directory_from}
+use Rattle.vol_judge.proofs.ImageGraphs.{directory_to, directory_from, graph_within}
 use Rattle.vol_free.specs.Stack.{IsFree}
+use Rattle.vol_judge.specs.Directories.{root_of}
+use Rattle.vol_judge.proofs.MadeGraphs.{added_directory_sound}
 use Rattle.vol_change.proofs.FreeLists.{drop_next}
 use Rattle.vol_change.proofs.OneNode.{content_then}
 use Rattle.vol_change.specs.Edits.{at_time, put_node}
@@ -18,8 +20,8 @@ use Rattle.vol_change.specs.Ready.{TakesName, entry_need, free_in}
 use Rattle.vol_change.proofs.DotGraphs.{dotted_links, directory_added}
 use Rattle.vol_change.proofs.DotStates.{bare_directory}
 use Rattle.vol_change.proofs.FreeKinds.{free_kept}
-use Rattle.vol_change.proofs.MadeDirectories.{directory_ready, room_entered, made_empty, directory_makes, links_room}
-use Rattle.vol_change.proofs.NamedNodes.{not_made, made_keeps}
+use Rattle.vol_change.proofs.MadeDirectories.{room_entered, made_empty, directory_makes, links_room}
+use Rattle.vol_change.proofs.NamedNodes.{not_made, made_keeps, named_ready}
 use Rattle.vol_change.proofs.ReadyLaws.{ready_whole, ready_same, directory_kept}
 use Rattle.vol_change.proofs.SideStates.{made_state, takes_ready, takes_kept}
 use Rattle.vol_change.proofs.UnusedNodes.{time_unused}
@@ -150,10 +152,11 @@ returns-clause-changes c =
     (keeps_then geometry bare named linked c.enter.ensures.changed.keeps
     (keeps_then geometry named dotted linked c.add_dots.ensures.changed.keeps c.add_link.ensures.changed.keeps)) in
     let s = new_slot (names_in (slots geometry bare d)) in
-    let made = directory_ready geometry picked linked i d s name ready is takes c.requires.component
-    (omega (arith, c.pick_number-made.ensures.free.above)) keeps
+    let made = named_ready geometry picked linked d name ready is takes c.requires.component keeps
+    (λ sound fresh. added_directory_sound (graph_of geometry picked) (graph_of geometry linked) (root_of geometry) geometry.last_inode i d s name
+    (graph_within geometry picked) (graph_within geometry linked) sound fresh (omega (arith, c.pick_number-made.ensures.free.above))
     (directory_added (graph_of geometry picked) (graph_of geometry bare) (graph_of geometry named) (graph_of geometry dotted) (graph_of geometry linked)
-    i d s name apart c.make_directory.ensures.graph c.enter.ensures.slot c.enter.ensures.beside c.add_dots.ensures.graph c.add_link.ensures.graph) in
+    i d s name apart c.make_directory.ensures.graph c.enter.ensures.slot c.enter.ensures.beside c.add_dots.ensures.graph c.add_link.ensures.graph)) in
     record {
       ready = ready_same geometry linked new made c.put_time.ensures.changed.keeps c.put_time.ensures.graph;
       around = (keeps_then geometry old picked new c.pick_number-made.ensures.changed.keeps

@@ -1,14 +1,22 @@
 -- What every change of a node keeps: the rules that speak of i-nodes, files and the free list, and the bytes that no call changes.
-use Rattle.std.specs.Prelude.{◌≡◌, ℕ, ◌+◌, ◌*◌, ◌<◌, ◌≤◌, List, length, slice_index}
+use Rattle.std.specs.Prelude.{◌≡◌, ◌≢◌, ℕ, ◌+◌, ◌*◌, ◌<◌, ◌≤◌, List, length, slice_index}
 use Rattle.vol_layout.specs.Super.{free_head, time_place}
-use Rattle.vol_file.specs.Rules.{IsSoundWith, IsCovered}
+use Rattle.vol_file.specs.Rules.{kind_at, IsSoundWith, IsCovered}
 use Rattle.vol_layout.specs.declared.geometry.Geometry.{Geometry}
+use Rattle.vol_layout.specs.declared.mode.Kind.TheVariants as kinds
 
 -- the geometry fits, and rules 3 to 8 hold (icheck)
 pub record IsWhole (geometry : Geometry) (image : List ℕ) : Type 0 where
   pub blocks : List ℕ
   pub sound : IsSoundWith geometry image blocks
   pub covered : IsCovered geometry image blocks
+
+-- rules 3 to 8 hold, and i-number i is one of the volume's, of an i-node that isn't free (this project)
+pub record HasNode (geometry : Geometry) (image : List ℕ) (i : ℕ) : Type 0 where
+  pub whole : IsWhole geometry image
+  pub first : 1 ≤ i
+  pub last : i ≤ geometry.last_inode
+  pub used : kind_at geometry image i ≢ kinds.Free
 
 -- the bytes that no call changes are as they were: block 0, the sizes and the flags of the super-block and what follows its
 -- time, and what lies behind the volume; the free list and the i-number cache, 202 bytes each, stand side by side (filsys.h)

@@ -10,7 +10,7 @@ ghost use Rattle.vol_change.specs.Changed.{Changed, IsAny, as_before};
 ghost use Rattle.vol_change.specs.Edits.{add_link, change_node, drop_link, with_links};
 ghost use Rattle.vol_change.specs.NodeGraphs.{SetsLinks};
 ghost use Rattle.vol_change.specs.Unused.{KeepsUnused};
-ghost use Rattle.vol_change.specs.Whole.{IsWhole};
+ghost use Rattle.vol_change.specs.Whole.{IsWhole, HasNode};
 
 use crate::times::stamp;
 use pdp_words::Image;
@@ -20,10 +20,7 @@ use vol_layout::{Geometry, Inode, put_inode};
 /// Makes the link count of i-node `i`, which isn't free, the given one, and in the seventh edition `now`
 /// the time, in seconds, at which it was last changed.
 pub fn put_links(image: &mut Image, geometry: &Geometry, i: u16, links: u16, now: u32)
-    requires whole { IsWhole geometry.now image.old }
-    requires first { 1 ≤ i }
-    requires last { i ≤ geometry.now.last_inode }
-    requires used { kind_at geometry.now image.old i ≢ kinds.Free }
+    requires node { HasNode geometry.now image.old i }
     requires limit { links ≤ (constants geometry.now.edition).link_limit }
     ensures changed { Changed geometry.now image.old image.new IsAny
         (change_node i (with_links now links) (state geometry.now image.old)) as_before }
@@ -41,10 +38,7 @@ pub fn put_links(image: &mut Image, geometry: &Geometry, i: u16, links: u16, now
 
 /// Gives i-node `i`, which isn't free and has fewer links than the limit, one link more, as `put_links` does.
 pub fn add_link(image: &mut Image, geometry: &Geometry, i: u16, now: u32)
-    requires whole { IsWhole geometry.now image.old }
-    requires first { 1 ≤ i }
-    requires last { i ≤ geometry.now.last_inode }
-    requires used { kind_at geometry.now image.old i ≢ kinds.Free }
+    requires node { HasNode geometry.now image.old i }
     requires room { (inode_of geometry.now.edition image.old i).links < (constants geometry.now.edition).link_limit }
     ensures changed { Changed geometry.now image.old image.new IsAny
         (add_link now i (state geometry.now image.old)) as_before }
@@ -58,10 +52,7 @@ pub fn add_link(image: &mut Image, geometry: &Geometry, i: u16, now: u32)
 
 /// Takes a link from i-node `i`, which isn't free and has one at least, as `put_links` does.
 pub fn drop_link(image: &mut Image, geometry: &Geometry, i: u16, now: u32)
-    requires whole { IsWhole geometry.now image.old }
-    requires first { 1 ≤ i }
-    requires last { i ≤ geometry.now.last_inode }
-    requires used { kind_at geometry.now image.old i ≢ kinds.Free }
+    requires node { HasNode geometry.now image.old i }
     requires some { 1 ≤ (inode_of geometry.now.edition image.old i).links }
     ensures changed { Changed geometry.now image.old image.new IsAny
         (drop_link now i (state geometry.now image.old)) as_before }

@@ -11,7 +11,7 @@ ghost use Rattle.vol_judge.specs.GraphEdits.{IsSameGraph};
 ghost use Rattle.vol_change.specs.Changed.{Changed, IsAny, as_before};
 ghost use Rattle.vol_change.specs.Edits.{at_time, change_node, modified};
 ghost use Rattle.vol_change.specs.Unused.{KeepsUnused};
-ghost use Rattle.vol_change.specs.Whole.{IsWhole};
+ghost use Rattle.vol_change.specs.Whole.{IsWhole, HasNode};
 
 use pdp_words::Image;
 use vol_layout::i_list::inode;
@@ -34,10 +34,7 @@ pub fn put_time(image: &mut Image, geometry: &Geometry, now: u32)
 /// Makes `now` the time, in seconds, at which what node `i` holds was last changed, and in the seventh
 /// edition that of its i-node too. Node `i` is any that isn't free.
 pub fn touch(image: &mut Image, geometry: &Geometry, i: u16, now: u32)
-    requires whole { IsWhole geometry.now image.old }
-    requires first { 1 ≤ i }
-    requires last { i ≤ geometry.now.last_inode }
-    requires used { kind_at geometry.now image.old i ≢ kinds.Free }
+    requires node { HasNode geometry.now image.old i }
     ensures changed { Changed geometry.now image.old image.new IsAny
         (change_node i (modified now) (state geometry.now image.old)) as_before }
     ensures graph { IsSameGraph (graph_of geometry.now image.old) (graph_of geometry.now image.new) }

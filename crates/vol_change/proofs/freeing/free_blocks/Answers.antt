@@ -5,12 +5,10 @@ use Rattle.vol_change.proofs.OneNode.{alone_inode}
 use Rattle.vol_change.proofs.UnusedBytes.{kept_unused}
 use Rattle.vol_change.proofs.freeing.free_blocks.Goals as goal
 
--- src/freeing.rt:38:1
 pub returns-in-Regular-clause-whole : goal.returns-in-Regular-clause-whole
 returns-in-Regular-clause-whole c =
     truncated_whole c.args.geometry.now c.args.image.now c.truncate.new.image c.args.i c.requires.whole c.truncate.ensures.truncated
 
--- src/freeing.rt:38:1
 pub returns-in-Regular-clause-only : goal.returns-in-Regular-clause-only
 returns-in-Regular-clause-only c =
     truncated_only c.args.geometry.now c.args.image.now c.truncate.new.image c.args.i c.requires.whole c.requires.first c.truncate.ensures.truncated

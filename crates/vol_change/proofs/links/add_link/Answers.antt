@@ -9,7 +9,7 @@ returns-clause-changed c = record {
   keeps = c.put_links.ensures.changed.keeps;
   makes =
       c.put_links.ensures.changed.makes
-      ∙ link_more c.args.geometry.now c.args.image.now c.args.i c.args.now (c.inode-links.result.links + 1) c.requires.first c.requires.last
+      ∙ link_more c.args.geometry.now c.args.image.now c.args.i c.args.now (c.inode-links.result.links + 1) c.requires.node.first c.requires.node.last
       (ap (λ node. node.links + 1) c.inode-links.ensures.value);
   free = c.put_links.ensures.changed.free;
   content = c.put_links.ensures.changed.content;

@@ -15,7 +15,7 @@ pub put_inode-requires-clause-storable : goal.put_inode-requires-clause-storable
 put_inode-requires-clause-storable c =
     storable_changed c.args.geometry.now.edition c.inode-node.result _ c.args.now c.inode-node.ensures.storable
     (subst (λ node. node.links ≤ (constants c.args.geometry.now.edition).link_limit) (sym c.inode-node.ensures.value)
-    (c.requires.whole.sound.sizes.links c.args.i c.requires.first c.requires.last c.requires.used)) refl refl refl refl c.stamp.ensures
+    (c.requires.node.whole.sound.sizes.links c.args.i c.requires.node.first c.requires.node.last c.requires.node.used)) refl refl refl refl c.stamp.ensures
 
 -- the i-node that is put
 abbrev put_node : After-put_inode → Inode
@@ -24,30 +24,30 @@ put_node c = record c.inode-node.result { modified = c.args.now; changed = c.sta
 -- what the put leaves
 puts : (c : After-put_inode) → PutsInode c.args.geometry.now c.args.image.now c.put_inode.new.image c.args.i (put_node c)
 puts c =
-    puts_changed c.args.geometry.now c.args.image.now c.put_inode.new.image c.args.i c.inode-node.result (put_node c) c.requires.first c.requires.last
+    puts_changed c.args.geometry.now c.args.image.now c.put_inode.new.image c.args.i c.inode-node.result (put_node c) c.requires.node.first c.requires.node.last
     c.inode-node.ensures.value c.put_inode.ensures.put c.put_inode.ensures.others refl refl refl
 
 pub returns-clause-changed : goal.returns-clause-changed
 returns-clause-changed c = record {
   keeps =
-    put_keeps c.args.geometry.now c.args.image.now c.put_inode.new.image c.args.i (put_node c) c.requires.whole (puts c)
+    put_keeps c.args.geometry.now c.args.image.now c.put_inode.new.image c.args.i (put_node c) c.requires.node.whole (puts c)
     (subst (λ node. node.links ≤ (constants c.args.geometry.now.edition).link_limit) (sym c.inode-node.ensures.value)
-    (c.requires.whole.sound.sizes.links c.args.i c.requires.first c.requires.last c.requires.used));
+    (c.requires.node.whole.sound.sizes.links c.args.i c.requires.node.first c.requires.node.last c.requires.node.used));
   makes =
-      put_makes c.args.geometry.now c.args.image.now c.put_inode.new.image c.args.i (put_node c) (modified c.args.now) c.requires.whole (puts c)
+      put_makes c.args.geometry.now c.args.image.now c.put_inode.new.image c.args.i (put_node c) (modified c.args.now) c.requires.node.whole (puts c)
       (λ content.
       ap (λ changed. node_with (record c.inode-node.result { modified = c.args.now; changed = changed }) content) c.stamp.ensures
       ∙ ap (λ was. node_with (record was { modified = c.args.now; changed = option_map (λ _. c.args.now) was.changed }) content) c.inode-node.ensures.value);
-  free = inode_free c.args.geometry.now c.args.image.now c.put_inode.new.image c.args.i c.requires.whole c.requires.first c.requires.last c.put_inode.ensures.others;
-  content = λ j first last any. put_content c.args.geometry.now c.args.image.now c.put_inode.new.image c.args.i j (put_node c) c.requires.whole (puts c) first last;
+  free = inode_free c.args.geometry.now c.args.image.now c.put_inode.new.image c.args.i c.requires.node.whole c.requires.node.first c.requires.node.last c.put_inode.ensures.others;
+  content = λ j first last any. put_content c.args.geometry.now c.args.image.now c.put_inode.new.image c.args.i j (put_node c) c.requires.node.whole (puts c) first last;
 }
 
 pub returns-clause-graph : goal.returns-clause-graph
 returns-clause-graph c =
-    put_same c.args.geometry.now c.args.image.now c.put_inode.new.image c.args.i (put_node c) c.requires.whole (puts c)
+    put_same c.args.geometry.now c.args.image.now c.put_inode.new.image c.args.i (put_node c) c.requires.node.whole (puts c)
     (ap (λ node. node.links) c.inode-node.ensures.value)
 
 pub returns-clause-unused : goal.returns-clause-unused
 returns-clause-unused c = λ j first last.
-    put_unused c.args.geometry.now c.args.image.now c.put_inode.new.image c.args.i j c.requires.first first c.requires.used c.put_inode.ensures.others
+    put_unused c.args.geometry.now c.args.image.now c.put_inode.new.image c.args.i j c.requires.node.first first c.requires.node.used c.put_inode.ensures.others
     c.put_inode.ensures.unused

@@ -23,8 +23,15 @@ use Rattle.vol_change.proofs.SideStates.{takes_ready, takes_kept}
 use Rattle.vol_change.proofs.UnusedNodes.{time_unused}
 use Rattle.vol_change.proofs.calls.link.link.Goals as goal
 
-pub add_link-requires-clause-whole : goal.add_link-requires-clause-whole
-add_link-requires-clause-whole c = ready_whole c.args.geometry.now c.args.image.now c.requires.ready
+pub add_link-requires-clause-node : goal.add_link-requires-clause-node
+add_link-requires-clause-node c =
+    let one = root_first c.args.geometry.now.edition in
+    record {
+      whole = ready_whole c.args.geometry.now c.args.image.now c.requires.ready;
+      first = omega (arith, one, c.requires.used.first);
+      last = c.requires.used.last;
+      used = c.requires.used.allocated;
+    }
 
 pub add_link-requires-clause-room : goal.add_link-requires-clause-room
 unfolding tree

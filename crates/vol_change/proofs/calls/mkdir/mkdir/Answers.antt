@@ -114,15 +114,20 @@ add_link-requires-clause-room c =
     (not_made (graph_of geometry picked) d i is c.make_directory.ensures.graph.was) (not_free _ is)
     ∙ same.links d (not_free _ was)) c.requires.links
 
-pub add_link-requires-clause-used : goal.add_link-requires-clause-used
-add_link-requires-clause-used c = λ free.
+pub add_link-requires-clause-node : goal.add_link-requires-clause-node
+add_link-requires-clause-node c =
     let geometry = c.args.geometry.now in
     let d = c.args.dir in
     let made = c.make_directory.ensures.graph in
     let is = c.pick_number-made.ensures.graph.kind d ∙ directory_to geometry c.args.image.now d c.requires.directory in
     let still = c.add_dots.ensures.graph.beside.kind d ∙ (c.enter.ensures.beside.kind d
     ∙ (made.others.kind d (not_made (graph_of geometry c.pick_number-made.new.image) d c.pick_number-made.result is made.was) ∙ is)) in
-    not_free _ (directory_from geometry c.add_dots.new.image d still).kind free
+    record {
+      whole = c.add_dots.ensures.changed.keeps.whole;
+      first = c.requires.directory.first;
+      last = c.requires.directory.last;
+      used = not_free _ (directory_from geometry c.add_dots.new.image d still).kind;
+    }
 
 pub returns-clause-free : goal.returns-clause-free
 returns-clause-free c =

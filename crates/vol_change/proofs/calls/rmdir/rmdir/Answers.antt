@@ -10,24 +10,19 @@ use Rattle.vol_change.proofs.ReadyLaws.{ready_whole, ready_slots, ready_once}
 use Rattle.vol_change.proofs.UnusedNodes.{time_unused, time_cleared}
 use Rattle.vol_change.proofs.calls.rmdir.rmdir.Goals as goal
 
--- src/lost_directories.rt:30:5
 pub leave-requires-clause-whole : goal.leave-requires-clause-whole
 leave-requires-clause-whole c = ready_whole _ _ c.requires.ready
 
--- src/lost_directories.rt:30:5
 pub leave-requires-clause-slots : goal.leave-requires-clause-slots
 leave-requires-clause-slots c = ready_slots _ _ _ c.requires.ready c.requires.directory
 
--- src/lost_directories.rt:30:5
 pub leave-requires-clause-once : goal.leave-requires-clause-once
 leave-requires-clause-once c = ready_once _ _ _ c.requires.ready c.requires.directory
 
--- src/lost_directories.rt:30:5
 pub leave-requires-clause-there : goal.leave-requires-clause-there
 leave-requires-clause-there c =
     name_there c.args.geometry.now c.args.image.now c.args.name.now c.args.dir c.args.i c.requires.directory c.requires.named
 
--- src/lost_directories.rt:31:5
 pub drop_link-requires-clause-some : goal.drop_link-requires-clause-some
 drop_link-requires-clause-some c =
     left_linked c.args.geometry.now c.args.image.now c.leave.new.image c.args.dir c.args.i c.args.name.now c.args.moment
@@ -41,13 +36,11 @@ drop_link-requires-clause-some c =
       beside = c.leave.ensures.beside;
     })
 
--- src/lost_directories.rt:32:5
 pub free_node-requires-clause-above : goal.free_node-requires-clause-above
 free_node-requires-clause-above c =
     directory_above c.args.geometry.now c.args.image.now c.args.name.now c.args.dir c.args.i c.requires.ready c.requires.directory
     c.requires.named c.requires.plain
 
--- src/lost_directories.rt:22:1
 pub returns : goal.returns
 returns c =
     let geometry = c.args.geometry.now in

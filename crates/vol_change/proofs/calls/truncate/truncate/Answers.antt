@@ -17,15 +17,18 @@ pub truncate-requires-clause-sound : goal.truncate-requires-clause-sound
 truncate-requires-clause-sound c =
     let whole = ready_whole c.args.geometry.now c.args.image.now c.requires.ready in record { blocks = whole.blocks; sound = whole.sound }
 
-pub touch-requires-clause-whole : goal.touch-requires-clause-whole
-touch-requires-clause-whole c =
-    (body_emptied _ _ _ _ (ready_whole _ _ c.requires.ready)
-    (record { first = c.requires.first; last = c.requires.last; kind = c.requires.regular }) c.truncate.ensures.truncated).keeps.whole
-
-pub touch-requires-clause-used : goal.touch-requires-clause-used
-touch-requires-clause-used c =
-    (emptied_beside _ _ _ _ (ready_whole _ _ c.requires.ready)
-    (record { first = c.requires.first; last = c.requires.last; kind = c.requires.regular }) c.truncate.ensures.truncated).kind
+pub touch-requires : goal.touch-requires
+touch-requires c =
+    let is : IsKind c.args.geometry.now c.args.image.now c.args.i kinds.Regular =
+    record { first = c.requires.first; last = c.requires.last; kind = c.requires.regular } in
+    record {
+      node = record {
+        whole = (body_emptied _ _ _ _ (ready_whole _ _ c.requires.ready) is c.truncate.ensures.truncated).keeps.whole;
+        first = c.requires.first;
+        last = c.requires.last;
+        used = (emptied_beside _ _ _ _ (ready_whole _ _ c.requires.ready) is c.truncate.ensures.truncated).kind;
+      };
+    }
 
 pub returns : goal.returns
 returns c =

@@ -19,62 +19,50 @@ use Rattle.vol_change.proofs.UnusedNodes.{time_unused, time_cleared}
 use Rattle.vol_change.proofs.calls.unlink.unlink.Goals as goal
 use Rattle.vol_change.proofs.calls.unlink.unlink.Goals.{After-put_time, then-inode-le1, else-inode-le1}
 
--- src/lost_names.rt:31:5
 pub leave-requires-clause-whole : goal.leave-requires-clause-whole
 leave-requires-clause-whole c = ready_whole _ _ c.requires.ready
 
--- src/lost_names.rt:31:5
 pub leave-requires-clause-slots : goal.leave-requires-clause-slots
 leave-requires-clause-slots c = ready_slots _ _ _ c.requires.ready c.requires.directory
 
--- src/lost_names.rt:31:5
 pub leave-requires-clause-once : goal.leave-requires-clause-once
 leave-requires-clause-once c = ready_once _ _ _ c.requires.ready c.requires.directory
 
--- src/lost_names.rt:31:5
 pub leave-requires-clause-there : goal.leave-requires-clause-there
 leave-requires-clause-there c = name_there c.args.geometry.now c.args.image.now c.args.name.now c.args.dir c.args.i c.requires.directory c.requires.named
 
--- src/lost_names.rt:32:8
 pub inode-requires-clause-first : goal.inode-requires-clause-first
 inode-requires-clause-first c = used_first _ _ _ (named_used c.args.geometry.now c.args.image.now c.args.name.now c.args.dir c.args.i c.requires.ready c.requires.directory c.requires.named)
 
--- src/lost_names.rt:32:8
 pub inode-requires-clause-last : goal.inode-requires-clause-last
 inode-requires-clause-last c = (named_used c.args.geometry.now c.args.image.now c.args.name.now c.args.dir c.args.i c.requires.ready c.requires.directory c.requires.named).last
 
--- src/lost_names.rt:33:9
 pub free_node-requires-clause-above : goal.free_node-requires-clause-above
 free_node-requires-clause-above c =
     file_above _ _ _ c.requires.ready (named_used c.args.geometry.now c.args.image.now c.args.name.now c.args.dir c.args.i c.requires.ready c.requires.directory c.requires.named) c.requires.other
 
--- src/lost_names.rt:33:9
 pub free_node-requires-clause-last : goal.free_node-requires-clause-last
 free_node-requires-clause-last c = (named_used c.args.geometry.now c.args.image.now c.args.name.now c.args.dir c.args.i c.requires.ready c.requires.directory c.requires.named).last
 
--- src/lost_names.rt:35:9
-pub drop_link-requires-clause-first : goal.drop_link-requires-clause-first
-drop_link-requires-clause-first c = used_first _ _ _ (named_used c.args.geometry.now c.args.image.now c.args.name.now c.args.dir c.args.i c.requires.ready c.requires.directory c.requires.named)
+pub drop_link-requires-clause-node : goal.drop_link-requires-clause-node
+drop_link-requires-clause-node c =
+    let used = named_used c.args.geometry.now c.args.image.now c.args.name.now c.args.dir c.args.i c.requires.ready c.requires.directory c.requires.named in
+    record {
+      whole = c.leave.ensures.changed.keeps.whole;
+      first = used_first _ _ _ used;
+      last = used.last;
+      used = left_used c.args.geometry.now c.args.image.now c.leave.new.image c.args.dir c.args.i c.args.name.now c.args.moment
+          (record {
+            ready = c.requires.ready;
+            directory = c.requires.directory;
+            named = c.requires.named;
+            keeps = c.leave.ensures.changed.keeps;
+            makes = c.leave.ensures.changed.makes;
+            slot = c.leave.ensures.slot;
+            beside = c.leave.ensures.beside;
+          });
+    }
 
--- src/lost_names.rt:35:9
-pub drop_link-requires-clause-last : goal.drop_link-requires-clause-last
-drop_link-requires-clause-last c = (named_used c.args.geometry.now c.args.image.now c.args.name.now c.args.dir c.args.i c.requires.ready c.requires.directory c.requires.named).last
-
--- src/lost_names.rt:35:9
-pub drop_link-requires-clause-used : goal.drop_link-requires-clause-used
-drop_link-requires-clause-used c =
-    left_used c.args.geometry.now c.args.image.now c.leave.new.image c.args.dir c.args.i c.args.name.now c.args.moment
-    (record {
-      ready = c.requires.ready;
-      directory = c.requires.directory;
-      named = c.requires.named;
-      keeps = c.leave.ensures.changed.keeps;
-      makes = c.leave.ensures.changed.makes;
-      slot = c.leave.ensures.slot;
-      beside = c.leave.ensures.beside;
-    })
-
--- src/lost_names.rt:37:5
 pub put_time-requires : goal.put_time-requires
 put_time-requires c = record {
   whole = elim c.if-inode-le1.branch [
@@ -194,7 +182,6 @@ others c j low high other = elim c.if-inode-le1.branch [
   | else-inode-le1 w ↦ rw w.image-is (w.drop_link.ensures.unused j low high)
 ]
 
--- src/lost_names.rt:23:1
 pub returns : goal.returns
 returns c = record {
   changes = changed _ _ _ _ _ c.args.moment c.requires.ready (unlinked c)

@@ -38,17 +38,18 @@ write-requires-clause-room c =
     file_room c.args.geometry.now c.args.image.now c.args.i (touched c.args.offset (length c.args.bytes.now))
     (ready_whole _ _ c.requires.ready) file c.requires.room
 
-pub touch-requires-clause-whole : goal.touch-requires-clause-whole
-touch-requires-clause-whole c =
-    (body_written _ _ _ _ c.args.offset c.args.bytes.now (ready_whole _ _ c.requires.ready)
-    (record { first = c.requires.first; last = c.requires.last; kind = c.requires.regular })
-    (c.write.ensures.written (grind (arith, nat_tests)))).keeps.whole
-
-pub touch-requires-clause-used : goal.touch-requires-clause-used
-touch-requires-clause-used c =
-    (written_beside _ _ _ _ c.args.offset c.args.bytes.now (ready_whole _ _ c.requires.ready)
-    (record { first = c.requires.first; last = c.requires.last; kind = c.requires.regular })
-    (c.write.ensures.written (grind (arith, nat_tests)))).kind
+pub touch-requires : goal.touch-requires
+touch-requires c =
+    let is : IsKind c.args.geometry.now c.args.image.now c.args.i kinds.Regular =
+    record { first = c.requires.first; last = c.requires.last; kind = c.requires.regular } in
+    record {
+      node = record {
+        whole = (body_written _ _ _ _ c.args.offset c.args.bytes.now (ready_whole _ _ c.requires.ready) is (c.write.ensures.written (grind (arith, nat_tests)))).keeps.whole;
+        first = c.requires.first;
+        last = c.requires.last;
+        used = (written_beside _ _ _ _ c.args.offset c.args.bytes.now (ready_whole _ _ c.requires.ready) is (c.write.ensures.written (grind (arith, nat_tests)))).kind;
+      };
+    }
 
 pub put_time-requires : goal.put_time-requires
 put_time-requires c = record {

@@ -19,7 +19,7 @@ use Rattle.vol_judge.proofs.ImageGraphs.{directory_to, graph_within}
 use Rattle.vol_change.specs.Ready.{entry_need}
 use Rattle.vol_change.specs.Contents.{put_entry}
 use Rattle.vol_change.specs.Nodes.{no_node}
-use Rattle.vol_change.specs.Shapes.{need_in, entry_blocks, shape_with_entry}
+use Rattle.vol_change.specs.Shapes.{need_in, entry_blocks, shape_with_entry, new_directory_shape}
 use Rattle.vol_change.specs.Whole.{IsWhole}
 use Rattle.vol_change.proofs.EntryStates.{names_is, shape_is, size_is}
 use Rattle.vol_change.proofs.FileRooms.{entry_room}
@@ -28,7 +28,7 @@ use Rattle.vol_change.proofs.WrittenStates.{IsKind}
 use Rattle.vol_change.specs.Beside.{StaysBeside}
 use Rattle.vol_change.specs.Dots.{HoldsNames}
 use Rattle.vol_change.proofs.DotRooms.{second_need}
-use Rattle.vol_change.proofs.DotStates.{entry_held}
+use Rattle.vol_change.proofs.DotStates.{entry_held, dots_shape}
 use Rattle.vol_change.proofs.ReadyLaws.{directory_kept}
 
 -- a directory is of that kind
@@ -156,6 +156,11 @@ second_slot geometry image i dotted =
 pub dot_dot_new : (geometry : Geometry) (image : List ℕ) (i : ℕ) → HasDot geometry image i → get (names_of (slots geometry image i)) dot_dot ≡ None
 dot_dot_new geometry image i dotted =
     ap (λ names. get names dot_dot) (names_held geometry image i 16 (insert [] dot i) (shape_with_entry geometry.edition no_shape dot) dotted.is dotted.has)
+
+-- the places with both
+pub dots_places : (geometry : Geometry) (old new : List ℕ) (i d : ℕ) → HasDot geometry old i
+    → state geometry new ≡ put_entry i dot_dot d (state geometry old) → shapes geometry new i ≡ new_directory_shape geometry.edition
+dots_places geometry old new i d dotted makes = (dot_dot_held geometry old new i d dotted.has makes).shape ∙ dots_shape geometry.edition
 
 -- the size with both
 pub dots_size : (geometry : Geometry) (old new : List ℕ) (i d : ℕ) → HasDot geometry old i

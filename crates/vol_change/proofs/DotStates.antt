@@ -21,7 +21,7 @@ twice true = refl
 twice false = refl
 
 -- block 0 stored once, and once more
-dots_shape : (edition : Edition) → shape_with_entry edition (shape_with_entry edition no_shape dot) dot_dot ≡ new_directory_shape edition
+pub dots_shape : (edition : Edition) → shape_with_entry edition (shape_with_entry edition no_shape dot) dot_dot ≡ new_directory_shape edition
 dots_shape V6 = λ k. record {
   names = λ p. twice (is_on_ways Small (0 ∷ []) p) k;
   large = false;

@@ -56,7 +56,7 @@ inode_free geometry old new i whole first last same =
     (omega (arith, order, start)) (place_room geometry old i whole.sound.fits first last)
 
 -- there is one free list
-one_list : (geometry : Geometry) (image blocks : List ℕ) → (whole : IsWhole geometry image) → IsFree geometry image blocks → whole.blocks ≡ blocks
+pub one_list : (geometry : Geometry) (image blocks : List ℕ) → (whole : IsWhole geometry image) → IsFree geometry image blocks → whole.blocks ≡ blocks
 one_list geometry image blocks whole free =
     let behind = zone_behind geometry image whole.sound.fits in IsFree_unique (omega (arith, behind)) whole.sound.free free
 

@@ -12,6 +12,7 @@ pub mod EntryStates
 pub mod FileGraphs
 pub mod FileInodes
 pub mod FileRooms
+pub mod FirstBlocks
 pub mod FreeAfter
 pub mod FreeCounts
 pub mod FreeKinds

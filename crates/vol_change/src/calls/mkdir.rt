@@ -1,13 +1,15 @@
 //! A new directory.
-ghost use Rattle.std.specs.Prelude.{◌≡◌, ◌≢◌, ℕ, ◌+◌, ◌<◌, ◌≤◌, false, [], IfSome, slice_index, drop};
+ghost use Rattle.std.specs.Prelude.{List, ◌∷◌, ◌≡◌, ◌≢◌, ℕ, ◌+◌, ◌<◌, ◌≤◌, false, [], IfSome, slice_index, drop};
 ghost use Rattle.vol_layout.specs.Edition.{constants};
 ghost use Rattle.vol_layout.specs.Inode.{inode_place};
+ghost use Rattle.vol_layout.specs.Names.{named};
 ghost use Rattle.vol_layout.specs.declared.edition.Edition.TheVariants as editions;
 ghost use Rattle.vol_dir.specs.Entries.{IsDirectory};
 ghost use Rattle.vol_dir.specs.Names.{dot, dot_dot};
 ghost use Rattle.vol_dir.specs.Searching.{new_slot};
 ghost use Rattle.vol_dir.specs.Tree.{no_shape, state};
 ghost use Rattle.vol_dir.specs.Walk.{IsComponent, has_zero};
+ghost use Rattle.vol_free.specs.Stack.{IsFree};
 ghost use Rattle.vol_free.specs.Numbers.{IsFreeNumber};
 ghost use Rattle.vol_judge.specs.Graph.{graph_of};
 ghost use Rattle.vol_change.specs.Changed.{Changed, IsOther, FreeBecomes, KeepsFilesBut};
@@ -59,6 +61,8 @@ pub fn mkdir(
     ensures changes { Changes geometry.now image.old image.new
         (at_time node.moment (after_mkdir (state geometry.now image.old) node.owner node.moment node.permissions result dir name.now)) }
     ensures list { FreeBecomes geometry.now image.old image.new (drop (entry_need (state geometry.now image.old) dir + 1)) }
+    ensures own { (blocks : List ℕ) → IsFree geometry.now image.old blocks
+        → named geometry.now image.new result (0 ∷ []) ≡ slice_index blocks (entry_need (state geometry.now image.old) dir) }
     ensures files { KeepsFilesBut geometry.now image.old image.new dir result }
     ensures unused { geometry.now.edition ≡ editions.V7 → slice_index image.new (inode_place editions.V7 result + 51) ≡ 0 }
     ensures others { (j : ℕ) → 1 ≤ j → j ≤ geometry.now.last_inode → j ≢ result → KeepsUnused geometry.now image.old image.new j }
@@ -82,6 +86,7 @@ fn add_dots(image: &mut Image, geometry: &Geometry, i: u16, dir: u16)
     requires room { 1 ≤ free_in (state geometry.now image.old) }
     ensures changed { Changed geometry.now image.old image.new (IsOther i)
         (put_entry i dot_dot dir (put_entry i dot i (state geometry.now image.old))) (drop 1) }
+    ensures own { (blocks : List ℕ) → IsFree geometry.now image.old blocks → named geometry.now image.new i (0 ∷ []) ≡ slice_index blocks 0 }
     ensures graph { AddsDots (graph_of geometry.now image.old) (graph_of geometry.now image.new) i dir }
     ensures unused { (j : ℕ) → 1 ≤ j → j ≤ geometry.now.last_inode → KeepsUnused geometry.now image.old image.new j }
 {

@@ -1,4 +1,4 @@
-use Rattle.std.proofs.Common.{◌∙◌, ap, sym, ◌%◌, [], arith, subst, drop}
+use Rattle.std.proofs.Common.{◌∙◌, ap, sym, ◌%◌, [], arith, subst, drop, length, ◌≢◌, ℕ, ◌≤◌}
 use Rattle.vol_dir.specs.Entries.{slots}
 use Rattle.vol_dir.specs.Names.{dot, dot_dot, get, names_in}
 use Rattle.vol_dir.specs.Searching.{new_slot}
@@ -6,14 +6,21 @@ use Rattle.vol_dir.specs.Tree.{no_shape, tree, state}
 use Rattle.vol_judge.specs.Graph.{graph_of, entry_by}
 use Rattle.vol_judge.proofs.ImageGraphs.{directory_to}
 use Rattle.vol_free.specs.Stack.{IsFree}
+use Rattle.vol_change.specs.Changed.{FreeBecomes}
+use Rattle.vol_change.specs.Alone.{KeepsContent}
+use Rattle.vol_change.proofs.ReadyLaws.{directory_kept}
+use Rattle.vol_change.proofs.FileRooms.{room_is}
+use Rattle.vol_change.proofs.FreeLists.{one_list}
+use Rattle.vol_change.proofs.FirstBlocks.{first_taken}
 use Rattle.vol_change.proofs.OneNode.{content_then}
 use Rattle.vol_change.specs.Ready.{entry_need}
 use Rattle.vol_change.specs.Contents.{put_entry}
 use Rattle.vol_change.proofs.WholeLaws.{keeps_then}
 use Rattle.vol_change.proofs.DotGraphs.{dots_added}
-use Rattle.vol_change.proofs.DotImages.{names_held, size_held, first_slot, no_entry, none_twice, dots_fit, dot_room, dot_there, second_slot, dot_dot_new, dot_dot_room, dots_size, dot_need, dot_dot_need}
+use Rattle.vol_change.proofs.DotImages.{names_held, size_held, first_slot, no_entry, none_twice, dots_fit, dot_room, dot_there, second_slot, dot_dot_new, dot_dot_room, dots_size, dot_need, dot_dot_need, dots_places}
 use Rattle.vol_change.proofs.UnusedBytes.{unused_then}
 use Rattle.vol_change.proofs.calls.mkdir.add_dots.Goals as goal
+use Rattle.vol_change.proofs.calls.mkdir.add_dots.Goals.{After-add_name-2}
 
 pub add_name-requires-clause-slot : goal.add_name-requires-clause-slot
 add_name-requires-clause-slot c = sym (first_slot c.args.geometry.now c.args.image.now c.args.i c.requires.directory c.requires.empty)
@@ -61,24 +68,54 @@ add_name-requires-2-clause-room c =
     dot_there c.args.geometry.now c.args.image.now c.add_name.new.image c.args.i c.requires.directory c.requires.empty c.add_name.ensures.changed.makes c.add_name.ensures.beside in
     dot_dot_room c.args.geometry.now c.add_name.new.image c.args.i _ c.add_name.ensures.changed.keeps.whole dotted.is dotted.has
 
+-- `.` takes a block, and `..` none
+taken : (c : After-add_name-2) → FreeBecomes c.args.geometry.now c.args.image.now c.add_name-2.new.image (drop 1)
+taken c = λ blocks free.
+    let geometry = c.args.geometry.now in
+    let old = c.args.image.now in
+    let mid = c.add_name.new.image in
+    let new = c.add_name-2.new.image in
+    let dotted = dot_there geometry old mid c.args.i c.requires.directory c.requires.empty c.add_name.ensures.changed.makes c.add_name.ensures.beside in
+    subst (λ n. IsFree geometry new (drop n blocks)) (dot_need geometry old c.args.i c.requires.empty)
+    (subst (λ n. IsFree geometry new (drop n (drop (entry_need (state geometry old) c.args.i) blocks)))
+    (dot_dot_need geometry mid c.args.i _ dotted.has)
+    (c.add_name-2.ensures.changed.free _ (c.add_name.ensures.changed.free blocks free)))
+
+-- the other files stay
+stays : (c : After-add_name-2) (j : ℕ) → 1 ≤ j → j ≤ c.args.geometry.now.last_inode → j ≢ c.args.i
+    → KeepsContent c.args.geometry.now c.args.image.now c.add_name-2.new.image j
+stays c j first last other =
+    content_then c.args.geometry.now c.args.image.now c.add_name.new.image c.add_name-2.new.image j
+    (c.add_name.ensures.changed.content j first last other) (c.add_name-2.ensures.changed.content j first last other)
+
 pub returns-clause-changed : goal.returns-clause-changed
 returns-clause-changed c =
     let geometry = c.args.geometry.now in
     let old = c.args.image.now in
     let mid = c.add_name.new.image in
     let new = c.add_name-2.new.image in
-    let dotted = dot_there geometry old mid c.args.i c.requires.directory c.requires.empty c.add_name.ensures.changed.makes c.add_name.ensures.beside in
     record {
       keeps = keeps_then geometry old mid new c.add_name.ensures.changed.keeps c.add_name-2.ensures.changed.keeps;
       makes = c.add_name-2.ensures.changed.makes ∙ ap (put_entry c.args.i dot_dot c.args.dir) c.add_name.ensures.changed.makes;
-      free = λ blocks free.
-          subst (λ n. IsFree geometry new (drop n blocks)) (dot_need geometry old c.args.i c.requires.empty)
-          (subst (λ n. IsFree geometry new (drop n (drop (entry_need (state geometry old) c.args.i) blocks)))
-          (dot_dot_need geometry mid c.args.i _ dotted.has)
-          (c.add_name-2.ensures.changed.free _ (c.add_name.ensures.changed.free blocks free)));
-      content = λ j first last other.
-          content_then geometry old mid new j (c.add_name.ensures.changed.content j first last other) (c.add_name-2.ensures.changed.content j first last other);
+      free = taken c;
+      content = stays c;
     }
+
+pub returns-clause-own : goal.returns-clause-own
+unfolding tree
+returns-clause-own c = λ blocks free.
+    let geometry = c.args.geometry.now in
+    let old = c.args.image.now in
+    let mid = c.add_name.new.image in
+    let new = c.add_name-2.new.image in
+    let i = c.args.i in
+    let dotted = dot_there geometry old mid i c.requires.directory c.requires.empty c.add_name.ensures.changed.makes c.add_name.ensures.beside in
+    let is = directory_kept geometry mid new i (c.add_name-2.ensures.beside.kind i) dotted.is in
+    let some = room_is geometry old 1 c.requires.whole c.requires.room c.requires.whole.blocks c.requires.whole.sound in
+    let length = ap length (one_list geometry old blocks c.requires.whole free) in
+    first_taken geometry old new i blocks c.requires.whole c.add_name-2.ensures.changed.keeps.whole
+    (taken c) (stays c) (record { first = is.first; last = is.last; kind = is.kind })
+    (dots_places geometry mid new i c.args.dir dotted c.add_name-2.ensures.changed.makes) (omega (arith, some, length)) free
 
 pub returns-clause-graph : goal.returns-clause-graph
 returns-clause-graph c =

@@ -1,4 +1,4 @@
-use Rattle.std.proofs.Common.{◌≢◌, ◌∙◌, sym, ap, subst, ◌+◌, ◌≤◌, Some, arith, ◌≡◌, drop}
+use Rattle.std.proofs.Common.{◌≢◌, ◌∙◌, sym, ap, subst, ◌+◌, ◌≤◌, Some, arith, ◌≡◌, drop, slice_index}
 use Rattle.vol_layout.specs.declared.mode.Kind.TheVariants as kinds
 use Rattle.vol_dir.specs.Entries.{slots}
 use Rattle.vol_dir.specs.Names.{names_in}
@@ -10,6 +10,7 @@ use Rattle.vol_judge.proofs.ImageGraphs.{directory_to, directory_from, graph_wit
 use Rattle.vol_free.specs.Stack.{IsFree}
 use Rattle.vol_judge.specs.Directories.{root_of}
 use Rattle.vol_judge.proofs.MadeGraphs.{added_directory_sound}
+use Rattle.vol_change.proofs.FirstBlocks.{first_kept, first_left}
 use Rattle.vol_change.proofs.FreeLists.{drop_next}
 use Rattle.vol_change.proofs.OneNode.{content_then}
 use Rattle.vol_change.specs.Edits.{at_time, put_node}
@@ -190,6 +191,28 @@ returns-clause-list c = λ blocks free.
     (subst (λ m. IsFree geometry c.put_time.new.image (drop 1 (drop m blocks))) need
     (c.put_time.ensures.changed.free _ (c.add_link.ensures.changed.free _ (c.add_dots.ensures.changed.free _ (c.enter.ensures.changed.free _
     (c.make_directory.ensures.changed.free _ (c.pick_number-made.ensures.changed.free blocks free)))))))
+
+pub returns-clause-own : goal.returns-clause-own
+unfolding tree
+returns-clause-own c = λ blocks free.
+    let geometry = c.args.geometry.now in
+    let d = c.args.dir in
+    let i = c.pick_number-made.result in
+    let dotted = c.add_dots.new.image in
+    let new = c.put_time.new.image in
+    let first : 1 ≤ i = omega (arith, c.pick_number-made.ensures.free.above) in
+    let last = c.pick_number-made.ensures.free.within in
+    let node = bare_directory geometry.edition c.args.node.owner c.args.node.moment c.args.node.permissions in
+    let same = c.make_directory.ensures.changed.makes
+    ∙ (made_state geometry c.pick_number-made.new.image i (Some node) c.pick_number-made.ensures.free
+    ∙ ap (put_node i (Some node)) c.pick_number-made.ensures.changed.makes) in
+    let need : entry_need (state geometry c.make_directory.new.image) d ≡ entry_need (state geometry c.args.image.now) d =
+    ap (λ (s : State). entry_need s d) same in
+    first_kept geometry dotted new i
+    (content_then geometry dotted c.add_link.new.image new i (c.add_link.ensures.changed.content i first last tt) (c.put_time.ensures.changed.content i first last tt))
+    ∙ (c.add_dots.ensures.own _
+    (c.enter.ensures.changed.free _ (c.make_directory.ensures.changed.free _ (c.pick_number-made.ensures.changed.free blocks free)))
+    ∙ (first_left (entry_need (state geometry c.make_directory.new.image) d) blocks ∙ ap (slice_index blocks) need))
 
 pub returns-clause-files : goal.returns-clause-files
 returns-clause-files c = λ j low high there here.

@@ -15,7 +15,7 @@ use Rattle.vol_layout.proofs.InodeLaws.{KeepsInode, inode_apart, mode_kept, size
 use Rattle.std.specs.Prelude.{IfSome}
 use Rattle.vol_free.specs.Numbers.{IsFreeNumber}
 use Rattle.vol_free.proofs.Frames.{IsFree-behind, free_from}
-use Rattle.vol_file.specs.Changes.{ChangesFileAlone}
+use Rattle.vol_file.specs.Changes.{ChangesFileAlone, StaysElsewhere, spliced}
 use Rattle.vol_file.proofs.Alone.{elsewhere_inode}
 use Rattle.vol_file.proofs.Naming.{place_same}
 use Rattle.vol_dir.specs.Entries.{IsDirectory, entry_at}
@@ -24,6 +24,8 @@ use Rattle.vol_judge.specs.Graph.{graph_of}
 use Rattle.vol_judge.specs.GraphEdits.{IsSameGraph, KeepsOthers}
 use Rattle.vol_judge.proofs.EditedGraphs.{same_graph, keeps_others}
 use Rattle.vol_judge.proofs.ImageGraphs.{inside_from}
+use Rattle.vol_layout.specs.Body.{body}
+use Rattle.vol_change.specs.Changed.{PutsInBody}
 use Rattle.vol_change.specs.Alone.{KeepsContent, KeepsNode, ChangesOnly}
 use Rattle.vol_change.specs.Edits.{put_node, put_shape}
 use Rattle.vol_change.specs.Whole.{IsWhole, Keeps, StaysAround}
@@ -49,6 +51,23 @@ content_then geometry old mid new j a b = record {
       (b.blocks p r (place_same geometry old mid j p a.mode place) (λ zero. some (sym same ∙ zero)) h)
       ∙ a.blocks p r place some h;
 }
+
+-- a directory whose content stays is one
+pub directory_stays : (geometry : Geometry) (old new : List ℕ) (d : ℕ) → KeepsContent geometry old new d → IsDirectory geometry old d
+    → IsDirectory geometry new d
+directory_stays geometry old new d kept is = record { first = is.first; last = is.last; kind = kind_same geometry old new d kept ∙ is.kind }
+
+-- and keeps its bytes
+pub bytes_stay : (geometry : Geometry) (old new : List ℕ) (d : ℕ) → KeepsContent geometry old new d → IsDirectory geometry old d
+    → body geometry new d ≡ body geometry old d
+bytes_stay geometry old new d kept is = kept.bytes (record { first = is.first; last = is.last; kind = ap has_places is.kind })
+
+-- before and after which some of them are put
+pub bytes_put : (geometry : Geometry) (old mid low new : List ℕ) (d at : ℕ) (text : List ℕ) → KeepsContent geometry old mid d
+    → IsDirectory geometry old d → PutsInBody geometry mid low d at text → KeepsContent geometry low new d → IsDirectory geometry low d
+    → PutsInBody geometry old new d at text
+bytes_put geometry old mid low new d at text before is puts after still =
+    bytes_stay geometry low new d after still ∙ (puts ∙ ap (λ xs. spliced xs at text) (bytes_stay geometry old mid d before is))
 
 -- what an i-node stands for stays where nothing changes
 pub content_refl : (geometry : Geometry) (image : List ℕ) (j : ℕ) → KeepsContent geometry image image j

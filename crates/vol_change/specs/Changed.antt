@@ -1,9 +1,10 @@
 -- What each change of nodes leaves: the rules, the tree, the free list, and what it spares.
 use Rattle.std.specs.Prelude.{◌≡◌, ◌≢◌, ℕ, ◌≤◌, if◌then◌else◌, List, []}
+use Rattle.vol_layout.specs.Body.{body}
 use Rattle.vol_layout.specs.Places.{has_places}
 use Rattle.vol_layout.specs.declared.geometry.Geometry.{Geometry}
 use Rattle.vol_free.specs.Stack.{IsFree}
-use Rattle.vol_file.specs.Changes.{blocks_of}
+use Rattle.vol_file.specs.Changes.{blocks_of, spliced}
 use Rattle.vol_file.specs.Rules.{kind_at}
 use Rattle.vol_dir.specs.Tree.{State, state}
 use Rattle.vol_change.specs.Alone.{KeepsContent}
@@ -37,6 +38,11 @@ pub record Changed (geometry : Geometry) (old new : List ℕ) (Kept : ℕ → Ty
   pub makes : state geometry new ≡ made
   pub free : FreeBecomes geometry old new listed
   pub content : (j : ℕ) → 1 ≤ j → j ≤ geometry.last_inode → Kept j → KeepsContent geometry old new j
+
+-- of the bytes of directory d those of a text were put at a place, and no others have changed: neither what stands behind the end
+-- of another name, nor the name of an empty slot (manual section 5, directories)
+abbrev pub PutsInBody : Geometry → List ℕ → List ℕ → ℕ → ℕ → List ℕ → Type 0
+PutsInBody geometry old new d at text = body geometry new d ≡ spliced (body geometry old d) at text
 
 -- each file but two stands for what it did, with all bytes of its blocks (this project)
 abbrev pub KeepsFilesBut : Geometry → List ℕ → List ℕ → ℕ → ℕ → Type 0

@@ -1,11 +1,11 @@
 //! The entries of a directory: one that comes, and one that goes; with and without the times of the directory.
-ghost use Rattle.std.specs.Prelude.{◌≡◌, ◌≢◌, ℕ, ◌+◌, ◌*◌, ◌%◌, ◌<◌, ◌≤◌, List, None, Some, length, slice_index, IsSome, false, drop};
+ghost use Rattle.std.specs.Prelude.{◌≡◌, ◌≢◌, ℕ, ◌+◌, ◌*◌, ◌%◌, ◌<◌, ◌≤◌, List, None, Some, length, slice_index, IsSome, false, drop, [], ◌∷◌};
 ghost use Rattle.std.specs.Option.{option_map};
 ghost use Rattle.vol_layout.specs.Edition.{constants};
 ghost use Rattle.vol_layout.specs.declared.mode.Kind.TheVariants as kinds;
 ghost use Rattle.vol_file.specs.Rules.{kind_at, size_of, IsSoundWith};
 ghost use Rattle.vol_file.specs.Need.{need};
-ghost use Rattle.vol_dir.specs.Editing.{HasNamesOnce};
+ghost use Rattle.vol_dir.specs.Editing.{HasNamesOnce, slot_bytes};
 ghost use Rattle.vol_dir.specs.Entries.{slots, IsDirectory};
 ghost use Rattle.vol_dir.specs.Names.{get, names_of, names_in};
 ghost use Rattle.vol_dir.specs.Searching.{new_slot, slot_named};
@@ -13,7 +13,7 @@ ghost use Rattle.vol_dir.specs.Tree.{state};
 ghost use Rattle.vol_dir.specs.Walk.{IsComponent, has_zero};
 ghost use Rattle.vol_judge.specs.Graph.{graph_of};
 ghost use Rattle.vol_judge.specs.GraphEdits.{ChangesSlot};
-ghost use Rattle.vol_change.specs.Changed.{Changed, IsOther, as_before};
+ghost use Rattle.vol_change.specs.Changed.{Changed, IsOther, as_before, PutsInBody};
 ghost use Rattle.vol_change.specs.Beside.{StaysBeside};
 ghost use Rattle.vol_change.specs.Contents.{put_entry, drop_entry};
 ghost use Rattle.vol_change.specs.Unused.{KeepsUnused};
@@ -47,6 +47,7 @@ pub fn add_name(image: &mut Image, geometry: &Geometry, dir: u16, slot: u32, nam
         → need geometry.now image.old dir (16 * new_slot (names_in (slots geometry.now image.old dir))) 16 ≤ length blocks }
     ensures changed { Changed geometry.now image.old image.new (IsOther dir)
         (put_entry dir name.now i (state geometry.now image.old)) (drop (entry_need (state geometry.now image.old) dir)) }
+    ensures bytes { PutsInBody geometry.now image.old image.new dir (16 * slot) (slot_bytes name.now i) }
     ensures slot { ChangesSlot (graph_of geometry.now image.old) (graph_of geometry.now image.new) dir
         (new_slot (names_in (slots geometry.now image.old dir))) None (Some (name.now, i)) }
     ensures beside { StaysBeside (graph_of geometry.now image.old) (graph_of geometry.now image.new) dir }
@@ -71,6 +72,7 @@ pub fn remove_name(image: &mut Image, geometry: &Geometry, dir: u16, slot: u32, 
     requires there { IsSome (get (names_of (slots geometry.now image.old dir)) name.now) }
     ensures changed { Changed geometry.now image.old image.new (IsOther dir)
         (drop_entry dir name.now (state geometry.now image.old)) as_before }
+    ensures bytes { PutsInBody geometry.now image.old image.new dir (16 * slot) (0 ∷ 0 ∷ []) }
     ensures slot { ChangesSlot (graph_of geometry.now image.old) (graph_of geometry.now image.new) dir
         (slot_named name.now (slots geometry.now image.old dir))
         (option_map (λ i. (name.now, i)) (get (names_of (slots geometry.now image.old dir)) name.now)) None }
@@ -104,6 +106,7 @@ pub(crate) fn enter(
     requires room { entry_need (state geometry.now image.old) dir ≤ free_in (state geometry.now image.old) }
     ensures changed { Changed geometry.now image.old image.new (IsOther dir)
         (add_entry moment dir name.now i (state geometry.now image.old)) (drop (entry_need (state geometry.now image.old) dir)) }
+    ensures bytes { PutsInBody geometry.now image.old image.new dir (16 * slot) (slot_bytes name.now i) }
     ensures slot { ChangesSlot (graph_of geometry.now image.old) (graph_of geometry.now image.new) dir
         (new_slot (names_in (slots geometry.now image.old dir))) None (Some (name.now, i)) }
     ensures beside { StaysBeside (graph_of geometry.now image.old) (graph_of geometry.now image.new) dir }
@@ -131,6 +134,7 @@ pub(crate) fn leave(
     requires there { IsSome (get (names_of (slots geometry.now image.old dir)) name.now) }
     ensures changed { Changed geometry.now image.old image.new (IsOther dir)
         (remove_entry moment dir name.now (state geometry.now image.old)) as_before }
+    ensures bytes { PutsInBody geometry.now image.old image.new dir (16 * slot) (0 ∷ 0 ∷ []) }
     ensures slot { ChangesSlot (graph_of geometry.now image.old) (graph_of geometry.now image.new) dir
         (slot_named name.now (slots geometry.now image.old dir))
         (option_map (λ i. (name.now, i)) (get (names_of (slots geometry.now image.old dir)) name.now)) None }

@@ -1,5 +1,5 @@
 //! A new file.
-ghost use Rattle.std.specs.Prelude.{◌≡◌, ◌≢◌, ℕ, ◌+◌, ◌≤◌, false, IfSome, slice_index, drop};
+ghost use Rattle.std.specs.Prelude.{◌≡◌, ◌≢◌, ℕ, ◌+◌, ◌≤◌, false, IfSome, slice_index, drop, ◌*◌};
 ghost use Rattle.vol_layout.specs.Edition.{constants};
 ghost use Rattle.vol_layout.specs.Inode.{inode_place};
 ghost use Rattle.vol_layout.specs.declared.edition.Edition.TheVariants as editions;
@@ -8,7 +8,8 @@ ghost use Rattle.vol_dir.specs.Searching.{new_slot};
 ghost use Rattle.vol_dir.specs.Tree.{state};
 ghost use Rattle.vol_dir.specs.Walk.{IsComponent, has_zero};
 ghost use Rattle.vol_free.specs.Numbers.{IsFreeNumber};
-ghost use Rattle.vol_change.specs.Changed.{FreeBecomes, KeepsFilesBut};
+ghost use Rattle.vol_dir.specs.Editing.{slot_bytes};
+ghost use Rattle.vol_change.specs.Changed.{FreeBecomes, KeepsFilesBut, PutsInBody};
 ghost use Rattle.vol_change.specs.Edits.{at_time};
 ghost use Rattle.vol_change.specs.Unused.{KeepsUnused};
 ghost use Rattle.vol_change.specs.Effects.{after_create};
@@ -50,6 +51,7 @@ pub fn create(
     ensures changes { Changes geometry.now image.old image.new
         (at_time node.moment (after_create (state geometry.now image.old) node.owner node.moment node.permissions result dir name.now)) }
     ensures list { FreeBecomes geometry.now image.old image.new (drop (entry_need (state geometry.now image.old) dir)) }
+    ensures bytes { PutsInBody geometry.now image.old image.new dir (16 * slot) (slot_bytes name.now result) }
     ensures files { KeepsFilesBut geometry.now image.old image.new dir result }
     ensures unused { geometry.now.edition ≡ editions.V7 → slice_index image.new (inode_place editions.V7 result + 51) ≡ 0 }
     ensures others { (j : ℕ) → 1 ≤ j → j ≤ geometry.now.last_inode → j ≢ result → KeepsUnused geometry.now image.old image.new j }

@@ -1,5 +1,5 @@
 //! A further name.
-ghost use Rattle.std.specs.Prelude.{◌≡◌, ◌≢◌, ℕ, ◌<◌, ◌≤◌, false, drop};
+ghost use Rattle.std.specs.Prelude.{◌≡◌, ◌≢◌, ℕ, ◌<◌, ◌≤◌, false, drop, ◌*◌};
 ghost use Rattle.vol_layout.specs.Edition.{constants};
 ghost use Rattle.vol_layout.specs.declared.mode.Kind.TheVariants as kinds;
 ghost use Rattle.vol_file.specs.Rules.{kind_at};
@@ -7,7 +7,8 @@ ghost use Rattle.vol_dir.specs.Entries.{IsDirectory, IsInUse};
 ghost use Rattle.vol_dir.specs.Searching.{new_slot};
 ghost use Rattle.vol_dir.specs.Tree.{state};
 ghost use Rattle.vol_dir.specs.Walk.{IsComponent, has_zero};
-ghost use Rattle.vol_change.specs.Changed.{FreeBecomes, KeepsFilesBut};
+ghost use Rattle.vol_dir.specs.Editing.{slot_bytes};
+ghost use Rattle.vol_change.specs.Changed.{FreeBecomes, KeepsFilesBut, PutsInBody};
 ghost use Rattle.vol_change.specs.Edits.{at_time};
 ghost use Rattle.vol_change.specs.Nodes.{node_at};
 ghost use Rattle.vol_change.specs.Unused.{KeepsUnused};
@@ -46,6 +47,7 @@ pub fn link(
     ensures changes { Changes geometry.now image.old image.new
         (at_time moment (after_link (state geometry.now image.old) moment i dir name.now)) }
     ensures list { FreeBecomes geometry.now image.old image.new (drop (entry_need (state geometry.now image.old) dir)) }
+    ensures bytes { PutsInBody geometry.now image.old image.new dir (16 * slot) (slot_bytes name.now i) }
     ensures files { KeepsFilesBut geometry.now image.old image.new dir dir }
     ensures unused { (j : ℕ) → 1 ≤ j → j ≤ geometry.now.last_inode → KeepsUnused geometry.now image.old image.new j }
 {

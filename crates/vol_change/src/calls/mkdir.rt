@@ -1,5 +1,5 @@
 //! A new directory.
-ghost use Rattle.std.specs.Prelude.{List, ◌∷◌, ◌≡◌, ◌≢◌, ℕ, ◌+◌, ◌<◌, ◌≤◌, false, [], IfSome, slice_index, drop};
+ghost use Rattle.std.specs.Prelude.{List, ◌∷◌, ◌≡◌, ◌≢◌, ℕ, ◌+◌, ◌<◌, ◌≤◌, false, [], IfSome, slice_index, drop, ◌*◌};
 ghost use Rattle.vol_layout.specs.Edition.{constants};
 ghost use Rattle.vol_layout.specs.Inode.{inode_place};
 ghost use Rattle.vol_layout.specs.Names.{named};
@@ -12,7 +12,8 @@ ghost use Rattle.vol_dir.specs.Walk.{IsComponent, has_zero};
 ghost use Rattle.vol_free.specs.Stack.{IsFree};
 ghost use Rattle.vol_free.specs.Numbers.{IsFreeNumber};
 ghost use Rattle.vol_judge.specs.Graph.{graph_of};
-ghost use Rattle.vol_change.specs.Changed.{Changed, IsOther, FreeBecomes, KeepsFilesBut};
+ghost use Rattle.vol_dir.specs.Editing.{slot_bytes};
+ghost use Rattle.vol_change.specs.Changed.{Changed, IsOther, FreeBecomes, KeepsFilesBut, PutsInBody};
 ghost use Rattle.vol_change.specs.Contents.{put_entry};
 ghost use Rattle.vol_change.specs.Edits.{at_time};
 ghost use Rattle.vol_change.specs.Nodes.{node_at};
@@ -63,6 +64,7 @@ pub fn mkdir(
     ensures list { FreeBecomes geometry.now image.old image.new (drop (entry_need (state geometry.now image.old) dir + 1)) }
     ensures own { (blocks : List ℕ) → IsFree geometry.now image.old blocks
         → named geometry.now image.new result (0 ∷ []) ≡ slice_index blocks (entry_need (state geometry.now image.old) dir) }
+    ensures bytes { PutsInBody geometry.now image.old image.new dir (16 * slot) (slot_bytes name.now result) }
     ensures files { KeepsFilesBut geometry.now image.old image.new dir result }
     ensures unused { geometry.now.edition ≡ editions.V7 → slice_index image.new (inode_place editions.V7 result + 51) ≡ 0 }
     ensures others { (j : ℕ) → 1 ≤ j → j ≤ geometry.now.last_inode → j ≢ result → KeepsUnused geometry.now image.old image.new j }

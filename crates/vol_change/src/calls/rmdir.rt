@@ -1,11 +1,11 @@
 //! A directory that goes.
-ghost use Rattle.std.specs.Prelude.{◌≡◌, ◌≢◌, ℕ, ◌≤◌, List, not, false, Some, ◌++◌};
+ghost use Rattle.std.specs.Prelude.{◌≡◌, ◌≢◌, ℕ, ◌≤◌, List, not, false, Some, ◌++◌, [], ◌∷◌, ◌*◌};
 ghost use Rattle.std.specs.List.{list_any};
 ghost use Rattle.vol_dir.specs.Entries.{IsDirectory, slots};
 ghost use Rattle.vol_dir.specs.Names.{get, is_dots};
 ghost use Rattle.vol_dir.specs.Searching.{slot_named};
 ghost use Rattle.vol_dir.specs.Tree.{state};
-ghost use Rattle.vol_change.specs.Changed.{FreeBecomes, KeepsFilesBut, blocks_freed};
+ghost use Rattle.vol_change.specs.Changed.{FreeBecomes, KeepsFilesBut, blocks_freed, PutsInBody};
 ghost use Rattle.vol_change.specs.Edits.{at_time};
 ghost use Rattle.vol_change.specs.Nodes.{names_at};
 ghost use Rattle.vol_change.specs.Unused.{IsCleared, KeepsUnused};
@@ -42,6 +42,7 @@ pub fn rmdir(
     ensures changes { Changes geometry.now image.old image.new
         (at_time moment (after_rmdir (state geometry.now image.old) moment dir name.now)) }
     ensures list { FreeBecomes geometry.now image.old image.new (λ blocks. blocks_freed geometry.now image.old i ++ blocks) }
+    ensures bytes { PutsInBody geometry.now image.old image.new dir (16 * slot) (0 ∷ 0 ∷ []) }
     ensures files { KeepsFilesBut geometry.now image.old image.new dir i }
     ensures cleared { IsCleared geometry.now image.new i }
     ensures others { (j : ℕ) → 1 ≤ j → j ≤ geometry.now.last_inode → j ≢ i → KeepsUnused geometry.now image.old image.new j }

@@ -1,5 +1,5 @@
 //! A name that goes.
-ghost use Rattle.std.specs.Prelude.{◌≡◌, ◌≢◌, ℕ, ◌<◌, ◌≤◌, Some, ◌++◌};
+ghost use Rattle.std.specs.Prelude.{◌≡◌, ◌≢◌, ℕ, ◌<◌, ◌≤◌, Some, ◌++◌, [], ◌∷◌, ◌*◌};
 ghost use Rattle.vol_layout.specs.Inode.{inode_of};
 ghost use Rattle.vol_layout.specs.declared.mode.Kind.TheVariants as kinds;
 ghost use Rattle.vol_file.specs.Rules.{kind_at};
@@ -8,7 +8,7 @@ ghost use Rattle.vol_dir.specs.Names.{get};
 ghost use Rattle.vol_dir.specs.Searching.{slot_named};
 ghost use Rattle.vol_dir.specs.Tree.{state};
 ghost use Rattle.vol_change.specs.Alone.{KeepsContent};
-ghost use Rattle.vol_change.specs.Changed.{FreeBecomes, KeepsFilesBut, as_before, blocks_freed};
+ghost use Rattle.vol_change.specs.Changed.{FreeBecomes, KeepsFilesBut, as_before, blocks_freed, PutsInBody};
 ghost use Rattle.vol_change.specs.Edits.{at_time};
 ghost use Rattle.vol_change.specs.Nodes.{names_at};
 ghost use Rattle.vol_change.specs.Unused.{IsCleared, KeepsUnused};
@@ -47,6 +47,7 @@ pub fn unlink(
         → FreeBecomes geometry.now image.old image.new (λ blocks. blocks_freed geometry.now image.old i ++ blocks) }
     ensures list { 1 < (inode_of geometry.now.edition image.old i).links → FreeBecomes geometry.now image.old image.new as_before }
     ensures kept { 1 < (inode_of geometry.now.edition image.old i).links → KeepsContent geometry.now image.old image.new i }
+    ensures bytes { PutsInBody geometry.now image.old image.new dir (16 * slot) (0 ∷ 0 ∷ []) }
     ensures files { KeepsFilesBut geometry.now image.old image.new dir i }
     ensures cleared { (inode_of geometry.now.edition image.old i).links ≤ 1 → IsCleared geometry.now image.new i }
     ensures unused { 1 < (inode_of geometry.now.edition image.old i).links → KeepsUnused geometry.now image.old image.new i }

@@ -11,6 +11,8 @@ use Rattle.vol_dir.specs.Tree.{state}
 use Rattle.vol_dir.proofs.NewEntries.{adds, length-slot_bytes, new_empty}
 use Rattle.vol_dir.proofs.SlotReading.{slot_is}
 use Rattle.vol_judge.proofs.EditedGraphs.{changes_slot}
+use Rattle.vol_layout.specs.Body.{body}
+use Rattle.vol_file.specs.Changes.{spliced}
 use Rattle.vol_change.specs.Ready.{entry_need}
 use Rattle.vol_change.proofs.EntryStates.{added_state}
 use Rattle.vol_change.proofs.FileGraphs.{directory_beside}
@@ -44,6 +46,7 @@ returns c =
             (ap (need geometry old d (16 * s)) (length-slot_bytes name c.args.i c.requires.short) ∙ entry_need_is geometry old d at);
         content = λ j first last other. ((only_file geometry old new d whole.sound.fits writes.alone c.requires.first).others j first last other).content;
       };
+      bytes = writes.body ∙ ap (λ m. spliced (body geometry old d) (16 * m) text) (sym c.requires.slot);
       slot = changes_slot geometry old new d s None (Some (name, c.args.i)) is (kind ∙ c.requires.directory) c.add_at.ensures.whole
           (sym (slot_is geometry old d s) ∙ new_empty geometry old d)
           (adds geometry old new whole.blocks name d c.args.i file whole.sound c.requires.slots c.requires.short c.requires.text c.requires.inode

@@ -8,11 +8,11 @@ use Rattle.vol_judge.specs.Graph.{graph_of}
 use Rattle.vol_change.proofs.EntryStates.{names_is, shape_is}
 use Rattle.vol_change.proofs.FileRooms.{entry_room}
 use Rattle.vol_change.specs.Edits.{change_node, modified}
-use Rattle.vol_change.proofs.OneNode.{content_then}
+use Rattle.vol_change.proofs.OneNode.{content_then, bytes_stay}
 use Rattle.vol_change.proofs.TimedEdits.{change_twice}
 use Rattle.vol_change.proofs.WholeLaws.{keeps_then}
 use Rattle.vol_change.proofs.WrittenStates.{IsKind}
-use Rattle.vol_change.proofs.ReadyLaws.{slot_same, beside_same}
+use Rattle.vol_change.proofs.ReadyLaws.{slot_same, beside_same, directory_kept}
 use Rattle.vol_change.proofs.UnusedBytes.{unused_then}
 use Rattle.vol_change.proofs.entries.enter.Goals as goal
 
@@ -55,6 +55,13 @@ returns-clause-changed c = record {
       content_then c.args.geometry.now c.args.image.now c.add_name.new.image c.touch.new.image j
       (c.add_name.ensures.changed.content j first last other) (c.touch.ensures.changed.content j first last tt);
 }
+
+pub returns-clause-bytes : goal.returns-clause-bytes
+returns-clause-bytes c =
+    let geometry = c.args.geometry.now in
+    let mid = c.add_name.new.image in
+    let is = directory_kept geometry c.args.image.now mid c.args.dir (c.add_name.ensures.beside.kind c.args.dir) c.requires.directory in
+    bytes_stay geometry mid c.touch.new.image c.args.dir (c.touch.ensures.changed.content c.args.dir is.first is.last tt) is ∙ c.add_name.ensures.bytes
 
 pub returns-clause-slot : goal.returns-clause-slot
 returns-clause-slot c =

@@ -6,10 +6,10 @@ use Rattle.vol_dir.specs.Searching.{slot_named}
 use Rattle.vol_dir.specs.Tree.{state}
 use Rattle.vol_judge.specs.Graph.{graph_of}
 use Rattle.vol_change.specs.Edits.{change_node, modified}
-use Rattle.vol_change.proofs.OneNode.{content_then}
+use Rattle.vol_change.proofs.OneNode.{content_then, bytes_stay}
 use Rattle.vol_change.proofs.TimedEdits.{change_twice}
 use Rattle.vol_change.proofs.WholeLaws.{keeps_then}
-use Rattle.vol_change.proofs.ReadyLaws.{slot_same, beside_same}
+use Rattle.vol_change.proofs.ReadyLaws.{slot_same, beside_same, directory_kept}
 use Rattle.vol_change.proofs.UnusedBytes.{unused_then}
 use Rattle.vol_change.proofs.entries.leave.Goals as goal
 
@@ -24,6 +24,13 @@ returns-clause-changed c = record {
       content_then c.args.geometry.now c.args.image.now c.remove_name.new.image c.touch.new.image j
       (c.remove_name.ensures.changed.content j first last other) (c.touch.ensures.changed.content j first last tt);
 }
+
+pub returns-clause-bytes : goal.returns-clause-bytes
+returns-clause-bytes c =
+    let geometry = c.args.geometry.now in
+    let mid = c.remove_name.new.image in
+    let is = directory_kept geometry c.args.image.now mid c.args.dir (c.remove_name.ensures.beside.kind c.args.dir) c.requires.directory in
+    bytes_stay geometry mid c.touch.new.image c.args.dir (c.touch.ensures.changed.content c.args.dir is.first is.last tt) is ∙ c.remove_name.ensures.bytes
 
 pub returns-clause-slot : goal.returns-clause-slot
 returns-clause-slot c =

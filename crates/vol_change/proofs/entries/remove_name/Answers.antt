@@ -1,4 +1,4 @@
-use Rattle.std.proofs.Common.{◌∙◌, ◌%◌, ◌*◌, ap, ℕ, [], ◌∷◌, None}
+use Rattle.std.proofs.Common.{◌∙◌, ◌%◌, ◌*◌, ap, ℕ, [], ◌∷◌, None, sym}
 use Rattle.std.specs.Option.{option_map}
 use Rattle.vol_layout.specs.Names.{IsFile}
 use Rattle.vol_layout.specs.Places.{has_places}
@@ -8,6 +8,8 @@ use Rattle.vol_dir.specs.Names.{get, names_of}
 use Rattle.vol_dir.specs.Searching.{slot_named}
 use Rattle.vol_dir.proofs.GoneEntries.{removes}
 use Rattle.vol_judge.proofs.EditedGraphs.{changes_slot}
+use Rattle.vol_layout.specs.Body.{body}
+use Rattle.vol_file.specs.Changes.{spliced}
 use Rattle.vol_change.proofs.EntryStates.{named_slot, removed_state}
 use Rattle.vol_change.proofs.FileGraphs.{directory_beside}
 use Rattle.vol_change.proofs.FreeLists.{written_free}
@@ -39,6 +41,7 @@ returns c =
         free = written_free geometry old new d (16 * s) 0 (0 ∷ (0 ∷ [])) whole writes c.remove_at.ensures.none;
         content = λ j first last other. ((only_file geometry old new d whole.sound.fits writes.alone c.requires.first).others j first last other).content;
       };
+      bytes = writes.body ∙ ap (λ m. spliced (body geometry old d) (16 * m) (0 ∷ (0 ∷ []))) (sym c.requires.slot);
       slot = changes_slot geometry old new d s (option_map (λ (i : ℕ). (name, i)) (get (names_of (slots geometry old d)) name)) None is
           (kind ∙ c.requires.directory) (ap (λ n. n % 16) c.remove_at.ensures.size ∙ c.requires.slots) named.entry
           (removes geometry old new whole.blocks d s file whole.sound c.requires.slots named.within writes);

@@ -1,4 +1,4 @@
-use Rattle.std.proofs.Common.{◌∙◌, sym, ap, subst, ◌≤◌, [], Some, arith, ◌≡◌, drop}
+use Rattle.std.proofs.Common.{◌∙◌, sym, ap, subst, ◌≤◌, [], Some, arith, ◌≡◌, drop, ◌*◌}
 use Rattle.vol_layout.specs.declared.mode.Kind.TheVariants as kinds
 use Rattle.vol_dir.specs.Entries.{slots}
 use Rattle.vol_dir.specs.Names.{names_in}
@@ -9,7 +9,8 @@ use Rattle.vol_judge.proofs.ImageGraphs.{directory_to, graph_within}
 use Rattle.vol_free.specs.Stack.{IsFree}
 use Rattle.vol_judge.specs.Directories.{root_of}
 use Rattle.vol_judge.proofs.NamedGraphs.{added_file_sound}
-use Rattle.vol_change.proofs.OneNode.{content_then}
+use Rattle.vol_dir.specs.Editing.{slot_bytes}
+use Rattle.vol_change.proofs.OneNode.{content_then, bytes_put, directory_stays}
 use Rattle.vol_change.specs.Edits.{add_entry, at_time, new_node, put_node, put_shape}
 use Rattle.vol_change.proofs.UnusedBytes.{unused_then}
 use Rattle.vol_change.proofs.WholeLaws.{keeps_then}
@@ -113,6 +114,23 @@ returns-clause-list c = λ blocks free.
     let need : entry_need (state geometry c.make_file.new.image) d ≡ entry_need (state geometry c.args.image.now) d = ap (λ (s : State). entry_need s d) same in
     subst (λ n. IsFree geometry c.put_time.new.image (drop n blocks)) need
     (c.put_time.ensures.changed.free _ (c.enter.ensures.changed.free _ (c.make_file.ensures.changed.free _ (c.pick_number-made.ensures.changed.free blocks free))))
+
+pub returns-clause-bytes : goal.returns-clause-bytes
+returns-clause-bytes c =
+    let geometry = c.args.geometry.now in
+    let old = c.args.image.now in
+    let picked = c.pick_number-made.new.image in
+    let mid = c.make_file.new.image in
+    let entered = c.enter.new.image in
+    let new = c.put_time.new.image in
+    let d = c.args.dir in
+    let was = c.requires.directory in
+    let still = c.pick_number-made.ensures.changed.content d was.first was.last tt in
+    let other = not_made (graph_of geometry picked) d c.pick_number-made.result
+    (directory_to geometry picked d (directory_stays geometry old picked d still was)) c.make_file.ensures.graph.was in
+    let before = content_then geometry old picked mid d still (c.make_file.ensures.changed.content d was.first was.last other) in
+    let is = directory_kept geometry mid entered d (c.enter.ensures.beside.kind d) (directory_stays geometry old mid d before was) in
+    bytes_put geometry old mid entered new d (16 * c.args.slot) (slot_bytes c.args.name.now c.pick_number-made.result) before was c.enter.ensures.bytes (c.put_time.ensures.changed.content d was.first was.last tt) is
 
 pub returns-clause-files : goal.returns-clause-files
 returns-clause-files c = λ j low high there here.

@@ -1,4 +1,4 @@
-use Rattle.std.proofs.Common.{◌∙◌, sym, ap, ◌+◌, arith, ◌≡◌, subst, drop}
+use Rattle.std.proofs.Common.{◌∙◌, sym, ap, ◌+◌, arith, ◌≡◌, subst, drop, ◌*◌}
 use Rattle.vol_layout.specs.Inode.{inode_of}
 use Rattle.vol_file.specs.Rules.{kind_at}
 use Rattle.vol_file.proofs.Naming.{root_first}
@@ -11,14 +11,15 @@ use Rattle.vol_judge.proofs.ImageGraphs.{directory_to, graph_within, kind_inside
 use Rattle.vol_free.specs.Stack.{IsFree}
 use Rattle.vol_judge.specs.Directories.{root_of}
 use Rattle.vol_judge.proofs.NamedGraphs.{added_link_sound}
+use Rattle.vol_dir.specs.Editing.{slot_bytes}
 use Rattle.vol_change.specs.Ready.{entry_need}
-use Rattle.vol_change.proofs.OneNode.{content_then}
+use Rattle.vol_change.proofs.OneNode.{content_then, bytes_put, directory_stays}
 use Rattle.vol_change.specs.Edits.{add_entry, at_time}
 use Rattle.vol_change.proofs.UnusedBytes.{unused_then}
 use Rattle.vol_change.proofs.WholeLaws.{keeps_then}
 use Rattle.vol_change.proofs.NamedNodes.{linked_keeps, link_added, named_ready}
 use Rattle.vol_change.proofs.NodeLinks.{links_is}
-use Rattle.vol_change.proofs.ReadyLaws.{ready_whole, ready_same}
+use Rattle.vol_change.proofs.ReadyLaws.{ready_whole, ready_same, directory_kept}
 use Rattle.vol_change.proofs.SideStates.{takes_ready, takes_kept}
 use Rattle.vol_change.proofs.UnusedNodes.{time_unused}
 use Rattle.vol_change.proofs.calls.link.link.Goals as goal
@@ -102,6 +103,11 @@ returns c =
           let need : entry_need (state geometry mid) d ≡ entry_need (state geometry old) d = ap (λ (s : State). entry_need s d) c.add_link.ensures.changed.makes in
           subst (λ n. IsFree geometry new (drop n blocks)) need
           (c.put_time.ensures.changed.free _ (c.enter.ensures.changed.free _ (c.add_link.ensures.changed.free blocks free)));
+      bytes =
+          let was = c.requires.directory in
+          let before = c.add_link.ensures.changed.content d was.first was.last tt in
+          let is = directory_kept geometry mid entered d (c.enter.ensures.beside.kind d) (directory_stays geometry old mid d before was) in
+          bytes_put geometry old mid entered new d (16 * c.args.slot) (slot_bytes c.args.name.now i) before was c.enter.ensures.bytes (c.put_time.ensures.changed.content d was.first was.last tt) is;
       files = λ j low high there also.
           content_then geometry old mid new j (c.add_link.ensures.changed.content j low high tt)
           (content_then geometry mid entered new j (c.enter.ensures.changed.content j low high there) (c.put_time.ensures.changed.content j low high tt));

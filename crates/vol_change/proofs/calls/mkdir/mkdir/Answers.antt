@@ -1,4 +1,4 @@
-use Rattle.std.proofs.Common.{◌≢◌, ◌∙◌, sym, ap, subst, ◌+◌, ◌≤◌, Some, arith, ◌≡◌, drop, slice_index}
+use Rattle.std.proofs.Common.{◌≢◌, ◌∙◌, sym, ap, subst, ◌+◌, ◌≤◌, Some, arith, ◌≡◌, drop, slice_index, ◌*◌}
 use Rattle.vol_layout.specs.declared.mode.Kind.TheVariants as kinds
 use Rattle.vol_dir.specs.Entries.{slots}
 use Rattle.vol_dir.specs.Names.{names_in}
@@ -10,9 +10,10 @@ use Rattle.vol_judge.proofs.ImageGraphs.{directory_to, directory_from, graph_wit
 use Rattle.vol_free.specs.Stack.{IsFree}
 use Rattle.vol_judge.specs.Directories.{root_of}
 use Rattle.vol_judge.proofs.MadeGraphs.{added_directory_sound}
+use Rattle.vol_dir.specs.Editing.{slot_bytes}
 use Rattle.vol_change.proofs.FirstBlocks.{first_kept, first_left}
 use Rattle.vol_change.proofs.FreeLists.{drop_next}
-use Rattle.vol_change.proofs.OneNode.{content_then}
+use Rattle.vol_change.proofs.OneNode.{content_then, bytes_put, directory_stays}
 use Rattle.vol_change.specs.Edits.{at_time, put_node}
 use Rattle.vol_change.proofs.UnusedBytes.{unused_then}
 use Rattle.vol_change.proofs.WholeLaws.{keeps_then}
@@ -213,6 +214,28 @@ returns-clause-own c = λ blocks free.
     ∙ (c.add_dots.ensures.own _
     (c.enter.ensures.changed.free _ (c.make_directory.ensures.changed.free _ (c.pick_number-made.ensures.changed.free blocks free)))
     ∙ (first_left (entry_need (state geometry c.make_directory.new.image) d) blocks ∙ ap (slice_index blocks) need))
+
+pub returns-clause-bytes : goal.returns-clause-bytes
+returns-clause-bytes c =
+    let geometry = c.args.geometry.now in
+    let old = c.args.image.now in
+    let picked = c.pick_number-made.new.image in
+    let bare = c.make_directory.new.image in
+    let named = c.enter.new.image in
+    let dotted = c.add_dots.new.image in
+    let linked = c.add_link.new.image in
+    let new = c.put_time.new.image in
+    let d = c.args.dir in
+    let was = c.requires.directory in
+    let still = c.pick_number-made.ensures.changed.content d was.first was.last tt in
+    let other = not_made (graph_of geometry picked) d c.pick_number-made.result
+    (directory_to geometry picked d (directory_stays geometry old picked d still was)) c.make_directory.ensures.graph.was in
+    let before = content_then geometry old picked bare d still (c.make_directory.ensures.changed.content d was.first was.last other) in
+    let is = directory_kept geometry bare named d (c.enter.ensures.beside.kind d) (directory_stays geometry old bare d before was) in
+    bytes_put geometry old bare named new d (16 * c.args.slot) (slot_bytes c.args.name.now c.pick_number-made.result) before was c.enter.ensures.bytes
+    (content_then geometry named dotted new d (c.add_dots.ensures.changed.content d was.first was.last other)
+    (content_then geometry dotted linked new d (c.add_link.ensures.changed.content d was.first was.last tt)
+    (c.put_time.ensures.changed.content d was.first was.last tt))) is
 
 pub returns-clause-files : goal.returns-clause-files
 returns-clause-files c = λ j low high there here.

@@ -1,12 +1,12 @@
-use Rattle.std.proofs.Common.{◌++◌, subst, sym}
+use Rattle.std.proofs.Common.{◌++◌, subst, sym, ◌∙◌}
 use Rattle.vol_free.specs.Stack.{IsFree}
-use Rattle.vol_change.proofs.OneNode.{content_then}
+use Rattle.vol_change.proofs.OneNode.{content_then, bytes_stay}
 use Rattle.vol_change.proofs.FreeLists.{freed_kept}
 use Rattle.vol_change.proofs.UnusedBytes.{unused_then}
 use Rattle.vol_change.proofs.CallSteps.{changed}
 use Rattle.vol_change.proofs.EntryNodes.{name_there, directory_above}
 use Rattle.vol_change.proofs.LeftNodes.{left_linked, made_emptied, LeavesEntry, left_apart}
-use Rattle.vol_change.proofs.ReadyLaws.{ready_whole, ready_slots, ready_once}
+use Rattle.vol_change.proofs.ReadyLaws.{ready_whole, ready_slots, ready_once, directory_kept}
 use Rattle.vol_change.proofs.UnusedNodes.{time_unused, time_cleared}
 use Rattle.vol_change.proofs.calls.rmdir.rmdir.Goals as goal
 
@@ -74,6 +74,14 @@ returns c =
       list = λ blocks free.
           subst (λ xs. IsFree geometry new (xs ++ blocks)) (freed_kept geometry old linked i kept first last)
           (c.put_time.ensures.changed.free _ (c.free_node.ensures.changed.free _ (c.drop_link.ensures.changed.free _ (c.leave.ensures.changed.free blocks free))));
+      bytes =
+          let was = c.requires.directory in
+          let is = directory_kept geometry old left c.args.dir (c.leave.ensures.beside.kind c.args.dir) was in
+          bytes_stay geometry left new c.args.dir
+          (content_then geometry left linked new c.args.dir (c.drop_link.ensures.changed.content c.args.dir was.first was.last tt)
+          (content_then geometry linked gone new c.args.dir (c.free_node.ensures.changed.content c.args.dir was.first was.last apart)
+          (c.put_time.ensures.changed.content c.args.dir was.first was.last tt))) is
+          ∙ c.leave.ensures.bytes;
       files = λ j low high there here.
           content_then geometry old left new j (c.leave.ensures.changed.content j low high there)
           (content_then geometry left linked new j (c.drop_link.ensures.changed.content j low high tt)

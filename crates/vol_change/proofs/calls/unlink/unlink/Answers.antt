@@ -1,9 +1,9 @@
-use Rattle.std.proofs.Common.{◌≢◌, ℕ, ◌<◌, ◌≤◌, arith, ◌∙◌, ap, subst, ◌++◌}
+use Rattle.std.proofs.Common.{◌≢◌, ℕ, ◌<◌, ◌≤◌, arith, ◌∙◌, ap, subst, ◌++◌, sym}
 use Rattle.std.proofs.lemmas.Bool.Decides.{nat_tests}
 use Rattle.vol_layout.specs.Inode.{inode_of}
 use Rattle.vol_dir.specs.Tree.{state}
 use Rattle.vol_file.specs.Rules.{kind_at}
-use Rattle.vol_change.proofs.OneNode.{content_then}
+use Rattle.vol_change.proofs.OneNode.{content_then, bytes_stay}
 use Rattle.vol_change.proofs.FreeLists.{freed_kept}
 use Rattle.vol_change.specs.Edits.{drop_link}
 use Rattle.vol_change.specs.Changed.{Changed, FreeBecomes, IsAny, as_before, blocks_freed}
@@ -14,7 +14,7 @@ use Rattle.vol_change.specs.Effects.{after_unlink}
 use Rattle.vol_change.proofs.CallSteps.{HasMade, changed}
 use Rattle.vol_change.proofs.EntryNodes.{name_there, named_used, used_first, file_above}
 use Rattle.vol_change.proofs.LeftNodes.{LeavesEntry, left_same, left_used, made_unnamed, made_unlinked}
-use Rattle.vol_change.proofs.ReadyLaws.{ready_whole, ready_slots, ready_once}
+use Rattle.vol_change.proofs.ReadyLaws.{ready_whole, ready_slots, ready_once, directory_kept}
 use Rattle.vol_change.proofs.UnusedNodes.{time_unused, time_cleared}
 use Rattle.vol_change.proofs.calls.unlink.unlink.Goals as goal
 use Rattle.vol_change.proofs.calls.unlink.unlink.Goals.{After-put_time, then-inode-le1, else-inode-le1}
@@ -196,6 +196,13 @@ returns c = record {
       (c.leave.ensures.changed.content c.args.i (used_first _ _ _ used) used.last (apart c))
       (content_then c.args.geometry.now c.leave.new.image c.if-inode-le1.image c.put_time.new.image c.args.i
       ((stays c more).content c.args.i (used_first _ _ _ used) used.last tt) (c.put_time.ensures.changed.content c.args.i (used_first _ _ _ used) used.last tt));
+  bytes =
+      let was = c.requires.directory in
+      let is = directory_kept c.args.geometry.now c.args.image.now c.leave.new.image c.args.dir (c.leave.ensures.beside.kind c.args.dir) was in
+      bytes_stay c.args.geometry.now c.leave.new.image c.put_time.new.image c.args.dir
+      (content_then c.args.geometry.now c.leave.new.image c.if-inode-le1.image c.put_time.new.image c.args.dir
+      (files c c.args.dir was.first was.last (λ same. apart c (sym same))) (c.put_time.ensures.changed.content c.args.dir was.first was.last tt)) is
+      ∙ c.leave.ensures.bytes;
   files = λ j low high there here.
       content_then c.args.geometry.now c.args.image.now c.leave.new.image c.put_time.new.image j (c.leave.ensures.changed.content j low high there)
       (content_then c.args.geometry.now c.leave.new.image c.if-inode-le1.image c.put_time.new.image j (files c j low high here)

@@ -16,7 +16,7 @@ use Rattle.vol_judge.proofs.GraphParts.{same_sound}
 use Rattle.vol_judge.proofs.ImageGraphs.{graph_within, graph_from_rules, rules_from_graph, directory_to, directory_from}
 use Rattle.vol_judge.proofs.Parts.{sound_whole, sound_bounded, sound_entries, sound_dots, sound_tree, sound_links, sound_of}
 use Rattle.vol_change.specs.Beside.{StaysBeside}
-use Rattle.vol_change.specs.Whole.{IsWhole, Keeps}
+use Rattle.vol_change.specs.Whole.{IsWhole, Keeps, HasDirectory}
 use Rattle.vol_change.proofs.EntryStates.{names_once}
 use Rattle.vol_change.proofs.WholeLaws.{whole_of, geometry_kept}
 use Rattle.vol_change.specs.Ready.{IsReady}
@@ -38,6 +38,16 @@ ready_slots geometry image d ready is = (ready_entries geometry image ready).who
 -- and no name twice
 pub ready_once : (geometry : Geometry) (image : List ℕ) (d : ℕ) → IsReady geometry image → IsDirectory geometry image d → HasNamesOnce geometry image d
 ready_once geometry image d ready is = names_once geometry image d (ready_entries geometry image ready) is
+
+-- it is one that may get an entry or lose one
+pub ready_directory : (geometry : Geometry) (image : List ℕ) (d : ℕ) → IsReady geometry image → IsDirectory geometry image d
+    → HasDirectory geometry image d
+ready_directory geometry image d ready is = record {
+  whole = ready_whole geometry image ready;
+  is = is;
+  slots = ready_slots geometry image d ready is;
+  once = ready_once geometry image d ready is;
+}
 
 -- rules 9 to 12, of the graph
 pub ready_graph : (geometry : Geometry) (image : List ℕ) → IsReady geometry image

@@ -1,7 +1,9 @@
 -- What every change of a node keeps: the rules that speak of i-nodes, files and the free list, and the bytes that no call changes.
-use Rattle.std.specs.Prelude.{◌≡◌, ◌≢◌, ℕ, ◌+◌, ◌*◌, ◌<◌, ◌≤◌, List, length, slice_index}
+use Rattle.std.specs.Prelude.{◌≡◌, ◌≢◌, ℕ, ◌+◌, ◌*◌, ◌%◌, ◌<◌, ◌≤◌, List, length, slice_index}
 use Rattle.vol_layout.specs.Super.{free_head, time_place}
-use Rattle.vol_file.specs.Rules.{kind_at, IsSoundWith, IsCovered}
+use Rattle.vol_file.specs.Rules.{kind_at, size_of, IsSoundWith, IsCovered}
+use Rattle.vol_dir.specs.Editing.{HasNamesOnce}
+use Rattle.vol_dir.specs.Entries.{IsDirectory}
 use Rattle.vol_layout.specs.declared.geometry.Geometry.{Geometry}
 use Rattle.vol_layout.specs.declared.mode.Kind.TheVariants as kinds
 
@@ -17,6 +19,13 @@ pub record HasNode (geometry : Geometry) (image : List ℕ) (i : ℕ) : Type 0 w
   pub first : 1 ≤ i
   pub last : i ≤ geometry.last_inode
   pub used : kind_at geometry image i ≢ kinds.Free
+
+-- rules 3 to 8 hold, and i-number d is a directory of whole slots, no two of which have the same name (this project)
+pub record HasDirectory (geometry : Geometry) (image : List ℕ) (d : ℕ) : Type 0 where
+  pub whole : IsWhole geometry image
+  pub is : IsDirectory geometry image d
+  pub slots : size_of geometry image d % 16 ≡ 0
+  pub once : HasNamesOnce geometry image d
 
 -- the bytes that no call changes are as they were: block 0, the sizes and the flags of the super-block and what follows its
 -- time, and what lies behind the volume; the free list and the i-number cache, 202 bytes each, stand side by side (filsys.h)

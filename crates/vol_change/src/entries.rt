@@ -17,7 +17,7 @@ ghost use Rattle.vol_change.specs.Changed.{Changed, IsOther, as_before, PutsInBo
 ghost use Rattle.vol_change.specs.Beside.{StaysBeside};
 ghost use Rattle.vol_change.specs.Contents.{put_entry, drop_entry};
 ghost use Rattle.vol_change.specs.Unused.{KeepsUnused};
-ghost use Rattle.vol_change.specs.Whole.{IsWhole};
+ghost use Rattle.vol_change.specs.Whole.{HasDirectory};
 ghost use Rattle.vol_change.specs.Edits.{add_entry, remove_entry};
 ghost use Rattle.vol_change.specs.Ready.{TakesName, entry_need, free_in};
 
@@ -32,12 +32,7 @@ use vol_layout::Geometry;
 /// Costs as much as [`add_at`].
 pub fn add_name(image: &mut Image, geometry: &Geometry, dir: u16, slot: u32, name: &[u8], i: u16)
     requires slot { slot ≡ new_slot (names_in (slots geometry.now image.old dir)) }
-    requires whole { IsWhole geometry.now image.old }
-    requires first { 1 ≤ dir }
-    requires last { dir ≤ geometry.now.last_inode }
-    requires directory { kind_at geometry.now image.old dir ≡ kinds.Directory }
-    requires slots { size_of geometry.now image.old dir % 16 ≡ 0 }
-    requires once { HasNamesOnce geometry.now image.old dir }
+    requires directory { HasDirectory geometry.now image.old dir }
     requires new { get (names_of (slots geometry.now image.old dir)) name.now ≡ None }
     requires short { length name.now ≤ 14 }
     requires text { (k : ℕ) → k < length name.now → slice_index name.now k ≢ 0 }
@@ -63,12 +58,7 @@ pub fn add_name(image: &mut Image, geometry: &Geometry, dir: u16, slot: u32, nam
 /// Costs as much as [`remove_at`].
 pub fn remove_name(image: &mut Image, geometry: &Geometry, dir: u16, slot: u32, name: &[u8])
     requires slot { slot ≡ slot_named name.now (slots geometry.now image.old dir) }
-    requires whole { IsWhole geometry.now image.old }
-    requires first { 1 ≤ dir }
-    requires last { dir ≤ geometry.now.last_inode }
-    requires directory { kind_at geometry.now image.old dir ≡ kinds.Directory }
-    requires slots { size_of geometry.now image.old dir % 16 ≡ 0 }
-    requires once { HasNamesOnce geometry.now image.old dir }
+    requires directory { HasDirectory geometry.now image.old dir }
     requires there { IsSome (get (names_of (slots geometry.now image.old dir)) name.now) }
     ensures changed { Changed geometry.now image.old image.new (IsOther dir)
         (drop_entry dir name.now (state geometry.now image.old)) as_before }
@@ -95,10 +85,7 @@ pub(crate) fn enter(
     moment: u32,
 )
     requires slot { slot ≡ new_slot ((state geometry.now image.old).shapes dir).slots }
-    requires whole { IsWhole geometry.now image.old }
-    requires directory { IsDirectory geometry.now image.old dir }
-    requires slots { size_of geometry.now image.old dir % 16 ≡ 0 }
-    requires once { HasNamesOnce geometry.now image.old dir }
+    requires directory { HasDirectory geometry.now image.old dir }
     requires takes { TakesName (state geometry.now image.old) dir name.now }
     requires component { IsComponent name.now }
     requires text { has_zero name.now ≡ false }
@@ -127,10 +114,7 @@ pub(crate) fn leave(
     moment: u32,
 )
     requires slot { slot ≡ slot_named name.now (slots geometry.now image.old dir) }
-    requires whole { IsWhole geometry.now image.old }
-    requires directory { IsDirectory geometry.now image.old dir }
-    requires slots { size_of geometry.now image.old dir % 16 ≡ 0 }
-    requires once { HasNamesOnce geometry.now image.old dir }
+    requires directory { HasDirectory geometry.now image.old dir }
     requires there { IsSome (get (names_of (slots geometry.now image.old dir)) name.now) }
     ensures changed { Changed geometry.now image.old image.new (IsOther dir)
         (remove_entry moment dir name.now (state geometry.now image.old)) as_before }

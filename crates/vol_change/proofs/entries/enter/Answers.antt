@@ -19,20 +19,20 @@ use Rattle.vol_change.proofs.entries.enter.Goals as goal
 pub add_name-requires-clause-slot : goal.add_name-requires-clause-slot
 add_name-requires-clause-slot c =
     let at : IsKind c.args.geometry.now c.args.image.now c.args.dir kinds.Directory =
-    record { first = c.requires.directory.first; last = c.requires.directory.last; kind = c.requires.directory.kind } in
+    record { first = c.requires.directory.is.first; last = c.requires.directory.is.last; kind = c.requires.directory.is.kind } in
     c.requires.slot ∙ ap (λ (shape : Shape). new_slot shape.slots) (shape_is c.args.geometry.now c.args.image.now c.args.dir at)
 
 pub add_name-requires-clause-new : goal.add_name-requires-clause-new
 add_name-requires-clause-new c =
     let at : IsKind c.args.geometry.now c.args.image.now c.args.dir kinds.Directory =
-    record { first = c.requires.directory.first; last = c.requires.directory.last; kind = c.requires.directory.kind } in
+    record { first = c.requires.directory.is.first; last = c.requires.directory.is.last; kind = c.requires.directory.is.kind } in
     ap (λ names. get names c.args.name.now) (sym (names_is c.args.geometry.now c.args.image.now c.args.dir at)) ∙ c.requires.takes.fresh
 
 pub add_name-requires-clause-greatest : goal.add_name-requires-clause-greatest
 unfolding tree
 add_name-requires-clause-greatest c =
     let at : IsKind c.args.geometry.now c.args.image.now c.args.dir kinds.Directory =
-    record { first = c.requires.directory.first; last = c.requires.directory.last; kind = c.requires.directory.kind } in
+    record { first = c.requires.directory.is.first; last = c.requires.directory.is.last; kind = c.requires.directory.is.kind } in
     let same : 16 * new_slot (shapes c.args.geometry.now c.args.image.now c.args.dir).slots + 16
     ≡ 16 * new_slot (names_in (slots c.args.geometry.now c.args.image.now c.args.dir)) + 16 =
     ap (λ (shape : Shape). 16 * new_slot shape.slots + 16) (shape_is c.args.geometry.now c.args.image.now c.args.dir at) in
@@ -41,8 +41,8 @@ add_name-requires-clause-greatest c =
 pub add_name-requires-clause-room : goal.add_name-requires-clause-room
 unfolding tree
 add_name-requires-clause-room c =
-    entry_room c.args.geometry.now c.args.image.now c.args.dir c.requires.whole
-    (record { first = c.requires.directory.first; last = c.requires.directory.last; kind = c.requires.directory.kind }) c.requires.room
+    entry_room c.args.geometry.now c.args.image.now c.args.dir c.requires.directory.whole
+    (record { first = c.requires.directory.is.first; last = c.requires.directory.is.last; kind = c.requires.directory.is.kind }) c.requires.room
 
 pub returns-clause-changed : goal.returns-clause-changed
 returns-clause-changed c = record {
@@ -60,7 +60,7 @@ pub returns-clause-bytes : goal.returns-clause-bytes
 returns-clause-bytes c =
     let geometry = c.args.geometry.now in
     let mid = c.add_name.new.image in
-    let is = directory_kept geometry c.args.image.now mid c.args.dir (c.add_name.ensures.beside.kind c.args.dir) c.requires.directory in
+    let is = directory_kept geometry c.args.image.now mid c.args.dir (c.add_name.ensures.beside.kind c.args.dir) c.requires.directory.is in
     bytes_stay geometry mid c.touch.new.image c.args.dir (c.touch.ensures.changed.content c.args.dir is.first is.last tt) is ∙ c.add_name.ensures.bytes
 
 pub returns-clause-slot : goal.returns-clause-slot

@@ -29,7 +29,7 @@ pub returns-clause-bytes : goal.returns-clause-bytes
 returns-clause-bytes c =
     let geometry = c.args.geometry.now in
     let mid = c.remove_name.new.image in
-    let is = directory_kept geometry c.args.image.now mid c.args.dir (c.remove_name.ensures.beside.kind c.args.dir) c.requires.directory in
+    let is = directory_kept geometry c.args.image.now mid c.args.dir (c.remove_name.ensures.beside.kind c.args.dir) c.requires.directory.is in
     bytes_stay geometry mid c.touch.new.image c.args.dir (c.touch.ensures.changed.content c.args.dir is.first is.last tt) is ∙ c.remove_name.ensures.bytes
 
 pub returns-clause-slot : goal.returns-clause-slot

@@ -49,10 +49,7 @@ enter-requires c =
           ∙ ap (λ (s : State). new_slot (s.shapes d).slots)
           (sym (c.make_file.ensures.changed.makes ∙ (made_state geometry mid i (Some node) c.pick_number-made.ensures.free
           ∙ ap (put_node i (Some node)) c.pick_number-made.ensures.changed.makes)));
-      whole = c.make_file.ensures.changed.keeps.whole;
-      directory = made.directory;
-      slots = made.slots;
-      once = made.once;
+      directory = record { whole = c.make_file.ensures.changed.keeps.whole; is = made.directory; slots = made.slots; once = made.once };
       takes = made.takes;
       component = c.requires.component;
       text = c.requires.text;

@@ -60,10 +60,7 @@ enter-requires c =
     c.add_link.ensures.changed.makes takes in
     record {
       slot = c.requires.slot ∙ ap (λ (s : State). new_slot (s.shapes d).slots) (sym c.add_link.ensures.changed.makes);
-      whole = c.add_link.ensures.changed.keeps.whole;
-      directory = made.directory;
-      slots = made.slots;
-      once = made.once;
+      directory = record { whole = c.add_link.ensures.changed.keeps.whole; is = made.directory; slots = made.slots; once = made.once };
       takes = made.takes;
       component = c.requires.component;
       text = c.requires.text;

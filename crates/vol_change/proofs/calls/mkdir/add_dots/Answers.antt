@@ -30,12 +30,13 @@ add_name-requires-2-clause-slot c =
     sym (second_slot c.args.geometry.now c.add_name.new.image c.args.i
     (dot_there c.args.geometry.now c.args.image.now c.add_name.new.image c.args.i c.requires.directory c.requires.empty c.add_name.ensures.changed.makes c.add_name.ensures.beside))
 
-pub add_name-requires-clause-slots : goal.add_name-requires-clause-slots
-add_name-requires-clause-slots c =
-    ap (λ n. n % 16) (size_held c.args.geometry.now c.args.image.now c.args.i 0 [] no_shape c.requires.directory c.requires.empty)
-
-pub add_name-requires-clause-once : goal.add_name-requires-clause-once
-add_name-requires-clause-once c = none_twice c.args.geometry.now c.args.image.now c.args.i no_shape c.requires.directory c.requires.empty
+pub add_name-requires-clause-directory : goal.add_name-requires-clause-directory
+add_name-requires-clause-directory c = record {
+  whole = c.requires.whole;
+  is = c.requires.directory;
+  slots = ap (λ n. n % 16) (size_held c.args.geometry.now c.args.image.now c.args.i 0 [] no_shape c.requires.directory c.requires.empty);
+  once = none_twice c.args.geometry.now c.args.image.now c.args.i no_shape c.requires.directory c.requires.empty;
+}
 
 pub add_name-requires-clause-new : goal.add_name-requires-clause-new
 add_name-requires-clause-new c =
@@ -49,6 +50,14 @@ add_name-requires-clause-greatest c =
 pub add_name-requires-clause-room : goal.add_name-requires-clause-room
 unfolding tree
 add_name-requires-clause-room c = dot_room c.args.geometry.now c.args.image.now c.args.i c.requires.whole c.requires.directory c.requires.empty c.requires.room
+
+pub add_name-requires-2-clause-directory : goal.add_name-requires-2-clause-directory
+add_name-requires-2-clause-directory c = record {
+  whole = c.add_name.ensures.changed.keeps.whole;
+  is = directory_kept c.args.geometry.now c.args.image.now c.add_name.new.image c.args.i (c.add_name.ensures.beside.kind c.args.i) c.requires.directory;
+  slots = c.add_name.ensures.slot.whole;
+  once = c.add_name.ensures.once;
+}
 
 pub add_name-requires-2-clause-new : goal.add_name-requires-2-clause-new
 add_name-requires-2-clause-new c =

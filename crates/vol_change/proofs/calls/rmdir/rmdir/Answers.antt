@@ -6,18 +6,12 @@ use Rattle.vol_change.proofs.UnusedBytes.{unused_then}
 use Rattle.vol_change.proofs.CallSteps.{changed}
 use Rattle.vol_change.proofs.EntryNodes.{name_there, directory_above}
 use Rattle.vol_change.proofs.LeftNodes.{left_linked, made_emptied, LeavesEntry, left_apart}
-use Rattle.vol_change.proofs.ReadyLaws.{ready_whole, ready_slots, ready_once, directory_kept}
+use Rattle.vol_change.proofs.ReadyLaws.{ready_whole, ready_slots, ready_once, directory_kept, ready_directory}
 use Rattle.vol_change.proofs.UnusedNodes.{time_unused, time_cleared}
 use Rattle.vol_change.proofs.calls.rmdir.rmdir.Goals as goal
 
-pub leave-requires-clause-whole : goal.leave-requires-clause-whole
-leave-requires-clause-whole c = ready_whole _ _ c.requires.ready
-
-pub leave-requires-clause-slots : goal.leave-requires-clause-slots
-leave-requires-clause-slots c = ready_slots _ _ _ c.requires.ready c.requires.directory
-
-pub leave-requires-clause-once : goal.leave-requires-clause-once
-leave-requires-clause-once c = ready_once _ _ _ c.requires.ready c.requires.directory
+pub leave-requires-clause-directory : goal.leave-requires-clause-directory
+leave-requires-clause-directory c = ready_directory _ _ _ c.requires.ready c.requires.directory
 
 pub leave-requires-clause-there : goal.leave-requires-clause-there
 leave-requires-clause-there c =

@@ -14,19 +14,13 @@ use Rattle.vol_change.specs.Effects.{after_unlink}
 use Rattle.vol_change.proofs.CallSteps.{HasMade, changed}
 use Rattle.vol_change.proofs.EntryNodes.{name_there, named_used, used_first, file_above}
 use Rattle.vol_change.proofs.LeftNodes.{LeavesEntry, left_same, left_used, made_unnamed, made_unlinked}
-use Rattle.vol_change.proofs.ReadyLaws.{ready_whole, ready_slots, ready_once, directory_kept}
+use Rattle.vol_change.proofs.ReadyLaws.{ready_whole, ready_slots, ready_once, directory_kept, ready_directory}
 use Rattle.vol_change.proofs.UnusedNodes.{time_unused, time_cleared}
 use Rattle.vol_change.proofs.calls.unlink.unlink.Goals as goal
 use Rattle.vol_change.proofs.calls.unlink.unlink.Goals.{After-put_time, then-inode-le1, else-inode-le1}
 
-pub leave-requires-clause-whole : goal.leave-requires-clause-whole
-leave-requires-clause-whole c = ready_whole _ _ c.requires.ready
-
-pub leave-requires-clause-slots : goal.leave-requires-clause-slots
-leave-requires-clause-slots c = ready_slots _ _ _ c.requires.ready c.requires.directory
-
-pub leave-requires-clause-once : goal.leave-requires-clause-once
-leave-requires-clause-once c = ready_once _ _ _ c.requires.ready c.requires.directory
+pub leave-requires-clause-directory : goal.leave-requires-clause-directory
+leave-requires-clause-directory c = ready_directory _ _ _ c.requires.ready c.requires.directory
 
 pub leave-requires-clause-there : goal.leave-requires-clause-there
 leave-requires-clause-there c = name_there c.args.geometry.now c.args.image.now c.args.name.now c.args.dir c.args.i c.requires.directory c.requires.named

@@ -1,5 +1,5 @@
 -- What an accepted call passed: the tests of its verdict, one after the other.
-use Rattle.std.proofs.Common.{◌≡◌, ℕ, ◌+◌, ◌<◌, ◌≤◌, ◌∙◌, ap, refl, sym, Bool, true, false, not, nat_lt, nat_le, if◌then◌else◌, List, [], ◌∷◌, Option, None, Some, Result, Ok, Err, length, arith}
+use Rattle.std.proofs.Common.{◌≡◌, ℕ, ◌+◌, ◌<◌, ◌≤◌, ◌∙◌, ap, refl, sym, Bool, true, false, not, nat_lt, nat_le, if◌then◌else◌, List, [], ◌∷◌, Option, None, Some, Ok, arith}
 use Rattle.std.specs.List.{list_any}
 use Rattle.std.specs.Option.{is_some}
 use Rattle.std.proofs.lemmas.Bool.{or_parts}
@@ -12,12 +12,10 @@ use Rattle.vol_dir.specs.Walk.{has_zero, walk, walk_parent, is_directory}
 use Rattle.vol_change.specs.Nodes.{node_at, names_at, number_of_name}
 use Rattle.vol_change.specs.Ready.{TakesName, entry_need, free_in}
 use Rattle.vol_volume.specs.Mkfs.{is_bad_id}
-use Rattle.vol_volume.specs.Performing.{LeadsToParent, LeadsToNode}
-use Rattle.vol_volume.specs.Verdict.{first_of, has_name, has_others, is_device, has_free_number, then_others, of_node, of_parent, create_tests, mkdir_tests, link_tests, unlink_tests, rmdir_tests, body_tests, write_tests, write_need, link_refusal, verdict}
+use Rattle.vol_volume.specs.Verdict.{first_of, has_name, has_others, is_device, has_free_number, then_others, of_node, of_parent, create_tests, mkdir_tests, link_tests, unlink_tests, rmdir_tests, body_tests, write_tests, write_need, link_refusal}
 use Rattle.vol_dir.specs.declared.cred.Cred.{Cred}
 use Rattle.vol_dir.specs.declared.refusal.Refusal.{Refusal}
 use Rattle.vol_dir.specs.declared.refusal.Refusal.TheVariants as refusals
-use Rattle.vol_volume.specs.declared.calls.Call.TheVariants.{Create, Mkdir, Link, Unlink, Rmdir, Write, Truncate}
 
 -- a test that was passed
 passed : (test : Bool) (refusal : Refusal) (others : Option Refusal) → (if test then Some refusal else others) ≡ None
@@ -54,43 +52,15 @@ first_passed tree cred paths others none =
     let ids = or_parts (nat_lt limit cred.uid) (nat_lt limit cred.gid) bad.0 in
     record { user = below limit cred.uid ids.0; group = below limit cred.gid ids.1; plain = zeros.0; others = zeros.1 }
 
--- a path leads to a parent
-parent_there : (tree : Tree) (cred : Cred) (path : List ℕ) (bare : Refusal) (tests : ℕ → List ℕ → List (Bool × Refusal))
-    (walked : Option (Result (ℕ × List ℕ) Refusal)) → walk_parent tree cred path ≡ walked → of_parent walked bare tests ≡ None
-    → LeadsToParent tree cred path
-parent_there tree cred path bare tests None is none = absurd (cc)
-parent_there tree cred path bare tests (Some (Err refusal)) is none = absurd (cc)
-parent_there tree cred path bare tests (Some (Ok found)) is none = record { found = found; walked = is }
-
 -- whose tests were passed
 parent_asked : (tree : Tree) (cred : Cred) (path : List ℕ) (bare : Refusal) (tests : ℕ → List ℕ → List (Bool × Refusal)) (d : ℕ) (name : List ℕ)
     → walk_parent tree cred path ≡ Some (Ok (d, name)) → of_parent (walk_parent tree cred path) bare tests ≡ None → first_of (tests d name) ≡ None
 parent_asked tree cred path bare tests d name walked none = ap (λ w. of_parent w bare tests) (sym walked) ∙ none
 
--- a path leads to a node
-node_there : (tree : Tree) (cred : Cred) (path : List ℕ) (others : ℕ → Option Refusal) (walked : Result ℕ Refusal)
-    → walk tree cred path ≡ walked → of_node walked others ≡ None → LeadsToNode tree cred path
-node_there tree cred path others (Err refusal) is none = absurd (cc)
-node_there tree cred path others (Ok i) is none = record { found = i; walked = is }
-
 -- of which the rest was asked
 node_asked : (tree : Tree) (cred : Cred) (path : List ℕ) (others : ℕ → Option Refusal) (i : ℕ)
     → walk tree cred path ≡ Ok i → of_node (walk tree cred path) others ≡ None → others i ≡ None
 node_asked tree cred path others i walked none = ap (λ w. of_node w others) (sym walked) ∙ none
-
--- a path without zero bytes that leads to a parent
-pub record HasParent (tree : Tree) (cred : Cred) (path : List ℕ) : Type 0 where
-  pub leads : LeadsToParent tree cred path
-  pub text : has_zero path ≡ false
-
-pub parent_led : (tree : Tree) (cred : Cred) (path : List ℕ) (bare : Refusal) (tests : ℕ → List ℕ → List (Bool × Refusal))
-    → then_others tree cred (path ∷ []) (of_parent (walk_parent tree cred path) bare tests) ≡ None → HasParent tree cred path
-parent_led tree cred path bare tests none =
-    let first = first_passed tree cred (path ∷ []) (of_parent (walk_parent tree cred path) bare tests) none in
-    record {
-      leads = parent_there tree cred path bare tests (walk_parent tree cred path) refl first.others;
-      text = (or_parts (has_zero path) false first.plain).0;
-    }
 
 -- a new entry: who makes it may be its node's owner, and the directory takes it, with room for what is needed
 pub record MayEnter (state : State) (cred : Cred) (d : ℕ) (name : List ℕ) (needed : ℕ) : Type 0 where
@@ -100,16 +70,10 @@ pub record MayEnter (state : State) (cred : Cred) (d : ℕ) (name : List ℕ) (n
   pub room : needed ≤ free_in state
 
 -- a new file
-pub create_led : (state : State) (cred : Cred) (now : ℕ) (path : List ℕ) (perm : ℕ) → verdict state (Create cred now path perm) ≡ None
-    → HasParent state.tree cred path
-unfolding verdict
-create_led state cred now path perm none = parent_led state.tree cred path refusals.Exists (create_tests state cred) none
-
-pub create_passed : (state : State) (cred : Cred) (now : ℕ) (path : List ℕ) (perm d : ℕ) (name : List ℕ)
-    → verdict state (Create cred now path perm) ≡ None → walk_parent state.tree cred path ≡ Some (Ok (d, name))
+pub create_passed : (state : State) (cred : Cred) (path : List ℕ) (d : ℕ) (name : List ℕ)
+    → then_others state.tree cred (path ∷ []) (of_parent (walk_parent state.tree cred path) refusals.Exists (create_tests state cred)) ≡ None → walk_parent state.tree cred path ≡ Some (Ok (d, name))
     → MayEnter state cred d name (entry_need state d) × (has_free_number state.tree ≡ true)
-unfolding verdict
-create_passed state cred now path perm d name none walked =
+create_passed state cred path d name none walked =
     let first = first_passed state.tree cred (path ∷ []) (of_parent (walk_parent state.tree cred path) refusals.Exists (create_tests state cred)) none in
     let asked = parent_asked state.tree cred path refusals.Exists (create_tests state cred) d name walked first.others in
     let fresh = passed _ _ _ asked in
@@ -126,21 +90,15 @@ create_passed state cred now path perm d name none walked =
       not_not (has_free_number state.tree) number.0,
     )
 
--- a new directory
-pub mkdir_led : (state : State) (cred : Cred) (now : ℕ) (path : List ℕ) (perm : ℕ) → verdict state (Mkdir cred now path perm) ≡ None
-    → HasParent state.tree cred path
-unfolding verdict
-mkdir_led state cred now path perm none = parent_led state.tree cred path refusals.Exists (mkdir_tests state cred) none
-
 above : (a b : ℕ) → nat_le a b ≡ false → b < a
 above a b e = grind (arith, nat_tests)
 
-pub mkdir_passed : (state : State) (cred : Cred) (now : ℕ) (path : List ℕ) (perm d : ℕ) (name : List ℕ)
-    → verdict state (Mkdir cred now path perm) ≡ None → walk_parent state.tree cred path ≡ Some (Ok (d, name))
+-- a new directory
+pub mkdir_passed : (state : State) (cred : Cred) (path : List ℕ) (d : ℕ) (name : List ℕ)
+    → then_others state.tree cred (path ∷ []) (of_parent (walk_parent state.tree cred path) refusals.Exists (mkdir_tests state cred)) ≡ None → walk_parent state.tree cred path ≡ Some (Ok (d, name))
     → MayEnter state cred d name (entry_need state d + 1) × (has_free_number state.tree ≡ true)
     × ((node_at state.tree d).links < (constants state.tree.geometry.edition).link_limit)
-unfolding verdict
-mkdir_passed state cred now path perm d name none walked =
+mkdir_passed state cred path d name none walked =
     let first = first_passed state.tree cred (path ∷ []) (of_parent (walk_parent state.tree cred path) refusals.Exists (mkdir_tests state cred)) none in
     let asked = parent_asked state.tree cred path refusals.Exists (mkdir_tests state cred) d name walked first.others in
     let fresh = passed _ _ _ asked in
@@ -160,39 +118,15 @@ mkdir_passed state cred now path perm d name none walked =
     )
 
 -- a further name
-pub link_led : (state : State) (cred : Cred) (now : ℕ) (source target : List ℕ) → verdict state (Link cred now source target) ≡ None
-    → LeadsToNode state.tree cred source
-unfolding verdict
-link_led state cred now source target none =
-    let others = link_refusal state cred target in
-    let first = first_passed state.tree cred (source ∷ target ∷ []) (of_node (walk state.tree cred source) others) none in
-    node_there state.tree cred source others (walk state.tree cred source) refl first.others
-
-link_asked : (state : State) (cred : Cred) (now : ℕ) (source target : List ℕ) (i : ℕ) → verdict state (Link cred now source target) ≡ None
+link_asked : (state : State) (cred : Cred) (source target : List ℕ) (i : ℕ)
+    → then_others state.tree cred (source ∷ target ∷ []) (of_node (walk state.tree cred source) (link_refusal state cred target)) ≡ None
     → walk state.tree cred source ≡ Ok i
     → (is_directory (node_at state.tree i) ≡ false) × (of_parent (walk_parent state.tree cred target) refusals.Exists (link_tests state cred i) ≡ None)
-unfolding verdict
-link_asked state cred now source target i none walked =
+link_asked state cred source target i none walked =
     let others = link_refusal state cred target in
     let first = first_passed state.tree cred (source ∷ target ∷ []) (of_node (walk state.tree cred source) others) none in
     passed (is_directory (node_at state.tree i)) refusals.IsDirectory (of_parent (walk_parent state.tree cred target) refusals.Exists (link_tests state cred i))
     (node_asked state.tree cred source others i walked first.others)
-
-link_text : (state : State) (cred : Cred) (now : ℕ) (source target : List ℕ) → verdict state (Link cred now source target) ≡ None
-    → has_zero target ≡ false
-unfolding verdict
-link_text state cred now source target none =
-    let others = link_refusal state cred target in
-    let first = first_passed state.tree cred (source ∷ target ∷ []) (of_node (walk state.tree cred source) others) none in
-    (or_parts (has_zero target) false (or_parts (has_zero source) (list_any has_zero (target ∷ [])) first.plain).1).0
-
-pub link_target : (state : State) (cred : Cred) (now : ℕ) (source target : List ℕ) (i : ℕ) → verdict state (Link cred now source target) ≡ None
-    → walk state.tree cred source ≡ Ok i → HasParent state.tree cred target
-link_target state cred now source target i none walked = record {
-  leads = parent_there state.tree cred target refusals.Exists (link_tests state cred i) (walk_parent state.tree cred target) refl
-      (link_asked state cred now source target i none walked).1;
-  text = link_text state cred now source target none;
-}
 
 pub record MayLink (state : State) (i d : ℕ) (name : List ℕ) : Type 0 where
   pub other : is_directory (node_at state.tree i) ≡ false
@@ -200,11 +134,12 @@ pub record MayLink (state : State) (i d : ℕ) (name : List ℕ) : Type 0 where
   pub links : (node_at state.tree i).links < (constants state.tree.geometry.edition).link_limit
   pub room : entry_need state d ≤ free_in state
 
-pub link_passed : (state : State) (cred : Cred) (now : ℕ) (source target : List ℕ) (i d : ℕ) (name : List ℕ)
-    → verdict state (Link cred now source target) ≡ None → walk state.tree cred source ≡ Ok i
+pub link_passed : (state : State) (cred : Cred) (source target : List ℕ) (i d : ℕ) (name : List ℕ)
+    → then_others state.tree cred (source ∷ target ∷ []) (of_node (walk state.tree cred source) (link_refusal state cred target)) ≡ None
+    → walk state.tree cred source ≡ Ok i
     → walk_parent state.tree cred target ≡ Some (Ok (d, name)) → MayLink state i d name
-link_passed state cred now source target i d name none walked led =
-    let rest = link_asked state cred now source target i none walked in
+link_passed state cred source target i d name none walked led =
+    let rest = link_asked state cred source target i none walked in
     let asked = parent_asked state.tree cred target refusals.Exists (link_tests state cred i) d name led rest.1 in
     let fresh = passed _ _ _ asked in
     let granted = passed _ _ _ fresh.1 in
@@ -219,16 +154,11 @@ link_passed state cred now source target i d name none walked led =
     }
 
 -- a name that goes
-pub unlink_led : (state : State) (cred : Cred) (now : ℕ) (path : List ℕ) → verdict state (Unlink cred now path) ≡ None
-    → HasParent state.tree cred path
-unfolding verdict
-unlink_led state cred now path none = parent_led state.tree cred path refusals.IsDirectory (unlink_tests state cred) none
-
-pub unlink_passed : (state : State) (cred : Cred) (now : ℕ) (path : List ℕ) (d : ℕ) (name : List ℕ)
-    → verdict state (Unlink cred now path) ≡ None → walk_parent state.tree cred path ≡ Some (Ok (d, name))
+pub unlink_passed : (state : State) (cred : Cred) (path : List ℕ) (d : ℕ) (name : List ℕ)
+    → then_others state.tree cred (path ∷ []) (of_parent (walk_parent state.tree cred path) refusals.IsDirectory (unlink_tests state cred)) ≡ None
+    → walk_parent state.tree cred path ≡ Some (Ok (d, name))
     → (has_name state.tree d name ≡ true) × (is_directory (node_at state.tree (number_of_name state.tree d name)) ≡ false)
-unfolding verdict
-unlink_passed state cred now path d name none walked =
+unlink_passed state cred path d name none walked =
     let first = first_passed state.tree cred (path ∷ []) (of_parent (walk_parent state.tree cred path) refusals.IsDirectory (unlink_tests state cred)) none in
     let asked = parent_asked state.tree cred path refusals.IsDirectory (unlink_tests state cred) d name walked first.others in
     let there = passed _ _ _ asked in
@@ -236,22 +166,16 @@ unlink_passed state cred now path d name none walked =
     let other = passed _ _ _ granted.1 in
     (not_not (has_name state.tree d name) there.0, other.0)
 
--- a directory that goes
-pub rmdir_led : (state : State) (cred : Cred) (now : ℕ) (path : List ℕ) → verdict state (Rmdir cred now path) ≡ None
-    → HasParent state.tree cred path
-unfolding verdict
-rmdir_led state cred now path none = parent_led state.tree cred path refusals.Invalid (rmdir_tests state cred) none
-
 pub record MayRemove (state : State) (d : ℕ) (name : List ℕ) : Type 0 where
   pub plain : is_dots name ≡ false
   pub there : has_name state.tree d name ≡ true
   pub gone : is_directory (node_at state.tree (number_of_name state.tree d name)) ≡ true
   pub only : has_others state.tree (number_of_name state.tree d name) ≡ false
 
-pub rmdir_passed : (state : State) (cred : Cred) (now : ℕ) (path : List ℕ) (d : ℕ) (name : List ℕ)
-    → verdict state (Rmdir cred now path) ≡ None → walk_parent state.tree cred path ≡ Some (Ok (d, name)) → MayRemove state d name
-unfolding verdict
-rmdir_passed state cred now path d name none walked =
+pub rmdir_passed : (state : State) (cred : Cred) (path : List ℕ) (d : ℕ) (name : List ℕ)
+    → then_others state.tree cred (path ∷ []) (of_parent (walk_parent state.tree cred path) refusals.Invalid (rmdir_tests state cred)) ≡ None
+    → walk_parent state.tree cred path ≡ Some (Ok (d, name)) → MayRemove state d name
+rmdir_passed state cred path d name none walked =
     let first = first_passed state.tree cred (path ∷ []) (of_parent (walk_parent state.tree cred path) refusals.Invalid (rmdir_tests state cred)) none in
     let asked = parent_asked state.tree cred path refusals.Invalid (rmdir_tests state cred) d name walked first.others in
     let dots = passed _ _ _ asked in
@@ -266,26 +190,17 @@ rmdir_passed state cred now path d name none walked =
       only = only.0;
     }
 
--- bytes that are written
-pub write_led : (state : State) (cred : Cred) (now : ℕ) (path : List ℕ) (offset : ℕ) (bytes : List ℕ) → verdict state (Write cred now path offset bytes) ≡ None
-    → LeadsToNode state.tree cred path
-unfolding verdict
-write_led state cred now path offset bytes none =
-    let others = λ (i : ℕ). first_of (write_tests state cred offset (length bytes) i) in
-    let first = first_passed state.tree cred (path ∷ []) (of_node (walk state.tree cred path) others) none in
-    node_there state.tree cred path others (walk state.tree cred path) refl first.others
-
 pub record MayWrite (state : State) (offset len i : ℕ) : Type 0 where
   pub other : is_directory (node_at state.tree i) ≡ false
   pub regular : is_device (node_at state.tree i).content ≡ false
   pub greatest : offset + len ≤ (constants state.tree.geometry.edition).greatest
   pub room : write_need state i offset len ≤ free_in state
 
-pub write_passed : (state : State) (cred : Cred) (now : ℕ) (path : List ℕ) (offset : ℕ) (bytes : List ℕ) (i : ℕ)
-    → verdict state (Write cred now path offset bytes) ≡ None → walk state.tree cred path ≡ Ok i → MayWrite state offset (length bytes) i
-unfolding verdict
-write_passed state cred now path offset bytes i none walked =
-    let others = λ (i : ℕ). first_of (write_tests state cred offset (length bytes) i) in
+pub write_passed : (state : State) (cred : Cred) (path : List ℕ) (offset len i : ℕ)
+    → then_others state.tree cred (path ∷ []) (of_node (walk state.tree cred path) (λ j. first_of (write_tests state cred offset len j))) ≡ None
+    → walk state.tree cred path ≡ Ok i → MayWrite state offset len i
+write_passed state cred path offset len i none walked =
+    let others = λ (i : ℕ). first_of (write_tests state cred offset len i) in
     let first = first_passed state.tree cred (path ∷ []) (of_node (walk state.tree cred path) others) none in
     let asked = node_asked state.tree cred path others i walked first.others in
     let other = passed _ _ _ asked in
@@ -296,19 +211,11 @@ write_passed state cred now path offset bytes i none walked =
     record { other = other.0; regular = regular.0; greatest = below _ _ great.0; room = below _ _ room.0 }
 
 -- a file that becomes empty
-pub truncate_led : (state : State) (cred : Cred) (now : ℕ) (path : List ℕ) → verdict state (Truncate cred now path) ≡ None
-    → LeadsToNode state.tree cred path
-unfolding verdict
-truncate_led state cred now path none =
-    let others = λ (i : ℕ). first_of (body_tests state.tree may_write cred i) in
-    let first = first_passed state.tree cred (path ∷ []) (of_node (walk state.tree cred path) others) none in
-    node_there state.tree cred path others (walk state.tree cred path) refl first.others
-
-pub truncate_passed : (state : State) (cred : Cred) (now : ℕ) (path : List ℕ) (i : ℕ)
-    → verdict state (Truncate cred now path) ≡ None → walk state.tree cred path ≡ Ok i
+pub truncate_passed : (state : State) (cred : Cred) (path : List ℕ) (i : ℕ)
+    → then_others state.tree cred (path ∷ []) (of_node (walk state.tree cred path) (λ j. first_of (body_tests state.tree may_write cred j))) ≡ None
+    → walk state.tree cred path ≡ Ok i
     → (is_directory (node_at state.tree i) ≡ false) × (is_device (node_at state.tree i).content ≡ false)
-unfolding verdict
-truncate_passed state cred now path i none walked =
+truncate_passed state cred path i none walked =
     let others = λ (i : ℕ). first_of (body_tests state.tree may_write cred i) in
     let first = first_passed state.tree cred (path ∷ []) (of_node (walk state.tree cred path) others) none in
     let asked = node_asked state.tree cred path others i walked first.others in

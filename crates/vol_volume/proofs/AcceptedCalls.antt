@@ -1,5 +1,5 @@
 -- What a volume is after a call that was performed and recorded.
-use Rattle.std.proofs.Common.{◌≡◌, ℕ, ◌∙◌, sym, subst, refl, List, [], ◌∷◌, ◌++◌, None, Some}
+use Rattle.std.proofs.Common.{◌≡◌, ℕ, ◌∙◌, sym, subst, refl, List, [], ◌∷◌, ◌++◌, None, Some, Option, unwrap_or, Result, Ok, Err, IfOk, IfErr, OnOk, OnErr}
 use Rattle.vol_layout.specs.Geometry.{geometry_of}
 use Rattle.vol_layout.specs.declared.edition.Edition.{Edition}
 use Rattle.vol_layout.specs.declared.geometry.Geometry.{Geometry}
@@ -12,6 +12,7 @@ use Rattle.vol_volume.specs.Volume.{Mounted, reads_as, IsConsistent, Performs, A
 use Rattle.vol_volume.proofs.Journals.{kept_consistent}
 use Rattle.vol_volume.proofs.Refusals.{refused_so}
 use Rattle.vol_dir.specs.declared.refusal.Refusal.{Refusal}
+use Rattle.vol_dir.specs.declared.refusal.Refusal.TheVariants as refusals
 use Rattle.vol_volume.specs.declared.calls.Call.{Call}
 use Rattle.vol_volume.specs.declared.calls.Done.{Done}
 use Rattle.vol_volume.specs.declared.calls.Record.{Record}
@@ -77,7 +78,55 @@ pub refused : (geometry : Geometry) (image : List ℕ) (call : Call) (refusal : 
 refused geometry image call refusal sizes says =
     refused_so (reads_as geometry.edition image) call refusal (subst (λ g. verdict (state g image) call ≡ Some refusal) sizes says)
 
--- a call that what the image reads as accepts is accepted
-pub accepted_back : (geometry : Geometry) (image : List ℕ) (call : Call) → geometry ≡ geometry_of geometry.edition image
-    → verdict (reads_as geometry.edition image) call ≡ None → verdict (state geometry image) call ≡ None
-accepted_back geometry image call sizes accepted = subst (λ g. verdict (state g image) call ≡ None) (sym sizes) accepted
+-- a call that is refused without room for its record is so for want of memory where nothing else speaks against it
+refused_by : (geometry : Geometry) (image : List ℕ) (call : Call) (refusal : Refusal) (verdict_is : Option Refusal) → geometry ≡ geometry_of geometry.edition image
+    → verdict (state geometry image) call ≡ verdict_is → refusal ≡ unwrap_or verdict_is refusals.NoMemory
+    → Refuses (reads_as geometry.edition image) call refusal
+refused_by geometry image call refusal None sizes says is =
+    subst (Refuses (reads_as geometry.edition image) call) (sym is) (subst (λ g. verdict (state g image) call ≡ None) sizes says)
+refused_by geometry image call refusal (Some first) sizes says is =
+    subst (Refuses (reads_as geometry.edition image) call) (sym is) (refused geometry image call first sizes says)
+
+pub refused_full : (geometry : Geometry) (image : List ℕ) (call : Call) (refusal : Refusal) → geometry ≡ geometry_of geometry.edition image
+    → refusal ≡ unwrap_or (verdict (state geometry image) call) refusals.NoMemory → Refuses (reads_as geometry.edition image) call refusal
+refused_full geometry image call refusal sizes is = refused_by geometry image call refusal (verdict (state geometry image) call) sizes refl is
+
+-- what is known of a volume's fields where a call was made and recorded, or was refused and nothing changed
+pub record IsAnswered (geometry : Geometry) (old new : List ℕ) (journal longer : List Record) (call : Call) (free_old free_new : ℕ)
+    (answer : Result Done (Refusal × Call)) : Type 0 where
+  pub accepted : OnOk answer (verdict (state geometry old) call ≡ None)
+  pub performed : IfOk answer (λ done. IsPerformed geometry old new call done free_new)
+  pub records : IfOk answer (λ done. longer ≡ journal ++ record { call = call; done = done } ∷ [])
+  pub refused : IfErr answer (λ back. verdict (state geometry old) call ≡ Some back.0)
+  pub same_image : OnErr answer (new ≡ old)
+  pub same_free : OnErr answer (free_new ≡ free_old)
+  pub same_journal : OnErr answer (longer ≡ journal)
+
+module _ (geometry : Geometry) (old new base : List ℕ) (journal longer : List Record) (call : Call) (free_old free_new : ℕ)
+    (sizes : geometry ≡ geometry_of geometry.edition old) where
+  -- what every volume keeps of its fields is kept
+  pub answered_kept : (answer : Result Done (Refusal × Call)) → free_old ≡ free_count geometry (shapes geometry old)
+      → IsAnswered geometry old new journal longer call free_old free_new answer → IsConsistent (volume_of geometry.edition old base journal)
+      → (geometry ≡ geometry_of geometry.edition new) × IsConsistent (volume_of geometry.edition new base longer)
+      × (free_new ≡ free_count geometry (shapes geometry new))
+  answered_kept (Ok done) count answered was =
+      fields_kept geometry old new base journal longer call done free_new sizes answered.accepted answered.performed answered.records was
+  answered_kept (Err back) count answered was = (
+    subst (λ image. geometry ≡ geometry_of geometry.edition image) (sym answered.same_image) sizes,
+    subst (λ image. IsConsistent (volume_of geometry.edition image base longer)) (sym answered.same_image)
+        (subst (λ records. IsConsistent (volume_of geometry.edition old base records)) (sym answered.same_journal) was),
+    subst (λ image. free_new ≡ free_count geometry (shapes geometry image)) (sym answered.same_image) (answered.same_free ∙ count),
+  )
+
+  -- the call was accepted where its answer is one
+  pub answered_accepts : (answer : Result Done (Refusal × Call)) → IsAnswered geometry old new journal longer call free_old free_new answer
+      → IfOk answer (λ done. Accepts (volume_of geometry.edition old base journal) (volume_of geometry.edition new base longer) call done)
+  answered_accepts (Ok done) answered =
+      fields_accepted geometry old new base journal longer call done free_new sizes answered.accepted answered.performed answered.records
+  answered_accepts (Err back) answered = tt
+
+  -- and refused where it comes back
+  pub answered_refuses : (answer : Result Done (Refusal × Call)) → IsAnswered geometry old new journal longer call free_old free_new answer
+      → IfErr answer (λ back. Refuses (reads_as geometry.edition old) call back.0)
+  answered_refuses (Ok done) answered = tt
+  answered_refuses (Err back) answered = refused geometry old call back.0 sizes answered.refused

@@ -23,7 +23,7 @@ use Rattle.vol_volume.specs.Verdict.{write_need, is_too_great}
 use Rattle.vol_volume.proofs.NodeReadings.{tree_geometry, kind_of_directory}
 
 -- the slots of a directory's shape
-slots_are : (geometry : Geometry) (image : List ℕ) (d : ℕ) → IsDirectory geometry image d → (shapes geometry image d).slots ≡ names_in (slots geometry image d)
+pub slots_are : (geometry : Geometry) (image : List ℕ) (d : ℕ) → IsDirectory geometry image d → (shapes geometry image d).slots ≡ names_in (slots geometry image d)
 slots_are geometry image d directory =
     ap (λ shape. shape.slots) (shape_is geometry image d (kind_of_directory geometry image d directory))
 

@@ -1,27 +1,46 @@
 -- How an accepted call is performed: where its paths lead, and what is known of the image then.
-use Rattle.std.specs.Prelude.{◌≡◌, ℕ, List, Option, None, Some, Ok}
-use Rattle.vol_dir.specs.Tree.{Tree, state}
-use Rattle.vol_dir.specs.Walk.{walk, walk_parent}
-use Rattle.vol_change.specs.Ready.{free_in}
+use Rattle.std.specs.Prelude.{◌≡◌, ℕ, false, List, Option, None, Some, Ok}
+use Rattle.vol_dir.specs.Entries.{IsDirectory, IsInUse, slots}
+use Rattle.vol_dir.specs.Names.{get}
+use Rattle.vol_dir.specs.Searching.{new_slot, slot_named}
+use Rattle.vol_dir.specs.Tree.{tree, shapes, state}
+use Rattle.vol_dir.specs.Walk.{IsComponent, has_zero, walk, walk_parent}
+use Rattle.vol_change.specs.Nodes.{names_at}
+use Rattle.vol_change.specs.Ready.{entry_need, free_in}
 use Rattle.vol_volume.specs.Step.{moment_of}
 use Rattle.vol_volume.specs.Volume.{Performs}
 use Rattle.vol_dir.specs.declared.cred.Cred.{Cred}
+use Rattle.vol_dir.specs.declared.entries.Entry.{Entry}
 use Rattle.vol_layout.specs.declared.geometry.Geometry.{Geometry}
 use Rattle.vol_volume.specs.declared.calls.Call.{Call}
 use Rattle.vol_volume.specs.declared.calls.Call.TheVariants.{Create, Mkdir, Link, Unlink, Rmdir, Write, Truncate}
 use Rattle.vol_volume.specs.declared.calls.Done.{Done}
 use Rattle.vol_volume.specs.declared.calls.Done.TheVariants.{Made, Wrote, Plain}
-use Rattle.vol_volume.specs.declared.performing.Caller.{Caller}
+use Rattle.vol_volume.specs.declared.steps.Caller.{Caller}
+use Rattle.vol_volume.specs.declared.steps.found.Place.{Place}
 
--- a path leads to a parent and a last name (Lions on namei)
-pub record LeadsToParent (tree : Tree) (cred : Cred) (path : List ℕ) : Type 0 where
-  pub found : ℕ × List ℕ
-  pub walked : walk_parent tree cred path ≡ Some (Ok found)
+-- a path leads to directory d and a last name (Lions on namei)
+pub record LeadsToParent (geometry : Geometry) (image : List ℕ) (cred : Cred) (path : List ℕ) (d : ℕ) (name : List ℕ) : Type 0 where
+  pub walked : walk_parent (tree geometry image) cred path ≡ Some (Ok (d, name))
+  pub directory : IsDirectory geometry image d
+  pub component : IsComponent name
+  pub text : has_zero name ≡ false
 
 -- a path leads to a node (Lions on namei)
-pub record LeadsToNode (tree : Tree) (cred : Cred) (path : List ℕ) : Type 0 where
-  pub found : ℕ
-  pub walked : walk tree cred path ≡ Ok found
+pub record LeadsToNode (geometry : Geometry) (image : List ℕ) (cred : Cred) (path : List ℕ) (i : ℕ) : Type 0 where
+  pub walked : walk (tree geometry image) cred path ≡ Ok i
+  pub used : IsInUse geometry image i
+
+-- where a new entry of directory d goes, and how many blocks it needs (Lions on wdir)
+pub record IsPlace (geometry : Geometry) (image : List ℕ) (d : ℕ) (place : Place) : Type 0 where
+  pub slot : place.slot ≡ new_slot (shapes geometry image d).slots
+  pub needed : place.needed ≡ entry_need (state geometry image) d
+
+-- the entry that a name has in directory d (Lions on namei)
+pub record IsEntry (geometry : Geometry) (image : List ℕ) (d : ℕ) (name : List ℕ) (entry : Entry) : Type 0 where
+  pub slot : entry.slot ≡ slot_named name (slots geometry image d)
+  pub named : get (names_at (tree geometry image) d) name ≡ Some entry.inode
+  pub used : IsInUse geometry image entry.inode
 
 -- the user and group of a call (this project)
 abbrev pub cred_of : Call → Cred

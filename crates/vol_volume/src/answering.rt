@@ -16,9 +16,8 @@ ghost use Rattle.vol_volume.specs.Verdict.{first_of};
 
 use crate::bytes::Bytes;
 use crate::queries::{Listing, Query, Reply, Stat};
-use crate::verdicts::asked::{first_tests, is_directory, is_granted, refuse_if};
-use crate::verdicts::body::body_tests;
-use crate::verdicts::stands;
+use crate::steps::asked::{body_tests, first_tests, is_directory, is_granted, refuse_if};
+use crate::steps::stands;
 use pdp_words::Image;
 use std::alloc::{AllocError, Global};
 use std::collections::BTreeMap;

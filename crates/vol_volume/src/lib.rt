@@ -8,10 +8,9 @@ pub mod bytes;
 pub mod calls;
 pub mod laws;
 pub mod making;
-mod performing;
 pub mod queries;
 mod sizes;
-mod verdicts;
+mod steps;
 pub mod volume;
 
 pub use asking::ask;

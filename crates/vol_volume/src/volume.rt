@@ -1,5 +1,5 @@
 //! Mounted volumes.
-ghost use Rattle.std.specs.Prelude.{◌≡◌, ◌<◌, IfOk, IfErr, IfSome, [], ◌∷◌, ◌++◌, vec_len, vec_capacity, None};
+ghost use Rattle.std.specs.Prelude.{◌≡◌, ◌<◌, IfOk, IfErr, IfSome, OnOk, OnErr, [], ◌∷◌, ◌++◌, vec_len, vec_capacity, None, Some, unwrap_or};
 ghost use Rattle.vol_layout.specs.Geometry.{geometry_of};
 ghost use Rattle.vol_dir.specs.Tree.{state, free_count, shapes};
 ghost use Rattle.vol_judge.specs.Sound.{IsSound};
@@ -12,9 +12,8 @@ ghost use Rattle.vol_volume.specs.Volume.{IsConsistent, Accepts, mounted, reads_
 
 use crate::answering::answer;
 use crate::calls::{Call, Done, Record};
-use crate::performing::perform;
 use crate::queries::{Query, Reply};
-use crate::verdicts::{stands, verdict};
+use crate::steps::{check, make, stands};
 use pdp_words::Image;
 use std::alloc::{AllocError, Global};
 use std::marker::Model;
@@ -160,11 +159,10 @@ impl Volume {
     /// NoMemory comes last, before the first byte changes, and only where the journal has no room for one
     /// record more.
     ///
-    /// Takes memory for the journal alone. Costs two walks of each path, searches of the last directory, and
-    /// the change. A new entry costs one search for its name and three for its slot, an entry that goes
-    /// three for its name, and a new node two searches of the i-list, where no cached i-number is free. A
-    /// write costs a copy of its bytes, four times the ways of their blocks, and once those of the blocks
-    /// between the old size and the offset; what becomes free costs the places of the file, twice.
+    /// Takes memory for the journal alone, also where the call is refused then. Costs one walk of each path, one
+    /// search of the last directory, and the change. A new node costs two searches of the i-list, where no cached
+    /// i-number is free. A write costs a copy of its bytes, three times the ways of their blocks, and once those
+    /// of the blocks between the old size and the offset; what becomes free costs the places of the file, twice.
     pub fn call(&mut self, alloc: Global, call: Call) -> Result<Done, (Refusal, Call)>
         ensures accepted { IfOk result (λ done. Accepts self.old self.new call done) }
         ensures refused { IfErr result (λ (refusal, same). Refuses (reads_as self.old.edition self.old.image) call refusal) }
@@ -173,27 +171,25 @@ impl Volume {
     {
         // The journal grows by the allocator that it was made with.
         let _ = alloc;
-        if let Err(refusal) = verdict(&self.current, &self.geometry, self.free, &call) {
+        if self.records.reserve(1).is_err() {
+            let refusal = refusal_without_room(&self.current, &self.geometry, self.free, &call);
             return Err((refusal, call));
         }
-        if self.records.reserve(1).is_err() {
-            return Err((Refusal::NoMemory, call));
-        }
-        Ok(accept(
+        accept(
             &mut self.current,
             &self.geometry,
             &mut self.free,
             &mut self.records,
             call,
             None,
-        ))
+        )
     }
 
     /// Makes a call with the answer that is recorded for it, the i-number of what it made included, and
     /// appends that record to the journal. The record is one that may come next. Where the journal has no
     /// room for it, the record comes back and nothing changes.
     ///
-    /// Takes memory for the journal alone. Costs what [`Volume::call`] does but for its tests.
+    /// Takes memory for the journal alone. Costs what [`Volume::call`] does.
     pub fn redo(&mut self, alloc: Global, entry: Record) -> Result<(), (AllocError, Record)>
         requires { MayFollow (reads_as self.old.edition self.old.image) entry }
         ensures accepted { IfOk result (λ _. Accepts self.old self.new entry.call entry.done) }
@@ -205,15 +201,17 @@ impl Volume {
             return Err((AllocError, entry));
         }
         let Record { call, done } = entry;
-        accept(
+        match accept(
             &mut self.current,
             &self.geometry,
             &mut self.free,
             &mut self.records,
             call,
             Some(done),
-        );
-        Ok(())
+        ) {
+            Ok(_) => Ok(()),
+            Err(_) => unreachable!(),
+        }
     }
 
     /// Gives the image's bytes back. The journal goes. Takes no memory.
@@ -233,8 +231,8 @@ impl Volume {
     }
 }
 
-/// Performs a call that nothing speaks against, and appends its record, for which there is room. Where an
-/// answer is recorded, it is that one.
+/// Makes a call, where nothing speaks against it, and appends its record, for which there is room; else the call
+/// comes back, and nothing changes. Where an answer is recorded, it is that one.
 fn accept(
     image: &mut Image,
     geometry: &Geometry,
@@ -242,25 +240,46 @@ fn accept(
     records: &mut Vec<Record>,
     call: Call,
     recorded: Option<Done>,
-) -> Done
+) -> Result<Done, (Refusal, Call)>
     requires sound { IsSound geometry.now.edition image.old }
     requires sizes { geometry.now ≡ geometry_of geometry.now.edition image.old }
     requires count { free.old ≡ free_count geometry.now (shapes geometry.now image.old) }
-    requires accepted { verdict (state geometry.now image.old) call ≡ None }
     requires recorded { IfSome recorded (λ done. MayAnswer (state geometry.now image.old) call done) }
     requires room { vec_len records.old < vec_capacity records.old }
-    ensures performed { IsPerformed geometry.now image.old image.new call result free.new }
-    ensures recorded { IfSome recorded (λ done. result ≡ done) }
-    ensures records { records.new.items ≡ records.old.items ++ record { call = call; done = result } ∷ [] }
+    ensures accepted { OnOk result (verdict (state geometry.now image.old) call ≡ None) }
+    ensures performed { IfOk result (λ done. IsPerformed geometry.now image.old image.new call done free.new) }
+    ensures recorded { IfSome recorded (λ done. IfOk result (λ answer. answer ≡ done)) }
+    ensures records { IfOk result (λ done. records.new.items ≡ records.old.items ++ record { call = call; done = done } ∷ []) }
+    ensures refused { IfErr result (λ (refusal, same). verdict (state geometry.now image.old) call ≡ Some refusal) }
+    ensures handed_back { IfErr result (λ (refusal, same). same ≡ call) }
+    ensures image { OnErr result (image.new ≡ image.old) }
+    ensures free { OnErr result (free.new ≡ free.old) }
+    ensures journal { OnErr result (records.new.items ≡ records.old.items) }
 {
     stands(image, geometry);
-    let performed = perform(image, geometry, *free, &call, recorded);
+    let performed = match make(image, geometry, *free, &call, recorded) {
+        Ok(performed) => performed,
+        Err(refusal) => return Err((refusal, call)),
+    };
     *free = performed.free;
     let done = performed.done;
     if records.push(Record { call, done }).is_err() {
         unreachable!();
     }
-    done
+    Ok(done)
+}
+
+/// The refusal of a call for whose record there is no room: what speaks against it, else NoMemory.
+fn refusal_without_room(image: &Image, geometry: &Geometry, free: u32, call: &Call) -> Refusal
+    requires sound { IsSound geometry.now.edition image.now }
+    requires sizes { geometry.now ≡ geometry_of geometry.now.edition image.now }
+    requires count { free ≡ free_count geometry.now (shapes geometry.now image.now) }
+    ensures { result ≡ unwrap_or (verdict (state geometry.now image.now) call.now) Refusal.NoMemory }
+{
+    stands(image, geometry);
+    check(image, geometry, free, call)
+        .err()
+        .unwrap_or(Refusal::NoMemory)
 }
 
 /// The number of free blocks of a sound image.

@@ -1,0 +1,218 @@
+//! Calls, each in a module of its own: what speaks against it, and the change that it makes. The check of a call
+//! walks its paths and searches the last directory once, and the change takes what was found.
+ghost use Rattle.std.specs.Prelude.{◌≡◌, IfSome, IfOk, OnErr};
+ghost use Rattle.std.specs.Result.{result_err};
+ghost use Rattle.vol_layout.specs.Geometry.{geometry_of};
+ghost use Rattle.vol_dir.specs.Tree.{state};
+ghost use Rattle.vol_judge.specs.Sound.{IsSound};
+ghost use Rattle.vol_change.specs.Ready.{IsReady, free_in};
+ghost use Rattle.vol_volume.specs.Journal.{MayAnswer};
+ghost use Rattle.vol_volume.specs.Performing.{IsPerformed, caller_of, recorded_number};
+ghost use Rattle.vol_volume.specs.Standing.{Stands};
+ghost use Rattle.vol_volume.specs.Verdict.{verdict};
+
+pub(crate) mod asked;
+mod create;
+pub(crate) mod found;
+mod link;
+mod mkdir;
+mod rmdir;
+mod truncate;
+mod unlink;
+mod write;
+
+use crate::calls::{Call, Done};
+use pdp_words::Image;
+use vol_change::NewNode;
+use vol_dir::{Cred, Refusal};
+use vol_layout::Geometry;
+use vol_layout::super_block::SUPER;
+
+/// What a performed call answers, and how many blocks are free then.
+#[derive(Clone, Copy, Debug)]
+pub(crate) struct Performed {
+    /// The answer.
+    pub done: Done,
+    /// The number of free blocks.
+    pub free: u32,
+}
+
+/// Who makes a call, and when.
+#[derive(Clone, Copy, Debug)]
+pub(crate) struct Caller {
+    /// The user and group.
+    pub cred: Cred,
+    /// The moment, in seconds since the beginning of 1970.
+    pub moment: u32,
+}
+
+/// Ok where nothing speaks against a call; else its refusal, of those beside want of memory the first that
+/// applies, in the order of the definition. `free` is the number of free blocks.
+///
+/// Costs the walks of the call's paths, and one search of the last directory. A new node costs a search for a
+/// free i-number, a directory that goes a look at its slots, and a write one way for each logical block that it
+/// touches.
+#[tactic(auto, unfolding(crate::specs::Verdict::verdict))]
+pub(crate) fn check(
+    image: &Image,
+    geometry: &Geometry,
+    free: u32,
+    call: &Call,
+) -> Result<(), Refusal>
+    requires stands { Stands geometry.now image.now }
+    requires count { free ≡ free_in (state geometry.now image.now) }
+    ensures { result_err result ≡ verdict (state geometry.now image.now) call.now }
+{
+    match call {
+        Call::Create { cred, path, .. } => {
+            create::check(image, geometry, free, *cred, path.as_slice())?;
+        }
+        Call::Mkdir { cred, path, .. } => {
+            mkdir::check(image, geometry, free, *cred, path.as_slice())?;
+        }
+        Call::Link {
+            cred,
+            source,
+            target,
+            ..
+        } => {
+            let source = source.as_slice();
+            link::check(image, geometry, free, *cred, source, target.as_slice())?;
+        }
+        Call::Unlink { cred, path, .. } => {
+            unlink::check(image, geometry, *cred, path.as_slice())?;
+        }
+        Call::Rmdir { cred, path, .. } => {
+            rmdir::check(image, geometry, *cred, path.as_slice())?;
+        }
+        Call::Write {
+            cred,
+            path,
+            offset,
+            bytes,
+            ..
+        } => {
+            let len = bytes.as_slice().len();
+            write::check(image, geometry, free, *cred, path.as_slice(), *offset, len)?;
+        }
+        Call::Truncate { cred, path, .. } => {
+            truncate::check(image, geometry, *cred, path.as_slice())?;
+        }
+    }
+    Ok(())
+}
+
+/// Makes a call, where nothing speaks against it; else the refusal of [`check`], and nothing changes. `free` is
+/// the number of free blocks. Where an answer is recorded, it is that one.
+///
+/// Costs what [`check`] does, once, and the change.
+pub(crate) fn make(
+    image: &mut Image,
+    geometry: &Geometry,
+    free: u32,
+    call: &Call,
+    recorded: Option<Done>,
+) -> Result<Performed, Refusal>
+    requires ready { IsReady geometry.now image.old }
+    requires count { free ≡ free_in (state geometry.now image.old) }
+    requires recorded { IfSome recorded (λ done. MayAnswer (state geometry.now image.old) call.now done) }
+    ensures refusal { result_err result ≡ verdict (state geometry.now image.old) call.now }
+    ensures unchanged { OnErr result (image.new ≡ image.old) }
+    ensures performed { IfOk result (λ performed. IsPerformed geometry.now image.old image.new call.now performed.done performed.free) }
+    ensures recorded { IfSome recorded (λ done. IfOk result (λ performed. performed.done ≡ done)) }
+{
+    let caller = caller_of(call);
+    let number = recorded_number(recorded);
+    match call {
+        Call::Create { path, perm, .. } => {
+            let node = new_node(caller, *perm);
+            create::make(image, geometry, free, node, path.as_slice(), number)
+        }
+        Call::Mkdir { path, perm, .. } => {
+            let node = new_node(caller, *perm);
+            mkdir::make(image, geometry, free, node, path.as_slice(), number)
+        }
+        Call::Link { source, target, .. } => {
+            let source = source.as_slice();
+            link::make(image, geometry, free, caller, source, target.as_slice())
+        }
+        Call::Unlink { path, .. } => unlink::make(image, geometry, free, caller, path.as_slice()),
+        Call::Rmdir { path, .. } => rmdir::make(image, geometry, free, caller, path.as_slice()),
+        Call::Write {
+            path,
+            offset,
+            bytes,
+            ..
+        } => {
+            let path = path.as_slice();
+            let bytes = bytes.as_slice();
+            write::make(image, geometry, free, caller, path, *offset, bytes)
+        }
+        Call::Truncate { path, .. } => {
+            truncate::make(image, geometry, free, caller, path.as_slice())
+        }
+    }
+}
+
+/// Who makes a call, and when.
+fn caller_of(call: &Call) -> Caller
+    ensures { result ≡ caller_of call.now }
+{
+    let (cred, now) = match call {
+        Call::Create { cred, now, .. }
+        | Call::Mkdir { cred, now, .. }
+        | Call::Link { cred, now, .. }
+        | Call::Unlink { cred, now, .. }
+        | Call::Rmdir { cred, now, .. }
+        | Call::Write { cred, now, .. }
+        | Call::Truncate { cred, now, .. } => (cred, now),
+    };
+    Caller {
+        cred: *cred,
+        moment: *now,
+    }
+}
+
+/// What a call says of the node that it makes.
+fn new_node(caller: Caller, permissions: u16) -> NewNode
+    ensures owner { result.owner ≡ caller.cred }
+    ensures moment { result.moment ≡ caller.moment }
+    ensures permissions { result.permissions ≡ permissions }
+{
+    NewNode {
+        owner: caller.cred,
+        permissions,
+        moment: caller.moment,
+    }
+}
+
+/// The i-number that is recorded, if one is.
+fn recorded_number(recorded: Option<Done>) -> Option<u16>
+    ensures { result ≡ recorded_number recorded }
+{
+    match recorded {
+        Some(Done::Made(i)) => Some(i),
+        _ => None,
+    }
+}
+
+/// Does nothing: what a sound image stands for.
+pub(crate) fn ready_stands(image: &Image, geometry: &Geometry)
+    requires { IsReady geometry.now image.now }
+    ensures { Stands geometry.now image.now }
+{
+    // The contract speaks of both, and the body needs neither.
+    let _ = image;
+    let _ = geometry;
+}
+
+/// Does nothing: a sound image stands, with the geometry that is its own.
+pub(crate) fn stands(image: &Image, geometry: &Geometry)
+    requires sound { IsSound geometry.now.edition image.now }
+    requires sizes { geometry.now ≡ geometry_of geometry.now.edition image.now }
+    ensures { Stands geometry.now image.now }
+{
+    // No rule bounds the number of blocks in the sixth edition. It is a word, and that it is read brings into
+    // the proof that words are below 65536.
+    let _ = image.word(SUPER + 2);
+}

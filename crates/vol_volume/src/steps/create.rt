@@ -1,0 +1,104 @@
+//! A call for a new file.
+ghost use Rattle.std.specs.Prelude.{◌≡◌, true, [], ◌∷◌, IfSome, IfOk, OnErr};
+ghost use Rattle.std.specs.Result.{result_err};
+ghost use Rattle.vol_dir.specs.Entries.{IsDirectory};
+ghost use Rattle.vol_dir.specs.Tree.{tree, state};
+ghost use Rattle.vol_dir.specs.Walk.{walk_parent};
+ghost use Rattle.vol_change.specs.Ready.{IsReady, free_in};
+ghost use Rattle.vol_volume.specs.Performing.{LeadsToParent, IsPlace, IsPerformed};
+ghost use Rattle.vol_volume.specs.Standing.{Stands};
+ghost use Rattle.vol_volume.specs.Verdict.{first_of, then_others, of_parent, create_tests, is_free_number, verdict};
+
+use crate::calls::{Call, Done};
+use crate::steps::asked::{
+    entry_need, first_tests, has_free_number, is_granted, is_too_great_with_entry, parent,
+    refuse_if, vacant,
+};
+use crate::steps::found::{NewEntry, Place};
+use crate::steps::{Performed, ready_stands};
+use pdp_words::Image;
+use vol_change::NewNode;
+use vol_dir::{Access, Cred, Refusal};
+use vol_layout::Geometry;
+
+/// What speaks against a new file by its parent and name; else where its entry goes.
+#[tactic(auto, using(crate::proofs::NeedReadings::slots_are))]
+fn create_tests(
+    image: &Image,
+    geometry: &Geometry,
+    free: u32,
+    cred: Cred,
+    dir: u16,
+    name: &[u8],
+) -> Result<Place, Refusal>
+    requires stands { Stands geometry.now image.now }
+    requires count { free ≡ free_in (state geometry.now image.now) }
+    requires directory { IsDirectory geometry.now image.now dir }
+    ensures refusal { result_err result ≡ first_of (create_tests (state geometry.now image.now) cred dir name.now) }
+    ensures place { IfOk result (λ place. IsPlace geometry.now image.now dir place) }
+{
+    let slot = vacant(image, geometry, dir, name)?;
+    refuse_if(
+        !is_granted(image, geometry, dir, Access::Write, cred),
+        Refusal::Access,
+    )?;
+    refuse_if(
+        is_too_great_with_entry(image, geometry, dir, slot),
+        Refusal::TooBig,
+    )?;
+    refuse_if(!has_free_number(image, geometry), Refusal::NoInode)?;
+    let needed = entry_need(image, geometry, dir, slot);
+    refuse_if(free < needed, Refusal::NoSpace)?;
+    Ok(Place { slot, needed })
+}
+
+/// What speaks against a call for a new file; else where its entry goes.
+#[tactic(auto, using(crate::proofs::NodeReadings::tree_geometry))]
+pub(crate) fn check<'a>(
+    image: &Image,
+    geometry: &Geometry,
+    free: u32,
+    cred: Cred,
+    path: &'a [u8],
+) -> Result<NewEntry<'a>, Refusal>
+    requires stands { Stands geometry.now image.now }
+    requires count { free ≡ free_in (state geometry.now image.now) }
+    ensures refusal { result_err result ≡ then_others (tree geometry.now image.now) cred (path.now ∷ [])
+        (of_parent (walk_parent (tree geometry.now image.now) cred path.now) Refusal.Exists (create_tests (state geometry.now image.now) cred)) }
+    ensures leads { IfOk result (λ found. LeadsToParent geometry.now image.now cred path.now found.dir found.name.now) }
+    ensures place { IfOk result (λ found. IsPlace geometry.now image.now found.dir found.place) }
+{
+    first_tests(geometry, cred, path)?;
+    let (dir, name) = parent(image, geometry, cred, path, Refusal::Exists)?;
+    let place = create_tests(image, geometry, free, cred, dir, name)?;
+    Ok(NewEntry { dir, name, place })
+}
+
+/// Makes a new file, where nothing speaks against the call. Where its i-number is recorded, it is that one.
+#[tactic(auto, unfolding(crate::specs::Verdict::verdict))]
+pub(crate) fn make(
+    image: &mut Image,
+    geometry: &Geometry,
+    free: u32,
+    new: NewNode,
+    path: &[u8],
+    recorded: Option<u16>,
+) -> Result<Performed, Refusal>
+    requires ready { IsReady geometry.now image.old }
+    requires count { free ≡ free_in (state geometry.now image.old) }
+    requires recorded { IfSome recorded (λ i. is_free_number (tree geometry.now image.old) i ≡ true) }
+    ensures refusal { result_err result ≡ verdict (state geometry.now image.old) (Call.Create new.owner new.moment path.now new.permissions) }
+    ensures unchanged { OnErr result (image.new ≡ image.old) }
+    ensures performed { IfOk result (λ performed. IsPerformed geometry.now image.old image.new
+        (Call.Create new.owner new.moment path.now new.permissions) performed.done performed.free) }
+    ensures recorded { IfSome recorded (λ i. IfOk result (λ performed. performed.done ≡ Done.Made i)) }
+{
+    ready_stands(image, geometry);
+    let found = check(image, geometry, free, new.owner, path)?;
+    let NewEntry { dir, name, place } = found;
+    let made = vol_change::create(image, geometry, new, dir, place.slot, name, recorded);
+    Ok(Performed {
+        done: Done::Made(made),
+        free: free - place.needed,
+    })
+}

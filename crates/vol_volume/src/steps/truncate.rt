@@ -1,0 +1,64 @@
+//! A call by which a file becomes empty.
+ghost use Rattle.std.specs.Prelude.{◌≡◌, [], ◌∷◌, IfOk, OnErr};
+ghost use Rattle.std.specs.Result.{result_err};
+ghost use Rattle.vol_dir.specs.Access.{may_write};
+ghost use Rattle.vol_dir.specs.Tree.{tree, state};
+ghost use Rattle.vol_dir.specs.Walk.{walk};
+ghost use Rattle.vol_change.specs.Ready.{IsReady, free_in};
+ghost use Rattle.vol_volume.specs.Performing.{LeadsToNode, IsPerformed};
+ghost use Rattle.vol_volume.specs.Standing.{Stands};
+ghost use Rattle.vol_volume.specs.Verdict.{first_of, then_others, of_node, body_tests, verdict};
+
+use crate::calls::{Call, Done};
+use crate::steps::asked::{body_tests, first_tests};
+use crate::steps::{Caller, Performed, ready_stands};
+use pdp_words::Image;
+use vol_change::place_count;
+use vol_dir::{Access, Cred, Refusal, walk};
+use vol_layout::Geometry;
+
+/// What speaks against a call by which a file becomes empty; else the file.
+#[tactic(auto, using(crate::proofs::NodeReadings::tree_geometry))]
+pub(crate) fn check(
+    image: &Image,
+    geometry: &Geometry,
+    cred: Cred,
+    path: &[u8],
+) -> Result<u16, Refusal>
+    requires { Stands geometry.now image.now }
+    ensures refusal { result_err result ≡ then_others (tree geometry.now image.now) cred (path.now ∷ [])
+        (of_node (walk (tree geometry.now image.now) cred path.now) (λ i. first_of (body_tests (tree geometry.now image.now) may_write cred i))) }
+    ensures node { IfOk result (λ i. LeadsToNode geometry.now image.now cred path.now i) }
+{
+    first_tests(geometry, cred, path)?;
+    let i = walk(image, geometry, cred, path)?;
+    body_tests(image, geometry, Access::Write, cred, i)?;
+    Ok(i)
+}
+
+/// Makes a file empty, where nothing speaks against the call.
+#[tactic(auto, unfolding(crate::specs::Verdict::verdict))]
+pub(crate) fn make(
+    image: &mut Image,
+    geometry: &Geometry,
+    free: u32,
+    caller: Caller,
+    path: &[u8],
+) -> Result<Performed, Refusal>
+    requires ready { IsReady geometry.now image.old }
+    requires count { free ≡ free_in (state geometry.now image.old) }
+    ensures refusal { result_err result ≡ verdict (state geometry.now image.old) (Call.Truncate caller.cred caller.moment path.now) }
+    ensures unchanged { OnErr result (image.new ≡ image.old) }
+    ensures done { IfOk result (λ performed. performed.done ≡ Done.Plain) }
+    ensures performed { IfOk result (λ performed. IsPerformed geometry.now image.old image.new
+        (Call.Truncate caller.cred caller.moment path.now) performed.done performed.free) }
+{
+    ready_stands(image, geometry);
+    let i = check(image, geometry, caller.cred, path)?;
+    let freed = place_count(image, geometry, i);
+    vol_change::truncate(image, geometry, i, caller.moment);
+    Ok(Performed {
+        done: Done::Plain,
+        free: free + freed,
+    })
+}

@@ -1,0 +1,116 @@
+//! A call by which a name goes.
+ghost use Rattle.std.specs.Prelude.{◌≡◌, [], ◌∷◌, IfOk, OnErr, nat_le, if◌then◌else◌};
+ghost use Rattle.std.specs.Result.{result_err};
+ghost use Rattle.vol_dir.specs.Entries.{IsDirectory, IsInUse};
+ghost use Rattle.vol_dir.specs.Tree.{tree, state, shapes, place_count};
+ghost use Rattle.vol_dir.specs.Walk.{walk_parent};
+ghost use Rattle.vol_change.specs.Nodes.{node_at};
+ghost use Rattle.vol_change.specs.Ready.{IsReady, free_in};
+ghost use Rattle.vol_volume.specs.Performing.{LeadsToParent, IsEntry, IsPerformed};
+ghost use Rattle.vol_volume.specs.Standing.{Stands};
+ghost use Rattle.vol_volume.specs.Verdict.{first_of, then_others, of_parent, unlink_tests, verdict};
+
+use crate::calls::{Call, Done};
+use crate::steps::asked::{first_tests, is_directory, is_granted, named, parent, refuse_if};
+use crate::steps::found::OldEntry;
+use crate::steps::{Caller, Performed, ready_stands};
+use pdp_words::Image;
+use vol_change::place_count;
+use vol_dir::{Access, Cred, Entry, Refusal};
+use vol_layout::{Geometry, inode};
+
+/// What speaks against taking away a name by its parent and what it names; else its entry.
+fn unlink_tests(
+    image: &Image,
+    geometry: &Geometry,
+    cred: Cred,
+    dir: u16,
+    name: &[u8],
+) -> Result<Entry, Refusal>
+    requires stands { Stands geometry.now image.now }
+    requires directory { IsDirectory geometry.now image.now dir }
+    ensures refusal { result_err result ≡ first_of (unlink_tests (state geometry.now image.now) cred dir name.now) }
+    ensures entry { IfOk result (λ entry. IsEntry geometry.now image.now dir name.now entry) }
+{
+    let entry = named(image, geometry, dir, name)?;
+    refuse_if(
+        !is_granted(image, geometry, dir, Access::Write, cred),
+        Refusal::Access,
+    )?;
+    refuse_if(
+        is_directory(image, geometry, entry.inode),
+        Refusal::IsDirectory,
+    )?;
+    Ok(entry)
+}
+
+/// What speaks against a call by which a name goes; else its entry.
+#[tactic(auto, using(crate::proofs::NodeReadings::tree_geometry))]
+pub(crate) fn check<'a>(
+    image: &Image,
+    geometry: &Geometry,
+    cred: Cred,
+    path: &'a [u8],
+) -> Result<OldEntry<'a>, Refusal>
+    requires { Stands geometry.now image.now }
+    ensures refusal { result_err result ≡ then_others (tree geometry.now image.now) cred (path.now ∷ [])
+        (of_parent (walk_parent (tree geometry.now image.now) cred path.now) Refusal.IsDirectory (unlink_tests (state geometry.now image.now) cred)) }
+    ensures leads { IfOk result (λ found. LeadsToParent geometry.now image.now cred path.now found.dir found.name.now) }
+    ensures entry { IfOk result (λ found. IsEntry geometry.now image.now found.dir found.name.now found.entry) }
+{
+    first_tests(geometry, cred, path)?;
+    let (dir, name) = parent(image, geometry, cred, path, Refusal::IsDirectory)?;
+    let entry = unlink_tests(image, geometry, cred, dir, name)?;
+    Ok(OldEntry { dir, name, entry })
+}
+
+/// How many blocks become free where node `i` loses a name: with the last one all of its blocks.
+fn freed(image: &Image, geometry: &Geometry, i: u16) -> u32
+    requires ready { IsReady geometry.now image.now }
+    requires stands { Stands geometry.now image.now }
+    requires used { IsInUse geometry.now image.now i }
+    ensures { result ≡ (if nat_le (node_at (tree geometry.now image.now) i).links 1
+        then place_count geometry.now.edition (shapes geometry.now image.now i) else 0) }
+{
+    if inode(image, geometry, i).links <= 1 {
+        place_count(image, geometry, i)
+    } else {
+        0
+    }
+}
+
+/// Takes a name away, where nothing speaks against the call.
+#[tactic(auto, unfolding(crate::specs::Verdict::verdict))]
+pub(crate) fn make(
+    image: &mut Image,
+    geometry: &Geometry,
+    free: u32,
+    caller: Caller,
+    path: &[u8],
+) -> Result<Performed, Refusal>
+    requires ready { IsReady geometry.now image.old }
+    requires count { free ≡ free_in (state geometry.now image.old) }
+    ensures refusal { result_err result ≡ verdict (state geometry.now image.old) (Call.Unlink caller.cred caller.moment path.now) }
+    ensures unchanged { OnErr result (image.new ≡ image.old) }
+    ensures done { IfOk result (λ performed. performed.done ≡ Done.Plain) }
+    ensures performed { IfOk result (λ performed. IsPerformed geometry.now image.old image.new
+        (Call.Unlink caller.cred caller.moment path.now) performed.done performed.free) }
+{
+    ready_stands(image, geometry);
+    let found = check(image, geometry, caller.cred, path)?;
+    let OldEntry { dir, name, entry } = found;
+    let freed = freed(image, geometry, entry.inode);
+    vol_change::unlink(
+        image,
+        geometry,
+        dir,
+        entry.slot,
+        name,
+        entry.inode,
+        caller.moment,
+    );
+    Ok(Performed {
+        done: Done::Plain,
+        free: free + freed,
+    })
+}

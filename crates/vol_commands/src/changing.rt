@@ -31,7 +31,8 @@ const DIRECTORY_PERMISSIONS: u16 = 0o755;
 /// `put`: makes a file empty, or makes an empty one, and writes bytes into it: all that `file` has. Nothing is
 /// to be saved unless both calls are accepted.
 ///
-/// Takes memory for what [`Volume::mount`] takes, and some for the path; the file's bytes stand in memory once.
+/// Takes memory for what [`Volume::mount`] takes, and for two copies of the path, which the journal keeps; the
+/// file's bytes stand in memory once. Walks the path three times: to see whether it is there, and once a call.
 pub fn put<O: Sink, E: Sink>(
     alloc: Global,
     edition: Edition,
@@ -181,8 +182,9 @@ fn emptying(alloc: Global, volume: &Volume, path: &str, now: u32) -> Result<Call
         cred,
         path: copy(alloc, path)?,
     };
-    let path = copy(alloc, path)?;
-    match volume.ask(alloc, &query) {
+    let answer = volume.ask(alloc, &query);
+    let (Query::Stat { path, .. } | Query::Read { path, .. } | Query::List { path, .. }) = query;
+    match answer {
         Err(Refusal::NoEntry) => Ok(Call::Create {
             cred,
             now,

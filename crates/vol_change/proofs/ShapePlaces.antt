@@ -5,9 +5,9 @@ use Rattle.std.specs.Option.{option_map_or}
 use Rattle.vol_layout.specs.Laws.{IsFront}
 use Rattle.std.specs.List.{list_any}
 use Rattle.std.specs.Str.{bytes_eq}
-use Rattle.std.proofs.lemmas.Bool.{cases_Bool, cases_eq, and_parts, leb-true, ltb-true}
+use Rattle.std.proofs.lemmas.Bool.{cases_Bool, cases_eq}
 use Rattle.std.proofs.lemmas.Bool.Decides.{nat_tests}
-use Rattle.vol_layout.specs.Places.{IsPlace, first_count, pointer_count, levels_below, last_place, places, fronts, way}
+use Rattle.vol_layout.specs.Places.{IsPlace, last_place, places, fronts, way}
 use Rattle.vol_layout.specs.declared.places.Form.{Form}
 use Rattle.vol_layout.specs.declared.places.Form.TheVariants.{Small, Large, Deep, Bare}
 use Rattle.vol_layout.proofs.PlaceLaws.{last_leaf, place_front}
@@ -15,7 +15,7 @@ use Rattle.vol_file.specs.Need.{missing_count, need_of}
 use Rattle.vol_file.specs.Shape.{is_on_ways, grows_large, moved_down, fit_form, fit_names, filled}
 use Rattle.vol_file.proofs.PlaceLists.{count_among, among_places, same_bytes}
 use Rattle.vol_dir.specs.Tree.{is_place}
-use Rattle.vol_dir.proofs.PlaceTests.{place_passed, place_test}
+use Rattle.vol_dir.proofs.PlaceTests.{place_test}
 
 -- the names of places alone
 abbrev pub at_places : Form → (List ℕ → Bool) → List ℕ → Bool

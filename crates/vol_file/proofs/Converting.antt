@@ -23,7 +23,7 @@ use Rattle.vol_file.specs.Steps.{Enlarges}
 use Rattle.vol_file.proofs.Alone.{fits_len, elsewhere_inode, elsewhere_before, elsewhere_named, elsewhere_names}
 use Rattle.vol_file.proofs.Naming.{kinds_kept, links_kept, sizes_stay}
 use Rattle.vol_file.proofs.Extending.{unnamed_false, named_true}
-use Rattle.vol_file.proofs.Lasts.{last_small, last_large}
+use Rattle.vol_layout.proofs.LastPlaces.{last_small, last_large}
 use Rattle.vol_file.proofs.Taking.{first_unnamed, first_zoned, first_once, rest_in}
 use Rattle.vol_file.specs.Changes.{StaysElsewhere}
 

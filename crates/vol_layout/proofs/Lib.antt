@@ -5,8 +5,10 @@ pub mod CopyLaws
 pub mod FrameLaws
 pub mod InodeLaws
 pub mod KindLaws
+pub mod LastPlaces
 pub mod NameLaws
 pub mod NewInodes
 pub mod PlaceLaws
 pub mod SlotLaws
 pub mod StoredInodes
+pub mod WayOrder

@@ -1,16 +1,18 @@
 -- Words and statements of the laws about places, names and bodies.
-use Rattle.std.specs.Prelude.{◌≡◌, ◌≢◌, ℕ, ◌+◌, ◌*◌, ◌/◌, ◌%◌, ◌<◌, ◌≤◌, true, List, [], ◌∷◌, ◌⊎◌, ◌↔◌, Some, slice_range, replicate, if◌then◌else◌}
+use Rattle.std.specs.Prelude.{◌≡◌, ◌≢◌, ℕ, ◌+◌, ◌*◌, ◌/◌, ◌%◌, ◌<◌, ◌≤◌, true, List, [], ◌∷◌, ◌⊎◌, ◌↔◌, ◌++◌, ◌==◌, Some, map, filter, slice_range, replicate, if◌then◌else◌}
+use Rattle.std.specs.List.{range_with_len}
 use Rattle.pdp_words.specs.Words.{SameOutside}
 use Rattle.vol_layout.specs.Edition.{constants}
 use Rattle.vol_layout.specs.Geometry.{in_zone, Fits}
 use Rattle.vol_layout.specs.Inode.{inode_place, inode_of}
-use Rattle.vol_layout.specs.Places.{IsPlace, levels_below, block_limit, last_place}
+use Rattle.vol_layout.specs.Places.{IsPlace, levels_below, block_limit, last_place, places}
 use Rattle.vol_layout.specs.Names.{form_at, IsFile, IsPlaceOf, named, stored, Holds}
 use Rattle.vol_layout.specs.Body.{body, body_size}
 use Rattle.vol_layout.specs.declared.edition.Edition.{Edition}
 use Rattle.vol_layout.specs.declared.edition.Edition.TheVariants.{V6, V7}
 use Rattle.vol_layout.specs.declared.geometry.Geometry.{Geometry}
 use Rattle.vol_layout.specs.declared.places.Form.{Form}
+use Rattle.vol_layout.specs.declared.places.Form.TheVariants.{Large}
 
 -- q is a front of place p, or p itself: a place that the way to p goes through (Lions on bmap)
 abbrev pub IsFront : List ℕ → List ℕ → Type 0
@@ -33,6 +35,17 @@ EndsWaysAtPlaces = (form : Form) (b : ℕ) (p : List ℕ) → last_place form b 
 -- different logical blocks have different last places (this project's law)
 abbrev pub EndsWaysApart : Type 0
 EndsWaysApart = (form : Form) (b c : ℕ) (p : List ℕ) → last_place form b ≡ Some p → last_place form c ≡ Some p → b ≡ c
+
+-- the places of a form that have no level below them, in the order of its places (Lions on bmap)
+abbrev pub leaves : Form → List (List ℕ)
+leaves form = filter (λ p. levels_below form p == 0) (places form)
+
+-- logical block after logical block has the next place with no level below it as its last place: all of these are the last place
+-- of a block, but of a large file only the first so many (this project's law)
+abbrev pub OrdersWays : Type 0
+OrdersWays = (form : Form) → (rest : List (List ℕ))
+    × (map Some (leaves form) ≡ map (last_place form) (range_with_len 0 (block_limit form)) ++ map Some rest)
+    × ((form ≡ Large) ⊎ (rest ≡ []))
 
 -- the byte where i-node i begins, by the block and the byte in it that the manual computes (manual section 5, file system; itod and itoo of param.h)
 abbrev pub manual_place : Edition → ℕ → ℕ

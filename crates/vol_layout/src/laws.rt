@@ -5,6 +5,7 @@ ghost use Rattle.vol_layout.specs.Laws.{
   HasWaysBelowLimit,
   EndsWaysAtPlaces,
   EndsWaysApart,
+  OrdersWays,
   PlacesInodes,
   PlacesInodesApart,
   ReadsBodyByBlocks,
@@ -18,11 +19,13 @@ pub fn names_follow_the_rules()
 {}
 
 /// Exactly the logical blocks below the form's limit have a way. It ends at a place with nothing
-/// below it, and the ways of different logical blocks end at different places.
+/// below it, and the ways of different logical blocks end at different places: these are the places
+/// with nothing below them, in their order.
 pub fn ways_end_at_places()
     ensures limit { HasWaysBelowLimit }
     ensures places { EndsWaysAtPlaces }
     ensures apart { EndsWaysApart }
+    ensures order { OrdersWays }
 {}
 
 /// An i-node stands in the block and at the byte that the manual's formula gives, behind the

@@ -1,4 +1,5 @@
 use Rattle.vol_layout.proofs.PlaceLaws.{has_way, last_leaf, last_apart}
+use Rattle.vol_layout.proofs.WayOrder.{orders_ways}
 use Rattle.vol_layout.proofs.laws.ways_end_at_places.Goals as goal
 
 pub returns-clause-limit : goal.returns-clause-limit
@@ -9,3 +10,6 @@ returns-clause-places c form b p e = ((last_leaf form b p e).place, (last_leaf f
 
 pub returns-clause-apart : goal.returns-clause-apart
 returns-clause-apart c = last_apart
+
+pub returns-clause-order : goal.returns-clause-order
+returns-clause-order c = orders_ways

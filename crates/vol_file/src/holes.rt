@@ -96,15 +96,13 @@ fn missing_from(image: &Image, geometry: &Geometry, m: u32, j: u32, levels: usiz
     ensures some { result ≡ 0 → j < (constants geometry.now.edition).pointers
         → leads_on geometry.now levels (pointer_in geometry.now image.now m j) ≡ true }
 {
-    let mut k = j;
-    while k < geometry.edition.constants().pointers {
-        let number = entry(image, geometry, m, k);
-        if leads_on(geometry, levels, number) {
+    let pointers = geometry.edition.constants().pointers;
+    for k in j..pointers {
+        if leads_on(geometry, levels, entry(image, geometry, m, k)) {
             return k - j;
         }
-        k += 1;
     }
-    k - j
+    pointers - j
 }
 
 /// Whether a pointer leads on: one with no levels of indirect blocks below it where it isn't 0, others where they name a data

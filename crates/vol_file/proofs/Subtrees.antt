@@ -18,7 +18,7 @@ use Rattle.vol_layout.proofs.FrameLaws.{pointers_in}
 use Rattle.vol_layout.proofs.NameLaws.{zero_out, named_stops}
 use Rattle.vol_layout.proofs.PlaceLaws.{has_no_way, last_none, last_leaf, entry_to, way_place}
 use Rattle.vol_file.specs.Holes.{IsHole, blocks_left, leads_on}
-use Rattle.vol_file.proofs.Lasts.{last_small, last_large, last_huge, last_direct, last_single, last_double, last_triple}
+use Rattle.vol_layout.proofs.LastPlaces.{last_small, last_large, last_huge, last_direct, last_single, last_double, last_triple}
 
 -- the first index of a list, and the others
 abbrev head_of : List ℕ → ℕ

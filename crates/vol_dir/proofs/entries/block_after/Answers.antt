@@ -4,16 +4,17 @@ use Rattle.vol_layout.proofs.NameLaws.{zero_out}
 use Rattle.vol_dir.specs.Entries.{entry_at, slot_count}
 use Rattle.vol_dir.specs.Searching.{is_sought}
 use Rattle.vol_dir.specs.declared.entries.Sought.{Sought}
-use Rattle.vol_dir.specs.declared.entries.Sought.TheVariants.{Named, Empty, Any, Other}
+use Rattle.vol_dir.specs.declared.entries.Sought.TheVariants.{Named, Empty, NamedOrEmpty, Any, Other}
 use Rattle.vol_dir.proofs.SlotReading.{entry_in_hole}
 use Rattle.vol_dir.proofs.entries.block_after.Goals as goal
 
 -- an empty slot is what a search for anything else passes
-empty_passed : (sought : Sought) → sought ≢ Empty → is_sought sought None ≡ false
-empty_passed (Named name) other = refl
-empty_passed Empty other = absurd (other refl)
-empty_passed Any other = refl
-empty_passed Other other = refl
+empty_passed : (sought : Sought) → sought ≢ Empty → ((name : _) → sought ≢ NamedOrEmpty name) → is_sought sought None ≡ false
+empty_passed (Named name) other neither = refl
+empty_passed Empty other neither = absurd (other refl)
+empty_passed (NamedOrEmpty name) other neither = absurd (neither name refl)
+empty_passed Any other neither = refl
+empty_passed Other other neither = refl
 
 pub returns-in_default-clause-passed : goal.returns-in_default-clause-passed
 returns-in_default-clause-passed c = λ t low high within.
@@ -26,4 +27,4 @@ returns-in_default-clause-passed c = λ t low high within.
     ap (λ n. is_sought c.args.sought (entry_at geometry image c.args.dir n)) place
     ∙ (ap (is_sought c.args.sought)
     (entry_in_hole geometry image c.args.dir (t / 32) (t % 32) 0 (omega arith) count empty (zero_out geometry image c.requires.fits))
-    ∙ empty_passed c.args.sought c.in_default.not-Empty)
+    ∙ empty_passed c.args.sought c.in_default.not-Empty c.in_default.not-NamedOrEmpty)

@@ -16,7 +16,7 @@ ghost use Rattle.vol_judge.specs.GraphEdits.{ChangesSlot};
 ghost use Rattle.vol_change.specs.Changed.{Changed, IsOther, as_before, PutsInBody};
 ghost use Rattle.vol_change.specs.Beside.{StaysBeside};
 ghost use Rattle.vol_change.specs.Contents.{put_entry, drop_entry};
-ghost use Rattle.vol_change.specs.Unused.{KeepsUnused};
+ghost use Rattle.vol_change.specs.Unused.{KeepsAllUnused};
 ghost use Rattle.vol_change.specs.Whole.{HasDirectory};
 ghost use Rattle.vol_change.specs.Edits.{add_entry, remove_entry};
 ghost use Rattle.vol_change.specs.Ready.{TakesName, entry_need, free_in};
@@ -47,7 +47,7 @@ pub fn add_name(image: &mut Image, geometry: &Geometry, dir: u16, slot: u32, nam
         (new_slot (names_in (slots geometry.now image.old dir))) None (Some (name.now, i)) }
     ensures beside { StaysBeside (graph_of geometry.now image.old) (graph_of geometry.now image.new) dir }
     ensures once { HasNamesOnce geometry.now image.new dir }
-    ensures unused { (j : ℕ) → 1 ≤ j → j ≤ geometry.now.last_inode → KeepsUnused geometry.now image.old image.new j }
+    ensures unused { KeepsAllUnused geometry.now image.old image.new }
 {
     add_at(image, geometry, dir, slot, name, i);
 }
@@ -68,7 +68,7 @@ pub fn remove_name(image: &mut Image, geometry: &Geometry, dir: u16, slot: u32, 
         (option_map (λ i. (name.now, i)) (get (names_of (slots geometry.now image.old dir)) name.now)) None }
     ensures beside { StaysBeside (graph_of geometry.now image.old) (graph_of geometry.now image.new) dir }
     ensures once { HasNamesOnce geometry.now image.new dir }
-    ensures unused { (j : ℕ) → 1 ≤ j → j ≤ geometry.now.last_inode → KeepsUnused geometry.now image.old image.new j }
+    ensures unused { KeepsAllUnused geometry.now image.old image.new }
 {
     remove_at(image, geometry, dir, slot, name);
 }
@@ -97,7 +97,7 @@ pub(crate) fn enter(
     ensures slot { ChangesSlot (graph_of geometry.now image.old) (graph_of geometry.now image.new) dir
         (new_slot (names_in (slots geometry.now image.old dir))) None (Some (name.now, i)) }
     ensures beside { StaysBeside (graph_of geometry.now image.old) (graph_of geometry.now image.new) dir }
-    ensures unused { (j : ℕ) → 1 ≤ j → j ≤ geometry.now.last_inode → KeepsUnused geometry.now image.old image.new j }
+    ensures unused { KeepsAllUnused geometry.now image.old image.new }
 {
     add_name(image, geometry, dir, slot, name, i);
     touch(image, geometry, dir, moment);
@@ -123,7 +123,7 @@ pub(crate) fn leave(
         (slot_named name.now (slots geometry.now image.old dir))
         (option_map (λ i. (name.now, i)) (get (names_of (slots geometry.now image.old dir)) name.now)) None }
     ensures beside { StaysBeside (graph_of geometry.now image.old) (graph_of geometry.now image.new) dir }
-    ensures unused { (j : ℕ) → 1 ≤ j → j ≤ geometry.now.last_inode → KeepsUnused geometry.now image.old image.new j }
+    ensures unused { KeepsAllUnused geometry.now image.old image.new }
 {
     remove_name(image, geometry, dir, slot, name);
     touch(image, geometry, dir, moment);

@@ -9,7 +9,7 @@ ghost use Rattle.vol_change.specs.Changed.{Changed, FreeBecomes, IsOther, blocks
 ghost use Rattle.vol_change.specs.Alone.{ChangesOnly};
 ghost use Rattle.vol_change.specs.Edits.{remove_node};
 ghost use Rattle.vol_change.specs.NodeGraphs.{DropsNode};
-ghost use Rattle.vol_change.specs.Unused.{IsCleared, KeepsUnused};
+ghost use Rattle.vol_change.specs.Unused.{IsCleared, KeepsUnusedBut};
 ghost use Rattle.vol_change.specs.Whole.{IsWhole};
 
 use pdp_words::Image;
@@ -30,7 +30,7 @@ pub fn free_node(image: &mut Image, geometry: &Geometry, i: u16)
         (remove_node i (state geometry.now image.old)) (λ blocks. blocks_freed geometry.now image.old i ++ blocks) }
     ensures graph { DropsNode (graph_of geometry.now image.old) (graph_of geometry.now image.new) i }
     ensures cleared { IsCleared geometry.now image.new i }
-    ensures others { (j : ℕ) → 1 ≤ j → j ≤ geometry.now.last_inode → j ≢ i → KeepsUnused geometry.now image.old image.new j }
+    ensures others { KeepsUnusedBut geometry.now image.old image.new i }
 {
     free_blocks(image, geometry, i);
     clear_inode(image, geometry, i);
@@ -44,7 +44,7 @@ fn free_blocks(image: &mut Image, geometry: &Geometry, i: u16)
     requires last { i ≤ geometry.now.last_inode }
     ensures whole { IsWhole geometry.now image.new }
     ensures only { ChangesOnly geometry.now image.old image.new i }
-    ensures others { (j : ℕ) → 1 ≤ j → j ≤ geometry.now.last_inode → j ≢ i → KeepsUnused geometry.now image.old image.new j }
+    ensures others { KeepsUnusedBut geometry.now image.old image.new i }
     ensures free { FreeBecomes geometry.now image.old image.new (λ blocks. blocks_freed geometry.now image.old i ++ blocks) }
     ensures none { (p : List ℕ) → IsPlaceOf geometry.now image.new i p → named geometry.now image.new i p ≡ 0 }
 {

@@ -9,7 +9,7 @@ ghost use Rattle.vol_judge.specs.Graph.{graph_of};
 ghost use Rattle.vol_change.specs.Changed.{Changed, IsAny, as_before};
 ghost use Rattle.vol_change.specs.Edits.{add_link, change_node, drop_link, with_links};
 ghost use Rattle.vol_change.specs.NodeGraphs.{SetsLinks};
-ghost use Rattle.vol_change.specs.Unused.{KeepsUnused};
+ghost use Rattle.vol_change.specs.Unused.{KeepsAllUnused};
 ghost use Rattle.vol_change.specs.Whole.{IsWhole, HasNode};
 
 use crate::times::stamp;
@@ -25,7 +25,7 @@ pub fn put_links(image: &mut Image, geometry: &Geometry, i: u16, links: u16, now
     ensures changed { Changed geometry.now image.old image.new IsAny
         (change_node i (with_links now links) (state geometry.now image.old)) as_before }
     ensures graph { SetsLinks (graph_of geometry.now image.old) (graph_of geometry.now image.new) i links }
-    ensures unused { (j : ℕ) → 1 ≤ j → j ≤ geometry.now.last_inode → KeepsUnused geometry.now image.old image.new j }
+    ensures unused { KeepsAllUnused geometry.now image.old image.new }
 {
     let node = inode(image, geometry, i);
     let linked = Inode {
@@ -44,7 +44,7 @@ pub fn add_link(image: &mut Image, geometry: &Geometry, i: u16, now: u32)
         (add_link now i (state geometry.now image.old)) as_before }
     ensures graph { SetsLinks (graph_of geometry.now image.old) (graph_of geometry.now image.new) i
         ((inode_of geometry.now.edition image.old i).links + 1) }
-    ensures unused { (j : ℕ) → 1 ≤ j → j ≤ geometry.now.last_inode → KeepsUnused geometry.now image.old image.new j }
+    ensures unused { KeepsAllUnused geometry.now image.old image.new }
 {
     let links = inode(image, geometry, i).links;
     put_links(image, geometry, i, links + 1, now);
@@ -58,7 +58,7 @@ pub fn drop_link(image: &mut Image, geometry: &Geometry, i: u16, now: u32)
         (drop_link now i (state geometry.now image.old)) as_before }
     ensures graph { SetsLinks (graph_of geometry.now image.old) (graph_of geometry.now image.new) i
         ((inode_of geometry.now.edition image.old i).links - 1) }
-    ensures unused { (j : ℕ) → 1 ≤ j → j ≤ geometry.now.last_inode → KeepsUnused geometry.now image.old image.new j }
+    ensures unused { KeepsAllUnused geometry.now image.old image.new }
 {
     let links = inode(image, geometry, i).links;
     put_links(image, geometry, i, links - 1, now);

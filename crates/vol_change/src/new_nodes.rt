@@ -13,7 +13,7 @@ ghost use Rattle.vol_change.specs.Changed.{Changed, IsAny, IsOther, as_before};
 ghost use Rattle.vol_change.specs.Edits.{new_node, put_node, put_shape};
 ghost use Rattle.vol_change.specs.Inodes.{MakesInode};
 ghost use Rattle.vol_change.specs.NodeGraphs.{AddsNode};
-ghost use Rattle.vol_change.specs.Unused.{KeepsUnused};
+ghost use Rattle.vol_change.specs.Unused.{KeepsAllUnused, KeepsUnusedBut};
 ghost use Rattle.vol_change.specs.Whole.{IsWhole};
 
 use pdp_words::Image;
@@ -43,7 +43,7 @@ pub(crate) fn pick_number(image: &mut Image, geometry: &Geometry, recorded: Opti
     ensures changed { Changed geometry.now image.old image.new IsAny
         (state geometry.now image.old) as_before }
     ensures graph { IsSameGraph (graph_of geometry.now image.old) (graph_of geometry.now image.new) }
-    ensures unused { (j : ℕ) → 1 ≤ j → j ≤ geometry.now.last_inode → KeepsUnused geometry.now image.old image.new j }
+    ensures unused { KeepsAllUnused geometry.now image.old image.new }
 {
     let Some(taken) = take_inode(image, geometry) else {
         unreachable!()
@@ -63,7 +63,7 @@ pub fn make_file(image: &mut Image, geometry: &Geometry, i: u16, node: NewNode)
         (state geometry.now image.old))) as_before }
     ensures graph { AddsNode (graph_of geometry.now image.old) (graph_of geometry.now image.new) i kinds.Regular 1 }
     ensures unused { geometry.now.edition ≡ editions.V7 → slice_index image.new (inode_place editions.V7 i + 51) ≡ 0 }
-    ensures others { (j : ℕ) → 1 ≤ j → j ≤ geometry.now.last_inode → j ≢ i → KeepsUnused geometry.now image.old image.new j }
+    ensures others { KeepsUnusedBut geometry.now image.old image.new i }
 {
     let mode = Mode::regular(geometry.edition, node.permissions);
     make_node(image, geometry, i, mode, 1, node);
@@ -81,7 +81,7 @@ pub fn make_directory(image: &mut Image, geometry: &Geometry, i: u16, node: NewN
         (state geometry.now image.old))) as_before }
     ensures graph { AddsNode (graph_of geometry.now image.old) (graph_of geometry.now image.new) i kinds.Directory 2 }
     ensures unused { geometry.now.edition ≡ editions.V7 → slice_index image.new (inode_place editions.V7 i + 51) ≡ 0 }
-    ensures others { (j : ℕ) → 1 ≤ j → j ≤ geometry.now.last_inode → j ≢ i → KeepsUnused geometry.now image.old image.new j }
+    ensures others { KeepsUnusedBut geometry.now image.old image.new i }
 {
     let mode = Mode::directory(geometry.edition, node.permissions);
     make_node(image, geometry, i, mode, 2, node);

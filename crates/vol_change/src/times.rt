@@ -10,7 +10,7 @@ ghost use Rattle.vol_judge.specs.Graph.{graph_of};
 ghost use Rattle.vol_judge.specs.GraphEdits.{IsSameGraph};
 ghost use Rattle.vol_change.specs.Changed.{Changed, IsAny, as_before};
 ghost use Rattle.vol_change.specs.Edits.{at_time, change_node, modified};
-ghost use Rattle.vol_change.specs.Unused.{KeepsUnused};
+ghost use Rattle.vol_change.specs.Unused.{KeepsAllUnused};
 ghost use Rattle.vol_change.specs.Whole.{IsWhole, HasNode};
 
 use pdp_words::Image;
@@ -38,7 +38,7 @@ pub fn touch(image: &mut Image, geometry: &Geometry, i: u16, now: u32)
     ensures changed { Changed geometry.now image.old image.new IsAny
         (change_node i (modified now) (state geometry.now image.old)) as_before }
     ensures graph { IsSameGraph (graph_of geometry.now image.old) (graph_of geometry.now image.new) }
-    ensures unused { (j : ℕ) → 1 ≤ j → j ≤ geometry.now.last_inode → KeepsUnused geometry.now image.old image.new j }
+    ensures unused { KeepsAllUnused geometry.now image.old image.new }
 {
     let node = inode(image, geometry, i);
     let touched = Inode {

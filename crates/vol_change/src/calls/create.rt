@@ -11,7 +11,7 @@ ghost use Rattle.vol_free.specs.Numbers.{IsFreeNumber};
 ghost use Rattle.vol_dir.specs.Editing.{slot_bytes};
 ghost use Rattle.vol_change.specs.Changed.{FreeBecomes, KeepsFilesBut, PutsInBody};
 ghost use Rattle.vol_change.specs.Edits.{at_time};
-ghost use Rattle.vol_change.specs.Unused.{KeepsUnused};
+ghost use Rattle.vol_change.specs.Unused.{KeepsUnusedBut};
 ghost use Rattle.vol_change.specs.Effects.{after_create};
 ghost use Rattle.vol_change.specs.Ready.{IsReady, TakesName, Changes, entry_need, free_in};
 
@@ -54,7 +54,7 @@ pub fn create(
     ensures bytes { PutsInBody geometry.now image.old image.new dir (16 * slot) (slot_bytes name.now result) }
     ensures files { KeepsFilesBut geometry.now image.old image.new dir result }
     ensures unused { geometry.now.edition ≡ editions.V7 → slice_index image.new (inode_place editions.V7 result + 51) ≡ 0 }
-    ensures others { (j : ℕ) → 1 ≤ j → j ≤ geometry.now.last_inode → j ≢ result → KeepsUnused geometry.now image.old image.new j }
+    ensures others { KeepsUnusedBut geometry.now image.old image.new result }
 {
     let made = pick_number(image, geometry, recorded);
     make_file(image, geometry, made, node);

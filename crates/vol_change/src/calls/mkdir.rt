@@ -19,7 +19,7 @@ ghost use Rattle.vol_change.specs.Edits.{at_time};
 ghost use Rattle.vol_change.specs.Nodes.{node_at};
 ghost use Rattle.vol_change.specs.Whole.{IsWhole};
 ghost use Rattle.vol_change.specs.Dots.{HoldsNames, AddsDots};
-ghost use Rattle.vol_change.specs.Unused.{KeepsUnused};
+ghost use Rattle.vol_change.specs.Unused.{KeepsAllUnused, KeepsUnusedBut};
 ghost use Rattle.vol_change.specs.Effects.{after_mkdir};
 ghost use Rattle.vol_change.specs.Ready.{IsReady, TakesName, Changes, entry_need, free_in};
 
@@ -67,7 +67,7 @@ pub fn mkdir(
     ensures bytes { PutsInBody geometry.now image.old image.new dir (16 * slot) (slot_bytes name.now result) }
     ensures files { KeepsFilesBut geometry.now image.old image.new dir result }
     ensures unused { geometry.now.edition ≡ editions.V7 → slice_index image.new (inode_place editions.V7 result + 51) ≡ 0 }
-    ensures others { (j : ℕ) → 1 ≤ j → j ≤ geometry.now.last_inode → j ≢ result → KeepsUnused geometry.now image.old image.new j }
+    ensures others { KeepsUnusedBut geometry.now image.old image.new result }
 {
     let made = pick_number(image, geometry, recorded);
     make_directory(image, geometry, made, node);
@@ -90,7 +90,7 @@ fn add_dots(image: &mut Image, geometry: &Geometry, i: u16, dir: u16)
         (put_entry i dot_dot dir (put_entry i dot i (state geometry.now image.old))) (drop 1) }
     ensures own { (blocks : List ℕ) → IsFree geometry.now image.old blocks → named geometry.now image.new i (0 ∷ []) ≡ slice_index blocks 0 }
     ensures graph { AddsDots (graph_of geometry.now image.old) (graph_of geometry.now image.new) i dir }
-    ensures unused { (j : ℕ) → 1 ≤ j → j ≤ geometry.now.last_inode → KeepsUnused geometry.now image.old image.new j }
+    ensures unused { KeepsAllUnused geometry.now image.old image.new }
 {
     add_name(image, geometry, i, 0, b".", i);
     add_name(image, geometry, i, 1, b"..", dir);

@@ -8,7 +8,7 @@ ghost use Rattle.vol_dir.specs.Tree.{state};
 ghost use Rattle.vol_change.specs.Changed.{FreeBecomes, KeepsFilesBut, blocks_freed, PutsInBody};
 ghost use Rattle.vol_change.specs.Edits.{at_time};
 ghost use Rattle.vol_change.specs.Nodes.{names_at};
-ghost use Rattle.vol_change.specs.Unused.{IsCleared, KeepsUnused};
+ghost use Rattle.vol_change.specs.Unused.{IsCleared, KeepsUnusedBut};
 ghost use Rattle.vol_change.specs.Effects.{after_rmdir};
 ghost use Rattle.vol_change.specs.Ready.{IsReady, Changes};
 
@@ -45,7 +45,7 @@ pub fn rmdir(
     ensures bytes { PutsInBody geometry.now image.old image.new dir (16 * slot) (0 ∷ 0 ∷ []) }
     ensures files { KeepsFilesBut geometry.now image.old image.new dir i }
     ensures cleared { IsCleared geometry.now image.new i }
-    ensures others { (j : ℕ) → 1 ≤ j → j ≤ geometry.now.last_inode → j ≢ i → KeepsUnused geometry.now image.old image.new j }
+    ensures others { KeepsUnusedBut geometry.now image.old image.new i }
 {
     leave(image, geometry, dir, slot, name, moment);
     drop_link(image, geometry, dir, moment);

@@ -6,7 +6,7 @@ ghost use Rattle.vol_dir.specs.Tree.{state};
 ghost use Rattle.vol_file.specs.Changes.{blocks_of};
 ghost use Rattle.vol_change.specs.Changed.{FreeBecomes, KeepsFilesBut};
 ghost use Rattle.vol_change.specs.Edits.{at_time, after_truncate};
-ghost use Rattle.vol_change.specs.Unused.{KeepsUnused};
+ghost use Rattle.vol_change.specs.Unused.{KeepsAllUnused};
 ghost use Rattle.vol_change.specs.Ready.{IsReady, Changes};
 
 use crate::times::{put_time, touch};
@@ -25,7 +25,7 @@ pub fn truncate(image: &mut Image, geometry: &Geometry, i: u16, moment: u32)
         (at_time moment (after_truncate (state geometry.now image.old) moment i)) }
     ensures list { FreeBecomes geometry.now image.old image.new (λ blocks. blocks_of geometry.now image.old i ++ blocks) }
     ensures files { KeepsFilesBut geometry.now image.old image.new i i }
-    ensures unused { (j : ℕ) → 1 ≤ j → j ≤ geometry.now.last_inode → KeepsUnused geometry.now image.old image.new j }
+    ensures unused { KeepsAllUnused geometry.now image.old image.new }
 {
     let _ = vol_file::truncate(image, geometry, i);
     touch(image, geometry, i, moment);

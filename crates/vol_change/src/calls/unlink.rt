@@ -11,7 +11,7 @@ ghost use Rattle.vol_change.specs.Alone.{KeepsContent};
 ghost use Rattle.vol_change.specs.Changed.{FreeBecomes, KeepsFilesBut, as_before, blocks_freed, PutsInBody};
 ghost use Rattle.vol_change.specs.Edits.{at_time};
 ghost use Rattle.vol_change.specs.Nodes.{names_at};
-ghost use Rattle.vol_change.specs.Unused.{IsCleared, KeepsUnused};
+ghost use Rattle.vol_change.specs.Unused.{IsCleared, KeepsUnused, KeepsUnusedBut};
 ghost use Rattle.vol_change.specs.Effects.{after_unlink};
 ghost use Rattle.vol_change.specs.Ready.{IsReady, Changes};
 
@@ -51,7 +51,7 @@ pub fn unlink(
     ensures files { KeepsFilesBut geometry.now image.old image.new dir i }
     ensures cleared { (inode_of geometry.now.edition image.old i).links ≤ 1 → IsCleared geometry.now image.new i }
     ensures unused { 1 < (inode_of geometry.now.edition image.old i).links → KeepsUnused geometry.now image.old image.new i }
-    ensures others { (j : ℕ) → 1 ≤ j → j ≤ geometry.now.last_inode → j ≢ i → KeepsUnused geometry.now image.old image.new j }
+    ensures others { KeepsUnusedBut geometry.now image.old image.new i }
 {
     leave(image, geometry, dir, slot, name, moment);
     if inode(image, geometry, i).links <= 1 {

@@ -8,7 +8,7 @@ ghost use Rattle.vol_dir.specs.Tree.{state};
 ghost use Rattle.vol_change.specs.Changed.{FreeBecomes, KeepsFilesBut};
 ghost use Rattle.vol_change.specs.Edits.{at_time, after_write};
 ghost use Rattle.vol_change.specs.Shapes.{need_in};
-ghost use Rattle.vol_change.specs.Unused.{KeepsUnused};
+ghost use Rattle.vol_change.specs.Unused.{KeepsAllUnused};
 ghost use Rattle.vol_change.specs.Ready.{IsReady, Changes, free_in};
 
 use crate::times::{put_time, touch};
@@ -32,7 +32,7 @@ pub fn write(image: &mut Image, geometry: &Geometry, i: u16, offset: u32, bytes:
     ensures list { FreeBecomes geometry.now image.old image.new
         (drop (need_in geometry.now.edition ((state geometry.now image.old).shapes i) (touched offset (length bytes.now)))) }
     ensures files { KeepsFilesBut geometry.now image.old image.new i i }
-    ensures unused { (j : ℕ) → 1 ≤ j → j ≤ geometry.now.last_inode → KeepsUnused geometry.now image.old image.new j }
+    ensures unused { KeepsAllUnused geometry.now image.old image.new }
 {
     if !bytes.is_empty() {
         vol_file::write(image, geometry, i, offset, bytes);

@@ -7,7 +7,7 @@ use Rattle.vol_layout.specs.declared.mode.Kind.TheVariants as kinds
 use Rattle.vol_file.specs.Changes.{Writes, Truncates, ChangesFileAlone, blocks_of}
 use Rattle.vol_file.specs.Rules.{kind_at, IsSoundWith}
 use Rattle.vol_file.specs.Shape.{touched}
-use Rattle.vol_dir.specs.Tree.{shapes, state, tree}
+use Rattle.vol_dir.specs.Tree.{shapes, state}
 use Rattle.vol_judge.specs.Graph.{graph_of}
 use Rattle.vol_judge.specs.GraphEdits.{IsSameGraph}
 use Rattle.vol_change.specs.Changed.{Changed, IsOther}

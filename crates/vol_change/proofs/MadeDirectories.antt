@@ -7,27 +7,19 @@ use Rattle.vol_file.specs.Rules.{HasKinds}
 use Rattle.vol_dir.specs.Entries.{IsDirectory}
 use Rattle.vol_dir.specs.Names.{dot, dot_dot}
 use Rattle.vol_dir.specs.Tree.{State, no_shape, state, tree}
-use Rattle.vol_dir.specs.Walk.{IsComponent}
 use Rattle.vol_dir.specs.declared.cred.Cred.{Cred}
-use Rattle.vol_judge.specs.Directories.{root_of}
 use Rattle.vol_judge.specs.Graph.{graph_of}
-use Rattle.vol_judge.specs.GraphEdits.{AddsDirectory}
 use Rattle.vol_judge.proofs.GraphParts.{not_free}
-use Rattle.vol_judge.proofs.ImageGraphs.{graph_within}
-use Rattle.vol_judge.proofs.MadeGraphs.{added_directory_sound}
 use Rattle.vol_change.specs.Contents.{put_entry}
 use Rattle.vol_change.specs.Edits.{add_entry, add_link}
 use Rattle.vol_change.specs.Nodes.{node_at}
-use Rattle.vol_change.specs.Whole.{Keeps}
 use Rattle.vol_change.specs.Dots.{HoldsNames}
 use Rattle.vol_change.specs.Effects.{after_mkdir}
-use Rattle.vol_change.specs.Ready.{IsReady, TakesName, entry_need, free_in}
+use Rattle.vol_change.specs.Ready.{entry_need, free_in}
 use Rattle.vol_change.proofs.DotStates.{bare_directory, bare_empty, dots_made}
 use Rattle.vol_change.proofs.FreeAfter.{entry_takes}
-use Rattle.vol_change.proofs.NamedNodes.{new_name}
 use Rattle.vol_change.proofs.NodeEdits.{edit}
 use Rattle.vol_change.proofs.NodeLinks.{links_is}
-use Rattle.vol_change.proofs.ReadyLaws.{ready_graph, ready_from}
 
 -- a block is free once a directory has its new entry, where there was one more than that needed
 pub room_entered : (state : State) (now d i : ℕ) (name : List ℕ) → 1 ≤ d → d ≤ state.tree.geometry.last_inode

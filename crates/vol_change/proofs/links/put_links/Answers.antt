@@ -27,7 +27,7 @@ puts c =
 pub returns-clause-changed : goal.returns-clause-changed
 returns-clause-changed c = record {
   keeps =
-    put_keeps c.args.geometry.now c.args.image.now c.put_inode.new.image c.args.i (put_node c) c.requires.node.whole (puts c) c.requires.limit;
+      put_keeps c.args.geometry.now c.args.image.now c.put_inode.new.image c.args.i (put_node c) c.requires.node.whole (puts c) c.requires.limit;
   makes =
       put_makes c.args.geometry.now c.args.image.now c.put_inode.new.image c.args.i (put_node c) (with_links c.args.now c.args.links) c.requires.node.whole (puts c)
       (λ content.

@@ -13,9 +13,9 @@ returns-clause-changed c =
     record {
       keeps = made_keeps c.args.geometry.now c.args.image.now c.make_node.new.image c.args.i _ c.requires.whole makes;
       makes =
-        directory_makes c.args.geometry.now c.args.image.now c.make_node.new.image c.args.i _ c.requires.whole makes c.directory-mode.ensures.kind
-        ∙ ap (λ n. put_shape c.args.i no_shape (put_node c.args.i (Some n) (state c.args.geometry.now c.args.image.now)))
-        (reads_new c.args.geometry.now.edition c.directory-mode.result 2 node.owner node.moment node.permissions (Directory []) c.directory-mode.ensures.permissions);
+          directory_makes c.args.geometry.now c.args.image.now c.make_node.new.image c.args.i _ c.requires.whole makes c.directory-mode.ensures.kind
+          ∙ ap (λ n. put_shape c.args.i no_shape (put_node c.args.i (Some n) (state c.args.geometry.now c.args.image.now)))
+          (reads_new c.args.geometry.now.edition c.directory-mode.result 2 node.owner node.moment node.permissions (Directory []) c.directory-mode.ensures.permissions);
       free = made_free c.args.geometry.now c.args.image.now c.make_node.new.image c.args.i _ c.requires.whole makes;
       content = λ j first last other.
           ((made_only c.args.geometry.now c.args.image.now c.make_node.new.image c.args.i _ c.requires.whole makes).others j first last other).content;

@@ -30,9 +30,9 @@ puts c =
 pub returns-clause-changed : goal.returns-clause-changed
 returns-clause-changed c = record {
   keeps =
-    put_keeps c.args.geometry.now c.args.image.now c.put_inode.new.image c.args.i (put_node c) c.requires.node.whole (puts c)
-    (subst (λ node. node.links ≤ (constants c.args.geometry.now.edition).link_limit) (sym c.inode-node.ensures.value)
-    (c.requires.node.whole.sound.sizes.links c.args.i c.requires.node.first c.requires.node.last c.requires.node.used));
+      put_keeps c.args.geometry.now c.args.image.now c.put_inode.new.image c.args.i (put_node c) c.requires.node.whole (puts c)
+      (subst (λ node. node.links ≤ (constants c.args.geometry.now.edition).link_limit) (sym c.inode-node.ensures.value)
+      (c.requires.node.whole.sound.sizes.links c.args.i c.requires.node.first c.requires.node.last c.requires.node.used));
   makes =
       put_makes c.args.geometry.now c.args.image.now c.put_inode.new.image c.args.i (put_node c) (modified c.args.now) c.requires.node.whole (puts c)
       (λ content.

@@ -6,7 +6,7 @@ use Rattle.vol_change.proofs.UnusedBytes.{unused_then}
 use Rattle.vol_change.proofs.CallSteps.{changed}
 use Rattle.vol_change.proofs.EntryNodes.{name_there, directory_above}
 use Rattle.vol_change.proofs.LeftNodes.{left_linked, made_emptied, LeavesEntry, left_apart}
-use Rattle.vol_change.proofs.ReadyLaws.{ready_whole, ready_slots, ready_once, directory_kept, ready_directory}
+use Rattle.vol_change.proofs.ReadyLaws.{directory_kept, ready_directory}
 use Rattle.vol_change.proofs.UnusedNodes.{time_unused, time_cleared}
 use Rattle.vol_change.proofs.calls.rmdir.rmdir.Goals as goal
 

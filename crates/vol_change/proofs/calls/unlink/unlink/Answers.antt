@@ -14,7 +14,7 @@ use Rattle.vol_change.specs.Effects.{after_unlink}
 use Rattle.vol_change.proofs.CallSteps.{HasMade, changed}
 use Rattle.vol_change.proofs.EntryNodes.{name_there, named_used, used_first, file_above}
 use Rattle.vol_change.proofs.LeftNodes.{LeavesEntry, left_same, left_used, made_unnamed, made_unlinked}
-use Rattle.vol_change.proofs.ReadyLaws.{ready_whole, ready_slots, ready_once, directory_kept, ready_directory}
+use Rattle.vol_change.proofs.ReadyLaws.{directory_kept, ready_directory}
 use Rattle.vol_change.proofs.UnusedNodes.{time_unused, time_cleared}
 use Rattle.vol_change.proofs.calls.unlink.unlink.Goals as goal
 use Rattle.vol_change.proofs.calls.unlink.unlink.Goals.{After-put_time, then-inode-le1, else-inode-le1}

@@ -3,17 +3,17 @@ use Rattle.std.proofs.Common.{◌≡◌, ℕ, ◌+◌, ◌-◌, ◌*◌, ◌<◌
 use Rattle.std.specs.List.{sum_by}
 use Rattle.std.proofs.lemmas.Bool.{cases_eq}
 use Rattle.std.proofs.lemmas.List.{get_or-set_same, get_or-set_other}
-use Rattle.std.proofs.lemmas.List.Sums.{sum_by-set}
+use Rattle.std.proofs.lemmas.List.Sums.{sum_by-cons, sum_by-set}
 use Rattle.pdp_words.specs.Words.{word}
 use Rattle.vol_layout.specs.Edition.{constants, number}
 use Rattle.vol_layout.specs.Geometry.{in_zone, Fits}
 use Rattle.vol_layout.specs.Super.{free_head}
 use Rattle.vol_layout.specs.declared.geometry.Geometry.{Geometry}
 use Rattle.vol_layout.proofs.NameLaws.{zone_some}
-use Rattle.vol_free.specs.Stack.{IsIn, Once, IsStack, HasStack}
+use Rattle.vol_free.specs.Stack.{IsIn, Once, IsFree, IsStack, HasStack}
 use Rattle.vol_free.proofs.Stacks.{zone_below, zone_behind, stack_none}
 use Rattle.vol_judge.specs.declared.free_marks.Rest.{Rest}
-use Rattle.vol_judge.specs.FreeWalk.{AreFreeMarks, IsRest, IsReadable, IsBefore, IsEnd, IsMet, joined, IsWalked}
+use Rattle.vol_judge.specs.FreeWalk.{AreFreeMarks, IsRest, IsReadable, IsBefore, IsEnd, IsMet, joined, IsWalked, IsCounted}
 
 -- where two numbers or more are left, the stack begins with the last, and one less is left behind it
 shorter : (geometry : Geometry) (image : List ℕ) (at n b : ℕ) (blocks : List ℕ) → 2 ≤ n → b ≡ number geometry.edition image (at + 2) (n - 1)
@@ -207,6 +207,35 @@ walked_end few walked end = record {
   all = λ k i. elim (joined_in walked.met [] k i) [ inl before ↦ walked.all k before | inr later ↦ absurd later ];
 }
 
+-- at the start none was counted
+pub counted_start : (geometry : Geometry) (image : List ℕ) (marks : List Bool) (rest : Rest)
+    → rest.head ≡ free_head geometry.edition → rest.count ≡ word image (free_head geometry.edition)
+    → ((k : ℕ) → get_or marks k false ≡ false) → IsCounted geometry image marks rest 0
+unfolding walked_start
+counted_start geometry image marks rest head count clear = record { walked = walked_start geometry image marks rest head count clear; counted = refl }
+
+-- and one more behind a block that was met
+pub counted_next : {geometry : Geometry} {image : List ℕ} {old new : List Bool} {rest next : Rest} {count : ℕ} → length old ≡ geometry.zone_end
+    → IsCounted geometry image old rest count → IsMet geometry image old new rest next → IsCounted geometry image new next (count + 1)
+unfolding walked_next
+counted_next len walked step = record { walked = walked_next len walked.walked step; counted = let counted = walked.counted in omega (arith, counted) }
+
+-- there are as many blocks in the list as were met and come later
+length-joined : (met blocks : List ℕ) → length (joined met blocks) ≡ length met + length blocks
+unfolding joined
+length-joined [] blocks = omega arith
+length-joined (b ∷ met) blocks = let later = length-joined met (b ∷ blocks) in omega arith
+
+-- so at the end as many blocks are free as were met
+pub walked_count : {geometry : Geometry} {image : List ℕ} {marks : List Bool} {rest : Rest} {count : ℕ} → IsCounted geometry image marks rest count
+    → IsEnd geometry image rest → (blocks : List ℕ) → IsFree geometry image blocks → count ≡ length blocks
+walked_count walked end blocks free =
+    let all = walked.walked.from blocks free.stack in
+    let none : all.0 ≡ [] = end.none all.0 all.2 in
+    let whole : length blocks ≡ length walked.walked.met + length all.0 = ap length all.1 ∙ length-joined walked.walked.met all.0 in
+    let nothing : length all.0 ≡ 0 = ap length none in
+    omega (arith, whole, nothing, walked.counted)
+
 -- where the walk breaks off, there is no stack
 pub walked_broken : {geometry : Geometry} {image : List ℕ} {marks : List Bool} {rest : Rest} → IsWalked geometry image marks rest
     → ((blocks : List ℕ) → IsRest geometry image rest blocks → ((b : ℕ) → IsIn b blocks → get_or marks b false ≡ true → ⊥) → ⊥)
@@ -224,6 +253,13 @@ unset false = 1
 -- how many blocks aren't marked
 unfoldable pub unmarked : List Bool → ℕ
 unmarked marks = sum_by unset marks
+
+-- no more than there are marks
+pub unmarked_most : (marks : List Bool) → unmarked marks ≤ length marks
+unfolding unmarked
+unmarked_most [] = omega arith
+unmarked_most (true ∷ marks) = let most = unmarked_most marks in omega (arith, sum_by-cons unset true marks, most)
+unmarked_most (false ∷ marks) = let most = unmarked_most marks in omega (arith, sum_by-cons unset false marks, most)
 
 -- each block that is met is one less that isn't marked
 pub unmarked_less : {geometry : Geometry} {image : List ℕ} {old new : List Bool} {rest next : Rest} → length old ≡ geometry.zone_end

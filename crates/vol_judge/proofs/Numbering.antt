@@ -1,6 +1,7 @@
 -- Rules by their numbers.
-use Rattle.std.proofs.Common.{◌≡◌, ℕ, zero, suc, ◌+◌, ◌<◌, ◌⊎◌, inl, inr, Bool, true, false, List, [], ◌∷◌, Option, None, Some, Result, Ok, Err, refl, ap, ◌∙◌, arith}
+use Rattle.std.proofs.Common.{◌≡◌, ℕ, zero, suc, ◌+◌, ◌<◌, ◌⊎◌, inl, inr, Bool, true, false, List, [], ◌∷◌, Option, None, Some, Result, Ok, Err, refl, ap, sym, ◌∙◌, arith}
 use Rattle.std.proofs.Common.{IfOk, if◌then◌else◌}
+use Rattle.std.specs.Result.{result_err}
 use Rattle.std.specs.declared.alloc.AllocError.{AllocError}
 use Rattle.vol_layout.specs.Geometry.{geometry_of, geometry_read, is_whole, is_bounded}
 use Rattle.vol_layout.specs.declared.edition.Edition.{Edition}
@@ -75,19 +76,24 @@ judged_bounds free edition image e =
     let chosen = chosen_bounds (is_whole edition image) (is_bounded edition image) (geometry_of edition image) e in
     judged free edition image (Some 2) (inr (tt, inr (chosen.0, inl (refl, chosen.1))))
 
--- else the first broken is that of the rules from 3 on
-pub judged_volume : (free : Bool) (edition : Edition) (image : List ℕ) (geometry : Geometry) (result : Result (Option ℕ) AllocError)
-    → geometry_read edition image ≡ Ok geometry → IfOk result (IsFirstBroken 3 (volume_rules free geometry image))
-    → IfOk result (IsJudged free edition image)
+-- what was read is the geometry that the image states
+pub read_sizes : (edition : Edition) (image : List ℕ) (geometry : Geometry) → geometry_read edition image ≡ Ok geometry → geometry ≡ geometry_of edition image
 unfolding geometry_read
-judged_volume free edition image geometry (Ok least) e first =
+read_sizes edition image geometry e =
+    let chosen = chosen_ok (is_whole edition image) (is_bounded edition image) (geometry_of edition image) geometry e in sym chosen.2
+
+-- else the first broken is that of the rules from 3 on
+pub judged_volume : (free : Bool) (edition : Edition) (image : List ℕ) (geometry : Geometry) (least : Option ℕ)
+    → geometry_read edition image ≡ Ok geometry → IsFirstBroken 3 (volume_rules free geometry image) least → IsJudged free edition image least
+unfolding geometry_read
+judged_volume free edition image geometry least e first =
     let chosen = chosen_ok (is_whole edition image) (is_bounded edition image) (geometry_of edition image) geometry e in
     judged free edition image least (inr (tt, inr (chosen.0, inr (chosen.1, (rw (← chosen.2) at first)))))
-judged_volume free edition image geometry (Err refused) e first = tt
 
 -- where rule 5 holds, the first broken of rules 5 to 8 is that of 6 to 8
-pub first_behind_zoned : (free : Bool) (geometry : Geometry) (image : List ℕ) (result : Result (Option ℕ) AllocError) → free ≡ true
-    → IsZoned geometry image → IfOk result (IsFirstBroken 6 (free_rules true geometry image)) → IfOk result (IsFirstBroken 5 (block_rules free geometry image))
-first_behind_zoned true geometry image (Ok answer) asked zoned first = inr (zoned, first)
+pub first_behind_zoned : (free : Bool) (geometry : Geometry) (image : List ℕ) (result : Result (Result ℕ ℕ) AllocError) → free ≡ true
+    → IsZoned geometry image → IfOk result (λ found. IsFirstBroken 6 (free_rules true geometry image) (result_err found))
+    → IfOk result (λ found. IsFirstBroken 5 (block_rules free geometry image) (result_err found))
+first_behind_zoned true geometry image (Ok found) asked zoned first = inr (zoned, first)
 first_behind_zoned true geometry image (Err refused) asked zoned first = tt
 first_behind_zoned false geometry image result asked zoned first = absurd (cc)

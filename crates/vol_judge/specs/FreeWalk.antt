@@ -73,3 +73,8 @@ pub record IsWalked (geometry : Geometry) (image : List ℕ) (marks : List Bool)
       → IsStack geometry image (free_head geometry.edition) (word image (free_head geometry.edition)) (joined met blocks)
   pub from : (blocks : List ℕ) → IsStack geometry image (free_head geometry.edition) (word image (free_head geometry.edition)) blocks
       → (later : List ℕ) × (blocks ≡ joined met later) × IsRest geometry image rest later
+
+-- the walk met so many blocks (icheck)
+pub record IsCounted (geometry : Geometry) (image : List ℕ) (marks : List Bool) (rest : Rest) (count : ℕ) : Type 0 where
+  pub walked : IsWalked geometry image marks rest
+  pub counted : length walked.met ≡ count

@@ -1,8 +1,8 @@
 //! The rule of the free list: its blocks form a stack, each of which is a data block and stands in it once.
-ghost use Rattle.std.specs.Prelude.{◌≡◌, ℕ, ◌+◌, ◌-◌, ◌*◌, ◌≤◌, true, false, length, slice_index_or, IsTrue, IsFalse};
+ghost use Rattle.std.specs.Prelude.{◌≡◌, ℕ, ◌+◌, ◌-◌, ◌*◌, ◌≤◌, true, false, length, slice_index_or, List, OnSome, IfSome, IfNone};
 ghost use Rattle.vol_layout.specs.Edition.{constants, number};
 ghost use Rattle.vol_layout.specs.Geometry.{Fits, in_zone};
-ghost use Rattle.vol_free.specs.Stack.{HasStack};
+ghost use Rattle.vol_free.specs.Stack.{HasStack, IsFree};
 ghost use Rattle.vol_judge.specs.FreeWalk.{AreFreeMarks, IsReadable, IsBehind, Steps};
 
 use pdp_words::{BLOCK, Image};
@@ -26,15 +26,16 @@ enum Outcome {
     Broken,
 }
 
-/// Whether rule 6 holds. Then the marks that are set are those of the free blocks; else some are set. There is
-/// a mark for each block below the end of the data zone, none of them set before. Reads the free list, and
-/// each block of it at most once. Takes no memory.
-pub(crate) fn mark_free(image: &Image, geometry: &Geometry, marks: &mut [bool]) -> bool
+/// How many blocks are free, where rule 6 holds; the marks that are set are theirs then. None where it doesn't,
+/// and then some are set. There is a mark for each block below the end of the data zone, none of them set
+/// before. Reads the free list, and each block of it at most once. Takes no memory.
+pub(crate) fn mark_free(image: &Image, geometry: &Geometry, marks: &mut [bool]) -> Option<u32>
     requires fits { Fits geometry.now image.now }
     requires room { length marks.old ≡ geometry.now.zone_end }
     requires clear { (k : ℕ) → slice_index_or marks.old k false ≡ false }
-    ensures marked { IsTrue result → AreFreeMarks geometry.now image.now marks.new }
-    ensures broken { IsFalse result → HasStack geometry.now image.now → ⊥ }
+    ensures marked { OnSome result (AreFreeMarks geometry.now image.now marks.new) }
+    ensures count { IfSome result (λ count. (blocks : List ℕ) → IsFree geometry.now image.now blocks → count ≡ length blocks) }
+    ensures broken { IfNone result (HasStack geometry.now image.now → ⊥) }
 {
     let super_block = Super {
         edition: geometry.edition,
@@ -44,13 +45,17 @@ pub(crate) fn mark_free(image: &Image, geometry: &Geometry, marks: &mut [bool]) 
         count: super_block.free_count(image),
     };
     if rest.count > geometry.edition.constants().free_slots {
-        return false;
+        return None;
     }
+    let mut count = 0;
     loop {
         match step(image, geometry, marks, rest) {
-            Outcome::Met(next) => rest = next,
-            Outcome::End => return true,
-            Outcome::Broken => return false,
+            Outcome::Met(next) => {
+                count += 1;
+                rest = next;
+            }
+            Outcome::End => return Some(count),
+            Outcome::Broken => return None,
         }
     }
 }

@@ -1,9 +1,11 @@
 //! The twelve rules in their order, up to the first that fails.
-ghost use Rattle.std.specs.Prelude.{◌≡◌, ◌≢◌, ℕ, false, true, IfOk, length, slice_index_or};
-ghost use Rattle.vol_layout.specs.Geometry.{Fits};
+ghost use Rattle.std.specs.Prelude.{◌≡◌, ◌≢◌, ℕ, false, true, IfOk, List, length, slice_index_or};
+ghost use Rattle.std.specs.Result.{result_err};
+ghost use Rattle.vol_layout.specs.Geometry.{Fits, geometry_of};
+ghost use Rattle.vol_free.specs.Stack.{IsFree};
 ghost use Rattle.vol_judge.specs.Judging.{IsFirstBroken};
 ghost use Rattle.vol_judge.specs.Marks.{Finds};
-ghost use Rattle.vol_judge.specs.Sound.{IsJudged, free_rules, block_rules, volume_rules};
+ghost use Rattle.vol_judge.specs.Sound.{Asked, IsJudged, free_rules, block_rules, volume_rules};
 
 use crate::blocks::{are_apart, are_covered};
 use crate::directories::judge_directories;
@@ -13,6 +15,15 @@ use crate::marking::{Places, mark_places};
 use pdp_words::Image;
 use std::alloc::{AllocError, Global};
 use vol_layout::{Edition, Geometry, GeometryFault};
+
+/// What is found of a sound image while it is judged.
+#[derive(Clone, Copy, Debug)]
+pub struct Examined {
+    /// Its geometry.
+    pub geometry: Geometry,
+    /// The number of free blocks.
+    pub free: u32,
+}
 
 /// The least of the twelve rules of soundness that an image breaks, or None where it keeps them all. The
 /// image may be any bytes. Where `free` is false, the free list is neither asked nor read: then rules 6 and
@@ -29,97 +40,132 @@ pub fn judge(
 ) -> Result<Option<u8>, AllocError>
     ensures { IfOk result (λ least. IsJudged free edition image.now least) }
 {
-    match Geometry::read(edition, image) {
-        Ok(geometry) => judge_volume(alloc, image, &geometry, free),
-        Err(GeometryFault::Short) => Ok(Some(1)),
-        Err(GeometryFault::Bounds) => Ok(Some(2)),
+    Ok(examine(alloc, edition, image, free)?.err())
+}
+
+/// The least of the twelve rules of soundness that an image breaks, as [`judge`] answers it, as an Err; where it
+/// keeps them all, what was found on the way. Where the free list isn't asked, the number of free blocks is 0.
+///
+/// Costs what [`judge`] does. An error only where memory is refused.
+pub fn examine(
+    alloc: Global,
+    edition: Edition,
+    image: &Image,
+    free: bool,
+) -> Result<Result<Examined, u8>, AllocError>
+    ensures judged { IfOk result (λ found. IsJudged free edition image.now (result_err found)) }
+    ensures sizes { IfOk result (λ found. IfOk found (λ examined. examined.geometry ≡ geometry_of edition image.now)) }
+    ensures fits { IfOk result (λ found. IfOk found (λ examined. Fits examined.geometry image.now)) }
+    ensures count { IfOk result (λ found. IfOk found (λ examined. Asked free
+        ((blocks : List ℕ) → IsFree examined.geometry image.now blocks → examined.free ≡ length blocks))) }
+{
+    let geometry = match Geometry::read(edition, image) {
+        Ok(geometry) => geometry,
+        Err(GeometryFault::Short) => return Ok(Err(1)),
+        Err(GeometryFault::Bounds) => return Ok(Err(2)),
+    };
+    match judge_volume(alloc, image, &geometry, free)? {
+        Ok(free) => Ok(Ok(Examined { geometry, free })),
+        Err(rule) => Ok(Err(rule)),
     }
 }
 
-/// The least of rules 3 to 12 that fails.
+/// The number of free blocks, where rules 3 to 12 hold, and the free list is asked; else the least that fails.
 fn judge_volume(
     alloc: Global,
     image: &Image,
     geometry: &Geometry,
     free: bool,
-) -> Result<Option<u8>, AllocError>
+) -> Result<Result<u32, u8>, AllocError>
     requires { Fits geometry.now image.now }
-    ensures { IfOk result (λ least. IsFirstBroken 3 (volume_rules free geometry.now image.now) least) }
+    ensures least { IfOk result (λ found. IsFirstBroken 3 (volume_rules free geometry.now image.now) (result_err found)) }
+    ensures count { IfOk result (λ found. IfOk found (λ count. Asked free
+        ((blocks : List ℕ) → IsFree geometry.now image.now blocks → count ≡ length blocks))) }
 {
     if !has_kinds(image, geometry) {
-        return Ok(Some(3));
+        return Ok(Err(3));
     }
     if !has_sizes(image, geometry) {
-        return Ok(Some(4));
+        return Ok(Err(4));
     }
     match judge_blocks(alloc, image, geometry, free)? {
-        None => judge_directories(alloc, image, geometry),
-        broken => Ok(broken),
+        Ok(count) => match judge_directories(alloc, image, geometry)? {
+            None => Ok(Ok(count)),
+            Some(rule) => Ok(Err(rule)),
+        },
+        Err(rule) => Ok(Err(rule)),
     }
 }
 
-/// The least of rules 5 to 8 that fails. Takes a byte for each block, and with the free list two.
+/// The number of free blocks, where rules 5 to 8 hold, and the free list is asked; else the least that fails.
+/// Takes a byte for each block, and with the free list two.
 fn judge_blocks(
     alloc: Global,
     image: &Image,
     geometry: &Geometry,
     free: bool,
-) -> Result<Option<u8>, AllocError>
+) -> Result<Result<u32, u8>, AllocError>
     requires { Fits geometry.now image.now }
-    ensures { IfOk result (λ least. IsFirstBroken 5 (block_rules free geometry.now image.now) least) }
+    ensures least { IfOk result (λ found. IsFirstBroken 5 (block_rules free geometry.now image.now) (result_err found)) }
+    ensures count { IfOk result (λ found. IfOk found (λ count. Asked free
+        ((blocks : List ℕ) → IsFree geometry.now image.now blocks → count ≡ length blocks))) }
 {
     let mut named = vec![in alloc; 0; geometry.zone_end as usize]?;
     match mark_places(image, geometry, &mut named) {
-        Places::OutOfZone => Ok(Some(5)),
+        Places::OutOfZone => Ok(Err(5)),
         places if free => judge_free(alloc, image, geometry, places, &named),
-        Places::Twice => Ok(Some(7)),
-        Places::Once => Ok(None),
+        Places::Twice => Ok(Err(7)),
+        Places::Once => Ok(Ok(0)),
     }
 }
 
-/// The least of rules 6 to 8 that fails, by what the places of files were found to name.
+/// The number of free blocks, where rules 6 to 8 hold, by what the places of files were found to name; else the
+/// least that fails.
 fn judge_free(
     alloc: Global,
     image: &Image,
     geometry: &Geometry,
     places: Places,
     named: &[u8],
-) -> Result<Option<u8>, AllocError>
+) -> Result<Result<u32, u8>, AllocError>
     requires fits { Fits geometry.now image.now }
     requires room { length named.now ≡ geometry.now.zone_end }
     requires places { Finds geometry.now image.now named.now places }
     requires zoned { places ≢ Places.OutOfZone }
-    ensures { IfOk result (λ least. IsFirstBroken 6 (free_rules true geometry.now image.now) least) }
+    ensures least { IfOk result (λ found. IsFirstBroken 6 (free_rules true geometry.now image.now) (result_err found)) }
+    ensures count { IfOk result (λ found. IfOk found (λ count.
+        (blocks : List ℕ) → IsFree geometry.now image.now blocks → count ≡ length blocks)) }
 {
     let mut free = vec![in alloc; false; geometry.zone_end as usize]?;
     Ok(judge_marks(image, geometry, places, named, &mut free))
 }
 
-/// The least of rules 6 to 8 that fails, by what the places of files were found to name. Marks the free blocks
-/// in `free`, of which no mark is set before.
+/// The number of free blocks, where rules 6 to 8 hold, by what the places of files were found to name; else the
+/// least that fails. Marks the free blocks in `free`, of which no mark is set before.
 fn judge_marks(
     image: &Image,
     geometry: &Geometry,
     places: Places,
     named: &[u8],
     free: &mut [bool],
-) -> Option<u8>
+) -> Result<u32, u8>
     requires fits { Fits geometry.now image.now }
     requires room { length named.now ≡ geometry.now.zone_end }
     requires free_room { length free.old ≡ geometry.now.zone_end }
     requires clear { (k : ℕ) → slice_index_or free.old k false ≡ false }
     requires places { Finds geometry.now image.now named.now places }
     requires zoned { places ≢ Places.OutOfZone }
-    ensures { IsFirstBroken 6 (free_rules true geometry.now image.now) result }
+    ensures least { IsFirstBroken 6 (free_rules true geometry.now image.now) (result_err result) }
+    ensures count { IfOk result (λ count. (blocks : List ℕ) → IsFree geometry.now image.now blocks → count ≡ length blocks) }
 {
-    if !mark_free(image, geometry, free) {
-        return Some(6);
-    }
+    let Some(count) = mark_free(image, geometry, free) else {
+        return Err(6);
+    };
     if matches!(places, Places::Twice) || !are_apart(named, free) {
-        return Some(7);
+        return Err(7);
     }
     if !are_covered(named, free, geometry.zone_start as usize) {
-        return Some(8);
+        return Err(8);
     }
-    None
+    Ok(count)
 }

@@ -11,4 +11,4 @@ mod judging;
 mod marking;
 mod reading;
 
-pub use judging::judge;
+pub use judging::{Examined, examine, judge};

@@ -49,10 +49,10 @@ sound_count edition image count fits sound counted =
     ∙ free_blocks (geometry_of edition image) image files.blocks files.sound (sound_covered edition image files.blocks sound files.sound.free)
 
 -- and the number of its free blocks is what its shapes leave
-pub counts : (geometry : Geometry) (image : List ℕ) (count : ℕ) → geometry ≡ geometry_of geometry.edition image → Fits geometry image
-    → IsSound geometry.edition image → ((blocks : List ℕ) → IsFree geometry image blocks → count ≡ length blocks)
+pub counts : (edition : Edition) (geometry : Geometry) (image : List ℕ) (count : ℕ) → geometry ≡ geometry_of edition image → Fits geometry image
+    → IsSound edition image → ((blocks : List ℕ) → IsFree geometry image blocks → count ≡ length blocks)
     → count ≡ free_count geometry (shapes geometry image)
-counts geometry image count sizes fits sound counted =
+counts edition geometry image count sizes fits sound counted =
     subst (λ g. count ≡ free_count g (shapes g image)) (sym sizes)
-    (sound_count geometry.edition image count (subst (λ g. Fits g image) sizes fits) sound
+    (sound_count edition image count (subst (λ g. Fits g image) sizes fits) sound
     (λ blocks free. counted blocks (subst (λ g. IsFree g image blocks) (sym sizes) free)))

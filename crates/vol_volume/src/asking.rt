@@ -7,11 +7,11 @@ ghost use Rattle.vol_volume.specs.Volume.{reads_as};
 
 use crate::answering::answer;
 use crate::queries::{Query, Reply};
-use crate::volume::{MountFault, sound_geometry};
+use crate::volume::MountFault;
 use pdp_words::Image;
 use std::alloc::Global;
 use vol_dir::Refusal;
-use vol_judge::judge;
+use vol_judge::examine;
 use vol_layout::Edition;
 
 /// The answer to a query of the volume in an image: what [`Volume::ask`](crate::Volume::ask) answers once
@@ -28,12 +28,9 @@ pub fn ask(
     ensures answered { IfOk result (λ answer. Answers (reads_as edition image.now).tree query.now answer) }
     ensures fault { IfErr result (λ fault. IsFaultOf edition image.now fault) }
 {
-    match judge(alloc, edition, image, true) {
-        Ok(None) => {
-            let geometry = sound_geometry(edition, image);
-            Ok(answer(alloc, image, &geometry, query))
-        }
-        Ok(Some(rule)) => Err(MountFault::Unsound(rule)),
+    match examine(alloc, edition, image, true) {
+        Ok(Ok(examined)) => Ok(answer(alloc, image, &examined.geometry, query)),
+        Ok(Err(rule)) => Err(MountFault::Unsound(rule)),
         Err(_) => Err(MountFault::NoMemory),
     }
 }

@@ -19,8 +19,7 @@ use std::alloc::{AllocError, Global};
 use std::marker::Model;
 use thiserror::Error;
 use vol_dir::Refusal;
-use vol_free::free_count;
-use vol_judge::judge;
+use vol_judge::{Examined, examine};
 use vol_layout::{Edition, Geometry};
 
 /// Why a volume wasn't mounted.
@@ -76,33 +75,34 @@ impl Volume {
         ensures handed_back { IfErr result (λ (fault, same). same.items ≡ bytes.items) }
     {
         let image = Image::from_bytes(bytes);
-        match judge(alloc, edition, &image, true) {
-            Ok(None) => Volume::mount_sound(alloc, edition, image),
-            Ok(Some(rule)) => Err((MountFault::Unsound(rule), image.into_bytes())),
+        match examine(alloc, edition, &image, true) {
+            Ok(Ok(examined)) => Volume::mount_sound(alloc, edition, image, examined),
+            Ok(Err(rule)) => Err((MountFault::Unsound(rule), image.into_bytes())),
             Err(_) => Err((MountFault::NoMemory, image.into_bytes())),
         }
     }
 
-    /// Mounts a sound image.
+    /// Mounts a sound image, of which this was found.
     fn mount_sound(
         alloc: Global,
         edition: Edition,
         image: Image,
+        examined: Examined,
     ) -> Result<Volume, (MountFault, Vec<u8>)>
-        requires { IsSound edition image }
+        requires sound { IsSound edition image }
+        requires sizes { examined.geometry ≡ geometry_of edition image }
+        requires count { examined.free ≡ free_count examined.geometry (shapes examined.geometry image) }
         ensures mounted { IfOk result (λ volume. volume ≡ mounted edition image) }
         ensures fault { IfErr result (λ (fault, same). fault ≡ MountFault.NoMemory) }
         ensures handed_back { IfErr result (λ (fault, same). same.items ≡ image) }
     {
-        let geometry = sound_geometry(edition, &image);
         let Ok(mounted) = Vec::from_slice(alloc, image.as_bytes()) else {
             return Err((MountFault::NoMemory, image.into_bytes()));
         };
-        let free = count_free(&image, &geometry);
         Ok(Volume {
-            geometry,
+            geometry: examined.geometry,
             current: image,
-            free,
+            free: examined.free,
             mounted,
             records: Vec::new(alloc),
         })
@@ -280,27 +280,4 @@ fn refusal_without_room(image: &Image, geometry: &Geometry, free: u32, call: &Ca
     check(image, geometry, free, call)
         .err()
         .unwrap_or(Refusal::NoMemory)
-}
-
-/// The number of free blocks of a sound image.
-#[tactic(auto, using(crate::proofs::SoundSizes::stack_there))]
-fn count_free(image: &Image, geometry: &Geometry) -> u32
-    requires sound { IsSound geometry.now.edition image.now }
-    requires sizes { geometry.now ≡ geometry_of geometry.now.edition image.now }
-    ensures { result ≡ free_count geometry.now (shapes geometry.now image.now) }
-{
-    stands(image, geometry);
-    free_count(image, geometry)
-}
-
-/// The geometry of a sound image.
-#[tactic(auto, using(crate::proofs::SoundSizes::sound_read))]
-pub(crate) fn sound_geometry(edition: Edition, image: &Image) -> Geometry
-    requires { IsSound edition image.now }
-    ensures { result ≡ geometry_of edition image.now }
-{
-    match Geometry::read(edition, image) {
-        Ok(geometry) => geometry,
-        Err(_) => unreachable!(),
-    }
 }

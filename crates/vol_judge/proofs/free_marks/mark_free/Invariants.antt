@@ -1,5 +1,5 @@
-use Rattle.std.proofs.Common.{◌≡◌, length}
-use Rattle.vol_judge.specs.FreeWalk.{IsReadable, IsWalked}
+use Rattle.std.proofs.Common.{◌≡◌, ◌+◌, ◌≤◌, length}
+use Rattle.vol_judge.specs.FreeWalk.{IsReadable, IsCounted}
 use Rattle.vol_judge.proofs.FreeWalks.{unmarked}
 use Rattle.vol_judge.proofs.free_marks.mark_free.Given as goal
 
@@ -7,8 +7,9 @@ use Rattle.vol_judge.proofs.free_marks.mark_free.Given as goal
 abbrev pub invariant-loop-next : goal.invariant-loop-next
 invariant-loop-next l = record {
   room : length l.marks ≡ l.geometry.zone_end;
+  low : l.count + unmarked l.marks ≤ l.geometry.zone_end;
   readable : IsReadable l.geometry l.image l.rest;
-  walked : IsWalked l.geometry l.image l.marks l.rest;
+  walked : IsCounted l.geometry l.image l.marks l.rest l.count;
 }
 
 -- each step marks a block

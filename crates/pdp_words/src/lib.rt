@@ -17,3 +17,4 @@ pub use image::{BLOCK, Image};
 pub use into_write::IntoWrite;
 pub use loading::{LoadFault, load, load_with_capacity};
 pub use saving::{SaveFault, save, write_all};
+pub use words::{addr3, long, put_addr3, put_long, put_word, word};

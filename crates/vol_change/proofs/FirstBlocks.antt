@@ -25,7 +25,7 @@ use Rattle.vol_change.specs.Changed.{FreeBecomes}
 use Rattle.vol_change.specs.Shapes.{new_directory_shape}
 use Rattle.vol_change.specs.Whole.{IsWhole}
 use Rattle.vol_change.proofs.EntryStates.{shape_is}
-use Rattle.vol_change.proofs.FreeCounts.{place_test}
+use Rattle.vol_dir.proofs.PlaceTests.{place_test}
 use Rattle.vol_change.proofs.FreeLists.{one_list}
 use Rattle.vol_change.proofs.WrittenStates.{IsKind}
 

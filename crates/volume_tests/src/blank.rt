@@ -1,14 +1,13 @@
 // What is written is what `mkfs` makes, and that is what giving all blocks leaves.
-ghost use Rattle.std.specs.Prelude.{◌≡◌, IfOk};
+ghost use Rattle.std.specs.Prelude.{◌≡◌};
 ghost use Rattle.pdp_words.specs.Words.{word};
 ghost use Rattle.vol_layout.specs.Geometry.{Fits};
 ghost use Rattle.vol_layout.specs.Super.{free_head};
 
 use crate::fixtures::NOW;
-use pdp_words::testing::{ScriptedWriter, WriteMishap};
+use pdp_words::testing::ScriptedWriter;
 use pdp_words::{BLOCK, Image, IntoWrite};
 use std::alloc::Global;
-use std::io::ErrorKind;
 use std::process::Abort;
 use std::test::Fail;
 use vol_free::give;
@@ -78,39 +77,6 @@ fn written(rt: &impl Abort, alloc: Global, blank: &BlankVolume) -> Vec<u8> {
         Ok(()) => sink.into_inner().taken,
         Err(_) => panic!(rt; "a volume is written"),
     }
-}
-
-#[test]
-fn a_fault_counts_the_bytes_that_were_taken(rt: HostRuntime) {
-    let alloc = rt.alloc();
-    let wanted = mkfs(alloc, Edition::V6, 300, 3, 7, 9, NOW).expect(&rt, "a new volume");
-    let blank = blank(&rt, alloc, Edition::V6, 300, 3);
-    for at in [0, 1, 3, 4, 7] {
-        let (counted, taken) = written_up_to(&rt, alloc, &blank, at);
-        check_taken(&rt, counted, taken.as_slice(), wanted.as_slice());
-    }
-}
-
-/// Writes a blank volume to where call number `at` fails: the bytes that the fault counts, and those taken.
-fn written_up_to(rt: &impl Abort, alloc: Global, blank: &BlankVolume, at: u64) -> (u64, Vec<u8>) {
-    let writer = ScriptedWriter::new(alloc, 20_000);
-    let mishap = WriteMishap::Error(ErrorKind::Other);
-    let mut sink = IntoWrite::new(writer.failing_at(at, mishap));
-    match blank.write_to(&mut sink) {
-        Ok(()) => panic!(rt; "a fault is due"),
-        Err(fault) => (fault.written, sink.into_inner().taken),
-    }
-}
-
-/// So many bytes were taken, with which a volume begins.
-fn check_taken(rt: &impl Abort, counted: u64, taken: &[u8], volume: &[u8]) {
-    assert_eq!(rt; counted, taken.len() as u64);
-    check_begins(rt, volume, taken);
-}
-
-/// A volume begins with these bytes.
-fn check_begins(rt: &impl Abort, volume: &[u8], taken: &[u8]) {
-    assert_eq!(rt; volume.get(..taken.len()), Some(taken));
 }
 
 #[test]

@@ -1,7 +1,14 @@
-//! What the tests of several modules put into bytes, and compare, and the moment of their volumes.
+//! What the tests of several modules put into bytes, and compare; volumes on which they begin, and their users.
+ghost use Rattle.std.specs.Prelude.{◌≡◌};
+ghost use Rattle.vol_volume.specs.Volume.{mounted};
+
+use pdp_words::words::put_bytes;
 use std::alloc::{AllocError, Global};
+use std::fmt::Debug;
 use std::process::Abort;
-use vol_volume::Listing;
+use vol_dir::{Cred, Refusal};
+use vol_layout::Edition;
+use vol_volume::{Bytes, Listing, Query, Reply, Stat, Volume, mkfs};
 
 /// Bytes that stand at a place.
 pub(crate) type Piece = (usize, &'static [u8]);
@@ -9,24 +16,194 @@ pub(crate) type Piece = (usize, &'static [u8]);
 /// The moment of the worked volumes, which stands on the disk as 0B 0A 0D 0C.
 pub(crate) const NOW: u32 = 0x0A0B_0C0D;
 
+/// The user who may do everything.
+pub(crate) const ROOT: Cred = Cred { uid: 0, gid: 0 };
+
+/// So many of one byte.
+pub(crate) fn filled(rt: &impl Abort, alloc: Global, len: usize, byte: u8) -> Vec<u8> {
+    vec![in alloc; byte; len].expect(rt, "memory for the bytes")
+}
+
+/// Puts bytes at a place, where there is room.
+pub(crate) fn put(bytes: &mut [u8], at: usize, piece: &[u8]) {
+    if at.saturating_add(piece.len()) <= bytes.len() {
+        put_bytes(bytes, at, piece);
+    }
+}
+
+/// So many zeros, in which pieces are put.
+pub(crate) fn with_pieces(rt: &impl Abort, alloc: Global, len: usize, pieces: &[Piece]) -> Vec<u8> {
+    let mut bytes = filled(rt, alloc, len, 0);
+    for (at, piece) in pieces {
+        put(&mut bytes, *at, piece);
+    }
+    bytes
+}
+
+/// A copy of some bytes.
+pub(crate) fn copied(rt: &impl Abort, alloc: Global, bytes: &[u8]) -> Vec<u8>
+    ensures { result.items ≡ bytes.now }
+{
+    Vec::from_slice(alloc, bytes).expect(rt, "memory for the bytes")
+}
+
+/// A path, or bytes that are written.
+pub(crate) fn bytes_of(rt: &impl Abort, alloc: Global, bytes: &[u8]) -> Bytes
+    ensures { result ≡ bytes.now }
+{
+    Bytes::from_vec(copied(rt, alloc, bytes))
+}
+
+/// Bytes have these at a place.
+pub(crate) fn check_bytes(rt: &impl Abort, bytes: &[u8], place: usize, wanted: &[u8]) {
+    let found = bytes.get(place..place.saturating_add(wanted.len()));
+    assert_eq!(rt; found, Some(wanted), "from byte {place}");
+}
+
+/// A value is the one that is wanted.
+pub(crate) fn check<T: PartialEq + Debug + Copy>(
+    rt: &impl Abort,
+    found: T,
+    wanted: T,
+    label: &str,
+) {
+    assert_eq!(rt; found, wanted, "{label}");
+}
+
+/// Bytes are these, from the first to the last.
+pub(crate) fn check_whole(rt: &impl Abort, found: &[u8], wanted: &[u8]) {
+    assert_eq!(rt; found, wanted);
+}
+
+/// The bytes of a new volume of user 0 and group 0.
+pub(crate) fn new_bytes(
+    rt: &impl Abort,
+    alloc: Global,
+    edition: Edition,
+    blocks: u32,
+    list_blocks: u16,
+) -> Vec<u8> {
+    let made = mkfs(alloc, edition, blocks, list_blocks, 0, 0, NOW);
+    made.expect(rt, "a new volume")
+}
+
+/// A new volume of user 0 and group 0.
+pub(crate) fn new_volume(
+    rt: &impl Abort,
+    alloc: Global,
+    edition: Edition,
+    blocks: u32,
+    list_blocks: u16,
+) -> Volume {
+    let bytes = new_bytes(rt, alloc, edition, blocks, list_blocks);
+    mount(rt, alloc, edition, bytes)
+}
+
+/// A new volume of the sixth edition: 20 blocks, two of them the i-list, of which 5 to 19 are free.
+pub(crate) fn sixth(rt: &impl Abort, alloc: Global) -> Volume {
+    new_volume(rt, alloc, Edition::V6, 20, 2)
+}
+
+/// A new volume of the seventh edition: 100 blocks, two of them the i-list, of which 5 to 99 are free.
+pub(crate) fn seventh(rt: &impl Abort, alloc: Global) -> Volume {
+    new_volume(rt, alloc, Edition::V7, 100, 2)
+}
+
+/// Mounts the bytes of a sound image.
+pub(crate) fn mount(rt: &impl Abort, alloc: Global, edition: Edition, bytes: Vec<u8>) -> Volume
+    ensures { result ≡ mounted edition bytes.items }
+{
+    match Volume::mount(alloc, edition, bytes) {
+        Ok(volume) => volume,
+        Err((fault, _)) => panic!(rt; "{fault:?}"),
+    }
+}
+
+/// Mounts a volume's image, in which other bytes are put.
+pub(crate) fn edited(rt: &impl Abort, alloc: Global, volume: Volume, pieces: &[Piece]) -> Volume {
+    let edition = volume.edition();
+    let mut bytes = volume.unmount();
+    for (at, piece) in pieces {
+        put(&mut bytes, *at, piece);
+    }
+    mount(rt, alloc, edition, bytes)
+}
+
+/// What a user is told of a node.
+pub(crate) fn stat(
+    rt: &impl Abort,
+    alloc: Global,
+    volume: &Volume,
+    cred: Cred,
+    path: &[u8],
+) -> Stat {
+    let path = bytes_of(rt, alloc, path);
+    match volume.ask(alloc, &Query::Stat { cred, path }) {
+        Ok(Reply::Stat(told)) => told,
+        _ => panic!(rt; "the path leads to a node"),
+    }
+}
+
+/// Bytes of a file, as far as it has them, are these, or the query for them is refused so.
+pub(crate) fn check_read(
+    rt: &impl Abort,
+    alloc: Global,
+    volume: &Volume,
+    cred: Cred,
+    path: &[u8],
+    place: (u32, u32),
+    wanted: Result<&[u8], Refusal>,
+) {
+    let (offset, len) = place;
+    let path = bytes_of(rt, alloc, path);
+    let query = Query::Read {
+        cred,
+        path,
+        offset,
+        len,
+    };
+    match volume.ask(alloc, &query) {
+        Ok(Reply::Bytes(bytes)) => assert_eq!(rt; Ok(bytes.as_slice()), wanted),
+        Ok(_) => panic!(rt; "bytes are read"),
+        Err(refusal) => assert_eq!(rt; Err(refusal), wanted),
+    }
+}
+
+/// A directory is listed to user 0 with these names, each with the low byte of its i-number behind it.
+pub(crate) fn check_names(
+    rt: &impl Abort,
+    alloc: Global,
+    volume: &Volume,
+    path: &[u8],
+    wanted: &[u8],
+) {
+    let path = bytes_of(rt, alloc, path);
+    let reply = volume.ask(alloc, &Query::List { cred: ROOT, path });
+    check_listed(rt, alloc, reply, wanted);
+}
+
+/// A query is answered by these names, each with the low byte of its i-number behind it.
+pub(crate) fn check_listed(
+    rt: &impl Abort,
+    alloc: Global,
+    reply: Result<Reply, Refusal>,
+    wanted: &[u8],
+) {
+    match reply {
+        Ok(Reply::Names(names)) => {
+            let listed = with_numbers(alloc, &names).expect(rt, "memory for the names");
+            check_whole(rt, listed.as_slice(), wanted);
+        }
+        _ => panic!(rt; "the directory is listed"),
+    }
+}
+
 /// Names, each with the low byte of its i-number behind it.
-pub(crate) fn with_numbers(alloc: Global, names: &Listing) -> Result<Vec<u8>, AllocError> {
+fn with_numbers(alloc: Global, names: &Listing) -> Result<Vec<u8>, AllocError> {
     let mut told = Vec::new(alloc);
     for (name, i) in names.as_slice() {
         told.extend_from_slice(name.as_slice())?;
         told.push((*i % 256) as u8)?;
     }
     Ok(told)
-}
-
-/// Puts bytes at a place, as far as there is one.
-pub(crate) fn put(bytes: &mut [u8], at: usize, piece: &[u8]) {
-    for (byte, new) in bytes.iter_mut().skip(at).zip(piece) {
-        *byte = *new;
-    }
-}
-
-/// Bytes are these, from the first to the last.
-pub(crate) fn check_whole(rt: &impl Abort, found: &[u8], wanted: &[u8]) {
-    assert_eq!(rt; found, wanted);
 }

@@ -1,19 +1,28 @@
-//! Worked values of the volume, of the commands on it and of the command line, by their public functions.
+//! Tests of all crates, by their public functions: worked values of the formats, borders, journals made again, and
+//! what no contract says.
 #![tactic(auto)]
 
 #[cfg(test)]
 mod answering;
 #[cfg(test)]
-mod asking;
-#[cfg(test)]
 mod blank;
+#[cfg(test)]
+mod calls;
 #[cfg(test)]
 mod commands;
 #[cfg(test)]
+mod devices;
+#[cfg(test)]
 mod fixtures;
+#[cfg(test)]
+mod i_nodes;
+#[cfg(test)]
+mod judging;
+#[cfg(test)]
+mod linux;
 #[cfg(test)]
 mod making;
 #[cfg(test)]
-mod volume;
+mod texts;
 #[cfg(test)]
 mod words;

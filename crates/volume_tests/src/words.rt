@@ -1,5 +1,4 @@
 // The words of the command line.
-use command_line::decimal::{long_of, word_of};
 use command_line::{Invocation, VolumeFile, read};
 use std::alloc::{AllocError, Global};
 use std::process::Abort;
@@ -109,24 +108,4 @@ fn words_of_mkfs_are_read(rt: HostRuntime) {
         volume,
     };
     check(&rt, rt.alloc(), &MKFS, wanted);
-}
-
-#[test]
-fn words_of_numbers_are_read(rt: HostRuntime) {
-    for (text, number) in [
-        ("0", Some(0)),
-        ("0017", Some(17)),
-        ("65535", Some(65_535)),
-        ("65536", None),
-        ("", None),
-        ("+1", None),
-        ("-0", None),
-        (" 1", None),
-        ("1x", None),
-    ] {
-        assert_eq!(rt; word_of(text), number, "of {text:?}");
-    }
-    assert_eq!(rt; long_of("4294967295"), Some(4_294_967_295));
-    assert_eq!(rt; long_of("4294967296"), None);
-    assert_eq!(rt; long_of("+1"), None);
 }

@@ -1,9 +1,8 @@
 // `mkfs` from its numbers to its bytes, its lines and its statuses, and writers that go wrong.
 use crate::fixtures::{NOW, check_whole};
 use pdp_words::IntoWrite;
-use pdp_words::testing::{ScriptedWriter, WriteMishap};
+use pdp_words::testing::ScriptedWriter;
 use std::alloc::Global;
-use std::io::ErrorKind;
 use std::process::Abort;
 use vol_commands::{Made, mkfs_command};
 use vol_layout::Edition;
@@ -27,15 +26,6 @@ fn mkfs_makes_or_refuses(rt: HostRuntime) {
         ..TWENTY
     };
     check(&rt, rt.alloc(), least, None, 1, "unixvol: bounds\n");
-    let stranger = NewVolume { uid: 256, ..TWENTY };
-    check(&rt, rt.alloc(), stranger, None, 1, "unixvol: 104 BadId\n");
-    let both = NewVolume { uid: 256, ..least };
-    check(&rt, rt.alloc(), both, None, 1, "unixvol: bounds\n");
-    let seventh = NewVolume {
-        edition: Edition::V7,
-        ..stranger
-    };
-    check(&rt, rt.alloc(), seventh, Some(10_240), 0, "");
 }
 
 /// Runs `mkfs` with two writers, and compares how many bytes are to be saved, the status and the line.
@@ -64,20 +54,4 @@ fn saved_len(rt: &impl Abort, alloc: Global, made: &Made) -> Option<usize> {
     let mut saved = IntoWrite::new(ScriptedWriter::new(alloc, 1000));
     assert!(rt; volume.write_to(&mut saved).is_ok());
     Some(saved.into_inner().taken.len())
-}
-
-#[test]
-fn a_line_that_is_not_taken_changes_no_status(rt: HostRuntime) {
-    let alloc = rt.alloc();
-    let mut output = IntoWrite::new(ScriptedWriter::new(alloc, 100));
-    let mishap = WriteMishap::Error(ErrorKind::Other);
-    let mut errors = IntoWrite::new(ScriptedWriter::new(alloc, 7).failing_at(1, mishap));
-    let volume = NewVolume {
-        blocks: 4,
-        ..TWENTY
-    };
-    let made = mkfs_command(alloc, volume, &mut output, &mut errors);
-    assert_eq!(rt; made.status, 1);
-    assert!(rt; made.volume.is_none());
-    check_whole(&rt, &errors.into_inner().taken, b"unixvol");
 }

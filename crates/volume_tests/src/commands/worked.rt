@@ -1,5 +1,5 @@
 //! A worked volume, and runs of commands on it.
-use crate::fixtures::{NOW, Piece, check_whole, put};
+use crate::fixtures::{Piece, check_whole, new_bytes, put};
 use pdp_words::IntoWrite;
 use pdp_words::testing::ScriptedWriter;
 use std::alloc::Global;
@@ -7,7 +7,6 @@ use std::process::Abort;
 use vol_commands::Answer;
 use vol_commands::showing::{get, ls};
 use vol_layout::Edition;
-use vol_volume::mkfs;
 
 /// What is put into a new volume of the sixth edition of twenty blocks. Its root then has a directory `d`
 /// (i-number 3), a file `hello` (2) and a special file `tty` (4).
@@ -30,8 +29,7 @@ static PIECES: [Piece; 12] = [
 
 /// The bytes of the worked volume.
 pub(crate) fn image(rt: &impl Abort, alloc: Global) -> Vec<u8> {
-    let made = mkfs(alloc, Edition::V6, 20, 2, 0, 0, NOW);
-    let mut bytes = made.expect(rt, "a new volume");
+    let mut bytes = new_bytes(rt, alloc, Edition::V6, 20, 2);
     for (at, piece) in &PIECES {
         put(&mut bytes, *at, piece);
     }

@@ -1,5 +1,0 @@
-//! Worked values of directories and paths.
-mod adding;
-mod paths;
-mod refusal;
-mod walking;

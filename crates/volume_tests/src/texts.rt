@@ -1,0 +1,47 @@
+// The words of refusals and faults.
+use std::alloc::Global;
+use std::fmt::Display;
+use std::process::Abort;
+use vol_dir::Refusal;
+use vol_volume::{MkfsFault, MountFault};
+
+static REFUSALS: [(Refusal, u8, &str); 14] = [
+    (Refusal::NoEntry, 2, "2 NoEntry"),
+    (Refusal::NoMemory, 12, "12 NoMemory"),
+    (Refusal::Access, 13, "13 Access"),
+    (Refusal::Exists, 17, "17 Exists"),
+    (Refusal::NotDirectory, 20, "20 NotDirectory"),
+    (Refusal::IsDirectory, 21, "21 IsDirectory"),
+    (Refusal::Invalid, 22, "22 Invalid"),
+    (Refusal::TooBig, 27, "27 TooBig"),
+    (Refusal::NoSpace, 28, "28 NoSpace"),
+    (Refusal::TooManyLinks, 31, "31 TooManyLinks"),
+    (Refusal::NotEmpty, 101, "101 NotEmpty"),
+    (Refusal::NotRegular, 102, "102 NotRegular"),
+    (Refusal::NoInode, 103, "103 NoInode"),
+    (Refusal::BadId, 104, "104 BadId"),
+];
+
+#[test]
+fn refusals_have_their_number_and_words(rt: HostRuntime) {
+    for (refusal, number, words) in &REFUSALS {
+        assert_eq!(rt; refusal.number(), *number);
+        check(&rt, rt.alloc(), refusal, words);
+    }
+}
+
+#[test]
+fn faults_have_their_words(rt: HostRuntime) {
+    let alloc = rt.alloc();
+    check(&rt, alloc, &MkfsFault::Bounds, "bounds");
+    check(&rt, alloc, &MkfsFault::BadId, "104 BadId");
+    check(&rt, alloc, &MkfsFault::NoMemory, "12 NoMemory");
+    check(&rt, alloc, &MountFault::Unsound(12), "unsound, rule 12");
+    check(&rt, alloc, &MountFault::NoMemory, "12 NoMemory");
+}
+
+/// A refusal or a fault is shown by these words.
+fn check(rt: &impl Abort, alloc: Global, fault: &impl Display, words: &str) {
+    let shown = format!(in alloc; "{fault}").expect(rt, "memory for the words");
+    assert_eq!(rt; shown.as_str(), words);
+}

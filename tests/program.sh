@@ -659,6 +659,14 @@ body wanted 72000 # all but the last four bytes are a hole
 "$program" get 7 "$linux" /usr/sparse | head -c 72000 > output
 has 'the hole of a file' same "$(cmp -s output wanted && echo same)"
 for path in /tmp /usr/games/f3; do refuses 1 'unixvol: 2 NoEntry' get 7 "$linux" "$path"; done
+cp "$linux" linux.v7
+echo date > rc
+prints none put 7 linux.v7 /etc/rc rc 1795000000
+printf '%s\n' '   94 .' '    2 ..' '   91 empty' '   92 motd' '   93 passwd' '   51 rc' > lines
+prints lines ls 7 linux.v7 /etc
+prints rc get 7 linux.v7 /etc/rc
+put linux.v7 1090 '05'
+refuses 1 'unixvol: unsound, rule 12' ls 7 linux.v7 /etc
 
 # The examples of README.md and of the help; where a word is `disk.img`, it is a volume in which the example has a file.
 prints hello cat 6 "$samples/hello.v6" 1

@@ -23,10 +23,25 @@ use Rattle.vol_commands.specs.declared.jobs.Job.{Job}
 use Rattle.vol_commands.specs.declared.jobs.Job.TheVariants as jobs
 use Rattle.vol_commands.specs.declared.making.Made.{Made}
 use Rattle.vol_volume.specs.declared.blank.NewVolume.{NewVolume}
+use Rattle.unixvol.specs.Opening.{IsOpened}
+use Rattle.unixvol.specs.Saving.{IsTaken}
+use Rattle.unixvol.specs.declared.image_file.Stamp.{Stamp}
 
 -- some file gave these bytes, which are all that it had left (std::io::Read)
 abbrev pub IsGiven : {F : Type 0} → (F → Option (List ℕ)) → List ℕ → Type 0
 IsGiven {F} remaining bytes = (old : F) × (new : F) × IsReadWhole (remaining old) (remaining new) bytes
+
+-- what files do for the program: one gave these bytes; one that is to be changed gave these bytes, and had this stamp before; one took these bytes; what stood at a path had this stamp (this project)
+pub record HostFiles : Type 1 where
+  pub given : List ℕ → Type 0
+  pub opened : List ℕ → Stamp → Type 0
+  pub taken : List ℕ → Type 0
+  pub stood : Stamp → Type 0
+
+-- what files do, by what is known of them (std::io::Read and Write)
+abbrev pub host_files : {F : Type 0} → (F → Option (List ℕ)) → (F → Option (List ℕ)) → (F → Stamp → Type 0) → (Stamp → Type 0) → HostFiles
+host_files remaining contents had stood =
+    record { given = IsGiven remaining; opened = IsOpened remaining had; taken = IsTaken contents; stood = stood }
 
 -- a file gave the bytes that a job puts into a volume; other jobs put none (this project)
 abbrev pub IsGivenFor : (List ℕ → Type 0) → Job → List ℕ → Type 0
@@ -86,18 +101,35 @@ MadeSaved taken made status =
     ((status ≡ made.status) × IfSome made.volume (λ blank. (bytes : List ℕ) × IsMade blank bytes × taken bytes))
     ⊎ (IsSome made.volume × IsStatusOfFileOrMemory status)
 
--- a job runs: a file can't be read, and nothing goes out; or it is done with an image that a file gave, and the bytes that it puts are those of a file too (this project)
-abbrev pub RunsJob : Streams → (List ℕ → Type 0) → (List ℕ → Type 0) → Edition → Job → ℕ → Type 0
-RunsJob streams given taken edition job status =
-    (IsStatusOfFileOrMemory status × Keeps streams.old streams.new × (streams.failed ≡ streams.had_failed) × streams.said [])
-    ⊎ ((image : List ℕ) × (bytes : List ℕ) × (answer : Answer) × given image × IsGivenFor given job bytes
-    × Does edition image bytes streams answer job × EndsSaved taken answer status)
+-- nothing is done: a file can't be read, or isn't to be changed, or memory ran out, and nothing goes out (this project)
+abbrev pub RunsNothing : Streams → ℕ → Type 0
+RunsNothing streams status =
+    IsStatusOfFileOrMemory status × Keeps streams.old streams.new × (streams.failed ≡ streams.had_failed) × streams.said []
+
+-- a job that shows something runs: nothing is done; or it is done with an image that a file gave (this project)
+abbrev pub RunsQuery : Streams → (List ℕ → Type 0) → Edition → Job → ℕ → Type 0
+RunsQuery streams given edition job status =
+    RunsNothing streams status
+    ⊎ ((image : List ℕ) × (answer : Answer) × given image × Does edition image [] streams answer job × (status ≡ answer.status))
+
+-- a job that changes an image runs: nothing is done; or it is done with an image that a file gave which may be changed, the bytes that it puts are those of a file too, and what it makes is saved where a file still stood that had the stamp of the one that was read (this project)
+abbrev pub RunsChange : Streams → HostFiles → Edition → Job → ℕ → Type 0
+RunsChange streams files edition job status =
+    RunsNothing streams status
+    ⊎ ((image : List ℕ) × (stamp : Stamp) × (bytes : List ℕ) × (answer : Answer) × files.opened image stamp × IsGivenFor files.given job bytes
+    × Does edition image bytes streams answer job × EndsSaved (λ saved. files.taken saved × files.stood stamp) answer status)
+
+-- a job runs (this project)
+abbrev pub RunsJob : Streams → HostFiles → Edition → Job → ℕ → Type 0
+RunsJob streams files edition (jobs.Ls path) status = RunsQuery streams files.given edition (jobs.Ls path) status
+RunsJob streams files edition (jobs.Get path) status = RunsQuery streams files.given edition (jobs.Get path) status
+RunsJob streams files edition job status = RunsChange streams files edition job status
 
 -- what the user asks for runs: what goes out, what files give and take, and the status (this project)
-abbrev pub Runs : Streams → (List ℕ → Type 0) → (List ℕ → Type 0) → ℕ → Invocation → Type 0
-Runs streams given taken status (invocations.Cat volume i) = RunsCat streams given volume.edition i status
-Runs streams given taken status (invocations.Mkfs image volume) = RunsMkfs streams taken volume status
-Runs streams given taken status (invocations.OnVolume volume job) = RunsJob streams given taken volume.edition job status
+abbrev pub Runs : Streams → HostFiles → ℕ → Invocation → Type 0
+Runs streams files status (invocations.Cat volume i) = RunsCat streams files.given volume.edition i status
+Runs streams files status (invocations.Mkfs image volume) = RunsMkfs streams files.taken volume status
+Runs streams files status (invocations.OnVolume volume job) = RunsJob streams files volume.edition job status
 
 -- what an error of the command line comes to: the status by its kind, which is 3 only where standard output failed, and no line of a command (this project)
 pub record Tells (streams : Streams) (kind : ErrorKind) (status : ℕ) : Type 0 where
@@ -108,8 +140,8 @@ pub record Tells (streams : Streams) (kind : ErrorKind) (status : ℕ) : Type 0 
   pub quiet : streams.said []
 
 -- the words run: what they ask for is carried out, or it is told why they are refused (this project)
-abbrev pub RunsWords : Streams → (List ℕ → Type 0) → (List ℕ → Type 0) → ℕ → List (List ℕ) → Type 0
-RunsWords streams given taken status words = ((invocation : Invocation) × IsRead words invocation × Runs streams given taken status invocation)
+abbrev pub RunsWords : Streams → HostFiles → ℕ → List (List ℕ) → Type 0
+RunsWords streams files status words = ((invocation : Invocation) × IsRead words invocation × Runs streams files status invocation)
     ⊎ ((error : Error) × IsRefused words error × Tells streams (kind_of error) status)
 
 -- a run ends: the status is at most 4; nothing went out, unless it is 0 or 3; where it is 0, no output failed and no fault was told (this project)
@@ -119,14 +151,14 @@ pub record Ends (streams : Streams) (status : ℕ) : Type 0 where
   pub whole : status ≡ 0 → (streams.failed ≡ streams.had_failed) × streams.said []
 
 -- the program runs: on some words, or these can't be had, and nothing is told (this project)
-abbrev pub RunsSome : Streams → (List ℕ → Type 0) → (List ℕ → Type 0) → ℕ → Type 0
-RunsSome streams given taken status = ((words : List (List ℕ)) × RunsWords streams given taken status words)
+abbrev pub RunsSome : Streams → HostFiles → ℕ → Type 0
+RunsSome streams files status = ((words : List (List ℕ)) × RunsWords streams files status words)
     ⊎ (((status ≡ 2) ⊎ (status ≡ 4)) × streams.said [])
 
 -- the program runs to its end, from what its two streams hold: there is what they come to hold, whether they fail, and the status of the run, and that is the status at the end, or 3 in place of 0 (this project)
-abbrev pub RunsToEnd : (List ℕ → Type 0) → (List ℕ → Type 0) → Option (List ℕ) → Option (List ℕ) → ℕ → Type 0
-RunsToEnd given taken output errors end =
+abbrev pub RunsToEnd : HostFiles → Option (List ℕ) → Option (List ℕ) → ℕ → Type 0
+RunsToEnd files output errors end =
     (new : Option (List ℕ)) × (failed : Bool) × (told : Option (List ℕ)) × (untold : Bool) × (status : ℕ)
-    × RunsSome (record { old = output; new = new; had_failed = false; failed = failed; said = Gets untold errors told }) given taken status
+    × RunsSome (record { old = output; new = new; had_failed = false; failed = failed; said = Gets untold errors told }) files status
     × Ends (record { old = output; new = new; had_failed = false; failed = failed; said = Gets untold errors told }) status
     × ((end ≡ status) ⊎ ((status ≡ 0) × (end ≡ 3)))

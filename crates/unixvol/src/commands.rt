@@ -1,5 +1,6 @@
 //! The commands of the program: what they open, and what they print where something fails.
-ghost use Rattle.std.specs.Prelude.{◌≡◌, ◌≢◌, ◌⊎◌, [], ◌≤◌, false, true, ℕ, List, IfErr, IfOk, IsErrAnd, OnOk, map, string_bytes};
+ghost use Rattle.std.specs.Prelude.{◌≡◌, ◌≢◌, ◌⊎◌, [], ◌≤◌, false, true, ℕ, List, IfErr, IfOk, IfSome, IsErrAnd, OnOk, map, string_bytes};
+ghost use Rattle.pdp_words.specs.Devices.{IsReadWhole};
 ghost use Rattle.std.specs.Io.KnownBytes.{Keeps};
 ghost use Rattle.std.specs.IoError.{error_kind};
 ghost use Rattle.std.specs.Process.{exit_status};
@@ -9,20 +10,24 @@ ghost use Rattle.clap.specs.declared.error.kind.ErrorKind.TheVariants as clap_ki
 ghost use Rattle.vol_commands.specs.Cat.{IsNoWriters, cat_status};
 ghost use Rattle.vol_commands.specs.Faults.{Gets};
 ghost use Rattle.vol_commands.specs.declared.cat.CatFault.TheVariants as faults;
-ghost use Rattle.unixvol.specs.Running.{IsGiven, IsGivenFor, IsStatusOfFileOrMemory, CatsGiven, EndsSaved, MadeSaved, PrintsBody, RunsJob, Runs, RunsWords, RunsSome, RunsToEnd, Ends};
+ghost use Rattle.unixvol.specs.Opening.{IsOpened};
+ghost use Rattle.unixvol.specs.Running.{IsGiven, IsGivenFor, IsStatusOfFileOrMemory, CatsGiven, EndsSaved, MadeSaved, PrintsBody, RunsChange, RunsJob, RunsMkfs, RunsQuery, Runs, RunsWords, RunsSome, RunsToEnd, Ends, host_files};
 ghost use Rattle.unixvol.specs.Saving.{IsTaken, Saves};
 
+use crate::image_file::{ImageFiles, OpenFault, Stamp, open_image};
 use crate::saving_file::{Content, save_file};
 use clap::error::ErrorKind;
 use command_line::{Invocation, VolumeFile};
 use pdp_words::{FromRead, IntoWrite, LoadFault, Sink, load, write_all};
 use std::env::{self, Env};
 use std::fs::{self, Files};
-use std::io::{self, Write};
+use std::io::{self, Read, Write};
 use std::process::ExitCode;
+use std::rt::Clock;
 use vol_commands::cat::cat;
 use vol_commands::{Answer, CatFault, Job, Made, do_job, mkfs_command};
 use vol_layout::Edition;
+use vol_volume::NewVolume;
 
 /// The status where all went well.
 const DONE: u8 = 0;
@@ -39,15 +44,22 @@ const NO_MEMORY: u8 = 4;
 /// What the line of a fault calls standard output.
 const STANDARD_OUTPUT: &str = "-";
 
+/// A file that was read to its end.
+#[derive(Drop)]
+struct ReadFile<F> {
+    bytes: Vec<u8>,
+    file: F,
+}
+
 /// Does what the command line asks for, and answers how the program ends. What it prints goes to `output`,
 /// which is standard output; a fault is one line on standard error, or clap's text. `errors` writes to
 /// standard error too.
-pub fn run_to_end<R: Env + Files + Eprint + AllocGlobal, O: Write + Drop, E: Write + Drop>(
+pub fn run_to_end<R: Env + ImageFiles + Clock + Eprint + AllocGlobal, O: Write + Drop, E: Write + Drop>(
     rt: &R,
     output: O,
     errors: E,
 ) -> ExitCode
-    ensures { RunsToEnd (IsGiven R.File.remaining) (IsTaken R.File.contents) (O.contents output) (E.contents errors) (exit_status result) }
+    ensures { RunsToEnd (host_files R.File.remaining R.File.contents R.had R.stood) (O.contents output) (E.contents errors) (exit_status result) }
 {
     let mut output = IntoWrite::new(output);
     let mut errors = IntoWrite::new(errors);
@@ -56,7 +68,7 @@ pub fn run_to_end<R: Env + Files + Eprint + AllocGlobal, O: Write + Drop, E: Wri
 }
 
 /// Does what the command line asks for, and answers the status to end with, if [`finish`] goes well.
-fn run<R: Env + Files + Eprint + AllocGlobal, O: Sink, E: Sink>(
+fn run<R: Env + ImageFiles + Clock + Eprint + AllocGlobal, O: Sink, E: Sink>(
     rt: &R,
     output: &mut O,
     errors: &mut E,
@@ -67,7 +79,7 @@ fn run<R: Env + Files + Eprint + AllocGlobal, O: Sink, E: Sink>(
       had_failed = O.failed output.old;
       failed = O.failed output.new;
       said = Gets (E.failed errors.new) (E.contents errors.old) (E.contents errors.new);
-    }) (IsGiven R.File.remaining) (IsTaken R.File.contents) result }
+    }) (host_files R.File.remaining R.File.contents R.had R.stood) result }
     ensures ends { Ends (record {
       old = O.contents output.old;
       new = O.contents output.new;
@@ -84,7 +96,7 @@ fn run<R: Env + Files + Eprint + AllocGlobal, O: Sink, E: Sink>(
 }
 
 /// Does what these words ask for, of which the first is the program's own name, and answers the status to end with.
-fn run_words<R: Files + Eprint + AllocGlobal, O: Sink, E: Sink>(
+fn run_words<R: ImageFiles + Clock + Eprint + AllocGlobal, O: Sink, E: Sink>(
     rt: &R,
     output: &mut O,
     errors: &mut E,
@@ -96,7 +108,7 @@ fn run_words<R: Files + Eprint + AllocGlobal, O: Sink, E: Sink>(
       had_failed = O.failed output.old;
       failed = O.failed output.new;
       said = Gets (E.failed errors.new) (E.contents errors.old) (E.contents errors.new);
-    }) (IsGiven R.File.remaining) (IsTaken R.File.contents) result (map string_bytes words.entry.now) }
+    }) (host_files R.File.remaining R.File.contents R.had R.stood) result (map string_bytes words.entry.now) }
     ensures ends { Ends (record {
       old = O.contents output.old;
       new = O.contents output.new;
@@ -112,26 +124,30 @@ fn run_words<R: Files + Eprint + AllocGlobal, O: Sink, E: Sink>(
 }
 
 /// Does what the user asks for, and answers the status to end with.
-fn carry_out<R: Files + Eprint + AllocGlobal, O: Sink, E: Sink>(
+fn carry_out<R: ImageFiles + Clock + Eprint + AllocGlobal, O: Sink, E: Sink>(
     rt: &R,
     output: &mut O,
     errors: &mut E,
     invocation: Invocation<'_>,
 ) -> u8
-    ensures { Runs (record {
+    ensures runs { Runs (record {
       old = O.contents output.old;
       new = O.contents output.new;
       had_failed = O.failed output.old;
       failed = O.failed output.new;
       said = Gets (E.failed errors.new) (E.contents errors.old) (E.contents errors.new);
-    }) (IsGiven R.File.remaining) (IsTaken R.File.contents) result invocation.entry }
+    }) (host_files R.File.remaining R.File.contents R.had R.stood) result invocation.entry }
+    ensures ends { Ends (record {
+      old = O.contents output.old;
+      new = O.contents output.new;
+      had_failed = O.failed output.old;
+      failed = O.failed output.new;
+      said = Gets (E.failed errors.new) (E.contents errors.old) (E.contents errors.new);
+    }) result }
 {
     match invocation {
         Invocation::Cat { volume, ino } => run_cat(rt, output, volume, ino),
-        Invocation::Mkfs { image, volume } => {
-            let made = mkfs_command(rt.alloc(), volume, output, errors);
-            save_made(rt, image, &made)
-        }
+        Invocation::Mkfs { image, volume } => run_mkfs(rt, output, errors, image, volume),
         Invocation::OnVolume { volume, job } => run_job(rt, output, errors, volume, job),
     }
 }
@@ -146,6 +162,8 @@ fn run_cat<R: Files + Eprint + AllocGlobal, O: Sink>(
     ensures shown { PrintsBody (IsGiven R.File.remaining) (O.contents output.old) (O.contents output.new) (O.failed output.old) (O.failed output.new)
         volume.entry.edition ino result }
     ensures whole { result ≡ 0 → O.failed output.new ≡ O.failed output.old }
+    ensures silent { result ≢ 0 → result ≢ 3 → Keeps (O.contents output.old) (O.contents output.new) }
+    ensures within { result ≤ 4 }
 {
     match cat_file(rt, output, volume, ino) {
         Ok(()) => DONE,
@@ -153,32 +171,128 @@ fn run_cat<R: Files + Eprint + AllocGlobal, O: Sink>(
     }
 }
 
+/// Makes a new volume, saves it in the file `image`, and answers the status to end with.
+fn run_mkfs<R: ImageFiles + Eprint + AllocGlobal, O: Sink, E: Sink>(
+    rt: &R,
+    output: &mut O,
+    errors: &mut E,
+    image: &str,
+    volume: NewVolume,
+) -> u8
+    ensures { RunsMkfs (record {
+      old = O.contents output.old;
+      new = O.contents output.new;
+      had_failed = O.failed output.old;
+      failed = O.failed output.new;
+      said = Gets (E.failed errors.new) (E.contents errors.old) (E.contents errors.new);
+    }) (IsTaken R.File.contents) volume result }
+{
+    let made = mkfs_command(rt.alloc(), volume, output, errors);
+    save_made(rt, image, &made)
+}
+
 /// Does a job with the volume in a file, and saves the volume where it was changed.
-fn run_job<R: Files + Eprint + AllocGlobal, O: Sink, E: Sink>(
+fn run_job<R: ImageFiles + Clock + Eprint + AllocGlobal, O: Sink, E: Sink>(
     rt: &R,
     output: &mut O,
     errors: &mut E,
     volume: VolumeFile<'_>,
     job: Job<'_>,
 ) -> u8
-    ensures { RunsJob (record {
+    ensures runs { RunsJob (record {
       old = O.contents output.old;
       new = O.contents output.new;
       had_failed = O.failed output.old;
       failed = O.failed output.new;
       said = Gets (E.failed errors.new) (E.contents errors.old) (E.contents errors.new);
-    }) (IsGiven R.File.remaining) (IsTaken R.File.contents) volume.entry.edition job.entry result }
+    }) (host_files R.File.remaining R.File.contents R.had R.stood) volume.entry.edition job.entry result }
+    ensures ends { Ends (record {
+      old = O.contents output.old;
+      new = O.contents output.new;
+      had_failed = O.failed output.old;
+      failed = O.failed output.new;
+      said = Gets (E.failed errors.new) (E.contents errors.old) (E.contents errors.new);
+    }) result }
+{
+    match job {
+        Job::Ls { .. } | Job::Get { .. } => run_query(rt, output, errors, volume, job),
+        Job::Put { .. }
+        | Job::Rm { .. }
+        | Job::Rmdir { .. }
+        | Job::Mkdir { .. }
+        | Job::Ln { .. } => run_change(rt, output, errors, volume, job),
+    }
+}
+
+/// Does a job that shows something of the volume in a file.
+fn run_query<R: Files + Eprint + AllocGlobal, O: Sink, E: Sink>(
+    rt: &R,
+    output: &mut O,
+    errors: &mut E,
+    volume: VolumeFile<'_>,
+    job: Job<'_>,
+) -> u8
+    ensures runs { RunsQuery (record {
+      old = O.contents output.old;
+      new = O.contents output.new;
+      had_failed = O.failed output.old;
+      failed = O.failed output.new;
+      said = Gets (E.failed errors.new) (E.contents errors.old) (E.contents errors.new);
+    }) (IsGiven R.File.remaining) volume.entry.edition job.entry result }
+    ensures ends { Ends (record {
+      old = O.contents output.old;
+      new = O.contents output.new;
+      had_failed = O.failed output.old;
+      failed = O.failed output.new;
+      said = Gets (E.failed errors.new) (E.contents errors.old) (E.contents errors.new);
+    }) result }
 {
     let image = match read_file(rt, volume.image) {
         Ok(image) => image,
         Err(status) => return status,
     };
+    let nothing = Vec::new(rt.alloc());
+    do_job(rt.alloc(), volume.edition, image, nothing, job, output, errors).status
+}
+
+/// Does a job that changes the volume in a file, and saves the volume.
+fn run_change<R: ImageFiles + Clock + Eprint + AllocGlobal, O: Sink, E: Sink>(
+    rt: &R,
+    output: &mut O,
+    errors: &mut E,
+    volume: VolumeFile<'_>,
+    job: Job<'_>,
+) -> u8
+    ensures runs { RunsChange (record {
+      old = O.contents output.old;
+      new = O.contents output.new;
+      had_failed = O.failed output.old;
+      failed = O.failed output.new;
+      said = Gets (E.failed errors.new) (E.contents errors.old) (E.contents errors.new);
+    }) (host_files R.File.remaining R.File.contents R.had R.stood) volume.entry.edition job.entry result }
+    ensures ends { Ends (record {
+      old = O.contents output.old;
+      new = O.contents output.new;
+      had_failed = O.failed output.old;
+      failed = O.failed output.new;
+      said = Gets (E.failed errors.new) (E.contents errors.old) (E.contents errors.new);
+    }) result }
+{
+    let (read, stamp) = match read_image(rt, volume.image) {
+        Ok(read) => read,
+        Err(status) => return status,
+    };
+    // Its file stays open, and so locked, until what is made of it is saved.
+    let ReadFile {
+        bytes: image,
+        file: _locked,
+    } = read;
     let file = match file_of(rt, job) {
         Ok(file) => file,
         Err(status) => return status,
     };
     let answer = do_job(rt.alloc(), volume.edition, image, file, job, output, errors);
-    save_answer(rt, volume.image, &answer)
+    save_answer(rt, volume.image, stamp, &answer)
 }
 
 /// The bytes of the file that a job puts into a volume, or none.
@@ -197,12 +311,43 @@ fn read_file<R: Files + Eprint + AllocGlobal>(rt: &R, path: &str) -> Result<Vec<
     ensures given { IfOk result (λ bytes. IsGiven R.File.remaining bytes.items) }
     ensures fault { IfErr result IsStatusOfFileOrMemory }
 {
-    let Ok(file) = fs::open(rt, path) else {
-        return Err(explain_unread(rt, path));
-    };
+    match fs::open(rt, path) {
+        Ok(file) => Ok(read_open(rt, path, file)?.bytes),
+        Err(_) => Err(explain_unread(rt, path)),
+    }
+}
+
+/// The image that a command is to change, and its stamp. Where it can't be read, or isn't to be changed, prints so,
+/// and answers the status.
+fn read_image<R: ImageFiles + Clock + Eprint + AllocGlobal>(
+    rt: &R,
+    path: &str,
+) -> Result<(ReadFile<R::File>, Stamp), u8>
+    ensures given { IfOk result (λ image. IsOpened R.File.remaining R.had image.0.bytes.items image.1) }
+    ensures fault { IfErr result IsStatusOfFileOrMemory }
+{
+    match open_image(rt, path) {
+        Ok((file, stamp)) => Ok((read_open(rt, path, file)?, stamp)),
+        Err(OpenFault::Unread) => Err(explain_unread(rt, path)),
+        Err(OpenFault::Unwritable) => Err(explain_unwritten(rt, path)),
+    }
+}
+
+/// Reads an open file to its end. Where it can't be read, prints so, and answers the status.
+fn read_open<R: Eprint + AllocGlobal, F: Read + Drop>(
+    rt: &R,
+    path: &str,
+    file: F,
+) -> Result<ReadFile<F>, u8>
+    ensures given { IfOk result (λ read. IsReadWhole (F.remaining file) (F.remaining read.file) read.bytes.items) }
+    ensures fault { IfErr result IsStatusOfFileOrMemory }
+{
     let mut source = FromRead::new(file);
     match load(rt.alloc(), &mut source) {
-        Ok(image) => Ok(image.into_bytes()),
+        Ok(image) => Ok(ReadFile {
+            bytes: image.into_bytes(),
+            file: source.into_inner(),
+        }),
         Err(LoadFault::Device) => Err(explain_unread(rt, path)),
         Err(LoadFault::NoMemory) => Err(explain_no_memory(rt)),
     }
@@ -231,31 +376,44 @@ fn cat_file<R: Files + AllocGlobal, O: Sink>(
     cat(rt.alloc(), volume.edition, ino, &mut source, output)
 }
 
-/// Saves what a command made in the file `image`, if it made anything, and answers the status to end with.
-fn save_answer<R: Files + Eprint + AllocGlobal>(rt: &R, image: &str, answer: &Answer) -> u8
-    ensures { EndsSaved (IsTaken R.File.contents) answer.now result }
+/// Saves what a command made in the file `image`, if it made anything and the file still has the stamp `read`, and
+/// answers the status to end with.
+fn save_answer<R: ImageFiles + Eprint + AllocGlobal>(
+    rt: &R,
+    image: &str,
+    read: Stamp,
+    answer: &Answer,
+) -> u8
+    ensures { EndsSaved (λ bytes. IsTaken R.File.contents bytes × R.stood read) answer.now result }
 {
     match &answer.image {
-        Some(bytes) => save(rt, image, Content::Bytes(bytes), answer.status),
+        Some(bytes) => save(rt, image, Some(read), Content::Bytes(bytes), answer.status),
         None => answer.status,
     }
 }
 
 /// Saves what `mkfs` made in the file `image`, if it made anything, and answers the status to end with.
-fn save_made<R: Files + Eprint + AllocGlobal>(rt: &R, image: &str, made: &Made) -> u8
+fn save_made<R: ImageFiles + Eprint + AllocGlobal>(rt: &R, image: &str, made: &Made) -> u8
     ensures { MadeSaved (IsTaken R.File.contents) made.now result }
 {
     match &made.volume {
-        Some(volume) => save(rt, image, Content::Volume(volume), made.status),
+        Some(volume) => save(rt, image, None, Content::Volume(volume), made.status),
         None => made.status,
     }
 }
 
-/// Saves a content in the file `path`, and answers the status to end with: `status`, where it is saved.
-fn save<R: Files + Eprint + AllocGlobal>(rt: &R, path: &str, content: Content<'_>, status: u8) -> u8
-    ensures { ((result ≡ status) × Saves R.File.contents content.entry) ⊎ IsStatusOfFileOrMemory result }
+/// Saves a content in the file `path`, if that still has the stamp `read`, where one is given, and answers the status
+/// to end with: `status`, where it is saved.
+fn save<R: ImageFiles + Eprint + AllocGlobal>(
+    rt: &R,
+    path: &str,
+    read: Option<Stamp>,
+    content: Content<'_>,
+    status: u8,
+) -> u8
+    ensures { ((result ≡ status) × Saves R.File.contents content.entry × IfSome read R.stood) ⊎ IsStatusOfFileOrMemory result }
 {
-    match save_file(rt, path, content) {
+    match save_file(rt, path, read, content) {
         Ok(()) => status,
         Err(error) if error.kind() == io::ErrorKind::OutOfMemory => explain_no_memory(rt),
         Err(_) => explain_unwritten(rt, path),

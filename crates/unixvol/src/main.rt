@@ -2,6 +2,7 @@
 #![tactic(auto)]
 
 mod commands;
+mod image_file;
 mod saving_file;
 
 use std::process::ExitCode;

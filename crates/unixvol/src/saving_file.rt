@@ -1,8 +1,9 @@
 //! Saving an image in a file, so that a failure leaves the file that was there.
-ghost use Rattle.std.specs.Prelude.{◌≡◌, true, IfOk, OnErr, OnOk};
+ghost use Rattle.std.specs.Prelude.{◌≡◌, true, IfOk, IfSome, OnErr, OnOk};
 ghost use Rattle.std.specs.Path.{path_bytes, path_buf_bytes};
 ghost use Rattle.unixvol.specs.Saving.{IsBeside, Grows, Saves};
 
+use crate::image_file::{ImageFiles, Stamp};
 use pdp_words::{IntoWrite, SaveFault, Sink, write_all};
 use std::fs::{self, Files, Metadata, OpenFile, OpenOptions};
 use std::io::{self, ErrorKind, Write};
@@ -46,28 +47,48 @@ impl Content<'_> {
 /// So a failure leaves the old file as it was, and no new one. A symbolic link is followed. What is no
 /// regular file, as a device or a pipe, is written in place.
 ///
+/// Where the content was made out of what the file had, `read` is the stamp that it then had: it must have that still,
+/// just before the new file takes its place or the first byte is written.
+///
 /// The error is the system's where a file can't be opened, synchronised or renamed; `WriteZero` where not all
-/// bytes could be written; `FilesystemLoop` past 40 symbolic links; `AlreadyExists` where a thousand names of
-/// new files were taken; `OutOfMemory` where an allocation was refused.
-pub fn save_file<R: Files + AllocGlobal>(rt: &R, path: &str, content: Content<'_>) -> io::Result<()>
-    ensures { OnOk result (Saves R.File.contents content.entry) }
+/// bytes could be written; `ResourceBusy` where the stamp is another; `FilesystemLoop` past 40 symbolic links;
+/// `AlreadyExists` where a thousand names of new files were taken; `OutOfMemory` where an allocation was refused.
+pub fn save_file<R: ImageFiles + AllocGlobal>(
+    rt: &R,
+    path: &str,
+    read: Option<Stamp>,
+    content: Content<'_>,
+) -> io::Result<()>
+    ensures saved { OnOk result (Saves R.File.contents content.entry) }
+    ensures unchanged { OnOk result (IfSome read R.stood) }
 {
     match OpenOptions::new().write(true).open(rt, path) {
         Ok(file) => {
             let metadata = file.metadata()?;
             if metadata.is_file() {
                 let place = fs::canonicalize(rt, path)?;
-                replace(rt, place.as_path(), Some(&metadata), content)
+                replace(rt, place.as_path(), Some(&metadata), read, content)
             } else {
+                expect_unchanged(rt, path, read)?;
                 write_in_place(file, content)?;
                 Ok(())
             }
         }
         Err(error) if error.kind() == ErrorKind::NotFound => {
             let place = end_of_links(rt, path)?;
-            replace(rt, place.as_path(), None, content)
+            replace(rt, place.as_path(), None, read, content)
         }
         Err(error) => Err(error),
+    }
+}
+
+/// Fails where what stands at `path` hasn't the stamp that it had when it was read.
+fn expect_unchanged<R: ImageFiles>(rt: &R, path: &str, read: Option<Stamp>) -> io::Result<()>
+    ensures { OnOk result (IfSome read R.stood) }
+{
+    match read {
+        Some(read) if rt.stamp_at(path)? != read => Err(io::Error::from(ErrorKind::ResourceBusy)),
+        _ => Ok(()),
     }
 }
 
@@ -84,22 +105,39 @@ fn end_of_links<R: Files + AllocGlobal>(rt: &R, path: &str) -> io::Result<PathBu
     Err(io::Error::from(ErrorKind::FilesystemLoop))
 }
 
-/// Puts a new file with this content in the place of `path`, which is no symbolic link.
-fn replace<R: Files + AllocGlobal>(
+/// Puts a new file with this content in the place of `path`, which is no symbolic link, and still has the stamp `read`, if one is given.
+fn replace<R: ImageFiles + AllocGlobal>(
     rt: &R,
     path: Path<'_>,
     old: Option<&Metadata>,
+    read: Option<Stamp>,
     content: Content<'_>,
 ) -> io::Result<()>
-    ensures { OnOk result (Saves R.File.contents content.entry) }
+    ensures saved { OnOk result (Saves R.File.contents content.entry) }
+    ensures unchanged { OnOk result (IfSome read R.stood) }
 {
     let (file, beside) = new_file(rt, path, old.is_some())?;
-    let result = fill(rt, file, beside.as_path(), old, content);
-    let result = result.and_then(|_| fs::rename(rt, beside.as_path(), path));
+    let result = match fill(rt, file, beside.as_path(), old, content) {
+        Ok(_) => rename_over(rt, beside.as_path(), path, read),
+        Err(error) => Err(error),
+    };
     if result.is_err() {
         let _ = fs::remove_file(rt, beside.as_path());
     }
     result
+}
+
+/// Puts the new file in the place of `path`, if that has the stamp `read` still.
+fn rename_over<R: ImageFiles>(
+    rt: &R,
+    beside: Path<'_>,
+    path: Path<'_>,
+    read: Option<Stamp>,
+) -> io::Result<()>
+    ensures { OnOk result (IfSome read R.stood) }
+{
+    expect_unchanged(rt, path.as_str(), read)?;
+    fs::rename(rt, beside, path)
 }
 
 /// Makes an empty file in the folder of `path`, with a name that no file has.

@@ -2,8 +2,7 @@ use Rattle.std.proofs.Common.{◌≡◌, ◌⊎◌, ◌∙◌, ℕ, Bool, false,
 use Rattle.std.specs.Process.{exit_status}
 use Rattle.vol_commands.specs.Faults.{Gets}
 use Rattle.vol_commands.specs.Jobs.{Streams}
-use Rattle.unixvol.specs.Running.{IsGiven, RunsSome, RunsToEnd, Ends}
-use Rattle.unixvol.specs.Saving.{IsTaken}
+use Rattle.unixvol.specs.Running.{HostFiles, RunsSome, RunsToEnd, Ends, host_files}
 use Rattle.unixvol.proofs.commands.run_to_end.Goals as goal
 
 -- what the two streams were and are
@@ -16,26 +15,26 @@ ended status finished end is (inl same) = inl (is ∙ same)
 ended status finished end is (inr kept) = inr (kept.0, is ∙ kept.1)
 
 -- a run goes to its end from what its writers hold, which have not failed
-to_end : (given taken : List ℕ → Type 0) (output errors : Option (List ℕ)) (end : ℕ) (old was : Option (List ℕ)) (had_failed : Bool)
+to_end : (files : HostFiles) (output errors : Option (List ℕ)) (end : ℕ) (old was : Option (List ℕ)) (had_failed : Bool)
     (new told : Option (List ℕ)) (failed untold : Bool) (status : ℕ) → old ≡ output → was ≡ errors → had_failed ≡ false
-    → RunsSome (streams_of old new had_failed failed was told untold) given taken status
+    → RunsSome (streams_of old new had_failed failed was told untold) files status
     → Ends (streams_of old new had_failed failed was told untold) status
-    → (end ≡ status) ⊎ ((status ≡ 0) × (end ≡ 3)) → RunsToEnd given taken output errors end
-to_end given taken output errors end old was had_failed new told failed untold status held heard fresh runs ends at_end =
-    subst (λ o. RunsToEnd given taken o errors end) held
-    (subst (λ e. RunsToEnd given taken old e end) heard (
+    → (end ≡ status) ⊎ ((status ≡ 0) × (end ≡ 3)) → RunsToEnd files output errors end
+to_end files output errors end old was had_failed new told failed untold status held heard fresh runs ends at_end =
+    subst (λ o. RunsToEnd files o errors end) held
+    (subst (λ e. RunsToEnd files old e end) heard (
       new,
       failed,
       told,
       untold,
       status,
-      subst (λ had. RunsSome (streams_of old new had failed was told untold) given taken status) fresh runs,
+      subst (λ had. RunsSome (streams_of old new had failed was told untold) files status) fresh runs,
       subst (λ had. Ends (streams_of old new had failed was told untold) status) fresh ends,
       at_end,
     ))
 
 pub returns : goal.returns
 returns g c =
-    to_end (IsGiven g.R.File.Read.remaining) (IsTaken g.R.File.Write.contents) (g.O.Write.contents c.args.output) (g.E.Write.contents c.args.errors)
+    to_end (host_files g.R.File.Read.remaining g.R.File.Write.contents g.R.ImageFiles.had g.R.ImageFiles.stood) (g.O.Write.contents c.args.output) (g.E.Write.contents c.args.errors)
     (exit_status c.from.result) _ _ _ _ _ _ _ c.run-status.result c.new-output.ensures.bytes c.new-errors.ensures.bytes c.new-output.ensures.fresh
     c.run-status.ensures.runs c.run-status.ensures.ends (ended c.run-status.result c.finish.result (exit_status c.from.result) c.from.ensures c.finish.ensures)

@@ -7,7 +7,7 @@ use Rattle.unixvol.proofs.commands.run_words.Goals as goal
 pub returns-in-Ok-clause-runs : goal.returns-in-Ok-clause-runs
 returns-in-Ok-clause-runs g c =
     let read = subst (λ r. IfOk r (IsRead (map string_bytes c.args.words.now))) c.in-Ok.is c.read.ensures.read in
-    inl (c.in-Ok.invocation, read, c.carry_out.ensures)
+    inl (c.in-Ok.invocation, read, c.carry_out.ensures.runs)
 
 pub returns-in-Err-clause-runs : goal.returns-in-Err-clause-runs
 returns-in-Err-clause-runs g c =

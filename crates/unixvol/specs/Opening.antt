@@ -1,0 +1,20 @@
+-- Which file an image is read from that a command changes.
+use Rattle.std.specs.Prelude.{◌≢◌, ℕ, List, Option}
+use Rattle.pdp_words.specs.Devices.{IsReadWhole}
+use Rattle.unixvol.specs.declared.image_file.Kind.TheVariants as kinds
+use Rattle.unixvol.specs.declared.image_file.Stamp.{Stamp}
+use Rattle.unixvol.specs.declared.image_file.Try.{Try}
+use Rattle.unixvol.specs.declared.image_file.Try.TheVariants.{Open}
+
+-- the system said of an open file that this was its stamp, and it is no pipe, socket or terminal (this project)
+abbrev pub OpensTo : {F : Type 0} → (F → Stamp → Type 0) → F → Stamp → Type 0
+OpensTo had file stamp = had file stamp × (stamp.kind ≢ kinds.Stream)
+
+-- where a try opened a file, the file opens to its stamp (this project)
+abbrev pub IsOpenTo : {F : Type 0} → (F → Stamp → Type 0) → Try F → Type 0
+IsOpenTo had (Open file stamp) = OpensTo had file stamp
+IsOpenTo had _ = Unit {0}
+
+-- some file, which opens to this stamp, gave these bytes from then on, all that it had left (std::io::Read)
+abbrev pub IsOpened : {F : Type 0} → (F → Option (List ℕ)) → (F → Stamp → Type 0) → List ℕ → Stamp → Type 0
+IsOpened {F} remaining had bytes stamp = (old : F) × (new : F) × OpensTo had old stamp × IsReadWhole (remaining old) (remaining new) bytes

@@ -1,0 +1,180 @@
+//! The file of an image that a command changes: of which kind it is, whether it is still as it was read, and its lock.
+ghost use Rattle.std.specs.Prelude.{◌≡◌, ◌≢◌, ◌↔◌, IfOk};
+ghost use Rattle.std.specs.Fs.{IsDir, IsFile, file_type, metadata_len};
+ghost use Rattle.unixvol.specs.declared.image_file.Stamp.{Stamp};
+ghost use Rattle.unixvol.specs.Opening.{IsOpenTo, OpensTo};
+
+use std::fs::{self, File, Files, Metadata, TryLockError};
+use std::io::{self, IsTerminal};
+use std::os::unix::fs::{FileTypeExt, MetadataExt};
+use std::rt::Clock;
+use std::thread;
+use std::time::Duration;
+
+/// How often it is tried to lock a file, before that counts as another program's.
+const TRIES: u32 = 3000;
+
+/// The pause between two tries, in milliseconds: half a minute in all.
+const PAUSE: u64 = 10;
+
+/// Of which kind a file is.
+#[derive(Clone, Copy, Debug, PartialEq, Eq)]
+pub enum Kind {
+    /// A regular file.
+    Regular,
+    /// A block or character device, but no terminal.
+    Device,
+    /// A directory.
+    Directory,
+    /// A pipe, a socket or a terminal: what was read from it isn't there any more.
+    Stream,
+}
+
+impl Kind {
+    /// The kind that the system gives. A terminal counts as a device here.
+    fn of(metadata: &Metadata) -> Kind
+        ensures regular { (result ≡ Kind.Regular) ↔ IsFile (file_type metadata.now) }
+        ensures directory { (result ≡ Kind.Directory) ↔ IsDir (file_type metadata.now) }
+    {
+        let file_type = metadata.file_type();
+        if file_type.is_file() {
+            Kind::Regular
+        } else if file_type.is_dir() {
+            Kind::Directory
+        } else if file_type.is_block_device() || file_type.is_char_device() {
+            Kind::Device
+        } else {
+            Kind::Stream
+        }
+    }
+}
+
+/// Which file it was, and when it was written last: two that are equal are of one file that stayed as it was, unless it
+/// was written twice within one tick of its clock and kept its size.
+#[derive(Clone, Copy, Debug, PartialEq, Eq)]
+pub struct Stamp {
+    /// Of which kind the file is.
+    pub kind: Kind,
+    /// The device that it lies on.
+    pub device: u64,
+    /// Its i-number there.
+    pub ino: u64,
+    /// Its size in bytes.
+    pub size: u64,
+    /// Its time of modification, in seconds since 1970.
+    pub seconds: i64,
+    /// The nanoseconds of that time.
+    pub nanoseconds: i64,
+}
+
+impl Stamp {
+    /// The stamp of a file, by what the system says of it.
+    fn of(metadata: &Metadata) -> Stamp
+        ensures regular { (result.kind ≡ Kind.Regular) ↔ IsFile (file_type metadata.now) }
+        ensures directory { (result.kind ≡ Kind.Directory) ↔ IsDir (file_type metadata.now) }
+        ensures size { result.size ≡ metadata_len metadata.now }
+    {
+        Stamp {
+            kind: Kind::of(metadata),
+            device: metadata.dev(),
+            ino: metadata.ino(),
+            size: metadata.len(),
+            seconds: metadata.mtime(),
+            nanoseconds: metadata.mtime_nsec(),
+        }
+    }
+}
+
+/// What the program asks of the system about the file of an image.
+pub trait ImageFiles: Files {
+    /// The system said of an open file that this was its stamp.
+    ghost had: { Self.File → Stamp → Type 0 };
+
+    /// The system said of what stands at a path that this was its stamp.
+    ghost stood: { Stamp → Type 0 };
+
+    /// The stamp that an open file has now; a terminal is a stream.
+    fn stamp_of(&self, file: &Self::File) -> io::Result<Stamp>
+        ensures { IfOk result (had file.now) };
+
+    /// The stamp that the file at `path` has now. A symbolic link is followed; a terminal counts as a device.
+    fn stamp_at(&self, path: &str) -> io::Result<Stamp>
+        ensures { IfOk result stood };
+
+    /// Locks an open file for this program alone, until all its handles are closed. False where another
+    /// program has it locked; true too where the file's system has no such locks.
+    fn try_lock(&self, file: &Self::File) -> bool;
+}
+
+impl ImageFiles for HostRuntime {
+    ghost had = { λ _ _. Unit {0} };
+
+    ghost stood = { λ _. Unit {0} };
+
+    fn stamp_of(&self, file: &File) -> io::Result<Stamp> {
+        let stamp = Stamp::of(&file.metadata()?);
+        let kind = if file.is_terminal() { Kind::Stream } else { stamp.kind };
+        Ok(Stamp { kind, ..stamp })
+    }
+
+    fn stamp_at(&self, path: &str) -> io::Result<Stamp> {
+        Ok(Stamp::of(&fs::metadata(self, path)?))
+    }
+
+    fn try_lock(&self, file: &File) -> bool {
+        !matches!(file.try_lock(), Err(TryLockError::WouldBlock))
+    }
+}
+
+/// Why the file of an image can't be changed.
+#[derive(Clone, Copy, Debug, PartialEq, Eq)]
+pub enum OpenFault {
+    /// It can't be opened.
+    Unread,
+    /// It is a pipe, a socket or a terminal, or another program has had it locked for half a minute.
+    Unwritable,
+}
+
+/// What one try to open the file of an image comes to.
+enum Try<F> {
+    /// It is open and locked, and stands at its path, with this stamp.
+    Open(F, Stamp),
+    /// It is a pipe, a socket or a terminal.
+    Stream,
+    /// Another program has it locked, or put another file in its place just now.
+    Busy,
+}
+
+/// Opens the file of an image that is to be changed, locks it, and answers its stamp. The lock is gone once the file is closed.
+/// It waits, for half a minute at most, while another program has the file locked.
+pub fn open_image<R: ImageFiles + Clock>(rt: &R, path: &str) -> Result<(R::File, Stamp), OpenFault>
+    ensures { IfOk result (λ opened. OpensTo R.had opened.0 opened.1) }
+{
+    for _ in 0..TRIES {
+        match try_open(rt, path) {
+            Ok(Try::Open(file, stamp)) => return Ok((file, stamp)),
+            Ok(Try::Stream) => return Err(OpenFault::Unwritable),
+            Ok(Try::Busy) => thread::sleep(rt, Duration::from_millis(PAUSE)),
+            Err(_) => return Err(OpenFault::Unread),
+        }
+    }
+    Err(OpenFault::Unwritable)
+}
+
+/// Tries once to open and lock the file of an image. A pipe isn't opened, since that could wait for its other end.
+fn try_open<R: ImageFiles>(rt: &R, path: &str) -> io::Result<Try<R::File>>
+    ensures { IfOk result (IsOpenTo R.had) }
+{
+    if rt.stamp_at(path)?.kind == Kind::Stream {
+        return Ok(Try::Stream);
+    }
+    let file = fs::open(rt, path)?;
+    let stamp = rt.stamp_of(&file)?;
+    if stamp.kind == Kind::Stream {
+        return Ok(Try::Stream);
+    }
+    if rt.try_lock(&file) && rt.stamp_at(path)? == stamp {
+        return Ok(Try::Open(file, stamp));
+    }
+    Ok(Try::Busy)
+}

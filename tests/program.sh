@@ -617,7 +617,7 @@ echo 'unixvol: 12 NoMemory' > line
 wants 'put in less memory than the image takes' 4 none line
 rm volumes/great
 
-# Where the changed volume goes: a link is followed, a pipe written in place, and a full disk leaves the old file.
+# Where the changed volume goes: a link is followed, and a full disk leaves the old file.
 cp volumes/a volumes/linked
 prints none put 6 volumes/link /a hello 1
 has 'a symbolic link to a volume' linked "$(readlink volumes/link)"
@@ -627,11 +627,149 @@ cp volumes/linked before
 echo 'unixvol: cannot write volumes/linked' > line
 wants 'rm where the new file finds no room' 3 none line
 saves 'a volume whose new file found no room' volumes/linked before
-{ cat volumes/linked > pipe; cat pipe > piped; } &
-prints none rm 6 pipe /a 1
-wait
+
+# An image that is a pipe, a socket or a terminal isn't changed, and isn't read either; it can be looked at.
+for command in 'put /a hello 1' 'rm /a 1' 'rmdir /a 1' 'mkdir /a 1' 'ln /a /b 1'; do
+    read -r -a given <<< "$command"
+    refuses 3 'unixvol: cannot write pipe' "${given[0]}" 6 pipe "${given[@]:1}"
+    { cat volumes/linked; echo more; } | { "$program" "${given[0]}" 6 /dev/stdin "${given[@]:1}" > output 2> error; echo $? > status; cat > rest; }
+    echo 'unixvol: cannot write /dev/stdin' > line
+    wants "${given[0]} of an image from a pipe" 3 none line
+    has "what ${given[0]} leaves of a pipe" 10245 "$(wc -c < rest)"
+done
+body great 10000000
+{ cat great 2> /dev/null; } | { "$program" put 6 /dev/stdin /a hello 1 > output 2> error; echo $? > status; }
+wants 'put into a great image from a pipe' 3 none line
+cat volumes/linked > pipe &
 edition=6
-lists piped / '    1 .' '    1 ..'
+lists pipe / '    1 .' '    1 ..' '   32 a'
+wait
+"$program" get 6 <(cat volumes/linked) /a > output 2> error < /dev/null
+echo $? > status
+wants 'get from a pipe' 0 hello none
+if command -v python3 > /dev/null; then
+    python3 -c 'import socket; socket.socket(socket.AF_UNIX).bind("socket")'
+    refuses 3 'unixvol: cannot write socket' rm 6 socket /a 1
+fi
+if script -qec true /dev/null > /dev/null 2>&1 < /dev/null; then
+    script -qec "'$program' rm 6 /dev/tty /a 1 2> error; echo \$? > status" /dev/null > /dev/null 2>&1 < /dev/null
+    : > output
+    echo 'unixvol: cannot write /dev/tty' > line
+    wants 'rm of a name in a terminal' 3 none line
+fi
+refuses 1 'unixvol: unsound, rule 1' rm 6 /dev/null /a 1
+cp volumes/linked copied
+"$program" rm 6 /dev/stdin /a 1 > output 2> error < copied
+echo $? > status
+wants 'rm in a file on standard input' 0 none none
+lists copied / '    1 .' '    1 ..'
+
+# Files by absolute paths.
+cp volumes/a absolute
+prints none put 6 "$folder/absolute" /a "$folder/hello" 1
+prints hello get 6 "$folder/absolute" /a
+prints hello cat 6 "$folder/absolute" 32
+has 'no new file beside an image by its absolute path' '' "$(find . -maxdepth 1 -name '.unixvol-*')"
+refuses 3 "unixvol: cannot read $folder/missing" put 6 "$folder/absolute" /b "$folder/missing" 1
+refuses 3 "unixvol: cannot read $folder/missing" rm 6 "$folder/missing" /b 1
+
+# A full device, where the bytes are more than any buffer takes.
+prints none mkfs 7 large 4000 4 0 0 1
+body great 1900000
+prints none put 7 large /great great 1
+for command in 'get large /great' 'cat large 32'; do
+    read -r -a given <<< "$command"
+    "$program" "${given[0]}" 7 "${given[@]:1}" > /dev/full 2> error
+    echo $? > status
+    : > output
+    echo 'unixvol: cannot write -' > line
+    wants "${given[0]} of a great file to a full device" 3 none line
+done
+
+# A command that is refused leaves the image with its i-number and its time of modification.
+touch -d '2001-02-03 04:05:06.789' absolute
+stood=$(stat -c '%i %y' absolute)
+refuses 1 'unixvol: 2 NoEntry' rm 6 absolute /none 1
+refuses 1 'unixvol: 17 Exists' mkdir 6 absolute /a 1
+refuses 3 'unixvol: cannot read missing' put 6 absolute /a missing 1
+refuses 1 'unixvol: bounds' mkfs 6 absolute 4 2 0 0 0
+misread 'error: invalid value' rm 6 absolute /a one
+has 'an image that commands were refused on' "$stood" "$(stat -c '%i %y' absolute)"
+
+# Many commands at once on an image: each that ends with status 0 has done its work, each other one says that it hasn't.
+prints none mkfs 7 shared_image 500 20 0 0 1
+for number in $(seq 60); do
+    { "$program" put 7 shared_image "/f$number" hello 1 > "output$number" 2> "error$number"; echo $? > "status$number"; } &
+done
+wait
+printf 'unixvol: cannot write shared_image\n' > line
+done_count=0
+for number in $(seq 60); do
+    cp "output$number" output
+    cp "error$number" error
+    cp "status$number" status
+    if [ "$(cat status)" = 0 ]; then
+        done_count=$((done_count + 1))
+        wants "put $number of many" 0 none none
+        prints hello get 7 shared_image "/f$number"
+    else
+        wants "put $number of many" 3 none line
+        refuses 1 'unixvol: 2 NoEntry' get 7 shared_image "/f$number"
+        printf 'unixvol: cannot write shared_image\n' > line
+    fi
+done
+has 'more than one put of many' yes "$([ "$done_count" -gt 1 ] && echo yes || echo "no: $done_count")"
+has 'the names that many puts made' "$done_count" "$("$program" ls 7 shared_image / | grep -c ' f')"
+has 'no new file of many puts' '' "$(find . -maxdepth 1 -name '.unixvol-*')"
+rm -f output[0-9]* error[0-9]* status[0-9]*
+
+# A command waits for a program that has locked the image.
+if command -v flock > /dev/null; then
+    for command in 'put shared_image /waiting hello 1' 'mkfs shared_image 500 20 0 0 1'; do
+        read -r -a given <<< "$command"
+        exec 9< shared_image
+        flock 9
+        "$program" "${given[0]}" 7 "${given[@]:1}" > output 2> error < /dev/null 9<&- &
+        sleep 0.3
+        stat -c %i shared_image > stood
+        exec 9<&-
+        wait $!
+        echo $? > status
+        wants "${given[0]} of an image that was locked" 0 none none
+        has "${given[0]} of an image that was locked, once it isn't" no "$([ "$(stat -c %i shared_image)" = "$(cat stood)" ] && echo yes || echo no)"
+    done
+fi
+
+# Another program that writes the image, or puts another in its place, while a command waits for its file: nothing is saved.
+# meddled LABEL SHELL-COMMAND: runs the command once `put` has read the image, and before it has its file
+meddled() {
+    prints none mkfs 7 image 100 4 0 0 1
+    touch -d '2001-02-03 04:05:06.789' image
+    "$program" put 7 image /a pipe 1 > output 2> error < /dev/null &
+    # The pipe opens once `put`, which has read the image, opens it too.
+    exec 9> pipe
+    eval "$2"
+    cp image stood
+    cat hello >&9
+    exec 9>&-
+    wait $!
+    echo $? > status
+    echo 'unixvol: cannot write image' > line
+    wants "put into an image $1" 3 none line
+    saves "an image $1" image stood
+}
+meddled 'that was written meanwhile' 'printf x | dd of=image bs=1 seek=600 conv=notrunc status=none'
+meddled 'that grew meanwhile' 'printf x >> image; touch -d "2001-02-03 04:05:06.789" image'
+meddled 'in whose place another one was put meanwhile' 'cp -p image other; mv other image'
+prints none mkfs 7 image 100 4 0 0 1
+"$program" put 7 image /a pipe 1 > output 2> error < /dev/null &
+exec 9> pipe
+rm image
+exec 9>&-
+wait $!
+echo $? > status
+wants 'put into an image that was removed meanwhile' 3 none line
+has 'an image that was removed meanwhile' '' "$(find . -maxdepth 1 \( -name image -o -name '.unixvol-*' \))"
 
 # A volume that Linux wrote, as samples/README.md says: its names, i-numbers, sizes and sums are those that Linux told of it.
 linux="$samples/linux_made.v7"

@@ -14,7 +14,7 @@ ghost use Rattle.unixvol.specs.Opening.{IsOpened};
 ghost use Rattle.unixvol.specs.Running.{IsGiven, IsGivenFor, IsStatusOfFileOrMemory, CatsGiven, EndsSaved, MadeSaved, PrintsBody, RunsChange, RunsJob, RunsMkfs, RunsQuery, Runs, RunsWords, RunsSome, RunsToEnd, Ends, host_files};
 ghost use Rattle.unixvol.specs.Saving.{IsTaken, Saves};
 
-use crate::image_file::{ImageFiles, OpenFault, Stamp, open_image};
+use crate::image_file::{ImageFiles, Kind, OpenFault, Stamp, open_image};
 use crate::saving_file::{Content, save_file};
 use clap::error::ErrorKind;
 use command_line::{Invocation, VolumeFile};
@@ -172,7 +172,7 @@ fn run_cat<R: Files + Eprint + AllocGlobal, O: Sink>(
 }
 
 /// Makes a new volume, saves it in the file `image`, and answers the status to end with.
-fn run_mkfs<R: ImageFiles + Eprint + AllocGlobal, O: Sink, E: Sink>(
+fn run_mkfs<R: ImageFiles + Clock + Eprint + AllocGlobal, O: Sink, E: Sink>(
     rt: &R,
     output: &mut O,
     errors: &mut E,
@@ -329,7 +329,7 @@ fn read_image<R: ImageFiles + Clock + Eprint + AllocGlobal>(
     match open_image(rt, path) {
         Ok((file, stamp)) => Ok((read_open(rt, path, file)?, stamp)),
         Err(OpenFault::Unread) => Err(explain_unread(rt, path)),
-        Err(OpenFault::Unwritable) => Err(explain_unwritten(rt, path)),
+        Err(OpenFault::Stream | OpenFault::Locked) => Err(explain_unwritten(rt, path)),
     }
 }
 
@@ -392,14 +392,20 @@ fn save_answer<R: ImageFiles + Eprint + AllocGlobal>(
     }
 }
 
-/// Saves what `mkfs` made in the file `image`, if it made anything, and answers the status to end with.
-fn save_made<R: ImageFiles + Eprint + AllocGlobal>(rt: &R, image: &str, made: &Made) -> u8
+/// Saves what `mkfs` made in the file `image`, if it made anything, and answers the status to end with. A regular file
+/// that is there is locked meanwhile, if it can be opened.
+fn save_made<R: ImageFiles + Clock + Eprint + AllocGlobal>(rt: &R, image: &str, made: &Made) -> u8
     ensures { MadeSaved (IsTaken R.File.contents) made.now result }
 {
-    match &made.volume {
-        Some(volume) => save(rt, image, None, Content::Volume(volume), made.status),
-        None => made.status,
-    }
+    let Some(volume) = &made.volume else {
+        return made.status;
+    };
+    let _locked = match open_image(rt, image) {
+        Ok((file, stamp)) if stamp.kind == Kind::Regular => Some(file),
+        Err(OpenFault::Locked) => return explain_unwritten(rt, image),
+        _ => None,
+    };
+    save(rt, image, None, Content::Volume(volume), made.status)
 }
 
 /// Saves a content in the file `path`, if that still has the stamp `read`, where one is given, and answers the status

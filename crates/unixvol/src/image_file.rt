@@ -131,8 +131,10 @@ impl ImageFiles for HostRuntime {
 pub enum OpenFault {
     /// It can't be opened.
     Unread,
-    /// It is a pipe, a socket or a terminal, or another program has had it locked for half a minute.
-    Unwritable,
+    /// It is a pipe, a socket or a terminal.
+    Stream,
+    /// Another program has had it locked for half a minute.
+    Locked,
 }
 
 /// What one try to open the file of an image comes to.
@@ -153,12 +155,12 @@ pub fn open_image<R: ImageFiles + Clock>(rt: &R, path: &str) -> Result<(R::File,
     for _ in 0..TRIES {
         match try_open(rt, path) {
             Ok(Try::Open(file, stamp)) => return Ok((file, stamp)),
-            Ok(Try::Stream) => return Err(OpenFault::Unwritable),
+            Ok(Try::Stream) => return Err(OpenFault::Stream),
             Ok(Try::Busy) => thread::sleep(rt, Duration::from_millis(PAUSE)),
             Err(_) => return Err(OpenFault::Unread),
         }
     }
-    Err(OpenFault::Unwritable)
+    Err(OpenFault::Locked)
 }
 
 /// Tries once to open and lock the file of an image. A pipe isn't opened, since that could wait for its other end.

@@ -504,8 +504,9 @@ for numbers in '6 1 32 31' '7 2 16 15'; do
     lists "$tree" '' "${dots[@]}" "   $first hello"
     prints hello get "$edition" "$tree" /hello
     prints hello get "$edition" "$tree" hello//
+    prints none put "$edition" "$tree" /hello/ hello 1001
     prints hello cat "$edition" "$tree" "$first"
-    prints none mkdir "$edition" "$tree" /d 1002
+    prints none mkdir "$edition" "$tree" /d/ 1002
     lists "$tree" / "${dots[@]}" "   $second d" "   $first hello"
     lists "$tree" d/ "   $second ." "    $top .."
     prints none ln "$edition" "$tree" /hello /d/again 1003
@@ -541,7 +542,7 @@ for numbers in '6 1 32 31' '7 2 16 15'; do
     saves 'a volume that commands were refused on' "$tree" before
     # And back to the start: all that was made goes.
     prints none rm "$edition" "$tree" /d/none 1007
-    prints none rm "$edition" "$tree" hello 1008
+    prints none rm "$edition" "$tree" hello/ 1008
     prints long_hello get "$edition" "$tree" /d/again
     prints none rm "$edition" "$tree" /d/again 1009
     prints none rmdir "$edition" "$tree" /d 1010
@@ -813,6 +814,12 @@ has 'the size of a volume of 4,000 blocks' 2048000 "$(wc -c < disk.img)"
 put root 0 '01'
 put root 16 '01'
 prints root cat 6 disk.img 1
+cp disk.img whole
+truncate -s 2047488 disk.img # 3,999 blocks
+refuses 1 'unixvol: unsound, rule 1' cat 6 disk.img 1
+truncate -s 2048000 disk.img
+prints root cat 6 disk.img 1
+saves 'an image short of its last blocks, once it is mended' disk.img whole
 od -c < root > dumped
 { "$program" cat 6 disk.img 1 2> error; echo $? > status; } | od -c > output
 wants 'cat of a root directory, dumped' 0 dumped none

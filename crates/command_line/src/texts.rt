@@ -20,7 +20,8 @@ asked.
 
 Status:
   0  the body was printed
-  1  `unixvol: unsound, rule 1`: the image is shorter than its super-block says
+  1  `unixvol: unsound, rule 1`: the image is shorter than its super-block says; where its last blocks are
+     missing, `truncate -s SIZE IMAGE` adds zeros: SIZE is 512 for each block, so 2048000 for 4,000 blocks
      `unixvol: unsound, rule 2`: the super-block's sizes don't fit one another
      (one of these two mostly comes where the volume is of the other edition)
      `unixvol: 2 NoEntry`: there is no such i-node, or it is free
@@ -48,7 +49,8 @@ Example:
   unixvol mkfs 6 disk.img 4000 100 0 0 173750400
 
 It makes IMAGE, or replaces it, only where the volume was made: a new file is written beside IMAGE and
-then takes its place, with its permissions. Where IMAGE is a device or a pipe, the bytes are written into it.
+then takes its place, with its permissions. A file that is there is replaced without asking, whatever it
+holds. Where IMAGE is a device or a pipe, the bytes are written into it.
 The root directory has permissions 0777; its size is 32, for `.` and `..`. All other data blocks are free.
 
 The sixth edition takes 1 to 4095 blocks of i-list with 16 i-nodes each, at most 65535 blocks in all, and
@@ -84,8 +86,8 @@ Example:
 It prints a line for each name, in ascending order of the names' bytes: the i-number, right-aligned in 5
 places, a space, and the name. `.` and `..` are among them.
 
-A path starts at the root, with or without a slash. Repeated slashes count as one, and each name is cut to
-14 bytes. The volume must be sound: its twelve rules are asked first.
+A path starts at the root, with or without a slash. Repeated slashes count as one, those at its end as none,
+and each name is cut to 14 bytes. The volume must be sound: its twelve rules are asked first.
 
 Status:
   0  the names were printed
@@ -104,8 +106,8 @@ Example:
 
 It prints the file to standard output, byte for byte, with zeros where a block is missing.
 
-A path starts at the root, with or without a slash. Repeated slashes count as one, and each name is cut to
-14 bytes. The volume must be sound: its twelve rules are asked first.
+A path starts at the root, with or without a slash. Repeated slashes count as one, those at its end as none,
+and each name is cut to 14 bytes. The volume must be sound: its twelve rules are asked first.
 
 Status:
   0  the file was printed
@@ -124,12 +126,13 @@ Example:
   unixvol put 7 disk.img /etc/motd motd 173750400
 
 A name that is missing is made, with permissions 0644, of user 0 and group 0; a file that is there is made
-empty first, and keeps its i-number, links and permissions. IMAGE is written only where all went well: a new
-file is written beside it and then takes its place, with its permissions. Where IMAGE is a device or a pipe,
-the bytes are written into it.
+empty first, and keeps its i-number, links and permissions. PATH is the one in the volume, and comes before
+FILE, the one outside it. IMAGE is written only where all went well: a new file is written beside it and then
+takes its place, with its permissions. Where IMAGE is a device, the bytes are written into it; it can't be a
+pipe or a terminal.
 
-A path starts at the root, with or without a slash. Repeated slashes count as one, and each name is cut to
-14 bytes. The volume must be sound: its twelve rules are asked first.
+A path starts at the root, with or without a slash. Repeated slashes count as one, those at its end as none,
+and each name is cut to 14 bytes. The volume must be sound: its twelve rules are asked first.
 
 Status:
   0  the file was put, and the volume saved
@@ -151,8 +154,8 @@ Example:
 The file is freed with its last name. Special files can be removed too, directories can't. IMAGE is written
 only where all went well: a new file is written beside it and then takes its place.
 
-A path starts at the root, with or without a slash. Repeated slashes count as one, and each name is cut to
-14 bytes. The volume must be sound: its twelve rules are asked first.
+A path starts at the root, with or without a slash. Repeated slashes count as one, those at its end as none,
+and each name is cut to 14 bytes. The volume must be sound: its twelve rules are asked first.
 
 Status:
   0  the name is gone, and the volume was saved
@@ -173,8 +176,8 @@ Example:
 Empty is a directory with `.` and `..` alone. IMAGE is written only where all went well: a new file is
 written beside it and then takes its place.
 
-A path starts at the root, with or without a slash. Repeated slashes count as one, and each name is cut to
-14 bytes. The volume must be sound: its twelve rules are asked first.
+A path starts at the root, with or without a slash. Repeated slashes count as one, those at its end as none,
+and each name is cut to 14 bytes. The volume must be sound: its twelve rules are asked first.
 
 Status:
   0  the directory is gone, and the volume was saved
@@ -196,8 +199,8 @@ Example:
 It has permissions 0755, is of user 0 and group 0, and holds `.` and `..`. IMAGE is written only where all
 went well: a new file is written beside it and then takes its place.
 
-A path starts at the root, with or without a slash. Repeated slashes count as one, and each name is cut to
-14 bytes. The volume must be sound: its twelve rules are asked first.
+A path starts at the root, with or without a slash. Repeated slashes count as one, those at its end as none,
+and each name is cut to 14 bytes. The volume must be sound: its twelve rules are asked first.
 
 Status:
   0  the directory was made, and the volume saved
@@ -220,8 +223,8 @@ Example:
 Both names then lead to one file. Special files can have further names too, directories can't. IMAGE is
 written only where all went well: a new file is written beside it and then takes its place.
 
-A path starts at the root, with or without a slash. Repeated slashes count as one, and each name is cut to
-14 bytes. The volume must be sound: its twelve rules are asked first.
+A path starts at the root, with or without a slash. Repeated slashes count as one, those at its end as none,
+and each name is cut to 14 bytes. The volume must be sound: its twelve rules are asked first.
 
 Status:
   0  the name was made, and the volume saved

@@ -6,3 +6,4 @@ pub mod Taking
 pub mod Giving
 pub mod Counting
 pub mod IList
+pub mod Rebuilding

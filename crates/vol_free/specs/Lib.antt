@@ -1,3 +1,4 @@
 pub mod Stack
 pub mod Laws
 pub mod Numbers
+pub mod Rebuilding

@@ -5,6 +5,7 @@ ghost use Rattle.pdp_words.specs.Words.{SameOutside, word};
 ghost use Rattle.vol_layout.specs.Edition.{constants, number};
 ghost use Rattle.vol_layout.specs.Geometry.{Fits, in_zone};
 ghost use Rattle.vol_layout.specs.Super.{free_head};
+ghost use Rattle.vol_free.specs.Rebuilding.{KeepsUsed, unused};
 ghost use Rattle.vol_free.specs.Stack.{IsIn, IsFree, HasStack, Pops, HeadTaken, HeadGiven, StaysBut};
 
 use pdp_words::{BLOCK, Image};
@@ -101,6 +102,28 @@ pub fn free_count(image: &Image, geometry: &Geometry) -> u32
         count = image.word(head);
     }
     total
+}
+
+/// Makes the free list anew, of the data blocks that aren't used, ascending. There is a mark for each block of
+/// the volume; those of blocks before the data zone don't matter. What the list was before doesn't matter
+/// either: as icheck did with `-s`, an empty list is given each of these blocks, from the highest down. Takes
+/// no memory.
+pub fn rebuild(image: &mut Image, geometry: &Geometry, used: &[bool])
+    requires fits { Fits geometry.now image.old }
+    requires marks { length used.now ≡ geometry.now.zone_end }
+    ensures free { IsFree geometry.now image.new (unused geometry.now used.now) }
+    ensures others { KeepsUsed geometry.now used.now image.old image.new }
+    ensures fits { Fits geometry.now image.new }
+{
+    let super_block = Super {
+        edition: geometry.edition,
+    };
+    super_block.put_free_count(image, 0);
+    for b in (geometry.zone_start..geometry.zone_end).rev() {
+        if !used[b as usize] {
+            give(image, geometry, b);
+        }
+    }
 }
 
 /// Puts `b` as number `count` of the array in the super-block, which has one more then.

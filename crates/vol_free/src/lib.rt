@@ -5,5 +5,5 @@ pub mod free_list;
 pub mod i_numbers;
 pub mod laws;
 
-pub use free_list::{free_count, give, take};
+pub use free_list::{free_count, give, rebuild, take};
 pub use i_numbers::{any_inode, give_inode, take_inode};

@@ -59,7 +59,7 @@ ready_graph geometry image ready =
     graph_from_rules geometry image (ready_whole geometry image ready).sound.sizes (ready_entries geometry image ready) dots tree links
 
 -- the sizes stay within bounds where they are the same
-bounded_kept : (edition : Edition) (old new : List ℕ) → geometry_of edition new ≡ geometry_of edition old → is_bounded edition old ≡ true
+pub bounded_kept : (edition : Edition) (old new : List ℕ) → geometry_of edition new ≡ geometry_of edition old → is_bounded edition old ≡ true
     → is_bounded edition new ≡ true
 bounded_kept V6 old new same bounded =
     let start : list_size new + 2 ≡ list_size old + 2 = ap (λ (g : Geometry). g.zone_start) same in
@@ -74,7 +74,7 @@ bounded_kept V7 old new same bounded =
     ∙ (ap (λ m. nat_le 3 (list_size old) && (nat_le (list_size old) 8193 && (nat_lt (list_size old) m && nat_le m 16777216))) count ∙ bounded)
 
 -- the image is whole where its length and its sizes are the same
-whole_kept : (edition : Edition) (old new : List ℕ) → geometry_of edition new ≡ geometry_of edition old → length new ≡ length old
+pub whole_kept : (edition : Edition) (old new : List ℕ) → geometry_of edition new ≡ geometry_of edition old → length new ≡ length old
     → is_whole edition old ≡ true → is_whole edition new ≡ true
 whole_kept edition old new same len whole =
     let count : block_count edition new ≡ block_count edition old = ap (λ (g : Geometry). g.zone_end) same in
@@ -83,7 +83,7 @@ whole_kept edition old new same len whole =
 
 -- an image is sound where rules 1 and 2 hold, and, for the geometry that is its own, the geometry fits, rules 3 to 8 hold,
 -- and so do the rules that speak of the graph
-sound_by : (edition : Edition) (geometry : Geometry) (new : List ℕ) → geometry_of edition new ≡ geometry → is_whole edition new ≡ true
+pub sound_by : (edition : Edition) (geometry : Geometry) (new : List ℕ) → geometry_of edition new ≡ geometry → is_whole edition new ≡ true
     → is_bounded edition new ≡ true → IsWhole geometry new
     → HasEntries geometry new × HasDots geometry new × IsTree geometry new × HasLinks geometry new → IsSound edition new
 sound_by edition geometry new same whole bounded files graph =

@@ -168,7 +168,7 @@ names_stay geometry old new kept = record {
 }
 
 -- where all contents stay and the link counts are within the limit, rule 4 holds
-sizes_stay : (geometry : Geometry) (old new : List ℕ)
+pub sizes_stay : (geometry : Geometry) (old new : List ℕ)
     → ((j : ℕ) → 1 ≤ j → j ≤ geometry.last_inode → KeepsContent geometry old new j)
     → ((j : ℕ) → 1 ≤ j → j ≤ geometry.last_inode → kind_at geometry old j ≢ kinds.Free
     → (inode_of geometry.edition new j).links ≤ (constants geometry.edition).link_limit)

@@ -12,3 +12,4 @@ mod marking;
 mod reading;
 
 pub use judging::{Examined, examine, judge};
+pub use marking::named_blocks;

@@ -1,5 +1,5 @@
 //! Which blocks the places of all files name: whether each is a data block, and none is named twice.
-ghost use Rattle.std.specs.Prelude.{◌≡◌, ℕ, ◌≤◌, ◌↔◌, length, slice_index, IsTrue, true, false, Some, None};
+ghost use Rattle.std.specs.Prelude.{◌≡◌, ◌≢◌, ℕ, ◌≤◌, ◌↔◌, length, slice_index, slice_index_or, vec_len, IfOk, IsTrue, true, false, Some, None};
 ghost use Rattle.vol_layout.specs.Geometry.{Fits};
 ghost use Rattle.vol_file.specs.Rules.{IsZoned, IsApart};
 ghost use Rattle.vol_file.specs.Changes.{blocks_of};
@@ -10,10 +10,12 @@ ghost use Rattle.vol_judge.specs.Marks.{
   blocks_from,
   marked,
   MarksNamed,
+  AreNamed,
   Finds,
 };
 
 use pdp_words::{BLOCK, Image};
+use std::alloc::{AllocError, Global};
 use vol_layout::i_list::{address, mode};
 use vol_layout::{Form, Geometry, number};
 
@@ -26,6 +28,41 @@ pub(crate) enum Places {
     Twice,
     /// Each number is a data block's, and no two places name the same one.
     Once,
+}
+
+/// Whether a place names each block of the volume, where each number that a place names is a data block's, and
+/// none is named twice.
+///
+/// Costs what judging rules 5 and 7 does. Takes two bytes for each block.
+pub fn named_blocks(
+    alloc: Global,
+    image: &Image,
+    geometry: &Geometry,
+) -> Result<Vec<bool>, AllocError>
+    requires fits { Fits geometry.now image.now }
+    requires zoned { IsZoned geometry.now image.now }
+    requires apart { IsApart geometry.now image.now }
+    ensures len { IfOk result (λ named. vec_len named ≡ geometry.now.zone_end) }
+    ensures named { IfOk result (λ named. AreNamed geometry.now image.now named.items) }
+{
+    let mut marks = vec![in alloc; 0; geometry.zone_end as usize]?;
+    let mut named = vec![in alloc; false; geometry.zone_end as usize]?;
+    let _ = is_apart(image, geometry, &mut marks);
+    set_marked(&marks, &mut named);
+    Ok(named)
+}
+
+/// Sets each flag whose mark isn't 0.
+fn set_marked(marks: &[u8], flags: &mut [bool])
+    requires len { length marks.now ≡ length flags.old }
+    requires clear { (k : ℕ) → slice_index_or flags.old k false ≡ false }
+    ensures { (k : ℕ) → slice_index_or flags.new k false ≡ true ↔ slice_index marks.now k ≢ 0 }
+{
+    for k in 0..marks.len() {
+        if marks[k] != 0 {
+            flags[k] = true;
+        }
+    }
 }
 
 /// Marks the blocks that the places of all files name, in one byte for each block of the volume: 0

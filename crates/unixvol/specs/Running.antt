@@ -7,7 +7,7 @@ use Rattle.clap.specs.declared.error.kind.ErrorKind.{ErrorKind}
 use Rattle.clap.specs.declared.error.kind.ErrorKind.TheVariants as kinds
 use Rattle.vol_volume.specs.Blank.{blank_of, IsMade}
 use Rattle.vol_volume.specs.Mkfs.{is_size, is_bad_id}
-use Rattle.pdp_words.specs.Devices.{IsReadWhole}
+use Rattle.pdp_words.specs.Devices.{IsReadWhole, LosesFront}
 use Rattle.vol_commands.specs.Cat.{Shows, IsNoWriters, cat_status, file_of}
 use Rattle.vol_commands.specs.Faults.{Gets}
 use Rattle.vol_commands.specs.Jobs.{Streams, Does}
@@ -31,8 +31,13 @@ use Rattle.unixvol.specs.declared.image_file.Stamp.{Stamp}
 abbrev pub IsGiven : {F : Type 0} → (F → Option (List ℕ)) → List ℕ → Type 0
 IsGiven {F} remaining bytes = (old : F) × (new : F) × IsReadWhole (remaining old) (remaining new) bytes
 
--- what files do for the program: one gave these bytes; one that is to be changed gave these bytes, and had this stamp before; one took these bytes; what stood at a path had this stamp (this project)
+-- a file isn't read, with this status: 3, where it can't be opened, can't be read on, or isn't to be changed; or 4, for want of memory, once some file was open and gave no more than a front of its bytes (this project)
+abbrev pub IsUnread : {F : Type 0} → (F → Option (List ℕ)) → ℕ → Type 0
+IsUnread {F} remaining status = (status ≡ 3) ⊎ ((status ≡ 4) × (old : F) × (new : F) × LosesFront (remaining old) (remaining new))
+
+-- what files do for the program: none could be read, with this status; one gave these bytes; one that is to be changed gave these bytes, and had this stamp before; one took these bytes; what stood at a path had this stamp (this project)
 pub record HostFiles : Type 1 where
+  pub unread : ℕ → Type 0
   pub given : List ℕ → Type 0
   pub opened : List ℕ → Stamp → Type 0
   pub taken : List ℕ → Type 0
@@ -41,7 +46,7 @@ pub record HostFiles : Type 1 where
 -- what files do, by what is known of them (std::io::Read and Write)
 abbrev pub host_files : {F : Type 0} → (F → Option (List ℕ)) → (F → Option (List ℕ)) → (F → Stamp → Type 0) → (Stamp → Type 0) → HostFiles
 host_files remaining contents had stood =
-    record { given = IsGiven remaining; opened = IsOpened remaining had; taken = IsTaken contents; stood = stood }
+    record { unread = IsUnread remaining; given = IsGiven remaining; opened = IsOpened remaining had; taken = IsTaken contents; stood = stood }
 
 -- a file gave the bytes that a job puts into a volume; other jobs put none (this project)
 abbrev pub IsGivenFor : (List ℕ → Type 0) → Job → List ℕ → Type 0
@@ -101,28 +106,28 @@ MadeSaved taken made status =
     ((status ≡ made.status) × IfSome made.volume (λ blank. (bytes : List ℕ) × IsMade blank bytes × taken bytes))
     ⊎ (IsSome made.volume × IsStatusOfFileOrMemory status)
 
--- nothing is done: a file can't be read, or isn't to be changed, or memory ran out, and nothing goes out (this project)
-abbrev pub RunsNothing : Streams → ℕ → Type 0
-RunsNothing streams status =
-    IsStatusOfFileOrMemory status × Keeps streams.old streams.new × (streams.failed ≡ streams.had_failed) × streams.said []
+-- nothing is done: a file isn't read, and nothing goes out (this project)
+abbrev pub RunsNothing : Streams → HostFiles → ℕ → Type 0
+RunsNothing streams files status =
+    files.unread status × Keeps streams.old streams.new × (streams.failed ≡ streams.had_failed) × streams.said []
 
 -- a job that shows something runs: nothing is done; or it is done with an image that a file gave (this project)
-abbrev pub RunsQuery : Streams → (List ℕ → Type 0) → Edition → Job → ℕ → Type 0
-RunsQuery streams given edition job status =
-    RunsNothing streams status
-    ⊎ ((image : List ℕ) × (answer : Answer) × given image × Does edition image [] streams answer job × (status ≡ answer.status))
+abbrev pub RunsQuery : Streams → HostFiles → Edition → Job → ℕ → Type 0
+RunsQuery streams files edition job status =
+    RunsNothing streams files status
+    ⊎ ((image : List ℕ) × (answer : Answer) × files.given image × Does edition image [] streams answer job × (status ≡ answer.status))
 
 -- a job that changes an image runs: nothing is done; or it is done with an image that a file gave which may be changed, the bytes that it puts are those of a file too, and what it makes is saved where a file still stood that had the stamp of the one that was read (this project)
 abbrev pub RunsChange : Streams → HostFiles → Edition → Job → ℕ → Type 0
 RunsChange streams files edition job status =
-    RunsNothing streams status
+    RunsNothing streams files status
     ⊎ ((image : List ℕ) × (stamp : Stamp) × (bytes : List ℕ) × (answer : Answer) × files.opened image stamp × IsGivenFor files.given job bytes
     × Does edition image bytes streams answer job × EndsSaved (λ saved. files.taken saved × files.stood stamp) answer status)
 
 -- a job runs (this project)
 abbrev pub RunsJob : Streams → HostFiles → Edition → Job → ℕ → Type 0
-RunsJob streams files edition (jobs.Ls path) status = RunsQuery streams files.given edition (jobs.Ls path) status
-RunsJob streams files edition (jobs.Get path) status = RunsQuery streams files.given edition (jobs.Get path) status
+RunsJob streams files edition (jobs.Ls path) status = RunsQuery streams files edition (jobs.Ls path) status
+RunsJob streams files edition (jobs.Get path) status = RunsQuery streams files edition (jobs.Get path) status
 RunsJob streams files edition job status = RunsChange streams files edition job status
 
 -- what the user asks for runs: what goes out, what files give and take, and the status (this project)

@@ -1,6 +1,6 @@
 //! The commands of the program: what they open, and what they print where something fails.
-ghost use Rattle.std.specs.Prelude.{◌≡◌, ◌≢◌, ◌⊎◌, [], ◌≤◌, false, true, ℕ, List, IfErr, IfOk, IfSome, IsErrAnd, OnOk, map, string_bytes};
-ghost use Rattle.pdp_words.specs.Devices.{IsReadWhole};
+ghost use Rattle.std.specs.Prelude.{◌≡◌, ◌≢◌, ◌⊎◌, [], ◌≤◌, false, true, ℕ, List, IfErr, IfOk, IfSome, IsErrAnd, IsErrOf, OnErr, OnOk, map, string_bytes};
+ghost use Rattle.pdp_words.specs.Devices.{IsReadWhole, LosesFront};
 ghost use Rattle.std.specs.Io.KnownBytes.{Keeps};
 ghost use Rattle.std.specs.IoError.{error_kind};
 ghost use Rattle.std.specs.Process.{exit_status};
@@ -11,14 +11,14 @@ ghost use Rattle.vol_commands.specs.Cat.{IsNoWriters, cat_status};
 ghost use Rattle.vol_commands.specs.Faults.{Gets};
 ghost use Rattle.vol_commands.specs.declared.cat.CatFault.TheVariants as faults;
 ghost use Rattle.unixvol.specs.Opening.{IsOpened};
-ghost use Rattle.unixvol.specs.Running.{IsGiven, IsGivenFor, IsStatusOfFileOrMemory, CatsGiven, EndsSaved, MadeSaved, PrintsBody, RunsChange, RunsJob, RunsMkfs, RunsQuery, Runs, RunsWords, RunsSome, RunsToEnd, Ends, host_files};
+ghost use Rattle.unixvol.specs.Running.{IsGiven, IsGivenFor, IsStatusOfFileOrMemory, IsUnread, CatsGiven, EndsSaved, MadeSaved, PrintsBody, RunsChange, RunsJob, RunsMkfs, RunsQuery, Runs, RunsWords, RunsSome, RunsToEnd, Ends, host_files};
 ghost use Rattle.unixvol.specs.Saving.{IsTaken, Saves};
 
 use crate::image_file::{ImageFiles, Kind, OpenFault, Stamp, open_image};
 use crate::saving_file::{Content, save_file};
 use clap::error::ErrorKind;
 use command_line::{Invocation, VolumeFile};
-use pdp_words::{FromRead, IntoWrite, LoadFault, Sink, load, write_all};
+use pdp_words::{FromRead, IntoWrite, LoadFault, Sink, Source, load, write_all};
 use std::env::{self, Env};
 use std::fs::{self, Files};
 use std::io::{self, Read, Write};
@@ -225,7 +225,7 @@ fn run_job<R: ImageFiles + Clock + Eprint + AllocGlobal, O: Sink, E: Sink>(
 }
 
 /// Does a job that shows something of the volume in a file.
-fn run_query<R: Files + Eprint + AllocGlobal, O: Sink, E: Sink>(
+fn run_query<R: ImageFiles + Eprint + AllocGlobal, O: Sink, E: Sink>(
     rt: &R,
     output: &mut O,
     errors: &mut E,
@@ -238,7 +238,7 @@ fn run_query<R: Files + Eprint + AllocGlobal, O: Sink, E: Sink>(
       had_failed = O.failed output.old;
       failed = O.failed output.new;
       said = Gets (E.failed errors.new) (E.contents errors.old) (E.contents errors.new);
-    }) (IsGiven R.File.remaining) volume.entry.edition job.entry result }
+    }) (host_files R.File.remaining R.File.contents R.had R.stood) volume.entry.edition job.entry result }
     ensures ends { Ends (record {
       old = O.contents output.old;
       new = O.contents output.new;
@@ -298,7 +298,7 @@ fn run_change<R: ImageFiles + Clock + Eprint + AllocGlobal, O: Sink, E: Sink>(
 /// The bytes of the file that a job puts into a volume, or none.
 fn file_of<R: Files + Eprint + AllocGlobal>(rt: &R, job: Job<'_>) -> Result<Vec<u8>, u8>
     ensures given { IfOk result (λ file. IsGivenFor (IsGiven R.File.remaining) job.entry file.items) }
-    ensures fault { IfErr result IsStatusOfFileOrMemory }
+    ensures fault { IfErr result (IsUnread R.File.remaining) }
 {
     match job {
         Job::Put { file, .. } => read_file(rt, file),
@@ -309,7 +309,7 @@ fn file_of<R: Files + Eprint + AllocGlobal>(rt: &R, job: Job<'_>) -> Result<Vec<
 /// The bytes of a file. Where it can't be read, prints so, and answers the status.
 fn read_file<R: Files + Eprint + AllocGlobal>(rt: &R, path: &str) -> Result<Vec<u8>, u8>
     ensures given { IfOk result (λ bytes. IsGiven R.File.remaining bytes.items) }
-    ensures fault { IfErr result IsStatusOfFileOrMemory }
+    ensures fault { IfErr result (IsUnread R.File.remaining) }
 {
     match fs::open(rt, path) {
         Ok(file) => Ok(read_open(rt, path, file)?.bytes),
@@ -324,7 +324,7 @@ fn read_image<R: ImageFiles + Clock + Eprint + AllocGlobal>(
     path: &str,
 ) -> Result<(ReadFile<R::File>, Stamp), u8>
     ensures given { IfOk result (λ image. IsOpened R.File.remaining R.had image.0.bytes.items image.1) }
-    ensures fault { IfErr result IsStatusOfFileOrMemory }
+    ensures fault { IfErr result (IsUnread R.File.remaining) }
 {
     match open_image(rt, path) {
         Ok((file, stamp)) => Ok((read_open(rt, path, file)?, stamp)),
@@ -340,14 +340,32 @@ fn read_open<R: Eprint + AllocGlobal, F: Read + Drop>(
     file: F,
 ) -> Result<ReadFile<F>, u8>
     ensures given { IfOk result (λ read. IsReadWhole (F.remaining file) (F.remaining read.file) read.bytes.items) }
-    ensures fault { IfErr result IsStatusOfFileOrMemory }
+    ensures fault { IfErr result (IsUnread F.remaining) }
 {
     let mut source = FromRead::new(file);
-    match load(rt.alloc(), &mut source) {
-        Ok(image) => Ok(ReadFile {
-            bytes: image.into_bytes(),
-            file: source.into_inner(),
-        }),
+    let bytes = read_source(rt, path, &mut source)?;
+    Ok(ReadFile {
+        bytes,
+        file: source.into_inner(),
+    })
+}
+
+/// Reads all that a source has left. Where it can't be read, prints so, and answers the status: that of a file only where
+/// the source failed, that of memory only where it didn't.
+fn read_source<R: Eprint + AllocGlobal, S: Source>(
+    rt: &R,
+    path: &str,
+    source: &mut S,
+) -> Result<Vec<u8>, u8>
+    requires { S.failed source.old ≡ false }
+    ensures given { IfOk result (λ bytes. IsReadWhole (S.remaining source.old) (S.remaining source.new) bytes.items) }
+    ensures front { OnErr result (LosesFront (S.remaining source.old) (S.remaining source.new)) }
+    ensures device { IsErrOf result 3 → S.failed source.new ≡ true }
+    ensures memory { IsErrOf result 4 → S.failed source.new ≡ false }
+    ensures fault { IfErr result IsStatusOfFileOrMemory }
+{
+    match load(rt.alloc(), source) {
+        Ok(image) => Ok(image.into_bytes()),
         Err(LoadFault::Device) => Err(explain_unread(rt, path)),
         Err(LoadFault::NoMemory) => Err(explain_no_memory(rt)),
     }

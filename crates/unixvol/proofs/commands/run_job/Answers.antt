@@ -1,0 +1,26 @@
+use Rattle.std.proofs.Common.{◌≡◌, ℕ, inl, inr, subst}
+use Rattle.vol_commands.specs.Jobs.{Streams}
+use Rattle.vol_commands.specs.declared.jobs.Job.{Job}
+use Rattle.vol_layout.specs.declared.edition.Edition.{Edition}
+use Rattle.unixvol.specs.Running.{HostFiles, RunsChange, host_files}
+use Rattle.unixvol.proofs.commands.run_job.Goals as goal
+
+-- a job that runs is the same job by another name
+same_job : (streams : Streams) (files : HostFiles) (edition : Edition) (status : ℕ) {job other : Job} → job ≡ other
+    → RunsChange streams files edition job status → RunsChange streams files edition other status
+same_job streams files edition status is runs = subst (λ j. RunsChange streams files edition j status) is runs
+
+pub returns-in-Put-clause-runs : goal.returns-in-Put-clause-runs
+returns-in-Put-clause-runs g c =
+    let files = host_files g.R.File.Read.remaining g.R.File.Write.contents g.R.ImageFiles.had g.R.ImageFiles.stood in
+    let runs = c.run_change.ensures.runs in
+    elim c.in-Put.is [
+    | inl put ↦ rw put.3 (same_job _ files c.args.volume.edition c.run_change.result put.3 runs)
+    | inr others ↦ elim others [
+      | inl rm ↦ rw rm.2 (same_job _ files c.args.volume.edition c.run_change.result rm.2 runs)
+      | inr others ↦ elim others [
+        | inl rmdir ↦ rw rmdir.2 (same_job _ files c.args.volume.edition c.run_change.result rmdir.2 runs)
+        | inr others ↦ elim others [ inl mkdir ↦ rw mkdir.2 (same_job _ files c.args.volume.edition c.run_change.result mkdir.2 runs) | inr ln ↦ rw ln.3 (same_job _ files c.args.volume.edition c.run_change.result ln.3 runs) ]
+      ]
+    ]
+    ]

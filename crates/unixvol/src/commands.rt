@@ -54,11 +54,11 @@ struct ReadFile<F> {
 /// Does what the command line asks for, and answers how the program ends. What it prints goes to `output`,
 /// which is standard output; a fault is one line on standard error, or clap's text. `errors` writes to
 /// standard error too.
-pub fn run_to_end<R: Env + ImageFiles + Clock + Eprint + AllocGlobal, O: Write + Drop, E: Write + Drop>(
-    rt: &R,
-    output: O,
-    errors: E,
-) -> ExitCode
+pub fn run_to_end<
+    R: Env + ImageFiles + Clock + Eprint + AllocGlobal,
+    O: Write + Drop,
+    E: Write + Drop,
+>(rt: &R, output: O, errors: E) -> ExitCode
     ensures { RunsToEnd (host_files R.File.remaining R.File.contents R.had R.stood) (O.contents output) (E.contents errors) (exit_status result) }
 {
     let mut output = IntoWrite::new(output);
@@ -216,11 +216,8 @@ fn run_job<R: ImageFiles + Clock + Eprint + AllocGlobal, O: Sink, E: Sink>(
 {
     match job {
         Job::Ls { .. } | Job::Get { .. } => run_query(rt, output, errors, volume, job),
-        Job::Put { .. }
-        | Job::Rm { .. }
-        | Job::Rmdir { .. }
-        | Job::Mkdir { .. }
-        | Job::Ln { .. } => run_change(rt, output, errors, volume, job),
+        Job::Put { .. } | Job::Rm { .. } | Job::Rmdir { .. } | Job::Mkdir { .. } | Job::Ln { .. } =>
+            run_change(rt, output, errors, volume, job),
     }
 }
 
@@ -252,7 +249,16 @@ fn run_query<R: ImageFiles + Eprint + AllocGlobal, O: Sink, E: Sink>(
         Err(status) => return status,
     };
     let nothing = Vec::new(rt.alloc());
-    do_job(rt.alloc(), volume.edition, image, nothing, job, output, errors).status
+    do_job(
+        rt.alloc(),
+        volume.edition,
+        image,
+        nothing,
+        job,
+        output,
+        errors,
+    )
+    .status
 }
 
 /// Does a job that changes the volume in a file, and saves the volume.

@@ -113,7 +113,11 @@ impl ImageFiles for HostRuntime {
 
     fn stamp_of(&self, file: &File) -> io::Result<Stamp> {
         let stamp = Stamp::of(&file.metadata()?);
-        let kind = if file.is_terminal() { Kind::Stream } else { stamp.kind };
+        let kind = if file.is_terminal() {
+            Kind::Stream
+        } else {
+            stamp.kind
+        };
         Ok(Stamp { kind, ..stamp })
     }
 

@@ -15,12 +15,12 @@ returns-in-Put-clause-runs g c =
     let files = host_files g.R.File.Read.remaining g.R.File.Write.contents g.R.ImageFiles.had g.R.ImageFiles.stood in
     let runs = c.run_change.ensures.runs in
     elim c.in-Put.is [
-    | inl put ↦ rw put.3 (same_job _ files c.args.volume.edition c.run_change.result put.3 runs)
-    | inr others ↦ elim others [
-      | inl rm ↦ rw rm.2 (same_job _ files c.args.volume.edition c.run_change.result rm.2 runs)
+      | inl put ↦ rw put.3 (same_job _ files c.args.volume.edition c.run_change.result put.3 runs)
       | inr others ↦ elim others [
-        | inl rmdir ↦ rw rmdir.2 (same_job _ files c.args.volume.edition c.run_change.result rmdir.2 runs)
-        | inr others ↦ elim others [ inl mkdir ↦ rw mkdir.2 (same_job _ files c.args.volume.edition c.run_change.result mkdir.2 runs) | inr ln ↦ rw ln.3 (same_job _ files c.args.volume.edition c.run_change.result ln.3 runs) ]
+        | inl rm ↦ rw rm.2 (same_job _ files c.args.volume.edition c.run_change.result rm.2 runs)
+        | inr others ↦ elim others [
+          | inl rmdir ↦ rw rmdir.2 (same_job _ files c.args.volume.edition c.run_change.result rmdir.2 runs)
+          | inr others ↦ elim others [ inl mkdir ↦ rw mkdir.2 (same_job _ files c.args.volume.edition c.run_change.result mkdir.2 runs) | inr ln ↦ rw ln.3 (same_job _ files c.args.volume.edition c.run_change.result ln.3 runs) ]
+        ]
       ]
-    ]
     ]

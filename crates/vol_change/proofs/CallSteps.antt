@@ -7,6 +7,7 @@ use Rattle.vol_judge.specs.Graph.{graph_of, IsGraphSound}
 use Rattle.vol_judge.specs.GraphEdits.{IsSameGraph}
 use Rattle.vol_judge.proofs.GraphParts.{same_sound}
 use Rattle.vol_judge.proofs.ImageGraphs.{graph_within}
+use Rattle.vol_change.specs.Changed.{Changed}
 use Rattle.vol_change.specs.Edits.{at_time, change_node, modified, after_write, after_truncate}
 use Rattle.vol_change.specs.Contents.{write_body, empty_body}
 use Rattle.vol_change.specs.Whole.{Keeps}
@@ -22,13 +23,6 @@ pub record HasMade (geometry : Geometry) (old new : List ℕ) (made : State) : T
   pub sound : IsGraphSound (graph_of geometry new) (root_of geometry) geometry.last_inode
   pub makes : state geometry new ≡ made
 
--- after a step the geometry fits, rules 3 to 8 hold, and the bytes that no call changes and the graph are as they were; and
--- the step makes a state of that before
-pub record Edits (geometry : Geometry) (old new : List ℕ) (edit : State → State) : Type 0 where
-  pub keeps : Keeps geometry old new
-  pub makes : state geometry new ≡ edit (state geometry old)
-  pub graph : IsSameGraph (graph_of geometry old) (graph_of geometry new)
-
 -- no step
 pub no_step : (geometry : Geometry) (image : List ℕ) → IsReady geometry image → HasMade geometry image image (state geometry image)
 no_step geometry image ready = record {
@@ -41,29 +35,33 @@ no_step geometry image ready = record {
 }
 
 -- a step more that leaves the graph
-pub step_more : (geometry : Geometry) (old mid new : List ℕ) (made : State) (edit : State → State) → HasMade geometry old mid made
-    → Edits geometry mid new edit → HasMade geometry old new (edit made)
-step_more geometry old mid new made edit before step = record {
+pub step_more : {Kept : ℕ → Type 0} {listed : List ℕ → List ℕ} (geometry : Geometry) (old mid new : List ℕ) (made : State) (edit : State → State)
+    → HasMade geometry old mid made → Changed geometry mid new Kept (edit (state geometry mid)) listed
+    → IsSameGraph (graph_of geometry mid) (graph_of geometry new) → HasMade geometry old new (edit made)
+step_more geometry old mid new made edit before step graph = record {
   keeps = keeps_then geometry old mid new before.keeps step.keeps;
   sound = same_sound (graph_of geometry mid) (graph_of geometry new) (root_of geometry) geometry.last_inode (graph_within geometry mid)
-      (graph_within geometry new) before.sound step.graph;
+      (graph_within geometry new) before.sound graph;
   makes = step.makes ∙ ap edit before.makes;
 }
 
 -- the steps, and then the time
-pub changed : (geometry : Geometry) (old mid new : List ℕ) (made : State) (now : ℕ) → IsReady geometry old → HasMade geometry old mid made
-    → Edits geometry mid new (λ state. at_time now state) → Changes geometry old new (at_time now made)
-changed geometry old mid new made now ready before time =
-    let after = step_more geometry old mid new made (λ state. at_time now state) before time in
+pub changed : {Kept : ℕ → Type 0} {listed : List ℕ → List ℕ} (geometry : Geometry) (old mid new : List ℕ) (made : State) (now : ℕ)
+    → IsReady geometry old → HasMade geometry old mid made → Changed geometry mid new Kept (at_time now (state geometry mid)) listed
+    → IsSameGraph (graph_of geometry mid) (graph_of geometry new) → Changes geometry old new (at_time now made)
+changed geometry old mid new made now ready before time graph =
+    let after = step_more geometry old mid new made (λ state. at_time now state) before time graph in
     record { ready = ready_from geometry old new ready after.keeps after.sound; around = after.keeps.around; makes = after.makes }
 
 -- a write of some bytes, and the times of the node
-pub made_write : (geometry : Geometry) (old mid new bytes : List ℕ) (i offset now : ℕ) → IsReady geometry old → 1 ≤ length bytes
-    → Edits geometry old mid (λ state. write_body i offset bytes state) → Edits geometry mid new (λ state. change_node i (modified now) state)
-    → HasMade geometry old new (after_write (state geometry old) now offset bytes i)
-made_write geometry old mid new bytes i offset now ready some written timed =
-    let first = step_more geometry old old mid (state geometry old) (λ state. write_body i offset bytes state) (no_step geometry old ready) written in
-    let both = step_more geometry old mid new _ (λ state. change_node i (modified now) state) first timed in
+pub made_write : {Kept Also : ℕ → Type 0} {listed after : List ℕ → List ℕ} (geometry : Geometry) (old mid new bytes : List ℕ) (i offset now : ℕ)
+    → IsReady geometry old → 1 ≤ length bytes → Changed geometry old mid Kept (write_body i offset bytes (state geometry old)) listed
+    → IsSameGraph (graph_of geometry old) (graph_of geometry mid)
+    → Changed geometry mid new Also (change_node i (modified now) (state geometry mid)) after
+    → IsSameGraph (graph_of geometry mid) (graph_of geometry new) → HasMade geometry old new (after_write (state geometry old) now offset bytes i)
+made_write geometry old mid new bytes i offset now ready some written same timed still =
+    let first = step_more geometry old old mid (state geometry old) (λ state. write_body i offset bytes state) (no_step geometry old ready) written same in
+    let both = step_more geometry old mid new _ (λ state. change_node i (modified now) state) first timed still in
     record { keeps = both.keeps; sound = both.sound; makes = both.makes ∙ timed_write (state geometry old) now offset i bytes some }
 
 -- a write of no bytes
@@ -73,10 +71,12 @@ made_none geometry image [] i offset now ready none = no_step geometry image rea
 made_none geometry image (byte ∷ bytes) i offset now ready none = absurd (omega arith)
 
 -- a truncation, and the times of the node
-pub made_truncate : (geometry : Geometry) (old mid new : List ℕ) (i now : ℕ) → IsReady geometry old
-    → Edits geometry old mid (λ state. empty_body i state) → Edits geometry mid new (λ state. change_node i (modified now) state)
-    → HasMade geometry old new (after_truncate (state geometry old) now i)
-made_truncate geometry old mid new i now ready emptied timed =
-    let first = step_more geometry old old mid (state geometry old) (λ state. empty_body i state) (no_step geometry old ready) emptied in
-    let both = step_more geometry old mid new _ (λ state. change_node i (modified now) state) first timed in
+pub made_truncate : {Kept Also : ℕ → Type 0} {listed after : List ℕ → List ℕ} (geometry : Geometry) (old mid new : List ℕ) (i now : ℕ)
+    → IsReady geometry old → Changed geometry old mid Kept (empty_body i (state geometry old)) listed
+    → IsSameGraph (graph_of geometry old) (graph_of geometry mid)
+    → Changed geometry mid new Also (change_node i (modified now) (state geometry mid)) after
+    → IsSameGraph (graph_of geometry mid) (graph_of geometry new) → HasMade geometry old new (after_truncate (state geometry old) now i)
+made_truncate geometry old mid new i now ready emptied same timed still =
+    let first = step_more geometry old old mid (state geometry old) (λ state. empty_body i state) (no_step geometry old ready) emptied same in
+    let both = step_more geometry old mid new _ (λ state. change_node i (modified now) state) first timed still in
     record { keeps = both.keeps; sound = both.sound; makes = both.makes ∙ timed_truncate (state geometry old) now i }

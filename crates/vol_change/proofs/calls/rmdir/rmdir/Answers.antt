@@ -64,7 +64,7 @@ returns c =
           c.args.name.now c.args.moment
           leaves c.requires.plain c.requires.gone c.requires.only c.drop_link.ensures.changed.keeps c.drop_link.ensures.changed.makes c.drop_link.ensures.graph
           c.free_node.ensures.changed.keeps c.free_node.ensures.changed.makes c.free_node.ensures.graph)
-          (record { keeps = c.put_time.ensures.changed.keeps; makes = c.put_time.ensures.changed.makes; graph = c.put_time.ensures.graph });
+          c.put_time.ensures.changed c.put_time.ensures.graph;
       list = λ blocks free.
           subst (λ xs. IsFree geometry new (xs ++ blocks)) (freed_kept geometry old linked i kept first last)
           (c.put_time.ensures.changed.free _ (c.free_node.ensures.changed.free _ (c.drop_link.ensures.changed.free _ (c.leave.ensures.changed.free blocks free))));

@@ -44,9 +44,9 @@ returns c =
     record {
       changes = changed _ _ _ _ _ c.args.moment c.requires.ready
           (made_truncate geometry old mid timed c.args.i c.args.moment c.requires.ready
-          (record { keeps = emptied.keeps; makes = emptied.makes; graph = beside.graph })
-          (record { keeps = c.touch.ensures.changed.keeps; makes = c.touch.ensures.changed.makes; graph = c.touch.ensures.graph }))
-          (record { keeps = c.put_time.ensures.changed.keeps; makes = c.put_time.ensures.changed.makes; graph = c.put_time.ensures.graph });
+          emptied beside.graph
+          c.touch.ensures.changed c.touch.ensures.graph)
+          c.put_time.ensures.changed c.put_time.ensures.graph;
       list = λ blocks free. c.put_time.ensures.changed.free _ (c.touch.ensures.changed.free _ (emptied.free blocks free));
       files = λ j low high other also.
           content_then geometry old mid new j (emptied.content j low high other)

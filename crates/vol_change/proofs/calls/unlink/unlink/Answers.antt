@@ -179,7 +179,7 @@ others c j low high other = elim c.if-inode-le1.branch [
 pub returns : goal.returns
 returns c = record {
   changes = changed _ _ _ _ _ c.args.moment c.requires.ready (unlinked c)
-      (record { keeps = c.put_time.ensures.changed.keeps; makes = c.put_time.ensures.changed.makes; graph = c.put_time.ensures.graph });
+      c.put_time.ensures.changed c.put_time.ensures.graph;
   freed = λ last blocks free.
       let used = named_used c.args.geometry.now c.args.image.now c.args.name.now c.args.dir c.args.i c.requires.ready c.requires.directory c.requires.named in
       c.put_time.ensures.changed.free _ (freed c last (used_first _ _ _ used) used.last _ (c.leave.ensures.changed.free blocks free));

@@ -83,8 +83,8 @@ left c =
           let beside = written_beside geometry old mid c.args.i offset text whole is (w.write.ensures.written some) in
           rw w.image-is (record {
             made = made_write geometry old mid w.touch.new.image text c.args.i offset c.args.moment c.requires.ready some
-                (record { keeps = written.keeps; makes = written.makes; graph = beside.graph })
-                (record { keeps = w.touch.ensures.changed.keeps; makes = w.touch.ensures.changed.makes; graph = w.touch.ensures.graph });
+                written beside.graph
+                w.touch.ensures.changed w.touch.ensures.graph;
             list = λ blocks free. w.touch.ensures.changed.free _ (written.free blocks free);
             files = λ j low high other.
                 content_then geometry old mid w.touch.new.image j (written.content j low high other) (w.touch.ensures.changed.content j low high tt);
@@ -112,7 +112,7 @@ returns c =
     let left = left c in
     record {
       changes = changed _ _ _ _ _ c.args.moment c.requires.ready left.made
-          (record { keeps = c.put_time.ensures.changed.keeps; makes = c.put_time.ensures.changed.makes; graph = c.put_time.ensures.graph });
+          c.put_time.ensures.changed c.put_time.ensures.graph;
       list = λ blocks free. c.put_time.ensures.changed.free _ (left.list blocks free);
       files = λ j low high other also. content_then geometry old mid new j (left.files j low high other) (c.put_time.ensures.changed.content j low high tt);
       unused = λ j low high.

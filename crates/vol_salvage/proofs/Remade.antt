@@ -95,8 +95,8 @@ stored_block geometry old new used j b file zone fits marked keeps =
 
 -- what each i-node stands for stays
 remade_content : (geometry : Geometry) (old new : List ℕ) (used : List Bool) (j : ℕ) → Fits geometry old → AreNamed geometry old used
-    → KeepsUsed geometry used old new → 1 ≤ j → j ≤ geometry.last_inode → KeepsContent geometry old new j
-remade_content geometry old new used j fits marked keeps first last =
+    → KeepsUsed geometry used old new → IsZoned geometry old → 1 ≤ j → j ≤ geometry.last_inode → KeepsContent geometry old new j
+remade_content geometry old new used j fits marked keeps zoned first last =
     let kept : KeepsInode geometry old new j = remade_inode geometry old new used j fits keeps first last in
     let places = places_kept geometry old new j kept in
     record {
@@ -115,6 +115,7 @@ remade_content geometry old new used j fits marked keeps first last =
       names = λ p place. named_frame geometry old new j p places place.place
           (λ k a q front zone. remade_block geometry old new used j (a ∷ q) fits marked keeps
           (record { file = place.file; place = place_front (form_at geometry old j) p (a ∷ q) place.place (front_above p q k a front) }) zone);
+      blocks = λ p r place some h. (remade_block geometry old new used j p fits marked keeps place (zoned j p place some)).bytes r h;
     }
 
 -- the bytes that no call changes stay
@@ -142,8 +143,8 @@ at_own_time geometry image = refl
 
 -- the tree and the shapes stay
 remade_state : (geometry : Geometry) (old new : List ℕ) (used : List Bool) → Fits geometry old → AreNamed geometry old used
-    → KeepsUsed geometry used old new → state geometry new ≡ state geometry old
-remade_state geometry old new used fits marked keeps =
+    → KeepsUsed geometry used old new → IsZoned geometry old → state geometry new ≡ state geometry old
+remade_state geometry old new used fits marked keeps zoned =
     let order = super_order geometry.edition in
     let behind = zone_behind geometry old fits in
     let time : long new (time_place geometry.edition) ≡ long old (time_place geometry.edition) =
@@ -152,7 +153,7 @@ remade_state geometry old new used fits marked keeps =
     (omega arith) (omega arith) (omega arith) in
     makes_time geometry old new (long old (time_place geometry.edition)) time
     (λ j first last.
-    let content = remade_content geometry old new used j fits marked keeps first last in (
+    let content = remade_content geometry old new used j fits marked keeps zoned first last in (
       node_same geometry old new j content first last (inode_of_kept geometry old new j (remade_inode geometry old new used j fits keeps first last)),
       shape_same geometry old new j content first last,
     ))
@@ -164,7 +165,7 @@ remade_whole : (geometry : Geometry) (old new : List ℕ) (used : List Bool) →
     → IsZoned geometry old → IsApart geometry old → IsWhole geometry new
 remade_whole geometry old new used fits after marked keeps free kinds sizes zoned apart =
     let content : (j : ℕ) → 1 ≤ j → j ≤ geometry.last_inode → KeepsContent geometry old new j =
-    λ j first last. remade_content geometry old new used j fits marked keeps first last in
+    λ j first last. remade_content geometry old new used j fits marked keeps zoned first last in
     let names = names_stay geometry old new content in
     let still_zoned : IsZoned geometry new = λ j p place some.
     let before = names.from j p place some in
@@ -205,12 +206,12 @@ remade_whole geometry old new used fits after marked keeps free kinds sizes zone
 
 -- the rules that speak of directories hold
 remade_graph : (geometry : Geometry) (old new : List ℕ) (used : List Bool) → Fits geometry old → AreNamed geometry old used
-    → KeepsUsed geometry used old new → HasSizes geometry old → HasSizes geometry new
+    → KeepsUsed geometry used old new → IsZoned geometry old → HasSizes geometry old → HasSizes geometry new
     → HasEntries geometry old → HasDots geometry old → IsTree geometry old → HasLinks geometry old
     → HasEntries geometry new × HasDots geometry new × IsTree geometry new × HasLinks geometry new
-remade_graph geometry old new used fits marked keeps sizes later entries dots reached links =
+remade_graph geometry old new used fits marked keeps zoned sizes later entries dots reached links =
     let content : (j : ℕ) → 1 ≤ j → j ≤ geometry.last_inode → KeepsContent geometry old new j =
-    λ j first last. remade_content geometry old new used j fits marked keeps first last in
+    λ j first last. remade_content geometry old new used j fits marked keeps zoned first last in
     rules_from_graph geometry new later
     (same_sound (graph_of geometry old) (graph_of geometry new) (root_of geometry) geometry.last_inode (graph_within geometry old)
     (graph_within geometry new) (graph_from_rules geometry old sizes entries dots reached links)
@@ -229,10 +230,10 @@ salvaged edition old new used rules fits after marked keeps free =
     let around = remade_around geometry old new used fits keeps in
     let same : geometry_of edition new ≡ geometry = geometry_kept geometry old new around in
     let whole = remade_whole geometry old new used fits after marked keeps free (rules 3) (rules 4) (rules 5) (rules 7).0 in
-    let graph = remade_graph geometry old new used fits marked keeps (rules 4) whole.sound.sizes (rules 9) (rules 10) (rules 11) (rules 12) in
+    let graph = remade_graph geometry old new used fits marked keeps (rules 5) (rules 4) whole.sound.sizes (rules 9) (rules 10) (rules 11) (rules 12) in
     record {
       rules = rules;
       sound = sound_by edition geometry new same (whole_kept edition old new same keeps.len (rules 1)) (bounded_kept edition old new same (rules 2)) whole graph;
-      reads = ap (λ g. state g new) same ∙ remade_state geometry old new used fits marked keeps;
+      reads = ap (λ g. state g new) same ∙ remade_state geometry old new used fits marked keeps (rules 5);
       around = around;
     }

@@ -25,21 +25,10 @@ use std::io::{self, Read, Write};
 use std::process::ExitCode;
 use std::rt::Clock;
 use vol_commands::cat::cat;
+use vol_commands::status::{BAD_COMMAND_LINE, BAD_FILE, DONE, NO_MEMORY};
 use vol_commands::{Answer, CatFault, Job, Made, do_job, mkfs_command};
 use vol_layout::Edition;
 use vol_volume::NewVolume;
-
-/// The status where all went well.
-const DONE: u8 = 0;
-
-/// The status of a fault of the command line.
-const BAD_COMMAND_LINE: u8 = 2;
-
-/// The status where a file can't be read or written.
-const BAD_FILE: u8 = 3;
-
-/// The status where memory ran out.
-const NO_MEMORY: u8 = 4;
 
 /// What the line of a fault calls standard output.
 const STANDARD_OUTPUT: &str = "-";

@@ -3,6 +3,7 @@ ghost use Rattle.std.specs.Prelude.{◌≡◌, IfOk, IfErr, OnOk, Some, None, []
 ghost use Rattle.vol_commands.specs.Faults.{fault_status, fault_line, IsRuled, Gets};
 
 use crate::faults::Fault;
+use crate::status::DONE;
 use pdp_words::{Sink, write_all};
 
 /// What a command that makes, changes or shows a volume comes to.
@@ -26,7 +27,7 @@ pub fn conclude<E: Sink>(outcome: Result<Vec<u8>, Fault>, errors: &mut E) -> Ans
 {
     match outcome {
         Ok(bytes) => Answer {
-            status: 0,
+            status: DONE,
             image: Some(bytes),
         },
         Err(fault) => Answer {
@@ -47,7 +48,7 @@ pub fn report<E: Sink>(outcome: Result<(), Fault>, errors: &mut E) -> Answer
         × Gets (E.failed errors.new) (E.contents errors.old) (E.contents errors.new) (fault_line fault)) }
 {
     let status = match outcome {
-        Ok(()) => 0,
+        Ok(()) => DONE,
         Err(fault) => explain(fault, errors),
     };
     Answer {

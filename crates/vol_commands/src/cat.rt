@@ -7,6 +7,7 @@ ghost use Rattle.vol_layout.specs.Body.{body};
 ghost use Rattle.vol_commands.specs.Cat.{file_of, Cats, cat_line, cat_status, IsNoWriters, IsOfImage};
 
 use crate::faults::{CANNOT_WRITE, refusal_line, unsound_line};
+use crate::status::{BAD_FILE, NO_MEMORY, REFUSED};
 use pdp_words::{Image, LoadFault, Sink, Source, load, write_all};
 use std::alloc::Global;
 use vol_dir::Refusal;
@@ -37,9 +38,9 @@ impl CatFault {
         ensures { result ≡ cat_status self }
     {
         match self {
-            CatFault::Device | CatFault::Writer(_) => 3,
-            CatFault::NoMemory => 4,
-            CatFault::Unsound(_) | CatFault::NoEntry | CatFault::NotRegular => 1,
+            CatFault::Device | CatFault::Writer(_) => BAD_FILE,
+            CatFault::NoMemory => NO_MEMORY,
+            CatFault::Unsound(_) | CatFault::NoEntry | CatFault::NotRegular => REFUSED,
         }
     }
 

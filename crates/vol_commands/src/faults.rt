@@ -2,6 +2,7 @@
 ghost use Rattle.std.specs.Prelude.{◌≡◌, ◌≤◌};
 ghost use Rattle.vol_commands.specs.Faults.{fault_status, fault_line, line_of_rule, line_of_refusal, no_memory, unmounted, IsRuled};
 
+use crate::status::{BAD_FILE, NO_MEMORY, REFUSED};
 use std::alloc::AllocError;
 use vol_dir::Refusal;
 use vol_volume::MountFault;
@@ -26,10 +27,10 @@ impl Fault {
         ensures { result ≡ fault_status self }
     {
         match self {
-            Fault::Unsound(_) => 1,
-            Fault::Refused(Refusal::NoMemory) => 4,
-            Fault::Refused(_) => 1,
-            Fault::Output => 3,
+            Fault::Unsound(_) => REFUSED,
+            Fault::Refused(Refusal::NoMemory) => NO_MEMORY,
+            Fault::Refused(_) => REFUSED,
+            Fault::Output => BAD_FILE,
         }
     }
 

@@ -10,6 +10,7 @@ pub mod laws;
 pub mod making;
 mod mounting;
 pub mod showing;
+pub mod status;
 
 pub use answer::Answer;
 pub use cat::CatFault;

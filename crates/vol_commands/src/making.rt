@@ -6,6 +6,7 @@ ghost use Rattle.vol_volume.specs.Mkfs.{is_size, is_bad_id};
 ghost use Rattle.vol_commands.specs.Faults.{Gets};
 ghost use Rattle.vol_commands.specs.Making.{mkfs_status, mkfs_line, mkfs_line_at};
 
+use crate::status::{DONE, NO_MEMORY, REFUSED};
 use pdp_words::{Sink, write_all};
 use std::alloc::Global;
 use vol_volume::{BlankVolume, MkfsFault, NewVolume};
@@ -42,7 +43,7 @@ pub fn mkfs_command<O: Sink, E: Sink>(
 {
     match BlankVolume::new(alloc, volume) {
         Ok(blank) => Made {
-            status: 0,
+            status: DONE,
             volume: Some(blank),
         },
         Err(fault) => Made {
@@ -66,8 +67,8 @@ fn status_of(fault: MkfsFault) -> u8
     ensures { result ≡ mkfs_status fault }
 {
     match fault {
-        MkfsFault::Bounds | MkfsFault::BadId => 1,
-        MkfsFault::NoMemory => 4,
+        MkfsFault::Bounds | MkfsFault::BadId => REFUSED,
+        MkfsFault::NoMemory => NO_MEMORY,
     }
 }
 

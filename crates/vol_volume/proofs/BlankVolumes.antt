@@ -190,25 +190,25 @@ module _ (geometry : Geometry) (uid gid now : ℕ) (first : List ℕ) (makeable 
             early k near
             ∙ is.rest k (record { sizes = blank.sizes; free = blank.free; time = blank.time; root = blank.root; names = λ from to. absurd (omega (arith, from, near)) })
         | inr far ↦ elim (cases_eq b geometry.zone_start) [
-            | inl same ↦
-                let there : k ≡ 512 * geometry.zone_start + r = omega (arith, same, place) in
-                ap (λ n. get_or bytes n 0) there
-                ∙ (rooted r (omega arith)
-                ∙ is.rest (1536 + r) (record {
-                  sizes = λ from to. absurd (omega (arith, to, high));
-                  free = λ from to. absurd (omega (arith, to, high));
-                  time = λ from to. absurd (omega (arith, to, high));
-                  root = λ from to. absurd (omega (arith, to, end));
-                  names = λ from to. blank.names (omega (arith, there)) (omega (arith, there, to));
-                }))
-            | inr other ↦
-                volume_at geometry first k b r (omega arith) (omega arith) place
-                ∙ block_rest geometry first b r (omega arith) other
-                (elim (is_chain geometry b) as (λ t. is_chain geometry b ≡ t → (t && nat_lt r 202) ≡ false) [
-                  | true ↦ λ chain. le-ltb r 202 (outside_chain b r k place (apart b chain))
-                  | false ↦ λ chain. refl
-                ] refl)
-          ]
+          | inl same ↦
+              let there : k ≡ 512 * geometry.zone_start + r = omega (arith, same, place) in
+              ap (λ n. get_or bytes n 0) there
+              ∙ (rooted r (omega arith)
+              ∙ is.rest (1536 + r) (record {
+                sizes = λ from to. absurd (omega (arith, to, high));
+                free = λ from to. absurd (omega (arith, to, high));
+                time = λ from to. absurd (omega (arith, to, high));
+                root = λ from to. absurd (omega (arith, to, end));
+                names = λ from to. blank.names (omega (arith, there)) (omega (arith, there, to));
+              }))
+          | inr other ↦
+              volume_at geometry first k b r (omega arith) (omega arith) place
+              ∙ block_rest geometry first b r (omega arith) other
+              (elim (is_chain geometry b) as (λ t. is_chain geometry b ≡ t → (t && nat_lt r 202) ≡ false) [
+                | true ↦ λ chain. le-ltb r 202 (outside_chain b r k place (apart b chain))
+                | false ↦ λ chain. refl
+              ] refl)
+        ]
       ]
 
   -- they are those of a new volume

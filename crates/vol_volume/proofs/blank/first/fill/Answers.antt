@@ -51,24 +51,24 @@ returns c =
             let listed_at : get_or listed k 0 ≡ get_or c.args.image.now k 0 = elim (cases_lt k (free_head edition)) [
               | inl below ↦ c.put_free_list.ensures.others.below k below
               | inr from ↦ elim (cases_lt k (free_head edition + 202)) [
-                  | inl within ↦ absurd (blank.free from within)
-                  | inr above ↦ c.put_free_list.ensures.others.above k above
-                ]
+                | inl within ↦ absurd (blank.free from within)
+                | inr above ↦ c.put_free_list.ensures.others.above k above
+              ]
             ] in
             super k early ∙ (c.put_super.ensures.rest k blank.sizes blank.time ∙ (listed_at ∙ c.requires.zeros k))
         | inr late ↦ elim (cases_lt k (inode_place edition root)) [
-            | inl below ↦ c.put_root.ensures.before k below ∙ zero k late
-            | inr from ↦ elim (cases_lt k (inode_place edition root + (constants edition).inode_bytes)) [
-                | inl within ↦ absurd (blank.root from within)
-                | inr past ↦ elim (cases_lt k 1536) [
-                    | inl low ↦ c.put_root.ensures.behind k past low ∙ zero k late
-                    | inr high ↦ elim (cases_lt k 1568) [
-                        | inl named ↦ absurd (blank.names high (omega arith))
-                        | inr after ↦ c.put_root.ensures.after k after ∙ zero k late
-                      ]
-                  ]
+          | inl below ↦ c.put_root.ensures.before k below ∙ zero k late
+          | inr from ↦ elim (cases_lt k (inode_place edition root + (constants edition).inode_bytes)) [
+            | inl within ↦ absurd (blank.root from within)
+            | inr past ↦ elim (cases_lt k 1536) [
+              | inl low ↦ c.put_root.ensures.behind k past low ∙ zero k late
+              | inr high ↦ elim (cases_lt k 1568) [
+                | inl named ↦ absurd (blank.names high (omega arith))
+                | inr after ↦ c.put_root.ensures.after k after ∙ zero k late
               ]
+            ]
           ]
+        ]
       ];
       none = λ one.
           let low : get_or all (free_head edition) 0 ≡ 0 =

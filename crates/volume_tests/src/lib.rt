@@ -23,6 +23,8 @@ mod linux;
 #[cfg(test)]
 mod making;
 #[cfg(test)]
+mod salvaging;
+#[cfg(test)]
 mod texts;
 #[cfg(test)]
 mod words;

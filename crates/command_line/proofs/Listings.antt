@@ -7,7 +7,7 @@ use Rattle.clap.proofs.OnLiterals.{clap_on_literals}
 use Rattle.clap.specs.Words.{Row}
 use Rattle.command_line.specs.CommandLine.{Asks, IsEditionNamed, IsGiven, command_name, given_by}
 use Rattle.command_line.specs.Laws.{IsListing, IsPlainWord, ReadsListing}
-use Rattle.command_line.specs.Words.{AreEditions, command_in, command_shape, edition_rule, faults_of, named, program, unixvol_app, with_argument, with_command, word_rule}
+use Rattle.command_line.specs.Words.{AreEditions, command_in, command_shape, edition_rule, faults_of, named_shape, program, unixvol_app, with_argument, with_command, word_rule}
 use Rattle.command_line.specs.declared.Invocation.{Invocation}
 use Rattle.command_line.specs.declared.Invocation.TheVariants.{Cat, Mkfs, OnVolume}
 use Rattle.vol_commands.specs.declared.jobs.Job.TheVariants as jobs
@@ -52,7 +52,7 @@ IsTaken editions edition program image path =
 
 -- the command line takes the words of `ls` where the file and the path begin with no hyphen
 taken : (p q r : ℕ × ℕ) (edition : Edition) (name image path : List ℕ) → IsPlainWord image → IsPlainWord path → IsTaken (names_at p q r) edition name image path
-unfolding clap_on_literals faults_of command_in unixvol_app program with_command command_shape with_argument named word_rule edition_rule
+unfolding clap_on_literals faults_of command_in unixvol_app program with_command command_shape with_argument named_shape word_rule edition_rule
 taken p q r V6 name [] [] image path = (refl, refl)
 taken p q r V6 name (x ∷ xs) [] image path =
     let e : (x == 45) ≡ false = ne_eqb _ _ image in

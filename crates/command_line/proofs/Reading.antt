@@ -20,19 +20,19 @@ use Rattle.vol_layout.specs.declared.edition.Edition.TheVariants.{V6, V7}
 use Rattle.vol_volume.specs.declared.blank.NewVolume.{NewVolume}
 use Rattle.command_line.specs.Decimal.{IsNumberUpTo}
 use Rattle.command_line.specs.CommandLine.{Asks, AsksFor, AsksNothing, TellsOf, IsChange, IsEditionNamed, IsGiven, IsNewVolumeGiven, IsNoCat, IsNoCommand, IsNoEdition, IsNoMoment, IsNoNewVolume, IsNoValue, IsRead, IsRefused, command_name, given_by, given_in, word_or_empty}
-use Rattle.command_line.specs.Words.{AreEditions, app, command_in, command_shape, edition_rule, faults_of, named, program, unixvol_app, with_argument, with_command, word_rule}
+use Rattle.command_line.specs.Words.{AreEditions, app, command_in, command_shape, edition_rule, faults_of, named_shape, program, unixvol_app, with_argument, with_command, word_rule}
 use Rattle.command_line.specs.declared.Invocation.{Invocation}
 use Rattle.command_line.specs.declared.Invocation.TheVariants.{Cat, Mkfs, OnVolume}
 use Rattle.vol_commands.specs.declared.jobs.Job.TheVariants as jobs
 
 -- clap's contract gives what a parse of this command line finds
 pub simple : (editions : Bor (List (Bor (List ℕ)))) → is_simple (unixvol_app editions) ≡ true
-unfolding unixvol_app program with_command command_shape with_argument named word_rule edition_rule
+unfolding unixvol_app program with_command command_shape with_argument named_shape word_rule edition_rule
 simple editions = refl
 
 -- clap's contract gives what a parse of this command line refuses
 pub simple_and_free : (editions : Bor (List (Bor (List ℕ)))) → is_simple_and_free (unixvol_app editions) ≡ true
-unfolding unixvol_app program with_command command_shape with_argument named word_rule edition_rule
+unfolding unixvol_app program with_command command_shape with_argument named_shape word_rule edition_rule
 simple_and_free editions = refl
 
 -- the words for the arguments are those of the rows that a parse makes

@@ -10,7 +10,7 @@ use Rattle.clap.specs.declared.builder.command.Command.TheViews.{out-Command}
 use Rattle.clap.specs.declared.builder.command.Command.TheOpen.{Command-F}
 use Rattle.clap.proofs.WalkLemmas.{both}
 use Rattle.clap.proofs.SimpleLemmas.{is_false, plain_fields}
-use Rattle.command_line.specs.Words.{app, changing, command_shape, named, printing, program, rule, shape, unixvol_app, with_command, with_commands, word_rule, edition_rule, with_argument}
+use Rattle.command_line.specs.Words.{app, changing, command_shape, named_shape, printing, program, rule, shape, unixvol_app, with_command, with_commands, word_rule, edition_rule, with_argument}
 
 -- the last of ten tests that pass passes
 last : (a b c d e f g h i j : Bool) → (a && (b && (c && (d && (e && (f && (g && (h && (i && j))))))))) ≡ true → j ≡ true
@@ -67,8 +67,8 @@ adds_edition_last (Err e) old argument editions before added is known = tt
 -- a command with its texts, and no argument
 pub starts : (new texts more : Command) (about after_help : Bor (List ℕ)) (name : List ℕ) → app_of new ≡ new_app name
     → out-Command texts ≡ record (out-Command new) { about = Some about } → out-Command more ≡ record (out-Command texts) { after_help = Some after_help }
-    → shape more ≡ named name
-unfolding shape named
+    → shape more ≡ named_shape name
+unfolding shape named_shape
 starts new texts more about after_help name is texts_are more_are = ap shape_of_fields more_are ∙ (ap shape_of_fields texts_are ∙ ap (λ (a : App). a.top) is)
 
 -- a command whose arguments change nothing of how words are read has none that its subcommands take
@@ -83,8 +83,8 @@ words_plain before [] plain = plain
 words_plain before (argument ∷ rest) plain = words_plain (with_argument before (word_rule argument)) rest plain
 
 command_plain : (editions : Bor (List (Bor (List ℕ)))) (name : List ℕ) (arguments : List (List ℕ)) → (command_shape editions name arguments).is_plain ≡ true
-unfolding command_shape with_argument named
-command_plain editions name arguments = words_plain (with_argument (named name) (edition_rule editions)) arguments refl
+unfolding command_shape with_argument named_shape
+command_plain editions name arguments = words_plain (with_argument (named_shape name) (edition_rule editions)) arguments refl
 
 -- one more command
 pub adds_command : (old command new : Command) (before : App) (editions : Bor (List (Bor (List ℕ)))) (name : List ℕ) (arguments : List (List ℕ))

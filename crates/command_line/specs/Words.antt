@@ -34,8 +34,8 @@ unfoldable pub edition_rule : Bor (List (Bor (List ℕ))) → Rule
 edition_rule editions = record (new_rule (codes "EDITION")) { required = true; parser = Some (parsers.Names editions) }
 
 -- a command of this name without arguments (clap's contract)
-unfoldable pub named : List ℕ → Shape
-named name = new_shape name
+unfoldable pub named_shape : List ℕ → Shape
+named_shape name = new_shape name
 
 -- a command with one more argument, the last (clap's contract)
 unfoldable pub with_argument : Shape → Rule → Shape
@@ -56,7 +56,7 @@ verb_name verbs.Ln = codes "ln"
 -- a command of this name, which takes an edition and then a word for each of these arguments (this project)
 unfoldable pub command_shape : Bor (List (Bor (List ℕ))) → List ℕ → List (List ℕ) → Shape
 command_shape editions name arguments =
-    fold (λ command argument. with_argument command (word_rule argument)) (with_argument (named name) (edition_rule editions)) arguments
+    fold (λ command argument. with_argument command (word_rule argument)) (with_argument (named_shape name) (edition_rule editions)) arguments
 
 -- the program without its commands: it has a version and asks for a command (this project)
 unfoldable pub program : App

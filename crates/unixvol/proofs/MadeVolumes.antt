@@ -2,7 +2,8 @@
 use Rattle.std.proofs.Common.{◌≡◌, ◌≢◌, ◌↔◌, ◌⊎◌, ◌∙◌, ℕ, zero, suc, ◌≤◌, Bool, true≢false, true, false, List, [], Option, None, Some, IsSome, IfSome, inl, inr, sym, subst, arith}
 use Rattle.std.specs.Io.KnownBytes.{Keeps}
 use Rattle.vol_volume.specs.Blank.{Blank, blank_of, IsMade}
-use Rattle.vol_volume.specs.Mkfs.{is_size, is_bad_id}
+use Rattle.vol_volume.specs.Mkfs.{is_size}
+use Rattle.vol_volume.specs.Ids.{is_bad_id}
 use Rattle.vol_commands.specs.Faults.{Gets}
 use Rattle.vol_commands.specs.Jobs.{Streams}
 use Rattle.vol_commands.specs.Making.{mkfs_line_at}

@@ -6,9 +6,10 @@ use Rattle.clap.specs.declared.error.Error.{Error}
 use Rattle.clap.specs.declared.error.kind.ErrorKind.{ErrorKind}
 use Rattle.clap.specs.declared.error.kind.ErrorKind.TheVariants as kinds
 use Rattle.vol_volume.specs.Blank.{blank_of, IsMade}
-use Rattle.vol_volume.specs.Mkfs.{is_size, is_bad_id}
+use Rattle.vol_volume.specs.Mkfs.{is_size}
+use Rattle.vol_volume.specs.Ids.{is_bad_id}
 use Rattle.pdp_words.specs.Devices.{IsReadWhole, LosesFront}
-use Rattle.vol_commands.specs.Cat.{Shows, IsNoWriters, cat_status, file_of}
+use Rattle.vol_commands.specs.Cat.{PrintsFile, IsNoWriters, cat_status, file_of}
 use Rattle.vol_commands.specs.Faults.{Gets}
 use Rattle.vol_commands.specs.Jobs.{Streams, Does}
 use Rattle.vol_commands.specs.Making.{mkfs_line_at}
@@ -66,7 +67,7 @@ status_after (Err fault) = cat_status fault
 abbrev pub CatsGiven : (List ℕ → Type 0) → Option (List ℕ) → Option (List ℕ) → Edition → ℕ → Result (Unit {0}) CatFault → Type 0
 CatsGiven given old new edition i (Err Device) = Keeps old new
 CatsGiven given old new edition i (Err NoMemory) = Keeps old new
-CatsGiven given old new edition i result = (image : List ℕ) × given image × Shows old new image i (file_of edition image i) result
+CatsGiven given old new edition i result = (image : List ℕ) × given image × PrintsFile old new image i (file_of edition image i) result
 
 -- `cat` prints of an image that a file gave: what goes out, that standard output failed where its fault is a writer's and else no more than before, and the status (this project)
 abbrev pub PrintsBody : (List ℕ → Type 0) → Option (List ℕ) → Option (List ℕ) → Bool → Bool → Edition → ℕ → ℕ → Type 0

@@ -5,7 +5,7 @@ use Rattle.vol_layout.specs.Places.{has_places}
 use Rattle.vol_layout.specs.declared.geometry.Geometry.{Geometry}
 use Rattle.vol_layout.specs.declared.mode.Kind.TheVariants as kinds
 use Rattle.vol_file.specs.Changes.{Writes, Truncates, ChangesFileAlone, blocks_of}
-use Rattle.vol_file.specs.Rules.{kind_at, IsSoundWith}
+use Rattle.vol_file.specs.Rules.{kind_at, Rules3To7With}
 use Rattle.vol_file.specs.Shape.{touched}
 use Rattle.vol_dir.specs.Tree.{shapes, state}
 use Rattle.vol_judge.specs.Graph.{graph_of}
@@ -14,7 +14,7 @@ use Rattle.vol_change.specs.Changed.{Changed, IsOther}
 use Rattle.vol_change.specs.Contents.{write_body, empty_body}
 use Rattle.vol_change.specs.Shapes.{need_in}
 use Rattle.vol_change.specs.Unused.{KeepsUnused}
-use Rattle.vol_change.specs.Whole.{IsWhole}
+use Rattle.vol_change.specs.Whole.{Rules3To8}
 use Rattle.vol_change.proofs.FileGraphs.{regular_graph}
 use Rattle.vol_change.proofs.FileRooms.{need_is}
 use Rattle.vol_change.proofs.FreeLists.{written_free, truncated_free}
@@ -28,51 +28,51 @@ pub record Beside (geometry : Geometry) (old new : List ℕ) (i : ℕ) : Type 0 
   pub graph : IsSameGraph (graph_of geometry old) (graph_of geometry new)
   pub unused : (j : ℕ) → 1 ≤ j → j ≤ geometry.last_inode → KeepsUnused geometry old new j
 
-beside : (geometry : Geometry) (old new : List ℕ) (i : ℕ) → IsWhole geometry old → IsKind geometry old i kinds.Regular
+beside : (geometry : Geometry) (old new : List ℕ) (i : ℕ) → Rules3To8 geometry old → IsKind geometry old i kinds.Regular
     → ChangesFileAlone geometry old new i → kind_at geometry new i ≡ kind_at geometry old i → Beside geometry old new i
-beside geometry old new i whole is alone kind = record {
+beside geometry old new i rules is alone kind = record {
   kind = λ free. let clash : kinds.Regular ≡ kinds.Free = sym is.kind ∙ (sym kind ∙ free) in cc;
-  graph = regular_graph geometry old new i whole.sound.fits alone is.first is.kind kind;
+  graph = regular_graph geometry old new i rules.sound.fits alone is.first is.kind kind;
   unused = λ j first last.
-      file_unused geometry old new i j whole.sound.fits alone
+      file_unused geometry old new i j rules.sound.fits alone
       (λ free. let clash : kinds.Regular ≡ kinds.Free = sym is.kind ∙ free in cc) is.first first last;
 }
 
 -- a write
-pub body_written : (geometry : Geometry) (old new : List ℕ) (i offset : ℕ) (text : List ℕ) (whole : IsWhole geometry old)
-    → IsKind geometry old i kinds.Regular → ((blocks : List ℕ) → IsSoundWith geometry old blocks → Writes geometry old new i offset text blocks)
+pub body_written : (geometry : Geometry) (old new : List ℕ) (i offset : ℕ) (text : List ℕ) (rules : Rules3To8 geometry old)
+    → IsKind geometry old i kinds.Regular → ((blocks : List ℕ) → Rules3To7With geometry old blocks → Writes geometry old new i offset text blocks)
     → Changed geometry old new (IsOther i) (write_body i offset text (state geometry old))
     (drop (need_in geometry.edition (shapes geometry old i) (touched offset (length text))))
-body_written geometry old new i offset text whole is each =
-    let writes = each whole.blocks whole.sound in
+body_written geometry old new i offset text rules is each =
+    let writes = each rules.blocks rules.sound in
     let file : IsFile geometry old i = record { first = is.first; last = is.last; kind = ap has_places is.kind } in
     record {
-      keeps = writes_keeps geometry old new i offset text whole writes;
-      makes = written_state geometry old new whole.blocks i offset text is whole.sound.fits writes;
-      free = written_free geometry old new i offset _ text whole writes (sym (need_is geometry old i (touched offset (length text)) file));
-      content = λ j first last other. ((only_file geometry old new i whole.sound.fits writes.alone is.first).others j first last other).content;
+      keeps = writes_keeps geometry old new i offset text rules writes;
+      makes = written_state geometry old new rules.blocks i offset text is rules.sound.fits writes;
+      free = written_free geometry old new i offset _ text rules writes (sym (need_is geometry old i (touched offset (length text)) file));
+      content = λ j first last other. ((only_file geometry old new i rules.sound.fits writes.alone is.first).others j first last other).content;
     }
 
-pub written_beside : (geometry : Geometry) (old new : List ℕ) (i offset : ℕ) (text : List ℕ) (whole : IsWhole geometry old)
-    → IsKind geometry old i kinds.Regular → ((blocks : List ℕ) → IsSoundWith geometry old blocks → Writes geometry old new i offset text blocks) → Beside geometry old new i
-written_beside geometry old new i offset text whole is each =
-    let writes = each whole.blocks whole.sound in
+pub written_beside : (geometry : Geometry) (old new : List ℕ) (i offset : ℕ) (text : List ℕ) (rules : Rules3To8 geometry old)
+    → IsKind geometry old i kinds.Regular → ((blocks : List ℕ) → Rules3To7With geometry old blocks → Writes geometry old new i offset text blocks) → Beside geometry old new i
+written_beside geometry old new i offset text rules is each =
+    let writes = each rules.blocks rules.sound in
     let file : IsFile geometry old i = record { first = is.first; last = is.last; kind = ap has_places is.kind } in
-    beside geometry old new i whole is writes.alone (written_kind geometry old new whole.blocks i offset text file writes)
+    beside geometry old new i rules is writes.alone (written_kind geometry old new rules.blocks i offset text file writes)
 
 -- a truncation
-pub body_emptied : (geometry : Geometry) (old new : List ℕ) (i : ℕ) (whole : IsWhole geometry old) → IsKind geometry old i kinds.Regular
-    → ((blocks : List ℕ) → IsSoundWith geometry old blocks → Truncates geometry old new i blocks)
+pub body_emptied : (geometry : Geometry) (old new : List ℕ) (i : ℕ) (rules : Rules3To8 geometry old) → IsKind geometry old i kinds.Regular
+    → ((blocks : List ℕ) → Rules3To7With geometry old blocks → Truncates geometry old new i blocks)
     → Changed geometry old new (IsOther i) (empty_body i (state geometry old)) (λ blocks. blocks_of geometry old i ++ blocks)
-body_emptied geometry old new i whole is each = let cuts = each whole.blocks whole.sound in record {
-  keeps = truncates_keeps geometry old new i whole cuts;
-  makes = truncated_state geometry old new whole.blocks i is whole.sound.fits cuts;
-  free = truncated_free geometry old new i whole cuts;
-  content = λ j first last other. ((only_file geometry old new i whole.sound.fits cuts.alone is.first).others j first last other).content;
+body_emptied geometry old new i rules is each = let cuts = each rules.blocks rules.sound in record {
+  keeps = truncates_keeps geometry old new i rules cuts;
+  makes = truncated_state geometry old new rules.blocks i is rules.sound.fits cuts;
+  free = truncated_free geometry old new i rules cuts;
+  content = λ j first last other. ((only_file geometry old new i rules.sound.fits cuts.alone is.first).others j first last other).content;
 }
 
-pub emptied_beside : (geometry : Geometry) (old new : List ℕ) (i : ℕ) (whole : IsWhole geometry old) → IsKind geometry old i kinds.Regular
-    → ((blocks : List ℕ) → IsSoundWith geometry old blocks → Truncates geometry old new i blocks) → Beside geometry old new i
-emptied_beside geometry old new i whole is each =
-    let cuts = each whole.blocks whole.sound in
-    beside geometry old new i whole is cuts.alone (truncated_kind geometry old new whole.blocks i is cuts)
+pub emptied_beside : (geometry : Geometry) (old new : List ℕ) (i : ℕ) (rules : Rules3To8 geometry old) → IsKind geometry old i kinds.Regular
+    → ((blocks : List ℕ) → Rules3To7With geometry old blocks → Truncates geometry old new i blocks) → Beside geometry old new i
+emptied_beside geometry old new i rules is each =
+    let cuts = each rules.blocks rules.sound in
+    beside geometry old new i rules is cuts.alone (truncated_kind geometry old new rules.blocks i is cuts)

@@ -13,7 +13,7 @@ use Rattle.vol_change.specs.Contents.{write_body, empty_body}
 use Rattle.vol_change.specs.Whole.{Keeps}
 use Rattle.vol_change.proofs.TimedEdits.{timed_write, timed_truncate}
 use Rattle.vol_change.proofs.WholeLaws.{keeps_then}
-use Rattle.vol_change.specs.Ready.{IsReady, Changes}
+use Rattle.vol_change.specs.Ready.{Rules1To12, Becomes}
 use Rattle.vol_change.proofs.ReadyLaws.{ready_whole, ready_graph, ready_from}
 
 -- after some steps of a call the geometry fits, rules 3 to 8 hold, the bytes that no call changes are as they were, and the
@@ -24,10 +24,10 @@ pub record HasMade (geometry : Geometry) (old new : List ℕ) (made : State) : T
   pub makes : state geometry new ≡ made
 
 -- no step
-pub no_step : (geometry : Geometry) (image : List ℕ) → IsReady geometry image → HasMade geometry image image (state geometry image)
+pub no_step : (geometry : Geometry) (image : List ℕ) → Rules1To12 geometry image → HasMade geometry image image (state geometry image)
 no_step geometry image ready = record {
   keeps = record {
-    whole = ready_whole geometry image ready;
+    rules = ready_whole geometry image ready;
     around = record { len = refl; before = λ k h. refl; flags = λ k from to. refl; rest = λ k from to. refl; behind = λ k h. refl };
   };
   sound = ready_graph geometry image ready;
@@ -47,15 +47,15 @@ step_more geometry old mid new made edit before step graph = record {
 
 -- the steps, and then the time
 pub changed : {Kept : ℕ → Type 0} {listed : List ℕ → List ℕ} (geometry : Geometry) (old mid new : List ℕ) (made : State) (now : ℕ)
-    → IsReady geometry old → HasMade geometry old mid made → Changed geometry mid new Kept (at_time now (state geometry mid)) listed
-    → IsSameGraph (graph_of geometry mid) (graph_of geometry new) → Changes geometry old new (at_time now made)
+    → Rules1To12 geometry old → HasMade geometry old mid made → Changed geometry mid new Kept (at_time now (state geometry mid)) listed
+    → IsSameGraph (graph_of geometry mid) (graph_of geometry new) → Becomes geometry old new (at_time now made)
 changed geometry old mid new made now ready before time graph =
     let after = step_more geometry old mid new made (λ state. at_time now state) before time graph in
     record { ready = ready_from geometry old new ready after.keeps after.sound; around = after.keeps.around; makes = after.makes }
 
 -- a write of some bytes, and the times of the node
 pub made_write : {Kept Also : ℕ → Type 0} {listed after : List ℕ → List ℕ} (geometry : Geometry) (old mid new bytes : List ℕ) (i offset now : ℕ)
-    → IsReady geometry old → 1 ≤ length bytes → Changed geometry old mid Kept (write_body i offset bytes (state geometry old)) listed
+    → Rules1To12 geometry old → 1 ≤ length bytes → Changed geometry old mid Kept (write_body i offset bytes (state geometry old)) listed
     → IsSameGraph (graph_of geometry old) (graph_of geometry mid)
     → Changed geometry mid new Also (change_node i (modified now) (state geometry mid)) after
     → IsSameGraph (graph_of geometry mid) (graph_of geometry new) → HasMade geometry old new (after_write (state geometry old) now offset bytes i)
@@ -65,14 +65,14 @@ made_write geometry old mid new bytes i offset now ready some written same timed
     record { keeps = both.keeps; sound = both.sound; makes = both.makes ∙ timed_write (state geometry old) now offset i bytes some }
 
 -- a write of no bytes
-pub made_none : (geometry : Geometry) (image bytes : List ℕ) (i offset now : ℕ) → IsReady geometry image → length bytes ≡ 0
+pub made_none : (geometry : Geometry) (image bytes : List ℕ) (i offset now : ℕ) → Rules1To12 geometry image → length bytes ≡ 0
     → HasMade geometry image image (after_write (state geometry image) now offset bytes i)
 made_none geometry image [] i offset now ready none = no_step geometry image ready
 made_none geometry image (byte ∷ bytes) i offset now ready none = absurd (omega arith)
 
 -- a truncation, and the times of the node
 pub made_truncate : {Kept Also : ℕ → Type 0} {listed after : List ℕ → List ℕ} (geometry : Geometry) (old mid new : List ℕ) (i now : ℕ)
-    → IsReady geometry old → Changed geometry old mid Kept (empty_body i (state geometry old)) listed
+    → Rules1To12 geometry old → Changed geometry old mid Kept (empty_body i (state geometry old)) listed
     → IsSameGraph (graph_of geometry old) (graph_of geometry mid)
     → Changed geometry mid new Also (change_node i (modified now) (state geometry mid)) after
     → IsSameGraph (graph_of geometry mid) (graph_of geometry new) → HasMade geometry old new (after_truncate (state geometry old) now i)

@@ -7,7 +7,7 @@ use Rattle.vol_layout.specs.declared.edition.Edition.TheVariants.{V6, V7}
 use Rattle.vol_layout.specs.declared.geometry.Geometry.{Geometry}
 use Rattle.vol_layout.specs.declared.mode.Kind.TheVariants as kinds
 use Rattle.vol_file.specs.Need.{need}
-use Rattle.vol_file.specs.Rules.{size_of, IsSoundWith}
+use Rattle.vol_file.specs.Rules.{size_of, Rules3To7With}
 use Rattle.vol_dir.specs.Editing.{HasNamesOnce}
 use Rattle.vol_dir.specs.Entries.{IsDirectory, entry_at, slots}
 use Rattle.vol_dir.specs.Names.{Names, dot, dot_dot, insert, get, names_of, names_in}
@@ -20,7 +20,7 @@ use Rattle.vol_change.specs.Ready.{entry_need}
 use Rattle.vol_change.specs.Contents.{put_entry}
 use Rattle.vol_change.specs.Nodes.{no_node}
 use Rattle.vol_change.specs.Shapes.{need_in, entry_blocks, shape_with_entry, new_directory_shape}
-use Rattle.vol_change.specs.Whole.{IsWhole}
+use Rattle.vol_change.specs.Whole.{Rules3To8}
 use Rattle.vol_change.proofs.EntryStates.{names_is, shape_is, size_is}
 use Rattle.vol_change.proofs.FileRooms.{entry_room}
 use Rattle.vol_change.proofs.PlaceCounts.{first_in}
@@ -95,22 +95,22 @@ dot_dot_need geometry image i names has =
     ap (λ (x : Shape). need_in geometry.edition x (entry_blocks x)) has.shape ∙ second_need geometry.edition
 
 -- there is room for `.`
-pub dot_room : (geometry : Geometry) (image : List ℕ) (i : ℕ) → IsWhole geometry image → IsDirectory geometry image i
+pub dot_room : (geometry : Geometry) (image : List ℕ) (i : ℕ) → Rules3To8 geometry image → IsDirectory geometry image i
     → HoldsNames (state geometry image) i [] 0 no_shape → 1 ≤ free_count geometry (shapes geometry image)
-    → (free : List ℕ) → IsSoundWith geometry image free → need geometry image i (16 * new_slot (names_in (slots geometry image i))) 16 ≤ length free
+    → (free : List ℕ) → Rules3To7With geometry image free → need geometry image i (16 * new_slot (names_in (slots geometry image i))) 16 ≤ length free
 unfolding tree
-dot_room geometry image i whole is has room =
+dot_room geometry image i rules is has room =
     let one = dot_need geometry image i has in
-    entry_room geometry image i whole (is_kind geometry image i is) (omega (arith, one, room))
+    entry_room geometry image i rules (is_kind geometry image i is) (omega (arith, one, room))
 
 -- and then for `..`
-pub dot_dot_room : (geometry : Geometry) (image : List ℕ) (i : ℕ) (names : Names) → IsWhole geometry image → IsDirectory geometry image i
+pub dot_dot_room : (geometry : Geometry) (image : List ℕ) (i : ℕ) (names : Names) → Rules3To8 geometry image → IsDirectory geometry image i
     → HoldsNames (state geometry image) i names 16 (shape_with_entry geometry.edition no_shape dot)
-    → (free : List ℕ) → IsSoundWith geometry image free → need geometry image i (16 * new_slot (names_in (slots geometry image i))) 16 ≤ length free
+    → (free : List ℕ) → Rules3To7With geometry image free → need geometry image i (16 * new_slot (names_in (slots geometry image i))) 16 ≤ length free
 unfolding tree
-dot_dot_room geometry image i names whole is has =
+dot_dot_room geometry image i names rules is has =
     let none = dot_dot_need geometry image i names has in
-    entry_room geometry image i whole (is_kind geometry image i is) (omega (arith, none))
+    entry_room geometry image i rules (is_kind geometry image i is) (omega (arith, none))
 
 -- a directory without entries gets `.`
 dot_held : (geometry : Geometry) (old new : List ℕ) (i : ℕ) → HoldsNames (state geometry old) i [] 0 no_shape

@@ -22,7 +22,7 @@ use Rattle.vol_judge.proofs.GraphParts.{not_free}
 use Rattle.vol_judge.proofs.ImageGraphs.{entry_to, used_from, directory_to}
 use Rattle.vol_change.specs.Nodes.{names_at}
 use Rattle.vol_change.proofs.EntryStates.{names_is, named_slot}
-use Rattle.vol_change.specs.Ready.{IsReady}
+use Rattle.vol_change.specs.Ready.{Rules1To12}
 use Rattle.vol_change.proofs.ReadyLaws.{ready_whole, ready_graph}
 
 -- a name that the tree has in a directory is one of the names in its slots
@@ -47,7 +47,7 @@ named_entry geometry image name d i is named =
     (record { directory = is; entry = holds.entry ∙ ap (option_map (λ (j : ℕ). (name, j))) found })
 
 -- what a directory of a sound image has a name for is in use
-pub named_used : (geometry : Geometry) (image name : List ℕ) (d i : ℕ) → IsReady geometry image → IsDirectory geometry image d
+pub named_used : (geometry : Geometry) (image name : List ℕ) (d i : ℕ) → Rules1To12 geometry image → IsDirectory geometry image d
     → get (names_at (tree geometry image) d) name ≡ Some i → IsInUse geometry image i
 named_used geometry image name d i ready is named =
     let parts = (ready_graph geometry image ready).allocated d (slot_named name (slots geometry image d)) i name (named_entry geometry image name d i is named) in
@@ -59,7 +59,7 @@ pub used_first : (geometry : Geometry) (image : List ℕ) (i : ℕ) → IsInUse 
 used_first geometry image i used = let root = root_first geometry.edition in omega (arith, root, used.first)
 
 -- what is in use and no directory stands above the root
-pub file_above : (geometry : Geometry) (image : List ℕ) (i : ℕ) → IsReady geometry image → IsInUse geometry image i
+pub file_above : (geometry : Geometry) (image : List ℕ) (i : ℕ) → Rules1To12 geometry image → IsInUse geometry image i
     → kind_at geometry image i ≢ kinds.Directory → (constants geometry.edition).root < i
 file_above geometry image i ready used other = elim (cases_eq i (constants geometry.edition).root) [
   | inl same ↦ absurd (other (ap (kind_at geometry image) same ∙ (ready_whole geometry image ready).sound.kinds.root))
@@ -67,7 +67,7 @@ file_above geometry image i ready used other = elim (cases_eq i (constants geome
 ]
 
 -- a directory with a name that is neither `.` nor `..` stands above the root
-pub directory_above : (geometry : Geometry) (image name : List ℕ) (d i : ℕ) → IsReady geometry image → IsDirectory geometry image d
+pub directory_above : (geometry : Geometry) (image name : List ℕ) (d i : ℕ) → Rules1To12 geometry image → IsDirectory geometry image d
     → get (names_at (tree geometry image) d) name ≡ Some i → is_dots name ≡ false → (constants geometry.edition).root < i
 directory_above geometry image name d i ready is named plain =
     let entry = named_entry geometry image name d i is named in
@@ -80,7 +80,7 @@ directory_above geometry image name d i ready is named plain =
     ]
 
 -- a directory of a sound image has a link
-pub directory_linked : (geometry : Geometry) (image : List ℕ) (d : ℕ) → IsReady geometry image → IsDirectory geometry image d
+pub directory_linked : (geometry : Geometry) (image : List ℕ) (d : ℕ) → Rules1To12 geometry image → IsDirectory geometry image d
     → 1 ≤ (inode_of geometry.edition image d).links
 directory_linked geometry image d ready is =
     let sound = ready_graph geometry image ready in

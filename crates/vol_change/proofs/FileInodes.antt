@@ -47,12 +47,12 @@ flag_is mode false =
 with_flag : (mode : ℕ) (large : Bool) → 32768 ≤ mode → KeepsMode V6 mode (with_large mode large) large
 with_flag mode large h =
     let most : flag_bit large ≤ 4096 = (elim large as (λ b. flag_bit b ≤ 4096) [ true ↦ omega arith | false ↦ omega arith ]) in
-    let whole : flag_bit large % 4096 ≡ 0 = (elim large as (λ b. flag_bit b % 4096 ≡ 0) [ true ↦ omega arith | false ↦ omega arith ]) in
+    let rules : flag_bit large % 4096 ≡ 0 = (elim large as (λ b. flag_bit b % 4096 ≡ 0) [ true ↦ omega arith | false ↦ omega arith ]) in
     let high : 32768 ≤ with_large mode large = omega (arith, h, most) in
-    let type : with_large mode large / 8192 % 4 ≡ mode / 8192 % 4 = omega (arith, most, whole) in
+    let type : with_large mode large / 8192 % 4 ≡ mode / 8192 % 4 = omega (arith, most, rules) in
     record {
       kind = kind_high (with_large mode large) high ∙ (ap kind_of_type_v6 type ∙ sym (kind_high mode h));
-      permissions = omega (arith, most, whole);
+      permissions = omega (arith, most, rules);
       flag = flag_is mode large;
     }
 

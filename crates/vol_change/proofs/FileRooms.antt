@@ -7,7 +7,7 @@ use Rattle.vol_layout.specs.declared.mode.Kind.{Kind}
 use Rattle.vol_layout.specs.declared.mode.Kind.TheVariants as kinds
 use Rattle.vol_free.proofs.Stacks.{zone_behind, IsFree_unique}
 use Rattle.vol_file.specs.Need.{need_of, need}
-use Rattle.vol_file.specs.Rules.{kind_at, IsSoundWith}
+use Rattle.vol_file.specs.Rules.{kind_at, Rules3To7With}
 use Rattle.vol_file.proofs.MissingLaws.{need_nothing}
 use Rattle.vol_file.specs.Shape.{is_named, touched}
 use Rattle.vol_dir.specs.Entries.{slots}
@@ -16,7 +16,7 @@ use Rattle.vol_dir.specs.Searching.{new_slot}
 use Rattle.vol_dir.specs.Tree.{free_count, is_named_place, shape_of, shapes, state, tree}
 use Rattle.vol_change.specs.Ready.{entry_need}
 use Rattle.vol_change.specs.Shapes.{need_in, entry_blocks}
-use Rattle.vol_change.specs.Whole.{IsWhole}
+use Rattle.vol_change.specs.Whole.{Rules3To8}
 use Rattle.vol_change.proofs.FreeCounts.{form_shape, free_blocks}
 use Rattle.vol_change.proofs.States.{shape_here}
 use Rattle.vol_change.proofs.ShapePlaces.{need_places}
@@ -44,12 +44,12 @@ need_is geometry image i blocks file =
     ∙ need_by geometry image i blocks (kind_at geometry image i) file.kind file.kind
 
 -- what is within the free blocks that the shapes leave is within those of the image
-pub room_is : (geometry : Geometry) (image : List ℕ) (n : ℕ) → IsWhole geometry image → n ≤ free_count geometry (shapes geometry image)
-    → (blocks : List ℕ) → IsSoundWith geometry image blocks → n ≤ length blocks
-room_is geometry image n whole within blocks sound =
-    let zone = zone_behind whole.sound.fits in
-    let count = free_blocks geometry image whole.blocks whole.sound whole.covered in
-    let same = ap length (IsFree_unique (omega (arith, zone)) whole.sound.free sound.free) in
+pub room_is : (geometry : Geometry) (image : List ℕ) (n : ℕ) → Rules3To8 geometry image → n ≤ free_count geometry (shapes geometry image)
+    → (blocks : List ℕ) → Rules3To7With geometry image blocks → n ≤ length blocks
+room_is geometry image n rules within blocks sound =
+    let zone = zone_behind rules.sound.fits in
+    let count = free_blocks geometry image rules.blocks rules.sound rules.covered in
+    let same = ap length (IsFree_unique (omega (arith, zone)) rules.sound.free sound.free) in
     omega (arith, within, count, same)
 
 -- a file needs nothing for no bytes
@@ -59,12 +59,12 @@ nothing_needed geometry image i offset len file none =
     need_is geometry image i (touched offset len) file ∙ (ap (need geometry image i offset) none ∙ need_nothing (form_at geometry image i) (is_named geometry image i))
 
 -- where the shapes leave room for a file's blocks, there is room
-pub file_room : (geometry : Geometry) (image : List ℕ) (i : ℕ) (blocks : List ℕ) → IsWhole geometry image → IsFile geometry image i
+pub file_room : (geometry : Geometry) (image : List ℕ) (i : ℕ) (blocks : List ℕ) → Rules3To8 geometry image → IsFile geometry image i
     → need_in geometry.edition (shapes geometry image i) blocks ≤ free_count geometry (shapes geometry image)
-    → (free : List ℕ) → IsSoundWith geometry image free → need_of (form_at geometry image i) (is_named geometry image i) blocks ≤ length free
-file_room geometry image i blocks whole file within =
+    → (free : List ℕ) → Rules3To7With geometry image free → need_of (form_at geometry image i) (is_named geometry image i) blocks ≤ length free
+file_room geometry image i blocks rules file within =
     let is = need_is geometry image i blocks file in
-    room_is geometry image (need_of (form_at geometry image i) (is_named geometry image i) blocks) whole (omega (arith, within, is))
+    room_is geometry image (need_of (form_at geometry image i) (is_named geometry image i) blocks) rules (omega (arith, within, is))
 
 -- a new entry of a directory needs as many blocks as its shape says
 pub entry_need_is : (geometry : Geometry) (image : List ℕ) (d : ℕ) → IsKind geometry image d kinds.Directory
@@ -78,11 +78,11 @@ entry_need_is geometry image d is =
     ∙ (sym (need_is geometry image d (s / 32 ∷ []) file) ∙ sym (ap (need_in geometry.edition (shapes geometry image d)) list))
 
 -- where the shapes leave room for a new entry, there is room
-pub entry_room : (geometry : Geometry) (image : List ℕ) (d : ℕ) → IsWhole geometry image → IsKind geometry image d kinds.Directory
+pub entry_room : (geometry : Geometry) (image : List ℕ) (d : ℕ) → Rules3To8 geometry image → IsKind geometry image d kinds.Directory
     → need_in geometry.edition (shapes geometry image d) (entry_blocks (shapes geometry image d)) ≤ free_count geometry (shapes geometry image)
-    → (free : List ℕ) → IsSoundWith geometry image free
+    → (free : List ℕ) → Rules3To7With geometry image free
     → need geometry image d (16 * new_slot (names_in (slots geometry image d))) 16 ≤ length free
 unfolding tree
-entry_room geometry image d whole is within free sound =
+entry_room geometry image d rules is within free sound =
     let need = entry_need_is geometry image d is in
-    omega (arith, need, room_is geometry image (entry_need (state geometry image) d) whole within free sound)
+    omega (arith, need, room_is geometry image (entry_need (state geometry image) d) rules within free sound)

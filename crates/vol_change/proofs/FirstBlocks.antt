@@ -23,7 +23,7 @@ use Rattle.vol_dir.specs.Tree.{Shape, is_named_place, shapes}
 use Rattle.vol_change.specs.Alone.{KeepsContent}
 use Rattle.vol_change.specs.Changed.{FreeBecomes}
 use Rattle.vol_change.specs.Shapes.{new_directory_shape}
-use Rattle.vol_change.specs.Whole.{IsWhole}
+use Rattle.vol_change.specs.Whole.{Rules3To8}
 use Rattle.vol_change.proofs.EntryStates.{shape_is}
 use Rattle.vol_dir.proofs.PlaceTests.{place_test}
 use Rattle.vol_change.proofs.FreeLists.{one_list}
@@ -51,7 +51,7 @@ first_place geometry image i p is shape place some =
     new_names geometry.edition p (sym same ∙ here)
 
 -- where one block was taken and nothing but file i has changed, whose one place is the first, that place names the block
-pub first_taken : (geometry : Geometry) (old new : List ℕ) (i : ℕ) (blocks : List ℕ) (before : IsWhole geometry old) → IsWhole geometry new
+pub first_taken : (geometry : Geometry) (old new : List ℕ) (i : ℕ) (blocks : List ℕ) (before : Rules3To8 geometry old) → Rules3To8 geometry new
     → FreeBecomes geometry old new (drop 1) → ((j : ℕ) → 1 ≤ j → j ≤ geometry.last_inode → j ≢ i → KeepsContent geometry old new j)
     → IsKind geometry new i kinds.Directory → shapes geometry new i ≡ new_directory_shape geometry.edition
     → 1 ≤ length blocks → IsFree geometry old blocks → named geometry new i (0 ∷ []) ≡ slice_index blocks 0

@@ -21,7 +21,7 @@ use Rattle.vol_change.specs.Nodes.{no_node, node_at, names_at, number_of_name}
 use Rattle.vol_change.specs.Shapes.{need_in, stored_shape, entry_blocks, shape_with_entry, shape_without_entry, new_directory_shape}
 use Rattle.vol_change.proofs.PlaceCounts.{stored_count, entry_count, gone_count, none_count, new_directory_count, set_other, set_count, set_counts, free_less, free_same, free_gone}
 use Rattle.vol_change.specs.Effects.{after_create, after_mkdir, after_link, after_unlink, after_rmdir}
-use Rattle.vol_change.specs.Ready.{IsReady, entry_need, free_in}
+use Rattle.vol_change.specs.Ready.{Rules1To12, entry_need, free_in}
 use Rattle.vol_change.proofs.ReadyLaws.{ready_whole}
 use Rattle.vol_change.proofs.SideStates.{free_shape}
 
@@ -43,7 +43,7 @@ free_other geometry image i d free is =
     λ e. let same : kinds.Directory ≡ kinds.Free = sym is.kind ∙ (ap (kind_at geometry image) e ∙ free_kind geometry image i free) in cc
 
 -- a node that goes gives back its blocks, whatever entry went before
-lost_blocks : (geometry : Geometry) (image : List ℕ) (d i : ℕ) (name : List ℕ) → IsReady geometry image
+lost_blocks : (geometry : Geometry) (image : List ℕ) (d i : ℕ) (name : List ℕ) → Rules1To12 geometry image
     → free_count geometry (set_at (set_at (shapes geometry image) d (shape_without_entry (shapes geometry image d) name)) i no_shape)
     ≡ free_count geometry (shapes geometry image) + place_count geometry.edition (shapes geometry image i)
 lost_blocks geometry image d i name ready =
@@ -145,7 +145,7 @@ free_after_unlink geometry image now i d name named many =
     (set_count e old d (shape_without_entry (old d) name) (gone_count e (old d) name)))
 
 -- and the blocks of the node, where it was its last
-pub free_after_last_unlink : (geometry : Geometry) (image : List ℕ) (now i d : ℕ) (name : List ℕ) → IsReady geometry image
+pub free_after_last_unlink : (geometry : Geometry) (image : List ℕ) (now i d : ℕ) (name : List ℕ) → Rules1To12 geometry image
     → get (names_at (state geometry image).tree d) name ≡ Some i → (node_at (state geometry image).tree i).links ≤ 1
     → free_in (at_time now (after_unlink (state geometry image) now d name))
     ≡ free_in (state geometry image) + place_count geometry.edition ((state geometry image).shapes i)
@@ -157,7 +157,7 @@ free_after_last_unlink geometry image now i d name ready named few =
     ∙ lost_blocks geometry image d i name ready)
 
 -- a directory that goes gives back its blocks
-pub free_after_rmdir : (geometry : Geometry) (image : List ℕ) (now i d : ℕ) (name : List ℕ) → IsReady geometry image
+pub free_after_rmdir : (geometry : Geometry) (image : List ℕ) (now i d : ℕ) (name : List ℕ) → Rules1To12 geometry image
     → get (names_at (state geometry image).tree d) name ≡ Some i
     → free_in (at_time now (after_rmdir (state geometry image) now d name))
     ≡ free_in (state geometry image) + place_count geometry.edition ((state geometry image).shapes i)
@@ -182,7 +182,7 @@ free_after_write geometry image now offset i (byte ∷ bytes) first last =
     (stored_count geometry.edition (old i) blocks)
 
 -- a file that loses its bytes gives back its blocks
-pub free_after_truncate : (geometry : Geometry) (image : List ℕ) (now i : ℕ) → IsReady geometry image
+pub free_after_truncate : (geometry : Geometry) (image : List ℕ) (now i : ℕ) → Rules1To12 geometry image
     → free_in (at_time now (after_truncate (state geometry image) now i))
     ≡ free_in (state geometry image) + place_count geometry.edition ((state geometry image).shapes i)
 unfolding tree

@@ -26,7 +26,7 @@ use Rattle.vol_free.proofs.Stacks.{zone_from, zone_below, stack_zoned}
 use Rattle.vol_file.specs.Shape.{is_named}
 use Rattle.vol_file.specs.Changes.{blocks_of}
 use Rattle.vol_file.specs.Clears.{blocks_at}
-use Rattle.vol_file.specs.Rules.{IsSoundWith, IsCovered, kind_at}
+use Rattle.vol_file.specs.Rules.{Rules3To7With, IsCovered, kind_at}
 use Rattle.vol_file.proofs.BlockLists.{at_nil, at_zero, at_some}
 use Rattle.vol_file.proofs.PlaceLists.{count_among, count_none, among_places}
 use Rattle.vol_dir.specs.Tree.{no_shape, form_in, is_place, is_named_place, place_count, free_count, is_number, shape_of, shapes}
@@ -153,7 +153,7 @@ count_number geometry image i first last =
     ap (λ t. place_count geometry.edition (if t then shape_of geometry image i (kind_of geometry.edition (mode_of geometry image i)) else no_shape)) inside
     ∙ count_shape geometry image i (kind_at geometry image i) refl
 
-module _ (geometry : Geometry) (image blocks : List ℕ) (sound : IsSoundWith geometry image blocks) where
+module _ (geometry : Geometry) (image blocks : List ℕ) (sound : Rules3To7With geometry image blocks) where
   -- files have as many blocks as their shapes say
   used_length : length (all_blocks geometry image) ≡ sum_by (λ i. place_count geometry.edition (shapes geometry image i)) (range_with_len 1 geometry.last_inode)
   used_length =

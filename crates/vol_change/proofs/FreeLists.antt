@@ -19,7 +19,7 @@ use Rattle.vol_file.specs.Rules.{kind_at}
 use Rattle.vol_file.proofs.PlaceLists.{among_places}
 use Rattle.vol_change.specs.Alone.{KeepsContent}
 use Rattle.vol_change.specs.Changed.{FreeBecomes, as_before, blocks_freed}
-use Rattle.vol_change.specs.Whole.{IsWhole}
+use Rattle.vol_change.specs.Whole.{Rules3To8}
 use Rattle.vol_change.proofs.Contents.{kind_same}
 use Rattle.vol_change.proofs.WholeLaws.{super_order, zone_behind}
 
@@ -30,42 +30,42 @@ free_below geometry old new from to same low high blocks free =
     IsFree-behind same low (λ b is. inr (omega (arith, free_from free b is, high))) free
 
 -- so does a write of the time
-pub time_free : (geometry : Geometry) (old new : List ℕ) → IsWhole geometry old
+pub time_free : (geometry : Geometry) (old new : List ℕ) → Rules3To8 geometry old
     → SameOutside old new (time_place geometry.edition) (time_place geometry.edition + 4) → FreeBecomes geometry old new as_before
-time_free geometry old new whole same =
+time_free geometry old new rules same =
     let order = super_order geometry.edition in
-    let behind = zone_behind geometry old whole.sound.fits in
+    let behind = zone_behind geometry old rules.sound.fits in
     free_below geometry old new (time_place geometry.edition) (time_place geometry.edition + 4) same (omega (arith, order)) (omega (arith, order, behind))
 
 -- and of the i-number cache
-pub cache_free_list : (geometry : Geometry) (old new : List ℕ) → IsWhole geometry old
+pub cache_free_list : (geometry : Geometry) (old new : List ℕ) → Rules3To8 geometry old
     → SameOutside old new (cache_head geometry.edition) (cache_head geometry.edition + 202) → FreeBecomes geometry old new as_before
-cache_free_list geometry old new whole same =
+cache_free_list geometry old new rules same =
     let order = super_order geometry.edition in
-    let behind = zone_behind geometry old whole.sound.fits in
+    let behind = zone_behind geometry old rules.sound.fits in
     free_below geometry old new (cache_head geometry.edition) (cache_head geometry.edition + 202) same (omega (arith, order)) (omega (arith, order, behind))
 
 -- and of an i-node
-pub inode_free : (geometry : Geometry) (old new : List ℕ) (i : ℕ) → IsWhole geometry old → 1 ≤ i → i ≤ geometry.last_inode
+pub inode_free : (geometry : Geometry) (old new : List ℕ) (i : ℕ) → Rules3To8 geometry old → 1 ≤ i → i ≤ geometry.last_inode
     → SameOutside old new (inode_place geometry.edition i) (inode_place geometry.edition i + (constants geometry.edition).inode_bytes)
     → FreeBecomes geometry old new as_before
-inode_free geometry old new i whole first last same =
+inode_free geometry old new i rules first last same =
     let order = super_order geometry.edition in
     let start = place_from geometry.edition i in
     free_below geometry old new (inode_place geometry.edition i) (inode_place geometry.edition i + (constants geometry.edition).inode_bytes) same
-    (omega (arith, order, start)) (place_room geometry old i whole.sound.fits first last)
+    (omega (arith, order, start)) (place_room geometry old i rules.sound.fits first last)
 
 -- there is one free list
-pub one_list : (geometry : Geometry) (image blocks : List ℕ) → (whole : IsWhole geometry image) → IsFree geometry image blocks → whole.blocks ≡ blocks
-one_list geometry image blocks whole free =
-    let behind = zone_behind geometry image whole.sound.fits in IsFree_unique (omega (arith, behind)) whole.sound.free free
+pub one_list : (geometry : Geometry) (image blocks : List ℕ) → (rules : Rules3To8 geometry image) → IsFree geometry image blocks → rules.blocks ≡ blocks
+one_list geometry image blocks rules free =
+    let behind = zone_behind geometry image rules.sound.fits in IsFree_unique (omega (arith, behind)) rules.sound.free free
 
 -- a write takes what it needs off its front
-pub written_free : (geometry : Geometry) (old new : List ℕ) (i offset n : ℕ) (text : List ℕ) (whole : IsWhole geometry old)
-    → Writes geometry old new i offset text whole.blocks → need geometry old i offset (length text) ≡ n → FreeBecomes geometry old new (drop n)
-written_free geometry old new i offset n text whole writes needed blocks free =
+pub written_free : (geometry : Geometry) (old new : List ℕ) (i offset n : ℕ) (text : List ℕ) (rules : Rules3To8 geometry old)
+    → Writes geometry old new i offset text rules.blocks → need geometry old i offset (length text) ≡ n → FreeBecomes geometry old new (drop n)
+written_free geometry old new i offset n text rules writes needed blocks free =
     let rest : drop n blocks ≡ writes.rest =
-    ap (drop n) (sym (one_list geometry old blocks whole free) ∙ writes.free)
+    ap (drop n) (sym (one_list geometry old blocks rules free) ∙ writes.free)
     ∙ (ap (λ m. drop m (writes.taken ++ writes.rest)) (sym needed ∙ sym writes.count)
     ∙ drop-append_seam writes.taken writes.rest) in
     subst (IsFree geometry new) (sym rest) writes.sound.free
@@ -80,10 +80,10 @@ pub drop_next : (n : ℕ) (xs : List ℕ) → drop 1 (drop n xs) ≡ drop (n + 1
 drop_next n xs = drop_suc n xs ∙ ap (λ m. drop m xs) (sym (add-one n))
 
 -- a truncation puts the blocks of the file on top
-pub truncated_free : (geometry : Geometry) (old new : List ℕ) (i : ℕ) (whole : IsWhole geometry old)
-    → Truncates geometry old new i whole.blocks → FreeBecomes geometry old new (λ blocks. blocks_of geometry old i ++ blocks)
-truncated_free geometry old new i whole cuts blocks free =
-    subst (λ xs. IsFree geometry new (blocks_of geometry old i ++ xs)) (one_list geometry old blocks whole free) cuts.sound.free
+pub truncated_free : (geometry : Geometry) (old new : List ℕ) (i : ℕ) (rules : Rules3To8 geometry old)
+    → Truncates geometry old new i rules.blocks → FreeBecomes geometry old new (λ blocks. blocks_of geometry old i ++ blocks)
+truncated_free geometry old new i rules cuts blocks free =
+    subst (λ xs. IsFree geometry new (blocks_of geometry old i ++ xs)) (one_list geometry old blocks rules free) cuts.sound.free
 
 -- functions that agree on a list map it to the same
 map_among : (f g : List ℕ → ℕ) (qs : List (List ℕ)) → ((p : List ℕ) → IsAmong p qs → f p ≡ g p) → map f qs ≡ map g qs

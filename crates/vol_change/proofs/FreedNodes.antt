@@ -17,7 +17,7 @@ use Rattle.vol_layout.proofs.KindLaws.{kind_zero}
 use Rattle.vol_layout.specs.Super.{cache_head}
 use Rattle.vol_free.specs.Numbers.{cache_len, Cached}
 use Rattle.vol_free.proofs.Frames.{IsFree-before_zone}
-use Rattle.vol_file.specs.Rules.{kind_at, IsSoundWith}
+use Rattle.vol_file.specs.Rules.{kind_at, Rules3To7With}
 use Rattle.vol_file.specs.Changes.{Truncates, blocks_of}
 use Rattle.vol_dir.specs.Tree.{no_shape, content_of, node_with, node_of, shape_of, state}
 use Rattle.vol_judge.specs.Graph.{graph_of}
@@ -26,38 +26,38 @@ use Rattle.vol_change.specs.Alone.{ChangesOnly}
 use Rattle.vol_change.specs.Changed.{FreeBecomes, as_before, blocks_freed}
 use Rattle.vol_change.specs.Edits.{remove_node}
 use Rattle.vol_change.specs.NodeGraphs.{DropsNode}
-use Rattle.vol_change.specs.Whole.{IsWhole, Keeps}
+use Rattle.vol_change.specs.Whole.{Rules3To8, Keeps}
 use Rattle.vol_change.proofs.FreeLists.{cache_free_list, inode_free, truncated_free}
 use Rattle.vol_change.proofs.NewRules.{bare_whole}
 use Rattle.vol_change.proofs.OneNode.{only_file, only_inode, only_then, cache_node, cache_only, cache_keeps, only_makes, only_graph, only_links}
 
 -- a truncation keeps the rules
-pub truncated_whole : (geometry : Geometry) (old new : List ℕ) (i : ℕ) → (whole : IsWhole geometry old)
-    → ((blocks : List ℕ) → IsSoundWith geometry old blocks → Truncates geometry old new i blocks) → IsWhole geometry new
-truncated_whole geometry old new i whole truncates =
-    let done = truncates whole.blocks whole.sound in
-    record { blocks = blocks_of geometry old i ++ whole.blocks; sound = done.sound; covered = done.covered whole.covered }
+pub truncated_whole : (geometry : Geometry) (old new : List ℕ) (i : ℕ) → (rules : Rules3To8 geometry old)
+    → ((blocks : List ℕ) → Rules3To7With geometry old blocks → Truncates geometry old new i blocks) → Rules3To8 geometry new
+truncated_whole geometry old new i rules truncates =
+    let done = truncates rules.blocks rules.sound in
+    record { blocks = blocks_of geometry old i ++ rules.blocks; sound = done.sound; covered = done.covered rules.covered }
 
 -- and changes that file alone
-pub truncated_only : (geometry : Geometry) (old new : List ℕ) (i : ℕ) → (whole : IsWhole geometry old) → 1 ≤ i
-    → ((blocks : List ℕ) → IsSoundWith geometry old blocks → Truncates geometry old new i blocks) → ChangesOnly geometry old new i
-truncated_only geometry old new i whole first truncates =
-    only_file geometry old new i whole.sound.fits (truncates whole.blocks whole.sound).alone first
+pub truncated_only : (geometry : Geometry) (old new : List ℕ) (i : ℕ) → (rules : Rules3To8 geometry old) → 1 ≤ i
+    → ((blocks : List ℕ) → Rules3To7With geometry old blocks → Truncates geometry old new i blocks) → ChangesOnly geometry old new i
+truncated_only geometry old new i rules first truncates =
+    only_file geometry old new i rules.sound.fits (truncates rules.blocks rules.sound).alone first
 
 -- its blocks go back to the free list
-pub truncated_list : (geometry : Geometry) (old new : List ℕ) (i : ℕ) → (whole : IsWhole geometry old) → has_places (kind_at geometry old i) ≡ true
-    → ((blocks : List ℕ) → IsSoundWith geometry old blocks → Truncates geometry old new i blocks)
+pub truncated_list : (geometry : Geometry) (old new : List ℕ) (i : ℕ) → (rules : Rules3To8 geometry old) → has_places (kind_at geometry old i) ≡ true
+    → ((blocks : List ℕ) → Rules3To7With geometry old blocks → Truncates geometry old new i blocks)
     → FreeBecomes geometry old new (λ blocks. blocks_freed geometry old i ++ blocks)
-truncated_list geometry old new i whole file truncates =
+truncated_list geometry old new i rules file truncates =
     subst (λ t. FreeBecomes geometry old new (λ blocks. (if t then blocks_of geometry old i else []) ++ blocks)) (sym file)
-    (truncated_free geometry old new i whole (truncates whole.blocks whole.sound))
+    (truncated_free geometry old new i rules (truncates rules.blocks rules.sound))
 
 -- an i-node has room for its mode
 pub mode_room : (edition : Edition) → 2 ≤ (constants edition).inode_bytes
 mode_room V6 = omega arith
 mode_room V7 = omega arith
 
-module _ (geometry : Geometry) (old new : List ℕ) (i : ℕ) (whole : IsWhole geometry old) (above : (constants geometry.edition).root < i)
+module _ (geometry : Geometry) (old new : List ℕ) (i : ℕ) (rules : Rules3To8 geometry old) (above : (constants geometry.edition).root < i)
     (last : i ≤ geometry.last_inode) (none : (p : List ℕ) → IsPlaceOf geometry old i p → named geometry old i p ≡ 0)
     (zero : (k : ℕ) → inode_place geometry.edition i ≤ k → k < inode_place geometry.edition i + (constants geometry.edition).inode_bytes
     → slice_index new k ≡ 0)
@@ -75,14 +75,14 @@ module _ (geometry : Geometry) (old new : List ℕ) (i : ℕ) (whole : IsWhole g
 
   -- clearing it changes it alone
   pub cleared_only : ChangesOnly geometry old new i
-  cleared_only = only_inode geometry old new i whole (omega (arith, above)) last same
+  cleared_only = only_inode geometry old new i rules (omega (arith, above)) last same
 
   -- and keeps the rules
-  pub cleared_whole : IsWhole geometry new
+  pub cleared_whole : Rules3To8 geometry new
   cleared_whole =
-      let room = place_room geometry old i whole.sound.fits (omega (arith, above)) last in
+      let room = place_room geometry old i rules.sound.fits (omega (arith, above)) last in
       let start = place_from geometry.edition i in
-      bare_whole geometry old new i whole (record {
+      bare_whole geometry old new i rules (record {
         above = above;
         others = cleared_only.others;
         known = λ odd. let clash : kinds.Free ≡ kinds.Odd = sym cleared_kind ∙ odd in cc;
@@ -121,7 +121,7 @@ given_inside edition old new i cached full =
 pub record FreesNode (geometry : Geometry) (old mid low new : List ℕ) (i : ℕ) : Type 0 where
   pub above : (constants geometry.edition).root < i
   pub last : i ≤ geometry.last_inode
-  pub whole : IsWhole geometry mid
+  pub rules : Rules3To8 geometry mid
   pub only : ChangesOnly geometry old mid i
   pub none : (p : List ℕ) → IsPlaceOf geometry mid i p → named geometry mid i p ≡ 0
   pub zero : (k : ℕ) → inode_place geometry.edition i ≤ k → k < inode_place geometry.edition i + (constants geometry.edition).inode_bytes
@@ -133,33 +133,33 @@ module _ (geometry : Geometry) (old mid low new : List ℕ) (i : ℕ) (frees : F
   first : 1 ≤ i
   first = omega (arith, frees.above)
 
-  low_whole : IsWhole geometry low
-  low_whole = cleared_whole geometry mid low i frees.whole frees.above frees.last frees.none frees.zero frees.cleared
+  low_whole : Rules3To8 geometry low
+  low_whole = cleared_whole geometry mid low i frees.rules frees.above frees.last frees.none frees.zero frees.cleared
 
   -- nothing else changes
   pub freed_only : ChangesOnly geometry old new i
   freed_only =
       only_then geometry old mid new i frees.only
-      (only_then geometry mid low new i (cleared_only geometry mid low i frees.whole frees.above frees.last frees.none frees.zero frees.cleared)
+      (only_then geometry mid low new i (cleared_only geometry mid low i frees.rules frees.above frees.last frees.none frees.zero frees.cleared)
       (cache_only geometry low new low_whole frees.given i))
 
   -- the i-node is free
   freed_mode : mode_of geometry new i ≡ 0
   freed_mode =
       (cache_node geometry low new low_whole frees.given i).content.mode
-      ∙ cleared_mode geometry mid low i frees.whole frees.above frees.last frees.none frees.zero frees.cleared
+      ∙ cleared_mode geometry mid low i frees.rules frees.above frees.last frees.none frees.zero frees.cleared
 
   freed_kind : kind_at geometry new i ≡ kinds.Free
   freed_kind = ap (kind_of geometry.edition) freed_mode ∙ kind_zero geometry.edition
 
   -- the rules hold, and what no call changes stays
   pub freed_keeps : Keeps geometry old new
-  freed_keeps = record { whole = (cache_keeps geometry low new low_whole frees.given).whole; around = freed_only.around }
+  freed_keeps = record { rules = (cache_keeps geometry low new low_whole frees.given).rules; around = freed_only.around }
 
   -- the free list stays once the blocks are given back
   pub freed_list : FreeBecomes geometry mid new as_before
   freed_list blocks free =
-      cache_free_list geometry low new low_whole frees.given blocks (inode_free geometry mid low i frees.whole first frees.last frees.cleared blocks free)
+      cache_free_list geometry low new low_whole frees.given blocks (inode_free geometry mid low i frees.rules first frees.last frees.cleared blocks free)
 
   -- it is the edit that removes the node
   pub freed_makes : state geometry new ≡ remove_node i (state geometry old)

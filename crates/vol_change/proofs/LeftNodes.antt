@@ -24,7 +24,7 @@ use Rattle.vol_change.specs.Nodes.{node_at, names_at, number_of_name}
 use Rattle.vol_change.specs.Whole.{Keeps}
 use Rattle.vol_change.proofs.WholeLaws.{keeps_then}
 use Rattle.vol_change.specs.Effects.{after_unlink, after_rmdir}
-use Rattle.vol_change.specs.Ready.{IsReady}
+use Rattle.vol_change.specs.Ready.{Rules1To12}
 use Rattle.vol_change.proofs.CallSteps.{HasMade}
 use Rattle.vol_change.proofs.EntryNodes.{name_found, named_used, used_first, dots_only, directory_linked}
 use Rattle.vol_change.proofs.LeftGraphs.{LeavesSlot, other_directory, left_name, left_file, left_directory}
@@ -33,7 +33,7 @@ use Rattle.vol_change.proofs.ReadyLaws.{ready_graph}
 
 -- the entry of a name, which i-number i has, goes from directory d of a sound image
 pub record LeavesEntry (geometry : Geometry) (old mid : List ℕ) (d i : ℕ) (name : List ℕ) (now : ℕ) : Type 0 where
-  pub ready : IsReady geometry old
+  pub ready : Rules1To12 geometry old
   pub directory : IsDirectory geometry old d
   pub named : get (names_at (tree geometry old) d) name ≡ Some i
   pub keeps : Keeps geometry old mid
@@ -118,7 +118,7 @@ left_links : (geometry : Geometry) (old mid : List ℕ) (d i : ℕ) (name : List
     → (node_at (tree geometry mid) i).links ≡ (inode_of geometry.edition mid i).links
 left_links geometry old mid d i name now leaves =
     let used = named_used geometry old name d i leaves.ready leaves.directory leaves.named in
-    links_is geometry mid i leaves.keeps.whole.sound.kinds (used_first geometry old i used) used.last (left_used geometry old mid d i name now leaves)
+    links_is geometry mid i leaves.keeps.rules.sound.kinds (used_first geometry old i used) used.last (left_used geometry old mid d i name now leaves)
 
 -- the node that is released is the one that is named
 released : (geometry : Geometry) (old mid : List ℕ) (d i : ℕ) (name : List ℕ) (now : ℕ) → LeavesEntry geometry old mid d i name now

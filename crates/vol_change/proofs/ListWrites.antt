@@ -25,7 +25,7 @@ use Rattle.vol_judge.proofs.ImageGraphs.{directory_from, inside_from}
 use Rattle.vol_change.specs.Edits.{at_time, change_node}
 use Rattle.vol_change.specs.NodeGraphs.{SetsLinks}
 use Rattle.vol_change.specs.Alone.{KeepsContent}
-use Rattle.vol_change.specs.Whole.{IsWhole, Keeps}
+use Rattle.vol_change.specs.Whole.{Rules3To8, Keeps}
 use Rattle.vol_change.proofs.Contents.{kind_same, entry_same, shape_same, node_same, node_of_content}
 use Rattle.vol_dir.proofs.WalkLaws.{node_inside}
 use Rattle.vol_change.proofs.States.{makes_node, makes_time}
@@ -78,52 +78,52 @@ time_inode geometry old new j same =
     (constants geometry.edition).inode_bytes same (omega (arith, order, start))
 
 -- and what it stands for
-pub time_content : (geometry : Geometry) (old new : List ℕ) (j : ℕ) → IsWhole geometry old
+pub time_content : (geometry : Geometry) (old new : List ℕ) (j : ℕ) → Rules3To8 geometry old
     → SameOutside old new (time_place geometry.edition) (time_place geometry.edition + 4) → KeepsContent geometry old new j
-time_content geometry old new j whole same =
+time_content geometry old new j rules same =
     let order = super_order geometry.edition in
-    let behind = zone_behind geometry old whole.sound.fits in
-    content_kept geometry old new (time_place geometry.edition) (time_place geometry.edition + 4) j whole.sound.zoned same (omega (arith, order, behind))
+    let behind = zone_behind geometry old rules.sound.fits in
+    content_kept geometry old new (time_place geometry.edition) (time_place geometry.edition + 4) j rules.sound.zoned same (omega (arith, order, behind))
     (time_inode geometry old new j same)
 
 -- a write of the time keeps the rules and what no call changes
-pub time_keeps : (geometry : Geometry) (old new : List ℕ) → IsWhole geometry old
+pub time_keeps : (geometry : Geometry) (old new : List ℕ) → Rules3To8 geometry old
     → SameOutside old new (time_place geometry.edition) (time_place geometry.edition + 4) → Keeps geometry old new
-time_keeps geometry old new whole same =
+time_keeps geometry old new rules same =
     let order = super_order geometry.edition in
-    let behind = zone_behind geometry old whole.sound.fits in
+    let behind = zone_behind geometry old rules.sound.fits in
     record {
-      whole = whole_kept geometry old new same.len (λ j first last. time_content geometry old new j whole same)
+      rules = whole_kept geometry old new same.len (λ j first last. time_content geometry old new j rules same)
           (λ j first last used.
-          rw (inode_of_kept geometry old new j (time_inode geometry old new j same)) (whole.sound.sizes.links j first last used))
-          (λ blocks free. IsFree-before_zone same (omega (arith, order)) (omega (arith, order, behind)) free) whole;
+          rw (inode_of_kept geometry old new j (time_inode geometry old new j same)) (rules.sound.sizes.links j first last used))
+          (λ blocks free. IsFree-before_zone same (omega (arith, order)) (omega (arith, order, behind)) free) rules;
       around = record {
         len = same.len;
         before = λ k h. same.below k (omega (arith, order));
         flags = λ k a b. same.below k b;
         rest = λ k a b. same.above k a;
-        behind = λ k h. same.above k (omega (arith, order, behind, whole.sound.fits.zone));
+        behind = λ k h. same.above k (omega (arith, order, behind, rules.sound.fits.zone));
       };
     }
 
 -- and is the edit of the time
-pub time_makes : (geometry : Geometry) (old new : List ℕ) (now : ℕ) → IsWhole geometry old
+pub time_makes : (geometry : Geometry) (old new : List ℕ) (now : ℕ) → Rules3To8 geometry old
     → SameOutside old new (time_place geometry.edition) (time_place geometry.edition + 4) → long new (time_place geometry.edition) ≡ now
     → state geometry new ≡ at_time now (state geometry old)
-time_makes geometry old new now whole same time =
+time_makes geometry old new now rules same time =
     makes_time geometry old new now time
     (λ j first last.
-    let kept = time_content geometry old new j whole same in (
+    let kept = time_content geometry old new j rules same in (
       node_same geometry old new j kept first last (inode_of_kept geometry old new j (time_inode geometry old new j same)),
       shape_same geometry old new j kept first last,
     ))
 
 -- and leaves the graph
-pub time_graph : (geometry : Geometry) (old new : List ℕ) → IsWhole geometry old
+pub time_graph : (geometry : Geometry) (old new : List ℕ) → Rules3To8 geometry old
     → SameOutside old new (time_place geometry.edition) (time_place geometry.edition + 4)
     → IsSameGraph (graph_of geometry old) (graph_of geometry new)
-time_graph geometry old new whole same =
-    let kept = λ (j : ℕ). time_content geometry old new j whole same in
+time_graph geometry old new rules same =
+    let kept = λ (j : ℕ). time_content geometry old new j rules same in
     same_graph geometry old new (λ x first last. kind_same geometry old new x (kept x))
     (λ x first last. ap (λ node. node.links) (inode_of_kept geometry old new x (time_inode geometry old new x same)))
     (λ x is. (kept x).size) (λ x t is. entries_stay geometry old new x t (λ j first last. kept j) is)
@@ -139,19 +139,19 @@ pub record PutsInode (geometry : Geometry) (old new : List ℕ) (i : ℕ) (node 
   pub addresses : node.addresses ≡ (inode_of geometry.edition old i).addresses
 
 -- then every i-node stands for what it did
-pub put_content : (geometry : Geometry) (old new : List ℕ) (i j : ℕ) (node : Inode) → IsWhole geometry old → PutsInode geometry old new i node
+pub put_content : (geometry : Geometry) (old new : List ℕ) (i j : ℕ) (node : Inode) → Rules3To8 geometry old → PutsInode geometry old new i node
     → 1 ≤ j → j ≤ geometry.last_inode → KeepsContent geometry old new j
-put_content geometry old new i j node whole puts first last =
-    let room = place_room geometry old i whole.sound.fits puts.first puts.last in
+put_content geometry old new i j node rules puts first last =
+    let room = place_room geometry old i rules.sound.fits puts.first puts.last in
     let from = inode_place geometry.edition i in
     let to = inode_place geometry.edition i + (constants geometry.edition).inode_bytes in
     elim (cases_eq j i) [
       | inl e ↦
-          rw e (content_fields geometry old new from to i whole.sound.zoned puts.same room
+          rw e (content_fields geometry old new from to i rules.sound.zoned puts.same room
           (sym (inode_mode geometry.edition new from) ∙ (ap (λ n. n.mode.bits) puts.is ∙ (ap (λ m. m.bits) puts.mode ∙ inode_mode geometry.edition old from)))
           (sym (inode_size geometry.edition new from) ∙ (ap (λ n. n.size) puts.is ∙ (puts.size ∙ inode_size geometry.edition old from)))
           (ap (λ n. n.addresses) puts.is ∙ puts.addresses))
-      | inr other ↦ content_kept geometry old new from to j whole.sound.zoned puts.same room (inode_apart geometry old new i j puts.first first other puts.same)
+      | inr other ↦ content_kept geometry old new from to j rules.sound.zoned puts.same room (inode_apart geometry old new i j puts.first first other puts.same)
     ]
 
 -- the others stay themselves
@@ -172,20 +172,20 @@ put_time geometry old new i node puts =
     (omega arith) (omega arith) (omega arith)
 
 -- such a put keeps the rules and what no call changes, where the links are within the limit
-pub put_keeps : (geometry : Geometry) (old new : List ℕ) (i : ℕ) (node : Inode) → IsWhole geometry old → PutsInode geometry old new i node
+pub put_keeps : (geometry : Geometry) (old new : List ℕ) (i : ℕ) (node : Inode) → Rules3To8 geometry old → PutsInode geometry old new i node
     → node.links ≤ (constants geometry.edition).link_limit → Keeps geometry old new
-put_keeps geometry old new i node whole puts limit =
-    let room = place_room geometry old i whole.sound.fits puts.first puts.last in
+put_keeps geometry old new i node rules puts limit =
+    let room = place_room geometry old i rules.sound.fits puts.first puts.last in
     let start = place_from geometry.edition i in
     record {
-      whole = whole_kept geometry old new puts.same.len (λ j first last. put_content geometry old new i j node whole puts first last)
+      rules = whole_kept geometry old new puts.same.len (λ j first last. put_content geometry old new i j node rules puts first last)
           (λ j first last used. elim (cases_eq j i) [
             | inl e ↦ rw e (rw puts.is limit)
-            | inr other ↦ rw (put_other geometry old new i j node puts first other) (whole.sound.sizes.links j first last used)
+            | inr other ↦ rw (put_other geometry old new i j node puts first other) (rules.sound.sizes.links j first last used)
           ])
-          (λ blocks free. IsFree-before_zone puts.same (omega (arith, start)) room free) whole;
+          (λ blocks free. IsFree-before_zone puts.same (omega (arith, start)) room free) rules;
       around = around_list geometry old new (inode_place geometry.edition i) (inode_place geometry.edition i + (constants geometry.edition).inode_bytes)
-          whole.sound.fits puts.same start room;
+          rules.sound.fits puts.same start room;
     }
 
 -- a node with another i-node, whatever it holds
@@ -196,12 +196,12 @@ node_put change was node None each = refl
 node_put change was node (Some c) each = ap (λ n. Some n) (each c)
 
 -- and is the edit that changes node i as the i-node's links and times do
-pub put_makes : (geometry : Geometry) (old new : List ℕ) (i : ℕ) (node : Inode) (change : Node → Node) → IsWhole geometry old
+pub put_makes : (geometry : Geometry) (old new : List ℕ) (i : ℕ) (node : Inode) (change : Node → Node) → Rules3To8 geometry old
     → PutsInode geometry old new i node → ((c : Content) → node_with node c ≡ change (node_with (inode_of geometry.edition old i) c))
     → state geometry new ≡ change_node i change (state geometry old)
 unfolding node_of
-put_makes geometry old new i node change whole puts each =
-    let kept = λ (j : ℕ) (first : 1 ≤ j) (last : j ≤ geometry.last_inode). put_content geometry old new i j node whole puts first last in
+put_makes geometry old new i node change rules puts each =
+    let kept = λ (j : ℕ) (first : 1 ≤ j) (last : j ≤ geometry.last_inode). put_content geometry old new i j node rules puts first last in
     makes_node geometry old new i (option_map change ((state geometry old).tree.nodes i)) (record {
       first = puts.first;
       last = puts.last;
@@ -218,10 +218,10 @@ put_makes geometry old new i node change whole puts each =
     })
 
 -- and leaves the graph but for the links of i
-pub put_graph : (geometry : Geometry) (old new : List ℕ) (i : ℕ) (node : Inode) → IsWhole geometry old → PutsInode geometry old new i node
+pub put_graph : (geometry : Geometry) (old new : List ℕ) (i : ℕ) (node : Inode) → Rules3To8 geometry old → PutsInode geometry old new i node
     → SetsLinks (graph_of geometry old) (graph_of geometry new) i node.links
-put_graph geometry old new i node whole puts =
-    let kept = λ (j : ℕ) (first : 1 ≤ j) (last : j ≤ geometry.last_inode). put_content geometry old new i j node whole puts first last in
+put_graph geometry old new i node rules puts =
+    let kept = λ (j : ℕ) (first : 1 ≤ j) (last : j ≤ geometry.last_inode). put_content geometry old new i j node rules puts first last in
     let kind = λ (x : ℕ). kind_kept geometry old new x (λ first last. kind_same geometry old new x (kept x first last)) in
     record {
       kind = kind;
@@ -234,10 +234,10 @@ put_graph geometry old new i node whole puts =
     }
 
 -- where the links stay too, the graph is the same
-pub put_same : (geometry : Geometry) (old new : List ℕ) (i : ℕ) (node : Inode) → IsWhole geometry old → PutsInode geometry old new i node
+pub put_same : (geometry : Geometry) (old new : List ℕ) (i : ℕ) (node : Inode) → Rules3To8 geometry old → PutsInode geometry old new i node
     → node.links ≡ (inode_of geometry.edition old i).links → IsSameGraph (graph_of geometry old) (graph_of geometry new)
-put_same geometry old new i node whole puts links =
-    let sets = put_graph geometry old new i node whole puts in
+put_same geometry old new i node rules puts links =
+    let sets = put_graph geometry old new i node rules puts in
     record {
       kind = sets.kind;
       links = λ x used. elim (cases_eq x i) [

@@ -33,7 +33,7 @@ use Rattle.vol_change.specs.Edits.{put_node, put_shape}
 use Rattle.vol_change.specs.Inodes.{MakesInode}
 use Rattle.vol_change.specs.NodeGraphs.{AddsNode}
 use Rattle.vol_change.specs.Unused.{KeepsUnused}
-use Rattle.vol_change.specs.Whole.{IsWhole, Keeps}
+use Rattle.vol_change.specs.Whole.{Rules3To8, Keeps}
 use Rattle.vol_dir.proofs.PlaceTests.{place_passed}
 use Rattle.vol_change.proofs.FreeLists.{inode_free}
 use Rattle.vol_change.proofs.UnusedBytes.{other_unused}
@@ -44,7 +44,7 @@ use Rattle.vol_change.proofs.OneNode.{only_inode, only_makes, only_graph, only_l
 odd_none : (kind : Kind) → has_places kind ≡ true → kind ≢ kinds.Odd
 odd_none kind file odd = false≢true (sym (ap has_places odd) ∙ file)
 
-module _ (geometry : Geometry) (old new : List ℕ) (i : ℕ) (node : Inode) (whole : IsWhole geometry old) (makes : MakesInode geometry old new i node) where
+module _ (geometry : Geometry) (old new : List ℕ) (i : ℕ) (node : Inode) (rules : Rules3To8 geometry old) (makes : MakesInode geometry old new i node) where
   -- i is an i-number
   first : 1 ≤ i
   first = omega (arith, makes.above)
@@ -65,14 +65,14 @@ module _ (geometry : Geometry) (old new : List ℕ) (i : ℕ) (node : Inode) (wh
 
   -- nothing else changes
   pub made_only : ChangesOnly geometry old new i
-  made_only = only_inode geometry old new i whole first makes.last makes.same
+  made_only = only_inode geometry old new i rules first makes.last makes.same
 
   -- its places name nothing
   named_new : (p : List ℕ) → IsPlaceOf geometry new i p → named geometry new i p ≡ 0
   named_new p place =
       let base = front_first (form_at geometry new i) p place.place in
       let few : first_count (form_at geometry new i) ≤ 13 = addresses_of geometry.edition (mode_of geometry new i) in
-      front_zero geometry new i (base.0 ∷ []) p (fits_len geometry old new makes.same.len whole.sound.fits)
+      front_zero geometry new i (base.0 ∷ []) p (fits_len geometry old new makes.same.len rules.sound.fits)
       (sym (inode_address geometry.edition new (inode_place geometry.edition i) base.0 (omega (arith, base.1, few)))
       ∙ (ap (λ n. get_or n.addresses base.0 0) makes.is ∙ makes.empty base.0))
       base.2
@@ -84,10 +84,10 @@ module _ (geometry : Geometry) (old new : List ℕ) (i : ℕ) (node : Inode) (wh
   -- the rules hold, and what no call changes stays
   pub made_keeps : Keeps geometry old new
   made_keeps =
-      let room = place_room geometry old i whole.sound.fits first makes.last in
+      let room = place_room geometry old i rules.sound.fits first makes.last in
       let start = place_from geometry.edition i in
       record {
-        whole = bare_whole geometry old new i whole (record {
+        rules = bare_whole geometry old new i rules (record {
           above = makes.above;
           others = made_only.others;
           known = λ odd. odd_none (kind_of geometry.edition node.mode.bits) makes.file (sym kind_new ∙ odd);
@@ -101,7 +101,7 @@ module _ (geometry : Geometry) (old new : List ℕ) (i : ℕ) (node : Inode) (wh
 
   -- the free list stays
   pub made_free : FreeBecomes geometry old new as_before
-  made_free = inode_free geometry old new i whole first makes.last makes.same
+  made_free = inode_free geometry old new i rules first makes.last makes.same
 
   -- and what isn't used of the other i-nodes
   pub made_unused : (j : ℕ) → 1 ≤ j → j ≢ i → KeepsUnused geometry old new j

@@ -18,7 +18,7 @@ use Rattle.vol_change.specs.Beside.{StaysBeside}
 use Rattle.vol_change.specs.NodeGraphs.{SetsLinks, AddsNode}
 use Rattle.vol_change.specs.Whole.{Keeps}
 use Rattle.vol_change.proofs.EntryStates.{names_is}
-use Rattle.vol_change.specs.Ready.{IsReady, TakesName}
+use Rattle.vol_change.specs.Ready.{Rules1To12, TakesName}
 use Rattle.vol_change.proofs.ReadyLaws.{ready_graph, ready_from}
 use Rattle.vol_change.proofs.SideStates.{KeepsDirectory}
 
@@ -108,9 +108,9 @@ new_name geometry image d name is takes component =
     }
 
 -- an image in which a directory took a name stays sound, where its graph does
-pub named_ready : (geometry : Geometry) (old new : List ℕ) (d : ℕ) (name : List ℕ) → IsReady geometry old → IsDirectory geometry old d
+pub named_ready : (geometry : Geometry) (old new : List ℕ) (d : ℕ) (name : List ℕ) → Rules1To12 geometry old → IsDirectory geometry old d
     → TakesName (state geometry old) d name → IsComponent name → Keeps geometry old new
     → (IsGraphSound (graph_of geometry old) (root_of geometry) geometry.last_inode → IsNewName (graph_of geometry old) d name
-    → IsGraphSound (graph_of geometry new) (root_of geometry) geometry.last_inode) → IsReady geometry new
+    → IsGraphSound (graph_of geometry new) (root_of geometry) geometry.last_inode) → Rules1To12 geometry new
 named_ready geometry old new d name ready is takes component keeps sound =
     ready_from geometry old new ready keeps (sound (ready_graph geometry old ready) (new_name geometry old d name is takes component))

@@ -11,7 +11,7 @@ use Rattle.vol_free.specs.Stack.{IsFree}
 use Rattle.vol_file.specs.Rules.{size_of, kind_at, HasKinds, HasSizes}
 use Rattle.vol_file.proofs.Naming.{root_within}
 use Rattle.vol_change.specs.Alone.{KeepsNode}
-use Rattle.vol_change.specs.Whole.{IsWhole}
+use Rattle.vol_change.specs.Whole.{Rules3To8}
 use Rattle.vol_change.proofs.Contents.{kind_same}
 use Rattle.vol_file.proofs.Naming.{place_same}
 use Rattle.vol_change.proofs.WholeLaws.{SameNames, whole_names}
@@ -26,7 +26,7 @@ pub record ChangesBare (geometry : Geometry) (old new : List ℕ) (i : ℕ) : Ty
   pub before : (p : List ℕ) → IsPlaceOf geometry old i p → named geometry old i p ≡ 0
   pub after : (p : List ℕ) → IsPlaceOf geometry new i p → named geometry new i p ≡ 0
 
-module _ (geometry : Geometry) (old new : List ℕ) (i : ℕ) (whole : IsWhole geometry old) (changes : ChangesBare geometry old new i) where
+module _ (geometry : Geometry) (old new : List ℕ) (i : ℕ) (rules : Rules3To8 geometry old) (changes : ChangesBare geometry old new i) where
   -- the other kinds stay
   kind_other : (j : ℕ) → 1 ≤ j → j ≤ geometry.last_inode → j ≢ i → kind_at geometry new j ≡ kind_at geometry old j
   kind_other j first last other = kind_same geometry old new j (changes.others j first last other).content
@@ -34,16 +34,16 @@ module _ (geometry : Geometry) (old new : List ℕ) (i : ℕ) (whole : IsWhole g
   -- rule 3
   kinds_new : HasKinds geometry new
   kinds_new =
-      let root = root_within geometry old whole.sound.fits in
+      let root = root_within geometry old rules.sound.fits in
       let one : kind_at geometry new 1 ≡ kind_at geometry old 1 =
       kind_other 1 (omega arith) (omega (arith, root)) (λ e. omega (arith, root, changes.above, e)) in
       record {
         known = λ j first last odd. elim (cases_eq j i) [
           | inl e ↦ changes.known (ap (kind_at geometry new) (sym e) ∙ odd)
-          | inr other ↦ whole.sound.kinds.known j first last (sym (kind_other j first last other) ∙ odd)
+          | inr other ↦ rules.sound.kinds.known j first last (sym (kind_other j first last other) ∙ odd)
         ];
-        root = kind_other (constants geometry.edition).root root.0 root.1 (λ e. omega (arith, changes.above, e)) ∙ whole.sound.kinds.root;
-        bad_blocks = λ v7. elim (whole.sound.kinds.bad_blocks v7) [ inl free ↦ inl (one ∙ free) | inr regular ↦ inr (one ∙ regular) ];
+        root = kind_other (constants geometry.edition).root root.0 root.1 (λ e. omega (arith, changes.above, e)) ∙ rules.sound.kinds.root;
+        bad_blocks = λ v7. elim (rules.sound.kinds.bad_blocks v7) [ inl free ↦ inl (one ∙ free) | inr regular ↦ inr (one ∙ regular) ];
       }
 
   -- another file was one before
@@ -63,7 +63,7 @@ module _ (geometry : Geometry) (old new : List ℕ) (i : ℕ) (whole : IsWhole g
           omega (arith, zero)
       | inr other ↦
           subst (λ n. n ≤ (constants geometry.edition).greatest) (sym (changes.others j file.first file.last other).content.size)
-          (whole.sound.sizes.greatest j (file_before j other file))
+          (rules.sound.sizes.greatest j (file_before j other file))
     ];
     small = λ j file small. elim (cases_eq j i) [
       | inl e ↦
@@ -72,13 +72,13 @@ module _ (geometry : Geometry) (old new : List ℕ) (i : ℕ) (whole : IsWhole g
       | inr other ↦
           let kept = (changes.others j file.first file.last other).content in
           subst (λ n. n ≤ 4096) (sym kept.size)
-          (whole.sound.sizes.small j (file_before j other file) (sym (ap (form_of geometry.edition) kept.mode) ∙ small))
+          (rules.sound.sizes.small j (file_before j other file) (sym (ap (form_of geometry.edition) kept.mode) ∙ small))
     ];
     links = λ j first last used. elim (cases_eq j i) [
       | inl e ↦ rw e (changes.links (λ free. used (ap (kind_at geometry new) e ∙ free)))
       | inr other ↦
           subst (λ node. node.links ≤ (constants geometry.edition).link_limit) (sym (changes.others j first last other).inode)
-          (whole.sound.sizes.links j first last (λ free. used (kind_other j first last other ∙ free)))
+          (rules.sound.sizes.links j first last (λ free. used (kind_other j first last other ∙ free)))
     ];
   }
 
@@ -103,5 +103,5 @@ module _ (geometry : Geometry) (old new : List ℕ) (i : ℕ) (whole : IsWhole g
   }
 
   -- the image is whole
-  pub bare_whole : length new ≡ length old → ((blocks : List ℕ) → IsFree geometry old blocks → IsFree geometry new blocks) → IsWhole geometry new
-  bare_whole len free = whole_names geometry old new len names_new free kinds_new sizes_new whole
+  pub bare_whole : length new ≡ length old → ((blocks : List ℕ) → IsFree geometry old blocks → IsFree geometry new blocks) → Rules3To8 geometry new
+  bare_whole len free = whole_names geometry old new len names_new free kinds_new sizes_new rules

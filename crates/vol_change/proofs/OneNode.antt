@@ -28,7 +28,7 @@ use Rattle.vol_layout.specs.Body.{body}
 use Rattle.vol_change.specs.Changed.{PutsInBody}
 use Rattle.vol_change.specs.Alone.{KeepsContent, KeepsNode, ChangesOnly}
 use Rattle.vol_change.specs.Edits.{put_node, put_shape}
-use Rattle.vol_change.specs.Whole.{IsWhole, Keeps, StaysAround}
+use Rattle.vol_change.specs.Whole.{Rules3To8, Keeps, StaysAround}
 use Rattle.vol_change.proofs.Contents.{kind_same, entry_same, shape_same, node_same}
 use Rattle.vol_change.proofs.ListWrites.{content_kept}
 use Rattle.vol_change.proofs.States.{shape_at, makes_both, makes_time}
@@ -98,22 +98,22 @@ only_then geometry old mid new i a b = record {
 }
 
 -- a write of i-node i alone
-pub only_inode : (geometry : Geometry) (old new : List ℕ) (i : ℕ) → IsWhole geometry old → 1 ≤ i → i ≤ geometry.last_inode
+pub only_inode : (geometry : Geometry) (old new : List ℕ) (i : ℕ) → Rules3To8 geometry old → 1 ≤ i → i ≤ geometry.last_inode
     → SameOutside old new (inode_place geometry.edition i) (inode_place geometry.edition i + (constants geometry.edition).inode_bytes)
     → ChangesOnly geometry old new i
-only_inode geometry old new i whole first last same =
+only_inode geometry old new i rules first last same =
     let from = inode_place geometry.edition i in
     let to = inode_place geometry.edition i + (constants geometry.edition).inode_bytes in
-    let room = place_room geometry old i whole.sound.fits first last in
+    let room = place_room geometry old i rules.sound.fits first last in
     let start = place_from geometry.edition i in
     let order = super_order geometry.edition in
     record {
-      around = around_list geometry old new from to whole.sound.fits same start room;
+      around = around_list geometry old new from to rules.sound.fits same start room;
       time = long_copied old new (time_place geometry.edition) (time_place geometry.edition) 4 0 (time_place geometry.edition) (time_place geometry.edition)
           (copy_below old new from to (time_place geometry.edition) 4 same (omega (arith, start, order))) (omega arith) (omega arith) (omega arith);
       others = λ j low high other.
           let kept = inode_apart geometry old new i j first low other same in
-          record { content = content_kept geometry old new from to j whole.sound.zoned same room kept; inode = inode_of_kept geometry old new j kept };
+          record { content = content_kept geometry old new from to j rules.sound.zoned same room kept; inode = inode_of_kept geometry old new j kept };
     }
 
 -- the bytes of another i-node stay where a file is changed
@@ -203,7 +203,7 @@ only_links geometry old new i x only other used =
     let inside = inside_from geometry old x used in
     ap (λ node. node.links) (only.others x inside.0 inside.1 other).inode
 
-module _ (geometry : Geometry) (old new : List ℕ) (whole : IsWhole geometry old)
+module _ (geometry : Geometry) (old new : List ℕ) (rules : Rules3To8 geometry old)
     (same : SameOutside old new (cache_head geometry.edition) (cache_head geometry.edition + 202)) where
   -- the cache stands before the i-nodes and the time, and behind the free list
   cache_order : (free_head geometry.edition + 202 ≡ cache_head geometry.edition) × (cache_head geometry.edition + 202 ≤ time_place geometry.edition)
@@ -214,25 +214,25 @@ module _ (geometry : Geometry) (old new : List ℕ) (whole : IsWhole geometry ol
   pub cache_node : (j : ℕ) → KeepsNode geometry old new j
   cache_node j =
       let start = place_from geometry.edition j in
-      let behind = zone_behind geometry old whole.sound.fits in
+      let behind = zone_behind geometry old rules.sound.fits in
       let kept = copy_above old new (cache_head geometry.edition) (cache_head geometry.edition + 202) (inode_place geometry.edition j)
       (constants geometry.edition).inode_bytes same (omega (arith, start, cache_order)) in
       record {
-        content = content_kept geometry old new (cache_head geometry.edition) (cache_head geometry.edition + 202) j whole.sound.zoned same (omega (arith, behind, cache_order)) kept;
+        content = content_kept geometry old new (cache_head geometry.edition) (cache_head geometry.edition + 202) j rules.sound.zoned same (omega (arith, behind, cache_order)) kept;
         inode = inode_of_kept geometry old new j kept;
       }
 
   -- and what no call changes, and the time
   pub cache_only : (i : ℕ) → ChangesOnly geometry old new i
   cache_only i =
-      let behind = zone_behind geometry old whole.sound.fits in
+      let behind = zone_behind geometry old rules.sound.fits in
       record {
         around = record {
           len = same.len;
           before = λ k h. same.below k (omega (arith, cache_order));
           flags = λ k a b. same.above k (omega (arith, cache_order));
           rest = λ k a b. same.above k (omega (arith, cache_order));
-          behind = λ k h. same.above k (omega (arith, cache_order, behind, whole.sound.fits.zone));
+          behind = λ k h. same.above k (omega (arith, cache_order, behind, rules.sound.fits.zone));
         };
         time = long_copied old new (time_place geometry.edition) (time_place geometry.edition) 4 0 (time_place geometry.edition) (time_place geometry.edition)
             (copy_above old new (cache_head geometry.edition) (cache_head geometry.edition + 202) (time_place geometry.edition) 4 same (omega (arith, cache_order)))
@@ -243,11 +243,11 @@ module _ (geometry : Geometry) (old new : List ℕ) (whole : IsWhole geometry ol
   -- and the rules
   pub cache_keeps : Keeps geometry old new
   cache_keeps =
-      let behind = zone_behind geometry old whole.sound.fits in
+      let behind = zone_behind geometry old rules.sound.fits in
       record {
-        whole = whole_kept geometry old new same.len (λ j first last. (cache_node j).content)
-            (λ j first last used. rw (cache_node j).inode (whole.sound.sizes.links j first last used))
-            (λ blocks free. IsFree-behind same (omega (arith, cache_order)) (λ b is. inr (omega (arith, free_from free b is, behind, cache_order))) free) whole;
+        rules = whole_kept geometry old new same.len (λ j first last. (cache_node j).content)
+            (λ j first last used. rw (cache_node j).inode (rules.sound.sizes.links j first last used))
+            (λ blocks free. IsFree-behind same (omega (arith, cache_order)) (λ b is. inr (omega (arith, free_from free b is, behind, cache_order))) free) rules;
         around = (cache_only 0).around;
       }
 

@@ -24,7 +24,7 @@ use Rattle.vol_dir.specs.Tree.{Shape, no_shape, form_in, place_count, free_count
 use Rattle.vol_judge.proofs.GraphCounts.{sum_but, sum_same}
 use Rattle.vol_change.specs.Edits.{set_at}
 use Rattle.vol_change.specs.Shapes.{need_in, stored_shape, entry_blocks, shape_with_entry, shape_without_entry, new_directory_shape}
-use Rattle.vol_change.specs.Whole.{IsWhole}
+use Rattle.vol_change.specs.Whole.{Rules3To8}
 use Rattle.vol_change.proofs.FreeCounts.{used_within}
 
 -- one more in a count
@@ -236,8 +236,8 @@ abbrev pub used_count : Geometry → (ℕ → Shape) → ℕ
 used_count geometry shapes = sum_by (λ i. place_count geometry.edition (shapes i)) (range_with_len 1 geometry.last_inode)
 
 -- in a sound image they are no more than there are data blocks
-pub sum_within : (geometry : Geometry) (image : List ℕ) → IsWhole geometry image → used_count geometry (shapes geometry image) ≤ geometry.zone_end - geometry.zone_start
-sum_within geometry image whole = used_within geometry image whole.blocks whole.sound
+pub sum_within : (geometry : Geometry) (image : List ℕ) → Rules3To8 geometry image → used_count geometry (shapes geometry image) ≤ geometry.zone_end - geometry.zone_start
+sum_within geometry image rules = used_within geometry image rules.blocks rules.sound
 
 -- how many blocks files have where one of them has another shape
 pub used_with : (geometry : Geometry) (shapes : ℕ → Shape) (i : ℕ) (shape : Shape) → 1 ≤ i → i ≤ geometry.last_inode
@@ -316,13 +316,13 @@ none_outside geometry image i outside =
     ∙ none_count geometry.edition
 
 -- in a sound image, whatever loses its places gives its blocks to the free ones
-pub free_gone : (geometry : Geometry) (image : List ℕ) (i : ℕ) → IsWhole geometry image
+pub free_gone : (geometry : Geometry) (image : List ℕ) (i : ℕ) → Rules3To8 geometry image
     → free_count geometry (set_at (shapes geometry image) i no_shape)
     ≡ free_count geometry (shapes geometry image) + place_count geometry.edition (shapes geometry image i)
-free_gone geometry image i whole = elim (cases_Bool (is_number geometry i)) [
+free_gone geometry image i rules = elim (cases_Bool (is_number geometry i)) [
   | inl inside ↦
       let range = and_parts _ _ inside in
-      free_all geometry (shapes geometry image) i (leb-true 1 i range.0) (leb-true i geometry.last_inode range.1) (sum_within geometry image whole)
+      free_all geometry (shapes geometry image) i (leb-true 1 i range.0) (leb-true i geometry.last_inode range.1) (sum_within geometry image rules)
   | inr outside ↦
       let none : place_count geometry.edition (shapes geometry image i) ≡ 0 = none_outside geometry image i outside in
       let empty : place_count geometry.edition no_shape ≡ 0 = none_count geometry.edition in

@@ -16,41 +16,41 @@ use Rattle.vol_judge.proofs.GraphParts.{same_sound}
 use Rattle.vol_judge.proofs.ImageGraphs.{graph_within, graph_from_rules, rules_from_graph, directory_to, directory_from}
 use Rattle.vol_judge.proofs.Parts.{sound_whole, sound_bounded, sound_entries, sound_dots, sound_tree, sound_links, sound_of}
 use Rattle.vol_change.specs.Beside.{StaysBeside}
-use Rattle.vol_change.specs.Whole.{IsWhole, Keeps, HasDirectory}
+use Rattle.vol_change.specs.Whole.{Rules3To8, Keeps, HasDirectory}
 use Rattle.vol_change.proofs.EntryStates.{names_once}
 use Rattle.vol_change.proofs.WholeLaws.{whole_of, geometry_kept}
-use Rattle.vol_change.specs.Ready.{IsReady}
+use Rattle.vol_change.specs.Ready.{Rules1To12}
 
 -- the geometry fits, and rules 3 to 8 hold
-pub ready_whole : (geometry : Geometry) (image : List ℕ) → IsReady geometry image → IsWhole geometry image
+pub ready_whole : (geometry : Geometry) (image : List ℕ) → Rules1To12 geometry image → Rules3To8 geometry image
 ready_whole geometry image ready =
-    subst (λ g. IsWhole g image) (sym ready.sizes)
+    subst (λ g. Rules3To8 g image) (sym ready.sizes)
     (whole_of geometry.edition image (subst (λ g. Fits g image) ready.sizes ready.fits) ready.sound)
 
 -- rule 9
-pub ready_entries : (geometry : Geometry) (image : List ℕ) → IsReady geometry image → HasEntries geometry image
+pub ready_entries : (geometry : Geometry) (image : List ℕ) → Rules1To12 geometry image → HasEntries geometry image
 ready_entries geometry image ready = subst (λ g. HasEntries g image) (sym ready.sizes) (sound_entries geometry.edition image ready.sound)
 
 -- a directory has whole slots
-pub ready_slots : (geometry : Geometry) (image : List ℕ) (d : ℕ) → IsReady geometry image → IsDirectory geometry image d → size_of geometry image d % 16 ≡ 0
+pub ready_slots : (geometry : Geometry) (image : List ℕ) (d : ℕ) → Rules1To12 geometry image → IsDirectory geometry image d → size_of geometry image d % 16 ≡ 0
 ready_slots geometry image d ready is = (ready_entries geometry image ready).whole d is
 
 -- and no name twice
-pub ready_once : (geometry : Geometry) (image : List ℕ) (d : ℕ) → IsReady geometry image → IsDirectory geometry image d → HasNamesOnce geometry image d
+pub ready_once : (geometry : Geometry) (image : List ℕ) (d : ℕ) → Rules1To12 geometry image → IsDirectory geometry image d → HasNamesOnce geometry image d
 ready_once geometry image d ready is = names_once geometry image d (ready_entries geometry image ready) is
 
 -- it is one that may get an entry or lose one
-pub ready_directory : (geometry : Geometry) (image : List ℕ) (d : ℕ) → IsReady geometry image → IsDirectory geometry image d
+pub ready_directory : (geometry : Geometry) (image : List ℕ) (d : ℕ) → Rules1To12 geometry image → IsDirectory geometry image d
     → HasDirectory geometry image d
 ready_directory geometry image d ready is = record {
-  whole = ready_whole geometry image ready;
+  rules = ready_whole geometry image ready;
   is = is;
   slots = ready_slots geometry image d ready is;
   once = ready_once geometry image d ready is;
 }
 
 -- rules 9 to 12, of the graph
-pub ready_graph : (geometry : Geometry) (image : List ℕ) → IsReady geometry image
+pub ready_graph : (geometry : Geometry) (image : List ℕ) → Rules1To12 geometry image
     → IsGraphSound (graph_of geometry image) (root_of geometry) geometry.last_inode
 ready_graph geometry image ready =
     let dots = subst (λ g. HasDots g image) (sym ready.sizes) (sound_dots geometry.edition image ready.sound) in
@@ -76,26 +76,26 @@ bounded_kept V7 old new same bounded =
 -- the image is whole where its length and its sizes are the same
 pub whole_kept : (edition : Edition) (old new : List ℕ) → geometry_of edition new ≡ geometry_of edition old → length new ≡ length old
     → is_whole edition old ≡ true → is_whole edition new ≡ true
-whole_kept edition old new same len whole =
+whole_kept edition old new same len rules =
     let count : block_count edition new ≡ block_count edition old = ap (λ (g : Geometry). g.zone_end) same in
     ap (λ n. nat_le 1024 n && nat_le (512 * block_count edition new) n) len
-    ∙ (ap (λ m. nat_le 1024 (length old) && nat_le (512 * m) (length old)) count ∙ whole)
+    ∙ (ap (λ m. nat_le 1024 (length old) && nat_le (512 * m) (length old)) count ∙ rules)
 
 -- an image is sound where rules 1 and 2 hold, and, for the geometry that is its own, the geometry fits, rules 3 to 8 hold,
 -- and so do the rules that speak of the graph
 pub sound_by : (edition : Edition) (geometry : Geometry) (new : List ℕ) → geometry_of edition new ≡ geometry → is_whole edition new ≡ true
-    → is_bounded edition new ≡ true → IsWhole geometry new
+    → is_bounded edition new ≡ true → Rules3To8 geometry new
     → HasEntries geometry new × HasDots geometry new × IsTree geometry new × HasLinks geometry new → IsSound edition new
-sound_by edition geometry new same whole bounded files graph =
-    let own : IsWhole (geometry_of edition new) new = subst (λ g. IsWhole g new) (sym same) files in
-    sound_of edition new own.blocks whole bounded own.sound own.covered
+sound_by edition geometry new same rules bounded files graph =
+    let own : Rules3To8 (geometry_of edition new) new = subst (λ g. Rules3To8 g new) (sym same) files in
+    sound_of edition new own.blocks rules bounded own.sound own.covered
     (subst (λ g. HasEntries g new) (sym same) graph.0) (subst (λ g. HasDots g new) (sym same) graph.1)
     (subst (λ g. IsTree g new) (sym same) graph.2) (subst (λ g. HasLinks g new) (sym same) graph.3)
 
 -- a change after which the geometry fits, rules 3 to 8 hold, and the bytes that no call changes are as they were leaves
 -- a sound image where it makes a sound graph
-pub ready_from : (geometry : Geometry) (old new : List ℕ) → IsReady geometry old → Keeps geometry old new
-    → IsGraphSound (graph_of geometry new) (root_of geometry) geometry.last_inode → IsReady geometry new
+pub ready_from : (geometry : Geometry) (old new : List ℕ) → Rules1To12 geometry old → Keeps geometry old new
+    → IsGraphSound (graph_of geometry new) (root_of geometry) geometry.last_inode → Rules1To12 geometry new
 ready_from geometry old new ready keeps graph =
     let same = geometry_kept geometry old new keeps.around in
     record {
@@ -103,13 +103,13 @@ ready_from geometry old new ready keeps graph =
       sizes = ready.sizes ∙ sym same;
       sound = sound_by geometry.edition geometry new (same ∙ sym ready.sizes)
           (whole_kept geometry.edition old new same keeps.around.len (sound_whole geometry.edition old ready.sound))
-          (bounded_kept geometry.edition old new same (sound_bounded geometry.edition old ready.sound)) keeps.whole
-          (rules_from_graph geometry new keeps.whole.sound.sizes graph);
+          (bounded_kept geometry.edition old new same (sound_bounded geometry.edition old ready.sound)) keeps.rules
+          (rules_from_graph geometry new keeps.rules.sound.sizes graph);
     }
 
 -- and so does one that leaves the graph
-pub ready_same : (geometry : Geometry) (old new : List ℕ) → IsReady geometry old → Keeps geometry old new
-    → IsSameGraph (graph_of geometry old) (graph_of geometry new) → IsReady geometry new
+pub ready_same : (geometry : Geometry) (old new : List ℕ) → Rules1To12 geometry old → Keeps geometry old new
+    → IsSameGraph (graph_of geometry old) (graph_of geometry new) → Rules1To12 geometry new
 ready_same geometry old new ready keeps same =
     ready_from geometry old new ready keeps
     (same_sound (graph_of geometry old) (graph_of geometry new) (root_of geometry) geometry.last_inode (graph_within geometry old)

@@ -19,7 +19,7 @@ use Rattle.vol_judge.proofs.ImageGraphs.{directory_to}
 use Rattle.vol_change.specs.Edits.{set_at, put_node, put_shape}
 use Rattle.vol_change.specs.Nodes.{no_node}
 use Rattle.vol_change.proofs.States.{shape_here}
-use Rattle.vol_change.specs.Ready.{IsReady, TakesName, entry_need, free_in}
+use Rattle.vol_change.specs.Ready.{Rules1To12, TakesName, entry_need, free_in}
 use Rattle.vol_change.proofs.ReadyLaws.{ready_slots, ready_once, directory_kept}
 
 -- values by i-number, with another one at i, are the same beside i
@@ -90,7 +90,7 @@ pub record TakesEntry (geometry : Geometry) (image : List ℕ) (d : ℕ) (name :
   pub room : entry_need (state geometry image) d ≤ free_in (state geometry image)
 
 -- what a call requires of the directory
-pub takes_ready : (geometry : Geometry) (image : List ℕ) (d : ℕ) (name : List ℕ) → IsReady geometry image → IsDirectory geometry image d
+pub takes_ready : (geometry : Geometry) (image : List ℕ) (d : ℕ) (name : List ℕ) → Rules1To12 geometry image → IsDirectory geometry image d
     → TakesName (state geometry image) d name → entry_need (state geometry image) d ≤ free_in (state geometry image)
     → TakesEntry geometry image d name
 takes_ready geometry image d name ready is takes room = record {

@@ -7,8 +7,8 @@ use Rattle.vol_layout.specs.declared.geometry.Geometry.{Geometry}
 use Rattle.vol_layout.specs.declared.geometry.GeometryFault.TheVariants.{Short, Bounds}
 
 -- what is read as the geometry is what the super-block states
-read_by : (whole bounded : Bool) (geometry other : Geometry)
-    → (if whole then (if bounded then Ok geometry else Err Bounds) else Err Short) ≡ Ok other → geometry ≡ other
+read_by : (rules bounded : Bool) (geometry other : Geometry)
+    → (if rules then (if bounded then Ok geometry else Err Bounds) else Err Short) ≡ Ok other → geometry ≡ other
 read_by true true geometry other e = cc
 read_by true false geometry other e = absurd (cc)
 read_by false bounded geometry other e = absurd (cc)

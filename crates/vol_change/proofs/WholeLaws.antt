@@ -21,7 +21,7 @@ use Rattle.vol_file.proofs.Naming.{kinds_kept}
 use Rattle.vol_change.specs.Alone.{KeepsContent}
 use Rattle.vol_judge.specs.Sound.{IsSound}
 use Rattle.vol_judge.proofs.Parts.{sound_whole, sound_bounded, sound_stack, sound_with, sound_covered}
-use Rattle.vol_change.specs.Whole.{IsWhole, StaysAround, Keeps}
+use Rattle.vol_change.specs.Whole.{Rules3To8, StaysAround, Keeps}
 use Rattle.vol_change.proofs.Contents.{kind_same}
 
 -- what stays by one change and by the next stays by both
@@ -36,7 +36,7 @@ around_then geometry old mid new a b = record {
 
 -- what is kept by one change and by the next is kept by both
 pub keeps_then : (geometry : Geometry) (old mid new : List ℕ) → Keeps geometry old mid → Keeps geometry mid new → Keeps geometry old new
-keeps_then geometry old mid new a b = record { whole = b.whole; around = around_then geometry old mid new a.around b.around }
+keeps_then geometry old mid new a b = record { rules = b.rules; around = around_then geometry old mid new a.around b.around }
 
 -- the sizes stand before the free list
 sizes_kept : (edition : Edition) (old new : List ℕ) → ((k : ℕ) → k < free_head edition → slice_index new k ≡ slice_index old k)
@@ -99,29 +99,29 @@ free_some geometry image blocks k fits free is zero =
 -- the rules hold where they held, the places name the same, the free blocks stay, and rules 3 and 4 hold
 pub whole_names : (geometry : Geometry) (old new : List ℕ) → length new ≡ length old → SameNames geometry old new
     → ((blocks : List ℕ) → IsFree geometry old blocks → IsFree geometry new blocks) → HasKinds geometry new → HasSizes geometry new
-    → IsWhole geometry old → IsWhole geometry new
-whole_names geometry old new len same free kind size whole =
-    let fits = fits_len geometry old new len whole.sound.fits in
-    let kept = free whole.blocks whole.sound.free in
+    → Rules3To8 geometry old → Rules3To8 geometry new
+whole_names geometry old new len same free kind size rules =
+    let fits = fits_len geometry old new len rules.sound.fits in
+    let kept = free rules.blocks rules.sound.free in
     record {
-      blocks = whole.blocks;
+      blocks = rules.blocks;
       sound = record {
         fits = fits;
         kinds = kind;
         sizes = size;
         zoned = λ j p place some.
             let before = same.from j p place some in
-            ap (in_zone geometry) before.1 ∙ whole.sound.zoned j p before.0 (λ zero. some (before.1 ∙ zero));
+            ap (in_zone geometry) before.1 ∙ rules.sound.zoned j p before.0 (λ zero. some (before.1 ∙ zero));
         free = kept;
         apart = λ j k p q place other some e.
             let before = same.from j p place some in
             let too = same.from k q other (λ zero. some (e ∙ zero)) in
-            whole.sound.apart j k p q before.0 too.0 (λ zero. some (before.1 ∙ zero)) (sym before.1 ∙ (e ∙ too.1));
+            rules.sound.apart j k p q before.0 too.0 (λ zero. some (before.1 ∙ zero)) (sym before.1 ∙ (e ∙ too.1));
         outside = λ j p place is.
-            let before = same.from j p place (free_some geometry new whole.blocks (named geometry new j p) fits kept is) in
-            whole.sound.outside j p before.0 (subst (λ k. IsIn k whole.blocks) before.1 is);
+            let before = same.from j p place (free_some geometry new rules.blocks (named geometry new j p) fits kept is) in
+            rules.sound.outside j p before.0 (subst (λ k. IsIn k rules.blocks) before.1 is);
       };
-      covered = λ k zone. elim (whole.covered k zone) [
+      covered = λ k zone. elim (rules.covered k zone) [
         | inl is ↦ inl is
         | inr found ↦
             let is = holds_named geometry old found.0 found.1 k found.2.holds in
@@ -191,15 +191,15 @@ pub whole_kept : (geometry : Geometry) (old new : List ℕ) → length new ≡ l
     → ((j : ℕ) → 1 ≤ j → j ≤ geometry.last_inode → KeepsContent geometry old new j)
     → ((j : ℕ) → 1 ≤ j → j ≤ geometry.last_inode → kind_at geometry old j ≢ kinds.Free
     → (inode_of geometry.edition new j).links ≤ (constants geometry.edition).link_limit)
-    → ((blocks : List ℕ) → IsFree geometry old blocks → IsFree geometry new blocks) → IsWhole geometry old → IsWhole geometry new
-whole_kept geometry old new len kept links free whole =
+    → ((blocks : List ℕ) → IsFree geometry old blocks → IsFree geometry new blocks) → Rules3To8 geometry old → Rules3To8 geometry new
+whole_kept geometry old new len kept links free rules =
     whole_names geometry old new len (names_stay geometry old new kept) free
-    (kinds_kept geometry old new whole.sound.fits (λ j first last. kind_same geometry old new j (kept j first last)) whole.sound.kinds)
-    (sizes_stay geometry old new kept links whole.sound.sizes) whole
+    (kinds_kept geometry old new rules.sound.fits (λ j first last. kind_same geometry old new j (kept j first last)) rules.sound.kinds)
+    (sizes_stay geometry old new kept links rules.sound.sizes) rules
 
 -- a sound image whose geometry fits is whole
 pub whole_of : (edition : Edition) (image : List ℕ) → Fits (geometry_of edition image) image → IsSound edition image
-    → IsWhole (geometry_of edition image) image
+    → Rules3To8 (geometry_of edition image) image
 whole_of edition image fits sound =
     let stack = sound_stack edition image sound in
     record {
@@ -210,9 +210,9 @@ whole_of edition image fits sound =
 
 -- and so with the sizes that were read
 pub whole_read : (edition : Edition) (image : List ℕ) (geometry : Geometry) → IsSound edition image → Ok geometry ≡ geometry_read edition image
-    → Fits geometry image → IsWhole geometry image
+    → Fits geometry image → Rules3To8 geometry image
 unfolding geometry_read
 whole_read edition image geometry sound read fits =
     let is : geometry_read edition image ≡ Ok (geometry_of edition image) = rw (sound_whole edition image sound, sound_bounded edition image sound) refl in
     let same : geometry ≡ geometry_of edition image = cc in
-    subst (λ g. IsWhole g image) (sym same) (whole_of edition image (subst (λ g. Fits g image) same fits) sound)
+    subst (λ g. Rules3To8 g image) (sym same) (whole_of edition image (subst (λ g. Fits g image) same fits) sound)

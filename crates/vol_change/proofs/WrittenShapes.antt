@@ -93,8 +93,8 @@ filled_none form names blocks p none =
     let same : filled form names blocks p ≡ (names p || is_on_ways form blocks p) =
     ap (λ t. (if t then moved_down names else names) p || is_on_ways (if t then Large else form) blocks p) stays in
     let count : count_by (λ q. is_on_ways form blocks q && not (names q)) (places form) ≡ 0 =
-    let whole : missing_count form names blocks + 0 ≡ 0 =
+    let rules : missing_count form names blocks + 0 ≡ 0 =
     sym (ap (λ t. missing_count (if t then Large else form) (if t then moved_down names else names) blocks + (if t then 1 else 0)) stays) ∙ none in
-    omega (arith, whole) in
+    omega (arith, rules) in
     same ∙ or_named (names p) (is_on_ways form blocks p)
     (λ on. none_counted (λ q. is_on_ways form blocks q && not (names q)) p (places form) count (places_among form p (ways_place form blocks p on)))

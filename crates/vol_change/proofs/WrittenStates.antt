@@ -17,7 +17,7 @@ use Rattle.vol_dir.specs.Tree.{Content, Body, Node, is_place, is_named_place, co
 use Rattle.vol_change.specs.Contents.{write_body, empty_body}
 use Rattle.vol_change.specs.Edits.{body_of}
 use Rattle.vol_change.specs.Shapes.{stored_shape}
-use Rattle.vol_change.specs.Whole.{IsWhole, Keeps}
+use Rattle.vol_change.specs.Whole.{Rules3To8, Keeps}
 use Rattle.vol_change.proofs.FileInodes.{KeepsMode, KeepsFields, cut_mode, fields_kept, node_changed}
 use Rattle.vol_dir.proofs.WalkLaws.{node_inside}
 use Rattle.vol_change.proofs.OneNode.{alone_around, only_file, only_makes}
@@ -70,18 +70,18 @@ shape_stored geometry old new blocks i slots stores =
     λ k. record { names = λ p. stores.names p k; large = stores.large k; slots = slots }
 
 -- what a write keeps
-pub writes_keeps : (geometry : Geometry) (old new : List ℕ) (i offset : ℕ) (text : List ℕ) (whole : IsWhole geometry old)
-    → Writes geometry old new i offset text whole.blocks → Keeps geometry old new
-writes_keeps geometry old new i offset text whole writes = record {
-  whole = record { blocks = writes.rest; sound = writes.sound; covered = writes.covered whole.covered };
+pub writes_keeps : (geometry : Geometry) (old new : List ℕ) (i offset : ℕ) (text : List ℕ) (rules : Rules3To8 geometry old)
+    → Writes geometry old new i offset text rules.blocks → Keeps geometry old new
+writes_keeps geometry old new i offset text rules writes = record {
+  rules = record { blocks = writes.rest; sound = writes.sound; covered = writes.covered rules.covered };
   around = alone_around geometry old new i writes.alone;
 }
 
 -- what a truncation keeps
-pub truncates_keeps : (geometry : Geometry) (old new : List ℕ) (i : ℕ) (whole : IsWhole geometry old)
-    → Truncates geometry old new i whole.blocks → Keeps geometry old new
-truncates_keeps geometry old new i whole cuts = record {
-  whole = record { blocks = _; sound = cuts.sound; covered = cuts.covered whole.covered };
+pub truncates_keeps : (geometry : Geometry) (old new : List ℕ) (i : ℕ) (rules : Rules3To8 geometry old)
+    → Truncates geometry old new i rules.blocks → Keeps geometry old new
+truncates_keeps geometry old new i rules cuts = record {
+  rules = record { blocks = _; sound = cuts.sound; covered = cuts.covered rules.covered };
   around = alone_around geometry old new i cuts.alone;
 }
 
@@ -149,9 +149,9 @@ pub written_kind : (geometry : Geometry) (old new free : List ℕ) (i offset : �
 written_kind geometry old new free i offset text file writes = (stores_blocks geometry old new free i offset text file writes).kind
 
 -- where nothing is done, nothing changes
-pub nothing_keeps : (geometry : Geometry) (old new : List ℕ) → IsWhole geometry old → new ≡ old → Keeps geometry old new
-nothing_keeps geometry old new whole same = subst (Keeps geometry old) (sym same) (record {
-  whole = whole;
+pub nothing_keeps : (geometry : Geometry) (old new : List ℕ) → Rules3To8 geometry old → new ≡ old → Keeps geometry old new
+nothing_keeps geometry old new rules same = subst (Keeps geometry old) (sym same) (record {
+  rules = rules;
   around = record {
     len = refl;
     before = λ k low. refl;

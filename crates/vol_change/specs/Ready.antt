@@ -11,7 +11,7 @@ use Rattle.vol_change.specs.Whole.{StaysAround}
 use Rattle.vol_layout.specs.declared.geometry.Geometry.{Geometry}
 
 -- a sound image with its own geometry (icheck, dcheck)
-pub record IsReady (geometry : Geometry) (image : List ℕ) : Type 0 where
+pub record Rules1To12 (geometry : Geometry) (image : List ℕ) : Type 0 where
   pub fits : Fits geometry image
   pub sizes : geometry ≡ geometry_of geometry.edition image
   pub sound : IsSound geometry.edition image
@@ -30,7 +30,7 @@ abbrev pub free_in : State → ℕ
 free_in state = free_count state.tree.geometry state.shapes
 
 -- the image has become that of another state, it is sound as it was, and the bytes that no call changes stay (this project)
-pub record Changes (geometry : Geometry) (old new : List ℕ) (made : State) : Type 0 where
-  pub ready : IsReady geometry new
+pub record Becomes (geometry : Geometry) (old new : List ℕ) (made : State) : Type 0 where
+  pub ready : Rules1To12 geometry new
   pub around : StaysAround geometry old new
   pub makes : state geometry new ≡ made

@@ -1,28 +1,28 @@
 -- What every change of a node keeps: the rules that speak of i-nodes, files and the free list, and the bytes that no call changes.
 use Rattle.std.specs.Prelude.{◌≡◌, ◌≢◌, ℕ, ◌+◌, ◌*◌, ◌%◌, ◌<◌, ◌≤◌, List, length, slice_index}
 use Rattle.vol_layout.specs.Super.{free_head, time_place}
-use Rattle.vol_file.specs.Rules.{kind_at, size_of, IsSoundWith, IsCovered}
+use Rattle.vol_file.specs.Rules.{kind_at, size_of, Rules3To7With, IsCovered}
 use Rattle.vol_dir.specs.Editing.{HasNamesOnce}
 use Rattle.vol_dir.specs.Entries.{IsDirectory}
 use Rattle.vol_layout.specs.declared.geometry.Geometry.{Geometry}
 use Rattle.vol_layout.specs.declared.mode.Kind.TheVariants as kinds
 
 -- the geometry fits, and rules 3 to 8 hold (icheck)
-pub record IsWhole (geometry : Geometry) (image : List ℕ) : Type 0 where
+pub record Rules3To8 (geometry : Geometry) (image : List ℕ) : Type 0 where
   pub blocks : List ℕ
-  pub sound : IsSoundWith geometry image blocks
+  pub sound : Rules3To7With geometry image blocks
   pub covered : IsCovered geometry image blocks
 
 -- rules 3 to 8 hold, and i-number i is one of the volume's, of an i-node that isn't free (this project)
 pub record HasNode (geometry : Geometry) (image : List ℕ) (i : ℕ) : Type 0 where
-  pub whole : IsWhole geometry image
+  pub rules : Rules3To8 geometry image
   pub first : 1 ≤ i
   pub last : i ≤ geometry.last_inode
   pub used : kind_at geometry image i ≢ kinds.Free
 
 -- rules 3 to 8 hold, and i-number d is a directory of whole slots, no two of which have the same name (this project)
 pub record HasDirectory (geometry : Geometry) (image : List ℕ) (d : ℕ) : Type 0 where
-  pub whole : IsWhole geometry image
+  pub rules : Rules3To8 geometry image
   pub is : IsDirectory geometry image d
   pub slots : size_of geometry image d % 16 ≡ 0
   pub once : HasNamesOnce geometry image d
@@ -38,5 +38,5 @@ pub record StaysAround (geometry : Geometry) (old new : List ℕ) : Type 0 where
 
 -- the geometry fits, rules 3 to 8 hold, and the bytes that no call changes are as they were (this project)
 pub record Keeps (geometry : Geometry) (old new : List ℕ) : Type 0 where
-  pub whole : IsWhole geometry new
+  pub rules : Rules3To8 geometry new
   pub around : StaysAround geometry old new

@@ -3,7 +3,7 @@ ghost use Rattle.std.specs.Prelude.{◌≡◌, ◌≤◌, length};
 ghost use Rattle.vol_layout.specs.Geometry.{Fits};
 ghost use Rattle.vol_dir.specs.Tree.{place_count, shapes};
 ghost use Rattle.vol_judge.specs.Marks.{IsInside, blocks_from};
-ghost use Rattle.vol_change.specs.Whole.{IsWhole};
+ghost use Rattle.vol_change.specs.Whole.{Rules3To8};
 
 use pdp_words::{BLOCK, Image};
 use vol_layout::i_list::{address, mode};
@@ -14,7 +14,7 @@ use vol_layout::{Form, Geometry, number};
 ///
 /// Costs one read for each entry of the file's indirect blocks.
 pub fn place_count(image: &Image, geometry: &Geometry, i: u16) -> u32
-    requires whole { IsWhole geometry.now image.now }
+    requires rules { Rules3To8 geometry.now image.now }
     requires first { 1 ≤ i }
     requires last { i ≤ geometry.now.last_inode }
     ensures { result ≡ place_count geometry.now.edition (shapes geometry.now image.now i) }

@@ -3,7 +3,7 @@ ghost use Rattle.std.specs.Prelude.{◌≡◌, ◌≢◌, ℕ, ◌+◌, ◌*◌,
 ghost use Rattle.std.specs.Option.{option_map};
 ghost use Rattle.vol_layout.specs.Edition.{constants};
 ghost use Rattle.vol_layout.specs.declared.mode.Kind.TheVariants as kinds;
-ghost use Rattle.vol_file.specs.Rules.{kind_at, size_of, IsSoundWith};
+ghost use Rattle.vol_file.specs.Rules.{kind_at, size_of, Rules3To7With};
 ghost use Rattle.vol_file.specs.Need.{need};
 ghost use Rattle.vol_dir.specs.Editing.{HasNamesOnce, slot_bytes};
 ghost use Rattle.vol_dir.specs.Entries.{slots, IsDirectory};
@@ -38,7 +38,7 @@ pub fn add_name(image: &mut Image, geometry: &Geometry, dir: u16, slot: u32, nam
     requires text { (k : ℕ) → k < length name.now → slice_index name.now k ≢ 0 }
     requires inode { 1 ≤ i }
     requires greatest { 16 * new_slot (names_in (slots geometry.now image.old dir)) + 16 ≤ (constants geometry.now.edition).greatest }
-    requires room { (blocks : List ℕ) → IsSoundWith geometry.now image.old blocks
+    requires room { (blocks : List ℕ) → Rules3To7With geometry.now image.old blocks
         → need geometry.now image.old dir (16 * new_slot (names_in (slots geometry.now image.old dir))) 16 ≤ length blocks }
     ensures changed { Changed geometry.now image.old image.new (IsOther dir)
         (put_entry dir name.now i (state geometry.now image.old)) (drop (entry_need (state geometry.now image.old) dir)) }

@@ -10,7 +10,7 @@ ghost use Rattle.vol_change.specs.Alone.{ChangesOnly};
 ghost use Rattle.vol_change.specs.Edits.{remove_node};
 ghost use Rattle.vol_change.specs.NodeGraphs.{DropsNode};
 ghost use Rattle.vol_change.specs.Unused.{IsCleared, KeepsUnusedBut};
-ghost use Rattle.vol_change.specs.Whole.{IsWhole};
+ghost use Rattle.vol_change.specs.Whole.{Rules3To8};
 
 use pdp_words::Image;
 use vol_file::truncate;
@@ -23,7 +23,7 @@ use vol_layout::{Geometry, Kind, clear_inode};
 ///
 /// Costs what the truncation of its file does, if it has one.
 pub fn free_node(image: &mut Image, geometry: &Geometry, i: u16)
-    requires whole { IsWhole geometry.now image.old }
+    requires rules { Rules3To8 geometry.now image.old }
     requires above { (constants geometry.now.edition).root < i }
     requires last { i ≤ geometry.now.last_inode }
     ensures changed { Changed geometry.now image.old image.new (IsOther i)
@@ -39,10 +39,10 @@ pub fn free_node(image: &mut Image, geometry: &Geometry, i: u16)
 
 /// Truncates file `i`, if `i` is one.
 fn free_blocks(image: &mut Image, geometry: &Geometry, i: u16)
-    requires whole { IsWhole geometry.now image.old }
+    requires rules { Rules3To8 geometry.now image.old }
     requires first { 1 ≤ i }
     requires last { i ≤ geometry.now.last_inode }
-    ensures whole { IsWhole geometry.now image.new }
+    ensures rules { Rules3To8 geometry.now image.new }
     ensures only { ChangesOnly geometry.now image.old image.new i }
     ensures others { KeepsUnusedBut geometry.now image.old image.new i }
     ensures free { FreeBecomes geometry.now image.old image.new (λ blocks. blocks_freed geometry.now image.old i ++ blocks) }

@@ -10,7 +10,7 @@ ghost use Rattle.vol_change.specs.Changed.{Changed, IsAny, as_before};
 ghost use Rattle.vol_change.specs.Edits.{add_link, change_node, drop_link, with_links};
 ghost use Rattle.vol_change.specs.NodeGraphs.{SetsLinks};
 ghost use Rattle.vol_change.specs.Unused.{KeepsAllUnused};
-ghost use Rattle.vol_change.specs.Whole.{IsWhole, HasNode};
+ghost use Rattle.vol_change.specs.Whole.{Rules3To8, HasNode};
 
 use crate::times::stamp;
 use pdp_words::Image;

@@ -14,7 +14,7 @@ ghost use Rattle.vol_change.specs.Edits.{new_node, put_node, put_shape};
 ghost use Rattle.vol_change.specs.Inodes.{MakesInode};
 ghost use Rattle.vol_change.specs.NodeGraphs.{AddsNode};
 ghost use Rattle.vol_change.specs.Unused.{KeepsAllUnused, KeepsUnusedBut};
-ghost use Rattle.vol_change.specs.Whole.{IsWhole};
+ghost use Rattle.vol_change.specs.Whole.{Rules3To8};
 
 use pdp_words::Image;
 use vol_dir::Cred;
@@ -35,7 +35,7 @@ pub struct NewNode {
 /// The i-number for a new node: the recorded one, or else one that is taken from the cache or the i-list.
 /// The cache changes as if one were taken in either case.
 pub(crate) fn pick_number(image: &mut Image, geometry: &Geometry, recorded: Option<u16>) -> u16
-    requires whole { IsWhole geometry.now image.old }
+    requires rules { Rules3To8 geometry.now image.old }
     requires some { ((i : ℕ) → IsFreeNumber geometry.now image.old i → ⊥) → ⊥ }
     requires recorded { IfSome recorded (λ i. IsFreeNumber geometry.now image.old i) }
     ensures free { IsFreeNumber geometry.now image.new result }
@@ -54,7 +54,7 @@ pub(crate) fn pick_number(image: &mut Image, geometry: &Geometry, recorded: Opti
 /// Makes node `i`, whose i-number is free, a new regular file with one link. It has no bytes and names no
 /// block, and all its times are `node.moment`. Unused bytes of its i-node are zero.
 pub fn make_file(image: &mut Image, geometry: &Geometry, i: u16, node: NewNode)
-    requires whole { IsWhole geometry.now image.old }
+    requires rules { Rules3To8 geometry.now image.old }
     requires free { IsFreeNumber geometry.now image.old i }
     requires user { node.owner.uid ≤ (constants geometry.now.edition).id_limit }
     requires group { node.owner.gid ≤ (constants geometry.now.edition).id_limit }
@@ -72,7 +72,7 @@ pub fn make_file(image: &mut Image, geometry: &Geometry, i: u16, node: NewNode)
 /// Makes node `i`, whose i-number is free, a new directory with two links. It has no slots and names no
 /// block, and all its times are `node.moment`. Unused bytes of its i-node are zero.
 pub fn make_directory(image: &mut Image, geometry: &Geometry, i: u16, node: NewNode)
-    requires whole { IsWhole geometry.now image.old }
+    requires rules { Rules3To8 geometry.now image.old }
     requires free { IsFreeNumber geometry.now image.old i }
     requires user { node.owner.uid ≤ (constants geometry.now.edition).id_limit }
     requires group { node.owner.gid ≤ (constants geometry.now.edition).id_limit }
@@ -89,7 +89,7 @@ pub fn make_directory(image: &mut Image, geometry: &Geometry, i: u16, node: NewN
 
 /// Makes node `i`, whose i-number is free, a file with this mode and so many links, and nothing in it.
 fn make_node(image: &mut Image, geometry: &Geometry, i: u16, mode: Mode, links: u16, node: NewNode)
-    requires whole { IsWhole geometry.now image.old }
+    requires rules { Rules3To8 geometry.now image.old }
     requires free { IsFreeNumber geometry.now image.old i }
     requires file { has_places (kind_of geometry.now.edition mode.bits) ≡ true }
     requires small { is_large geometry.now.edition mode.bits ≡ false }

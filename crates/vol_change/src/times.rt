@@ -11,7 +11,7 @@ ghost use Rattle.vol_judge.specs.GraphEdits.{IsSameGraph};
 ghost use Rattle.vol_change.specs.Changed.{Changed, IsAny, as_before};
 ghost use Rattle.vol_change.specs.Edits.{at_time, change_node, modified};
 ghost use Rattle.vol_change.specs.Unused.{KeepsAllUnused};
-ghost use Rattle.vol_change.specs.Whole.{IsWhole, HasNode};
+ghost use Rattle.vol_change.specs.Whole.{Rules3To8, HasNode};
 
 use pdp_words::Image;
 use vol_layout::i_list::inode;
@@ -19,7 +19,7 @@ use vol_layout::{Geometry, Inode, Super, put_inode};
 
 /// Makes `now` the time at which the volume was last changed, in seconds. No other byte changes.
 pub fn put_time(image: &mut Image, geometry: &Geometry, now: u32)
-    requires whole { IsWhole geometry.now image.old }
+    requires rules { Rules3To8 geometry.now image.old }
     ensures changed { Changed geometry.now image.old image.new IsAny
         (at_time now (state geometry.now image.old)) as_before }
     ensures graph { IsSameGraph (graph_of geometry.now image.old) (graph_of geometry.now image.new) }

@@ -78,15 +78,15 @@ unfoldable pub file_of : Edition → List ℕ → ℕ → Result Geometry CatFau
 file_of edition image i = file_by (geometry_read edition image) image i
 
 -- what `cat` writes and answers for an image: file i's body, or as many of its bytes as a writer's fault counts, or a refusal and nothing (this project)
-abbrev pub Shows : Option (List ℕ) → Option (List ℕ) → List ℕ → ℕ → Result Geometry CatFault → Result (Unit {0}) CatFault → Type 0
-Shows old new image i (Err fault) result = (result ≡ Err fault) × Keeps old new
-Shows old new image i (Ok geometry) (Ok done) = Appends old new (body geometry image i)
-Shows old new image i (Ok geometry) (Err (faults.Writer written)) = AppendsFront old new (body geometry image i) written
-Shows old new image i (Ok geometry) (Err _) = ⊥
+abbrev pub PrintsFile : Option (List ℕ) → Option (List ℕ) → List ℕ → ℕ → Result Geometry CatFault → Result (Unit {0}) CatFault → Type 0
+PrintsFile old new image i (Err fault) result = (result ≡ Err fault) × Keeps old new
+PrintsFile old new image i (Ok geometry) (Ok done) = Appends old new (body geometry image i)
+PrintsFile old new image i (Ok geometry) (Err (faults.Writer written)) = AppendsFront old new (body geometry image i) written
+PrintsFile old new image i (Ok geometry) (Err _) = ⊥
 
 -- what `cat` does with its reader and its writer: an image that was read whole is shown, and else nothing is written (this project)
 abbrev pub Cats : Option (List ℕ) → Option (List ℕ) → Option (List ℕ) → Option (List ℕ) → Edition → ℕ → Result (Unit {0}) CatFault → Type 0
 Cats had left old new edition i (Err faults.Device) = Keeps old new
 Cats had left old new edition i (Err faults.NoMemory) = Keeps old new
 Cats had left old new edition i result =
-    (image : List ℕ) × IsReadWhole had left image × Shows old new image i (file_of edition image i) result
+    (image : List ℕ) × IsReadWhole had left image × PrintsFile old new image i (file_of edition image i) result

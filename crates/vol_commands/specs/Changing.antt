@@ -50,7 +50,7 @@ abbrev pub IsReason : Edition → List ℕ → List Call → Fault → Type 0
 IsReason edition image calls fault = IsCause edition image (AreRefused (reads_as edition image) calls) fault
 
 -- what a command that makes calls comes to: bytes to be saved, status 0 and no line, or the status and the line of a reason (this project)
-pub record Changes (edition : Edition) (image : List ℕ) (calls : List Call) (said : List ℕ → Type 0) (answer : Answer) : Type 0 where
+pub record ChangesVolume (edition : Edition) (image : List ℕ) (calls : List Call) (said : List ℕ → Type 0) (answer : Answer) : Type 0 where
   pub saved : answer.status ≡ 0 ↔ IsSome answer.image
   pub made : IfSome answer.image (λ bytes. Makes edition image calls bytes.items × said [])
   pub refused : IsNone answer.image

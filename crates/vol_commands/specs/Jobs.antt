@@ -2,7 +2,7 @@
 use Rattle.std.specs.Prelude.{◌≡◌, ℕ, List, [], ◌∷◌, Option, Bool}
 use Rattle.std.specs.Io.KnownBytes.{Keeps}
 use Rattle.vol_volume.specs.Volume.{reads_as}
-use Rattle.vol_commands.specs.Changing.{Changes, put_calls}
+use Rattle.vol_commands.specs.Changing.{ChangesVolume, put_calls}
 use Rattle.vol_commands.specs.Faults.{user}
 use Rattle.vol_commands.specs.Showing.{Shows, Prints}
 use Rattle.vol_layout.specs.declared.edition.Edition.{Edition}
@@ -30,7 +30,7 @@ Asks edition image streams answer query =
 -- calls are made, and standard output is as it was (this project)
 abbrev pub Calls : Edition → List ℕ → Streams → Answer → List Call → Type 0
 Calls edition image streams answer calls =
-    Changes edition image calls streams.said answer × Keeps streams.old streams.new × (streams.failed ≡ streams.had_failed)
+    ChangesVolume edition image calls streams.said answer × Keeps streams.old streams.new × (streams.failed ≡ streams.had_failed)
 
 -- what a job comes to: the query or the calls that it stands for (this project)
 abbrev pub Does : Edition → List ℕ → List ℕ → Streams → Answer → Job → Type 0

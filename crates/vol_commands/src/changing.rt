@@ -10,7 +10,7 @@ ghost use Rattle.vol_volume.specs.declared.calls.Done.{Done};
 ghost use Rattle.vol_dir.specs.declared.refusal.Refusal.{Refusal};
 ghost use Rattle.vol_volume.specs.declared.calls.Call.TheVariants as asked;
 ghost use Rattle.vol_volume.specs.declared.queries.Query.TheVariants as questions;
-ghost use Rattle.vol_commands.specs.Changing.{Makes, IsReason, Changes, put_calls, emptying_by};
+ghost use Rattle.vol_commands.specs.Changing.{Makes, IsReason, ChangesVolume, put_calls, emptying_by};
 ghost use Rattle.vol_commands.specs.Faults.{user, Gets};
 
 use crate::answer::{Answer, conclude};
@@ -43,7 +43,7 @@ pub fn put<O: Sink, E: Sink>(
     _output: &mut O,
     errors: &mut E,
 ) -> Answer
-    ensures changed { Changes edition image.items (put_calls (reads_as edition image.items).tree now path.now file.items)
+    ensures changed { ChangesVolume edition image.items (put_calls (reads_as edition image.items).tree now path.now file.items)
         (Gets (E.failed errors.new) (E.contents errors.old) (E.contents errors.new)) result }
     ensures unprinted { Keeps (O.contents _output.old) (O.contents _output.new) }
     ensures unused { O.failed _output.new ≡ O.failed _output.old }
@@ -61,7 +61,7 @@ pub fn rm<O: Sink, E: Sink>(
     _output: &mut O,
     errors: &mut E,
 ) -> Answer
-    ensures changed { Changes edition image.items (asked.Unlink user now path.now ∷ [])
+    ensures changed { ChangesVolume edition image.items (asked.Unlink user now path.now ∷ [])
         (Gets (E.failed errors.new) (E.contents errors.old) (E.contents errors.new)) result }
     ensures unprinted { Keeps (O.contents _output.old) (O.contents _output.new) }
     ensures unused { O.failed _output.new ≡ O.failed _output.old }
@@ -80,7 +80,7 @@ pub fn rmdir<O: Sink, E: Sink>(
     _output: &mut O,
     errors: &mut E,
 ) -> Answer
-    ensures changed { Changes edition image.items (asked.Rmdir user now path.now ∷ [])
+    ensures changed { ChangesVolume edition image.items (asked.Rmdir user now path.now ∷ [])
         (Gets (E.failed errors.new) (E.contents errors.old) (E.contents errors.new)) result }
     ensures unprinted { Keeps (O.contents _output.old) (O.contents _output.new) }
     ensures unused { O.failed _output.new ≡ O.failed _output.old }
@@ -99,7 +99,7 @@ pub fn mkdir<O: Sink, E: Sink>(
     _output: &mut O,
     errors: &mut E,
 ) -> Answer
-    ensures changed { Changes edition image.items (asked.Mkdir user now path.now 0o755 ∷ [])
+    ensures changed { ChangesVolume edition image.items (asked.Mkdir user now path.now 0o755 ∷ [])
         (Gets (E.failed errors.new) (E.contents errors.old) (E.contents errors.new)) result }
     ensures unprinted { Keeps (O.contents _output.old) (O.contents _output.new) }
     ensures unused { O.failed _output.new ≡ O.failed _output.old }
@@ -119,7 +119,7 @@ pub fn ln<O: Sink, E: Sink>(
     _output: &mut O,
     errors: &mut E,
 ) -> Answer
-    ensures changed { Changes edition image.items (asked.Link user now from.now to.now ∷ [])
+    ensures changed { ChangesVolume edition image.items (asked.Link user now from.now to.now ∷ [])
         (Gets (E.failed errors.new) (E.contents errors.old) (E.contents errors.new)) result }
     ensures unprinted { Keeps (O.contents _output.old) (O.contents _output.new) }
     ensures unused { O.failed _output.new ≡ O.failed _output.old }

@@ -2,7 +2,8 @@
 ghost use Rattle.std.specs.Prelude.{◌≡◌, ◌≢◌, ◌↔◌, ◌⊎◌, false, true, IsSome, IfSome};
 ghost use Rattle.std.specs.Io.KnownBytes.{Keeps};
 ghost use Rattle.vol_volume.specs.Blank.{blank_of};
-ghost use Rattle.vol_volume.specs.Mkfs.{is_size, is_bad_id};
+ghost use Rattle.vol_volume.specs.Mkfs.{is_size};
+ghost use Rattle.vol_volume.specs.Ids.{is_bad_id};
 ghost use Rattle.vol_commands.specs.Faults.{Gets};
 ghost use Rattle.vol_commands.specs.Making.{mkfs_status, mkfs_line, mkfs_line_at};
 

@@ -20,7 +20,7 @@ use Rattle.vol_layout.specs.declared.places.Form.{Form}
 use Rattle.vol_layout.specs.declared.places.Form.TheVariants.{Small, Large, Deep, Bare}
 use Rattle.vol_file.specs.Changes.{spliced, Writes}
 use Rattle.vol_file.specs.Need.{missing_count, need, need_of}
-use Rattle.vol_file.specs.Rules.{size_of, IsSoundWith}
+use Rattle.vol_file.specs.Rules.{size_of, Rules3To7With}
 use Rattle.vol_file.specs.Shape.{is_named, touched, is_on_ways, grows_large, moved_down}
 use Rattle.vol_file.proofs.PlaceLists.{same_bytes}
 use Rattle.vol_dir.specs.Editing.{with_item, HasNamesOnce}
@@ -120,7 +120,7 @@ zeros_put whole bytes at r start h is =
     ap (λ xs. get_or xs (at + r) 0) is ∙ (spliced_inside bytes at (0 ∷ (0 ∷ [])) r start h ∙ zero_at r h)
 
 -- zeros in place of its number empty a slot
-pub removes : (geometry : Geometry) (old new blocks : List ℕ) (d s : ℕ) → IsFile geometry old d → IsSoundWith geometry old blocks
+pub removes : (geometry : Geometry) (old new blocks : List ℕ) (d s : ℕ) → IsFile geometry old d → Rules3To7With geometry old blocks
     → size_of geometry old d % 16 ≡ 0 → s < slot_count geometry old d → Writes geometry old new d (16 * s) (0 ∷ (0 ∷ [])) blocks
     → Replaces geometry old new d s None
 removes geometry old new blocks d s file sound whole within writes =

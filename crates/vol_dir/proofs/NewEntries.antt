@@ -16,7 +16,7 @@ use Rattle.vol_layout.proofs.BodyLaws.{length-body}
 use Rattle.vol_layout.proofs.SlotLaws.{slot_copied}
 use Rattle.vol_layout.specs.declared.geometry.Geometry.{Geometry}
 use Rattle.vol_file.specs.Changes.{spliced, Writes}
-use Rattle.vol_file.specs.Rules.{size_of, IsSoundWith}
+use Rattle.vol_file.specs.Rules.{size_of, Rules3To7With}
 use Rattle.vol_file.proofs.PlaceLists.{same_bytes}
 use Rattle.vol_dir.specs.Editing.{slot_bytes, HasNamesOnce}
 use Rattle.vol_dir.specs.Entries.{entry_in, slot_count, entry_at, slots}
@@ -97,7 +97,7 @@ slot_put text bytes whole s len start room is =
     }) (omega arith) room
 
 -- a name written in the place of a new entry is the entry of its slot
-pub adds : (geometry : Geometry) (old new blocks name : List ℕ) (d i : ℕ) → IsFile geometry old d → IsSoundWith geometry old blocks
+pub adds : (geometry : Geometry) (old new blocks name : List ℕ) (d i : ℕ) → IsFile geometry old d → Rules3To7With geometry old blocks
     → size_of geometry old d % 16 ≡ 0 → length name ≤ 14 → ((k : ℕ) → k < length name → get_or name k 0 ≢ 0) → 1 ≤ i
     → 16 * new_slot (names_in (slots geometry old d)) + 16 ≤ (constants geometry.edition).greatest
     → Writes geometry old new d (16 * new_slot (names_in (slots geometry old d))) (slot_bytes name i) blocks

@@ -9,7 +9,7 @@ use Rattle.std.specs.Ordering.{nat_cmp, eq_by_cmp}
 use Rattle.std.proofs.lemmas.Cmp.{nat_list_cmp_total}
 use Rattle.vol_layout.specs.Edition.{constants}
 use Rattle.vol_layout.specs.Inode.{inode_of}
-use Rattle.vol_file.specs.Rules.{kind_at, HasSoundFiles}
+use Rattle.vol_file.specs.Rules.{kind_at, Rules3To7}
 use Rattle.vol_dir.specs.Entries.{entry_at, slots, IsDirectory, HasEntries, IsInUse}
 use Rattle.vol_dir.specs.Names.{Names, get, names_of}
 use Rattle.vol_dir.specs.Tree.{is_number, node_of, node_with, content_of, tree, Node}
@@ -53,7 +53,7 @@ IfOk-found geometry image d name (Some j) r h directory e is =
     subst (λ r. IfOk r (λ j. IsInUse geometry image j)) (sym is) (found_in_use geometry image d name j h directory (sym e))
 
 -- the root is in use
-pub IsInUse-root : (geometry : Geometry) (image : List ℕ) → HasSoundFiles geometry image
+pub IsInUse-root : (geometry : Geometry) (image : List ℕ) → Rules3To7 geometry image
     → IsInUse geometry image (constants geometry.edition).root
 IsInUse-root geometry image h = record {
   first = omega arith;

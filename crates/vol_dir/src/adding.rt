@@ -5,7 +5,7 @@ ghost use Rattle.vol_layout.specs.Geometry.{Fits};
 ghost use Rattle.vol_layout.specs.Names.{IsFile};
 ghost use Rattle.vol_file.specs.Changes.{Writes};
 ghost use Rattle.vol_file.specs.Need.{need};
-ghost use Rattle.vol_file.specs.Rules.{size_of, IsSoundWith, HasSoundFiles};
+ghost use Rattle.vol_file.specs.Rules.{size_of, Rules3To7With, Rules3To7};
 ghost use Rattle.vol_dir.specs.Editing.{slot_bytes, with_item, HasNamesOnce};
 ghost use Rattle.vol_dir.specs.Entries.{slots};
 ghost use Rattle.vol_dir.specs.Names.{get, insert, names_of, names_in};
@@ -24,7 +24,7 @@ use vol_layout::{Geometry, Slot};
 /// Costs as much as [`place_for`](crate::place_for), and the write.
 pub fn add(image: &mut Image, geometry: &Geometry, dir: u16, name: &[u8], i: u16)
     requires file { IsFile geometry.now image.old dir }
-    requires sound { HasSoundFiles geometry.now image.old }
+    requires sound { Rules3To7 geometry.now image.old }
     requires whole { size_of geometry.now image.old dir % 16 ≡ 0 }
     requires once { HasNamesOnce geometry.now image.old dir }
     requires new { get (names_of (slots geometry.now image.old dir)) name.now ≡ None }
@@ -32,9 +32,9 @@ pub fn add(image: &mut Image, geometry: &Geometry, dir: u16, name: &[u8], i: u16
     requires text { (k : ℕ) → k < length name.now → slice_index name.now k ≢ 0 }
     requires inode { 1 ≤ i }
     requires greatest { 16 * new_slot (names_in (slots geometry.now image.old dir)) + 16 ≤ (constants geometry.now.edition).greatest }
-    requires room { (blocks : List ℕ) → IsSoundWith geometry.now image.old blocks
+    requires room { (blocks : List ℕ) → Rules3To7With geometry.now image.old blocks
         → need geometry.now image.old dir (16 * new_slot (names_in (slots geometry.now image.old dir))) 16 ≤ length blocks }
-    ensures written { (blocks : List ℕ) → IsSoundWith geometry.now image.old blocks
+    ensures written { (blocks : List ℕ) → Rules3To7With geometry.now image.old blocks
         → Writes geometry.now image.old image.new dir (16 * new_slot (names_in (slots geometry.now image.old dir)))
         (slot_bytes name.now i) blocks }
     ensures names { names_of (slots geometry.now image.new dir) ≡ insert (names_of (slots geometry.now image.old dir)) name.now i }
@@ -43,7 +43,7 @@ pub fn add(image: &mut Image, geometry: &Geometry, dir: u16, name: &[u8], i: u16
     ensures others { (d : ℕ) → d ≢ dir → IsFile geometry.now image.old d → slots geometry.now image.new d ≡ slots geometry.now image.old d }
     ensures once { HasNamesOnce geometry.now image.new dir }
     ensures whole { size_of geometry.now image.new dir % 16 ≡ 0 }
-    ensures sound { HasSoundFiles geometry.now image.new }
+    ensures sound { Rules3To7 geometry.now image.new }
     ensures fits { Fits geometry.now image.new }
     ensures file { IsFile geometry.now image.new dir }
 {
@@ -58,7 +58,7 @@ pub fn add(image: &mut Image, geometry: &Geometry, dir: u16, name: &[u8], i: u16
 pub fn add_at(image: &mut Image, geometry: &Geometry, dir: u16, slot: u32, name: &[u8], i: u16)
     requires slot { slot ≡ new_slot (names_in (slots geometry.now image.old dir)) }
     requires file { IsFile geometry.now image.old dir }
-    requires sound { HasSoundFiles geometry.now image.old }
+    requires sound { Rules3To7 geometry.now image.old }
     requires whole { size_of geometry.now image.old dir % 16 ≡ 0 }
     requires once { HasNamesOnce geometry.now image.old dir }
     requires new { get (names_of (slots geometry.now image.old dir)) name.now ≡ None }
@@ -66,9 +66,9 @@ pub fn add_at(image: &mut Image, geometry: &Geometry, dir: u16, slot: u32, name:
     requires text { (k : ℕ) → k < length name.now → slice_index name.now k ≢ 0 }
     requires inode { 1 ≤ i }
     requires greatest { 16 * new_slot (names_in (slots geometry.now image.old dir)) + 16 ≤ (constants geometry.now.edition).greatest }
-    requires room { (blocks : List ℕ) → IsSoundWith geometry.now image.old blocks
+    requires room { (blocks : List ℕ) → Rules3To7With geometry.now image.old blocks
         → need geometry.now image.old dir (16 * new_slot (names_in (slots geometry.now image.old dir))) 16 ≤ length blocks }
-    ensures written { (blocks : List ℕ) → IsSoundWith geometry.now image.old blocks
+    ensures written { (blocks : List ℕ) → Rules3To7With geometry.now image.old blocks
         → Writes geometry.now image.old image.new dir (16 * new_slot (names_in (slots geometry.now image.old dir)))
         (slot_bytes name.now i) blocks }
     ensures names { names_of (slots geometry.now image.new dir) ≡ insert (names_of (slots geometry.now image.old dir)) name.now i }
@@ -77,7 +77,7 @@ pub fn add_at(image: &mut Image, geometry: &Geometry, dir: u16, slot: u32, name:
     ensures others { (d : ℕ) → d ≢ dir → IsFile geometry.now image.old d → slots geometry.now image.new d ≡ slots geometry.now image.old d }
     ensures once { HasNamesOnce geometry.now image.new dir }
     ensures whole { size_of geometry.now image.new dir % 16 ≡ 0 }
-    ensures sound { HasSoundFiles geometry.now image.new }
+    ensures sound { Rules3To7 geometry.now image.new }
     ensures fits { Fits geometry.now image.new }
     ensures file { IsFile geometry.now image.new dir }
 {

@@ -225,11 +225,11 @@ pub fn lookup(image: &Image, geometry: &Geometry, dir: u16, name: &[u8]) -> Resu
             inode: found.inode,
         });
     }
-    named(image, geometry, dir, slot + 1, name).ok_or(slot)
+    first_entry(image, geometry, dir, slot + 1, name).ok_or(slot)
 }
 
 /// The first entry of directory `dir` from slot `from` on that has `name`.
-pub(crate) fn named(
+pub(crate) fn first_entry(
     image: &Image,
     geometry: &Geometry,
     dir: u16,
@@ -258,7 +258,7 @@ pub fn find(image: &Image, geometry: &Geometry, dir: u16, name: &[u8]) -> Option
     requires last { dir ≤ geometry.now.last_inode }
     ensures { result ≡ get (names_of (slots geometry.now image.now dir)) name.now }
 {
-    Some(named(image, geometry, dir, 0, name)?.inode)
+    Some(first_entry(image, geometry, dir, 0, name)?.inode)
 }
 
 /// The byte of directory `dir` where its next entry goes: that of its first empty slot, else of its

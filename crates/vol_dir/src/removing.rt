@@ -4,13 +4,13 @@ ghost use Rattle.vol_layout.specs.Geometry.{Fits};
 ghost use Rattle.vol_layout.specs.Names.{IsFile};
 ghost use Rattle.vol_file.specs.Changes.{Writes};
 ghost use Rattle.vol_file.specs.Need.{need};
-ghost use Rattle.vol_file.specs.Rules.{size_of, IsSoundWith, HasSoundFiles};
+ghost use Rattle.vol_file.specs.Rules.{size_of, Rules3To7With, Rules3To7};
 ghost use Rattle.vol_dir.specs.Editing.{HasNamesOnce};
 ghost use Rattle.vol_dir.specs.Entries.{slots};
 ghost use Rattle.vol_dir.specs.Names.{get, remove, names_of, names_in};
 ghost use Rattle.vol_dir.specs.Searching.{slot_named, emptied};
 
-use crate::entries::named;
+use crate::entries::first_entry;
 use pdp_words::Image;
 use vol_file::write;
 use vol_layout::Geometry;
@@ -22,11 +22,11 @@ use vol_layout::slot::SLOT;
 /// Costs as much as [`find`](crate::find) of the name.
 pub fn remove(image: &mut Image, geometry: &Geometry, dir: u16, name: &[u8])
     requires file { IsFile geometry.now image.old dir }
-    requires sound { HasSoundFiles geometry.now image.old }
+    requires sound { Rules3To7 geometry.now image.old }
     requires whole { size_of geometry.now image.old dir % 16 ≡ 0 }
     requires once { HasNamesOnce geometry.now image.old dir }
     requires there { IsSome (get (names_of (slots geometry.now image.old dir)) name.now) }
-    ensures written { (blocks : List ℕ) → IsSoundWith geometry.now image.old blocks
+    ensures written { (blocks : List ℕ) → Rules3To7With geometry.now image.old blocks
         → Writes geometry.now image.old image.new dir (16 * slot_named name.now (slots geometry.now image.old dir)) (0 ∷ 0 ∷ []) blocks }
     ensures none { need geometry.now image.old dir (16 * slot_named name.now (slots geometry.now image.old dir)) 2 ≡ 0 }
     ensures names { names_of (slots geometry.now image.new dir) ≡ remove (names_of (slots geometry.now image.old dir)) name.now }
@@ -34,11 +34,11 @@ pub fn remove(image: &mut Image, geometry: &Geometry, dir: u16, name: &[u8])
     ensures others { (d : ℕ) → d ≢ dir → IsFile geometry.now image.old d → slots geometry.now image.new d ≡ slots geometry.now image.old d }
     ensures once { HasNamesOnce geometry.now image.new dir }
     ensures size { size_of geometry.now image.new dir ≡ size_of geometry.now image.old dir }
-    ensures sound { HasSoundFiles geometry.now image.new }
+    ensures sound { Rules3To7 geometry.now image.new }
     ensures fits { Fits geometry.now image.new }
     ensures file { IsFile geometry.now image.new dir }
 {
-    if let Some(entry) = named(image, geometry, dir, 0, name) {
+    if let Some(entry) = first_entry(image, geometry, dir, 0, name) {
         remove_at(image, geometry, dir, entry.slot, name);
     }
 }
@@ -50,11 +50,11 @@ pub fn remove(image: &mut Image, geometry: &Geometry, dir: u16, name: &[u8])
 pub fn remove_at(image: &mut Image, geometry: &Geometry, dir: u16, slot: u32, name: &[u8])
     requires slot { slot ≡ slot_named name.now (slots geometry.now image.old dir) }
     requires file { IsFile geometry.now image.old dir }
-    requires sound { HasSoundFiles geometry.now image.old }
+    requires sound { Rules3To7 geometry.now image.old }
     requires whole { size_of geometry.now image.old dir % 16 ≡ 0 }
     requires once { HasNamesOnce geometry.now image.old dir }
     requires there { IsSome (get (names_of (slots geometry.now image.old dir)) name.now) }
-    ensures written { (blocks : List ℕ) → IsSoundWith geometry.now image.old blocks
+    ensures written { (blocks : List ℕ) → Rules3To7With geometry.now image.old blocks
         → Writes geometry.now image.old image.new dir (16 * slot_named name.now (slots geometry.now image.old dir)) (0 ∷ 0 ∷ []) blocks }
     ensures none { need geometry.now image.old dir (16 * slot_named name.now (slots geometry.now image.old dir)) 2 ≡ 0 }
     ensures names { names_of (slots geometry.now image.new dir) ≡ remove (names_of (slots geometry.now image.old dir)) name.now }
@@ -62,7 +62,7 @@ pub fn remove_at(image: &mut Image, geometry: &Geometry, dir: u16, slot: u32, na
     ensures others { (d : ℕ) → d ≢ dir → IsFile geometry.now image.old d → slots geometry.now image.new d ≡ slots geometry.now image.old d }
     ensures once { HasNamesOnce geometry.now image.new dir }
     ensures size { size_of geometry.now image.new dir ≡ size_of geometry.now image.old dir }
-    ensures sound { HasSoundFiles geometry.now image.new }
+    ensures sound { Rules3To7 geometry.now image.new }
     ensures fits { Fits geometry.now image.new }
     ensures file { IsFile geometry.now image.new dir }
 {

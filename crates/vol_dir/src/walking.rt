@@ -1,7 +1,7 @@
 //! Looking up paths.
 ghost use Rattle.std.specs.Prelude.{◌≡◌, ◌≤◌, ◌∷◌, false, None, Some, Ok, Err, MatchOption, MatchResult, IfOk, IfSome};
 ghost use Rattle.vol_layout.specs.Geometry.{Fits};
-ghost use Rattle.vol_file.specs.Rules.{HasSoundFiles};
+ghost use Rattle.vol_file.specs.Rules.{Rules3To7};
 ghost use Rattle.vol_dir.specs.Tree.{tree};
 ghost use Rattle.vol_dir.specs.Names.{names_of};
 ghost use Rattle.vol_dir.specs.Entries.{slots, IsDirectory, HasEntries, IsInUse};
@@ -25,7 +25,7 @@ use vol_layout::{Geometry, Kind};
 pub fn walk(image: &Image, geometry: &Geometry, cred: Cred, path: &[u8]) -> Result<u16, Refusal>
     requires { Fits geometry.now image.now }
     ensures exact { result ≡ walk (tree geometry.now image.now) cred path.now }
-    ensures used { HasSoundFiles geometry.now image.now → HasEntries geometry.now image.now
+    ensures used { Rules3To7 geometry.now image.now → HasEntries geometry.now image.now
         → IfOk result (λ i. IsInUse geometry.now image.now i) }
 {
     let mut i = geometry.edition.constants().root;

@@ -6,7 +6,7 @@ use Rattle.vol_layout.specs.Edition.{constants}
 use Rattle.vol_layout.specs.Geometry.{in_zone, Fits}
 use Rattle.vol_layout.specs.Inode.{inode_place}
 use Rattle.vol_layout.specs.Places.{IsPlace, last_place}
-use Rattle.vol_layout.specs.Names.{form_at, IsFile, IsPlaceOf, named, stored, Names}
+use Rattle.vol_layout.specs.Names.{form_at, IsFile, IsPlaceOf, named, stored, NamesBlock}
 use Rattle.vol_layout.specs.Body.{body}
 use Rattle.vol_layout.specs.declared.geometry.Geometry.{Geometry}
 use Rattle.vol_layout.proofs.CopyLaws.{IsCopy}
@@ -36,7 +36,7 @@ place_kept geometry old new j p kept place = record {
 
 -- a place that names a data block names it by the rules
 pub names_zone : (geometry : Geometry) (image : List ℕ) (j : ℕ) (p : List ℕ) → Fits geometry image → IsPlaceOf geometry image j p
-    → in_zone geometry (named geometry image j p) ≡ true → Names geometry image j p (named geometry image j p)
+    → in_zone geometry (named geometry image j p) ≡ true → NamesBlock geometry image j p (named geometry image j p)
 names_zone geometry image j p fits place zone = record {
   place = place;
   holds = named_holds geometry image j p (named geometry image j p) fits refl (zone_some geometry image (named geometry image j p) fits zone);
@@ -122,7 +122,7 @@ elsewhere_self geometry image i = record {
 
 -- a block that another file names is named by it afterwards
 pub elsewhere_names : (geometry : Geometry) (old new : List ℕ) (i j : ℕ) (p : List ℕ) (k : ℕ) → Fits geometry old → StaysElsewhere geometry old new i
-    → 1 ≤ i → j ≢ i → Names geometry old j p k → Names geometry new j p k
+    → 1 ≤ i → j ≢ i → NamesBlock geometry old j p k → NamesBlock geometry new j p k
 elsewhere_names geometry old new i j p k fits stays one other names =
     let held = holds_named geometry old j p k names.holds in
     record {

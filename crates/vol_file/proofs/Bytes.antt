@@ -6,7 +6,7 @@ use Rattle.pdp_words.specs.Words.{SameOutside}
 use Rattle.vol_layout.specs.Geometry.{in_zone, Fits}
 use Rattle.vol_layout.specs.Inode.{kind_of}
 use Rattle.vol_layout.specs.Places.{IsPlace, levels_below, last_place}
-use Rattle.vol_layout.specs.Names.{mode_of, form_at, IsFile, IsPlaceOf, named, stored, Names}
+use Rattle.vol_layout.specs.Names.{mode_of, form_at, IsFile, IsPlaceOf, named, stored, NamesBlock}
 use Rattle.vol_layout.specs.Body.{body_byte, zone_byte}
 use Rattle.vol_layout.specs.declared.geometry.Geometry.{Geometry}
 use Rattle.vol_layout.specs.declared.places.Form.{Form}
@@ -19,7 +19,7 @@ use Rattle.vol_layout.proofs.NameLaws.{zone_some, zero_out, holds_named, named_h
 use Rattle.vol_layout.proofs.FrameLaws.{block_keeps_inode, places_kept, named_apart, stored_kept, body_byte_there, body_byte_elsewhere}
 use Rattle.vol_free.specs.Stack.{IsIn, IsFree}
 use Rattle.vol_free.proofs.Frames.{IsFree-within}
-use Rattle.vol_file.specs.Rules.{size_of, IsSoundWith, IsCovered}
+use Rattle.vol_file.specs.Rules.{size_of, Rules3To7With, IsCovered}
 use Rattle.vol_file.specs.Steps.{Rewrites}
 use Rattle.vol_file.proofs.Alone.{fits_len, elsewhere_self, elsewhere_then, elsewhere_before, elsewhere_named, elsewhere_names, keeps_then}
 use Rattle.vol_file.proofs.Cells.{block_elsewhere}
@@ -46,10 +46,10 @@ same_names geometry old new i j p fits one stays mode names place =
     ]
 
 -- the rules hold where the names, the kinds, the sizes and the free blocks stay
-pub same_sound : (geometry : Geometry) (old new blocks : List ℕ) (i : ℕ) → IsSoundWith geometry old blocks → 1 ≤ i → StaysElsewhere geometry old new i
+pub same_sound : (geometry : Geometry) (old new blocks : List ℕ) (i : ℕ) → Rules3To7With geometry old blocks → 1 ≤ i → StaysElsewhere geometry old new i
     → mode_of geometry new i ≡ mode_of geometry old i → size_of geometry new i ≡ size_of geometry old i
     → ((q : List ℕ) → IsPlaceOf geometry old i q → named geometry new i q ≡ named geometry old i q)
-    → IsFree geometry new blocks → IsSoundWith geometry new blocks
+    → IsFree geometry new blocks → Rules3To7With geometry new blocks
 same_sound geometry old new blocks i sound one stays mode size names free =
     let same : (j : ℕ) (p : List ℕ) → IsPlaceOf geometry new j p → IsPlaceOf geometry old j p × (named geometry new j p ≡ named geometry old j p) =
     λ j p place. same_names geometry old new i j p sound.fits one stays mode names place in
@@ -67,7 +67,7 @@ same_sound geometry old new blocks i sound one stays mode size names free =
     }
 
 -- each data block stays free or named where the names stay
-pub same_covered : (geometry : Geometry) (old new blocks : List ℕ) (i : ℕ) → IsSoundWith geometry old blocks → 1 ≤ i → StaysElsewhere geometry old new i
+pub same_covered : (geometry : Geometry) (old new blocks : List ℕ) (i : ℕ) → Rules3To7With geometry old blocks → 1 ≤ i → StaysElsewhere geometry old new i
     → mode_of geometry new i ≡ mode_of geometry old i
     → ((q : List ℕ) → IsPlaceOf geometry old i q → named geometry new i q ≡ named geometry old i q)
     → IsCovered geometry old blocks → IsCovered geometry new blocks
@@ -79,9 +79,9 @@ same_covered geometry old new blocks i sound one stays mode names covered k zone
         p,
         elim (cases_eq j i) [
           | inl e ↦
-              let is_i : Names geometry old i p k = subst (λ x. Names geometry old x p k) e is in
+              let is_i : NamesBlock geometry old i p k = subst (λ x. NamesBlock geometry old x p k) e is in
               let held = holds_named geometry old i p k is_i.holds in
-              subst (λ x. Names geometry new x p k) (sym e) (record {
+              subst (λ x. NamesBlock geometry new x p k) (sym e) (record {
                 place = place_same geometry old new i p mode is_i.place;
                 holds = named_holds geometry new i p k (fits_len geometry old new stays.len sound.fits) (names p is_i.place ∙ held.0) held.1;
               })
@@ -91,7 +91,7 @@ same_covered geometry old new blocks i sound one stays mode names covered k zone
     ]
 
 -- a logical block whose last place names the same data block is the same
-stored_once : (geometry : Geometry) (image blocks : List ℕ) (i b c k : ℕ) (p : List ℕ) → IsSoundWith geometry image blocks → IsFile geometry image i
+stored_once : (geometry : Geometry) (image blocks : List ℕ) (i b c k : ℕ) (p : List ℕ) → Rules3To7With geometry image blocks → IsFile geometry image i
     → last_place (form_at geometry image i) b ≡ Some p → named geometry image i p ≡ k → k ≢ 0
     → stored geometry image i (form_at geometry image i) c ≡ k → c ≡ b
 stored_once geometry image blocks i b c k p sound file e is some same =
@@ -106,7 +106,7 @@ stored_once geometry image blocks i b c k p sound file e is some same =
     ] refl same
 
 -- no indirect block of the file is the data block of a last place
-leaf_apart : (geometry : Geometry) (image blocks : List ℕ) (i b k : ℕ) (p q : List ℕ) → IsSoundWith geometry image blocks → IsFile geometry image i
+leaf_apart : (geometry : Geometry) (image blocks : List ℕ) (i b k : ℕ) (p q : List ℕ) → Rules3To7With geometry image blocks → IsFile geometry image i
     → last_place (form_at geometry image i) b ≡ Some p → named geometry image i p ≡ k → k ≢ 0
     → IsPlace (form_at geometry image i) q → 1 ≤ levels_below (form_at geometry image i) q → named geometry image i q ≢ k
 leaf_apart geometry image blocks i b k p q sound file e is some place deep same =
@@ -118,7 +118,7 @@ leaf_apart geometry image blocks i b k p q sound file e is some place deep same 
 
 -- bytes s to e of the data block of logical block b are written
 pub rewrites_block : (geometry : Geometry) (old new blocks : List ℕ) (i b k s e : ℕ) (p : List ℕ) (content : ℕ → ℕ)
-    → IsSoundWith geometry old blocks → IsFile geometry old i → last_place (form_at geometry old i) b ≡ Some p
+    → Rules3To7With geometry old blocks → IsFile geometry old i → last_place (form_at geometry old i) b ≡ Some p
     → named geometry old i p ≡ k → in_zone geometry k ≡ true → s ≤ e → e ≤ 512
     → SameOutside old new (512 * k + s) (512 * k + e)
     → ((r : ℕ) → s ≤ r → r < e → get_or new (512 * k + r) 0 ≡ content (512 * b + r))
@@ -170,7 +170,7 @@ rewrites_block geometry old new blocks i b k s e p content sound file last is zo
     }
 
 -- nothing is written where the bytes are the wanted ones
-pub rewrites_none : (geometry : Geometry) (image blocks : List ℕ) (i lo hi : ℕ) (content : ℕ → ℕ) → IsSoundWith geometry image blocks
+pub rewrites_none : (geometry : Geometry) (image blocks : List ℕ) (i lo hi : ℕ) (content : ℕ → ℕ) → Rules3To7With geometry image blocks
     → ((n : ℕ) → lo ≤ n → n < hi → body_byte geometry image i n ≡ content n) → Rewrites geometry image image i lo hi content blocks
 rewrites_none geometry image blocks i lo hi content sound bytes = record {
   alone = elsewhere_self geometry image i;
@@ -186,7 +186,7 @@ rewrites_none geometry image blocks i lo hi content sound bytes = record {
 }
 
 -- two pieces one after the other
-pub rewrites_then : (geometry : Geometry) (old mid new blocks : List ℕ) (i lo at hi : ℕ) (content : ℕ → ℕ) → IsSoundWith geometry old blocks → 1 ≤ i
+pub rewrites_then : (geometry : Geometry) (old mid new blocks : List ℕ) (i lo at hi : ℕ) (content : ℕ → ℕ) → Rules3To7With geometry old blocks → 1 ≤ i
     → lo ≤ at → at ≤ hi → Rewrites geometry old mid i lo at content blocks → Rewrites geometry mid new i at hi content blocks
     → Rewrites geometry old new i lo hi content blocks
 rewrites_then geometry old mid new blocks i lo at hi content sound one low high a b = record {
@@ -203,7 +203,7 @@ rewrites_then geometry old mid new blocks i lo at hi content sound one low high 
 }
 
 -- bytes from byte `at` on are written, in the data block that is stored for their logical block
-pub rewrites_stored : (geometry : Geometry) (old new blocks : List ℕ) (i at len k : ℕ) (content : ℕ → ℕ) → IsSoundWith geometry old blocks
+pub rewrites_stored : (geometry : Geometry) (old new blocks : List ℕ) (i at len k : ℕ) (content : ℕ → ℕ) → Rules3To7With geometry old blocks
     → IsFile geometry old i → stored geometry old i (form_at geometry old i) (at / 512) ≡ k → in_zone geometry k ≡ true → at % 512 + len ≤ 512
     → SameOutside old new (512 * k + at % 512) (512 * k + at % 512 + len)
     → ((n : ℕ) → n < len → get_or new (512 * k + at % 512 + n) 0 ≡ content (at + n))
@@ -238,7 +238,7 @@ hole_zero geometry image i at n fits hole same =
     ∙ (ap (λ m. zone_byte geometry image m (n % 512)) hole ∙ zone_byte_out geometry image 0 (n % 512) (zero_out geometry image fits)))
 
 -- a block that is stored, and isn't 0, is a data block
-pub stored_zone : (geometry : Geometry) (image blocks : List ℕ) (i b : ℕ) → IsSoundWith geometry image blocks → IsFile geometry image i
+pub stored_zone : (geometry : Geometry) (image blocks : List ℕ) (i b : ℕ) → Rules3To7With geometry image blocks → IsFile geometry image i
     → stored geometry image i (form_at geometry image i) b ≢ 0 → in_zone geometry (stored geometry image i (form_at geometry image i) b) ≡ true
 stored_zone geometry image blocks i b sound file =
     elim (last_place (form_at geometry image i) b) as (λ o. last_place (form_at geometry image i) b ≡ o → option_map_or (named geometry image i) o 0 ≢ 0

@@ -10,7 +10,7 @@ use Rattle.vol_layout.specs.Geometry.{in_zone}
 use Rattle.vol_layout.specs.Inode.{inode_place, address_at, address_count, address_bytes, address_place}
 use Rattle.vol_layout.specs.Places.{IsPlace, pointer_count}
 use Rattle.vol_layout.specs.Laws.{IsFront}
-use Rattle.vol_layout.specs.Names.{mode_of, form_at, IsFile, IsPlaceOf, named, pointer_in, Names}
+use Rattle.vol_layout.specs.Names.{mode_of, form_at, IsFile, IsPlaceOf, named, pointer_in, NamesBlock}
 use Rattle.vol_layout.specs.declared.edition.Edition.{Edition}
 use Rattle.vol_layout.specs.declared.edition.Edition.TheVariants.{V6, V7}
 use Rattle.vol_layout.specs.declared.geometry.Geometry.{Geometry}
@@ -24,7 +24,7 @@ use Rattle.vol_layout.proofs.FrameLaws.{pointers_of, addresses_of, block_keeps_i
 use Rattle.vol_free.specs.Stack.{IsIn}
 use Rattle.vol_free.proofs.Stacks.{head_end}
 use Rattle.vol_free.proofs.Frames.{IsFree-before_zone, IsFree-within}
-use Rattle.vol_file.specs.Rules.{IsSoundWith}
+use Rattle.vol_file.specs.Rules.{Rules3To7With}
 use Rattle.vol_file.specs.Changes.{StaysElsewhere, is_kept_byte}
 use Rattle.vol_file.proofs.Stores.{Stores}
 use Rattle.vol_file.proofs.Fronts.{front_longer}
@@ -54,14 +54,14 @@ kept_apart V7 i k r kept h =
     elim (cases_lt r 12) [ inl less ↦ inl (omega arith) | inr more ↦ let high : 51 ≤ r = grind (arith, nat_tests) in inr (omega arith) ]
 
 -- a block that a file names by the rules is a data block, where the rules hold
-pub names_zoned : (geometry : Geometry) (image : List ℕ) (blocks : List ℕ) (j : ℕ) (p : List ℕ) (k : ℕ) → IsSoundWith geometry image blocks
-    → Names geometry image j p k → in_zone geometry k ≡ true
+pub names_zoned : (geometry : Geometry) (image : List ℕ) (blocks : List ℕ) (j : ℕ) (p : List ℕ) (k : ℕ) → Rules3To7With geometry image blocks
+    → NamesBlock geometry image j p k → in_zone geometry k ≡ true
 names_zoned geometry image blocks j p k sound names =
     let held = holds_named geometry image j p k names.holds in
     subst (λ m. in_zone geometry m ≡ true) held.0 (sound.zoned j p names.place (λ zero. held.1 (sym held.0 ∙ zero)))
 
 -- a write of an address leaves all but file i
-address_elsewhere : (geometry : Geometry) (old new blocks : List ℕ) (i k : ℕ) → IsSoundWith geometry old blocks → IsFile geometry old i
+address_elsewhere : (geometry : Geometry) (old new blocks : List ℕ) (i k : ℕ) → Rules3To7With geometry old blocks → IsFile geometry old i
     → k < address_count geometry.edition
     → SameOutside old new (address_place geometry.edition i k) (address_place geometry.edition i k + address_bytes geometry.edition)
     → StaysElsewhere geometry old new i
@@ -87,7 +87,7 @@ address_elsewhere geometry old new blocks i k sound file h same =
     }
 
 -- a number put in address k of file i is what that address names, and places that don't begin with it name what they did
-pub stores_address : (geometry : Geometry) (old new blocks : List ℕ) (i k v : ℕ) → IsSoundWith geometry old blocks → IsFile geometry old i
+pub stores_address : (geometry : Geometry) (old new blocks : List ℕ) (i k v : ℕ) → Rules3To7With geometry old blocks → IsFile geometry old i
     → k < address_count geometry.edition
     → SameOutside old new (address_place geometry.edition i k) (address_place geometry.edition i k + address_bytes geometry.edition)
     → address_at geometry.edition new (inode_place geometry.edition i) k ≡ v → Stores geometry old new i (k ∷ []) v blocks
@@ -126,7 +126,7 @@ pub entry_end : (at size j : ℕ) → size * j + size ≤ 512 → at + size * (j
 entry_end at size j h = let more : size * (j + 1) ≡ size * j + size = grind arith in omega arith
 
 -- a write within a block that a place of file i names leaves all but file i
-pub block_elsewhere : (geometry : Geometry) (old new blocks : List ℕ) (i m : ℕ) (q : List ℕ) → IsSoundWith geometry old blocks
+pub block_elsewhere : (geometry : Geometry) (old new blocks : List ℕ) (i m : ℕ) (q : List ℕ) → Rules3To7With geometry old blocks
     → IsPlaceOf geometry old i q → named geometry old i q ≡ m → in_zone geometry m ≡ true
     → SameOutside old new (512 * m) (512 * m + 512) → StaysElsewhere geometry old new i
 block_elsewhere geometry old new blocks i m q sound place is zone same =
@@ -150,7 +150,7 @@ block_elsewhere geometry old new blocks i m q sound place is zone same =
 
 -- a number put in entry j of the block that a place of file i names is what that entry names, and places that don't go
 -- through it name what they did
-pub stores_entry : (geometry : Geometry) (old new blocks : List ℕ) (i m j a v : ℕ) (p : List ℕ) → IsSoundWith geometry old blocks
+pub stores_entry : (geometry : Geometry) (old new blocks : List ℕ) (i m j a v : ℕ) (p : List ℕ) → Rules3To7With geometry old blocks
     → IsPlaceOf geometry old i (j ∷ (a ∷ p)) → named geometry old i (a ∷ p) ≡ m → in_zone geometry m ≡ true
     → SameOutside old new (512 * m + (constants geometry.edition).number_bytes * j) (512 * m + (constants geometry.edition).number_bytes * (j + 1))
     → number geometry.edition new (512 * m) j ≡ v → Stores geometry old new i (j ∷ (a ∷ p)) v blocks

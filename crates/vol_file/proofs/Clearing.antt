@@ -8,7 +8,7 @@ use Rattle.vol_layout.specs.Names.{form_at, IsPlaceOf, named}
 use Rattle.vol_layout.specs.declared.geometry.Geometry.{Geometry}
 use Rattle.vol_layout.proofs.PlaceLaws.{place_front}
 use Rattle.vol_layout.proofs.NameLaws.{entry_in}
-use Rattle.vol_file.specs.Rules.{IsSoundWith, IsCovered}
+use Rattle.vol_file.specs.Rules.{Rules3To7With, IsCovered}
 use Rattle.vol_file.specs.Clears.{IsUnder, blocks_at, places_among, places_below, IsNamedAt, IsEmptyUnder, Clears}
 use Rattle.vol_file.proofs.Alone.{elsewhere_self, elsewhere_then}
 use Rattle.vol_file.proofs.BlockLists.{at_nil, at_some, from_below, below_same, from_none, among_step}
@@ -17,7 +17,7 @@ use Rattle.vol_file.proofs.Naming.{place_same}
 use Rattle.vol_file.proofs.Taking.{rest_within}
 
 -- where places name nothing already, nothing is done to clear them
-pub clears_none : (geometry : Geometry) (image : List ℕ) (i : ℕ) (Cleared : List ℕ → Type 0) (blocks : List ℕ) → IsSoundWith geometry image blocks
+pub clears_none : (geometry : Geometry) (image : List ℕ) (i : ℕ) (Cleared : List ℕ → Type 0) (blocks : List ℕ) → Rules3To7With geometry image blocks
     → ((q : List ℕ) → IsPlaceOf geometry image i q → Cleared q → named geometry image i q ≡ 0)
     → Clears geometry image image i Cleared [] blocks
 clears_none geometry image i Cleared blocks sound none = record {
@@ -44,7 +44,7 @@ clears_then geometry old mid new i First Second Both given more blocks fits one 
       alone = elsewhere_then geometry old mid new i fits one s.alone t.alone;
       mode = t.mode ∙ s.mode;
       size = t.size ∙ s.size;
-      sound = subst (IsSoundWith geometry new) list t.sound;
+      sound = subst (Rules3To7With geometry new) list t.sound;
       covered = λ covered. subst (IsCovered geometry new) list (t.covered (s.covered covered));
       less = λ q place. elim (t.less q (place_same geometry old mid i q s.mode place)) [
         | inl e ↦ elim (s.less q place) [ inl f ↦ inl (e ∙ f) | inr none ↦ inr (e ∙ none) ]
@@ -71,7 +71,7 @@ clears_as geometry old new i Cleared Other given same blocks e split other s = r
   alone = s.alone;
   mode = s.mode;
   size = s.size;
-  sound = subst (λ xs. IsSoundWith geometry new (xs ++ blocks)) e s.sound;
+  sound = subst (λ xs. Rules3To7With geometry new (xs ++ blocks)) e s.sound;
   covered = λ covered. subst (λ xs. IsCovered geometry new (xs ++ blocks)) e (s.covered covered);
   less = s.less;
   gone = λ q place o. elim (split q place o) [ inl cleared ↦ s.gone q place cleared | inr none ↦ none ];
@@ -86,7 +86,7 @@ ClearsFrom geometry old new i n level p count j blocks =
 
 -- before the first step no entry is cleared
 pub from_start : (geometry : Geometry) (image : List ℕ) (i n : ℕ) (level : ℕ → ℕ) (p : List ℕ) (count j : ℕ) (blocks : List ℕ) → j ≡ count
-    → IsSoundWith geometry image blocks → ((x : ℕ) → IsPlaceOf geometry image i (x ∷ p) → x < count)
+    → Rules3To7With geometry image blocks → ((x : ℕ) → IsPlaceOf geometry image i (x ∷ p) → x < count)
     → ClearsFrom geometry image image i n level p count j blocks
 from_start geometry image i n level p count j blocks e sound few =
     let none : count - j ≡ 0 = omega arith in
@@ -166,7 +166,7 @@ pub entry_place : (geometry : Geometry) (image : List ℕ) (i j a : ℕ) (p : Li
 entry_place geometry image i j a p place deep low = record { file = place.file; place = (low, deep, place.place) }
 
 -- the number at an entry of a block that a place names is what the entry names
-pub entry_named : (geometry : Geometry) (image blocks : List ℕ) (i j a m : ℕ) (p : List ℕ) → IsSoundWith geometry image blocks
+pub entry_named : (geometry : Geometry) (image blocks : List ℕ) (i j a m : ℕ) (p : List ℕ) → Rules3To7With geometry image blocks
     → IsNamedAt geometry image i (a ∷ p) m → named geometry image i (j ∷ (a ∷ p)) ≡ number geometry.edition image (512 * m) j
 entry_named geometry image blocks i j a m p sound is =
     let zone : in_zone geometry m ≡ true =

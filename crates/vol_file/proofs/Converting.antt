@@ -6,7 +6,7 @@ use Rattle.std.proofs.lemmas.Bool.{cases_lt, cases_eq, lt-ltb, le-ltb, ne_eqb}
 use Rattle.vol_layout.specs.Geometry.{in_zone, Fits}
 use Rattle.vol_layout.specs.Inode.{kind_of, with_large}
 use Rattle.vol_layout.specs.Places.{IsPlace, has_places, levels, levels_below, last_place}
-use Rattle.vol_layout.specs.Names.{mode_of, form_at, IsFile, IsPlaceOf, named, stored, Names}
+use Rattle.vol_layout.specs.Names.{mode_of, form_at, IsFile, IsPlaceOf, named, stored, NamesBlock}
 use Rattle.vol_layout.specs.Body.{body_byte, zone_byte}
 use Rattle.vol_layout.specs.declared.geometry.Geometry.{Geometry}
 use Rattle.vol_layout.specs.declared.places.Form.TheVariants.{Small, Large}
@@ -18,7 +18,7 @@ use Rattle.vol_layout.proofs.FrameLaws.{zone_byte_kept}
 use Rattle.vol_free.specs.Stack.{IsIn, IsFree}
 use Rattle.vol_free.proofs.Frames.{free_zone, free_from}
 use Rattle.vol_file.specs.Shape.{is_named, moved_down}
-use Rattle.vol_file.specs.Rules.{size_of, kind_at, HasSizes, IsSoundWith, IsCovered}
+use Rattle.vol_file.specs.Rules.{size_of, kind_at, HasSizes, Rules3To7With, IsCovered}
 use Rattle.vol_file.specs.Steps.{Enlarges}
 use Rattle.vol_file.proofs.Alone.{fits_len, elsewhere_inode, elsewhere_before, elsewhere_named, elsewhere_names}
 use Rattle.vol_file.proofs.Naming.{kinds_kept, links_kept, sizes_stay}
@@ -109,7 +109,7 @@ origin_there geometry old new i b rest j p fits one moves other place =
     Origin.kept other before (elsewhere_named geometry old new i j p fits moves.alone one other before)
 
 -- each place
-origin : (geometry : Geometry) (old new : List ℕ) (i b : ℕ) (rest : List ℕ) → IsSoundWith geometry old (b ∷ rest) → 1 ≤ i
+origin : (geometry : Geometry) (old new : List ℕ) (i b : ℕ) (rest : List ℕ) → Rules3To7With geometry old (b ∷ rest) → 1 ≤ i
     → Moves geometry old new i b rest → (j : ℕ) (p : List ℕ) → IsPlaceOf geometry new j p → Origin geometry old new i b j p
 origin geometry old new i b rest sound one moves j p place =
     elim (cases_eq j i) [
@@ -126,7 +126,7 @@ old_place : (geometry : Geometry) (old new : List ℕ) (i b x : ℕ) (rest : Lis
 old_place geometry old new i b x rest file moves h = record { file = file; place = subst (λ f. IsPlace f (x ∷ [])) (sym moves.small) h }
 
 -- each number named is a data block's
-origin_zoned : (geometry : Geometry) (old new : List ℕ) (i b : ℕ) (rest : List ℕ) (j : ℕ) (p : List ℕ) → IsSoundWith geometry old (b ∷ rest)
+origin_zoned : (geometry : Geometry) (old new : List ℕ) (i b : ℕ) (rest : List ℕ) (j : ℕ) (p : List ℕ) → Rules3To7With geometry old (b ∷ rest)
     → IsFile geometry old i → Moves geometry old new i b rest → Origin geometry old new i b j p → named geometry new j p ≢ 0
     → in_zone geometry (named geometry new j p) ≡ true
 origin_zoned geometry old new i b rest j p sound file moves (Origin.fresh e f is) some = ap (in_zone geometry) is ∙ first_zoned geometry old b rest sound
@@ -137,7 +137,7 @@ origin_zoned geometry old new i b rest j p sound file moves (Origin.kept other p
 origin_zoned geometry old new i b rest j p sound file moves (Origin.none zero) some = absurd (some zero)
 
 -- no block that is named is free
-origin_outside : (geometry : Geometry) (old new : List ℕ) (i b : ℕ) (rest : List ℕ) (j : ℕ) (p : List ℕ) → IsSoundWith geometry old (b ∷ rest)
+origin_outside : (geometry : Geometry) (old new : List ℕ) (i b : ℕ) (rest : List ℕ) (j : ℕ) (p : List ℕ) → Rules3To7With geometry old (b ∷ rest)
     → IsFile geometry old i → Moves geometry old new i b rest → Origin geometry old new i b j p → IsIn (named geometry new j p) rest → ⊥
 origin_outside geometry old new i b rest j p sound file moves (Origin.fresh e f is) within =
     first_once geometry old b rest sound (subst (λ k. IsIn k rest) is within)
@@ -153,7 +153,7 @@ head_same : (x y : ℕ) (p : List ℕ) → x ∷ p ≡ y ∷ p → x ≡ y
 head_same x y p e = cc
 
 -- no block is named twice
-origin_apart : (geometry : Geometry) (old new : List ℕ) (i b : ℕ) (rest : List ℕ) (j k : ℕ) (p r : List ℕ) → IsSoundWith geometry old (b ∷ rest)
+origin_apart : (geometry : Geometry) (old new : List ℕ) (i b : ℕ) (rest : List ℕ) (j k : ℕ) (p r : List ℕ) → Rules3To7With geometry old (b ∷ rest)
     → IsFile geometry old i → Moves geometry old new i b rest → Origin geometry old new i b j p → Origin geometry old new i b k r
     → named geometry new j p ≢ 0 → named geometry new j p ≡ named geometry new k r → (j ≡ k) × (p ≡ r)
 origin_apart geometry old new i b rest j k p r sound file moves (Origin.none zero) second some same = absurd (some zero)
@@ -182,7 +182,7 @@ origin_apart geometry old new i b rest j k p r sound file moves (Origin.kept oth
     sound.apart j k p r place place' (λ zero. some (is ∙ zero)) (sym is ∙ (same ∙ is'))
 
 -- the kinds stay
-large_kinds : (geometry : Geometry) (old new : List ℕ) (i b : ℕ) (rest : List ℕ) → IsSoundWith geometry old (b ∷ rest) → IsFile geometry old i
+large_kinds : (geometry : Geometry) (old new : List ℕ) (i b : ℕ) (rest : List ℕ) → Rules3To7With geometry old (b ∷ rest) → IsFile geometry old i
     → Moves geometry old new i b rest → (j : ℕ) → 1 ≤ j → j ≤ geometry.last_inode → kind_at geometry new j ≡ kind_at geometry old j
 large_kinds geometry old new i b rest sound file moves j first last =
     elim (cases_eq j i) [
@@ -196,7 +196,7 @@ large_small : Large ≡ Small → ⊥
 large_small e = cc
 
 -- the sizes keep their rule
-large_sizes : (geometry : Geometry) (old new : List ℕ) (i b : ℕ) (rest : List ℕ) → IsSoundWith geometry old (b ∷ rest) → IsFile geometry old i
+large_sizes : (geometry : Geometry) (old new : List ℕ) (i b : ℕ) (rest : List ℕ) → Rules3To7With geometry old (b ∷ rest) → IsFile geometry old i
     → Moves geometry old new i b rest → HasSizes geometry new
 large_sizes geometry old new i b rest sound file moves =
     let one = file.first in
@@ -216,8 +216,8 @@ large_sizes geometry old new i b rest sound file moves =
     }
 
 -- the rules hold once the file is large
-large_sound : (geometry : Geometry) (old new : List ℕ) (i b : ℕ) (rest : List ℕ) → IsSoundWith geometry old (b ∷ rest) → IsFile geometry old i
-    → Moves geometry old new i b rest → IsSoundWith geometry new rest
+large_sound : (geometry : Geometry) (old new : List ℕ) (i b : ℕ) (rest : List ℕ) → Rules3To7With geometry old (b ∷ rest) → IsFile geometry old i
+    → Moves geometry old new i b rest → Rules3To7With geometry new rest
 large_sound geometry old new i b rest sound file moves =
     let from = origin geometry old new i b rest sound file.first moves in
     record {
@@ -247,7 +247,7 @@ moved_place : (x : ℕ) → x < 8 → IsPlace Large (x ∷ (0 ∷ []))
 moved_place x h = (omega arith, omega arith, omega arith)
 
 -- each data block is free or named, where it was
-large_covered : (geometry : Geometry) (old new : List ℕ) (i b : ℕ) (rest : List ℕ) → IsSoundWith geometry old (b ∷ rest) → IsFile geometry old i
+large_covered : (geometry : Geometry) (old new : List ℕ) (i b : ℕ) (rest : List ℕ) → Rules3To7With geometry old (b ∷ rest) → IsFile geometry old i
     → Moves geometry old new i b rest → IsFile geometry new i → IsCovered geometry old (b ∷ rest) → IsCovered geometry new rest
 unfolding IsIn
 large_covered geometry old new i b rest sound file moves file_new covered k zone =
@@ -265,7 +265,7 @@ large_covered geometry old new i b rest sound file moves file_new covered k zone
       | inl (inr within) ↦ inl within
       | inr (j, p, names) ↦ elim (cases_eq j i) [
         | inl e ↦
-            let names_i : Names geometry old i p k = subst (λ x. Names geometry old x p k) e names in
+            let names_i : NamesBlock geometry old i p k = subst (λ x. NamesBlock geometry old x p k) e names in
             let held = holds_named geometry old i p k names_i.holds in
             let at = small_place p (subst (λ f. IsPlace f p) moves.small names_i.place.place) in
             inr (
@@ -336,7 +336,7 @@ large_stored geometry old new i b rest c fits moves high =
     ] refl
 
 -- the bytes of the file stay
-large_bytes : (geometry : Geometry) (old new : List ℕ) (i b : ℕ) (rest : List ℕ) → IsSoundWith geometry old (b ∷ rest) → IsFile geometry old i
+large_bytes : (geometry : Geometry) (old new : List ℕ) (i b : ℕ) (rest : List ℕ) → Rules3To7With geometry old (b ∷ rest) → IsFile geometry old i
     → Moves geometry old new i b rest → (n : ℕ) → body_byte geometry new i n ≡ body_byte geometry old i n
 large_bytes geometry old new i b rest sound file moves n =
     let c = n / 512 in
@@ -365,7 +365,7 @@ large_bytes geometry old new i b rest sound file moves n =
     ∙ sym (body_byte_is geometry old i n ∙ ap (λ f. zone_byte geometry old (stored geometry old i f c) r) moves.small)))
 
 -- a file that was made large
-pub enlarges : (geometry : Geometry) (old new : List ℕ) (i b : ℕ) (rest : List ℕ) → IsSoundWith geometry old (b ∷ rest) → IsFile geometry old i
+pub enlarges : (geometry : Geometry) (old new : List ℕ) (i b : ℕ) (rest : List ℕ) → Rules3To7With geometry old (b ∷ rest) → IsFile geometry old i
     → Moves geometry old new i b rest → Enlarges geometry old new i (b ∷ rest)
 enlarges geometry old new i b rest sound file moves =
     let file_new : IsFile geometry new i = record { first = file.first; last = file.last; kind = ap has_places moves.kind ∙ file.kind } in

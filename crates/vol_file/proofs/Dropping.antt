@@ -12,7 +12,7 @@ use Rattle.vol_layout.proofs.PlaceLaws.{front_self}
 use Rattle.vol_layout.proofs.NameLaws.{zone_some, named_holds, holds_named}
 use Rattle.vol_free.specs.Stack.{IsIn, IsFree, StaysBut}
 use Rattle.vol_free.proofs.Frames.{free_zone}
-use Rattle.vol_file.specs.Rules.{size_of, IsSoundWith, IsCovered}
+use Rattle.vol_file.specs.Rules.{size_of, Rules3To7With, IsCovered}
 use Rattle.vol_file.proofs.Stores.{Stores}
 use Rattle.vol_file.specs.Clears.{IsNamedAt, IsEmptyUnder, Clears}
 use Rattle.vol_file.proofs.Alone.{fits_len, elsewhere_before, elsewhere_named, elsewhere_names, elsewhere_then}
@@ -29,7 +29,7 @@ pub record IsReleased (geometry : Geometry) (image : List ℕ) (b : ℕ) : Type 
   pub unnamed : IsUnnamed geometry image b
 
 -- once the number at its place is 0, no place names a block
-stored_unnamed : (geometry : Geometry) (old mid blocks : List ℕ) (i b : ℕ) (q : List ℕ) → IsSoundWith geometry old blocks
+stored_unnamed : (geometry : Geometry) (old mid blocks : List ℕ) (i b : ℕ) (q : List ℕ) → Rules3To7With geometry old blocks
     → IsNamedAt geometry old i q b → Stores geometry old mid i q 0 blocks → IsReleased geometry mid b
 stored_unnamed geometry old mid blocks i b q sound is store =
     let some : named geometry old i q ≢ 0 = λ zero. is.some (sym is.names ∙ zero) in
@@ -66,7 +66,7 @@ record Dropped (geometry : Geometry) (old new : List ℕ) (i : ℕ) (q : List �
   kept : (p : List ℕ) → IsPlaceOf geometry old i p → (IsFront q p → ⊥) → named geometry new i p ≡ named geometry old i p
 
 -- the two steps leave that
-dropped : (geometry : Geometry) (old mid new blocks : List ℕ) (i b : ℕ) (q : List ℕ) → IsSoundWith geometry old blocks
+dropped : (geometry : Geometry) (old mid new blocks : List ℕ) (i b : ℕ) (q : List ℕ) → Rules3To7With geometry old blocks
     → IsNamedAt geometry old i q b → Stores geometry old mid i q 0 blocks → StaysBut geometry mid new b 202 → Dropped geometry old new i q
 dropped geometry old mid new blocks i b q sound is store stays =
     let free = stored_unnamed geometry old mid blocks i b q sound is store in
@@ -91,7 +91,7 @@ dropped geometry old mid new blocks i b q sound is store stays =
     }
 
 -- file i lessens by it
-lessens : (geometry : Geometry) (old new blocks : List ℕ) (i : ℕ) (q : List ℕ) → IsSoundWith geometry old blocks → IsFile geometry old i
+lessens : (geometry : Geometry) (old new blocks : List ℕ) (i : ℕ) (q : List ℕ) → Rules3To7With geometry old blocks → IsFile geometry old i
     → Dropped geometry old new i q → Lessens geometry old new i
 lessens geometry old new blocks i q sound file drop = record {
   alone = drop.alone;
@@ -117,7 +117,7 @@ unfolding IsIn
 first_in k b blocks e = inl e
 
 -- each data block is free or named, also after block b was given
-dropped_covered : (geometry : Geometry) (old new blocks : List ℕ) (i b : ℕ) (q : List ℕ) → IsSoundWith geometry old blocks
+dropped_covered : (geometry : Geometry) (old new blocks : List ℕ) (i b : ℕ) (q : List ℕ) → Rules3To7With geometry old blocks
     → IsNamedAt geometry old i q b → IsEmptyUnder geometry old i q → Dropped geometry old new i q
     → IsCovered geometry old blocks → IsCovered geometry new (b ∷ blocks)
 dropped_covered geometry old new blocks i b q sound is empty drop covered k zone = elim (covered k zone) [
@@ -147,7 +147,7 @@ dropped_covered geometry old new blocks i b q sound is empty drop covered k zone
 ]
 
 -- making the number at a place 0 and giving back its block clears the place
-pub drops : (geometry : Geometry) (old mid new blocks : List ℕ) (i b : ℕ) (q : List ℕ) → IsSoundWith geometry old blocks
+pub drops : (geometry : Geometry) (old mid new blocks : List ℕ) (i b : ℕ) (q : List ℕ) → Rules3To7With geometry old blocks
     → IsNamedAt geometry old i q b → IsEmptyUnder geometry old i q → Stores geometry old mid i q 0 blocks
     → StaysBut geometry mid new b 202 → IsFree geometry new (b ∷ blocks) → Clears geometry old new i (IsFront q) (b ∷ []) blocks
 drops geometry old mid new blocks i b q sound is empty store stays free =

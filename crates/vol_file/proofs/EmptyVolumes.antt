@@ -17,7 +17,7 @@ use Rattle.vol_layout.proofs.NameLaws.{zone_some}
 use Rattle.vol_layout.proofs.KindLaws.{kind_zero}
 use Rattle.vol_free.specs.Stack.{IsFree}
 use Rattle.vol_free.proofs.Frames.{IsFree-before_zone, free_zone}
-use Rattle.vol_file.specs.Rules.{size_of, kind_at, HasKinds, IsSoundWith}
+use Rattle.vol_file.specs.Rules.{size_of, kind_at, HasKinds, Rules3To7With}
 use Rattle.vol_file.proofs.Fronts.{front_zero}
 use Rattle.vol_file.proofs.Truncated.{addresses_file}
 use Rattle.vol_file.proofs.PlaceLists.{front_first}
@@ -118,7 +118,7 @@ bare_named geometry image j p fits bare place =
 
 -- the rules hold where each i-node has nothing but a mode, and the kinds are as they must be
 pub bare_sound : (geometry : Geometry) (image blocks : List ℕ) → Fits geometry image → HasBareInodes geometry image → HasKinds geometry image
-    → IsFree geometry image blocks → IsSoundWith geometry image blocks
+    → IsFree geometry image blocks → Rules3To7With geometry image blocks
 bare_sound geometry image blocks fits bare kinds free =
     let size : (j : ℕ) → 1 ≤ j → j ≤ geometry.last_inode → size_of geometry image j ≡ 0 =
     λ j first last. size_zero geometry.edition image (inode_place geometry.edition j) (bare.bytes j first last) in
@@ -188,7 +188,7 @@ pub volume_sound : (geometry : Geometry) (old mid new blocks : List ℕ) (i dire
     → mode_of geometry mid (constants geometry.edition).root ≡ directory → kind_of geometry.edition directory ≡ kinds.Directory
     → SameOutside mid new (inode_place geometry.edition i) (inode_place geometry.edition i + 2)
     → mode_of geometry new i ≡ regular → kind_of geometry.edition regular ≡ kinds.Regular
-    → (constants geometry.edition).root < i → i ≤ geometry.last_inode → IsSoundWith geometry new blocks
+    → (constants geometry.edition).root < i → i ≤ geometry.last_inode → Rules3To7With geometry new blocks
 volume_sound geometry old mid new blocks i directory regular fits free zero first put_root is_directory second put_file is_regular above last =
     let root = (constants geometry.edition).root in
     let from : 1 ≤ root = root_first geometry.edition in

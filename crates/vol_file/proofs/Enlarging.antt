@@ -22,7 +22,7 @@ use Rattle.vol_free.specs.Stack.{IsFree, StaysBut, Popped}
 use Rattle.vol_free.proofs.Stacks.{head_end}
 use Rattle.vol_free.proofs.Frames.{IsFree-before_zone, IsFree-within}
 use Rattle.vol_file.specs.Changes.{StaysElsewhere, is_kept_byte}
-use Rattle.vol_file.specs.Rules.{kind_at, IsSoundWith}
+use Rattle.vol_file.specs.Rules.{kind_at, Rules3To7With}
 use Rattle.vol_file.proofs.Alone.{elsewhere_then}
 use Rattle.vol_file.proofs.Cells.{number_above, names_zoned}
 use Rattle.vol_file.proofs.Taking.{IsUnnamed, stays_block, stays_inode, stays_named, stays_before, stays_elsewhere, stays_sound, zone_two, first_unnamed, first_zoned, first_once, taken_sound}
@@ -108,7 +108,7 @@ word_empty V6 one b j v6 low high zero =
 word_empty V7 one b j v6 low high zero = absurd (cc)
 
 -- two writes within the i-node of file i leave all but it
-inode_elsewhere : (geometry : Geometry) (one three new rest : List ℕ) (i : ℕ) → geometry.edition ≡ V6 → IsSoundWith geometry one rest
+inode_elsewhere : (geometry : Geometry) (one three new rest : List ℕ) (i : ℕ) → geometry.edition ≡ V6 → Rules3To7With geometry one rest
     → 1 ≤ i → i ≤ geometry.last_inode
     → SameOutside one three (inode_place geometry.edition i + 8) (inode_place geometry.edition i + 24)
     → SameOutside three new (inode_place geometry.edition i) (inode_place geometry.edition i + 2) → StaysElsewhere geometry one new i
@@ -136,7 +136,7 @@ inode_elsewhere geometry one three new rest i v6 sound first last s t =
     }
 
 -- the writes move the addresses down
-pub moves : (geometry : Geometry) (old mid one two three new : List ℕ) (i b : ℕ) (rest : List ℕ) → IsSoundWith geometry old (b ∷ rest)
+pub moves : (geometry : Geometry) (old mid one two three new : List ℕ) (i b : ℕ) (rest : List ℕ) → Rules3To7With geometry old (b ∷ rest)
     → IsFile geometry old i → form_at geometry old i ≡ Small → IsMoved geometry old mid one two three new i b rest → Moves geometry old new i b rest
 moves geometry old mid one two three new i b rest sound file small m =
     let v6 : geometry.edition ≡ V6 = small_edition geometry.edition (mode_of geometry old i) small in
@@ -144,7 +144,7 @@ moves geometry old mid one two three new i b rest sound file small m =
     let zoned : in_zone geometry b ≡ true = first_zoned geometry old b rest sound in
     let bounds = zone_bounds geometry b zoned in
     let unnamed : IsUnnamed geometry old b = first_unnamed geometry old b rest sound in
-    let sound_mid : IsSoundWith geometry mid rest = taken_sound geometry old mid b rest sound m.popped in
+    let sound_mid : Rules3To7With geometry mid rest = taken_sound geometry old mid b rest sound m.popped in
     let room = place_room geometry old i sound.fits file.first file.last in
     let from = place_from geometry.edition i in
     let head = head_end geometry.edition in
@@ -160,7 +160,7 @@ moves geometry old mid one two three new i b rest sound file small m =
       above = λ k h. m.copy.above k (omega (arith, h));
     } in
     let free_one : IsFree geometry one rest = IsFree-within m.copy b two_b (omega arith) (omega arith) (first_once geometry old b rest sound) sound_mid.free in
-    let sound_one : IsSoundWith geometry one rest =
+    let sound_one : Rules3To7With geometry one rest =
     stays_sound geometry mid one rest rest b 512 sound_mid stays_one (omega arith) zoned unnamed_mid free_one sound_mid.outside in
     let file_mid : IsFile geometry mid i = record {
       first = file.first;

@@ -13,19 +13,19 @@ use Rattle.vol_layout.proofs.NameLaws.{named_stops, zero_out}
 use Rattle.vol_layout.proofs.FrameLaws.{addresses_few, pointers_of}
 use Rattle.vol_free.specs.Stack.{IsIn, IsFree}
 use Rattle.vol_free.proofs.Stacks.{IsFree_unique, zone_behind}
-use Rattle.vol_file.specs.Rules.{IsSoundWith}
+use Rattle.vol_file.specs.Rules.{Rules3To7With}
 use Rattle.vol_file.proofs.Stores.{Stores}
 use Rattle.vol_file.specs.Clears.{IsNamedAt}
 use Rattle.vol_file.proofs.Cells.{entry_end, stores_entry, stores_address}
 
 -- what a place names is a data block
-pub named_zone : (geometry : Geometry) (image blocks : List ℕ) (i b : ℕ) (q : List ℕ) → IsSoundWith geometry image blocks
+pub named_zone : (geometry : Geometry) (image blocks : List ℕ) (i b : ℕ) (q : List ℕ) → Rules3To7With geometry image blocks
     → IsNamedAt geometry image i q b → in_zone geometry b ≡ true
 named_zone geometry image blocks i b q sound is =
     ap (in_zone geometry) (sym is.names) ∙ sound.zoned i q is.place (λ none. is.some (sym is.names ∙ none))
 
 -- the block of an entry that names something is a data block, and the place that names it is one
-pub entry_above : (geometry : Geometry) (image blocks : List ℕ) (i j a m b : ℕ) (p : List ℕ) → IsSoundWith geometry image blocks
+pub entry_above : (geometry : Geometry) (image blocks : List ℕ) (i j a m b : ℕ) (p : List ℕ) → Rules3To7With geometry image blocks
     → named geometry image i (a ∷ p) ≡ m → IsNamedAt geometry image i (j ∷ (a ∷ p)) b → IsNamedAt geometry image i (a ∷ p) m
 entry_above geometry image blocks i j a m b p sound block is = record {
   place = record { file = is.place.file; place = is.place.place.2 };
@@ -36,7 +36,7 @@ entry_above geometry image blocks i j a m b p sound block is = record {
 }
 
 -- an entry lies within the image
-pub entry_room : (geometry : Geometry) (image blocks : List ℕ) (i j a m b : ℕ) (p : List ℕ) → IsSoundWith geometry image blocks
+pub entry_room : (geometry : Geometry) (image blocks : List ℕ) (i j a m b : ℕ) (p : List ℕ) → Rules3To7With geometry image blocks
     → named geometry image i (a ∷ p) ≡ m → IsNamedAt geometry image i (j ∷ (a ∷ p)) b
     → 512 * m + (constants geometry.edition).number_bytes * (j + 1) ≤ length image
 entry_room geometry image blocks i j a m b p sound block is =
@@ -48,7 +48,7 @@ entry_room geometry image blocks i j a m b p sound block is =
     omega (arith, end, bounds.1, sound.fits.blocks)
 
 -- 0 put in an entry
-pub entry_stores : (geometry : Geometry) (old new blocks : List ℕ) (i j a m b : ℕ) (p : List ℕ) → IsSoundWith geometry old blocks
+pub entry_stores : (geometry : Geometry) (old new blocks : List ℕ) (i j a m b : ℕ) (p : List ℕ) → Rules3To7With geometry old blocks
     → named geometry old i (a ∷ p) ≡ m → IsNamedAt geometry old i (j ∷ (a ∷ p)) b
     → SameOutside old new (512 * m + (constants geometry.edition).number_bytes * j) (512 * m + (constants geometry.edition).number_bytes * (j + 1))
     → number geometry.edition new (512 * m) j ≡ 0 → Stores geometry old new i (j ∷ (a ∷ p)) 0 blocks
@@ -57,7 +57,7 @@ entry_stores geometry old new blocks i j a m b p sound block is same put =
     (named_zone geometry old blocks i m (a ∷ p) sound (entry_above geometry old blocks i j a m b p sound block is)) same put
 
 -- 0 put in an address
-pub address_stores : (geometry : Geometry) (old new blocks : List ℕ) (i k b : ℕ) → IsSoundWith geometry old blocks
+pub address_stores : (geometry : Geometry) (old new blocks : List ℕ) (i k b : ℕ) → Rules3To7With geometry old blocks
     → IsNamedAt geometry old i (k ∷ []) b
     → SameOutside old new (address_place geometry.edition i k) (address_place geometry.edition i k + address_bytes geometry.edition)
     → address_at geometry.edition new (inode_place geometry.edition i) k ≡ 0 → Stores geometry old new i (k ∷ []) 0 blocks
@@ -67,7 +67,7 @@ address_stores geometry old new blocks i k b sound is same put =
     stores_address geometry old new blocks i k 0 sound is.place.file (omega (arith, few, low)) same put
 
 -- the block that a place named may be given back once the number there is 0
-pub stored_fresh : (geometry : Geometry) (old mid blocks : List ℕ) (i b : ℕ) (q : List ℕ) → IsSoundWith geometry old blocks
+pub stored_fresh : (geometry : Geometry) (old mid blocks : List ℕ) (i b : ℕ) (q : List ℕ) → Rules3To7With geometry old blocks
     → IsNamedAt geometry old i q b → Stores geometry old mid i q 0 blocks
     → (others : List ℕ) → IsFree geometry mid others → IsIn b others → ⊥
 stored_fresh geometry old mid blocks i b q sound is store others free within =

@@ -10,7 +10,7 @@ use Rattle.std.proofs.Math.Bool.{or-false}
 use Rattle.vol_layout.specs.Edition.{constants, number}
 use Rattle.vol_layout.specs.Geometry.{in_zone, Fits}
 use Rattle.vol_layout.specs.Places.{levels_below, last_place, places}
-use Rattle.vol_layout.specs.Names.{mode_of, form_at, IsFile, IsPlaceOf, named, stored, Names}
+use Rattle.vol_layout.specs.Names.{mode_of, form_at, IsFile, IsPlaceOf, named, stored, NamesBlock}
 use Rattle.vol_layout.specs.Body.{body_byte, zone_byte}
 use Rattle.vol_layout.specs.declared.geometry.Geometry.{Geometry}
 use Rattle.vol_layout.specs.declared.edition.Edition.{Edition}
@@ -24,7 +24,7 @@ use Rattle.vol_free.specs.Stack.{IsIn, Popped}
 use Rattle.vol_free.proofs.Frames.{free_zone}
 use Rattle.vol_file.specs.Changes.{StaysElsewhere, KeepsBlocks}
 use Rattle.vol_file.specs.Shape.{is_named}
-use Rattle.vol_file.specs.Rules.{IsSoundWith, IsCovered}
+use Rattle.vol_file.specs.Rules.{Rules3To7With, IsCovered}
 use Rattle.vol_file.specs.Steps.{lacking, HasName, Extends}
 use Rattle.vol_file.proofs.Stores.{Stores}
 use Rattle.vol_file.specs.Laws.{IsAmong}
@@ -110,8 +110,8 @@ lacking_less geometry old new i q wanted form place want before after others =
     (others p (record { file = place.file; place = among_places (form_at geometry old i) p among }) differ))
 
 -- the bytes of file i stay where a zeroed block is put at one of its places
-extends_bytes : (geometry : Geometry) (old mid new : List ℕ) (i b : ℕ) (q rest : List ℕ) → IsSoundWith geometry old (b ∷ rest) → IsFile geometry old i
-    → IsPlaceOf geometry old i q → named geometry old i q ≡ 0 → Popped geometry old mid b rest → IsSoundWith geometry mid rest
+extends_bytes : (geometry : Geometry) (old mid new : List ℕ) (i b : ℕ) (q rest : List ℕ) → Rules3To7With geometry old (b ∷ rest) → IsFile geometry old i
+    → IsPlaceOf geometry old i q → named geometry old i q ≡ 0 → Popped geometry old mid b rest → Rules3To7With geometry mid rest
     → mode_of geometry mid i ≡ mode_of geometry old i
     → ((p : List ℕ) → IsPlaceOf geometry old i p → named geometry mid i p ≡ named geometry old i p)
     → Stores geometry mid new i q b rest
@@ -151,7 +151,7 @@ extends_bytes geometry old mid new i b q rest sound file place none popped after
     ])
 
 -- each data block is free or named, where it was and the first free block is named now
-extends_covered : (geometry : Geometry) (old new : List ℕ) (i b : ℕ) (q rest : List ℕ) → IsSoundWith geometry old (b ∷ rest) → IsFile geometry old i
+extends_covered : (geometry : Geometry) (old new : List ℕ) (i b : ℕ) (q rest : List ℕ) → Rules3To7With geometry old (b ∷ rest) → IsFile geometry old i
     → IsPlaceOf geometry old i q → named geometry old i q ≡ 0 → StaysElsewhere geometry old new i → mode_of geometry new i ≡ mode_of geometry old i
     → named geometry new i q ≡ b → b ≢ 0
     → ((p : List ℕ) → IsPlaceOf geometry old i p → p ≢ q → named geometry new i p ≡ named geometry old i p)
@@ -168,10 +168,10 @@ extends_covered geometry old new i b q rest sound file place none stays mode her
         p,
         elim (cases_eq j i) [
           | inl e ↦
-              let names_i : Names geometry old i p k = subst (λ x. Names geometry old x p k) e names in
+              let names_i : NamesBlock geometry old i p k = subst (λ x. NamesBlock geometry old x p k) e names in
               let held = holds_named geometry old i p k names_i.holds in
               let differ : p ≢ q = λ f. held.1 (sym held.0 ∙ (ap (named geometry old i) f ∙ none)) in
-              subst (λ x. Names geometry new x p k) (sym e) (record {
+              subst (λ x. NamesBlock geometry new x p k) (sym e) (record {
                 place = place_same geometry old new i p mode names_i.place;
                 holds = named_holds geometry new i p k fits (only p names_i.place differ ∙ held.0) held.1;
               })
@@ -196,8 +196,8 @@ extends_names geometry old new i b q none here some only p place =
     ]
 
 -- the blocks that stay free keep their bytes where the first was taken and put at a place
-keeps_stored : (geometry : Geometry) (old mid new : List ℕ) (i b : ℕ) (q rest : List ℕ) → IsSoundWith geometry old (b ∷ rest)
-    → Popped geometry old mid b rest → IsSoundWith geometry mid rest → Stores geometry mid new i q b rest → KeepsBlocks old new rest
+keeps_stored : (geometry : Geometry) (old mid new : List ℕ) (i b : ℕ) (q rest : List ℕ) → Rules3To7With geometry old (b ∷ rest)
+    → Popped geometry old mid b rest → Rules3To7With geometry mid rest → Stores geometry mid new i q b rest → KeepsBlocks old new rest
 keeps_stored geometry old mid new i b q rest sound popped after_take stores k r within low =
     let zone = free_zone after_take.free k within in
     let other : k ≢ b = λ e. first_once geometry old b rest sound (subst (λ x. IsIn x rest) e within) in
@@ -206,7 +206,7 @@ keeps_stored geometry old mid new i b q rest sound popped after_take stores k r 
 
 -- the block taken is put at a place that named nothing
 pub extends_one : (geometry : Geometry) (old mid new : List ℕ) (i b : ℕ) (q rest : List ℕ) (wanted : List ℕ → Bool)
-    → IsSoundWith geometry old (b ∷ rest) → IsPlaceOf geometry old i q → named geometry old i q ≡ 0 → wanted q ≡ true
+    → Rules3To7With geometry old (b ∷ rest) → IsPlaceOf geometry old i q → named geometry old i q ≡ 0 → wanted q ≡ true
     → Popped geometry old mid b rest → Stores geometry mid new i q b rest
     → Extends geometry old new i wanted (λ p. bytes_eq p q) (q ∷ []) (b ∷ rest) rest
 extends_one geometry old mid new i b q rest wanted sound place none want popped stores =
@@ -218,7 +218,7 @@ extends_one geometry old mid new i b q rest wanted sound place none want popped 
     let mode_mid : mode_of geometry mid i ≡ mode_of geometry old i = mode_kept geometry old mid i kept in
     let same : (j : ℕ) (p : List ℕ) → IsPlaceOf geometry old j p → named geometry mid j p ≡ named geometry old j p =
     λ j p at. stays_named geometry old mid b 512 j p sound.fits popped.stays (omega arith) zoned unnamed at in
-    let sound_mid : IsSoundWith geometry mid rest = taken_sound geometry old mid b rest sound popped in
+    let sound_mid : Rules3To7With geometry mid rest = taken_sound geometry old mid b rest sound popped in
     let place_mid : IsPlaceOf geometry mid i q = place_same geometry old mid i q mode_mid place in
     let none_mid : named geometry mid i q ≡ 0 = same i q place ∙ none in
     let unnamed_mid : IsUnnamed geometry mid b =
@@ -229,7 +229,7 @@ extends_one geometry old mid new i b q rest wanted sound place none want popped 
     stores_only geometry mid new rest i b q sound_mid.fits stores
     (λ x low. entry_in geometry new b x zoned ∙ number_zero geometry.edition new b x zero low)
     (λ x p at front. named_past geometry mid i x p q sound_mid.fits front (ap (in_zone geometry) none_mid ∙ zero_out geometry mid sound_mid.fits)) in
-    let sound_new : IsSoundWith geometry new rest =
+    let sound_new : Rules3To7With geometry new rest =
     stores_sound geometry mid new rest i b q sound_mid place_mid.file stores
     (MayStand.fresh zoned unnamed_mid (first_once geometry old b rest sound)) only_mid in
     let alone : StaysElsewhere geometry old new i =

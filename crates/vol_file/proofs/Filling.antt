@@ -18,7 +18,7 @@ use Rattle.vol_layout.proofs.InodeLaws.{form_same}
 use Rattle.vol_file.specs.Shape.{is_named, is_on_ways, grows_large, moved_down}
 use Rattle.vol_file.specs.Laws.{IsAmong}
 use Rattle.vol_file.specs.Need.{missing_count, need_of, missing_places, places_taken}
-use Rattle.vol_file.specs.Rules.{IsSoundWith}
+use Rattle.vol_file.specs.Rules.{Rules3To7With}
 use Rattle.vol_file.specs.Steps.{lacking, WantsWays, NamesWays, Enlarges, Fills}
 use Rattle.vol_file.specs.Missing.{grows_at}
 use Rattle.vol_file.proofs.PlaceLists.{count_among, count_none, among_places}
@@ -85,7 +85,7 @@ unfolding need_of
 need_large form names touches grows = rw grows refl
 
 -- the ways are wanted, where the file keeps its form and the need is met
-pub wants_plain : (geometry : Geometry) (image : List ℕ) (i from n : ℕ) (blocks : List ℕ) → IsFile geometry image i → IsSoundWith geometry image blocks
+pub wants_plain : (geometry : Geometry) (image : List ℕ) (i from n : ℕ) (blocks : List ℕ) → IsFile geometry image i → Rules3To7With geometry image blocks
     → grows_large (form_at geometry image i) (range_with_len from n) ≡ false
     → need_of (form_at geometry image i) (is_named geometry image i) (range_with_len from n) ≤ length blocks
     → from + n ≤ block_limit (form_at geometry image i)
@@ -174,7 +174,7 @@ wants_large geometry old mid i from n blocks file grows room enlarged limit =
     }
 
 -- all ways are named once the file is large
-pub fills_large : (geometry : Geometry) (old mid new : List ℕ) (i from n : ℕ) (blocks : List ℕ) → IsSoundWith geometry old blocks → IsFile geometry old i
+pub fills_large : (geometry : Geometry) (old mid new : List ℕ) (i from n : ℕ) (blocks : List ℕ) → Rules3To7With geometry old blocks → IsFile geometry old i
     → IsFile geometry mid i
     → grows_large (form_at geometry old i) (range_with_len from n) ≡ true → (enlarged : Enlarges geometry old mid i blocks)
     → NamesWays geometry mid new i (is_on_ways Large (range_with_len from n)) from n enlarged.rest

@@ -11,7 +11,7 @@ use Rattle.vol_layout.specs.declared.geometry.Geometry.{Geometry}
 use Rattle.vol_layout.specs.declared.places.Form.{Form}
 use Rattle.vol_layout.specs.declared.places.Way.{Way}
 use Rattle.vol_layout.proofs.PlaceLaws.{front_to, way_place}
-use Rattle.vol_file.specs.Steps.{Reaches, IsWanted, MayName, IsNext, MayNameEntry, MayNameWay, WantsWay, NamesWay, has_front, unnamed_of}
+use Rattle.vol_file.specs.Steps.{Reaches, IsWanted, MayName, NamesNext, MayNameEntry, MayNameWay, WantsWay, NamesWay, has_front, unnamed_of}
 use Rattle.vol_file.specs.Shape.{is_named}
 use Rattle.vol_file.proofs.PlaceLists.{bytes_same}
 use Rattle.vol_file.proofs.Reaching.{extends_as}
@@ -96,7 +96,7 @@ may_next geometry old mid i form b way (suc d) m is end may h reached = record {
 pub way_next : (geometry : Geometry) (old mid new : List ℕ) (i : ℕ) (form : Form) (wanted : List ℕ → Bool) (b : ℕ) (blocks : List ℕ) (way : Way) (d m k : ℕ)
     → form ≡ form_at geometry old i → Some (end_of way) ≡ last_place form b → WantsWay geometry old i wanted b blocks → d < way.depth
     → Reaches geometry old mid i wanted (place_to way.address way.entries d) blocks m
-    → ((a : ℕ) (p : List ℕ) → IsNext geometry old mid i wanted (slice_index way.entries d) a p blocks m
+    → ((a : ℕ) (p : List ℕ) → NamesNext geometry old mid i wanted (slice_index way.entries d) a p blocks m
     → Reaches geometry old new i wanted (slice_index way.entries d ∷ (a ∷ p)) blocks k)
     → Reaches geometry old new i wanted (place_to way.address way.entries (d + 1)) blocks k
 way_next geometry old mid new i form wanted b blocks way zero m k is end wants h reached named =

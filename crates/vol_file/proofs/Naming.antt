@@ -17,7 +17,7 @@ use Rattle.vol_layout.proofs.NameLaws.{zero_out, named_stops}
 use Rattle.vol_free.specs.Stack.{IsIn}
 use Rattle.vol_free.proofs.Frames.{free_from}
 use Rattle.vol_file.specs.Changes.{StaysElsewhere, is_kept_byte}
-use Rattle.vol_file.specs.Rules.{size_of, kind_at, HasKinds, HasSizes, IsSoundWith}
+use Rattle.vol_file.specs.Rules.{size_of, kind_at, HasKinds, HasSizes, Rules3To7With}
 use Rattle.vol_file.proofs.Stores.{Stores}
 use Rattle.vol_file.proofs.Alone.{fits_len, elsewhere_inode, elsewhere_before, elsewhere_named}
 use Rattle.vol_file.proofs.Fronts.{same_or, front_or}
@@ -190,7 +190,7 @@ named_after geometry old new blocks i v q fits one stores only j p place =
     ]
 
 -- each number named is a data block's
-after_zoned : (geometry : Geometry) (old new blocks : List ℕ) (i v : ℕ) (q : List ℕ) (j : ℕ) (p : List ℕ) → IsSoundWith geometry old blocks
+after_zoned : (geometry : Geometry) (old new blocks : List ℕ) (i v : ℕ) (q : List ℕ) (j : ℕ) (p : List ℕ) → Rules3To7With geometry old blocks
     → MayStand geometry old blocks v → NamedAfter geometry old new i q v j p → named geometry new j p ≢ 0
     → in_zone geometry (named geometry new j p) ≡ true
 after_zoned geometry old new blocks i v q j p sound (MayStand.none z) (NamedAfter.there e f is) some = absurd (some (is ∙ z))
@@ -205,7 +205,7 @@ after_fresh geometry old blocks v j p (MayStand.none z) place some = absurd (som
 after_fresh geometry old blocks v j p (MayStand.fresh _ unnamed _) place some = unnamed j p place
 
 -- no block is named twice
-after_apart : (geometry : Geometry) (old new blocks : List ℕ) (i v : ℕ) (q : List ℕ) (j k : ℕ) (p r : List ℕ) → IsSoundWith geometry old blocks
+after_apart : (geometry : Geometry) (old new blocks : List ℕ) (i v : ℕ) (q : List ℕ) (j k : ℕ) (p r : List ℕ) → Rules3To7With geometry old blocks
     → MayStand geometry old blocks v → NamedAfter geometry old new i q v j p → NamedAfter geometry old new i q v k r
     → named geometry new j p ≢ 0 → named geometry new j p ≡ named geometry new k r → (j ≡ k) × (p ≡ r)
 after_apart geometry old new blocks i v q j k p r sound may (NamedAfter.there e f is) (NamedAfter.there e' f' is') some same =
@@ -218,7 +218,7 @@ after_apart geometry old new blocks i v q j k p r sound may (NamedAfter.elsewher
     sound.apart j k p r place place' (λ zero. some (is ∙ zero)) (sym is ∙ (same ∙ is'))
 
 -- no block that is named is free
-after_outside : (geometry : Geometry) (old new blocks : List ℕ) (i v : ℕ) (q : List ℕ) (j : ℕ) (p : List ℕ) → IsSoundWith geometry old blocks
+after_outside : (geometry : Geometry) (old new blocks : List ℕ) (i v : ℕ) (q : List ℕ) (j : ℕ) (p : List ℕ) → Rules3To7With geometry old blocks
     → MayStand geometry old blocks v → NamedAfter geometry old new i q v j p → IsIn (named geometry new j p) blocks → ⊥
 after_outside geometry old new blocks i v q j p sound (MayStand.none z) (NamedAfter.there e f is) within =
     let from = free_from sound.free (named geometry new j p) within in omega (arith, from, is, z, sound.fits.i_list)
@@ -228,10 +228,10 @@ after_outside geometry old new blocks i v q j p sound may (NamedAfter.elsewhere 
     sound.outside j p place (subst (λ k. IsIn k blocks) is within)
 
 -- the rules hold after one number was stored at a place with nothing named below it
-pub stores_sound : (geometry : Geometry) (old new blocks : List ℕ) (i v : ℕ) (q : List ℕ) → IsSoundWith geometry old blocks → IsFile geometry old i
+pub stores_sound : (geometry : Geometry) (old new blocks : List ℕ) (i v : ℕ) (q : List ℕ) → Rules3To7With geometry old blocks → IsFile geometry old i
     → Stores geometry old new i q v blocks → MayStand geometry old blocks v
     → ((p : List ℕ) → IsPlaceOf geometry old i p → p ≢ q → named geometry new i p ≡ named geometry old i p)
-    → IsSoundWith geometry new blocks
+    → Rules3To7With geometry new blocks
 stores_sound geometry old new blocks i v q sound file stores may only =
     let one = file.first in
     let modes = modes_kept geometry old new i in

@@ -13,7 +13,7 @@ use Rattle.vol_layout.proofs.BodyLaws.{zone_bounds}
 use Rattle.vol_layout.proofs.PlaceLaws.{place_front}
 use Rattle.vol_layout.proofs.FrameLaws.{pointers_in}
 use Rattle.vol_layout.proofs.KindLaws.{form_file}
-use Rattle.vol_file.specs.Rules.{IsSoundWith}
+use Rattle.vol_file.specs.Rules.{Rules3To7With}
 use Rattle.vol_file.specs.Changes.{blocks_of}
 use Rattle.vol_file.specs.Clears.{IsUnder, blocks_at, places_among, places_below, IsNamedAt, Clears, Drops, HasNode, HasPointer, HasAddress, ClearsBelow}
 use Rattle.vol_file.proofs.BlockLists.{at_nil}
@@ -54,7 +54,7 @@ same_level d x = d
 
 -- the entries of block m from entry j on are cleared, wherever the block was named with so many levels below it
 abbrev pub ClearsEntries : Geometry → List ℕ → List ℕ → ℕ → ℕ → ℕ → Type 0
-ClearsEntries geometry old new m level j = (i a : ℕ) (p blocks : List ℕ) → IsSoundWith geometry old blocks
+ClearsEntries geometry old new m level j = (i a : ℕ) (p blocks : List ℕ) → Rules3To7With geometry old blocks
     → IsNamedAt geometry old i (a ∷ p) m → levels_below (form_at geometry old i) (a ∷ p) ≡ level
     → ClearsFrom geometry old new i (constants geometry.edition).pointers (same_level (level - 1)) (a ∷ p) (constants geometry.edition).pointers j blocks
 
@@ -90,7 +90,7 @@ entries_end geometry old new m (suc d) some cleared i a p blocks sound is deep =
 
 -- the number at entry j is what the entry names, while later entries are cleared
 entries_named : (geometry : Geometry) (old new : List ℕ) (m level j k i a : ℕ) (p blocks : List ℕ) → ClearsEntries geometry old new m level k
-    → IsSoundWith geometry old blocks → IsNamedAt geometry old i (a ∷ p) m → levels_below (form_at geometry old i) (a ∷ p) ≡ level
+    → Rules3To7With geometry old blocks → IsNamedAt geometry old i (a ∷ p) m → levels_below (form_at geometry old i) (a ∷ p) ≡ level
     → named geometry new i (j ∷ (a ∷ p)) ≡ number geometry.edition new (512 * m) j
 entries_named geometry old new m level j k i a p blocks cleared sound is deep =
     let n = (constants geometry.edition).pointers in
@@ -100,7 +100,7 @@ entries_named geometry old new m level j k i a p blocks cleared sound is deep =
 
 -- an entry that isn't 0 names a block
 entries_at : (geometry : Geometry) (old new : List ℕ) (m level j k b i a : ℕ) (p blocks : List ℕ) → ClearsEntries geometry old new m level k
-    → IsSoundWith geometry old blocks → IsNamedAt geometry old i (a ∷ p) m → levels_below (form_at geometry old i) (a ∷ p) ≡ level
+    → Rules3To7With geometry old blocks → IsNamedAt geometry old i (a ∷ p) m → levels_below (form_at geometry old i) (a ∷ p) ≡ level
     → 1 ≤ level → j < (constants geometry.edition).pointers → b ≡ number geometry.edition new (512 * m) j → b ≢ 0
     → IsNamedAt geometry new i (j ∷ (a ∷ p)) b
 entries_at geometry old new m level j k b i a p blocks cleared sound is deep some low number_is not_zero =
@@ -200,7 +200,7 @@ entries_some geometry old mid low new m level j k b next few some number_is not_
 
 -- the addresses of file i from address k on are cleared
 abbrev pub ClearsAddresses : Geometry → List ℕ → List ℕ → ℕ → ℕ → Type 0
-ClearsAddresses geometry old new i k = (blocks : List ℕ) → IsSoundWith geometry old blocks
+ClearsAddresses geometry old new i k = (blocks : List ℕ) → Rules3To7With geometry old blocks
     → ClearsFrom geometry old new i (constants geometry.edition).pointers (levels (form_at geometry old i)) [] (first_count (form_at geometry old i)) k blocks
 
 -- before the first address is cleared
@@ -212,7 +212,7 @@ addresses_start geometry image i k e blocks sound =
 
 -- an address that isn't 0 names a block
 addresses_at : (geometry : Geometry) (old new : List ℕ) (i j k b : ℕ) (blocks : List ℕ) → IsFile geometry old i → ClearsAddresses geometry old new i k
-    → IsSoundWith geometry old blocks → j < first_count (form_at geometry old i)
+    → Rules3To7With geometry old blocks → j < first_count (form_at geometry old i)
     → b ≡ address_at geometry.edition new (inode_place geometry.edition i) j → b ≢ 0 → IsNamedAt geometry new i (j ∷ []) b
 addresses_at geometry old new i j k b blocks file cleared sound low is not_zero = record {
   place = place_same geometry old new i (j ∷ []) (cleared blocks sound).mode (record { file = file; place = low });
@@ -230,7 +230,7 @@ addresses_none geometry old new i j k next few file none cleared blocks sound =
 
 -- the block that an address names has as many levels below it as the address
 pub addresses_node : (geometry : Geometry) (old new : List ℕ) (i j k b : ℕ) (blocks : List ℕ) → IsFile geometry old i → ClearsAddresses geometry old new i k
-    → IsSoundWith geometry old blocks → j < first_count (form_at geometry old i)
+    → Rules3To7With geometry old blocks → j < first_count (form_at geometry old i)
     → b ≡ address_at geometry.edition new (inode_place geometry.edition i) j → b ≢ 0 → HasNode geometry new b (levels (form_at geometry old i) j)
 addresses_node geometry old new i j k b blocks file cleared sound low is not_zero =
     let s = cleared blocks sound in
@@ -246,7 +246,7 @@ addresses_node geometry old new i j k b blocks file cleared sound low is not_zer
 
 -- the address names its block still once what lies below it is cleared
 pub addresses_address : (geometry : Geometry) (old mid low : List ℕ) (i j k b : ℕ) (blocks : List ℕ) → IsFile geometry old i
-    → ClearsAddresses geometry old mid i k → IsSoundWith geometry old blocks → j < first_count (form_at geometry old i)
+    → ClearsAddresses geometry old mid i k → Rules3To7With geometry old blocks → j < first_count (form_at geometry old i)
     → b ≡ address_at geometry.edition mid (inode_place geometry.edition i) j → b ≢ 0
     → ClearsBelow geometry mid low b (levels (form_at geometry old i) j) → HasAddress geometry low i j b
 unfolding addresses_node
@@ -279,7 +279,7 @@ all_blocks geometry image i file =
 
 -- once all addresses are cleared, all places are
 pub addresses_end : (geometry : Geometry) (old new : List ℕ) (i k : ℕ) → k ≡ 0 → IsFile geometry old i → ClearsAddresses geometry old new i k
-    → (blocks : List ℕ) → IsSoundWith geometry old blocks → Clears geometry old new i (IsUnder [] 0) (blocks_of geometry old i) blocks
+    → (blocks : List ℕ) → Rules3To7With geometry old blocks → Clears geometry old new i (IsUnder [] 0) (blocks_of geometry old i) blocks
 addresses_end geometry old new i k end file cleared blocks sound =
     subst (λ xs. Clears geometry old new i (IsUnder [] 0) xs blocks) (all_blocks geometry old i file)
     (subst (λ j. ClearsFrom geometry old new i (constants geometry.edition).pointers (levels (form_at geometry old i)) [] (first_count (form_at geometry old i)) j blocks) end

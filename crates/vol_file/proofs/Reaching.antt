@@ -22,8 +22,8 @@ use Rattle.vol_layout.proofs.InodeLaws.{mode_kept}
 use Rattle.vol_free.specs.Stack.{Popped, Pops}
 use Rattle.vol_file.specs.Laws.{IsAmong}
 use Rattle.vol_file.specs.Shape.{is_named}
-use Rattle.vol_file.specs.Rules.{IsSoundWith}
-use Rattle.vol_file.specs.Steps.{lacking, Extends, Reaches, IsReady, IsWanted, IsNext, has_front, unnamed_of}
+use Rattle.vol_file.specs.Rules.{Rules3To7With}
+use Rattle.vol_file.specs.Steps.{lacking, Extends, Reaches, IsReadyToName, IsWanted, NamesNext, has_front, unnamed_of}
 use Rattle.vol_file.proofs.Stores.{Stores}
 use Rattle.vol_file.proofs.PlaceLists.{among_append, bytes_same, other_place, same_bytes, places_once}
 use Rattle.vol_file.proofs.Alone.{elsewhere_self, elsewhere_then, keeps_then}
@@ -84,7 +84,7 @@ map_same f g (p ∷ ps) same =
 
 -- two steps one after the other
 pub extends_then : (geometry : Geometry) (old mid new : List ℕ) (i : ℕ) (wanted first second : List ℕ → Bool) (gained more : List (List ℕ))
-    (blocks some rest : List ℕ) → IsReady geometry old i wanted blocks
+    (blocks some rest : List ℕ) → IsReadyToName geometry old i wanted blocks
     → Extends geometry old mid i wanted first gained blocks some → Extends geometry mid new i wanted second more some rest
     → Extends geometry old new i wanted (λ p. first p || second p) (gained ++ more) blocks rest
 extends_then geometry old mid new i wanted first second gained more blocks some rest ready e f = record {
@@ -125,7 +125,7 @@ or_there false true h = h refl
 or_there false false h = refl
 
 -- nothing is done where the places of the set name something
-pub extends_none : (geometry : Geometry) (image : List ℕ) (i : ℕ) (wanted set : List ℕ → Bool) (blocks : List ℕ) → IsSoundWith geometry image blocks
+pub extends_none : (geometry : Geometry) (image : List ℕ) (i : ℕ) (wanted set : List ℕ → Bool) (blocks : List ℕ) → Rules3To7With geometry image blocks
     → ((p : List ℕ) → set p ≡ true → is_named geometry image i p ≡ true) → Extends geometry image image i wanted set [] blocks blocks
 extends_none geometry image i wanted set blocks sound all = record {
   alone = elsewhere_self geometry image i;
@@ -146,7 +146,7 @@ extends_none geometry image i wanted set blocks sound all = record {
 
 -- there is room left after a step
 pub ready_after : (geometry : Geometry) (old new : List ℕ) (i : ℕ) (wanted set : List ℕ → Bool) (gained : List (List ℕ)) (blocks rest : List ℕ)
-    → IsReady geometry old i wanted blocks → Extends geometry old new i wanted set gained blocks rest → IsReady geometry new i wanted rest
+    → IsReadyToName geometry old i wanted blocks → Extends geometry old new i wanted set gained blocks rest → IsReadyToName geometry new i wanted rest
 ready_after geometry old new i wanted set gained blocks rest ready e = record {
   file = file_same geometry old new i e.mode ready.file;
   sound = e.sound;
@@ -229,12 +229,12 @@ steps_out geometry image new i wanted q blocks want none pops =
 -- a block is taken for a place that names nothing, and put there
 steps_taken : (geometry : Geometry) (old mid new : List ℕ) (i : ℕ) (wanted : List ℕ → Bool) (q blocks : List ℕ) (b : ℕ)
     → IsWanted geometry old i wanted q blocks → named geometry old i q ≡ 0 → Pops geometry old mid blocks (Some b)
-    → ((rest : List ℕ) → IsSoundWith geometry mid rest → mode_of geometry mid i ≡ mode_of geometry old i
+    → ((rest : List ℕ) → Rules3To7With geometry mid rest → mode_of geometry mid i ≡ mode_of geometry old i
     → ((p : List ℕ) → IsPlaceOf geometry old i p → named geometry mid i p ≡ named geometry old i p) → Stores geometry mid new i q b rest)
     → Steps geometry old new i wanted q blocks b
 steps_taken geometry old mid new i wanted q blocks b want none pops stores =
     let first = pops_some geometry old mid blocks b pops in
-    let sound : IsSoundWith geometry old (b ∷ first.rest) = subst (IsSoundWith geometry old) first.is want.ready.sound in
+    let sound : Rules3To7With geometry old (b ∷ first.rest) = subst (Rules3To7With geometry old) first.is want.ready.sound in
     let zoned = first_zoned geometry old b first.rest sound in
     let kept = stays_inode geometry old mid b 512 i sound.fits first.popped.stays zoned want.place.file.first want.place.file.last in
     let put = stores first.rest (taken_sound geometry old mid b first.rest sound first.popped) (mode_kept geometry old mid i kept)
@@ -293,14 +293,14 @@ front_below j p = false_from_ne_true (has_front p (j ∷ p)) (λ e. front_longer
 
 -- whether an entry names something isn't changed by naming the fronts of its block
 next_same : (geometry : Geometry) (old mid : List ℕ) (i : ℕ) (wanted : List ℕ → Bool) (j a : ℕ) (p blocks : List ℕ) (m : ℕ)
-    → IsNext geometry old mid i wanted j a p blocks m → is_named geometry mid i (j ∷ (a ∷ p)) ≡ is_named geometry old i (j ∷ (a ∷ p))
+    → NamesNext geometry old mid i wanted j a p blocks m → is_named geometry mid i (j ∷ (a ∷ p)) ≡ is_named geometry old i (j ∷ (a ∷ p))
 next_same geometry old mid i wanted j a p blocks m next =
     next.reached.extends.names (j ∷ (a ∷ p)) next.want.place
     ∙ (ap (λ t. is_named geometry old i (j ∷ (a ∷ p)) || t) (front_below j (a ∷ p)) ∙ or-false (is_named geometry old i (j ∷ (a ∷ p))))
 
 -- an entry reached by a step from where its block was reached
 pub reaches_next : (geometry : Geometry) (old mid new : List ℕ) (i : ℕ) (wanted : List ℕ → Bool) (j a : ℕ) (p blocks : List ℕ) (m b : ℕ)
-    → (next : IsNext geometry old mid i wanted j a p blocks m) → Steps geometry mid new i wanted (j ∷ (a ∷ p)) next.reached.rest b
+    → (next : NamesNext geometry old mid i wanted j a p blocks m) → Steps geometry mid new i wanted (j ∷ (a ∷ p)) next.reached.rest b
     → Reaches geometry old new i wanted (j ∷ (a ∷ p)) blocks b
 reaches_next geometry old mid new i wanted j a p blocks m b next steps = record {
   rest = steps.rest;
@@ -320,7 +320,7 @@ reaches_next geometry old mid new i wanted j a p blocks m b next steps = record 
 
 -- an entry is wanted where its block was reached
 pub wanted_next : (geometry : Geometry) (old mid : List ℕ) (i : ℕ) (wanted : List ℕ → Bool) (j a : ℕ) (p blocks : List ℕ) (m : ℕ)
-    → (next : IsNext geometry old mid i wanted j a p blocks m) → IsWanted geometry mid i wanted (j ∷ (a ∷ p)) next.reached.rest
+    → (next : NamesNext geometry old mid i wanted j a p blocks m) → IsWanted geometry mid i wanted (j ∷ (a ∷ p)) next.reached.rest
 wanted_next geometry old mid i wanted j a p blocks m next = record {
   ready = ready_after geometry old mid i wanted (has_front (a ∷ p)) (unnamed_of (is_named geometry old i) (fronts (a ∷ p))) blocks next.reached.rest next.want.ready next.reached.extends;
   place = place_same geometry old mid i (j ∷ (a ∷ p)) next.reached.extends.mode next.want.place;
@@ -329,7 +329,7 @@ wanted_next geometry old mid i wanted j a p blocks m next = record {
 
 -- the block that was reached is a data block
 pub reached_zone : (geometry : Geometry) (old mid : List ℕ) (i : ℕ) (wanted : List ℕ → Bool) (j a : ℕ) (p blocks : List ℕ) (m : ℕ)
-    → IsNext geometry old mid i wanted j a p blocks m → in_zone geometry m ≡ true
+    → NamesNext geometry old mid i wanted j a p blocks m → in_zone geometry m ≡ true
 reached_zone geometry old mid i wanted j a p blocks m next =
     let place = place_same geometry old mid i (a ∷ p) next.reached.extends.mode
     (record { file = next.want.place.file; place = next.want.place.place.2 }) in
@@ -337,11 +337,11 @@ reached_zone geometry old mid i wanted j a p blocks m next =
     (next.reached.extends.sound.zoned i (a ∷ p) place (λ zero. next.reached.some (sym next.reached.is ∙ zero)))
 
 -- the block taken is a data block
-pub taken_zoned : (geometry : Geometry) (old new blocks : List ℕ) (b : ℕ) → IsSoundWith geometry old blocks → Pops geometry old new blocks (Some b)
+pub taken_zoned : (geometry : Geometry) (old new blocks : List ℕ) (b : ℕ) → Rules3To7With geometry old blocks → Pops geometry old new blocks (Some b)
     → in_zone geometry b ≡ true
 taken_zoned geometry old new blocks b sound pops =
     let first = pops_some geometry old new blocks b pops in
-    first_zoned geometry old b first.rest (subst (IsSoundWith geometry old) first.is sound)
+    first_zoned geometry old b first.rest (subst (Rules3To7With geometry old) first.is sound)
 
 -- the number of a data block is within the edition's limit
 pub zone_limit : (geometry : Geometry) (image : List ℕ) (b : ℕ) → Fits geometry image → in_zone geometry b ≡ true
@@ -358,13 +358,13 @@ entry_room geometry image m j fits zone low =
 
 -- a wanted entry is one of its block's
 pub next_index : (geometry : Geometry) (old mid : List ℕ) (i : ℕ) (wanted : List ℕ → Bool) (j a : ℕ) (p blocks : List ℕ) (m : ℕ)
-    → IsNext geometry old mid i wanted j a p blocks m → j < (constants geometry.edition).pointers
+    → NamesNext geometry old mid i wanted j a p blocks m → j < (constants geometry.edition).pointers
 next_index geometry old mid i wanted j a p blocks m next =
     let many = pointers_of geometry.edition (mode_of geometry old i) in
     let index : j < pointer_count (form_at geometry old i) = next.want.place.place.0 in omega (arith, index, many)
 
 -- what a wanted entry names is the number that stands there
 pub next_named : (geometry : Geometry) (old mid : List ℕ) (i : ℕ) (wanted : List ℕ → Bool) (j a : ℕ) (p blocks : List ℕ) (m : ℕ)
-    → IsNext geometry old mid i wanted j a p blocks m → named geometry mid i (j ∷ (a ∷ p)) ≡ number geometry.edition mid (512 * m) j
+    → NamesNext geometry old mid i wanted j a p blocks m → named geometry mid i (j ∷ (a ∷ p)) ≡ number geometry.edition mid (512 * m) j
 next_named geometry old mid i wanted j a p blocks m next =
     ap (λ k. pointer_in geometry mid k j) next.reached.is ∙ entry_in geometry mid m j (reached_zone geometry old mid i wanted j a p blocks m next)

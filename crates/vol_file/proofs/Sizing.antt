@@ -21,7 +21,7 @@ use Rattle.vol_free.specs.Stack.{IsIn, IsFree}
 use Rattle.vol_free.proofs.Stacks.{head_end}
 use Rattle.vol_free.proofs.Frames.{free_zone, IsFree-before_zone}
 use Rattle.vol_file.specs.Changes.{StaysElsewhere, is_kept_byte, KeepsBlocks}
-use Rattle.vol_file.specs.Rules.{size_of, IsSoundWith, IsCovered}
+use Rattle.vol_file.specs.Rules.{size_of, Rules3To7With, IsCovered}
 use Rattle.vol_file.specs.Steps.{Rewrites, Puts, text_at, zeros_at}
 use Rattle.vol_file.proofs.Alone.{fits_len, elsewhere_then, elsewhere_inode, keeps_then}
 use Rattle.vol_file.proofs.Cells.{number_above, names_zoned}
@@ -38,7 +38,7 @@ size_apart V7 i r kept =
     elim (cases_lt r 8) [ inl less ↦ inl (omega arith) | inr more ↦ let high : 51 ≤ r = grind (arith, nat_tests) in inr (omega arith) ]
 
 -- a write of the size leaves all but file i
-size_elsewhere : (geometry : Geometry) (old new blocks : List ℕ) (i : ℕ) → IsSoundWith geometry old blocks → IsFile geometry old i
+size_elsewhere : (geometry : Geometry) (old new blocks : List ℕ) (i : ℕ) → Rules3To7With geometry old blocks → IsFile geometry old i
     → SameOutside old new (size_place geometry.edition i) (size_place geometry.edition i + size_bytes geometry.edition) → StaysElsewhere geometry old new i
 size_elsewhere geometry old new blocks i sound file same =
     let within = size_within geometry.edition i in
@@ -64,7 +64,7 @@ size_elsewhere geometry old new blocks i sound file same =
 -- the size was put, and all else of the file stays
 pub record Resized (geometry : Geometry) (old new : List ℕ) (i s : ℕ) (blocks : List ℕ) : Type 0 where
   pub alone : StaysElsewhere geometry old new i
-  pub sound : IsSoundWith geometry new blocks
+  pub sound : Rules3To7With geometry new blocks
   pub covered : IsCovered geometry old blocks → IsCovered geometry new blocks
   pub mode : mode_of geometry new i ≡ mode_of geometry old i
   pub names : (p : List ℕ) → IsPlaceOf geometry old i p → named geometry new i p ≡ named geometry old i p
@@ -73,7 +73,7 @@ pub record Resized (geometry : Geometry) (old new : List ℕ) (i s : ℕ) (block
   pub unused : KeepsBlocks old new blocks
 
 -- a write of the size
-pub resized : (geometry : Geometry) (old new blocks : List ℕ) (i s : ℕ) → IsSoundWith geometry old blocks → IsFile geometry old i
+pub resized : (geometry : Geometry) (old new blocks : List ℕ) (i s : ℕ) → Rules3To7With geometry old blocks → IsFile geometry old i
     → SameOutside old new (size_place geometry.edition i) (size_place geometry.edition i + size_bytes geometry.edition)
     → size_of geometry new i ≡ s → s ≤ (constants geometry.edition).greatest → (form_at geometry old i ≡ Small → s ≤ 4096)
     → Resized geometry old new i s blocks
@@ -143,7 +143,7 @@ resized geometry old new blocks i s sound file same put great low =
     }
 
 -- zeros up to the offset, then the text, then the size
-pub puts : (geometry : Geometry) (old a b new blocks : List ℕ) (i offset from : ℕ) (text : List ℕ) → IsSoundWith geometry old blocks → IsFile geometry old i
+pub puts : (geometry : Geometry) (old a b new blocks : List ℕ) (i offset from : ℕ) (text : List ℕ) → Rules3To7With geometry old blocks → IsFile geometry old i
     → from ≡ min (size_of geometry old i) offset
     → Rewrites geometry old a i from offset zeros_at blocks → Rewrites geometry a b i offset (offset + length text) (text_at offset text) blocks
     → Resized geometry b new i (max (size_of geometry old i) (offset + length text)) blocks → Puts geometry old new i offset text blocks

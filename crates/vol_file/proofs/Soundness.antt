@@ -11,7 +11,7 @@ use Rattle.vol_layout.specs.declared.mode.Kind.TheVariants as kinds
 use Rattle.vol_layout.specs.declared.places.Form.TheVariants.{Small}
 use Rattle.vol_layout.proofs.InodeLaws.{inode_of_kept, mode_kept, size_kept, form_kept}
 use Rattle.vol_free.specs.Stack.{IsIn, IsFree}
-use Rattle.vol_file.specs.Rules.{size_of, kind_at, HasKinds, HasSizes, IsSoundWith}
+use Rattle.vol_file.specs.Rules.{size_of, kind_at, HasKinds, HasSizes, Rules3To7With}
 use Rattle.vol_file.proofs.Alone.{fits_len, elsewhere_inode, elsewhere_before, elsewhere_named}
 use Rattle.vol_file.proofs.Naming.{kinds_kept, links_same, links_kept_byte}
 use Rattle.vol_file.specs.Changes.{StaysElsewhere}
@@ -94,9 +94,9 @@ sizes_after geometry old new i fits file less has = record {
 }
 
 -- the rules hold where file i lessens, and the free blocks are a stack of which no place names one
-pub sound_after : (geometry : Geometry) (old new blocks after : List ℕ) (i : ℕ) → IsSoundWith geometry old blocks → IsFile geometry old i
+pub sound_after : (geometry : Geometry) (old new blocks after : List ℕ) (i : ℕ) → Rules3To7With geometry old blocks → IsFile geometry old i
     → Lessens geometry old new i → IsFree geometry new after
-    → ((j : ℕ) (p : List ℕ) → IsPlaceOf geometry new j p → IsIn (named geometry new j p) after → ⊥) → IsSoundWith geometry new after
+    → ((j : ℕ) (p : List ℕ) → IsPlaceOf geometry new j p → IsIn (named geometry new j p) after → ⊥) → Rules3To7With geometry new after
 sound_after geometry old new blocks after i sound file less free out = record {
   fits = fits_len geometry old new less.alone.len sound.fits;
   kinds = kinds_after geometry old new i sound.fits file less sound.kinds;

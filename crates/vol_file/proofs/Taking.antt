@@ -6,7 +6,7 @@ use Rattle.vol_layout.specs.Geometry.{in_zone, Fits}
 use Rattle.vol_layout.specs.Super.{free_head}
 use Rattle.vol_layout.specs.Inode.{inode_place, kind_of}
 use Rattle.vol_layout.specs.Places.{IsPlace}
-use Rattle.vol_layout.specs.Names.{mode_of, form_at, IsFile, IsPlaceOf, named, Names}
+use Rattle.vol_layout.specs.Names.{mode_of, form_at, IsFile, IsPlaceOf, named, NamesBlock}
 use Rattle.vol_layout.specs.declared.geometry.Geometry.{Geometry}
 use Rattle.vol_layout.proofs.CopyLaws.{IsCopy}
 use Rattle.vol_layout.proofs.InodeLaws.{KeepsInode, place_from, place_room, mode_kept, size_kept, form_kept, inode_of_kept}
@@ -17,7 +17,7 @@ use Rattle.vol_layout.proofs.FrameLaws.{named_frame, places_kept}
 use Rattle.vol_free.specs.Stack.{IsIn, Once, IsFree, StaysBut, Popped}
 use Rattle.vol_free.proofs.Stacks.{head_end, stack_zoned}
 use Rattle.vol_free.proofs.Frames.{apart_blocks}
-use Rattle.vol_file.specs.Rules.{IsSoundWith}
+use Rattle.vol_file.specs.Rules.{Rules3To7With}
 use Rattle.vol_file.proofs.Alone.{fits_len, copy_back, place_kept}
 use Rattle.vol_file.proofs.Cells.{kept_within, names_zoned}
 use Rattle.vol_file.proofs.Naming.{kinds_kept, file_same}
@@ -71,7 +71,7 @@ stays_before geometry old new b size j p fits stays zone place =
 -- where the head of the free list and a data block that no place names are written, all but the free list stays, with
 -- regard to any file
 pub stays_around : (geometry : Geometry) (old new : List ℕ) (b size i : ℕ) → Fits geometry old
-    → ((j : ℕ) (p : List ℕ) (k : ℕ) → j ≢ i → Names geometry old j p k → in_zone geometry k ≡ true) → 1 ≤ i → i ≤ geometry.last_inode
+    → ((j : ℕ) (p : List ℕ) (k : ℕ) → j ≢ i → NamesBlock geometry old j p k → in_zone geometry k ≡ true) → 1 ≤ i → i ≤ geometry.last_inode
     → StaysBut geometry old new b size → size ≤ 512 → in_zone geometry b ≡ true → IsUnnamed geometry old b → StaysElsewhere geometry old new i
 stays_around geometry old new b size i fits zoned first last stays small zone unnamed =
     let head = head_end geometry.edition in
@@ -93,15 +93,15 @@ stays_around geometry old new b size i fits zoned first last stays small zone un
     }
 
 -- the same where the rules hold
-pub stays_elsewhere : (geometry : Geometry) (old new blocks : List ℕ) (b size i : ℕ) → IsSoundWith geometry old blocks → IsFile geometry old i
+pub stays_elsewhere : (geometry : Geometry) (old new blocks : List ℕ) (b size i : ℕ) → Rules3To7With geometry old blocks → IsFile geometry old i
     → StaysBut geometry old new b size → size ≤ 512 → in_zone geometry b ≡ true → IsUnnamed geometry old b → StaysElsewhere geometry old new i
 stays_elsewhere geometry old new blocks b size i sound file =
     stays_around geometry old new b size i sound.fits (λ j p k other names. names_zoned geometry old blocks j p k sound names) file.first file.last
 
 -- the rules hold with the other free blocks where the head of the free list and a data block that no place names are written
-pub stays_sound : (geometry : Geometry) (old new blocks rest : List ℕ) (b size : ℕ) → IsSoundWith geometry old blocks
+pub stays_sound : (geometry : Geometry) (old new blocks rest : List ℕ) (b size : ℕ) → Rules3To7With geometry old blocks
     → StaysBut geometry old new b size → size ≤ 512 → in_zone geometry b ≡ true → IsUnnamed geometry old b → IsFree geometry new rest
-    → ((j : ℕ) (p : List ℕ) → IsPlaceOf geometry old j p → IsIn (named geometry old j p) rest → ⊥) → IsSoundWith geometry new rest
+    → ((j : ℕ) (p : List ℕ) → IsPlaceOf geometry old j p → IsIn (named geometry old j p) rest → ⊥) → Rules3To7With geometry new rest
 stays_sound geometry old new blocks rest b size sound stays small zone unnamed free outside =
     let kept : (j : ℕ) → 1 ≤ j → j ≤ geometry.last_inode → KeepsInode geometry old new j =
     λ j first last. stays_inode geometry old new b size j sound.fits stays zone first last in
@@ -135,18 +135,18 @@ stays_sound geometry old new blocks rest b size sound stays small zone unnamed f
     }
 
 -- the first free block isn't named
-pub first_unnamed : (geometry : Geometry) (image : List ℕ) (b : ℕ) (rest : List ℕ) → IsSoundWith geometry image (b ∷ rest) → IsUnnamed geometry image b
+pub first_unnamed : (geometry : Geometry) (image : List ℕ) (b : ℕ) (rest : List ℕ) → Rules3To7With geometry image (b ∷ rest) → IsUnnamed geometry image b
 unfolding IsIn
 first_unnamed geometry image b rest sound j p place e = sound.outside j p place (inl e)
 
 -- the first free block is a data block
-pub first_zoned : (geometry : Geometry) (image : List ℕ) (b : ℕ) (rest : List ℕ) → IsSoundWith geometry image (b ∷ rest) → in_zone geometry b ≡ true
+pub first_zoned : (geometry : Geometry) (image : List ℕ) (b : ℕ) (rest : List ℕ) → Rules3To7With geometry image (b ∷ rest) → in_zone geometry b ≡ true
 unfolding IsIn
 first_zoned geometry image b rest sound =
     stack_zoned geometry image (free_head geometry.edition) (word image (free_head geometry.edition)) (b ∷ rest) sound.free.stack b (inl refl)
 
 -- the first free block isn't one of the others
-pub first_once : (geometry : Geometry) (image : List ℕ) (b : ℕ) (rest : List ℕ) → IsSoundWith geometry image (b ∷ rest) → IsIn b rest → ⊥
+pub first_once : (geometry : Geometry) (image : List ℕ) (b : ℕ) (rest : List ℕ) → Rules3To7With geometry image (b ∷ rest) → IsIn b rest → ⊥
 unfolding Once
 first_once geometry image b rest sound = sound.free.once.0
 
@@ -161,8 +161,8 @@ rest_within k [] rest blocks e within = subst (IsIn k) (sym e) within
 rest_within k (b ∷ taken) rest blocks e within = subst (IsIn k) (sym e) (rest_in b k (taken ++ rest) (rest_within k taken rest (taken ++ rest) refl within))
 
 -- the rules hold with the others once the first block was taken
-pub taken_sound : (geometry : Geometry) (old new : List ℕ) (b : ℕ) (rest : List ℕ) → IsSoundWith geometry old (b ∷ rest)
-    → Popped geometry old new b rest → IsSoundWith geometry new rest
+pub taken_sound : (geometry : Geometry) (old new : List ℕ) (b : ℕ) (rest : List ℕ) → Rules3To7With geometry old (b ∷ rest)
+    → Popped geometry old new b rest → Rules3To7With geometry new rest
 taken_sound geometry old new b rest sound popped =
     stays_sound geometry old new (b ∷ rest) rest b 512 sound popped.stays (omega arith) (first_zoned geometry old b rest sound)
     (first_unnamed geometry old b rest sound) popped.free

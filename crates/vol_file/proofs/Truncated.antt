@@ -22,7 +22,7 @@ use Rattle.vol_layout.proofs.KindLaws.{file_allocated, form_file}
 use Rattle.vol_free.specs.Stack.{IsIn, IsFree}
 use Rattle.vol_free.proofs.Stacks.{head_end}
 use Rattle.vol_free.proofs.Frames.{IsFree-before_zone, free_zone}
-use Rattle.vol_file.specs.Rules.{size_of, kind_at, IsSoundWith}
+use Rattle.vol_file.specs.Rules.{size_of, kind_at, Rules3To7With}
 use Rattle.vol_file.specs.Changes.{StaysElsewhere, is_kept_byte, blocks_of, truncated_mode, Truncates}
 use Rattle.vol_file.specs.Clears.{IsUnder, Clears}
 use Rattle.vol_file.proofs.Alone.{fits_len, elsewhere_names, elsewhere_then, elsewhere_changes}
@@ -55,7 +55,7 @@ kept_mode : (old new : List ℕ) (i r : ℕ) → SameOutside old new (inode_plac
 kept_mode old new i r same kept = let high : 2 ≤ r = grind (arith, nat_tests) in same.above (inode_place V6 i + r) (omega arith)
 
 -- what is written in the head of an i-node leaves all else
-head_elsewhere : (geometry : Geometry) (old new blocks : List ℕ) (i : ℕ) → IsSoundWith geometry old blocks → IsFile geometry old i
+head_elsewhere : (geometry : Geometry) (old new blocks : List ℕ) (i : ℕ) → Rules3To7With geometry old blocks → IsFile geometry old i
     → SameOutside old new (inode_place geometry.edition i) (inode_place geometry.edition i + address_offset geometry.edition)
     → ((r : ℕ) → is_kept_byte geometry.edition r ≡ true
     → get_or new (inode_place geometry.edition i + r) 0 ≡ get_or old (inode_place geometry.edition i + r) 0)

@@ -15,7 +15,7 @@ use Rattle.vol_layout.proofs.NameLaws.{stored_is}
 use Rattle.vol_layout.proofs.BodyLaws.{length-body, get_or-body}
 use Rattle.vol_file.specs.Shape.{is_named, touched, is_on_ways, fit_names, filled}
 use Rattle.vol_file.specs.Need.{need_of, need, places_taken}
-use Rattle.vol_file.specs.Rules.{size_of, IsSoundWith}
+use Rattle.vol_file.specs.Rules.{size_of, Rules3To7With}
 use Rattle.vol_file.specs.Changes.{Writes, mode_after, place_after, spliced}
 use Rattle.vol_file.specs.Steps.{Fills, Puts, HasRoom}
 use Rattle.vol_file.proofs.Alone.{elsewhere_then, elsewhere_changes, keeps_then}
@@ -35,7 +35,7 @@ touched_run offset (suc n) some =
     ap (range_with_len (offset / 512)) (many ∙ ap (λ e. e / 512 + 1 - offset / 512) (sym last))
 
 -- there is room for the run
-pub run_room : (geometry : Geometry) (image : List ℕ) (i offset len : ℕ) (blocks : List ℕ) → 1 ≤ len → IsSoundWith geometry image blocks
+pub run_room : (geometry : Geometry) (image : List ℕ) (i offset len : ℕ) (blocks : List ℕ) → 1 ≤ len → Rules3To7With geometry image blocks
     → need geometry image i offset len ≤ length blocks → HasRoom geometry image i (offset / 512) ((offset + len - 1) / 512 + 1) blocks
 run_room geometry image i offset len blocks some sound room = record {
   sound = sound;
@@ -70,7 +70,7 @@ fills_zone geometry old new i from to b blocks fills limit low high =
     ∙ fills.sound.zoned i p (record { file = fills.file; place = leaf.place }) (named_some geometry new i p is)
 
 -- the body after a write
-writes_body : (geometry : Geometry) (old mid new : List ℕ) (i offset : ℕ) (text rest blocks : List ℕ) → IsFile geometry old i → IsSoundWith geometry old blocks
+writes_body : (geometry : Geometry) (old mid new : List ℕ) (i offset : ℕ) (text rest blocks : List ℕ) → IsFile geometry old i → Rules3To7With geometry old blocks
     → offset + length text ≤ (constants geometry.edition).greatest
     → size_of geometry mid i ≡ size_of geometry old i → ((n : ℕ) → body_byte geometry mid i n ≡ body_byte geometry old i n)
     → Puts geometry mid new i offset text rest → body geometry new i ≡ spliced (body geometry old i) offset text
@@ -98,7 +98,7 @@ writes_body geometry old mid new i offset text rest blocks file sound great size
 
 -- the places named and the bytes put are a write
 pub writes : (geometry : Geometry) (old mid new : List ℕ) (i offset : ℕ) (text touches blocks : List ℕ) → IsFile geometry old i
-    → IsSoundWith geometry old blocks → offset + length text ≤ (constants geometry.edition).greatest
+    → Rules3To7With geometry old blocks → offset + length text ≤ (constants geometry.edition).greatest
     → touched offset (length text) ≡ touches → (fills : Fills geometry old mid i touches blocks)
     → Puts geometry mid new i offset text fills.rest → Writes geometry old new i offset text blocks
 writes geometry old mid new i offset text touches blocks file sound great run fills puts =

@@ -4,11 +4,11 @@ use Rattle.vol_layout.specs.Edition.{constants}
 use Rattle.vol_layout.specs.Inode.{inode_place, with_large}
 use Rattle.vol_layout.specs.Super.{free_head}
 use Rattle.vol_layout.specs.Places.{IsPlace, places}
-use Rattle.vol_layout.specs.Names.{mode_of, form_at, IsFile, IsPlaceOf, named, Names}
+use Rattle.vol_layout.specs.Names.{mode_of, form_at, IsFile, IsPlaceOf, named, NamesBlock}
 use Rattle.vol_layout.specs.Body.{body_byte, body}
 use Rattle.vol_file.specs.Shape.{is_named, touched, grows_large, filled}
 use Rattle.vol_file.specs.Need.{need, places_taken}
-use Rattle.vol_file.specs.Rules.{size_of, IsSoundWith, IsCovered}
+use Rattle.vol_file.specs.Rules.{size_of, Rules3To7With, IsCovered}
 use Rattle.vol_free.specs.Stack.{IsIn}
 use Rattle.vol_layout.specs.declared.places.Form.{Form}
 use Rattle.vol_layout.specs.declared.edition.Edition.{Edition}
@@ -31,7 +31,7 @@ pub record StaysElsewhere (geometry : Geometry) (old new : List ℕ) (i : ℕ) :
       → slice_index new k ≡ slice_index old k
   pub inode : (r : ℕ) → is_kept_byte geometry.edition r ≡ true
       → slice_index new (inode_place geometry.edition i + r) ≡ slice_index old (inode_place geometry.edition i + r)
-  pub blocks : (j : ℕ) (p : List ℕ) (k r : ℕ) → j ≢ i → Names geometry old j p k → r < 512
+  pub blocks : (j : ℕ) (p : List ℕ) (k r : ℕ) → j ≢ i → NamesBlock geometry old j p k → r < 512
       → slice_index new (512 * k + r) ≡ slice_index old (512 * k + r)
   pub behind : (k : ℕ) → 512 * geometry.zone_end ≤ k → slice_index new k ≡ slice_index old k
 
@@ -68,7 +68,7 @@ pub record Writes (geometry : Geometry) (old new : List ℕ) (i offset : ℕ) (t
   pub rest : List ℕ
   pub free : blocks ≡ taken ++ rest
   pub count : length taken ≡ need geometry old i offset (length text)
-  pub sound : IsSoundWith geometry new rest
+  pub sound : Rules3To7With geometry new rest
   pub covered : IsCovered geometry old blocks → IsCovered geometry new rest
   pub alone : ChangesFileAlone geometry old new i
   pub mode : mode_of geometry new i ≡ mode_after geometry old i (touched offset (length text))
@@ -94,7 +94,7 @@ truncated_mode V7 mode = mode
 -- a truncation of file i to nothing, where `blocks` were free: its blocks lie upon them, in the order of its places,
 -- since they are given back from the last place to the first, and those that were free keep their bytes (Lions on itrunc)
 pub record Truncates (geometry : Geometry) (old new : List ℕ) (i : ℕ) (blocks : List ℕ) : Type 0 where
-  pub sound : IsSoundWith geometry new (blocks_of geometry old i ++ blocks)
+  pub sound : Rules3To7With geometry new (blocks_of geometry old i ++ blocks)
   pub covered : IsCovered geometry old blocks → IsCovered geometry new (blocks_of geometry old i ++ blocks)
   pub alone : ChangesFileAlone geometry old new i
   pub mode : mode_of geometry new i ≡ truncated_mode geometry.edition (mode_of geometry old i)

@@ -6,7 +6,7 @@ use Rattle.vol_layout.specs.Places.{levels_below, places_from}
 use Rattle.vol_layout.specs.Laws.{IsFront}
 use Rattle.vol_layout.specs.Names.{mode_of, form_at, IsPlaceOf, named}
 use Rattle.vol_free.specs.Stack.{IsFree}
-use Rattle.vol_file.specs.Rules.{size_of, IsSoundWith, IsCovered}
+use Rattle.vol_file.specs.Rules.{size_of, Rules3To7With, IsCovered}
 use Rattle.vol_file.specs.Changes.{StaysElsewhere, KeepsBlocks}
 use Rattle.vol_layout.specs.declared.geometry.Geometry.{Geometry}
 
@@ -46,7 +46,7 @@ pub record Clears (geometry : Geometry) (old new : List ℕ) (i : ℕ) (Cleared 
   pub alone : StaysElsewhere geometry old new i
   pub mode : mode_of geometry new i ≡ mode_of geometry old i
   pub size : size_of geometry new i ≡ size_of geometry old i
-  pub sound : IsSoundWith geometry new (given ++ blocks)
+  pub sound : Rules3To7With geometry new (given ++ blocks)
   pub covered : IsCovered geometry old blocks → IsCovered geometry new (given ++ blocks)
   pub less : (q : List ℕ) → IsPlaceOf geometry old i q → (named geometry new i q ≡ named geometry old i q) ⊎ (named geometry new i q ≡ 0)
   pub gone : (q : List ℕ) → IsPlaceOf geometry old i q → Cleared q → named geometry new i q ≡ 0
@@ -59,13 +59,13 @@ Gains geometry old new count = (before after : List ℕ) → IsFree geometry old
 
 -- where place q of file i names b and nothing below it names anything, it names nothing any more, and b is free (Lions on itrunc)
 abbrev pub Drops : Geometry → List ℕ → List ℕ → ℕ → List ℕ → ℕ → List ℕ → Type 0
-Drops geometry old new i q b blocks = IsSoundWith geometry old blocks → IsNamedAt geometry old i q b → IsEmptyUnder geometry old i q
+Drops geometry old new i q b blocks = Rules3To7With geometry old blocks → IsNamedAt geometry old i q b → IsEmptyUnder geometry old i q
     → Clears geometry old new i (IsFront q) (b ∷ []) blocks
 
 -- pointer j of block m, which a place of a file names, names b (manual section 5, file system)
 pub record HasPointer (geometry : Geometry) (image : List ℕ) (m j b : ℕ) : Type 0 where
   pub blocks : List ℕ
-  pub sound : IsSoundWith geometry image blocks
+  pub sound : Rules3To7With geometry image blocks
   pub file : ℕ
   pub index : ℕ
   pub place : List ℕ
@@ -75,13 +75,13 @@ pub record HasPointer (geometry : Geometry) (image : List ℕ) (m j b : ℕ) : T
 -- address k of file i names b (manual section 5, file system)
 pub record HasAddress (geometry : Geometry) (image : List ℕ) (i k b : ℕ) : Type 0 where
   pub blocks : List ℕ
-  pub sound : IsSoundWith geometry image blocks
+  pub sound : Rules3To7With geometry image blocks
   pub is : IsNamedAt geometry image i (k ∷ []) b
 
 -- block b is named by a place of a file with so many levels below it (manual section 5, file system)
 pub record HasNode (geometry : Geometry) (image : List ℕ) (b level : ℕ) : Type 0 where
   pub blocks : List ℕ
-  pub sound : IsSoundWith geometry image blocks
+  pub sound : Rules3To7With geometry image blocks
   pub file : ℕ
   pub index : ℕ
   pub place : List ℕ
@@ -91,7 +91,7 @@ pub record HasNode (geometry : Geometry) (image : List ℕ) (b level : ℕ) : Ty
 -- wherever block b was named with so many levels below it, nothing below it is named any more,
 -- and what was named there is free (Lions on itrunc)
 abbrev pub ClearsBelow : Geometry → List ℕ → List ℕ → ℕ → ℕ → Type 0
-ClearsBelow geometry old new b level = (i a : ℕ) (p blocks : List ℕ) → IsSoundWith geometry old blocks
+ClearsBelow geometry old new b level = (i a : ℕ) (p blocks : List ℕ) → Rules3To7With geometry old blocks
     → IsNamedAt geometry old i (a ∷ p) b → levels_below (form_at geometry old i) (a ∷ p) ≡ level
     → Clears geometry old new i (IsUnder (a ∷ p) 0)
     (blocks_at geometry old i (places_below (constants geometry.edition).pointers (a ∷ p) level)) blocks

@@ -3,7 +3,7 @@ use Rattle.std.specs.Prelude.{◌≡◌, ◌≢◌, ℕ, ◌≤◌, ◌⊎◌, t
 use Rattle.vol_layout.specs.Edition.{constants}
 use Rattle.vol_layout.specs.Geometry.{in_zone, Fits}
 use Rattle.vol_layout.specs.Inode.{inode_place, inode_of, kind_of, size_at}
-use Rattle.vol_layout.specs.Names.{mode_of, form_at, IsFile, IsPlaceOf, named, Names}
+use Rattle.vol_layout.specs.Names.{mode_of, form_at, IsFile, IsPlaceOf, named, NamesBlock}
 use Rattle.vol_free.specs.Stack.{IsIn, IsFree}
 use Rattle.vol_layout.specs.declared.edition.Edition.TheVariants.{V7}
 use Rattle.vol_layout.specs.declared.geometry.Geometry.{Geometry}
@@ -51,10 +51,10 @@ IsOutside geometry image blocks = (i : ℕ) (p : List ℕ) → IsPlaceOf geometr
 -- rule 8: each data block is free, or named by a place (icheck)
 abbrev pub IsCovered : Geometry → List ℕ → List ℕ → Type 0
 IsCovered geometry image blocks = (k : ℕ) → in_zone geometry k ≡ true
-    → IsIn k blocks ⊎ ((i : ℕ) × (p : List ℕ) × Names geometry image i p k)
+    → IsIn k blocks ⊎ ((i : ℕ) × (p : List ℕ) × NamesBlock geometry image i p k)
 
 -- the geometry fits, rules 3 to 7 hold, and these are the free blocks (this project)
-pub record IsSoundWith (geometry : Geometry) (image blocks : List ℕ) : Type 0 where
+pub record Rules3To7With (geometry : Geometry) (image blocks : List ℕ) : Type 0 where
   pub fits : Fits geometry image
   pub kinds : HasKinds geometry image
   pub sizes : HasSizes geometry image
@@ -64,6 +64,6 @@ pub record IsSoundWith (geometry : Geometry) (image blocks : List ℕ) : Type 0 
   pub outside : IsOutside geometry image blocks
 
 -- the geometry fits, and rules 3 to 7 hold with some free blocks (this project)
-pub record HasSoundFiles (geometry : Geometry) (image : List ℕ) : Type 0 where
+pub record Rules3To7 (geometry : Geometry) (image : List ℕ) : Type 0 where
   pub blocks : List ℕ
-  pub sound : IsSoundWith geometry image blocks
+  pub sound : Rules3To7With geometry image blocks

@@ -9,7 +9,7 @@ use Rattle.vol_layout.specs.Names.{mode_of, form_at, IsFile, IsPlaceOf, named}
 use Rattle.vol_file.specs.Shape.{is_named, is_on_ways, moved_down, fit_form, filled}
 use Rattle.vol_file.specs.Laws.{IsAmong}
 use Rattle.vol_file.specs.Need.{need_of, missing_on_way, missing_places, places_taken}
-use Rattle.vol_file.specs.Rules.{size_of, IsSoundWith, IsCovered}
+use Rattle.vol_file.specs.Rules.{size_of, Rules3To7With, IsCovered}
 use Rattle.vol_file.specs.Changes.{StaysElsewhere, mode_after, place_after, KeepsBlocks}
 use Rattle.vol_layout.specs.declared.geometry.Geometry.{Geometry}
 use Rattle.vol_layout.specs.declared.places.Form.TheVariants.{Large}
@@ -28,7 +28,7 @@ pub record HasName (geometry : Geometry) (image : List ℕ) (i : ℕ) (p : List 
 pub record Extends (geometry : Geometry) (old new : List ℕ) (i : ℕ) (wanted set : List ℕ → Bool) (gained : List (List ℕ))
     (blocks rest : List ℕ) : Type 0 where
   pub alone : StaysElsewhere geometry old new i
-  pub sound : IsSoundWith geometry new rest
+  pub sound : Rules3To7With geometry new rest
   pub covered : IsCovered geometry old blocks → IsCovered geometry new rest
   pub taken : List ℕ
   pub free : blocks ≡ taken ++ rest
@@ -58,15 +58,15 @@ pub record Reaches (geometry : Geometry) (old new : List ℕ) (i : ℕ) (wanted 
   pub some : k ≢ 0
 
 -- the rules hold with these free blocks, which are enough for the wanted places of file i (this project)
-pub record IsReady (geometry : Geometry) (image : List ℕ) (i : ℕ) (wanted : List ℕ → Bool) (blocks : List ℕ) : Type 0 where
+pub record IsReadyToName (geometry : Geometry) (image : List ℕ) (i : ℕ) (wanted : List ℕ → Bool) (blocks : List ℕ) : Type 0 where
   pub file : IsFile geometry image i
-  pub sound : IsSoundWith geometry image blocks
+  pub sound : Rules3To7With geometry image blocks
   pub room : lacking geometry image i wanted ≤ length blocks
 
 -- the rules hold with these free blocks, which are enough for the wanted places of file i,
 -- and place q is one of those (this project)
 pub record IsWanted (geometry : Geometry) (image : List ℕ) (i : ℕ) (wanted : List ℕ → Bool) (q blocks : List ℕ) : Type 0 where
-  pub ready : IsReady geometry image i wanted blocks
+  pub ready : IsReadyToName geometry image i wanted blocks
   pub place : IsPlaceOf geometry image i q
   pub want : wanted q ≡ true
 
@@ -77,7 +77,7 @@ pub record MayName (geometry : Geometry) (image : List ℕ) (i : ℕ) (q : List 
   pub is : IsWanted geometry image i wanted q blocks
 
 -- entry j of block m, which place a ∷ p of file i names by now, is wanted (Lions on bmap)
-pub record IsNext (geometry : Geometry) (old image : List ℕ) (i : ℕ) (wanted : List ℕ → Bool) (j a : ℕ) (p blocks : List ℕ) (m : ℕ) : Type 0 where
+pub record NamesNext (geometry : Geometry) (old image : List ℕ) (i : ℕ) (wanted : List ℕ → Bool) (j a : ℕ) (p blocks : List ℕ) (m : ℕ) : Type 0 where
   pub want : IsWanted geometry old i wanted (j ∷ (a ∷ p)) blocks
   pub reached : Reaches geometry old image i wanted (a ∷ p) blocks m
 
@@ -89,12 +89,12 @@ pub record MayNameEntry (geometry : Geometry) (image : List ℕ) (m j : ℕ) : T
   pub a : ℕ
   pub p : List ℕ
   pub blocks : List ℕ
-  pub next : IsNext geometry old image i wanted j a p blocks m
+  pub next : NamesNext geometry old image i wanted j a p blocks m
 
 -- the rules hold with these free blocks, which are enough for the wanted places of file i,
 -- those on the way of logical block b among them (this project)
 pub record WantsWay (geometry : Geometry) (image : List ℕ) (i : ℕ) (wanted : List ℕ → Bool) (b : ℕ) (blocks : List ℕ) : Type 0 where
-  pub ready : IsReady geometry image i wanted blocks
+  pub ready : IsReadyToName geometry image i wanted blocks
   pub limit : b < block_limit (form_at geometry image i)
   pub want : (p : List ℕ) → list_any (bytes_eq p) (way (form_at geometry image i) b) ≡ true → wanted p ≡ true
 
@@ -113,7 +113,7 @@ pub record NamesWay (geometry : Geometry) (old new : List ℕ) (i : ℕ) (wanted
 -- the rules hold with these free blocks, which are enough for the wanted places of file i, those on the ways of n logical
 -- blocks from `from` on among them (this project)
 pub record WantsWays (geometry : Geometry) (image : List ℕ) (i : ℕ) (wanted : List ℕ → Bool) (from n : ℕ) (blocks : List ℕ) : Type 0 where
-  pub ready : IsReady geometry image i wanted blocks
+  pub ready : IsReadyToName geometry image i wanted blocks
   pub limit : from + n ≤ block_limit (form_at geometry image i)
   pub want : (p : List ℕ) → is_on_ways (form_at geometry image i) (range_with_len from n) p ≡ true → wanted p ≡ true
 
@@ -132,7 +132,7 @@ pub record NamesWays (geometry : Geometry) (old new : List ℕ) (i : ℕ) (wante
 -- the bytes of file i from byte lo up to hi are those of a function now, and all else is as before (Lions on writei)
 pub record Rewrites (geometry : Geometry) (old new : List ℕ) (i lo hi : ℕ) (content : ℕ → ℕ) (blocks : List ℕ) : Type 0 where
   pub alone : StaysElsewhere geometry old new i
-  pub sound : IsSoundWith geometry new blocks
+  pub sound : Rules3To7With geometry new blocks
   pub covered : IsCovered geometry old blocks → IsCovered geometry new blocks
   pub mode : mode_of geometry new i ≡ mode_of geometry old i
   pub size : size_of geometry new i ≡ size_of geometry old i
@@ -156,7 +156,7 @@ pub record Enlarges (geometry : Geometry) (old new : List ℕ) (i : ℕ) (blocks
   pub rest : List ℕ
   pub free : blocks ≡ first ∷ rest
   pub alone : StaysElsewhere geometry old new i
-  pub sound : IsSoundWith geometry new rest
+  pub sound : Rules3To7With geometry new rest
   pub covered : IsCovered geometry old blocks → IsCovered geometry new rest
   pub form : form_at geometry new i ≡ Large
   pub mode : mode_of geometry new i ≡ with_large (mode_of geometry old i) true
@@ -173,7 +173,7 @@ pub record Enlarges (geometry : Geometry) (old new : List ℕ) (i : ℕ) (blocks
 pub record MayEnlarge (geometry : Geometry) (image : List ℕ) (i : ℕ) : Type 0 where
   pub file : IsFile geometry image i
   pub blocks : List ℕ
-  pub sound : IsSoundWith geometry image blocks
+  pub sound : Rules3To7With geometry image blocks
   pub some : 1 ≤ length blocks
 
 -- all places on the ways of these logical blocks name something now, by as many of the free blocks as are needed (Lions on bmap)
@@ -183,7 +183,7 @@ pub record Fills (geometry : Geometry) (old new : List ℕ) (i : ℕ) (touches b
   pub free : blocks ≡ taken ++ rest
   pub count : length taken ≡ need_of (form_at geometry old i) (is_named geometry old i) touches
   pub alone : StaysElsewhere geometry old new i
-  pub sound : IsSoundWith geometry new rest
+  pub sound : Rules3To7With geometry new rest
   pub covered : IsCovered geometry old blocks → IsCovered geometry new rest
   pub file : IsFile geometry new i
   pub form : form_at geometry new i ≡ fit_form (form_at geometry old i) touches
@@ -201,7 +201,7 @@ pub record Fills (geometry : Geometry) (old new : List ℕ) (i : ℕ) (touches b
 
 -- the rules hold with these free blocks, which are enough for the ways of the logical blocks from `from` up to `to` (this project)
 pub record HasRoom (geometry : Geometry) (image : List ℕ) (i from to : ℕ) (blocks : List ℕ) : Type 0 where
-  pub sound : IsSoundWith geometry image blocks
+  pub sound : Rules3To7With geometry image blocks
   pub room : need_of (form_at geometry image i) (is_named geometry image i) (range_with_len from (to - from)) ≤ length blocks
 
 -- the ways of the logical blocks from `from` up to `to` may be named (this project)
@@ -214,7 +214,7 @@ pub record MayFill (geometry : Geometry) (image : List ℕ) (i from to : ℕ) : 
 -- (Lions on writei)
 pub record Puts (geometry : Geometry) (old new : List ℕ) (i offset : ℕ) (text blocks : List ℕ) : Type 0 where
   pub alone : StaysElsewhere geometry old new i
-  pub sound : IsSoundWith geometry new blocks
+  pub sound : Rules3To7With geometry new blocks
   pub covered : IsCovered geometry old blocks → IsCovered geometry new blocks
   pub mode : mode_of geometry new i ≡ mode_of geometry old i
   pub names : (p : List ℕ) → IsPlaceOf geometry old i p → named geometry new i p ≡ named geometry old i p

@@ -2,7 +2,7 @@
 ghost use Rattle.std.specs.Prelude.{◌≡◌, ℕ, ◌+◌, ◌-◌, ◌*◌, ◌/◌, ◌%◌, ◌^◌, ◌<◌, ◌≤◌, true, List, length, slice_index};
 ghost use Rattle.vol_layout.specs.Geometry.{in_zone};
 ghost use Rattle.vol_layout.specs.Names.{form_at, IsFile, stored};
-ghost use Rattle.vol_file.specs.Rules.{IsSoundWith, HasSoundFiles};
+ghost use Rattle.vol_file.specs.Rules.{Rules3To7With, Rules3To7};
 ghost use Rattle.vol_file.specs.Steps.{Rewrites, text_at, zeros_at};
 
 use crate::block_map::number_at;
@@ -14,11 +14,11 @@ use vol_layout::{Form, Geometry};
 fn put_piece(image: &mut Image, geometry: &Geometry, i: u16, form: Form, at: usize, piece: &[u8])
     requires form { form ≡ form_at geometry.now image.old i }
     requires file { IsFile geometry.now image.old i }
-    requires sound { HasSoundFiles geometry.now image.old }
+    requires sound { Rules3To7 geometry.now image.old }
     requires near { at < 2 ^ 32 }
     requires room { at % 512 + length piece.now ≤ 512 }
     requires zone { in_zone geometry.now (stored geometry.now image.old i form (at / 512)) ≡ true }
-    ensures { (content : ℕ → ℕ) (blocks : List ℕ) → IsSoundWith geometry.now image.old blocks
+    ensures { (content : ℕ → ℕ) (blocks : List ℕ) → Rules3To7With geometry.now image.old blocks
         → ((n : ℕ) → n < length piece.now → slice_index piece.now n ≡ content (at + n))
         → Rewrites geometry.now image.old image.new i at (at + length piece.now) content blocks }
 {
@@ -30,10 +30,10 @@ fn put_piece(image: &mut Image, geometry: &Geometry, i: u16, form: Form, at: usi
 fn clear_piece(image: &mut Image, geometry: &Geometry, i: u16, form: Form, at: usize, count: usize)
     requires form { form ≡ form_at geometry.now image.old i }
     requires file { IsFile geometry.now image.old i }
-    requires sound { HasSoundFiles geometry.now image.old }
+    requires sound { Rules3To7 geometry.now image.old }
     requires near { at < 2 ^ 32 }
     requires room { at % 512 + count ≤ 512 }
-    ensures { (blocks : List ℕ) → IsSoundWith geometry.now image.old blocks
+    ensures { (blocks : List ℕ) → Rules3To7With geometry.now image.old blocks
         → Rewrites geometry.now image.old image.new i at (at + count) zeros_at blocks }
 {
     let block = number_at(image, geometry, i, form, (at / BLOCK) as u32);
@@ -54,11 +54,11 @@ pub(crate) fn put_text(
 )
     requires form { form ≡ form_at geometry.now image.old i }
     requires file { IsFile geometry.now image.old i }
-    requires sound { HasSoundFiles geometry.now image.old }
+    requires sound { Rules3To7 geometry.now image.old }
     requires range { offset + length text.now < 2 ^ 32 }
     requires zone { (n : ℕ) → n < length text.now
         → in_zone geometry.now (stored geometry.now image.old i form ((offset + n) / 512)) ≡ true }
-    ensures { (blocks : List ℕ) → IsSoundWith geometry.now image.old blocks
+    ensures { (blocks : List ℕ) → Rules3To7With geometry.now image.old blocks
         → Rewrites geometry.now image.old image.new i offset (offset + length text.now) (text_at offset text.now) blocks }
 {
     let mut done = 0;
@@ -84,9 +84,9 @@ pub(crate) fn clear_between(
 )
     requires form { form ≡ form_at geometry.now image.old i }
     requires file { IsFile geometry.now image.old i }
-    requires sound { HasSoundFiles geometry.now image.old }
+    requires sound { Rules3To7 geometry.now image.old }
     requires order { from ≤ to }
-    ensures { (blocks : List ℕ) → IsSoundWith geometry.now image.old blocks
+    ensures { (blocks : List ℕ) → Rules3To7With geometry.now image.old blocks
         → Rewrites geometry.now image.old image.new i from to zeros_at blocks }
 {
     let end = to as usize;

@@ -2,7 +2,7 @@
 ghost use Rattle.std.specs.Prelude.{◌≡◌, ℕ, ◌*◌, List, [], ◌∷◌, length};
 ghost use Rattle.vol_layout.specs.Geometry.{Fits};
 ghost use Rattle.vol_layout.specs.Names.{form_at, IsFile, named};
-ghost use Rattle.vol_file.specs.Rules.{IsSoundWith, HasSoundFiles};
+ghost use Rattle.vol_file.specs.Rules.{Rules3To7With, Rules3To7};
 ghost use Rattle.vol_file.specs.Changes.{blocks_of, Truncates};
 ghost use Rattle.vol_file.specs.Clears.{IsUnder, Clears, Gains, Drops, HasPointer, HasAddress, HasNode, ClearsBelow};
 
@@ -19,11 +19,11 @@ use vol_layout::{Edition, Form, Geometry, number, put_address, put_mode, put_num
 /// Costs one read for each entry of the file's indirect blocks, and two writes for each of its blocks.
 pub fn truncate(image: &mut Image, geometry: &Geometry, i: u16) -> u32
     requires file { IsFile geometry.now image.old i }
-    requires sound { HasSoundFiles geometry.now image.old }
-    ensures truncated { (blocks : List ℕ) → IsSoundWith geometry.now image.old blocks
+    requires sound { Rules3To7 geometry.now image.old }
+    ensures truncated { (blocks : List ℕ) → Rules3To7With geometry.now image.old blocks
         → Truncates geometry.now image.old image.new i blocks }
     ensures count { result ≡ length (blocks_of geometry.now image.old i) }
-    ensures sound { HasSoundFiles geometry.now image.new }
+    ensures sound { Rules3To7 geometry.now image.new }
     ensures fits { Fits geometry.now image.new }
 {
     let mode = mode(image, geometry, i);
@@ -40,9 +40,9 @@ pub fn truncate(image: &mut Image, geometry: &Geometry, i: u16) -> u32
 /// many blocks that is.
 fn clear_addresses(image: &mut Image, geometry: &Geometry, i: u16, form: Form) -> u32
     requires file { IsFile geometry.now image.old i }
-    requires sound { HasSoundFiles geometry.now image.old }
+    requires sound { Rules3To7 geometry.now image.old }
     requires form { form ≡ form_at geometry.now image.old i }
-    ensures cleared { (blocks : List ℕ) → IsSoundWith geometry.now image.old blocks
+    ensures cleared { (blocks : List ℕ) → Rules3To7With geometry.now image.old blocks
         → Clears geometry.now image.old image.new i (IsUnder [] 0) (blocks_of geometry.now image.old i) blocks }
     ensures counted { Gains geometry.now image.old image.new result }
 {

@@ -5,7 +5,7 @@ ghost use Rattle.vol_file.specs.Steps.{
   Reaches,
   IsWanted,
   MayName,
-  IsNext,
+  NamesNext,
   MayNameEntry,
   WantsWay,
   MayNameWay,
@@ -45,7 +45,7 @@ fn name_address(image: &mut Image, geometry: &Geometry, i: u16, k: usize) -> u32
 fn name_entry(image: &mut Image, geometry: &Geometry, m: u32, j: u32) -> u32
     requires may { MayNameEntry geometry.now image.old m j }
     ensures { (old : List ℕ) (i : ℕ) (wanted : List ℕ → Bool) (a : ℕ) (p blocks : List ℕ)
-        → IsNext geometry.now old image.old i wanted j a p blocks m
+        → NamesNext geometry.now old image.old i wanted j a p blocks m
         → Reaches geometry.now old image.new i wanted (j ∷ (a ∷ p)) blocks result }
 {
     let at = BLOCK * m as usize;

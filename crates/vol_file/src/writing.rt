@@ -7,7 +7,7 @@ ghost use Rattle.vol_layout.specs.Names.{form_at, IsFile, stored};
 ghost use Rattle.vol_layout.specs.Geometry.{in_zone, Fits};
 ghost use Rattle.vol_file.specs.Need.{need};
 ghost use Rattle.vol_file.specs.Changes.{Writes};
-ghost use Rattle.vol_file.specs.Rules.{IsSoundWith, HasSoundFiles};
+ghost use Rattle.vol_file.specs.Rules.{Rules3To7With, Rules3To7};
 ghost use Rattle.vol_file.specs.Steps.{MayEnlarge, Enlarges, HasRoom, MayFill, Fills, Puts};
 
 use crate::needing::grows_large;
@@ -25,7 +25,7 @@ use vol_layout::{
 fn make_large(image: &mut Image, geometry: &Geometry, i: u16)
     requires form { form_at geometry.now image.old i ≡ Form.Small }
     requires may { MayEnlarge geometry.now image.old i }
-    ensures { (blocks : List ℕ) → IsSoundWith geometry.now image.old blocks → 1 ≤ length blocks
+    ensures { (blocks : List ℕ) → Rules3To7With geometry.now image.old blocks → 1 ≤ length blocks
         → Enlarges geometry.now image.old image.new i blocks }
 {
     let large = mode(image, geometry, i).with_large(true);
@@ -63,12 +63,12 @@ fn name_blocks(image: &mut Image, geometry: &Geometry, i: u16, from: u32, to: u3
 /// between the size and the offset, then the text, then the size.
 fn put_in_blocks(image: &mut Image, geometry: &Geometry, i: u16, offset: u32, text: &[u8])
     requires file { IsFile geometry.now image.old i }
-    requires sound { HasSoundFiles geometry.now image.old }
+    requires sound { Rules3To7 geometry.now image.old }
     requires greatest { offset + length text.now ≤ (constants geometry.now.edition).greatest }
     requires small { form_at geometry.now image.old i ≡ Form.Small → offset + length text.now ≤ 4096 }
     requires zone { (n : ℕ) → n < length text.now
         → in_zone geometry.now (stored geometry.now image.old i (form_at geometry.now image.old i) ((offset + n) / 512)) ≡ true }
-    ensures { (blocks : List ℕ) → IsSoundWith geometry.now image.old blocks
+    ensures { (blocks : List ℕ) → Rules3To7With geometry.now image.old blocks
         → Puts geometry.now image.old image.new i offset text.now blocks }
 {
     let form = Form::of(geometry.edition, mode(image, geometry, i));
@@ -88,14 +88,14 @@ fn put_in_blocks(image: &mut Image, geometry: &Geometry, i: u16, offset: u32, te
 /// between the old size and `offset`.
 pub fn write(image: &mut Image, geometry: &Geometry, i: u16, offset: u32, text: &[u8])
     requires file { IsFile geometry.now image.old i }
-    requires sound { HasSoundFiles geometry.now image.old }
+    requires sound { Rules3To7 geometry.now image.old }
     requires greatest { offset + length text.now ≤ (constants geometry.now.edition).greatest }
-    requires room { (blocks : List ℕ) → IsSoundWith geometry.now image.old blocks
+    requires room { (blocks : List ℕ) → Rules3To7With geometry.now image.old blocks
         → need geometry.now image.old i offset (length text.now) ≤ length blocks }
     ensures nothing { length text.now ≡ 0 → image.new ≡ image.old }
-    ensures written { 1 ≤ length text.now → (blocks : List ℕ) → IsSoundWith geometry.now image.old blocks
+    ensures written { 1 ≤ length text.now → (blocks : List ℕ) → Rules3To7With geometry.now image.old blocks
         → Writes geometry.now image.old image.new i offset text.now blocks }
-    ensures sound { HasSoundFiles geometry.now image.new }
+    ensures sound { Rules3To7 geometry.now image.new }
     ensures fits { Fits geometry.now image.new }
     ensures file { IsFile geometry.now image.new i }
 {

@@ -15,7 +15,7 @@ pub record IsLeft (geometry : Geometry) (image : List ℕ) (at n total : ℕ) (b
   pub sum : length blocks ≡ total + length rest
 
 -- block b is chained to the head at `at`: it has the others once the n numbers are counted
-pub record IsNext (geometry : Geometry) (image : List ℕ) (n total b : ℕ) (blocks : List ℕ) : Type 0 where
+pub record CountsNext (geometry : Geometry) (image : List ℕ) (n total b : ℕ) (blocks : List ℕ) : Type 0 where
   pub zone : in_zone geometry b ≡ true
   pub few : word image (512 * b) ≤ (constants geometry.edition).free_slots
   pub left : IsLeft geometry image (512 * b) (word image (512 * b)) (total + n) blocks
@@ -27,7 +27,7 @@ left_within free left = omega (arith, free_within free, left.sum)
 
 -- what the head is chained to has the others
 pub left_next : {geometry : Geometry} {image blocks : List ℕ} {at n total : ℕ} → (b : ℕ) → IsLeft geometry image at n total blocks → 1 ≤ n
-    → b ≡ number geometry.edition image (at + 2) 0 → (b ≡ 0 → ⊥) → IsNext geometry image n total b blocks
+    → b ≡ number geometry.edition image (at + 2) 0 → (b ≡ 0 → ⊥) → CountsNext geometry image n total b blocks
 left_next {geometry = geometry} {image = image} {at = at} {n = n} b left some is more =
     let next : IsChained geometry image at n left.rest = stack_next geometry image at n left.rest some (λ zero. more (is ∙ zero)) left.stack in
     let same : b ≡ next.block = is ∙ next.is in

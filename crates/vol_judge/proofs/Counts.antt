@@ -18,7 +18,7 @@ use Rattle.vol_file.proofs.PlaceLists.{sum_none}
 use Rattle.vol_dir.specs.Entries.{entry_at, slot_count, slots, IsDirectory, HasEntry}
 use Rattle.vol_judge.specs.Directories.{is_for, count_in, entry_count}
 use Rattle.vol_judge.specs.Counting.{is_before, count_before_in, count_before, CountsBefore, HasCounts}
-use Rattle.vol_judge.specs.Stepping.{rank, IsNext, IsPastEntries}
+use Rattle.vol_judge.specs.Stepping.{rank, IsNextSlot, IsPastEntries}
 use Rattle.vol_judge.proofs.GraphCounts.{sum_same}
 use Rattle.vol_judge.proofs.Passing.{entry_within, split}
 
@@ -88,7 +88,7 @@ before_early : (geometry : Geometry) (image : List ℕ) (place i d t : ℕ) → 
 before_early geometry image place i d t is early = rw is (test_low (rank d t) place early)
 
 -- the next entry alone is counted anew
-before_same : {geometry : Geometry} {image : List ℕ} {place d s : ℕ} {slot : Slot} (i e t : ℕ) → IsNext geometry image place d s slot
+before_same : {geometry : Geometry} {image : List ℕ} {place d s : ℕ} {slot : Slot} (i e t : ℕ) → IsNextSlot geometry image place d s slot
     → IsDirectory geometry image e → (e ≡ d → t ≡ s → i ≡ slot.inode → ⊥)
     → is_before geometry image place i e t ≡ is_before geometry image (rank d (s + 1)) i e t
 before_same {geometry = geometry} {image = image} {place = place} {d = d} {s = s} i e t next directory other =
@@ -137,7 +137,7 @@ in_one geometry image p q i d s kind is within old new same =
     one a b e f = rw (e, f) refl
 
 -- the next entry is one more for its i-number
-count_here : {geometry : Geometry} {image : List ℕ} {place d s : ℕ} {slot : Slot} → IsNext geometry image place d s slot
+count_here : {geometry : Geometry} {image : List ℕ} {place d s : ℕ} {slot : Slot} → IsNextSlot geometry image place d s slot
     → count_before geometry image (rank d (s + 1)) slot.inode ≡ count_before geometry image place slot.inode + 1
 unfolding count_before
 count_here {geometry = geometry} {image = image} {place = place} {d = d} {s = s} {slot = slot} next =
@@ -158,7 +158,7 @@ count_here {geometry = geometry} {image = image} {place = place} {d = d} {s = s}
     is_for_entry i slot name is = rw is (eq-eqb i i refl)
 
 -- and none for any other
-count_other : {geometry : Geometry} {image : List ℕ} {place d s : ℕ} {slot : Slot} (i : ℕ) → IsNext geometry image place d s slot → i ≢ slot.inode
+count_other : {geometry : Geometry} {image : List ℕ} {place d s : ℕ} {slot : Slot} (i : ℕ) → IsNextSlot geometry image place d s slot → i ≢ slot.inode
     → count_before geometry image place i ≡ count_before geometry image (rank d (s + 1)) i
 unfolding count_before
 count_other {geometry = geometry} {image = image} {place = place} {d = d} {s = s} {slot = slot} i next other =
@@ -220,7 +220,7 @@ counts_first geometry image counts place room zeros low = record {
 
 -- the next entry is counted
 pub counts_next : {geometry : Geometry} {image counts : List ℕ} {place d s : ℕ} {slot : Slot} → CountsBefore geometry image place counts
-    → IsNext geometry image place d s slot → slot.inode < length counts
+    → IsNextSlot geometry image place d s slot → slot.inode < length counts
     → CountsBefore geometry image (rank d (s + 1)) (set counts slot.inode (get_or counts slot.inode 0 + 1))
 counts_next {geometry = geometry} {image = image} {counts = counts} {place = place} {d = d} {s = s} {slot = slot} is next room =
     let more = get_or counts slot.inode 0 + 1 in

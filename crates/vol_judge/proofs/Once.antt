@@ -9,7 +9,7 @@ use Rattle.vol_dir.specs.Entries.{IsDirectory}
 use Rattle.vol_dir.specs.Names.{is_dots}
 use Rattle.vol_judge.specs.Directories.{root_of, Enters}
 use Rattle.vol_judge.specs.InodeMarks.{is_marked, IsEnteredBefore, MarksOnce, IsOnce}
-use Rattle.vol_judge.specs.Stepping.{rank, IsNext, IsPastEntries}
+use Rattle.vol_judge.specs.Stepping.{rank, IsNextSlot, IsPastEntries}
 use Rattle.vol_judge.proofs.Passing.{split}
 
 -- a mark that is set stays set
@@ -35,7 +35,7 @@ entered_later later low had = record { directory = had.directory; slot = had.slo
 
 -- an entry of `.` or `..`, or for what is no directory, is passed
 pub once_passed : {geometry : Geometry} {image : List ℕ} {marks : List Bool} {place d s : ℕ} {slot : Slot} → IsDirectory geometry image (root_of geometry)
-    → MarksOnce geometry image place marks → IsNext geometry image place d s slot
+    → MarksOnce geometry image place marks → IsNextSlot geometry image place d s slot
     → ((is_dots (name_of slot.name) ≡ false) × IsDirectory geometry image slot.inode → ⊥) → MarksOnce geometry image (rank d (s + 1)) marks
 once_passed {geometry = geometry} {image = image} {place = place} {d = d} {s = s} {slot = slot} root is next other =
     let early : (e t i : ℕ) → IsDirectory geometry image i → Enters geometry image e t i → rank e t < rank d (s + 1) → rank e t < place =
@@ -62,7 +62,7 @@ once_passed {geometry = geometry} {image = image} {place = place} {d = d} {s = s
 
 -- an entry for a directory that isn't marked is its first
 pub once_marked : {geometry : Geometry} {image : List ℕ} {marks : List Bool} {place d s : ℕ} {slot : Slot} → MarksOnce geometry image place marks
-    → IsNext geometry image place d s slot → slot.inode < length marks → is_dots (name_of slot.name) ≡ false → is_marked marks slot.inode ≡ false
+    → IsNextSlot geometry image place d s slot → slot.inode < length marks → is_dots (name_of slot.name) ≡ false → is_marked marks slot.inode ≡ false
     → MarksOnce geometry image (rank d (s + 1)) (set marks slot.inode true)
 once_marked {geometry = geometry} {image = image} {marks = marks} {place = place} {d = d} {s = s} {slot = slot} is next room other new =
     let seen : (e t i : ℕ) → IsDirectory geometry image i → Enters geometry image e t i → rank e t < place → i ≡ slot.inode → ⊥ =
@@ -108,7 +108,7 @@ once_marked {geometry = geometry} {image = image} {marks = marks} {place = place
 
 -- an entry for a directory that is marked is one too many
 pub once_broken : {geometry : Geometry} {image : List ℕ} {marks : List Bool} {place d s : ℕ} {slot : Slot} → MarksOnce geometry image place marks
-    → IsNext geometry image place d s slot → (is_dots (name_of slot.name) ≡ false) × IsDirectory geometry image slot.inode
+    → IsNextSlot geometry image place d s slot → (is_dots (name_of slot.name) ≡ false) × IsDirectory geometry image slot.inode
     → is_marked marks slot.inode ≡ true → IsOnce geometry image → ⊥
 once_broken {geometry = geometry} {image = image} {d = d} {s = s} {slot = slot} is next enters marked rule =
     let here : Enters geometry image d s slot.inode = (name_of slot.name, next.entry, enters.0) in

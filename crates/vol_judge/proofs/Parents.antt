@@ -18,7 +18,7 @@ use Rattle.vol_dir.proofs.NameMaps.{get_first, get_none}
 use Rattle.vol_dir.proofs.SlotReading.{slot_is}
 use Rattle.vol_judge.specs.Directories.{root_of, HasDots}
 use Rattle.vol_judge.specs.InodeMarks.{is_marked, IsNamed, HasUpsBelow, HasUps, MarksChildren}
-use Rattle.vol_judge.specs.Stepping.{rank, IsNext, IsPastEntries}
+use Rattle.vol_judge.specs.Stepping.{rank, IsNextSlot, IsPastEntries}
 use Rattle.vol_judge.proofs.EachDirectory.{directories_more, directories_all}
 use Rattle.vol_judge.proofs.Passing.{entry_within, entry_low, split}
 
@@ -69,7 +69,7 @@ named_by_map geometry image d name number rule is found = record {
 
 -- an entry in the directory that it names by `..` is marked
 pub children_marked : {geometry : Geometry} {image : List ℕ} {marks : List Bool} {ups : List (Option ℕ)} {place d s : ℕ} {slot : Slot}
-    → MarksChildren geometry image ups place marks → IsNext geometry image place d s slot → slot.inode < length marks
+    → MarksChildren geometry image ups place marks → IsNextSlot geometry image place d s slot → slot.inode < length marks
     → is_dots (name_of slot.name) ≡ false → get_or ups slot.inode None ≡ Some d
     → MarksChildren geometry image ups (rank d (s + 1)) (set marks slot.inode true)
 children_marked {geometry = geometry} {image = image} {marks = marks} {ups = ups} {place = place} {d = d} {s = s} {slot = slot} is next room other up =
@@ -95,7 +95,7 @@ children_marked {geometry = geometry} {image = image} {marks = marks} {ups = ups
 
 -- an entry elsewhere is passed
 pub children_passed : {geometry : Geometry} {image : List ℕ} {marks : List Bool} {ups : List (Option ℕ)} {place d s : ℕ} {slot : Slot}
-    → MarksChildren geometry image ups place marks → IsNext geometry image place d s slot
+    → MarksChildren geometry image ups place marks → IsNextSlot geometry image place d s slot
     → (is_dots (name_of slot.name) ≡ false → get_or ups slot.inode None ≡ Some d → ⊥)
     → MarksChildren geometry image ups (rank d (s + 1)) marks
 children_passed is next other = record {

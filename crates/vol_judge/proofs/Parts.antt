@@ -7,7 +7,7 @@ use Rattle.vol_layout.specs.declared.edition.Edition.{Edition}
 use Rattle.vol_layout.specs.declared.edition.Edition.TheVariants.{V6, V7}
 use Rattle.vol_free.specs.Stack.{IsFree, HasStack}
 use Rattle.vol_free.proofs.Stacks.{IsFree_unique, zone_behind}
-use Rattle.vol_file.specs.Rules.{IsCovered, IsSoundWith, HasSoundFiles}
+use Rattle.vol_file.specs.Rules.{IsCovered, Rules3To7With, Rules3To7}
 use Rattle.vol_dir.specs.Entries.{HasEntries}
 use Rattle.vol_judge.specs.Directories.{HasDots, IsTree, HasLinks}
 use Rattle.vol_judge.specs.Sound.{Rule, IsSound}
@@ -42,7 +42,7 @@ sound_stack edition image sound = sound 6
 
 -- the geometry of a sound image fits, and rules 3 to 7 hold with its free blocks
 pub sound_with : (edition : Edition) (image blocks : List ℕ) → Fits (geometry_of edition image) image → IsSound edition image
-    → IsFree (geometry_of edition image) image blocks → IsSoundWith (geometry_of edition image) image blocks
+    → IsFree (geometry_of edition image) image blocks → Rules3To7With (geometry_of edition image) image blocks
 unfolding Rule
 sound_with edition image blocks fits sound free = record {
   fits = fits;
@@ -56,7 +56,7 @@ sound_with edition image blocks fits sound free = record {
 
 -- the files of a sound image are sound
 pub sound_files : (edition : Edition) (image : List ℕ) → Fits (geometry_of edition image) image → IsSound edition image
-    → HasSoundFiles (geometry_of edition image) image
+    → Rules3To7 (geometry_of edition image) image
 sound_files edition image fits sound =
     let stack = sound_stack edition image sound in record { blocks = stack.blocks; sound = sound_with edition image stack.blocks fits sound stack.free }
 
@@ -89,7 +89,7 @@ sound_links edition image sound = sound 12
 -- an image is sound where rules 1 and 2 hold, its geometry fits, rules 3 to 7 hold with some free blocks, each data block is
 -- free or named, and rules 9 to 12 hold
 pub sound_of : (edition : Edition) (image blocks : List ℕ) → is_whole edition image ≡ true → is_bounded edition image ≡ true
-    → IsSoundWith (geometry_of edition image) image blocks → IsCovered (geometry_of edition image) image blocks
+    → Rules3To7With (geometry_of edition image) image blocks → IsCovered (geometry_of edition image) image blocks
     → HasEntries (geometry_of edition image) image → HasDots (geometry_of edition image) image → IsTree (geometry_of edition image) image
     → HasLinks (geometry_of edition image) image → IsSound edition image
 sound_of edition image blocks whole bounded files covered entries dots tree links =

@@ -8,7 +8,7 @@ use Rattle.vol_file.specs.Rules.{size_of}
 use Rattle.vol_dir.specs.Entries.{entry_at, slot_count, IsDirectory, HasEntry}
 use Rattle.vol_dir.specs.Scanning.{IsNextEntry}
 use Rattle.vol_dir.proofs.SlotReading.{entry_at_past}
-use Rattle.vol_judge.specs.Stepping.{rank, IsNext, IsPastEntries}
+use Rattle.vol_judge.specs.Stepping.{rank, IsNextSlot, IsPastEntries}
 use Rattle.vol_judge.proofs.Collecting.{count_low, next_low, same_entry, none_some}
 use Rattle.vol_judge.proofs.NextEntries.{entry_next, none_from}
 
@@ -60,7 +60,7 @@ passed_all from d passed last e t i name has = passed e t i name has (omega (ari
 
 -- the next entry of a directory is the next of all
 pub next_of : {geometry : Geometry} {image : List ℕ} {from d start s : ℕ} {slot : Slot} → IsPassed geometry image from d start → from ≤ rank d start
-    → IsDirectory geometry image d → IsNextEntry (entry_at geometry image d) start (slot_count geometry image d) s slot → IsNext geometry image from d s slot
+    → IsDirectory geometry image d → IsNextEntry (entry_at geometry image d) start (slot_count geometry image d) s slot → IsNextSlot geometry image from d s slot
 next_of {geometry = geometry} {image = image} {from = from} {d = d} {start = start} {s = s} passed reached is next = record {
   reached = omega (arith, next.reached, reached);
   low = next_low geometry image d next;
@@ -80,7 +80,7 @@ next_of {geometry = geometry} {image = image} {from = from} {d = d} {start = sta
 }
 
 -- an entry before the place after the next one stands before the place where the search began, or is the next one
-pub split : {geometry : Geometry} {image : List ℕ} {from d s : ℕ} {slot : Slot} (e t i : ℕ) (name : List ℕ) → IsNext geometry image from d s slot
+pub split : {geometry : Geometry} {image : List ℕ} {from d s : ℕ} {slot : Slot} (e t i : ℕ) (name : List ℕ) → IsNextSlot geometry image from d s slot
     → HasEntry geometry image e t name i → rank e t < rank d (s + 1)
     → (rank e t < from) ⊎ ((e ≡ d) × (t ≡ s) × (name ≡ name_of slot.name) × (i ≡ slot.inode))
 split {geometry = geometry} {image = image} {from = from} {d = d} {s = s} {slot = slot} e t i name next has before =

@@ -3,7 +3,7 @@ use Rattle.std.specs.Prelude.{◌≡◌, ◌≢◌, ℕ, zero, suc, ◌<◌, ◌
 use Rattle.std.specs.List.{flat_map, range_with_len}
 use Rattle.vol_layout.specs.Edition.{constants}
 use Rattle.vol_layout.specs.Geometry.{in_zone}
-use Rattle.vol_layout.specs.Names.{IsPlaceOf, named, pointer_in, Names}
+use Rattle.vol_layout.specs.Names.{IsPlaceOf, named, pointer_in, NamesBlock}
 use Rattle.vol_file.specs.Rules.{IsZoned, IsApart}
 use Rattle.vol_layout.specs.declared.geometry.Geometry.{Geometry}
 use Rattle.vol_judge.specs.declared.marking.Places.{Places}
@@ -38,11 +38,11 @@ marked marks (b ∷ blocks) = if slice_index marks b == 0 then marked (slice_set
 
 -- the blocks with a mark that isn't 0 are those that a place names (icheck)
 abbrev pub MarksNamed : Geometry → List ℕ → List ℕ → Type 0
-MarksNamed geometry image marks = (b : ℕ) → slice_index marks b ≢ 0 ↔ ((i : ℕ) × (p : List ℕ) × Names geometry image i p b)
+MarksNamed geometry image marks = (b : ℕ) → slice_index marks b ≢ 0 ↔ ((i : ℕ) × (p : List ℕ) × NamesBlock geometry image i p b)
 
 -- the blocks that are flagged are those that a place names (icheck)
 abbrev pub AreNamed : Geometry → List ℕ → List Bool → Type 0
-AreNamed geometry image flags = (b : ℕ) → slice_index_or flags b false ≡ true ↔ ((i : ℕ) × (p : List ℕ) × Names geometry image i p b)
+AreNamed geometry image flags = (b : ℕ) → slice_index_or flags b false ≡ true ↔ ((i : ℕ) × (p : List ℕ) × NamesBlock geometry image i p b)
 
 -- rules 5 and 7 hold of the places, and the blocks that they name are marked (icheck)
 pub record IsMarked (geometry : Geometry) (image marks : List ℕ) : Type 0 where

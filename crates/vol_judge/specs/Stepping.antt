@@ -10,7 +10,7 @@ abbrev pub rank : ℕ → ℕ → ℕ
 rank d s = 4294967296 * d + s
 
 -- slot s of directory d is the first of all, from one place on, that has an entry, and this is what the slot holds (manual section 5, directories)
-pub record IsNext (geometry : Geometry) (image : List ℕ) (from d s : ℕ) (slot : Slot) : Type 0 where
+pub record IsNextSlot (geometry : Geometry) (image : List ℕ) (from d s : ℕ) (slot : Slot) : Type 0 where
   pub reached : from ≤ rank d s
   pub low : s < 67637568
   pub entry : HasEntry geometry image d s (name_of slot.name) slot.inode

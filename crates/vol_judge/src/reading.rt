@@ -4,7 +4,7 @@ ghost use Rattle.vol_layout.specs.Geometry.{Fits};
 ghost use Rattle.vol_layout.specs.Slot.{name_of};
 ghost use Rattle.vol_dir.specs.Entries.{IsDirectory};
 ghost use Rattle.vol_dir.specs.Names.{is_dots};
-ghost use Rattle.vol_judge.specs.Stepping.{IsNext, IsPastEntries, rank};
+ghost use Rattle.vol_judge.specs.Stepping.{IsNextSlot, IsPastEntries, rank};
 
 use pdp_words::Image;
 use vol_layout::i_list::kind;
@@ -81,7 +81,7 @@ pub(crate) fn next_entry(image: &Image, geometry: &Geometry, from: Place) -> Opt
     requires fits { Fits geometry.now image.now }
     requires first { 1 ≤ from.directory }
     ensures { MatchOption result (IsPastEntries geometry.now image.now (rank from.directory from.slot))
-        (λ entry. IsNext geometry.now image.now (rank from.directory from.slot) entry.directory entry.number entry.slot) }
+        (λ entry. IsNextSlot geometry.now image.now (rank from.directory from.slot) entry.directory entry.number entry.slot) }
 {
     let mut start = from.slot;
     for d in from.directory..=geometry.last_inode {

@@ -47,7 +47,7 @@ pub data Holds (geometry : Geometry) (image : List ℕ) (i : ℕ) : List ℕ →
       → Holds geometry image i (j ∷ (a ∷ p)) n
 
 -- file i names block number k by its place p (Lions on bmap; icheck)
-pub record Names (geometry : Geometry) (image : List ℕ) (i : ℕ) (p : List ℕ) (k : ℕ) : Type 0 where
+pub record NamesBlock (geometry : Geometry) (image : List ℕ) (i : ℕ) (p : List ℕ) (k : ℕ) : Type 0 where
   pub place : IsPlaceOf geometry image i p
   pub holds : Holds geometry image i p k
 

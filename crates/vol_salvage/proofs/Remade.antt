@@ -32,7 +32,7 @@ use Rattle.vol_judge.proofs.GraphParts.{same_sound}
 use Rattle.vol_judge.proofs.ImageGraphs.{graph_within, graph_from_rules, rules_from_graph}
 use Rattle.vol_change.specs.Alone.{KeepsContent}
 use Rattle.vol_change.specs.Edits.{at_time}
-use Rattle.vol_change.specs.Whole.{IsWhole, StaysAround}
+use Rattle.vol_change.specs.Whole.{Rules3To8, StaysAround}
 use Rattle.vol_change.proofs.Contents.{kind_same, entry_same, file_by, shape_same, node_same}
 use Rattle.vol_change.proofs.States.{makes_time}
 use Rattle.vol_change.proofs.WholeLaws.{geometry_kept, names_stay, sizes_stay, super_order, zone_behind}
@@ -162,7 +162,7 @@ remade_state geometry old new used fits marked keeps zoned =
 -- rules 3 to 7 hold, of the free list too, and rule 8 does
 remade_whole : (geometry : Geometry) (old new : List ℕ) (used : List Bool) → Fits geometry old → Fits geometry new → AreNamed geometry old used
     → KeepsUsed geometry used old new → IsFree geometry new (unused geometry used) → HasKinds geometry old → HasSizes geometry old
-    → IsZoned geometry old → IsApart geometry old → IsWhole geometry new
+    → IsZoned geometry old → IsApart geometry old → Rules3To8 geometry new
 remade_whole geometry old new used fits after marked keeps free kinds sizes zoned apart =
     let content : (j : ℕ) → 1 ≤ j → j ≤ geometry.last_inode → KeepsContent geometry old new j =
     λ j first last. remade_content geometry old new used j fits marked keeps zoned first last in

@@ -13,7 +13,7 @@ use Rattle.vol_layout.specs.declared.mode.Kind.{Kind}
 use Rattle.vol_layout.specs.declared.mode.Kind.TheVariants as kinds
 use Rattle.vol_layout.proofs.KindLaws.{kind_zero}
 use Rattle.vol_free.specs.Numbers.{IsFreeNumber}
-use Rattle.vol_file.specs.Rules.{kind_at, HasSoundFiles}
+use Rattle.vol_file.specs.Rules.{kind_at, Rules3To7}
 use Rattle.vol_file.proofs.MissingLaws.{any_at}
 use Rattle.vol_dir.specs.Tree.{node_with, content_of, tree}
 use Rattle.vol_dir.proofs.WalkLaws.{node_inside}
@@ -37,7 +37,7 @@ none_passes test a (suc n) fails =
     or_from (test a) (list_any test (range_with_len (a + 1) n)) (fails a (omega arith) (omega arith))
     (none_passes test (a + 1) n (λ i from to. fails i (omega arith) (omega arith)))
 
-module _ (geometry : Geometry) (image : List ℕ) (files : HasSoundFiles geometry image) where
+module _ (geometry : Geometry) (image : List ℕ) (files : Rules3To7 geometry image) where
   used_mode : (i : ℕ) (kind : Kind) → kind_at geometry image i ≡ kind → kind ≢ kinds.Free → (mode_of geometry image i == 0) ≡ false
   used_mode i kind is used =
       let some : mode_of geometry image i ≢ 0 = λ e. used (sym is ∙ (ap (kind_of geometry.edition) e ∙ kind_zero geometry.edition)) in grind (arith, nat_tests)

@@ -7,7 +7,7 @@ use Rattle.vol_layout.specs.declared.edition.Edition.{Edition}
 use Rattle.vol_layout.specs.declared.geometry.Geometry.{Geometry}
 use Rattle.vol_layout.specs.declared.geometry.GeometryFault.{GeometryFault}
 use Rattle.vol_layout.specs.declared.geometry.GeometryFault.TheVariants.{Short, Bounds}
-use Rattle.vol_file.specs.Rules.{IsSoundWith, IsCovered}
+use Rattle.vol_file.specs.Rules.{Rules3To7With, IsCovered}
 use Rattle.vol_dir.specs.Entries.{HasEntries}
 use Rattle.vol_judge.specs.Directories.{HasDots, IsTree, HasLinks}
 use Rattle.vol_judge.specs.Sound.{IsSound}
@@ -46,7 +46,7 @@ new_sound geometry uid gid now image makeable new =
     let start = makeable.start in
     let read : IsRead geometry.edition image geometry = read_whole geometry.edition image geometry new.sizes in
     let blocks = range_with_len (geometry.zone_start + 1) (geometry.zone_end - (geometry.zone_start + 1)) in
-    let files : IsSoundWith geometry image blocks = record {
+    let files : Rules3To7With geometry image blocks = record {
       fits = fits;
       kinds = NewFiles.new_kinds geometry uid gid now image new fits start;
       sizes = NewFiles.new_sizes geometry uid gid now image new fits start;
@@ -57,7 +57,7 @@ new_sound geometry uid gid now image makeable new =
     } in
     let covered : IsCovered geometry image blocks = NewFiles.new_covered geometry uid gid now image new fits start blocks new.free in
     sound_of geometry.edition image blocks read.whole read.bounded
-    (subst (λ g. IsSoundWith g image blocks) (sym read.same) files)
+    (subst (λ g. Rules3To7With g image blocks) (sym read.same) files)
     (subst (λ g. IsCovered g image blocks) (sym read.same) covered)
     (subst (λ g. HasEntries g image) (sym read.same) (NewDirectories.new_entries geometry uid gid now image new fits start))
     (subst (λ g. HasDots g image) (sym read.same) (NewDirectories.new_dots geometry uid gid now image new fits start))

@@ -10,7 +10,8 @@ use Rattle.vol_layout.specs.Edition.{constants}
 use Rattle.vol_layout.proofs.NewInodes.{zeros_at}
 use Rattle.vol_free.specs.Stack.{IsIn, IsFree}
 use Rattle.vol_free.proofs.Stacks.{IsFree_unique}
-use Rattle.vol_volume.specs.Mkfs.{is_bad_id, root_inode}
+use Rattle.vol_volume.specs.Mkfs.{root_inode}
+use Rattle.vol_volume.specs.Ids.{is_bad_id}
 use Rattle.vol_layout.specs.declared.geometry.Geometry.{Geometry}
 
 -- the numbers from a on are none below a

@@ -7,7 +7,7 @@ use Rattle.vol_layout.specs.Inode.{inode_of}
 use Rattle.vol_layout.specs.declared.geometry.Geometry.{Geometry}
 use Rattle.vol_layout.specs.declared.mode.Kind.{Kind}
 use Rattle.vol_layout.specs.declared.mode.Kind.TheVariants as kinds
-use Rattle.vol_file.specs.Rules.{kind_at, HasSoundFiles}
+use Rattle.vol_file.specs.Rules.{kind_at, Rules3To7}
 use Rattle.vol_file.proofs.Naming.{root_first}
 use Rattle.vol_dir.specs.Entries.{slots, IsDirectory, IsInUse}
 use Rattle.vol_dir.specs.Names.{names_of}
@@ -100,7 +100,7 @@ module _ (geometry : Geometry) (image : List ℕ) where
   other_device i first last other is = false≢true (sym other ∙ device_is i first last is)
 
   -- an allocated i-node reads as its node
-  pub node_stored : (i : ℕ) → 1 ≤ i → HasSoundFiles geometry image → IsInUse geometry image i
+  pub node_stored : (i : ℕ) → 1 ≤ i → Rules3To7 geometry image → IsInUse geometry image i
       → node_of geometry image i ≡ Some (node_at (tree geometry image) i)
   node_stored i first files used =
       let kind = kind_at geometry image i in
@@ -110,11 +110,11 @@ module _ (geometry : Geometry) (image : List ℕ) where
       is ∙ sym (ap (λ n. Some (unwrap_or n no_node)) (node_inside geometry image i first used.last ∙ is))
 
   -- so its i-number has a node
-  pub used_some : (i : ℕ) → 1 ≤ i → HasSoundFiles geometry image → IsInUse geometry image i → is_none ((tree geometry image).nodes i) ≡ false
+  pub used_some : (i : ℕ) → 1 ≤ i → Rules3To7 geometry image → IsInUse geometry image i → is_none ((tree geometry image).nodes i) ≡ false
   used_some i first files used = ap is_none (node_inside geometry image i first used.last ∙ node_stored i first files used)
 
   -- and its node has the links that it stores
-  pub links_are : (i : ℕ) → 1 ≤ i → HasSoundFiles geometry image → IsInUse geometry image i
+  pub links_are : (i : ℕ) → 1 ≤ i → Rules3To7 geometry image → IsInUse geometry image i
       → (node_at (tree geometry image) i).links ≡ (inode_of geometry.edition image i).links
   links_are i first files used = links_is geometry image i files.sound.kinds first used.last used.allocated
 
@@ -127,7 +127,7 @@ module _ (geometry : Geometry) (image : List ℕ) where
   regular_by kinds.Odd used known directory special = absurd (known refl)
 
   -- what is in use, and neither directory nor special file, is a regular file
-  pub regular_left : (i : ℕ) → 1 ≤ i → HasSoundFiles geometry image → IsInUse geometry image i → kind_at geometry image i ≢ kinds.Directory
+  pub regular_left : (i : ℕ) → 1 ≤ i → Rules3To7 geometry image → IsInUse geometry image i → kind_at geometry image i ≢ kinds.Directory
       → kind_at geometry image i ≢ kinds.Special → kind_at geometry image i ≡ kinds.Regular
   regular_left i first files used directory special =
       regular_by (kind_at geometry image i) used.allocated (files.sound.kinds.known i first used.last) directory special
@@ -137,7 +137,7 @@ module _ (geometry : Geometry) (image : List ℕ) where
   used_first i used = let low : 1 ≤ (constants geometry.edition).root = root_first geometry.edition in omega (arith, low, used.first)
 
   -- a node in use that is neither directory nor special file is that of a regular file
-  pub regular_file : (i : ℕ) → HasSoundFiles geometry image → IsInUse geometry image i → is_directory (node_at (tree geometry image) i) ≡ false
+  pub regular_file : (i : ℕ) → Rules3To7 geometry image → IsInUse geometry image i → is_directory (node_at (tree geometry image) i) ≡ false
       → is_device (node_at (tree geometry image) i).content ≡ false → kind_at geometry image i ≡ kinds.Regular
   regular_file i files used directory special =
       let first = used_first i used in

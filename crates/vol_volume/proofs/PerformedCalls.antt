@@ -11,7 +11,7 @@ use Rattle.vol_dir.specs.Walk.{walk, walk_parent}
 use Rattle.vol_change.specs.Edits.{at_time, after_write, after_truncate}
 use Rattle.vol_change.specs.Effects.{after_create, after_mkdir, after_link, after_unlink, after_rmdir}
 use Rattle.vol_change.specs.Nodes.{node_at, names_at}
-use Rattle.vol_change.specs.Ready.{IsReady, Changes, free_in}
+use Rattle.vol_change.specs.Ready.{Rules1To12, Becomes, free_in}
 use Rattle.vol_change.proofs.FreeAfter.{free_after_unlink, free_after_last_unlink}
 use Rattle.vol_volume.specs.Inodes.{KeepsInodes}
 use Rattle.vol_volume.specs.Journal.{MayAnswer}
@@ -26,12 +26,12 @@ use Rattle.vol_volume.specs.declared.calls.Done.TheVariants.{Made, Plain}
 
 -- a call is performed where its change is made
 pub performed_by : (geometry : Geometry) (old new : List ℕ) (call : Call) (done : Done) (made : State) (free : ℕ)
-    → step (state geometry old) call done ≡ made → MayAnswer (state geometry old) call done → Changes geometry old new made → KeepsInodes geometry old new
+    → step (state geometry old) call done ≡ made → MayAnswer (state geometry old) call done → Becomes geometry old new made → KeepsInodes geometry old new
     → free ≡ free_in made → IsPerformed geometry old new call done free
 performed_by geometry old new call done made free stepped answered changes inodes counted = record {
   performed = record {
     answered = answered;
-    changes = subst (λ s. Changes geometry old new s) (sym stepped) changes;
+    changes = subst (λ s. Becomes geometry old new s) (sym stepped) changes;
     inodes = inodes;
   };
   counted = counted ∙ ap free_in (sym changes.makes);
@@ -101,7 +101,7 @@ freed_blocks geometry image i =
     if nat_le (node_at (tree geometry image) i).links 1 then place_count geometry.edition (shapes geometry image i) else 0
 
 -- what is free after a name went
-pub free_unlinked : (geometry : Geometry) (image : List ℕ) (now i d : ℕ) (name : List ℕ) → IsReady geometry image
+pub free_unlinked : (geometry : Geometry) (image : List ℕ) (now i d : ℕ) (name : List ℕ) → Rules1To12 geometry image
     → get (names_at (state geometry image).tree d) name ≡ Some i
     → free_in (at_time now (after_unlink (state geometry image) now d name)) ≡ free_in (state geometry image) + freed_blocks geometry image i
 free_unlinked geometry image now i d name ready named =

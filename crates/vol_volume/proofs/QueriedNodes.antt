@@ -6,7 +6,7 @@ use Rattle.vol_layout.specs.declared.geometry.Geometry.{Geometry}
 use Rattle.vol_layout.specs.declared.i_node.Inode.{Inode}
 use Rattle.vol_layout.specs.declared.mode.Kind.{Kind}
 use Rattle.vol_layout.specs.declared.mode.Kind.TheVariants as kinds
-use Rattle.vol_file.specs.Rules.{kind_at, HasSoundFiles}
+use Rattle.vol_file.specs.Rules.{kind_at, Rules3To7}
 use Rattle.vol_dir.specs.Entries.{IsInUse}
 use Rattle.vol_dir.specs.Tree.{tree}
 use Rattle.vol_change.specs.Edits.{body_of}
@@ -41,13 +41,13 @@ told_of geometry image i kinds.Directory used is some known = sym (ap (stat_of i
 told_of geometry image i kinds.Special used is some known = sym (ap (stat_of i) (node_is geometry image i kinds.Special (used_first geometry image i used) used.last is))
 
 -- the kind of an i-node that is used is known
-known_kind : (geometry : Geometry) (image : List ℕ) (i : ℕ) → HasSoundFiles geometry image → IsInUse geometry image i
+known_kind : (geometry : Geometry) (image : List ℕ) (i : ℕ) → Rules3To7 geometry image → IsInUse geometry image i
     → kind_at geometry image i ≢ kinds.Odd
 known_kind geometry image i files used =
     files.sound.kinds.known i (used_first geometry image i used) used.last
 
 -- what is told of an i-node is told of its node
-pub stat_is : (geometry : Geometry) (image : List ℕ) (i permissions : ℕ) (kind : Kind) (node : Inode) → HasSoundFiles geometry image
+pub stat_is : (geometry : Geometry) (image : List ℕ) (i permissions : ℕ) (kind : Kind) (node : Inode) → Rules3To7 geometry image
     → IsInUse geometry image i → kind ≡ kind_at geometry image i → node ≡ inode_of geometry.edition image i → permissions ≡ node.mode.bits % 4096
     → told i permissions kind node ≡ stat_of i (node_at (tree geometry image) i)
 stat_is geometry image i permissions kind node files used kind_is node_is permissions_are =

@@ -12,7 +12,7 @@ use Rattle.vol_dir.specs.Tree.{free_count, shapes}
 use Rattle.vol_judge.specs.Sound.{IsSound}
 use Rattle.vol_judge.proofs.Parts.{sound_whole, sound_bounded, sound_fits, sound_files, sound_covered, sound_entries}
 use Rattle.vol_change.proofs.FreeCounts.{free_blocks}
-use Rattle.vol_volume.specs.Standing.{Stands}
+use Rattle.vol_volume.specs.Standing.{Rules3To7And9}
 
 -- a sound image has blocks 0 and 1
 pub sound_length : (edition : Edition) (image : List ℕ) → IsSound edition image → 1024 ≤ length image
@@ -30,15 +30,15 @@ pub sound_geometry_fits : (geometry : Geometry) (image : List ℕ) → geometry 
 sound_geometry_fits geometry image sizes sound low =
     subst (λ g. Fits g image) (sym sizes) (sound_fits geometry.edition image sound (block_limit_by geometry.edition image sound low))
 
-sound_stands : (edition : Edition) (image : List ℕ) → Fits (geometry_of edition image) image → IsSound edition image → Stands (geometry_of edition image) image
+sound_stands : (edition : Edition) (image : List ℕ) → Fits (geometry_of edition image) image → IsSound edition image → Rules3To7And9 (geometry_of edition image) image
 sound_stands edition image fits sound =
     record { fits = fits; files = sound_files edition image fits sound; entries = sound_entries edition image sound }
 
 -- a sound image stands, with the geometry that is its own
 pub stands : (geometry : Geometry) (image : List ℕ) → geometry ≡ geometry_of geometry.edition image → Fits geometry image
-    → IsSound geometry.edition image → Stands geometry image
+    → IsSound geometry.edition image → Rules3To7And9 geometry image
 stands geometry image sizes fits sound =
-    subst (λ g. Stands g image) (sym sizes) (sound_stands geometry.edition image (subst (λ g. Fits g image) sizes fits) sound)
+    subst (λ g. Rules3To7And9 g image) (sym sizes) (sound_stands geometry.edition image (subst (λ g. Fits g image) sizes fits) sound)
 
 sound_count : (edition : Edition) (image : List ℕ) (count : ℕ) → Fits (geometry_of edition image) image → IsSound edition image
     → ((blocks : List ℕ) → IsFree (geometry_of edition image) image blocks → count ≡ length blocks)

@@ -2,6 +2,7 @@ pub mod Answer
 pub mod Answering
 pub mod Blank
 pub mod Faults
+pub mod Ids
 pub mod Inodes
 pub mod Journal
 pub mod Laws

@@ -19,10 +19,6 @@ is_size edition blocks list_blocks =
     nat_le 1 list_blocks && (nat_le list_blocks (constants edition).list_block_limit
     && (nat_lt (list_blocks + 2) blocks && nat_le blocks (constants edition).block_limit))
 
--- whether a user or group number is above the edition's highest (manual section 5, file system)
-abbrev pub is_bad_id : Edition → ℕ → ℕ → Bool
-is_bad_id edition uid gid = nat_lt (constants edition).id_limit uid || nat_lt (constants edition).id_limit gid
-
 -- the geometry of a volume of so many blocks, of which so many are the i-list (filsys.h)
 abbrev pub volume_of : Edition → ℕ → ℕ → Geometry
 volume_of edition blocks list_blocks = record {

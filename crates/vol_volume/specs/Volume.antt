@@ -3,7 +3,7 @@ use Rattle.std.specs.Prelude.{◌≡◌, ℕ, List, [], ◌∷◌, ◌++◌, Non
 use Rattle.vol_layout.specs.Geometry.{geometry_of}
 use Rattle.vol_dir.specs.Tree.{State, state}
 use Rattle.vol_judge.specs.Sound.{IsSound}
-use Rattle.vol_change.specs.Ready.{Changes}
+use Rattle.vol_change.specs.Ready.{Becomes}
 use Rattle.vol_volume.specs.Verdict.{verdict}
 use Rattle.vol_volume.specs.Step.{step}
 use Rattle.vol_volume.specs.Inodes.{KeepsInodes}
@@ -40,7 +40,7 @@ mounted edition bytes = record { edition = edition; image = bytes; base = bytes;
 -- an image after an accepted call (this project)
 pub record Performs (geometry : Geometry) (old new : List ℕ) (call : Call) (done : Done) : Type 0 where
   pub answered : MayAnswer (state geometry old) call done
-  pub changes : Changes geometry old new (step (state geometry old) call done)
+  pub changes : Becomes geometry old new (step (state geometry old) call done)
   pub inodes : KeepsInodes geometry old new
 
 -- a volume after a call that was accepted, made and recorded (this project)

@@ -10,8 +10,8 @@ ghost use Rattle.vol_dir.specs.Tree.{tree};
 ghost use Rattle.vol_judge.specs.Sound.{IsSound};
 ghost use Rattle.vol_change.specs.Nodes.{node_at};
 ghost use Rattle.vol_volume.specs.Answer.{stat_of, list_tests, read_bytes, Answers};
-ghost use Rattle.vol_volume.specs.Answering.{IsRefused, LeadsTo, named};
-ghost use Rattle.vol_volume.specs.Standing.{Stands};
+ghost use Rattle.vol_volume.specs.Answering.{IsRefused, LeadsTo, names_in};
+ghost use Rattle.vol_volume.specs.Standing.{Rules3To7And9};
 ghost use Rattle.vol_volume.specs.Verdict.{first_of};
 
 use crate::bytes::Bytes;
@@ -68,7 +68,7 @@ fn answer_stat(
     cred: Cred,
     path: &[u8],
 ) -> Result<Reply, Refusal>
-    requires stands { Stands geometry.now image.now }
+    requires stands { Rules3To7And9 geometry.now image.now }
     ensures { Answers (tree geometry.now image.now) (Query.Stat cred path.now) result }
 {
     let i = find_node(image, geometry, cred, path)?;
@@ -85,7 +85,7 @@ fn answer_read(
     offset: u32,
     len: u32,
 ) -> Result<Reply, Refusal>
-    requires stands { Stands geometry.now image.now }
+    requires stands { Rules3To7And9 geometry.now image.now }
     ensures { Answers (tree geometry.now image.now) (Query.Read cred path.now offset len) result }
 {
     let i = find_node(image, geometry, cred, path)?;
@@ -102,7 +102,7 @@ fn answer_list(
     cred: Cred,
     path: &[u8],
 ) -> Result<Reply, Refusal>
-    requires stands { Stands geometry.now image.now }
+    requires stands { Rules3To7And9 geometry.now image.now }
     ensures { Answers (tree geometry.now image.now) (Query.List cred path.now) result }
 {
     let i = find_node(image, geometry, cred, path)?;
@@ -113,7 +113,7 @@ fn answer_list(
 
 /// The i-number to which a path leads, or why the query is refused before anything is asked of a node.
 fn find_node(image: &Image, geometry: &Geometry, cred: Cred, path: &[u8]) -> Result<u16, Refusal>
-    requires stands { Stands geometry.now image.now }
+    requires stands { Rules3To7And9 geometry.now image.now }
     ensures found { MatchResult result (LeadsTo (tree geometry.now image.now) cred path.now)
         (IsRefused (tree geometry.now image.now) cred path.now) }
     ensures used { IfOk result (λ i. IsInUse geometry.now image.now i) }
@@ -124,7 +124,7 @@ fn find_node(image: &Image, geometry: &Geometry, cred: Cred, path: &[u8]) -> Res
 
 /// What is told of i-node `i`.
 fn stat(image: &Image, geometry: &Geometry, i: u16) -> Stat
-    requires stands { Stands geometry.now image.now }
+    requires stands { Rules3To7And9 geometry.now image.now }
     requires used { IsInUse geometry.now image.now i }
     ensures { result ≡ stat_of i (node_at (tree geometry.now image.now) i) }
 {
@@ -145,7 +145,7 @@ fn stat(image: &Image, geometry: &Geometry, i: u16) -> Stat
 
 /// What is asked of i-node `i`, which is in use, where the names of a directory are to be listed.
 fn list_tests(image: &Image, geometry: &Geometry, cred: Cred, i: u16) -> Result<(), Refusal>
-    requires stands { Stands geometry.now image.now }
+    requires stands { Rules3To7And9 geometry.now image.now }
     requires used { IsInUse geometry.now image.now i }
     ensures exact { result_err result ≡ first_of (list_tests (tree geometry.now image.now) cred i) }
     ensures directory { OnOk result (IsDirectory geometry.now image.now i) }
@@ -166,7 +166,7 @@ fn read(
     offset: u32,
     len: u32,
 ) -> Result<Vec<u8>, AllocError>
-    requires stands { Stands geometry.now image.now }
+    requires stands { Rules3To7And9 geometry.now image.now }
     requires file { IsFile geometry.now image.now i }
     ensures { IfOk result (λ bytes. bytes.items ≡ read_bytes (body geometry.now image.now i) offset len) }
 {
@@ -183,7 +183,7 @@ fn list(
     geometry: &Geometry,
     dir: u16,
 ) -> Result<Vec<(Bytes, u16)>, AllocError>
-    requires stands { Stands geometry.now image.now }
+    requires stands { Rules3To7And9 geometry.now image.now }
     requires directory { IsDirectory geometry.now image.now dir }
     ensures { IfOk result (λ names. names.items ≡ names_of (slots geometry.now image.now dir)) }
 {
@@ -201,9 +201,9 @@ fn collect_names(
     geometry: &Geometry,
     dir: u16,
 ) -> Result<BTreeMap<Vec<u8>, u16>, AllocError>
-    requires stands { Stands geometry.now image.now }
+    requires stands { Rules3To7And9 geometry.now image.now }
     requires directory { IsDirectory geometry.now image.now dir }
-    ensures { IfOk result (λ names. named names.entries ≡ names_of (slots geometry.now image.now dir)) }
+    ensures { IfOk result (λ names. names_in names.entries ≡ names_of (slots geometry.now image.now dir)) }
 {
     let mut names = BTreeMap::new(alloc);
     let mut from = 0;

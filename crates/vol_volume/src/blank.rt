@@ -1,7 +1,8 @@
 //! A new volume that isn't written yet.
 ghost use Rattle.std.specs.Prelude.{◌≡◌, ◌↔◌, true, false, IfOk, IfErr, OnOk, OnErr, IsErrOf};
 ghost use Rattle.vol_volume.specs.Blank.{blank_of, IsMade, WritesVolume, WritesFront};
-ghost use Rattle.vol_volume.specs.Mkfs.{is_size, is_bad_id};
+ghost use Rattle.vol_volume.specs.Mkfs.{is_size};
+ghost use Rattle.vol_volume.specs.Ids.{is_bad_id};
 
 mod blocks;
 mod first;

@@ -1,7 +1,8 @@
 //! Making a volume.
 ghost use Rattle.std.specs.Prelude.{◌≡◌, ◌↔◌, true, false, IfOk, OnOk, IsErrOf};
 ghost use Rattle.vol_judge.specs.Sound.{IsSound};
-ghost use Rattle.vol_volume.specs.Mkfs.{is_size, is_bad_id, volume_of, IsNewVolume};
+ghost use Rattle.vol_volume.specs.Mkfs.{is_size, volume_of, IsNewVolume};
+ghost use Rattle.vol_volume.specs.Ids.{is_bad_id};
 
 use crate::blank::{BlankVolume, MkfsFault, NewVolume};
 use std::alloc::Global;

@@ -1,6 +1,7 @@
 //! The sizes that a new volume may have, and the user and group numbers of an edition.
 ghost use Rattle.std.specs.Prelude.{◌≡◌, true};
-ghost use Rattle.vol_volume.specs.Mkfs.{is_size, is_bad_id, volume_of, IsMakeable};
+ghost use Rattle.vol_volume.specs.Mkfs.{is_size, volume_of, IsMakeable};
+ghost use Rattle.vol_volume.specs.Ids.{is_bad_id};
 
 use vol_layout::{Edition, Geometry};
 

@@ -5,10 +5,10 @@ ghost use Rattle.std.specs.Result.{result_err};
 ghost use Rattle.vol_layout.specs.Geometry.{geometry_of};
 ghost use Rattle.vol_dir.specs.Tree.{state};
 ghost use Rattle.vol_judge.specs.Sound.{IsSound};
-ghost use Rattle.vol_change.specs.Ready.{IsReady, free_in};
+ghost use Rattle.vol_change.specs.Ready.{Rules1To12, free_in};
 ghost use Rattle.vol_volume.specs.Journal.{MayAnswer};
 ghost use Rattle.vol_volume.specs.Performing.{IsPerformed, caller_of, recorded_number};
-ghost use Rattle.vol_volume.specs.Standing.{Stands};
+ghost use Rattle.vol_volume.specs.Standing.{Rules3To7And9};
 ghost use Rattle.vol_volume.specs.Verdict.{verdict};
 
 pub(crate) mod asked;
@@ -59,7 +59,7 @@ pub(crate) fn check(
     free: u32,
     call: &Call,
 ) -> Result<(), Refusal>
-    requires stands { Stands geometry.now image.now }
+    requires stands { Rules3To7And9 geometry.now image.now }
     requires count { free ≡ free_in (state geometry.now image.now) }
     ensures { result_err result ≡ verdict (state geometry.now image.now) call.now }
 {
@@ -113,7 +113,7 @@ pub(crate) fn make(
     call: &Call,
     recorded: Option<Done>,
 ) -> Result<Performed, Refusal>
-    requires ready { IsReady geometry.now image.old }
+    requires ready { Rules1To12 geometry.now image.old }
     requires count { free ≡ free_in (state geometry.now image.old) }
     requires recorded { IfSome recorded (λ done. MayAnswer (state geometry.now image.old) call.now done) }
     ensures refusal { result_err result ≡ verdict (state geometry.now image.old) call.now }
@@ -198,8 +198,8 @@ fn recorded_number(recorded: Option<Done>) -> Option<u16>
 
 /// Does nothing: what a sound image stands for.
 pub(crate) fn ready_stands(image: &Image, geometry: &Geometry)
-    requires { IsReady geometry.now image.now }
-    ensures { Stands geometry.now image.now }
+    requires { Rules1To12 geometry.now image.now }
+    ensures { Rules3To7And9 geometry.now image.now }
 {
     // The contract speaks of both, and the body needs neither.
     let _ = image;
@@ -210,7 +210,7 @@ pub(crate) fn ready_stands(image: &Image, geometry: &Geometry)
 pub(crate) fn stands(image: &Image, geometry: &Geometry)
     requires sound { IsSound geometry.now.edition image.now }
     requires sizes { geometry.now ≡ geometry_of geometry.now.edition image.now }
-    ensures { Stands geometry.now image.now }
+    ensures { Rules3To7And9 geometry.now image.now }
 {
     // No rule bounds the number of blocks in the sixth edition. It is a word, and that it is read brings into
     // the proof that words are below 65536.

@@ -13,7 +13,7 @@ ghost use Rattle.vol_change.specs.Changed.{FreeBecomes, KeepsFilesBut, PutsInBod
 ghost use Rattle.vol_change.specs.Edits.{at_time};
 ghost use Rattle.vol_change.specs.Unused.{KeepsUnusedBut};
 ghost use Rattle.vol_change.specs.Effects.{after_create};
-ghost use Rattle.vol_change.specs.Ready.{IsReady, TakesName, Changes, entry_need, free_in};
+ghost use Rattle.vol_change.specs.Ready.{Rules1To12, TakesName, Becomes, entry_need, free_in};
 
 use crate::entries::enter;
 use crate::new_nodes::{NewNode, make_file, pick_number};
@@ -35,7 +35,7 @@ pub fn create(
     name: &[u8],
     recorded: Option<u16>,
 ) -> u16
-    requires ready { IsReady geometry.now image.old }
+    requires ready { Rules1To12 geometry.now image.old }
     requires user { node.owner.uid ≤ (constants geometry.now.edition).id_limit }
     requires group { node.owner.gid ≤ (constants geometry.now.edition).id_limit }
     requires directory { IsDirectory geometry.now image.old dir }
@@ -48,7 +48,7 @@ pub fn create(
     requires recorded { IfSome recorded (λ i. IsFreeNumber geometry.now image.old i) }
     ensures free { IsFreeNumber geometry.now image.old result }
     ensures recorded { IfSome recorded (λ i. result ≡ i) }
-    ensures changes { Changes geometry.now image.old image.new
+    ensures changes { Becomes geometry.now image.old image.new
         (at_time node.moment (after_create (state geometry.now image.old) node.owner node.moment node.permissions result dir name.now)) }
     ensures list { FreeBecomes geometry.now image.old image.new (drop (entry_need (state geometry.now image.old) dir)) }
     ensures bytes { PutsInBody geometry.now image.old image.new dir (16 * slot) (slot_bytes name.now result) }

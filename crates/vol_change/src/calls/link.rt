@@ -13,7 +13,7 @@ ghost use Rattle.vol_change.specs.Edits.{at_time};
 ghost use Rattle.vol_change.specs.Nodes.{node_at};
 ghost use Rattle.vol_change.specs.Unused.{KeepsAllUnused};
 ghost use Rattle.vol_change.specs.Effects.{after_link};
-ghost use Rattle.vol_change.specs.Ready.{IsReady, TakesName, Changes, entry_need, free_in};
+ghost use Rattle.vol_change.specs.Ready.{Rules1To12, TakesName, Becomes, entry_need, free_in};
 
 use crate::entries::enter;
 use crate::links::add_link;
@@ -34,7 +34,7 @@ pub fn link(
     name: &[u8],
     moment: u32,
 )
-    requires ready { IsReady geometry.now image.old }
+    requires ready { Rules1To12 geometry.now image.old }
     requires used { IsInUse geometry.now image.old i }
     requires other { kind_at geometry.now image.old i ≢ kinds.Directory }
     requires directory { IsDirectory geometry.now image.old dir }
@@ -44,7 +44,7 @@ pub fn link(
     requires text { has_zero name.now ≡ false }
     requires links { (node_at (state geometry.now image.old).tree i).links < (constants geometry.now.edition).link_limit }
     requires room { entry_need (state geometry.now image.old) dir ≤ free_in (state geometry.now image.old) }
-    ensures changes { Changes geometry.now image.old image.new
+    ensures changes { Becomes geometry.now image.old image.new
         (at_time moment (after_link (state geometry.now image.old) moment i dir name.now)) }
     ensures list { FreeBecomes geometry.now image.old image.new (drop (entry_need (state geometry.now image.old) dir)) }
     ensures bytes { PutsInBody geometry.now image.old image.new dir (16 * slot) (slot_bytes name.now i) }

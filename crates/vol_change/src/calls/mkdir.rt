@@ -17,11 +17,11 @@ ghost use Rattle.vol_change.specs.Changed.{Changed, IsOther, FreeBecomes, KeepsF
 ghost use Rattle.vol_change.specs.Contents.{put_entry};
 ghost use Rattle.vol_change.specs.Edits.{at_time};
 ghost use Rattle.vol_change.specs.Nodes.{node_at};
-ghost use Rattle.vol_change.specs.Whole.{IsWhole};
+ghost use Rattle.vol_change.specs.Whole.{Rules3To8};
 ghost use Rattle.vol_change.specs.Dots.{HoldsNames, AddsDots};
 ghost use Rattle.vol_change.specs.Unused.{KeepsAllUnused, KeepsUnusedBut};
 ghost use Rattle.vol_change.specs.Effects.{after_mkdir};
-ghost use Rattle.vol_change.specs.Ready.{IsReady, TakesName, Changes, entry_need, free_in};
+ghost use Rattle.vol_change.specs.Ready.{Rules1To12, TakesName, Becomes, entry_need, free_in};
 
 use crate::entries::{add_name, enter};
 use crate::links::add_link;
@@ -45,7 +45,7 @@ pub fn mkdir(
     name: &[u8],
     recorded: Option<u16>,
 ) -> u16
-    requires ready { IsReady geometry.now image.old }
+    requires ready { Rules1To12 geometry.now image.old }
     requires user { node.owner.uid ≤ (constants geometry.now.edition).id_limit }
     requires group { node.owner.gid ≤ (constants geometry.now.edition).id_limit }
     requires directory { IsDirectory geometry.now image.old dir }
@@ -59,7 +59,7 @@ pub fn mkdir(
     requires recorded { IfSome recorded (λ i. IsFreeNumber geometry.now image.old i) }
     ensures free { IsFreeNumber geometry.now image.old result }
     ensures recorded { IfSome recorded (λ i. result ≡ i) }
-    ensures changes { Changes geometry.now image.old image.new
+    ensures changes { Becomes geometry.now image.old image.new
         (at_time node.moment (after_mkdir (state geometry.now image.old) node.owner node.moment node.permissions result dir name.now)) }
     ensures list { FreeBecomes geometry.now image.old image.new (drop (entry_need (state geometry.now image.old) dir + 1)) }
     ensures own { (blocks : List ℕ) → IsFree geometry.now image.old blocks
@@ -81,7 +81,7 @@ pub fn mkdir(
 /// Gives directory `i`, which has no slots, its entries `.` and `..`, the latter for directory `dir`.
 /// The times of `i` stay, and so do the link counts. That takes one block.
 fn add_dots(image: &mut Image, geometry: &Geometry, i: u16, dir: u16)
-    requires whole { IsWhole geometry.now image.old }
+    requires rules { Rules3To8 geometry.now image.old }
     requires directory { IsDirectory geometry.now image.old i }
     requires empty { HoldsNames (state geometry.now image.old) i [] 0 no_shape }
     requires parent { 1 ≤ dir }

@@ -10,7 +10,7 @@ ghost use Rattle.vol_change.specs.Edits.{at_time};
 ghost use Rattle.vol_change.specs.Nodes.{names_at};
 ghost use Rattle.vol_change.specs.Unused.{IsCleared, KeepsUnusedBut};
 ghost use Rattle.vol_change.specs.Effects.{after_rmdir};
-ghost use Rattle.vol_change.specs.Ready.{IsReady, Changes};
+ghost use Rattle.vol_change.specs.Ready.{Rules1To12, Becomes};
 
 use crate::entries::leave;
 use crate::freeing::free_node;
@@ -32,14 +32,14 @@ pub fn rmdir(
     i: u16,
     moment: u32,
 )
-    requires ready { IsReady geometry.now image.old }
+    requires ready { Rules1To12 geometry.now image.old }
     requires directory { IsDirectory geometry.now image.old dir }
     requires slot { slot ≡ slot_named name.now (slots geometry.now image.old dir) }
     requires named { get (names_at (state geometry.now image.old).tree dir) name.now ≡ Some i }
     requires plain { is_dots name.now ≡ false }
     requires gone { IsDirectory geometry.now image.old i }
     requires only { list_any (λ (entry : List ℕ × ℕ). not (is_dots entry.0)) (names_at (state geometry.now image.old).tree i) ≡ false }
-    ensures changes { Changes geometry.now image.old image.new
+    ensures changes { Becomes geometry.now image.old image.new
         (at_time moment (after_rmdir (state geometry.now image.old) moment dir name.now)) }
     ensures list { FreeBecomes geometry.now image.old image.new (λ blocks. blocks_freed geometry.now image.old i ++ blocks) }
     ensures bytes { PutsInBody geometry.now image.old image.new dir (16 * slot) (0 ∷ 0 ∷ []) }

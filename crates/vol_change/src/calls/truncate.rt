@@ -7,7 +7,7 @@ ghost use Rattle.vol_file.specs.Changes.{blocks_of};
 ghost use Rattle.vol_change.specs.Changed.{FreeBecomes, KeepsFilesBut};
 ghost use Rattle.vol_change.specs.Edits.{at_time, after_truncate};
 ghost use Rattle.vol_change.specs.Unused.{KeepsAllUnused};
-ghost use Rattle.vol_change.specs.Ready.{IsReady, Changes};
+ghost use Rattle.vol_change.specs.Ready.{Rules1To12, Becomes};
 
 use crate::times::{put_time, touch};
 use pdp_words::Image;
@@ -17,11 +17,11 @@ use vol_layout::Geometry;
 ///
 /// Costs as much as [`vol_file::truncate`].
 pub fn truncate(image: &mut Image, geometry: &Geometry, i: u16, moment: u32)
-    requires ready { IsReady geometry.now image.old }
+    requires ready { Rules1To12 geometry.now image.old }
     requires first { 1 ≤ i }
     requires last { i ≤ geometry.now.last_inode }
     requires regular { kind_at geometry.now image.old i ≡ kinds.Regular }
-    ensures changes { Changes geometry.now image.old image.new
+    ensures changes { Becomes geometry.now image.old image.new
         (at_time moment (after_truncate (state geometry.now image.old) moment i)) }
     ensures list { FreeBecomes geometry.now image.old image.new (λ blocks. blocks_of geometry.now image.old i ++ blocks) }
     ensures files { KeepsFilesBut geometry.now image.old image.new i i }

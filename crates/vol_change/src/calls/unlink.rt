@@ -13,7 +13,7 @@ ghost use Rattle.vol_change.specs.Edits.{at_time};
 ghost use Rattle.vol_change.specs.Nodes.{names_at};
 ghost use Rattle.vol_change.specs.Unused.{IsCleared, KeepsUnused, KeepsUnusedBut};
 ghost use Rattle.vol_change.specs.Effects.{after_unlink};
-ghost use Rattle.vol_change.specs.Ready.{IsReady, Changes};
+ghost use Rattle.vol_change.specs.Ready.{Rules1To12, Becomes};
 
 use crate::entries::leave;
 use crate::freeing::free_node;
@@ -36,12 +36,12 @@ pub fn unlink(
     i: u16,
     moment: u32,
 )
-    requires ready { IsReady geometry.now image.old }
+    requires ready { Rules1To12 geometry.now image.old }
     requires directory { IsDirectory geometry.now image.old dir }
     requires slot { slot ≡ slot_named name.now (slots geometry.now image.old dir) }
     requires named { get (names_at (state geometry.now image.old).tree dir) name.now ≡ Some i }
     requires other { kind_at geometry.now image.old i ≢ kinds.Directory }
-    ensures changes { Changes geometry.now image.old image.new
+    ensures changes { Becomes geometry.now image.old image.new
         (at_time moment (after_unlink (state geometry.now image.old) moment dir name.now)) }
     ensures freed { (inode_of geometry.now.edition image.old i).links ≤ 1
         → FreeBecomes geometry.now image.old image.new (λ blocks. blocks_freed geometry.now image.old i ++ blocks) }

@@ -9,7 +9,7 @@ ghost use Rattle.vol_change.specs.Changed.{FreeBecomes, KeepsFilesBut};
 ghost use Rattle.vol_change.specs.Edits.{at_time, after_write};
 ghost use Rattle.vol_change.specs.Shapes.{need_in};
 ghost use Rattle.vol_change.specs.Unused.{KeepsAllUnused};
-ghost use Rattle.vol_change.specs.Ready.{IsReady, Changes, free_in};
+ghost use Rattle.vol_change.specs.Ready.{Rules1To12, Becomes, free_in};
 
 use crate::times::{put_time, touch};
 use pdp_words::Image;
@@ -20,14 +20,14 @@ use vol_layout::Geometry;
 ///
 /// Costs as much as [`vol_file::write`].
 pub fn write(image: &mut Image, geometry: &Geometry, i: u16, offset: u32, bytes: &[u8], moment: u32)
-    requires ready { IsReady geometry.now image.old }
+    requires ready { Rules1To12 geometry.now image.old }
     requires first { 1 ≤ i }
     requires last { i ≤ geometry.now.last_inode }
     requires regular { kind_at geometry.now image.old i ≡ kinds.Regular }
     requires greatest { offset + length bytes.now ≤ (constants geometry.now.edition).greatest }
     requires room { need_in geometry.now.edition ((state geometry.now image.old).shapes i) (touched offset (length bytes.now))
         ≤ free_in (state geometry.now image.old) }
-    ensures changes { Changes geometry.now image.old image.new
+    ensures changes { Becomes geometry.now image.old image.new
         (at_time moment (after_write (state geometry.now image.old) moment offset bytes.now i)) }
     ensures list { FreeBecomes geometry.now image.old image.new
         (drop (need_in geometry.now.edition ((state geometry.now image.old).shapes i) (touched offset (length bytes.now)))) }

@@ -8,7 +8,8 @@ ghost use Rattle.vol_layout.specs.Inode.{inode_place, inode_of, IsStorable};
 ghost use Rattle.vol_layout.specs.Slot.{padded_name, slot_at};
 ghost use Rattle.vol_layout.specs.Super.{free_head, time_place};
 ghost use Rattle.vol_volume.specs.Blank.{HasHead, first_chain, IsFirst};
-ghost use Rattle.vol_volume.specs.Mkfs.{is_bad_id, root_inode, size_bytes, IsMakeable, IsOutside};
+ghost use Rattle.vol_volume.specs.Mkfs.{root_inode, size_bytes, IsMakeable, IsOutside};
+ghost use Rattle.vol_volume.specs.Ids.{is_bad_id};
 
 use crate::blank::FIRST_BLOCKS;
 use crate::blank::blocks::{first_chain, put_free_head};

@@ -10,8 +10,8 @@ ghost use Rattle.vol_dir.specs.Searching.{new_slot, slot_named};
 ghost use Rattle.vol_dir.specs.Tree.{tree, state};
 ghost use Rattle.vol_dir.specs.Walk.{IsComponent, has_zero, is_directory, walk_parent};
 ghost use Rattle.vol_change.specs.Nodes.{node_at, names_at, size_with_entry};
-ghost use Rattle.vol_volume.specs.Mkfs.{is_bad_id};
-ghost use Rattle.vol_volume.specs.Standing.{Stands};
+ghost use Rattle.vol_volume.specs.Ids.{is_bad_id};
+ghost use Rattle.vol_volume.specs.Standing.{Rules3To7And9};
 ghost use Rattle.vol_volume.specs.Verdict.{first_of, has_name, has_others, is_device, has_free_number, is_too_great, is_full, of_parent, body_tests};
 ghost use Rattle.vol_change.specs.Ready.{entry_need};
 
@@ -58,7 +58,7 @@ pub(crate) fn is_granted(
     access: Access,
     cred: Cred,
 ) -> bool
-    requires stands { Stands geometry.now image.now }
+    requires stands { Rules3To7And9 geometry.now image.now }
     requires used { IsInUse geometry.now image.now i }
     ensures { result ≡ grants (bit_of access) cred (node_at (tree geometry.now image.now) i) }
 {
@@ -68,7 +68,7 @@ pub(crate) fn is_granted(
 /// Whether the link count of i-node `i`, which is in use, is at its limit.
 #[tactic(auto, using(crate::proofs::NodeReadings::links_are, crate::proofs::NodeReadings::tree_geometry))]
 pub(crate) fn is_full(image: &Image, geometry: &Geometry, i: u16) -> bool
-    requires stands { Stands geometry.now image.now }
+    requires stands { Rules3To7And9 geometry.now image.now }
     requires used { IsInUse geometry.now image.now i }
     ensures { result ≡ is_full (tree geometry.now image.now) (node_at (tree geometry.now image.now) i) }
 {
@@ -77,13 +77,13 @@ pub(crate) fn is_full(image: &Image, geometry: &Geometry, i: u16) -> bool
 
 /// The entry that `name` has in directory `dir`; NoEntry where the name isn't there.
 #[tactic(auto, using(crate::proofs::NodeReadings::names_are, vol_dir::proofs::WalkLaws::found_in_use))]
-pub(crate) fn named(
+pub(crate) fn entry_of(
     image: &Image,
     geometry: &Geometry,
     dir: u16,
     name: &[u8],
 ) -> Result<Entry, Refusal>
-    requires stands { Stands geometry.now image.now }
+    requires stands { Rules3To7And9 geometry.now image.now }
     requires directory { IsDirectory geometry.now image.now dir }
     ensures number { IfOk result (λ entry. get (names_at (tree geometry.now image.now) dir) name.now ≡ Some entry.inode) }
     ensures slot { IfOk result (λ entry. entry.slot ≡ slot_named name.now (slots geometry.now image.now dir)) }
@@ -105,7 +105,7 @@ pub(crate) fn vacant(
     dir: u16,
     name: &[u8],
 ) -> Result<u32, Refusal>
-    requires stands { Stands geometry.now image.now }
+    requires stands { Rules3To7And9 geometry.now image.now }
     requires directory { IsDirectory geometry.now image.now dir }
     ensures fresh { OnOk result (get (names_at (tree geometry.now image.now) dir) name.now ≡ None) }
     ensures slot { IfOk result (λ slot. slot ≡ new_slot (names_in (slots geometry.now image.now dir))) }
@@ -130,7 +130,7 @@ pub(crate) fn has_others(image: &Image, geometry: &Geometry, dir: u16) -> bool
 
 /// Whether an i-number can be taken.
 pub(crate) fn has_free_number(image: &Image, geometry: &Geometry) -> bool
-    requires { Stands geometry.now image.now }
+    requires { Rules3To7And9 geometry.now image.now }
     ensures { result ≡ has_free_number (tree geometry.now image.now) }
 {
     any_inode(image, geometry)
@@ -221,7 +221,7 @@ pub(crate) fn body_tests(
     cred: Cred,
     i: u16,
 ) -> Result<(), Refusal>
-    requires stands { Stands geometry.now image.now }
+    requires stands { Rules3To7And9 geometry.now image.now }
     requires used { IsInUse geometry.now image.now i }
     ensures exact { result_err result ≡ first_of (body_tests (tree geometry.now image.now) (bit_of access) cred i) }
     ensures regular { OnOk result (kind_at geometry.now image.now i ≡ Kind.Regular) }

@@ -4,9 +4,9 @@ ghost use Rattle.std.specs.Result.{result_err};
 ghost use Rattle.vol_dir.specs.Entries.{IsDirectory, IsInUse};
 ghost use Rattle.vol_dir.specs.Tree.{tree, state};
 ghost use Rattle.vol_dir.specs.Walk.{has_zero, walk};
-ghost use Rattle.vol_change.specs.Ready.{IsReady, free_in};
+ghost use Rattle.vol_change.specs.Ready.{Rules1To12, free_in};
 ghost use Rattle.vol_volume.specs.Performing.{LeadsToParent, LeadsToNode, IsPlace, IsPerformed};
-ghost use Rattle.vol_volume.specs.Standing.{Stands};
+ghost use Rattle.vol_volume.specs.Standing.{Rules3To7And9};
 ghost use Rattle.vol_volume.specs.Verdict.{first_of, then_others, of_node, link_tests, link_refusal, verdict};
 
 use crate::calls::{Call, Done};
@@ -31,7 +31,7 @@ fn link_tests(
     dir: u16,
     name: &[u8],
 ) -> Result<Place, Refusal>
-    requires stands { Stands geometry.now image.now }
+    requires stands { Rules3To7And9 geometry.now image.now }
     requires count { free ≡ free_in (state geometry.now image.now) }
     requires used { IsInUse geometry.now image.now i }
     requires directory { IsDirectory geometry.now image.now dir }
@@ -62,7 +62,7 @@ fn check_target<'a>(
     target: &'a [u8],
     i: u16,
 ) -> Result<NewEntry<'a>, Refusal>
-    requires stands { Stands geometry.now image.now }
+    requires stands { Rules3To7And9 geometry.now image.now }
     requires count { free ≡ free_in (state geometry.now image.now) }
     requires used { IsInUse geometry.now image.now i }
     requires text { has_zero target.now ≡ false }
@@ -86,7 +86,7 @@ pub(crate) fn check<'a>(
     source: &[u8],
     target: &'a [u8],
 ) -> Result<(u16, NewEntry<'a>), Refusal>
-    requires stands { Stands geometry.now image.now }
+    requires stands { Rules3To7And9 geometry.now image.now }
     requires count { free ≡ free_in (state geometry.now image.now) }
     ensures refusal { result_err result ≡ then_others (tree geometry.now image.now) cred (source.now ∷ target.now ∷ [])
         (of_node (walk (tree geometry.now image.now) cred source.now) (link_refusal (state geometry.now image.now) cred target.now)) }
@@ -111,7 +111,7 @@ pub(crate) fn make(
     source: &[u8],
     target: &[u8],
 ) -> Result<Performed, Refusal>
-    requires ready { IsReady geometry.now image.old }
+    requires ready { Rules1To12 geometry.now image.old }
     requires count { free ≡ free_in (state geometry.now image.old) }
     ensures refusal { result_err result ≡ verdict (state geometry.now image.old) (Call.Link caller.cred caller.moment source.now target.now) }
     ensures unchanged { OnErr result (image.new ≡ image.old) }

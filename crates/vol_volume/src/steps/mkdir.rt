@@ -4,9 +4,9 @@ ghost use Rattle.std.specs.Result.{result_err};
 ghost use Rattle.vol_dir.specs.Entries.{IsDirectory};
 ghost use Rattle.vol_dir.specs.Tree.{tree, state};
 ghost use Rattle.vol_dir.specs.Walk.{walk_parent};
-ghost use Rattle.vol_change.specs.Ready.{IsReady, free_in};
+ghost use Rattle.vol_change.specs.Ready.{Rules1To12, free_in};
 ghost use Rattle.vol_volume.specs.Performing.{LeadsToParent, IsPlace, IsPerformed};
-ghost use Rattle.vol_volume.specs.Standing.{Stands};
+ghost use Rattle.vol_volume.specs.Standing.{Rules3To7And9};
 ghost use Rattle.vol_volume.specs.Verdict.{first_of, then_others, of_parent, mkdir_tests, is_free_number, verdict};
 
 use crate::calls::{Call, Done};
@@ -31,7 +31,7 @@ fn mkdir_tests(
     dir: u16,
     name: &[u8],
 ) -> Result<Place, Refusal>
-    requires stands { Stands geometry.now image.now }
+    requires stands { Rules3To7And9 geometry.now image.now }
     requires count { free ≡ free_in (state geometry.now image.now) }
     requires directory { IsDirectory geometry.now image.now dir }
     ensures refusal { result_err result ≡ first_of (mkdir_tests (state geometry.now image.now) cred dir name.now) }
@@ -63,7 +63,7 @@ pub(crate) fn check<'a>(
     cred: Cred,
     path: &'a [u8],
 ) -> Result<NewEntry<'a>, Refusal>
-    requires stands { Stands geometry.now image.now }
+    requires stands { Rules3To7And9 geometry.now image.now }
     requires count { free ≡ free_in (state geometry.now image.now) }
     ensures refusal { result_err result ≡ then_others (tree geometry.now image.now) cred (path.now ∷ [])
         (of_parent (walk_parent (tree geometry.now image.now) cred path.now) Refusal.Exists (mkdir_tests (state geometry.now image.now) cred)) }
@@ -86,7 +86,7 @@ pub(crate) fn make(
     path: &[u8],
     recorded: Option<u16>,
 ) -> Result<Performed, Refusal>
-    requires ready { IsReady geometry.now image.old }
+    requires ready { Rules1To12 geometry.now image.old }
     requires count { free ≡ free_in (state geometry.now image.old) }
     requires recorded { IfSome recorded (λ i. is_free_number (tree geometry.now image.old) i ≡ true) }
     ensures refusal { result_err result ≡ verdict (state geometry.now image.old) (Call.Mkdir new.owner new.moment path.now new.permissions) }

@@ -4,14 +4,14 @@ ghost use Rattle.std.specs.Result.{result_err};
 ghost use Rattle.vol_dir.specs.Entries.{IsDirectory};
 ghost use Rattle.vol_dir.specs.Tree.{tree, state};
 ghost use Rattle.vol_dir.specs.Walk.{walk_parent};
-ghost use Rattle.vol_change.specs.Ready.{IsReady, free_in};
+ghost use Rattle.vol_change.specs.Ready.{Rules1To12, free_in};
 ghost use Rattle.vol_volume.specs.Performing.{LeadsToParent, IsEntry, IsPerformed};
-ghost use Rattle.vol_volume.specs.Standing.{Stands};
+ghost use Rattle.vol_volume.specs.Standing.{Rules3To7And9};
 ghost use Rattle.vol_volume.specs.Verdict.{first_of, then_others, of_parent, rmdir_tests, verdict};
 
 use crate::calls::{Call, Done};
 use crate::steps::asked::{
-    first_tests, has_others, is_directory, is_granted, named, parent, refuse_if,
+    first_tests, has_others, is_directory, is_granted, entry_of, parent, refuse_if,
 };
 use crate::steps::found::OldEntry;
 use crate::steps::{Caller, Performed, ready_stands};
@@ -28,13 +28,13 @@ fn rmdir_tests(
     dir: u16,
     name: &[u8],
 ) -> Result<Entry, Refusal>
-    requires stands { Stands geometry.now image.now }
+    requires stands { Rules3To7And9 geometry.now image.now }
     requires directory { IsDirectory geometry.now image.now dir }
     ensures refusal { result_err result ≡ first_of (rmdir_tests (state geometry.now image.now) cred dir name.now) }
     ensures entry { IfOk result (λ entry. IsEntry geometry.now image.now dir name.now entry) }
 {
     refuse_if(is_dots(name), Refusal::Invalid)?;
-    let entry = named(image, geometry, dir, name)?;
+    let entry = entry_of(image, geometry, dir, name)?;
     refuse_if(
         !is_granted(image, geometry, dir, Access::Write, cred),
         Refusal::Access,
@@ -55,7 +55,7 @@ pub(crate) fn check<'a>(
     cred: Cred,
     path: &'a [u8],
 ) -> Result<OldEntry<'a>, Refusal>
-    requires { Stands geometry.now image.now }
+    requires { Rules3To7And9 geometry.now image.now }
     ensures refusal { result_err result ≡ then_others (tree geometry.now image.now) cred (path.now ∷ [])
         (of_parent (walk_parent (tree geometry.now image.now) cred path.now) Refusal.Invalid (rmdir_tests (state geometry.now image.now) cred)) }
     ensures leads { IfOk result (λ found. LeadsToParent geometry.now image.now cred path.now found.dir found.name.now) }
@@ -76,7 +76,7 @@ pub(crate) fn make(
     caller: Caller,
     path: &[u8],
 ) -> Result<Performed, Refusal>
-    requires ready { IsReady geometry.now image.old }
+    requires ready { Rules1To12 geometry.now image.old }
     requires count { free ≡ free_in (state geometry.now image.old) }
     ensures refusal { result_err result ≡ verdict (state geometry.now image.old) (Call.Rmdir caller.cred caller.moment path.now) }
     ensures unchanged { OnErr result (image.new ≡ image.old) }

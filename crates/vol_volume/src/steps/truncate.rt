@@ -4,9 +4,9 @@ ghost use Rattle.std.specs.Result.{result_err};
 ghost use Rattle.vol_dir.specs.Access.{may_write};
 ghost use Rattle.vol_dir.specs.Tree.{tree, state};
 ghost use Rattle.vol_dir.specs.Walk.{walk};
-ghost use Rattle.vol_change.specs.Ready.{IsReady, free_in};
+ghost use Rattle.vol_change.specs.Ready.{Rules1To12, free_in};
 ghost use Rattle.vol_volume.specs.Performing.{LeadsToNode, IsPerformed};
-ghost use Rattle.vol_volume.specs.Standing.{Stands};
+ghost use Rattle.vol_volume.specs.Standing.{Rules3To7And9};
 ghost use Rattle.vol_volume.specs.Verdict.{first_of, then_others, of_node, body_tests, verdict};
 
 use crate::calls::{Call, Done};
@@ -25,7 +25,7 @@ pub(crate) fn check(
     cred: Cred,
     path: &[u8],
 ) -> Result<u16, Refusal>
-    requires { Stands geometry.now image.now }
+    requires { Rules3To7And9 geometry.now image.now }
     ensures refusal { result_err result ≡ then_others (tree geometry.now image.now) cred (path.now ∷ [])
         (of_node (walk (tree geometry.now image.now) cred path.now) (λ i. first_of (body_tests (tree geometry.now image.now) may_write cred i))) }
     ensures node { IfOk result (λ i. LeadsToNode geometry.now image.now cred path.now i) }
@@ -45,7 +45,7 @@ pub(crate) fn make(
     caller: Caller,
     path: &[u8],
 ) -> Result<Performed, Refusal>
-    requires ready { IsReady geometry.now image.old }
+    requires ready { Rules1To12 geometry.now image.old }
     requires count { free ≡ free_in (state geometry.now image.old) }
     ensures refusal { result_err result ≡ verdict (state geometry.now image.old) (Call.Truncate caller.cred caller.moment path.now) }
     ensures unchanged { OnErr result (image.new ≡ image.old) }

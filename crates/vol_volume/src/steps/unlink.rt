@@ -5,13 +5,13 @@ ghost use Rattle.vol_dir.specs.Entries.{IsDirectory, IsInUse};
 ghost use Rattle.vol_dir.specs.Tree.{tree, state, shapes, place_count};
 ghost use Rattle.vol_dir.specs.Walk.{walk_parent};
 ghost use Rattle.vol_change.specs.Nodes.{node_at};
-ghost use Rattle.vol_change.specs.Ready.{IsReady, free_in};
+ghost use Rattle.vol_change.specs.Ready.{Rules1To12, free_in};
 ghost use Rattle.vol_volume.specs.Performing.{LeadsToParent, IsEntry, IsPerformed};
-ghost use Rattle.vol_volume.specs.Standing.{Stands};
+ghost use Rattle.vol_volume.specs.Standing.{Rules3To7And9};
 ghost use Rattle.vol_volume.specs.Verdict.{first_of, then_others, of_parent, unlink_tests, verdict};
 
 use crate::calls::{Call, Done};
-use crate::steps::asked::{first_tests, is_directory, is_granted, named, parent, refuse_if};
+use crate::steps::asked::{first_tests, is_directory, is_granted, entry_of, parent, refuse_if};
 use crate::steps::found::OldEntry;
 use crate::steps::{Caller, Performed, ready_stands};
 use pdp_words::Image;
@@ -27,12 +27,12 @@ fn unlink_tests(
     dir: u16,
     name: &[u8],
 ) -> Result<Entry, Refusal>
-    requires stands { Stands geometry.now image.now }
+    requires stands { Rules3To7And9 geometry.now image.now }
     requires directory { IsDirectory geometry.now image.now dir }
     ensures refusal { result_err result ≡ first_of (unlink_tests (state geometry.now image.now) cred dir name.now) }
     ensures entry { IfOk result (λ entry. IsEntry geometry.now image.now dir name.now entry) }
 {
-    let entry = named(image, geometry, dir, name)?;
+    let entry = entry_of(image, geometry, dir, name)?;
     refuse_if(
         !is_granted(image, geometry, dir, Access::Write, cred),
         Refusal::Access,
@@ -52,7 +52,7 @@ pub(crate) fn check<'a>(
     cred: Cred,
     path: &'a [u8],
 ) -> Result<OldEntry<'a>, Refusal>
-    requires { Stands geometry.now image.now }
+    requires { Rules3To7And9 geometry.now image.now }
     ensures refusal { result_err result ≡ then_others (tree geometry.now image.now) cred (path.now ∷ [])
         (of_parent (walk_parent (tree geometry.now image.now) cred path.now) Refusal.IsDirectory (unlink_tests (state geometry.now image.now) cred)) }
     ensures leads { IfOk result (λ found. LeadsToParent geometry.now image.now cred path.now found.dir found.name.now) }
@@ -66,8 +66,8 @@ pub(crate) fn check<'a>(
 
 /// How many blocks become free where node `i` loses a name: with the last one all of its blocks.
 fn freed(image: &Image, geometry: &Geometry, i: u16) -> u32
-    requires ready { IsReady geometry.now image.now }
-    requires stands { Stands geometry.now image.now }
+    requires ready { Rules1To12 geometry.now image.now }
+    requires stands { Rules3To7And9 geometry.now image.now }
     requires used { IsInUse geometry.now image.now i }
     ensures { result ≡ (if nat_le (node_at (tree geometry.now image.now) i).links 1
         then place_count geometry.now.edition (shapes geometry.now image.now i) else 0) }
@@ -88,7 +88,7 @@ pub(crate) fn make(
     caller: Caller,
     path: &[u8],
 ) -> Result<Performed, Refusal>
-    requires ready { IsReady geometry.now image.old }
+    requires ready { Rules1To12 geometry.now image.old }
     requires count { free ≡ free_in (state geometry.now image.old) }
     ensures refusal { result_err result ≡ verdict (state geometry.now image.old) (Call.Unlink caller.cred caller.moment path.now) }
     ensures unchanged { OnErr result (image.new ≡ image.old) }

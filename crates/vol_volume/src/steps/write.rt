@@ -6,9 +6,9 @@ ghost use Rattle.vol_file.specs.Rules.{kind_at};
 ghost use Rattle.vol_dir.specs.Entries.{IsInUse};
 ghost use Rattle.vol_dir.specs.Tree.{tree, state};
 ghost use Rattle.vol_dir.specs.Walk.{walk};
-ghost use Rattle.vol_change.specs.Ready.{IsReady, free_in};
+ghost use Rattle.vol_change.specs.Ready.{Rules1To12, free_in};
 ghost use Rattle.vol_volume.specs.Performing.{LeadsToNode, IsPerformed};
-ghost use Rattle.vol_volume.specs.Standing.{Stands};
+ghost use Rattle.vol_volume.specs.Standing.{Rules3To7And9};
 ghost use Rattle.vol_volume.specs.Verdict.{first_of, is_too_great, write_need, is_above_free, then_others, of_node, write_tests, verdict};
 
 use crate::calls::{Call, Done};
@@ -39,7 +39,7 @@ fn room_tests(
     offset: u32,
     len: usize,
 ) -> Result<u32, Refusal>
-    requires stands { Stands geometry.now image.now }
+    requires stands { Rules3To7And9 geometry.now image.now }
     requires count { free ≡ free_in (state geometry.now image.now) }
     requires first { 1 ≤ i }
     requires last { i ≤ geometry.now.last_inode }
@@ -66,7 +66,7 @@ fn write_tests(
     offset: u32,
     len: usize,
 ) -> Result<u32, Refusal>
-    requires stands { Stands geometry.now image.now }
+    requires stands { Rules3To7And9 geometry.now image.now }
     requires count { free ≡ free_in (state geometry.now image.now) }
     requires used { IsInUse geometry.now image.now i }
     ensures refusal { result_err result ≡ first_of (write_tests (state geometry.now image.now) cred offset len i) }
@@ -88,7 +88,7 @@ pub(crate) fn check(
     offset: u32,
     len: usize,
 ) -> Result<Target, Refusal>
-    requires stands { Stands geometry.now image.now }
+    requires stands { Rules3To7And9 geometry.now image.now }
     requires count { free ≡ free_in (state geometry.now image.now) }
     ensures refusal { result_err result ≡ then_others (tree geometry.now image.now) cred (path.now ∷ [])
         (of_node (walk (tree geometry.now image.now) cred path.now) (λ i. first_of (write_tests (state geometry.now image.now) cred offset len i))) }
@@ -112,7 +112,7 @@ pub(crate) fn make(
     offset: u32,
     bytes: &[u8],
 ) -> Result<Performed, Refusal>
-    requires ready { IsReady geometry.now image.old }
+    requires ready { Rules1To12 geometry.now image.old }
     requires count { free ≡ free_in (state geometry.now image.old) }
     ensures refusal { result_err result ≡ verdict (state geometry.now image.old) (Call.Write caller.cred caller.moment path.now offset bytes.now) }
     ensures unchanged { OnErr result (image.new ≡ image.old) }

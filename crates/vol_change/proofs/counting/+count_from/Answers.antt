@@ -72,5 +72,5 @@ returns t c =
     let image = c.args.image.now in
     let all : c.constants-j-end.result.pointers ≡ (constants g.edition).pointers = ap (λ k. k.pointers) c.constants-j-end.ensures in
     let end : c.loop-j.j ≡ (constants g.edition).pointers = omega (arith, all, c.loop-j-test.false, c.loop-j.auto.j-end) in
-    let whole = count_below g image c.args.level c.args.b c.loop-j.j c.if-b-eq0.false (omega arith) end in
-    omega (arith, whole, c.loop-j.invariant)
+    let rules = count_below g image c.args.level c.args.b c.loop-j.j c.if-b-eq0.false (omega arith) end in
+    omega (arith, rules, c.loop-j.invariant)

@@ -20,10 +20,10 @@ count_from-count-requires c =
     let within : c.loop-k.k < first_count (form_at g image c.args.i) = omega (arith, count, c.loop-k-test.true) in
     let level : levels (form_at g image c.args.i) c.loop-k.k ≡ c.levels.result = sym (c.levels.ensures ∙ ap (λ f. levels f c.loop-k.k) form) in
     let there : IsInside g image (levels (form_at g image c.args.i) c.loop-k.k) (address_at g.edition image (inode_place g.edition c.args.i) c.loop-k.k) =
-    address_inside g image c.args.i c.loop-k.k c.requires.first c.requires.last within (λ p. c.requires.whole.sound.zoned c.args.i p) in
+    address_inside g image c.args.i c.loop-k.k c.requires.first c.requires.last within (λ p. c.requires.rules.sound.zoned c.args.i p) in
     let few : levels (form_at g image c.args.i) c.loop-k.k ≤ 3 = few_levels (form_at g image c.args.i) c.loop-k.k within in
     record {
-      fits = c.requires.whole.sound.fits;
+      fits = c.requires.rules.sound.fits;
       inside = subst (IsInside g image c.levels.result) (sym c.address-b.ensures)
           (subst (λ d. IsInside g image d (address_at g.edition image (inode_place g.edition c.args.i) c.loop-k.k)) level there);
       deepest = omega (arith, few, level);
@@ -63,4 +63,4 @@ returns c =
     let form : c.of-form.result ≡ form_at g image c.args.i = c.of-form.ensures ∙ ap (form_of g.edition) c.mode.ensures in
     let count : c.address_count-k-end.result ≡ first_count (form_at g image c.args.i) = c.address_count-k-end.ensures ∙ ap first_count form in
     let end : c.loop-k.k ≡ first_count (form_at g image c.args.i) = omega (arith, count, c.loop-k-test.false, c.loop-k.auto.k-end) in
-    c.loop-k.invariant ∙ count_addresses g image c.args.i c.loop-k.k c.requires.whole.sound.fits c.requires.first c.requires.last end
+    c.loop-k.invariant ∙ count_addresses g image c.args.i c.loop-k.k c.requires.rules.sound.fits c.requires.first c.requires.last end

@@ -41,7 +41,7 @@ add_name-requires-clause-greatest c =
 pub add_name-requires-clause-room : goal.add_name-requires-clause-room
 unfolding tree
 add_name-requires-clause-room c =
-    entry_room c.args.geometry.now c.args.image.now c.args.dir c.requires.directory.whole
+    entry_room c.args.geometry.now c.args.image.now c.args.dir c.requires.directory.rules
     (record { first = c.requires.directory.is.first; last = c.requires.directory.is.last; kind = c.requires.directory.is.kind }) c.requires.room
 
 pub returns-clause-changed : goal.returns-clause-changed

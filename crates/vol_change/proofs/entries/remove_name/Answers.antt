@@ -25,28 +25,28 @@ returns c =
     let new = c.remove_at.new.image in
     let d = c.args.dir in
     let name = c.args.name.now in
-    let whole = c.requires.directory.whole in
+    let rules = c.requires.directory.rules in
     let s = slot_named name (slots geometry old d) in
     let file : IsFile geometry old d = record { first = c.requires.directory.is.first; last = c.requires.directory.is.last; kind = ap has_places c.requires.directory.is.kind } in
     let is : IsDirectory geometry old d = record { first = c.requires.directory.is.first; last = c.requires.directory.is.last; kind = c.requires.directory.is.kind } in
     let at : IsKind geometry old d kinds.Directory = record { first = c.requires.directory.is.first; last = c.requires.directory.is.last; kind = c.requires.directory.is.kind } in
-    let writes = c.remove_at.ensures.written whole.blocks whole.sound in
-    let kind = written_kind geometry old new whole.blocks d (16 * s) (0 ∷ (0 ∷ [])) file writes in
+    let writes = c.remove_at.ensures.written rules.blocks rules.sound in
+    let kind = written_kind geometry old new rules.blocks d (16 * s) (0 ∷ (0 ∷ [])) file writes in
     let named = named_slot geometry old name d c.requires.there in
     record {
       changed = record {
-        keeps = writes_keeps geometry old new d (16 * s) (0 ∷ (0 ∷ [])) whole writes;
-        makes = removed_state geometry old new whole.blocks name d s at whole.sound.fits writes c.remove_at.ensures.none c.remove_at.ensures.size
+        keeps = writes_keeps geometry old new d (16 * s) (0 ∷ (0 ∷ [])) rules writes;
+        makes = removed_state geometry old new rules.blocks name d s at rules.sound.fits writes c.remove_at.ensures.none c.remove_at.ensures.size
             c.remove_at.ensures.names c.remove_at.ensures.slots;
-        free = written_free geometry old new d (16 * s) 0 (0 ∷ (0 ∷ [])) whole writes c.remove_at.ensures.none;
-        content = λ j first last other. ((only_file geometry old new d whole.sound.fits writes.alone c.requires.directory.is.first).others j first last other).content;
+        free = written_free geometry old new d (16 * s) 0 (0 ∷ (0 ∷ [])) rules writes c.remove_at.ensures.none;
+        content = λ j first last other. ((only_file geometry old new d rules.sound.fits writes.alone c.requires.directory.is.first).others j first last other).content;
       };
       bytes = writes.body ∙ ap (λ m. spliced (body geometry old d) (16 * m) (0 ∷ (0 ∷ []))) (sym c.requires.slot);
       slot = changes_slot geometry old new d s (option_map (λ (i : ℕ). (name, i)) (get (names_of (slots geometry old d)) name)) None is
           (kind ∙ c.requires.directory.is.kind) (ap (λ n. n % 16) c.remove_at.ensures.size ∙ c.requires.directory.slots) named.entry
-          (removes geometry old new whole.blocks d s file whole.sound c.requires.directory.slots named.within writes);
-      beside = directory_beside geometry old new d whole.sound.fits writes.alone c.requires.directory.is.first kind;
+          (removes geometry old new rules.blocks d s file rules.sound c.requires.directory.slots named.within writes);
+      beside = directory_beside geometry old new d rules.sound.fits writes.alone c.requires.directory.is.first kind;
       once = c.remove_at.ensures.once;
-      unused = λ j first last. file_unused geometry old new d j whole.sound.fits writes.alone
+      unused = λ j first last. file_unused geometry old new d j rules.sound.fits writes.alone
           (λ free. absurd (cc (free, c.requires.directory.is.kind))) c.requires.directory.is.first first last;
     }

@@ -5,23 +5,23 @@ use Rattle.vol_change.proofs.OneNode.{alone_inode}
 use Rattle.vol_change.proofs.UnusedBytes.{kept_unused}
 use Rattle.vol_change.proofs.freeing.free_blocks.Goals as goal
 
-pub returns-in-Regular-clause-whole : goal.returns-in-Regular-clause-whole
-returns-in-Regular-clause-whole c =
-    truncated_whole c.args.geometry.now c.args.image.now c.truncate.new.image c.args.i c.requires.whole c.truncate.ensures.truncated
+pub returns-in-Regular-clause-rules : goal.returns-in-Regular-clause-rules
+returns-in-Regular-clause-rules c =
+    truncated_whole c.args.geometry.now c.args.image.now c.truncate.new.image c.args.i c.requires.rules c.truncate.ensures.truncated
 
 pub returns-in-Regular-clause-only : goal.returns-in-Regular-clause-only
 returns-in-Regular-clause-only c =
-    truncated_only c.args.geometry.now c.args.image.now c.truncate.new.image c.args.i c.requires.whole c.requires.first c.truncate.ensures.truncated
+    truncated_only c.args.geometry.now c.args.image.now c.truncate.new.image c.args.i c.requires.rules c.requires.first c.truncate.ensures.truncated
 
 pub returns-in-Regular-clause-others : goal.returns-in-Regular-clause-others
 returns-in-Regular-clause-others c = λ j first last other.
     kept_unused c.args.geometry.now c.args.image.now c.truncate.new.image j
-    (alone_inode c.args.geometry.now c.args.image.now c.truncate.new.image c.args.i j c.requires.whole.sound.fits
-    (c.truncate.ensures.truncated c.requires.whole.blocks c.requires.whole.sound).alone c.requires.first first last other)
+    (alone_inode c.args.geometry.now c.args.image.now c.truncate.new.image c.args.i j c.requires.rules.sound.fits
+    (c.truncate.ensures.truncated c.requires.rules.blocks c.requires.rules.sound).alone c.requires.first first last other)
 
 pub returns-in-Regular-clause-free : goal.returns-in-Regular-clause-free
 returns-in-Regular-clause-free c =
-    truncated_list c.args.geometry.now c.args.image.now c.truncate.new.image c.args.i c.requires.whole
+    truncated_list c.args.geometry.now c.args.image.now c.truncate.new.image c.args.i c.requires.rules
     (elim c.in-Regular.is [
       | inl e ↦ ap has_places (sym c.kind.ensures ∙ e)
       | inr e ↦ ap has_places (sym c.kind.ensures ∙ e)

@@ -11,7 +11,7 @@ frees : (c : After-give_inode)
 frees c = record {
   above = c.requires.above;
   last = c.requires.last;
-  whole = c.free_blocks.ensures.whole;
+  rules = c.free_blocks.ensures.rules;
   only = c.free_blocks.ensures.only;
   none = c.free_blocks.ensures.none;
   zero = c.clear_inode.ensures.zero;

@@ -27,19 +27,19 @@ puts c =
 pub returns-clause-changed : goal.returns-clause-changed
 returns-clause-changed c = record {
   keeps =
-      put_keeps c.args.geometry.now c.args.image.now c.put_inode.new.image c.args.i (put_node c) c.requires.node.whole (puts c) c.requires.limit;
+      put_keeps c.args.geometry.now c.args.image.now c.put_inode.new.image c.args.i (put_node c) c.requires.node.rules (puts c) c.requires.limit;
   makes =
-      put_makes c.args.geometry.now c.args.image.now c.put_inode.new.image c.args.i (put_node c) (with_links c.args.now c.args.links) c.requires.node.whole (puts c)
+      put_makes c.args.geometry.now c.args.image.now c.put_inode.new.image c.args.i (put_node c) (with_links c.args.now c.args.links) c.requires.node.rules (puts c)
       (λ content.
       ap (λ changed. node_with (record c.inode-node.result { links = c.args.links; changed = changed }) content) c.stamp.ensures
       ∙ ap (λ was. node_with (record was { links = c.args.links; changed = option_map (λ _. c.args.now) was.changed }) content) c.inode-node.ensures.value);
-  free = inode_free c.args.geometry.now c.args.image.now c.put_inode.new.image c.args.i c.requires.node.whole c.requires.node.first c.requires.node.last c.put_inode.ensures.others;
-  content = λ j first last any. put_content c.args.geometry.now c.args.image.now c.put_inode.new.image c.args.i j (put_node c) c.requires.node.whole (puts c) first last;
+  free = inode_free c.args.geometry.now c.args.image.now c.put_inode.new.image c.args.i c.requires.node.rules c.requires.node.first c.requires.node.last c.put_inode.ensures.others;
+  content = λ j first last any. put_content c.args.geometry.now c.args.image.now c.put_inode.new.image c.args.i j (put_node c) c.requires.node.rules (puts c) first last;
 }
 
 pub returns-clause-graph : goal.returns-clause-graph
 returns-clause-graph c =
-    put_graph c.args.geometry.now c.args.image.now c.put_inode.new.image c.args.i (put_node c) c.requires.node.whole (puts c)
+    put_graph c.args.geometry.now c.args.image.now c.put_inode.new.image c.args.i (put_node c) c.requires.node.rules (puts c)
 
 pub returns-clause-unused : goal.returns-clause-unused
 returns-clause-unused c = λ j first last.

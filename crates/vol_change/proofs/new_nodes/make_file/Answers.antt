@@ -11,21 +11,21 @@ returns-clause-changed c =
     let node = c.args.node in
     let makes = c.make_node.ensures.makes in
     record {
-      keeps = made_keeps c.args.geometry.now c.args.image.now c.make_node.new.image c.args.i _ c.requires.whole makes;
+      keeps = made_keeps c.args.geometry.now c.args.image.now c.make_node.new.image c.args.i _ c.requires.rules makes;
       makes =
-          file_makes c.args.geometry.now c.args.image.now c.make_node.new.image c.args.i _ c.requires.whole makes c.regular-mode.ensures.kind
+          file_makes c.args.geometry.now c.args.image.now c.make_node.new.image c.args.i _ c.requires.rules makes c.regular-mode.ensures.kind
           ∙ ap (λ n. put_shape c.args.i no_shape (put_node c.args.i (Some n) (state c.args.geometry.now c.args.image.now)))
           (reads_new c.args.geometry.now.edition c.regular-mode.result 1 node.owner node.moment node.permissions (Body []) c.regular-mode.ensures.permissions);
-      free = made_free c.args.geometry.now c.args.image.now c.make_node.new.image c.args.i _ c.requires.whole makes;
+      free = made_free c.args.geometry.now c.args.image.now c.make_node.new.image c.args.i _ c.requires.rules makes;
       content = λ j first last other.
-          ((made_only c.args.geometry.now c.args.image.now c.make_node.new.image c.args.i _ c.requires.whole makes).others j first last other).content;
+          ((made_only c.args.geometry.now c.args.image.now c.make_node.new.image c.args.i _ c.requires.rules makes).others j first last other).content;
     }
 
 pub returns-clause-graph : goal.returns-clause-graph
 returns-clause-graph c =
-    made_graph c.args.geometry.now c.args.image.now c.make_node.new.image c.args.i _ c.requires.whole c.make_node.ensures.makes
+    made_graph c.args.geometry.now c.args.image.now c.make_node.new.image c.args.i _ c.requires.rules c.make_node.ensures.makes
     kinds.Regular c.regular-mode.ensures.kind
 
 pub returns-clause-others : goal.returns-clause-others
 returns-clause-others c = λ j first last other.
-    made_unused c.args.geometry.now c.args.image.now c.make_node.new.image c.args.i _ c.requires.whole c.make_node.ensures.makes j first other
+    made_unused c.args.geometry.now c.args.image.now c.make_node.new.image c.args.i _ c.requires.rules c.make_node.ensures.makes j first other

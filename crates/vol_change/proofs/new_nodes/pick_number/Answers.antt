@@ -13,8 +13,8 @@ returns-clause-free c =
     let new = c.take_inode.new.image in
     let same = c.take_inode.ensures.others in
     subst (IsFreeNumber geometry new) (sym c.unwrap_or.ensures)
-    (chosen_free geometry old new c.args.recorded c.in-Some.taken (cache_graph geometry old new c.requires.whole same)
-    c.requires.recorded (cache_free geometry old new c.requires.whole same c.in-Some.taken c.in-Some.ensures.free))
+    (chosen_free geometry old new c.args.recorded c.in-Some.taken (cache_graph geometry old new c.requires.rules same)
+    c.requires.recorded (cache_free geometry old new c.requires.rules same c.in-Some.taken c.in-Some.ensures.free))
 
 pub returns-clause-recorded : goal.returns-clause-recorded
 returns-clause-recorded c = chosen_recorded c.args.recorded c.in-Some.taken c.unwrap_or.result c.unwrap_or.ensures
@@ -26,14 +26,14 @@ returns-clause-changed c =
     let new = c.take_inode.new.image in
     let same = c.take_inode.ensures.others in
     record {
-      keeps = cache_keeps geometry old new c.requires.whole same;
-      makes = cache_makes geometry old new c.requires.whole same;
-      free = cache_free_list geometry old new c.requires.whole same;
-      content = λ j first last any. (cache_node geometry old new c.requires.whole same j).content;
+      keeps = cache_keeps geometry old new c.requires.rules same;
+      makes = cache_makes geometry old new c.requires.rules same;
+      free = cache_free_list geometry old new c.requires.rules same;
+      content = λ j first last any. (cache_node geometry old new c.requires.rules same j).content;
     }
 
 pub returns-clause-graph : goal.returns-clause-graph
-returns-clause-graph c = cache_graph c.args.geometry.now c.args.image.now c.take_inode.new.image c.requires.whole c.take_inode.ensures.others
+returns-clause-graph c = cache_graph c.args.geometry.now c.args.image.now c.take_inode.new.image c.requires.rules c.take_inode.ensures.others
 
 pub returns-clause-unused : goal.returns-clause-unused
 returns-clause-unused c = λ j first last.

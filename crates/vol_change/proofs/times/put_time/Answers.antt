@@ -9,11 +9,11 @@ returns-clause-changed c =
     let new = c.put_time.new.image in
     let same = c.put_time.ensures.others in
     record {
-      keeps = time_keeps geometry old new c.requires.whole same;
-      makes = time_makes geometry old new c.args.now c.requires.whole same c.put_time.ensures.put;
-      free = time_free geometry old new c.requires.whole same;
-      content = λ j first last any. time_content geometry old new j c.requires.whole same;
+      keeps = time_keeps geometry old new c.requires.rules same;
+      makes = time_makes geometry old new c.args.now c.requires.rules same c.put_time.ensures.put;
+      free = time_free geometry old new c.requires.rules same;
+      content = λ j first last any. time_content geometry old new j c.requires.rules same;
     }
 
 pub returns-clause-graph : goal.returns-clause-graph
-returns-clause-graph c = time_graph c.args.geometry.now c.args.image.now c.put_time.new.image c.requires.whole c.put_time.ensures.others
+returns-clause-graph c = time_graph c.args.geometry.now c.args.image.now c.put_time.new.image c.requires.rules c.put_time.ensures.others

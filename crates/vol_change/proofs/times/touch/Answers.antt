@@ -15,7 +15,7 @@ pub put_inode-requires-clause-storable : goal.put_inode-requires-clause-storable
 put_inode-requires-clause-storable c =
     storable_changed c.args.geometry.now.edition c.inode-node.result _ c.args.now c.inode-node.ensures.storable
     (subst (λ node. node.links ≤ (constants c.args.geometry.now.edition).link_limit) (sym c.inode-node.ensures.value)
-    (c.requires.node.whole.sound.sizes.links c.args.i c.requires.node.first c.requires.node.last c.requires.node.used)) refl refl refl refl c.stamp.ensures
+    (c.requires.node.rules.sound.sizes.links c.args.i c.requires.node.first c.requires.node.last c.requires.node.used)) refl refl refl refl c.stamp.ensures
 
 -- the i-node that is put
 abbrev put_node : After-put_inode → Inode
@@ -30,21 +30,21 @@ puts c =
 pub returns-clause-changed : goal.returns-clause-changed
 returns-clause-changed c = record {
   keeps =
-      put_keeps c.args.geometry.now c.args.image.now c.put_inode.new.image c.args.i (put_node c) c.requires.node.whole (puts c)
+      put_keeps c.args.geometry.now c.args.image.now c.put_inode.new.image c.args.i (put_node c) c.requires.node.rules (puts c)
       (subst (λ node. node.links ≤ (constants c.args.geometry.now.edition).link_limit) (sym c.inode-node.ensures.value)
-      (c.requires.node.whole.sound.sizes.links c.args.i c.requires.node.first c.requires.node.last c.requires.node.used));
+      (c.requires.node.rules.sound.sizes.links c.args.i c.requires.node.first c.requires.node.last c.requires.node.used));
   makes =
-      put_makes c.args.geometry.now c.args.image.now c.put_inode.new.image c.args.i (put_node c) (modified c.args.now) c.requires.node.whole (puts c)
+      put_makes c.args.geometry.now c.args.image.now c.put_inode.new.image c.args.i (put_node c) (modified c.args.now) c.requires.node.rules (puts c)
       (λ content.
       ap (λ changed. node_with (record c.inode-node.result { modified = c.args.now; changed = changed }) content) c.stamp.ensures
       ∙ ap (λ was. node_with (record was { modified = c.args.now; changed = option_map (λ _. c.args.now) was.changed }) content) c.inode-node.ensures.value);
-  free = inode_free c.args.geometry.now c.args.image.now c.put_inode.new.image c.args.i c.requires.node.whole c.requires.node.first c.requires.node.last c.put_inode.ensures.others;
-  content = λ j first last any. put_content c.args.geometry.now c.args.image.now c.put_inode.new.image c.args.i j (put_node c) c.requires.node.whole (puts c) first last;
+  free = inode_free c.args.geometry.now c.args.image.now c.put_inode.new.image c.args.i c.requires.node.rules c.requires.node.first c.requires.node.last c.put_inode.ensures.others;
+  content = λ j first last any. put_content c.args.geometry.now c.args.image.now c.put_inode.new.image c.args.i j (put_node c) c.requires.node.rules (puts c) first last;
 }
 
 pub returns-clause-graph : goal.returns-clause-graph
 returns-clause-graph c =
-    put_same c.args.geometry.now c.args.image.now c.put_inode.new.image c.args.i (put_node c) c.requires.node.whole (puts c)
+    put_same c.args.geometry.now c.args.image.now c.put_inode.new.image c.args.i (put_node c) c.requires.node.rules (puts c)
     (ap (λ node. node.links) c.inode-node.ensures.value)
 
 pub returns-clause-unused : goal.returns-clause-unused

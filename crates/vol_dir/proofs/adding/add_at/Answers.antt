@@ -1,6 +1,6 @@
 use Rattle.std.proofs.Common.{◌≡◌, ◌≤◌, ◌∙◌, ap, length, Some, ◌*◌, List, ℕ, arith}
 use Rattle.vol_file.specs.Changes.{Writes}
-use Rattle.vol_file.specs.Rules.{IsSoundWith}
+use Rattle.vol_file.specs.Rules.{Rules3To7With}
 use Rattle.vol_dir.specs.Editing.{slot_bytes}
 use Rattle.vol_dir.specs.Entries.{slots}
 use Rattle.vol_dir.specs.Names.{names_of, names_in}
@@ -25,7 +25,7 @@ returns c =
     c.to_bytes.ensures.bytes ∙ rw (c.new.ensures.inode, c.new.ensures.name) in
     let some : 1 ≤ length c.to_bytes.result =
     let sixteen = length-slot_bytes name c.args.i c.requires.short in omega (arith, ap length text, sixteen) in
-    let written : (blocks : List ℕ) → IsSoundWith geometry old blocks → Writes geometry old new d (16 * s) (slot_bytes name c.args.i) blocks = λ blocks sound.
+    let written : (blocks : List ℕ) → Rules3To7With geometry old blocks → Writes geometry old new d (16 * s) (slot_bytes name c.args.i) blocks = λ blocks sound.
     writes_as geometry old new blocks d (16 * c.args.slot) (16 * s) c.to_bytes.result (slot_bytes name c.args.i) (ap (λ n. 16 * n) c.requires.slot) text
     (c.write.ensures.written some blocks sound) in
     let writes = written has.blocks has.sound in

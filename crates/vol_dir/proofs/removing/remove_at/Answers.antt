@@ -1,7 +1,7 @@
 use Rattle.std.proofs.Common.{◌/◌, ◌∙◌, sym, subst, ap, None, ◌*◌, List, ℕ, arith, [], ◌∷◌}
 use Rattle.vol_file.specs.Changes.{Writes}
 use Rattle.vol_file.specs.Need.{need}
-use Rattle.vol_file.specs.Rules.{IsSoundWith}
+use Rattle.vol_file.specs.Rules.{Rules3To7With}
 use Rattle.vol_dir.specs.Entries.{slots}
 use Rattle.vol_dir.specs.Names.{names_of, names_in}
 use Rattle.vol_dir.proofs.Finding.{slots_low}
@@ -51,7 +51,7 @@ returns c =
     let first = stands_in geometry old name d s c.requires.slot c.requires.there in
     let new = c.write.new.image in
     let has = c.requires.sound in
-    let writes : (blocks : List ℕ) → IsSoundWith geometry old blocks → Writes geometry old new d (16 * s) (0 ∷ (0 ∷ [])) blocks =
+    let writes : (blocks : List ℕ) → Rules3To7With geometry old blocks → Writes geometry old new d (16 * s) (0 ∷ (0 ∷ [])) blocks =
     λ blocks sound. c.write.ensures.written (omega arith) blocks sound in
     let write = writes has.blocks has.sound in
     let removed : Replaces geometry old new d s None =

@@ -1,5 +1,5 @@
 use Rattle.std.proofs.Common.{◌≡◌, length}
-use Rattle.vol_file.specs.Rules.{HasSoundFiles}
+use Rattle.vol_file.specs.Rules.{Rules3To7}
 use Rattle.vol_dir.specs.Tree.{tree}
 use Rattle.vol_dir.specs.Entries.{HasEntries, IsInUse}
 use Rattle.vol_dir.specs.Walk.{components, walk_from, walk}
@@ -9,7 +9,7 @@ use Rattle.vol_dir.proofs.walking.walk.Given as goal
 abbrev pub invariant-loop-name : goal.invariant-loop-name
 invariant-loop-name l = record {
   whole : walk_from (tree l.geometry l.image) l.cred l.i (components l.rest) ≡ walk (tree l.geometry l.image) l.cred l.path;
-  used : HasSoundFiles l.geometry l.image → HasEntries l.geometry l.image → IsInUse l.geometry l.image l.i;
+  used : Rules3To7 l.geometry l.image → HasEntries l.geometry l.image → IsInUse l.geometry l.image l.i;
 }
 
 abbrev pub decreases-loop-name : goal.decreases-loop-name

@@ -1,5 +1,5 @@
 use Rattle.std.proofs.Common.{ℕ, ◌-◌, ◌≤◌, List}
-use Rattle.vol_file.specs.Rules.{IsSoundWith}
+use Rattle.vol_file.specs.Rules.{Rules3To7With}
 use Rattle.vol_file.specs.Steps.{Rewrites, zeros_at}
 use Rattle.vol_file.proofs.pieces.clear_between.Given as goal
 
@@ -8,7 +8,7 @@ abbrev pub invariant-loop-at : goal.invariant-loop-at
 invariant-loop-at l = record {
   from : l.from ≤ l.at;
   within : l.at ≤ l.to;
-  cleared : (blocks : List ℕ) → IsSoundWith l.geometry l.initial.image blocks
+  cleared : (blocks : List ℕ) → Rules3To7With l.geometry l.initial.image blocks
       → Rewrites l.geometry l.initial.image l.image l.i l.from l.at zeros_at blocks;
 }
 

@@ -3,7 +3,7 @@ use Rattle.vol_layout.specs.Inode.{kind_of, is_large, with_large}
 use Rattle.vol_layout.specs.Names.{mode_of}
 use Rattle.vol_layout.specs.declared.edition.Edition.TheVariants.{V6}
 use Rattle.vol_layout.proofs.BodyLaws.{zone_room}
-use Rattle.vol_file.specs.Rules.{IsSoundWith}
+use Rattle.vol_file.specs.Rules.{Rules3To7With}
 use Rattle.vol_file.specs.Steps.{Enlarges}
 use Rattle.vol_file.proofs.Reaching.{pops_some, taken_zoned, zone_limit}
 use Rattle.vol_file.proofs.Converting.{enlarges}
@@ -26,7 +26,7 @@ pub returns-in-Some : goal.returns-in-Some
 returns-in-Some c = λ blocks sound some.
     let geometry = c.args.geometry.now in
     let first = pops_some geometry c.args.image.now c.take.new.image blocks c.in-Some.b (c.in-Some.ensures.popped blocks sound.free) in
-    let sound_first : IsSoundWith geometry c.args.image.now (c.in-Some.b ∷ first.rest) = subst (IsSoundWith geometry c.args.image.now) first.is sound in
+    let sound_first : Rules3To7With geometry c.args.image.now (c.in-Some.b ∷ first.rest) = subst (Rules3To7With geometry c.args.image.now) first.is sound in
     let bits : mode_of geometry c.put_mode.new.image c.args.i ≡ c.with_large-large.result.bits = c.put_mode.ensures.put in
     let was : c.with_large-large.result.bits ≡ with_large (mode_of geometry c.args.image.now c.args.i) true =
     c.with_large-large.ensures.bits ∙ ap (λ m. with_large m true) c.mode.ensures in

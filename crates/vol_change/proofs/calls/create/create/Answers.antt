@@ -22,8 +22,8 @@ use Rattle.vol_change.proofs.SideStates.{made_state, takes_ready, takes_kept}
 use Rattle.vol_change.proofs.UnusedNodes.{time_unused}
 use Rattle.vol_change.proofs.calls.create.create.Goals as goal
 
-pub pick_number-made-requires-clause-whole : goal.pick_number-made-requires-clause-whole
-pick_number-made-requires-clause-whole c = ready_whole c.args.geometry.now c.args.image.now c.requires.ready
+pub pick_number-made-requires-clause-rules : goal.pick_number-made-requires-clause-rules
+pick_number-made-requires-clause-rules c = ready_whole c.args.geometry.now c.args.image.now c.requires.ready
 
 pub enter-requires : goal.enter-requires
 enter-requires c =
@@ -49,7 +49,7 @@ enter-requires c =
           ∙ ap (λ (s : State). new_slot (s.shapes d).slots)
           (sym (c.make_file.ensures.changed.makes ∙ (made_state geometry mid i (Some node) c.pick_number-made.ensures.free
           ∙ ap (put_node i (Some node)) c.pick_number-made.ensures.changed.makes)));
-      directory = record { whole = c.make_file.ensures.changed.keeps.whole; is = made.directory; slots = made.slots; once = made.once };
+      directory = record { rules = c.make_file.ensures.changed.keeps.rules; is = made.directory; slots = made.slots; once = made.once };
       takes = made.takes;
       component = c.requires.component;
       text = c.requires.text;

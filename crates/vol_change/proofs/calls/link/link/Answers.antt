@@ -28,7 +28,7 @@ pub add_link-requires-clause-node : goal.add_link-requires-clause-node
 add_link-requires-clause-node c =
     let one = root_first c.args.geometry.now.edition in
     record {
-      whole = ready_whole c.args.geometry.now c.args.image.now c.requires.ready;
+      rules = ready_whole c.args.geometry.now c.args.image.now c.requires.ready;
       first = omega (arith, one, c.requires.used.first);
       last = c.requires.used.last;
       used = c.requires.used.allocated;
@@ -60,7 +60,7 @@ enter-requires c =
     c.add_link.ensures.changed.makes takes in
     record {
       slot = c.requires.slot ∙ ap (λ (s : State). new_slot (s.shapes d).slots) (sym c.add_link.ensures.changed.makes);
-      directory = record { whole = c.add_link.ensures.changed.keeps.whole; is = made.directory; slots = made.slots; once = made.once };
+      directory = record { rules = c.add_link.ensures.changed.keeps.rules; is = made.directory; slots = made.slots; once = made.once };
       takes = made.takes;
       component = c.requires.component;
       text = c.requires.text;

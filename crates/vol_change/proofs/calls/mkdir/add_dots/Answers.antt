@@ -32,7 +32,7 @@ add_name-requires-2-clause-slot c =
 
 pub add_name-requires-clause-directory : goal.add_name-requires-clause-directory
 add_name-requires-clause-directory c = record {
-  whole = c.requires.whole;
+  rules = c.requires.rules;
   is = c.requires.directory;
   slots = ap (λ n. n % 16) (size_held c.args.geometry.now c.args.image.now c.args.i 0 [] no_shape c.requires.directory c.requires.empty);
   once = none_twice c.args.geometry.now c.args.image.now c.args.i no_shape c.requires.directory c.requires.empty;
@@ -49,11 +49,11 @@ add_name-requires-clause-greatest c =
 
 pub add_name-requires-clause-room : goal.add_name-requires-clause-room
 unfolding tree
-add_name-requires-clause-room c = dot_room c.args.geometry.now c.args.image.now c.args.i c.requires.whole c.requires.directory c.requires.empty c.requires.room
+add_name-requires-clause-room c = dot_room c.args.geometry.now c.args.image.now c.args.i c.requires.rules c.requires.directory c.requires.empty c.requires.room
 
 pub add_name-requires-2-clause-directory : goal.add_name-requires-2-clause-directory
 add_name-requires-2-clause-directory c = record {
-  whole = c.add_name.ensures.changed.keeps.whole;
+  rules = c.add_name.ensures.changed.keeps.rules;
   is = directory_kept c.args.geometry.now c.args.image.now c.add_name.new.image c.args.i (c.add_name.ensures.beside.kind c.args.i) c.requires.directory;
   slots = c.add_name.ensures.slot.whole;
   once = c.add_name.ensures.once;
@@ -75,7 +75,7 @@ pub add_name-requires-2-clause-room : goal.add_name-requires-2-clause-room
 add_name-requires-2-clause-room c =
     let dotted =
     dot_there c.args.geometry.now c.args.image.now c.add_name.new.image c.args.i c.requires.directory c.requires.empty c.add_name.ensures.changed.makes c.add_name.ensures.beside in
-    dot_dot_room c.args.geometry.now c.add_name.new.image c.args.i _ c.add_name.ensures.changed.keeps.whole dotted.is dotted.has
+    dot_dot_room c.args.geometry.now c.add_name.new.image c.args.i _ c.add_name.ensures.changed.keeps.rules dotted.is dotted.has
 
 -- `.` takes a block, and `..` none
 taken : (c : After-add_name-2) → FreeBecomes c.args.geometry.now c.args.image.now c.add_name-2.new.image (drop 1)
@@ -120,9 +120,9 @@ returns-clause-own c = λ blocks free.
     let i = c.args.i in
     let dotted = dot_there geometry old mid i c.requires.directory c.requires.empty c.add_name.ensures.changed.makes c.add_name.ensures.beside in
     let is = directory_kept geometry mid new i (c.add_name-2.ensures.beside.kind i) dotted.is in
-    let some = room_is geometry old 1 c.requires.whole c.requires.room c.requires.whole.blocks c.requires.whole.sound in
-    let length = ap length (one_list geometry old blocks c.requires.whole free) in
-    first_taken geometry old new i blocks c.requires.whole c.add_name-2.ensures.changed.keeps.whole
+    let some = room_is geometry old 1 c.requires.rules c.requires.room c.requires.rules.blocks c.requires.rules.sound in
+    let length = ap length (one_list geometry old blocks c.requires.rules free) in
+    first_taken geometry old new i blocks c.requires.rules c.add_name-2.ensures.changed.keeps.rules
     (taken c) (stays c) (record { first = is.first; last = is.last; kind = is.kind })
     (dots_places geometry mid new i c.args.dir dotted c.add_name-2.ensures.changed.makes) (omega (arith, some, length)) free
 

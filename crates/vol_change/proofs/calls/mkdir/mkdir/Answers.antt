@@ -29,8 +29,8 @@ use Rattle.vol_change.proofs.SideStates.{made_state, takes_ready, takes_kept}
 use Rattle.vol_change.proofs.UnusedNodes.{time_unused}
 use Rattle.vol_change.proofs.calls.mkdir.mkdir.Goals as goal
 
-pub pick_number-made-requires-clause-whole : goal.pick_number-made-requires-clause-whole
-pick_number-made-requires-clause-whole c = ready_whole c.args.geometry.now c.args.image.now c.requires.ready
+pub pick_number-made-requires-clause-rules : goal.pick_number-made-requires-clause-rules
+pick_number-made-requires-clause-rules c = ready_whole c.args.geometry.now c.args.image.now c.requires.ready
 
 pub enter-requires : goal.enter-requires
 enter-requires c =
@@ -57,7 +57,7 @@ enter-requires c =
           ∙ ap (λ (s : State). new_slot (s.shapes d).slots)
           (sym (c.make_directory.ensures.changed.makes ∙ (made_state geometry picked i (Some node) c.pick_number-made.ensures.free
           ∙ ap (put_node i (Some node)) c.pick_number-made.ensures.changed.makes)));
-      directory = record { whole = c.make_directory.ensures.changed.keeps.whole; is = made.directory; slots = made.slots; once = made.once };
+      directory = record { rules = c.make_directory.ensures.changed.keeps.rules; is = made.directory; slots = made.slots; once = made.once };
       takes = made.takes;
       component = c.requires.component;
       text = c.requires.text;
@@ -122,7 +122,7 @@ add_link-requires-clause-node c =
     let still = c.add_dots.ensures.graph.beside.kind d ∙ (c.enter.ensures.beside.kind d
     ∙ (made.others.kind d (not_made (graph_of geometry c.pick_number-made.new.image) d c.pick_number-made.result is made.was) ∙ is)) in
     record {
-      whole = c.add_dots.ensures.changed.keeps.whole;
+      rules = c.add_dots.ensures.changed.keeps.rules;
       first = c.requires.directory.first;
       last = c.requires.directory.last;
       used = not_free _ (directory_from geometry c.add_dots.new.image d still).kind;

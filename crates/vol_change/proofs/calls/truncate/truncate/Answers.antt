@@ -15,7 +15,7 @@ truncate-requires-clause-file c = record { first = c.requires.first; last = c.re
 
 pub truncate-requires-clause-sound : goal.truncate-requires-clause-sound
 truncate-requires-clause-sound c =
-    let whole = ready_whole c.args.geometry.now c.args.image.now c.requires.ready in record { blocks = whole.blocks; sound = whole.sound }
+    let rules = ready_whole c.args.geometry.now c.args.image.now c.requires.ready in record { blocks = rules.blocks; sound = rules.sound }
 
 pub touch-requires : goal.touch-requires
 touch-requires c =
@@ -23,7 +23,7 @@ touch-requires c =
     record { first = c.requires.first; last = c.requires.last; kind = c.requires.regular } in
     record {
       node = record {
-        whole = (body_emptied _ _ _ _ (ready_whole _ _ c.requires.ready) is c.truncate.ensures.truncated).keeps.whole;
+        rules = (body_emptied _ _ _ _ (ready_whole _ _ c.requires.ready) is c.truncate.ensures.truncated).keeps.rules;
         first = c.requires.first;
         last = c.requires.last;
         used = (emptied_beside _ _ _ _ (ready_whole _ _ c.requires.ready) is c.truncate.ensures.truncated).kind;
@@ -37,10 +37,10 @@ returns c =
     let mid = c.truncate.new.image in
     let timed = c.touch.new.image in
     let new = c.put_time.new.image in
-    let whole = ready_whole geometry old c.requires.ready in
+    let rules = ready_whole geometry old c.requires.ready in
     let is : IsKind geometry old c.args.i kinds.Regular = record { first = c.requires.first; last = c.requires.last; kind = c.requires.regular } in
-    let emptied = body_emptied geometry old mid c.args.i whole is c.truncate.ensures.truncated in
-    let beside = emptied_beside geometry old mid c.args.i whole is c.truncate.ensures.truncated in
+    let emptied = body_emptied geometry old mid c.args.i rules is c.truncate.ensures.truncated in
+    let beside = emptied_beside geometry old mid c.args.i rules is c.truncate.ensures.truncated in
     record {
       changes = changed _ _ _ _ _ c.args.moment c.requires.ready
           (made_truncate geometry old mid timed c.args.i c.args.moment c.requires.ready

@@ -42,7 +42,7 @@ pub drop_link-requires-clause-node : goal.drop_link-requires-clause-node
 drop_link-requires-clause-node c =
     let used = named_used c.args.geometry.now c.args.image.now c.args.name.now c.args.dir c.args.i c.requires.ready c.requires.directory c.requires.named in
     record {
-      whole = c.leave.ensures.changed.keeps.whole;
+      rules = c.leave.ensures.changed.keeps.rules;
       first = used_first _ _ _ used;
       last = used.last;
       used = left_used c.args.geometry.now c.args.image.now c.leave.new.image c.args.dir c.args.i c.args.name.now c.args.moment
@@ -59,9 +59,9 @@ drop_link-requires-clause-node c =
 
 pub put_time-requires : goal.put_time-requires
 put_time-requires c = record {
-  whole = elim c.if-inode-le1.branch [
-    | then-inode-le1 w ↦ rw w.image-is w.free_node.ensures.changed.keeps.whole
-    | else-inode-le1 w ↦ rw w.image-is w.drop_link.ensures.changed.keeps.whole
+  rules = elim c.if-inode-le1.branch [
+    | then-inode-le1 w ↦ rw w.image-is w.free_node.ensures.changed.keeps.rules
+    | else-inode-le1 w ↦ rw w.image-is w.drop_link.ensures.changed.keeps.rules
   ];
 }
 

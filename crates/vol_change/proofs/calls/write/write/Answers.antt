@@ -28,7 +28,7 @@ write-requires-clause-file c = record { first = c.requires.first; last = c.requi
 
 pub write-requires-clause-sound : goal.write-requires-clause-sound
 write-requires-clause-sound c =
-    let whole = ready_whole c.args.geometry.now c.args.image.now c.requires.ready in record { blocks = whole.blocks; sound = whole.sound }
+    let rules = ready_whole c.args.geometry.now c.args.image.now c.requires.ready in record { blocks = rules.blocks; sound = rules.sound }
 
 pub write-requires-clause-room : goal.write-requires-clause-room
 unfolding tree
@@ -44,7 +44,7 @@ touch-requires c =
     record { first = c.requires.first; last = c.requires.last; kind = c.requires.regular } in
     record {
       node = record {
-        whole = (body_written _ _ _ _ c.args.offset c.args.bytes.now (ready_whole _ _ c.requires.ready) is (c.write.ensures.written (grind (arith, nat_tests)))).keeps.whole;
+        rules = (body_written _ _ _ _ c.args.offset c.args.bytes.now (ready_whole _ _ c.requires.ready) is (c.write.ensures.written (grind (arith, nat_tests)))).keeps.rules;
         first = c.requires.first;
         last = c.requires.last;
         used = (written_beside _ _ _ _ c.args.offset c.args.bytes.now (ready_whole _ _ c.requires.ready) is (c.write.ensures.written (grind (arith, nat_tests)))).kind;
@@ -53,8 +53,8 @@ touch-requires c =
 
 pub put_time-requires : goal.put_time-requires
 put_time-requires c = record {
-  whole = elim c.if-not-is_empty.branch [
-    | then-not-is_empty w ↦ rw w.image-is w.touch.ensures.changed.keeps.whole
+  rules = elim c.if-not-is_empty.branch [
+    | then-not-is_empty w ↦ rw w.image-is w.touch.ensures.changed.keeps.rules
     | else-not-is_empty w ↦ rw w.image-is (ready_whole _ _ c.requires.ready)
   ];
 }
@@ -73,14 +73,14 @@ left c =
     let old = c.args.image.now in
     let text = c.args.bytes.now in
     let offset = c.args.offset in
-    let whole = ready_whole geometry old c.requires.ready in
+    let rules = ready_whole geometry old c.requires.ready in
     let is : IsKind geometry old c.args.i kinds.Regular = record { first = c.requires.first; last = c.requires.last; kind = c.requires.regular } in
     elim c.if-not-is_empty.branch [
       | then-not-is_empty w ↦
           let some : 1 ≤ length text = grind (arith, nat_tests) in
           let mid = w.write.new.image in
-          let written = body_written geometry old mid c.args.i offset text whole is (w.write.ensures.written some) in
-          let beside = written_beside geometry old mid c.args.i offset text whole is (w.write.ensures.written some) in
+          let written = body_written geometry old mid c.args.i offset text rules is (w.write.ensures.written some) in
+          let beside = written_beside geometry old mid c.args.i offset text rules is (w.write.ensures.written some) in
           rw w.image-is (record {
             made = made_write geometry old mid w.touch.new.image text c.args.i offset c.args.moment c.requires.ready some
                 written beside.graph

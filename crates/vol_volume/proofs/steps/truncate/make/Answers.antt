@@ -12,8 +12,8 @@ use Rattle.vol_volume.specs.declared.calls.Call.TheVariants.{Truncate}
 use Rattle.vol_volume.specs.declared.calls.Done.TheVariants.{Plain}
 use Rattle.vol_volume.proofs.steps.truncate.make.Goals as goal
 
-pub place_count-freed-requires-clause-whole : goal.place_count-freed-requires-clause-whole
-place_count-freed-requires-clause-whole c =
+pub place_count-freed-requires-clause-rules : goal.place_count-freed-requires-clause-rules
+place_count-freed-requires-clause-rules c =
     ready_whole c.args.geometry.now c.args.image.now c.requires.ready
 
 pub place_count-freed-requires-clause-first : goal.place_count-freed-requires-clause-first

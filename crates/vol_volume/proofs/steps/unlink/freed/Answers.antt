@@ -7,8 +7,8 @@ use Rattle.vol_change.proofs.ReadyLaws.{ready_whole}
 use Rattle.vol_volume.proofs.NodeReadings.{used_first, links_are}
 use Rattle.vol_volume.proofs.steps.unlink.freed.Goals as goal
 
-pub place_count-requires-clause-whole : goal.place_count-requires-clause-whole
-place_count-requires-clause-whole c = ready_whole c.args.geometry.now c.args.image.now c.requires.ready
+pub place_count-requires-clause-rules : goal.place_count-requires-clause-rules
+place_count-requires-clause-rules c = ready_whole c.args.geometry.now c.args.image.now c.requires.ready
 
 pub returns-then-inode-le1 : goal.returns-then-inode-le1
 returns-then-inode-le1 c =

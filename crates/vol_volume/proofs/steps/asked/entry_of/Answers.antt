@@ -1,5 +1,5 @@
 use Rattle.vol_dir.proofs.WalkLaws.{found_in_use}
-use Rattle.vol_volume.proofs.steps.asked.named.Goals as goal
+use Rattle.vol_volume.proofs.steps.asked.entry_of.Goals as goal
 
 pub returns-in-Ok-clause-used : goal.returns-in-Ok-clause-used
 returns-in-Ok-clause-used c =

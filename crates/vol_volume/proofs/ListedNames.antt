@@ -22,7 +22,7 @@ use Rattle.vol_dir.specs.Scanning.{IsNextEntry}
 use Rattle.vol_dir.specs.Searching.{holds}
 use Rattle.vol_dir.proofs.NameMaps.{names_with}
 use Rattle.vol_judge.proofs.NextEntries.{entry_some}
-use Rattle.vol_volume.specs.Answering.{names_in}
+use Rattle.vol_volume.specs.Answering.{listed_names}
 
 -- the entries in the slots of directory d below slot n
 unfoldable pub slots_below : Geometry → List ℕ → ℕ → ℕ → List (Option (List ℕ × ℕ))
@@ -31,7 +31,7 @@ slots_below geometry image d n = map (entry_at geometry image d) (range_with_len
 -- the names in the slots of directory d below slot n were collected
 pub record HasCollected (geometry : Geometry) (image : List ℕ) (d n : ℕ) (entries : List (Vec ℕ × ℕ)) : Type 0 where
   pub within : n ≤ slot_count geometry image d
-  pub names : names_in entries ≡ names_of (slots_below geometry image d n)
+  pub names : listed_names entries ≡ names_of (slots_below geometry image d n)
 
 -- one number more
 range_more : (a n j : ℕ) → a + n ≡ j → range_with_len a (suc n) ≡ range_with_len a n ++ j ∷ []
@@ -113,11 +113,11 @@ pushed geometry image d s slot here none =
 
 -- a name put among entries is put in their map
 pub named_insert : (entries : List (Vec ℕ × ℕ)) (key : Vec ℕ) (i : ℕ)
-    → names_in (insert_entry (λ x y. slice_cmp nat_cmp x.items y.items) entries key i) ≡ insert (names_in entries) key.items i
+    → listed_names (insert_entry (λ x y. slice_cmp nat_cmp x.items y.items) entries key i) ≡ insert (listed_names entries) key.items i
 named_insert [] key i = refl
 named_insert (e ∷ es) key i =
-    elim (slice_cmp nat_cmp key.items e.0.items) as (λ o. names_in (match_ordering o ((key, i) ∷ e ∷ es) ((e.0, i) ∷ es) (e ∷ insert_entry (λ x y. slice_cmp nat_cmp x.items y.items) es key i))
-    ≡ by_order o ((key.items, i) ∷ names_in (e ∷ es)) ((e.0.items, i) ∷ names_in es) ((e.0.items, e.1) ∷ put (slice_cmp nat_cmp) key.items i (names_in es))) [
+    elim (slice_cmp nat_cmp key.items e.0.items) as (λ o. listed_names (match_ordering o ((key, i) ∷ e ∷ es) ((e.0, i) ∷ es) (e ∷ insert_entry (λ x y. slice_cmp nat_cmp x.items y.items) es key i))
+    ≡ by_order o ((key.items, i) ∷ listed_names (e ∷ es)) ((e.0.items, i) ∷ listed_names es) ((e.0.items, e.1) ∷ put (slice_cmp nat_cmp) key.items i (listed_names es))) [
       | Less ↦ refl
       | Equal ↦ refl
       | Greater ↦ ap (λ rest. (e.0.items, e.1) ∷ rest) (named_insert es key i)
@@ -127,7 +127,7 @@ named_insert (e ∷ es) key i =
 pub collected_none : (geometry : Geometry) (image : List ℕ) (d : ℕ) (entries : List (Vec ℕ × ℕ)) → entries ≡ []
     → HasCollected geometry image d 0 entries
 unfolding slots_below
-collected_none geometry image d entries empty = record { within = omega arith; names = ap names_in empty }
+collected_none geometry image d entries empty = record { within = omega arith; names = ap listed_names empty }
 
 -- the name of the next entry, put among those before, gives those up to it
 pub collected_next : (geometry : Geometry) (image : List ℕ) (d from s : ℕ) (slot : Slot) (key : Vec ℕ) (old new : List (Vec ℕ × ℕ))
@@ -141,9 +141,9 @@ collected_next geometry image d from s slot key old new entries directory collec
     held_once geometry image d s t slot.inode (name_of slot.name) (entry_at geometry image d t) entries directory here refl apart in
     record {
       within = let within = next.within in omega arith;
-      names = ap names_in put
+      names = ap listed_names put
           ∙ (named_insert old key slot.inode
-          ∙ (ap (λ name. insert (names_in old) name slot.inode) is
+          ∙ (ap (λ name. insert (listed_names old) name slot.inode) is
           ∙ (ap (λ names. insert names (name_of slot.name) slot.inode)
           (collected.names ∙ sym (names_until geometry image d from s next.reached next.none))
           ∙ sym (pushed geometry image d s slot here (none_holds (entry_at geometry image d) (name_of slot.name) 0 s other)))));
@@ -152,7 +152,7 @@ collected_next geometry image d from s slot key old new entries directory collec
 -- where no further slot has an entry, all names of the directory are collected
 pub collected_all : (geometry : Geometry) (image : List ℕ) (d from : ℕ) (entries : List (Vec ℕ × ℕ)) → HasCollected geometry image d from entries
     → ((t : ℕ) → from ≤ t → t < slot_count geometry image d → entry_at geometry image d t ≡ None)
-    → names_in entries ≡ names_of (slots geometry image d)
+    → listed_names entries ≡ names_of (slots geometry image d)
 unfolding slots slots_below
 collected_all geometry image d from entries collected none =
     collected.names ∙ sym (names_until geometry image d from (slot_count geometry image d) collected.within none)

@@ -19,5 +19,5 @@ pub record LeadsTo (tree : Tree) (cred : Cred) (path : List ℕ) (i : ℕ) : Typ
   pub asked : (others : ℕ → Option Refusal) → then_others tree cred (path ∷ []) (of_node (walk tree cred path) others) ≡ others i
 
 -- entries with their names as lists of bytes (this project)
-abbrev pub names_in : List (Vec ℕ × ℕ) → Names
-names_in entries = map (λ (entry : Vec ℕ × ℕ). (entry.0.items, entry.1)) entries
+abbrev pub listed_names : List (Vec ℕ × ℕ) → Names
+listed_names entries = map (λ (entry : Vec ℕ × ℕ). (entry.0.items, entry.1)) entries

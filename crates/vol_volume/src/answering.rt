@@ -10,7 +10,7 @@ ghost use Rattle.vol_dir.specs.Tree.{tree};
 ghost use Rattle.vol_judge.specs.Sound.{IsSound};
 ghost use Rattle.vol_change.specs.Nodes.{node_at};
 ghost use Rattle.vol_volume.specs.Answer.{stat_of, list_tests, read_bytes, Answers};
-ghost use Rattle.vol_volume.specs.Answering.{IsRefused, LeadsTo, names_in};
+ghost use Rattle.vol_volume.specs.Answering.{IsRefused, LeadsTo, listed_names};
 ghost use Rattle.vol_volume.specs.Standing.{Rules3To7And9};
 ghost use Rattle.vol_volume.specs.Verdict.{first_of};
 
@@ -203,7 +203,7 @@ fn collect_names(
 ) -> Result<BTreeMap<Vec<u8>, u16>, AllocError>
     requires stands { Rules3To7And9 geometry.now image.now }
     requires directory { IsDirectory geometry.now image.now dir }
-    ensures { IfOk result (λ names. names_in names.entries ≡ names_of (slots geometry.now image.now dir)) }
+    ensures { IfOk result (λ names. listed_names names.entries ≡ names_of (slots geometry.now image.now dir)) }
 {
     let mut names = BTreeMap::new(alloc);
     let mut from = 0;

@@ -47,7 +47,7 @@ returns c =
         content = λ j first last other. ((only_file geometry old new d rules.sound.fits writes.alone c.requires.directory.is.first).others j first last other).content;
       };
       bytes = writes.body ∙ ap (λ m. spliced (body geometry old d) (16 * m) text) (sym c.requires.slot);
-      slot = changes_slot geometry old new d s None (Some (name, c.args.i)) is (kind ∙ c.requires.directory.is.kind) c.add_at.ensures.rules
+      slot = changes_slot geometry old new d s None (Some (name, c.args.i)) is (kind ∙ c.requires.directory.is.kind) c.add_at.ensures.whole
           (sym (slot_is geometry old d s) ∙ new_empty geometry old d)
           (adds geometry old new rules.blocks name d c.args.i file rules.sound c.requires.directory.slots c.requires.short c.requires.text c.requires.inode
           c.requires.greatest writes);

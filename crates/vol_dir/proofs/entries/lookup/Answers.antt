@@ -22,6 +22,6 @@ returns c =
     let image = c.args.image.now in
     let first = c.in-Some.ensures in
     let looked = subst (IsLookedUp geometry image c.args.dir c.args.name.now) (sym c.ok_or.ensures.value)
-    (looked_on geometry image c.args.name.now c.args.dir c.in-Some.slot c.named.result first.within
-    (ap is_none first.read ∙ empty_open c.in-Some.found c.if-found-ne0.false) (λ t h. first.before t (omega arith) h) c.named.ensures) in
+    (looked_on geometry image c.args.name.now c.args.dir c.in-Some.slot c.first_entry.result first.within
+    (ap is_none first.read ∙ empty_open c.in-Some.found c.if-found-ne0.false) (λ t h. first.before t (omega arith) h) c.first_entry.ensures) in
     record { number = looked.number; slot = looked.slot; missing = looked.missing; new_slot = looked.new_slot }

@@ -122,6 +122,15 @@ links_kept state now d i name =
           ap (λ t. (unwrap_or (if t then change (state.tree.nodes d) else state.tree.nodes i) no_node).links) differ
     ]
 
+-- an entry that goes leaves each file its blocks
+pub count_left : (geometry : Geometry) (old mid : List ℕ) (now i d : ℕ) (name : List ℕ) → state geometry mid ≡ remove_entry now d name (state geometry old)
+    → place_count geometry.edition (shapes geometry mid i) ≡ place_count geometry.edition (shapes geometry old i)
+unfolding tree
+count_left geometry old mid now i d name makes =
+    let was : ℕ → Shape = shapes geometry old in
+    ap (λ (s : State). place_count geometry.edition (s.shapes i)) makes
+    ∙ set_count geometry.edition was d (shape_without_entry (was d) name) (gone_count geometry.edition (was d) name) i
+
 -- what the loss of a name leaves of a node, by its links
 released : (state : State) (now i d : ℕ) (name : List ℕ) (last : Bool) → nat_le (node_at state.tree i).links 1 ≡ last
     → free_in (at_time now (release now i (remove_entry now d name state)))

@@ -153,6 +153,13 @@ count_number geometry image i first last =
     ap (λ t. place_count geometry.edition (if t then shape_of geometry image i (kind_of geometry.edition (mode_of geometry image i)) else no_shape)) inside
     ∙ count_shape geometry image i (kind_at geometry image i) refl
 
+-- what is no file has no blocks
+pub count_none_bare : (geometry : Geometry) (image : List ℕ) (i : ℕ) → 1 ≤ i → i ≤ geometry.last_inode → has_places (kind_at geometry image i) ≡ false
+    → place_count geometry.edition (shapes geometry image i) ≡ 0
+count_none_bare geometry image i first last bare =
+    count_number geometry image i first last
+    ∙ (sym (count_bare geometry image i bare) ∙ count_false (places (form_in geometry.edition false)))
+
 module _ (geometry : Geometry) (image blocks : List ℕ) (sound : Rules3To7With geometry image blocks) where
   -- files have as many blocks as their shapes say
   used_length : length (all_blocks geometry image) ≡ sum_by (λ i. place_count geometry.edition (shapes geometry image i)) (range_with_len 1 geometry.last_inode)

@@ -1,4 +1,3 @@
-pub mod BlockCounts
 pub mod BodyChanges
 pub mod CallSteps
 pub mod ChangedInodes

@@ -3,7 +3,7 @@ ghost use Rattle.std.specs.Prelude.{◌≡◌, ◌≢◌, ℕ, ◌<◌, ◌≤�
 ghost use Rattle.vol_layout.specs.Edition.{constants};
 ghost use Rattle.vol_layout.specs.Names.{IsPlaceOf, named};
 ghost use Rattle.vol_layout.specs.declared.mode.Kind.TheVariants as kinds;
-ghost use Rattle.vol_dir.specs.Tree.{state};
+ghost use Rattle.vol_dir.specs.Tree.{place_count, shapes, state};
 ghost use Rattle.vol_judge.specs.Graph.{graph_of};
 ghost use Rattle.vol_change.specs.Changed.{Changed, FreeBecomes, IsOther, blocks_freed};
 ghost use Rattle.vol_change.specs.Alone.{ChangesOnly};
@@ -19,26 +19,29 @@ use vol_layout::i_list::kind;
 use vol_layout::{Geometry, Kind, clear_inode};
 
 /// Frees node `i`, which isn't the root: its blocks go back to the free list, all bytes of its i-node are
-/// zero then, and its i-number goes to the cache, if there is room. Takes no memory.
+/// zero then, and its i-number goes to the cache, if there is room. Answers how many blocks were given
+/// back. Takes no memory.
 ///
 /// Costs what the truncation of its file does, if it has one.
-pub fn free_node(image: &mut Image, geometry: &Geometry, i: u16)
+pub fn free_node(image: &mut Image, geometry: &Geometry, i: u16) -> u32
     requires rules { Rules3To8 geometry.now image.old }
     requires above { (constants geometry.now.edition).root < i }
     requires last { i ≤ geometry.now.last_inode }
     ensures changed { Changed geometry.now image.old image.new (IsOther i)
         (remove_node i (state geometry.now image.old)) (λ blocks. blocks_freed geometry.now image.old i ++ blocks) }
+    ensures count { result ≡ place_count geometry.now.edition (shapes geometry.now image.old i) }
     ensures graph { DropsNode (graph_of geometry.now image.old) (graph_of geometry.now image.new) i }
     ensures cleared { IsCleared geometry.now image.new i }
     ensures others { KeepsUnusedBut geometry.now image.old image.new i }
 {
-    free_blocks(image, geometry, i);
+    let given = free_blocks(image, geometry, i);
     clear_inode(image, geometry, i);
     give_inode(image, geometry, i);
+    given
 }
 
-/// Truncates file `i`, if `i` is one.
-fn free_blocks(image: &mut Image, geometry: &Geometry, i: u16)
+/// Truncates file `i`, if `i` is one, and answers how many blocks were given back.
+fn free_blocks(image: &mut Image, geometry: &Geometry, i: u16) -> u32
     requires rules { Rules3To8 geometry.now image.old }
     requires first { 1 ≤ i }
     requires last { i ≤ geometry.now.last_inode }
@@ -46,12 +49,11 @@ fn free_blocks(image: &mut Image, geometry: &Geometry, i: u16)
     ensures only { ChangesOnly geometry.now image.old image.new i }
     ensures others { KeepsUnusedBut geometry.now image.old image.new i }
     ensures free { FreeBecomes geometry.now image.old image.new (λ blocks. blocks_freed geometry.now image.old i ++ blocks) }
+    ensures count { result ≡ place_count geometry.now.edition (shapes geometry.now image.old i) }
     ensures none { (p : List ℕ) → IsPlaceOf geometry.now image.new i p → named geometry.now image.new i p ≡ 0 }
 {
     match kind(image, geometry, i) {
-        Kind::Regular | Kind::Directory => {
-            let _ = truncate(image, geometry, i);
-        }
-        Kind::Free | Kind::Special | Kind::Odd => {}
+        Kind::Regular | Kind::Directory => truncate(image, geometry, i),
+        Kind::Free | Kind::Special | Kind::Odd => 0,
     }
 }

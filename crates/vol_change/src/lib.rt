@@ -3,7 +3,6 @@
 #![tactic(auto)]
 
 mod calls;
-mod counting;
 pub mod entries;
 mod freeing;
 mod links;
@@ -17,7 +16,6 @@ pub use calls::rmdir::rmdir;
 pub use calls::truncate::truncate;
 pub use calls::unlink::unlink;
 pub use calls::write::write;
-pub use counting::place_count;
 pub use entries::{add_name, remove_name};
 pub use freeing::free_node;
 pub use links::{add_link, drop_link, put_links};

@@ -100,6 +100,13 @@ abbrev pub freed_blocks : Geometry → List ℕ → ℕ → ℕ
 freed_blocks geometry image i =
     if nat_le (node_at (tree geometry image) i).links 1 then place_count geometry.edition (shapes geometry image i) else 0
 
+-- so many by the links of its i-node
+pub freed_by : (geometry : Geometry) (image : List ℕ) (i freed links : ℕ)
+    → freed ≡ (if nat_le links 1 then place_count geometry.edition (shapes geometry image i) else 0) → (node_at (tree geometry image) i).links ≡ links
+    → freed ≡ freed_blocks geometry image i
+freed_by geometry image i freed links counted same =
+    counted ∙ ap (λ n. if nat_le n 1 then place_count geometry.edition (shapes geometry image i) else 0) (sym same)
+
 -- what is free after a name went
 pub free_unlinked : (geometry : Geometry) (image : List ℕ) (now i d : ℕ) (name : List ℕ) → Rules1To12 geometry image
     → get (names_at (state geometry image).tree d) name ≡ Some i

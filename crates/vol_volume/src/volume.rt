@@ -162,7 +162,7 @@ impl Volume {
     /// Takes memory for the journal alone, also where the call is refused then. Costs one walk of each path, one
     /// search of the last directory, and the change. A new node costs two searches of the i-list, where no cached
     /// i-number is free. A write costs a copy of its bytes, three times the ways of their blocks, and once those
-    /// of the blocks between the old size and the offset; what becomes free costs the places of the file, twice.
+    /// of the blocks between the old size and the offset; what becomes free costs the places of the file.
     pub fn call(&mut self, alloc: Global, call: Call) -> Result<Done, (Refusal, Call)>
         ensures accepted { IfOk result (λ done. Accepts self.old self.new call done) }
         ensures refused { IfErr result (λ (refusal, same). Refuses (reads_as self.old.edition self.old.image) call refusal) }

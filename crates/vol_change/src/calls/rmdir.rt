@@ -4,7 +4,7 @@ ghost use Rattle.std.specs.List.{list_any};
 ghost use Rattle.vol_dir.specs.Entries.{IsDirectory, slots};
 ghost use Rattle.vol_dir.specs.Names.{get, is_dots};
 ghost use Rattle.vol_dir.specs.Searching.{slot_named};
-ghost use Rattle.vol_dir.specs.Tree.{state};
+ghost use Rattle.vol_dir.specs.Tree.{place_count, shapes, state};
 ghost use Rattle.vol_change.specs.Changed.{FreeBecomes, KeepsFilesBut, blocks_freed, PutsInBody};
 ghost use Rattle.vol_change.specs.Edits.{at_time};
 ghost use Rattle.vol_change.specs.Nodes.{names_at};
@@ -21,6 +21,7 @@ use vol_layout::Geometry;
 
 /// Frees directory `i`, which has `.` and `..` alone and is `name` in its slot of directory `dir`, at
 /// `moment`, in seconds: its blocks, its i-node and its i-number. `dir` loses the link that `..` was.
+/// Answers how many blocks were given back.
 ///
 /// Costs the write of the slot, and what freeing the node does.
 pub fn rmdir(
@@ -31,7 +32,7 @@ pub fn rmdir(
     name: &[u8],
     i: u16,
     moment: u32,
-)
+) -> u32
     requires ready { Rules1To12 geometry.now image.old }
     requires directory { IsDirectory geometry.now image.old dir }
     requires slot { slot ≡ slot_named name.now (slots geometry.now image.old dir) }
@@ -42,6 +43,7 @@ pub fn rmdir(
     ensures changes { Becomes geometry.now image.old image.new
         (at_time moment (after_rmdir (state geometry.now image.old) moment dir name.now)) }
     ensures list { FreeBecomes geometry.now image.old image.new (λ blocks. blocks_freed geometry.now image.old i ++ blocks) }
+    ensures count { result ≡ place_count geometry.now.edition (shapes geometry.now image.old i) }
     ensures bytes { PutsInBody geometry.now image.old image.new dir (16 * slot) (0 ∷ 0 ∷ []) }
     ensures files { KeepsFilesBut geometry.now image.old image.new dir i }
     ensures cleared { IsCleared geometry.now image.new i }
@@ -49,6 +51,7 @@ pub fn rmdir(
 {
     leave(image, geometry, dir, slot, name, moment);
     drop_link(image, geometry, dir, moment);
-    free_node(image, geometry, i);
+    let given = free_node(image, geometry, i);
     put_time(image, geometry, moment);
+    given
 }

@@ -1,12 +1,12 @@
 //! A name that goes.
-ghost use Rattle.std.specs.Prelude.{◌≡◌, ◌≢◌, ℕ, ◌<◌, ◌≤◌, Some, ◌++◌, [], ◌∷◌, ◌*◌};
+ghost use Rattle.std.specs.Prelude.{◌≡◌, ◌≢◌, ℕ, ◌<◌, ◌≤◌, Some, ◌++◌, [], ◌∷◌, ◌*◌, nat_le, if◌then◌else◌};
 ghost use Rattle.vol_layout.specs.Inode.{inode_of};
 ghost use Rattle.vol_layout.specs.declared.mode.Kind.TheVariants as kinds;
 ghost use Rattle.vol_file.specs.Rules.{kind_at};
 ghost use Rattle.vol_dir.specs.Entries.{IsDirectory, slots};
 ghost use Rattle.vol_dir.specs.Names.{get};
 ghost use Rattle.vol_dir.specs.Searching.{slot_named};
-ghost use Rattle.vol_dir.specs.Tree.{state};
+ghost use Rattle.vol_dir.specs.Tree.{place_count, shapes, state};
 ghost use Rattle.vol_change.specs.Alone.{KeepsContent};
 ghost use Rattle.vol_change.specs.Changed.{FreeBecomes, KeepsFilesBut, as_before, blocks_freed, PutsInBody};
 ghost use Rattle.vol_change.specs.Edits.{at_time};
@@ -24,7 +24,8 @@ use vol_layout::Geometry;
 use vol_layout::i_list::inode;
 
 /// Takes `name`, which node `i` has and which is no directory, out of its slot of directory `dir`, at `moment`,
-/// in seconds. With its last name the node is freed: its blocks, its i-node and its i-number.
+/// in seconds. With its last name the node is freed: its blocks, its i-node and its i-number. Answers how
+/// many blocks were given back.
 ///
 /// Costs the write of the slot, and with the last name what freeing the node does.
 pub fn unlink(
@@ -35,7 +36,7 @@ pub fn unlink(
     name: &[u8],
     i: u16,
     moment: u32,
-)
+) -> u32
     requires ready { Rules1To12 geometry.now image.old }
     requires directory { IsDirectory geometry.now image.old dir }
     requires slot { slot ≡ slot_named name.now (slots geometry.now image.old dir) }
@@ -46,6 +47,8 @@ pub fn unlink(
     ensures freed { (inode_of geometry.now.edition image.old i).links ≤ 1
         → FreeBecomes geometry.now image.old image.new (λ blocks. blocks_freed geometry.now image.old i ++ blocks) }
     ensures list { 1 < (inode_of geometry.now.edition image.old i).links → FreeBecomes geometry.now image.old image.new as_before }
+    ensures count { result ≡ (if nat_le (inode_of geometry.now.edition image.old i).links 1
+        then place_count geometry.now.edition (shapes geometry.now image.old i) else 0) }
     ensures kept { 1 < (inode_of geometry.now.edition image.old i).links → KeepsContent geometry.now image.old image.new i }
     ensures bytes { PutsInBody geometry.now image.old image.new dir (16 * slot) (0 ∷ 0 ∷ []) }
     ensures files { KeepsFilesBut geometry.now image.old image.new dir i }
@@ -54,10 +57,12 @@ pub fn unlink(
     ensures others { KeepsUnusedBut geometry.now image.old image.new i }
 {
     leave(image, geometry, dir, slot, name, moment);
-    if inode(image, geometry, i).links <= 1 {
-        free_node(image, geometry, i);
+    let given = if inode(image, geometry, i).links <= 1 {
+        free_node(image, geometry, i)
     } else {
         drop_link(image, geometry, i, moment);
-    }
+        0
+    };
     put_time(image, geometry, moment);
+    given
 }

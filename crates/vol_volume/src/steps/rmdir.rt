@@ -11,12 +11,11 @@ ghost use Rattle.vol_volume.specs.Verdict.{first_of, then_others, of_parent, rmd
 
 use crate::calls::{Call, Done};
 use crate::steps::asked::{
-    first_tests, has_others, is_directory, is_granted, entry_of, parent, refuse_if,
+    entry_of, first_tests, has_others, is_directory, is_granted, parent, refuse_if,
 };
 use crate::steps::found::OldEntry;
 use crate::steps::{Caller, Performed, ready_stands};
 use pdp_words::Image;
-use vol_change::place_count;
 use vol_dir::{Access, Cred, Entry, Refusal, is_dots};
 use vol_layout::Geometry;
 
@@ -87,8 +86,7 @@ pub(crate) fn make(
     ready_stands(image, geometry);
     let found = check(image, geometry, caller.cred, path)?;
     let OldEntry { dir, name, entry } = found;
-    let freed = place_count(image, geometry, entry.inode);
-    vol_change::rmdir(
+    let freed = vol_change::rmdir(
         image,
         geometry,
         dir,

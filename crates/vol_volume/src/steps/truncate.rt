@@ -13,7 +13,6 @@ use crate::calls::{Call, Done};
 use crate::steps::asked::{body_tests, first_tests};
 use crate::steps::{Caller, Performed, ready_stands};
 use pdp_words::Image;
-use vol_change::place_count;
 use vol_dir::{Access, Cred, Refusal, walk};
 use vol_layout::Geometry;
 
@@ -55,8 +54,7 @@ pub(crate) fn make(
 {
     ready_stands(image, geometry);
     let i = check(image, geometry, caller.cred, path)?;
-    let freed = place_count(image, geometry, i);
-    vol_change::truncate(image, geometry, i, caller.moment);
+    let freed = vol_change::truncate(image, geometry, i, caller.moment);
     Ok(Performed {
         done: Done::Plain,
         free: free + freed,

@@ -1,23 +1,21 @@
 //! A call by which a name goes.
-ghost use Rattle.std.specs.Prelude.{◌≡◌, [], ◌∷◌, IfOk, OnErr, nat_le, if◌then◌else◌};
+ghost use Rattle.std.specs.Prelude.{◌≡◌, [], ◌∷◌, IfOk, OnErr};
 ghost use Rattle.std.specs.Result.{result_err};
-ghost use Rattle.vol_dir.specs.Entries.{IsDirectory, IsInUse};
-ghost use Rattle.vol_dir.specs.Tree.{tree, state, shapes, place_count};
+ghost use Rattle.vol_dir.specs.Entries.{IsDirectory};
+ghost use Rattle.vol_dir.specs.Tree.{tree, state};
 ghost use Rattle.vol_dir.specs.Walk.{walk_parent};
-ghost use Rattle.vol_change.specs.Nodes.{node_at};
 ghost use Rattle.vol_change.specs.Ready.{Rules1To12, free_in};
 ghost use Rattle.vol_volume.specs.Performing.{LeadsToParent, IsEntry, IsPerformed};
 ghost use Rattle.vol_volume.specs.Standing.{Rules3To7And9};
 ghost use Rattle.vol_volume.specs.Verdict.{first_of, then_others, of_parent, unlink_tests, verdict};
 
 use crate::calls::{Call, Done};
-use crate::steps::asked::{first_tests, is_directory, is_granted, entry_of, parent, refuse_if};
+use crate::steps::asked::{entry_of, first_tests, is_directory, is_granted, parent, refuse_if};
 use crate::steps::found::OldEntry;
 use crate::steps::{Caller, Performed, ready_stands};
 use pdp_words::Image;
-use vol_change::place_count;
 use vol_dir::{Access, Cred, Entry, Refusal};
-use vol_layout::{Geometry, inode};
+use vol_layout::Geometry;
 
 /// What speaks against taking away a name by its parent and what it names; else its entry.
 fn unlink_tests(
@@ -64,21 +62,6 @@ pub(crate) fn check<'a>(
     Ok(OldEntry { dir, name, entry })
 }
 
-/// How many blocks become free where node `i` loses a name: with the last one all of its blocks.
-fn freed(image: &Image, geometry: &Geometry, i: u16) -> u32
-    requires ready { Rules1To12 geometry.now image.now }
-    requires stands { Rules3To7And9 geometry.now image.now }
-    requires used { IsInUse geometry.now image.now i }
-    ensures { result ≡ (if nat_le (node_at (tree geometry.now image.now) i).links 1
-        then place_count geometry.now.edition (shapes geometry.now image.now i) else 0) }
-{
-    if inode(image, geometry, i).links <= 1 {
-        place_count(image, geometry, i)
-    } else {
-        0
-    }
-}
-
 /// Takes a name away, where nothing speaks against the call.
 #[tactic(auto, unfolding(crate::specs::Verdict::verdict))]
 pub(crate) fn make(
@@ -99,8 +82,7 @@ pub(crate) fn make(
     ready_stands(image, geometry);
     let found = check(image, geometry, caller.cred, path)?;
     let OldEntry { dir, name, entry } = found;
-    let freed = freed(image, geometry, entry.inode);
-    vol_change::unlink(
+    let freed = vol_change::unlink(
         image,
         geometry,
         dir,

@@ -1,5 +1,6 @@
 use Rattle.std.proofs.Common.{◌∙◌, ap, sym, inl, inr}
 use Rattle.vol_layout.specs.Places.{has_places}
+use Rattle.vol_change.proofs.FreeCounts.{count_number, count_none_bare}
 use Rattle.vol_change.proofs.FreedNodes.{truncated_list, truncated_whole, truncated_only}
 use Rattle.vol_change.proofs.OneNode.{alone_inode}
 use Rattle.vol_change.proofs.UnusedBytes.{kept_unused}
@@ -26,3 +27,16 @@ returns-in-Regular-clause-free c =
       | inl e ↦ ap has_places (sym c.kind.ensures ∙ e)
       | inr e ↦ ap has_places (sym c.kind.ensures ∙ e)
     ]) c.truncate.ensures.truncated
+
+pub returns-in-Regular-clause-count : goal.returns-in-Regular-clause-count
+returns-in-Regular-clause-count c =
+    c.truncate.ensures.count ∙ sym (count_number c.args.geometry.now c.args.image.now c.args.i c.requires.first c.requires.last)
+
+pub returns-in-Free-clause-count : goal.returns-in-Free-clause-count
+returns-in-Free-clause-count c =
+    sym (count_none_bare c.args.geometry.now c.args.image.now c.args.i c.requires.first c.requires.last
+    (elim c.in-Free.is [
+      | inl e ↦ ap has_places (sym c.kind.ensures ∙ e)
+      | inr (inl e) ↦ ap has_places (sym c.kind.ensures ∙ e)
+      | inr (inr e) ↦ ap has_places (sym c.kind.ensures ∙ e)
+    ]))

@@ -7,13 +7,13 @@ use Rattle.vol_change.proofs.freeing.free_node.Goals.{After-give_inode}
 
 -- the three steps
 frees : (c : After-give_inode)
-    → FreesNode c.args.geometry.now c.args.image.now c.free_blocks.new.image c.clear_inode.new.image c.give_inode.new.image c.args.i
+    → FreesNode c.args.geometry.now c.args.image.now c.free_blocks-given.new.image c.clear_inode.new.image c.give_inode.new.image c.args.i
 frees c = record {
   above = c.requires.above;
   last = c.requires.last;
-  rules = c.free_blocks.ensures.rules;
-  only = c.free_blocks.ensures.only;
-  none = c.free_blocks.ensures.none;
+  rules = c.free_blocks-given.ensures.rules;
+  only = c.free_blocks-given.ensures.only;
+  none = c.free_blocks-given.ensures.none;
   zero = c.clear_inode.ensures.zero;
   cleared = c.clear_inode.ensures.others;
   given = given_inside c.args.geometry.now.edition c.clear_inode.new.image c.give_inode.new.image c.args.i c.give_inode.ensures.cached c.give_inode.ensures.full;
@@ -23,7 +23,7 @@ pub returns-clause-changed : goal.returns-clause-changed
 returns-clause-changed c = record {
   keeps = freed_keeps _ _ _ _ _ _ (frees c);
   makes = freed_makes _ _ _ _ _ _ (frees c);
-  free = λ blocks free. freed_list _ _ _ _ _ _ (frees c) _ (c.free_blocks.ensures.free blocks free);
+  free = λ blocks free. freed_list _ _ _ _ _ _ (frees c) _ (c.free_blocks-given.ensures.free blocks free);
   content = λ j first last other. ((freed_only _ _ _ _ _ _ (frees c)).others j first last other).content;
 }
 
@@ -42,9 +42,9 @@ pub returns-clause-others : goal.returns-clause-others
 returns-clause-others c = λ j first last other.
     let geometry = c.args.geometry.now in
     let old = c.args.image.now in
-    let mid = c.free_blocks.new.image in
+    let mid = c.free_blocks-given.new.image in
     let low = c.clear_inode.new.image in
     let new = c.give_inode.new.image in
-    unused_then geometry old mid new j (c.free_blocks.ensures.others j first last other)
+    unused_then geometry old mid new j (c.free_blocks-given.ensures.others j first last other)
     (unused_then geometry mid low new j (other_unused geometry mid low c.args.i j (omega (arith, c.requires.above)) first other (frees c).cleared)
     (low_unused geometry low new j (cache_head geometry.edition) (cache_head geometry.edition + 202) (frees c).given (cache_low geometry.edition)))

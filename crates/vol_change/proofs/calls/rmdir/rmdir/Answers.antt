@@ -1,6 +1,8 @@
-use Rattle.std.proofs.Common.{◌++◌, subst, sym, ◌∙◌}
+use Rattle.std.proofs.Common.{◌++◌, ap, subst, sym, ◌∙◌}
+use Rattle.vol_dir.specs.Tree.{State, place_count}
 use Rattle.vol_free.specs.Stack.{IsFree}
 use Rattle.vol_change.proofs.OneNode.{content_then, bytes_stay}
+use Rattle.vol_change.proofs.FreeAfter.{count_left}
 use Rattle.vol_change.proofs.FreeLists.{freed_kept}
 use Rattle.vol_change.proofs.UnusedBytes.{unused_then}
 use Rattle.vol_change.proofs.CallSteps.{changed}
@@ -30,8 +32,8 @@ drop_link-requires-clause-some c =
       beside = c.leave.ensures.beside;
     })
 
-pub free_node-requires-clause-above : goal.free_node-requires-clause-above
-free_node-requires-clause-above c =
+pub free_node-given-requires-clause-above : goal.free_node-given-requires-clause-above
+free_node-given-requires-clause-above c =
     directory_above c.args.geometry.now c.args.image.now c.args.name.now c.args.dir c.args.i c.requires.ready c.requires.directory
     c.requires.named c.requires.plain
 
@@ -41,7 +43,7 @@ returns c =
     let old = c.args.image.now in
     let left = c.leave.new.image in
     let linked = c.drop_link.new.image in
-    let gone = c.free_node.new.image in
+    let gone = c.free_node-given.new.image in
     let new = c.put_time.new.image in
     let i = c.args.i in
     let leaves : LeavesEntry geometry old left c.args.dir i c.args.name.now c.args.moment = record {
@@ -60,30 +62,34 @@ returns c =
     (c.drop_link.ensures.changed.content i first last tt) in
     record {
       changes = changed _ _ _ _ _ c.args.moment c.requires.ready
-          (made_emptied c.args.geometry.now c.args.image.now c.leave.new.image c.drop_link.new.image c.free_node.new.image c.args.dir c.args.i
+          (made_emptied c.args.geometry.now c.args.image.now c.leave.new.image c.drop_link.new.image c.free_node-given.new.image c.args.dir c.args.i
           c.args.name.now c.args.moment
           leaves c.requires.plain c.requires.gone c.requires.only c.drop_link.ensures.changed.keeps c.drop_link.ensures.changed.makes c.drop_link.ensures.graph
-          c.free_node.ensures.changed.keeps c.free_node.ensures.changed.makes c.free_node.ensures.graph)
+          c.free_node-given.ensures.changed.keeps c.free_node-given.ensures.changed.makes c.free_node-given.ensures.graph)
           c.put_time.ensures.changed c.put_time.ensures.graph;
       list = λ blocks free.
           subst (λ xs. IsFree geometry new (xs ++ blocks)) (freed_kept geometry old linked i kept first last)
-          (c.put_time.ensures.changed.free _ (c.free_node.ensures.changed.free _ (c.drop_link.ensures.changed.free _ (c.leave.ensures.changed.free blocks free))));
+          (c.put_time.ensures.changed.free _ (c.free_node-given.ensures.changed.free _ (c.drop_link.ensures.changed.free _ (c.leave.ensures.changed.free blocks free))));
+      count =
+          c.free_node-given.ensures.count
+          ∙ (ap (λ (s : State). place_count geometry.edition (s.shapes i)) c.drop_link.ensures.changed.makes
+          ∙ count_left geometry old left c.args.moment i c.args.dir c.args.name.now c.leave.ensures.changed.makes);
       bytes =
           let was = c.requires.directory in
           let is = directory_kept geometry old left c.args.dir (c.leave.ensures.beside.kind c.args.dir) was in
           bytes_stay geometry left new c.args.dir
           (content_then geometry left linked new c.args.dir (c.drop_link.ensures.changed.content c.args.dir was.first was.last tt)
-          (content_then geometry linked gone new c.args.dir (c.free_node.ensures.changed.content c.args.dir was.first was.last apart)
+          (content_then geometry linked gone new c.args.dir (c.free_node-given.ensures.changed.content c.args.dir was.first was.last apart)
           (c.put_time.ensures.changed.content c.args.dir was.first was.last tt))) is
           ∙ c.leave.ensures.bytes;
       files = λ j low high there here.
           content_then geometry old left new j (c.leave.ensures.changed.content j low high there)
           (content_then geometry left linked new j (c.drop_link.ensures.changed.content j low high tt)
-          (content_then geometry linked gone new j (c.free_node.ensures.changed.content j low high here) (c.put_time.ensures.changed.content j low high tt)));
-      cleared = time_cleared c.args.geometry.now c.free_node.new.image c.put_time.new.image c.args.i c.put_time.ensures.others c.free_node.ensures.cleared;
+          (content_then geometry linked gone new j (c.free_node-given.ensures.changed.content j low high here) (c.put_time.ensures.changed.content j low high tt)));
+      cleared = time_cleared c.args.geometry.now c.free_node-given.new.image c.put_time.new.image c.args.i c.put_time.ensures.others c.free_node-given.ensures.cleared;
       others = λ j low high other.
           unused_then c.args.geometry.now c.args.image.now c.leave.new.image c.put_time.new.image j (c.leave.ensures.unused j low high)
           (unused_then c.args.geometry.now c.leave.new.image c.drop_link.new.image c.put_time.new.image j (c.drop_link.ensures.unused j low high)
-          (unused_then c.args.geometry.now c.drop_link.new.image c.free_node.new.image c.put_time.new.image j (c.free_node.ensures.others j low high other)
-          (time_unused c.args.geometry.now c.free_node.new.image c.put_time.new.image j c.put_time.ensures.others)));
+          (unused_then c.args.geometry.now c.drop_link.new.image c.free_node-given.new.image c.put_time.new.image j (c.free_node-given.ensures.others j low high other)
+          (time_unused c.args.geometry.now c.free_node-given.new.image c.put_time.new.image j c.put_time.ensures.others)));
     }

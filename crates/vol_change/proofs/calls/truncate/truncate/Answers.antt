@@ -1,8 +1,9 @@
-use Rattle.std.proofs.Common.{ap}
+use Rattle.std.proofs.Common.{◌∙◌, ap, sym}
 use Rattle.vol_layout.specs.Places.{has_places}
 use Rattle.vol_layout.specs.declared.mode.Kind.TheVariants as kinds
 use Rattle.vol_change.proofs.BodyChanges.{body_emptied, emptied_beside}
 use Rattle.vol_change.proofs.CallSteps.{changed, made_truncate}
+use Rattle.vol_change.proofs.FreeCounts.{count_number}
 use Rattle.vol_change.proofs.OneNode.{content_then}
 use Rattle.vol_change.proofs.ReadyLaws.{ready_whole}
 use Rattle.vol_change.proofs.UnusedBytes.{unused_then}
@@ -10,11 +11,11 @@ use Rattle.vol_change.proofs.UnusedNodes.{time_unused}
 use Rattle.vol_change.proofs.WrittenStates.{IsKind}
 use Rattle.vol_change.proofs.calls.truncate.truncate.Goals as goal
 
-pub truncate-requires-clause-file : goal.truncate-requires-clause-file
-truncate-requires-clause-file c = record { first = c.requires.first; last = c.requires.last; kind = ap has_places c.requires.regular }
+pub truncate-given-requires-clause-file : goal.truncate-given-requires-clause-file
+truncate-given-requires-clause-file c = record { first = c.requires.first; last = c.requires.last; kind = ap has_places c.requires.regular }
 
-pub truncate-requires-clause-sound : goal.truncate-requires-clause-sound
-truncate-requires-clause-sound c =
+pub truncate-given-requires-clause-sound : goal.truncate-given-requires-clause-sound
+truncate-given-requires-clause-sound c =
     let rules = ready_whole c.args.geometry.now c.args.image.now c.requires.ready in record { blocks = rules.blocks; sound = rules.sound }
 
 pub touch-requires : goal.touch-requires
@@ -23,10 +24,10 @@ touch-requires c =
     record { first = c.requires.first; last = c.requires.last; kind = c.requires.regular } in
     record {
       node = record {
-        rules = (body_emptied _ _ _ _ (ready_whole _ _ c.requires.ready) is c.truncate.ensures.truncated).keeps.rules;
+        rules = (body_emptied _ _ _ _ (ready_whole _ _ c.requires.ready) is c.truncate-given.ensures.truncated).keeps.rules;
         first = c.requires.first;
         last = c.requires.last;
-        used = (emptied_beside _ _ _ _ (ready_whole _ _ c.requires.ready) is c.truncate.ensures.truncated).kind;
+        used = (emptied_beside _ _ _ _ (ready_whole _ _ c.requires.ready) is c.truncate-given.ensures.truncated).kind;
       };
     }
 
@@ -34,13 +35,13 @@ pub returns : goal.returns
 returns c =
     let geometry = c.args.geometry.now in
     let old = c.args.image.now in
-    let mid = c.truncate.new.image in
+    let mid = c.truncate-given.new.image in
     let timed = c.touch.new.image in
     let new = c.put_time.new.image in
     let rules = ready_whole geometry old c.requires.ready in
     let is : IsKind geometry old c.args.i kinds.Regular = record { first = c.requires.first; last = c.requires.last; kind = c.requires.regular } in
-    let emptied = body_emptied geometry old mid c.args.i rules is c.truncate.ensures.truncated in
-    let beside = emptied_beside geometry old mid c.args.i rules is c.truncate.ensures.truncated in
+    let emptied = body_emptied geometry old mid c.args.i rules is c.truncate-given.ensures.truncated in
+    let beside = emptied_beside geometry old mid c.args.i rules is c.truncate-given.ensures.truncated in
     record {
       changes = changed _ _ _ _ _ c.args.moment c.requires.ready
           (made_truncate geometry old mid timed c.args.i c.args.moment c.requires.ready
@@ -48,6 +49,7 @@ returns c =
           c.touch.ensures.changed c.touch.ensures.graph)
           c.put_time.ensures.changed c.put_time.ensures.graph;
       list = λ blocks free. c.put_time.ensures.changed.free _ (c.touch.ensures.changed.free _ (emptied.free blocks free));
+      count = c.truncate-given.ensures.count ∙ sym (count_number geometry old c.args.i c.requires.first c.requires.last);
       files = λ j low high other also.
           content_then geometry old mid new j (emptied.content j low high other)
           (content_then geometry mid timed new j (c.touch.ensures.changed.content j low high tt) (c.put_time.ensures.changed.content j low high tt));

@@ -1,9 +1,10 @@
-use Rattle.std.proofs.Common.{◌≢◌, ℕ, ◌<◌, ◌≤◌, arith, ◌∙◌, ap, subst, ◌++◌, sym}
+use Rattle.std.proofs.Common.{◌≡◌, ◌≢◌, ℕ, ◌<◌, ◌≤◌, arith, ◌∙◌, ap, subst, ◌++◌, sym, nat_le, if◌then◌else◌, true, false}
 use Rattle.std.proofs.lemmas.Bool.Decides.{nat_tests}
 use Rattle.vol_layout.specs.Inode.{inode_of}
-use Rattle.vol_dir.specs.Tree.{state}
+use Rattle.vol_dir.specs.Tree.{place_count, shapes, state}
 use Rattle.vol_file.specs.Rules.{kind_at}
 use Rattle.vol_change.proofs.OneNode.{content_then, bytes_stay}
+use Rattle.vol_change.proofs.FreeAfter.{count_left}
 use Rattle.vol_change.proofs.FreeLists.{freed_kept}
 use Rattle.vol_change.specs.Edits.{drop_link}
 use Rattle.vol_change.specs.Changed.{Changed, FreeBecomes, IsAny, as_before, blocks_freed}
@@ -31,12 +32,12 @@ inode-requires-clause-first c = used_first _ _ _ (named_used c.args.geometry.now
 pub inode-requires-clause-last : goal.inode-requires-clause-last
 inode-requires-clause-last c = (named_used c.args.geometry.now c.args.image.now c.args.name.now c.args.dir c.args.i c.requires.ready c.requires.directory c.requires.named).last
 
-pub free_node-requires-clause-above : goal.free_node-requires-clause-above
-free_node-requires-clause-above c =
+pub free_node-given-requires-clause-above : goal.free_node-given-requires-clause-above
+free_node-given-requires-clause-above c =
     file_above _ _ _ c.requires.ready (named_used c.args.geometry.now c.args.image.now c.args.name.now c.args.dir c.args.i c.requires.ready c.requires.directory c.requires.named) c.requires.other
 
-pub free_node-requires-clause-last : goal.free_node-requires-clause-last
-free_node-requires-clause-last c = (named_used c.args.geometry.now c.args.image.now c.args.name.now c.args.dir c.args.i c.requires.ready c.requires.directory c.requires.named).last
+pub free_node-given-requires-clause-last : goal.free_node-given-requires-clause-last
+free_node-given-requires-clause-last c = (named_used c.args.geometry.now c.args.image.now c.args.name.now c.args.dir c.args.i c.requires.ready c.requires.directory c.requires.named).last
 
 pub drop_link-requires-clause-node : goal.drop_link-requires-clause-node
 drop_link-requires-clause-node c =
@@ -60,7 +61,7 @@ drop_link-requires-clause-node c =
 pub put_time-requires : goal.put_time-requires
 put_time-requires c = record {
   rules = elim c.if-inode-le1.branch [
-    | then-inode-le1 w ↦ rw w.image-is w.free_node.ensures.changed.keeps.rules
+    | then-inode-le1 w ↦ rw w.image-is w.free_node-given.ensures.changed.keeps.rules
     | else-inode-le1 w ↦ rw w.image-is w.drop_link.ensures.changed.keeps.rules
   ];
 }
@@ -88,8 +89,8 @@ unlinked c = elim c.if-inode-le1.branch [
       let last : (inode_of c.args.geometry.now.edition c.leave.new.image c.args.i).links ≤ 1 =
       rw (← value) (grind (arith, nat_tests)) in
       rw w.image-is
-      (made_unlinked c.args.geometry.now c.args.image.now c.leave.new.image w.free_node.new.image c.args.dir c.args.i c.args.name.now c.args.moment
-      (leaves c) c.requires.other last w.free_node.ensures.changed.keeps w.free_node.ensures.changed.makes w.free_node.ensures.graph)
+      (made_unlinked c.args.geometry.now c.args.image.now c.leave.new.image w.free_node-given.new.image c.args.dir c.args.i c.args.name.now c.args.moment
+      (leaves c) c.requires.other last w.free_node-given.ensures.changed.keeps w.free_node-given.ensures.changed.makes w.free_node-given.ensures.graph)
   | else-inode-le1 w ↦
       let value = c.inode.ensures.value in
       let most : 1 < (inode_of c.args.geometry.now.edition c.leave.new.image c.args.i).links =
@@ -111,8 +112,8 @@ freed c last low high = elim c.if-inode-le1.branch [
   | then-inode-le1 w ↦
       let kept = c.leave.ensures.changed.content c.args.i low high (apart c) in
       rw w.image-is
-      (subst (λ xs. FreeBecomes c.args.geometry.now c.leave.new.image w.free_node.new.image (λ blocks. xs ++ blocks))
-      (freed_kept c.args.geometry.now c.args.image.now c.leave.new.image c.args.i kept low high) w.free_node.ensures.changed.free)
+      (subst (λ xs. FreeBecomes c.args.geometry.now c.leave.new.image w.free_node-given.new.image (λ blocks. xs ++ blocks))
+      (freed_kept c.args.geometry.now c.args.image.now c.leave.new.image c.args.i kept low high) w.free_node-given.ensures.changed.free)
   | else-inode-le1 w ↦
       let value = c.inode.ensures.value in
       let most : 1 < (inode_of c.args.geometry.now.edition c.leave.new.image c.args.i).links =
@@ -120,6 +121,37 @@ freed c last low high = elim c.if-inode-le1.branch [
       let same = left_same c.args.geometry.now c.args.image.now c.leave.new.image c.args.dir c.args.i c.args.name.now c.args.moment (leaves c) in
       absurd (omega (arith, most, last, same))
 ]
+
+-- whether a link count is the last
+last_test : (n : ℕ) → n ≤ 1 → nat_le n 1 ≡ true
+last_test n few = grind (arith, nat_tests)
+
+more_test : (n : ℕ) → 1 < n → nat_le n 1 ≡ false
+more_test n many = grind (arith, nat_tests)
+
+-- so many they are
+counted : (c : After-put_time) → c.if-inode-le1.given
+    ≡ (if nat_le (inode_of c.args.geometry.now.edition c.args.image.now c.args.i).links 1
+    then place_count c.args.geometry.now.edition (shapes c.args.geometry.now c.args.image.now c.args.i) else 0)
+counted c =
+    let blocks = place_count c.args.geometry.now.edition (shapes c.args.geometry.now c.args.image.now c.args.i) in
+    let value = c.inode.ensures.value in
+    let same = left_same c.args.geometry.now c.args.image.now c.leave.new.image c.args.dir c.args.i c.args.name.now c.args.moment (leaves c) in
+    elim c.if-inode-le1.branch [
+      | then-inode-le1 w ↦
+          let last : (inode_of c.args.geometry.now.edition c.leave.new.image c.args.i).links ≤ 1 =
+          rw (← value) (grind (arith, nat_tests)) in
+          let few : nat_le (inode_of c.args.geometry.now.edition c.args.image.now c.args.i).links 1 ≡ true = last_test _ (omega (arith, last, same)) in
+          w.given-is ∙ (w.free_node-given.ensures.count
+          ∙ (count_left c.args.geometry.now c.args.image.now c.leave.new.image c.args.moment c.args.i c.args.dir c.args.name.now
+          c.leave.ensures.changed.makes
+          ∙ sym (ap (λ b. if b then blocks else 0) few)))
+      | else-inode-le1 w ↦
+          let most : 1 < (inode_of c.args.geometry.now.edition c.leave.new.image c.args.i).links =
+          rw (← value) (grind (arith, nat_tests)) in
+          let many : nat_le (inode_of c.args.geometry.now.edition c.args.image.now c.args.i).links 1 ≡ false = more_test _ (omega (arith, most, same)) in
+          w.given-is ∙ sym (ap (λ b. if b then blocks else 0) many)
+    ]
 
 -- with another it stays, and so does the free list
 stays : (c : After-put_time) → 1 < (inode_of c.args.geometry.now.edition c.args.image.now c.args.i).links
@@ -138,7 +170,7 @@ stays c more = elim c.if-inode-le1.branch [
 files : (c : After-put_time) (j : ℕ) → 1 ≤ j → j ≤ c.args.geometry.now.last_inode → j ≢ c.args.i
     → KeepsContent c.args.geometry.now c.leave.new.image c.if-inode-le1.image j
 files c j low high other = elim c.if-inode-le1.branch [
-  | then-inode-le1 w ↦ rw w.image-is (w.free_node.ensures.changed.content j low high other)
+  | then-inode-le1 w ↦ rw w.image-is (w.free_node-given.ensures.changed.content j low high other)
   | else-inode-le1 w ↦ rw w.image-is (w.drop_link.ensures.changed.content j low high tt)
 ]
 
@@ -146,7 +178,7 @@ files c j low high other = elim c.if-inode-le1.branch [
 cleared : (c : After-put_time) → (inode_of c.args.geometry.now.edition c.args.image.now c.args.i).links ≤ 1
     → IsCleared c.args.geometry.now c.if-inode-le1.image c.args.i
 cleared c last = elim c.if-inode-le1.branch [
-  | then-inode-le1 w ↦ rw w.image-is w.free_node.ensures.cleared
+  | then-inode-le1 w ↦ rw w.image-is w.free_node-given.ensures.cleared
   | else-inode-le1 w ↦
       let value = c.inode.ensures.value in
       let most : 1 < (inode_of c.args.geometry.now.edition c.leave.new.image c.args.i).links =
@@ -172,7 +204,7 @@ unused c more low high = elim c.if-inode-le1.branch [
 others : (c : After-put_time) (j : ℕ) → 1 ≤ j → j ≤ c.args.geometry.now.last_inode → j ≢ c.args.i
     → KeepsUnused c.args.geometry.now c.leave.new.image c.if-inode-le1.image j
 others c j low high other = elim c.if-inode-le1.branch [
-  | then-inode-le1 w ↦ rw w.image-is (w.free_node.ensures.others j low high other)
+  | then-inode-le1 w ↦ rw w.image-is (w.free_node-given.ensures.others j low high other)
   | else-inode-le1 w ↦ rw w.image-is (w.drop_link.ensures.unused j low high)
 ]
 
@@ -183,6 +215,7 @@ returns c = record {
   freed = λ last blocks free.
       let used = named_used c.args.geometry.now c.args.image.now c.args.name.now c.args.dir c.args.i c.requires.ready c.requires.directory c.requires.named in
       c.put_time.ensures.changed.free _ (freed c last (used_first _ _ _ used) used.last _ (c.leave.ensures.changed.free blocks free));
+  count = counted c;
   list = λ more blocks free. c.put_time.ensures.changed.free _ ((stays c more).free _ (c.leave.ensures.changed.free blocks free));
   kept = λ more.
       let used = named_used c.args.geometry.now c.args.image.now c.args.name.now c.args.dir c.args.i c.requires.ready c.requires.directory c.requires.named in

@@ -69,6 +69,7 @@ two_made old mid new first second done last sound one two =
 -- a refusal of calls is a reason not to make them
 pub refused_reason : (edition : Edition) (image : List ℕ) (calls : List Call) (refusal : Refusal) → IsSound edition image
     → AreRefused (reads_as edition image) calls refusal → IsReason edition image calls (faults.Refused refusal)
+refused_reason edition image calls refusals.NotOwner sound refused = (sound, refused)
 refused_reason edition image calls refusals.NoEntry sound refused = (sound, refused)
 refused_reason edition image calls refusals.NoMemory sound refused = tt
 refused_reason edition image calls refusals.Access sound refused = (sound, refused)

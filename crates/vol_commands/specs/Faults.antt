@@ -25,6 +25,7 @@ fault_status faults.Output = 3
 
 -- the line of a refusal: its number and its name (this project)
 abbrev pub line_of_refusal : Refusal → List ℕ
+line_of_refusal refusals.NotOwner = codes "unixvol: 1 NotOwner\n"
 line_of_refusal refusals.NoEntry = codes "unixvol: 2 NoEntry\n"
 line_of_refusal refusals.NoMemory = codes "unixvol: 12 NoMemory\n"
 line_of_refusal refusals.Access = codes "unixvol: 13 Access\n"

@@ -94,6 +94,7 @@ pub(crate) fn refusal_line(refusal: Refusal) -> &'static str
     ensures { result.now ≡ line_of_refusal refusal }
 {
     match refusal {
+        Refusal::NotOwner => "unixvol: 1 NotOwner\n",
         Refusal::NoEntry => "unixvol: 2 NoEntry\n",
         Refusal::NoMemory => "unixvol: 12 NoMemory\n",
         Refusal::Access => "unixvol: 13 Access\n",

@@ -5,6 +5,7 @@ use Rattle.vol_dir.specs.declared.refusal.Refusal.TheVariants as refusals
 
 -- the number of a refusal (intro to section 2 of the manual; from 101 on this project's)
 abbrev pub number_of : Refusal → ℕ
+number_of refusals.NotOwner = 1
 number_of refusals.NoEntry = 2
 number_of refusals.NoMemory = 12
 number_of refusals.Access = 13

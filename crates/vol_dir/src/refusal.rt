@@ -7,6 +7,9 @@ use thiserror::Error;
 /// the system's errors (intro to section 2 of the manual); those from 101 on are this project's.
 #[derive(Clone, Copy, Debug, PartialEq, Eq, Error)]
 pub enum Refusal {
+    /// The caller is neither the owner nor user 0, or only user 0 may do it.
+    #[error("1 NotOwner")]
+    NotOwner,
     /// A directory on the way has no such name.
     #[error("2 NoEntry")]
     NoEntry,
@@ -59,6 +62,7 @@ impl Refusal {
         ensures { result ≡ number_of self }
     {
         match self {
+            Refusal::NotOwner => 1,
             Refusal::NoEntry => 2,
             Refusal::NoMemory => 12,
             Refusal::Access => 13,

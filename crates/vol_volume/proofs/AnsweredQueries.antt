@@ -67,6 +67,7 @@ walked geometry image cred path (Err refusal) none is =
 -- a refusal is the answer
 refused : (tree : Tree) (query : Query) (refusal : Refusal) → query_refusal tree query ≡ Some refusal → Answers tree query (Err refusal)
 refused tree query refusals.NoMemory is = absurd (query_other tree query is)
+refused tree query refusals.NotOwner is = sym (ap (λ refusal. refused_or refusal (reply_of tree query)) is)
 refused tree query refusals.NoEntry is = sym (ap (λ refusal. refused_or refusal (reply_of tree query)) is)
 refused tree query refusals.Access is = sym (ap (λ refusal. refused_or refusal (reply_of tree query)) is)
 refused tree query refusals.Exists is = sym (ap (λ refusal. refused_or refusal (reply_of tree query)) is)

@@ -185,6 +185,7 @@ query_other tree query e = false≢true (sym (says_query tree query) ∙ ap says
 
 -- what a verdict says, a call may be refused as
 pub refused_so : (state : State) (call : Call) (refusal : Refusal) → verdict state call ≡ Some refusal → Refuses state call refusal
+refused_so state call refusals.NotOwner says_so = says_so
 refused_so state call refusals.NoEntry says_so = says_so
 refused_so state call refusals.NoMemory says_so = absurd (verdict_other state call says_so)
 refused_so state call refusals.Access says_so = says_so

@@ -5,7 +5,8 @@ use std::process::Abort;
 use vol_dir::Refusal;
 use vol_volume::{MkfsFault, MountFault};
 
-static REFUSALS: [(Refusal, u8, &str); 14] = [
+static REFUSALS: [(Refusal, u8, &str); 15] = [
+    (Refusal::NotOwner, 1, "1 NotOwner"),
     (Refusal::NoEntry, 2, "2 NoEntry"),
     (Refusal::NoMemory, 12, "12 NoMemory"),
     (Refusal::Access, 13, "13 Access"),

@@ -1,5 +1,6 @@
 -- Bits of a mode, as numbers.
 use Rattle.std.proofs.Common.{◌≡◌, ℕ, ◌+◌, ◌*◌, ◌/◌, ◌%◌, ◌<◌, ◌≤◌, ◌∙◌, ap, arith, bit_and, bit_or}
+use Rattle.std.specs.Int.Bits.{or_zero_l}
 use Rattle.std.proofs.lemmas.Nat.{and_block, and_mask, or_block, or_disjoint, or_lt, le_or_r}
 use Rattle.std.proofs.lemmas.Nat.Bits.{and_pow, and_high, and_high_mask}
 
@@ -46,3 +47,16 @@ large_cleared n h =
     let high : bit_and (n / 4096) 14 ≡ n / 4096 / 2 * 2 = and_high_mask 4 1 (omega arith) (n / 4096) (omega arith) in
     let low : bit_and (n % 4096) 4095 ≡ n % 4096 % 4096 = and_mask (n % 4096) 12 in
     ap (λ m. bit_and m 61439) parts ∙ omega (arith, blocks, high, low)
+
+-- a mode with its permission bits, the lowest twelve, in the place of others
+pub permissions_put : (n bits : ℕ) → n < 65536 → bit_or (bit_and n 61440) (bit_and bits 4095) ≡ n / 4096 * 4096 + bits % 4096
+permissions_put n bits h =
+    let high : bit_and n 61440 ≡ n / 4096 * 4096 = and_high_mask 16 12 (omega arith) n h in
+    let low : bit_and bits 4095 ≡ bits % 4096 = and_mask bits 12 in
+    let left : n / 4096 * 4096 ≡ n / 4096 * 4096 + 0 = omega arith in
+    let right : bits % 4096 ≡ 0 * 4096 + bits % 4096 = omega arith in
+    let blocks : bit_or (n / 4096 * 4096 + 0) (0 * 4096 + bits % 4096) ≡ bit_or (n / 4096) 0 * 4096 + bit_or 0 (bits % 4096) =
+    or_block 12 (n / 4096) 0 0 (bits % 4096) (omega arith) (omega arith) in
+    ap (λ a. bit_or a (bit_and bits 4095)) (high ∙ left)
+    ∙ (ap (bit_or (n / 4096 * 4096 + 0)) (low ∙ right)
+    ∙ (blocks ∙ ap (λ m. m * 4096 + bit_or 0 (bits % 4096)) (or_zero (n / 4096)) ∙ ap (λ m. n / 4096 * 4096 + m) (or_zero_l (bits % 4096))))

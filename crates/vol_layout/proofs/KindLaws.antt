@@ -1,6 +1,6 @@
 -- Laws of the kinds of i-nodes.
-use Rattle.std.proofs.Common.{◌≡◌, ◌≢◌, ℕ, ◌<◌, ◌≤◌, ◌∙◌, ap, refl, eqb, ltb, true, false, inl, inr, if◌then◌else◌, List, [], ◌∷◌, arith}
-use Rattle.std.proofs.lemmas.Bool.{cases_lt, ne_eqb, lt-ltb}
+use Rattle.std.proofs.Common.{◌≡◌, ◌≢◌, ℕ, ◌+◌, ◌*◌, ◌/◌, ◌%◌, ◌<◌, ◌≤◌, ◌∙◌, ap, refl, eqb, ltb, true, false, inl, inr, if◌then◌else◌, List, [], ◌∷◌, arith}
+use Rattle.std.proofs.lemmas.Bool.{cases_lt, ne_eqb, lt-ltb, le-ltb}
 use Rattle.vol_layout.specs.Inode.{kind_of}
 use Rattle.vol_layout.specs.Places.{has_places, form_of, file_form, IsPlace}
 use Rattle.vol_layout.specs.declared.edition.Edition.{Edition}
@@ -51,3 +51,34 @@ pub place_file : (edition : Edition) (mode : ℕ) (p : List ℕ) → IsPlace (fo
 place_file edition mode p place =
     elim (has_places (kind_of edition mode)) as (λ t. IsPlace (if t then file_form edition mode else Bare) p → t ≡ true)
     [ true ↦ λ h. refl | false ↦ λ h. absurd (bare_none p h) ] place
+
+-- the kind of an i-node that is in use stays with other permission bits
+pub kind_permitted : (edition : Edition) (mode bits : ℕ) → kind_of edition mode ≢ kinds.Free → kind_of edition mode ≢ kinds.Odd
+    → kind_of edition (mode / 4096 * 4096 + bits % 4096) ≡ kind_of edition mode
+unfolding kind_of
+kind_permitted V6 mode bits some known =
+    let used : mode ≢ 0 = λ zero. some (ap (kind_of V6) zero ∙ kind_zero V6) in
+    elim (cases_lt mode 32768) [
+      | inl low ↦ absurd (known (kind_low mode used low))
+      | inr high ↦
+          let next = mode / 4096 * 4096 + bits % 4096 in
+          let a : eqb mode 0 ≡ false = ne_eqb mode 0 used in
+          let b : ltb mode 32768 ≡ false = le-ltb mode 32768 high in
+          let c : eqb next 0 ≡ false = ne_eqb next 0 (λ zero. omega (arith, zero, high)) in
+          let d : ltb next 32768 ≡ false = le-ltb next 32768 (omega (arith, high)) in
+          let e : next / 8192 % 4 ≡ mode / 8192 % 4 = omega arith in
+          rw (a, b, c, d, e) refl
+    ]
+kind_permitted V7 mode bits some known =
+    let used : mode ≢ 0 = λ zero. some (ap (kind_of V7) zero ∙ kind_zero V7) in
+    let next = mode / 4096 * 4096 + bits % 4096 in
+    let a : eqb mode 0 ≡ false = ne_eqb mode 0 used in
+    elim (cases_lt mode 4096) [
+      | inl low ↦
+          let zero : mode / 4096 ≡ 0 = omega (arith, low) in
+          absurd (known (rw (a, zero) refl))
+      | inr high ↦
+          let c : eqb next 0 ≡ false = ne_eqb next 0 (λ zero. omega (arith, zero, high)) in
+          let e : next / 4096 ≡ mode / 4096 = omega arith in
+          rw (a, c, e) refl
+    ]

@@ -1,5 +1,5 @@
 //! The mode word of an i-node.
-ghost use Rattle.std.specs.Prelude.{◌≡◌, ◌≤◌, ◌%◌, false};
+ghost use Rattle.std.specs.Prelude.{◌≡◌, ◌≤◌, ◌+◌, ◌*◌, ◌/◌, ◌%◌, false};
 
 use crate::edition::Edition;
 
@@ -111,6 +111,17 @@ impl Mode {
         };
         Mode {
             bits: kind | (permissions & PERMISSIONS),
+        }
+    }
+
+    /// This mode with other permission bits, of which those under octal 7777 count. What it stands for
+    /// stays, and the large flag.
+    #[tactic(auto, using(crate::proofs::BitLaws::permissions_put))]
+    pub fn with_permissions(self, permissions: u16) -> Mode
+        ensures { result.bits ≡ self.bits / 4096 * 4096 + permissions % 4096 }
+    {
+        Mode {
+            bits: self.bits & !PERMISSIONS | permissions & PERMISSIONS,
         }
     }
 

@@ -1,17 +1,21 @@
--- What an i-node reads as: it stays where its mode, size and addresses do, its body, and what its places name.
-use Rattle.std.proofs.Common.{◌≡◌, ◌∙◌, ap, refl, ℕ, ◌*◌, ◌/◌, ◌≤◌, ◌==◌, ◌&&◌, nat_lt, min, true, false, if◌then◌else◌, not, List, [], map, None, Some}
+-- What an i-node reads as: it stays where its mode, size and addresses do, its body, and what its places name; of the mode its
+-- permission bits may change.
+use Rattle.std.proofs.Common.{◌≡◌, ◌∙◌, ap, refl, ℕ, ◌*◌, ◌/◌, ◌%◌, ◌≤◌, ◌==◌, ◌&&◌, nat_lt, min, true, false, if◌then◌else◌, not, List, [], map, None, Some}
 use Rattle.std.specs.List.{range_with_len}
 use Rattle.std.specs.Option.{option_map}
 use Rattle.vol_layout.specs.Edition.{constants}
 use Rattle.vol_layout.specs.Inode.{inode_of, kind_of, is_large}
-use Rattle.vol_layout.specs.Names.{mode_of, form_at, IsFile}
+use Rattle.vol_layout.specs.Names.{mode_of, form_at, IsFile, IsPlaceOf, named}
 use Rattle.vol_layout.specs.Body.{body}
-use Rattle.vol_layout.specs.Places.{form_of, has_places}
+use Rattle.vol_layout.specs.Places.{form_of, file_form, has_places}
 use Rattle.vol_layout.specs.Slot.{slot_at}
+use Rattle.vol_layout.specs.declared.edition.Edition.{Edition}
+use Rattle.vol_layout.specs.declared.edition.Edition.TheVariants.{V6, V7}
 use Rattle.vol_layout.specs.declared.geometry.Geometry.{Geometry}
 use Rattle.vol_layout.specs.declared.mode.Kind.{Kind}
 use Rattle.vol_layout.specs.declared.mode.Kind.TheVariants as kinds
-use Rattle.vol_file.specs.Rules.{kind_at}
+use Rattle.vol_layout.specs.declared.places.Form.TheVariants.{Small, Large, Deep, Bare}
+use Rattle.vol_file.specs.Rules.{kind_at, size_of}
 use Rattle.vol_file.specs.Shape.{is_named}
 use Rattle.vol_dir.specs.Entries.{entry_in, entry_at, slots, slot_count}
 use Rattle.vol_dir.specs.Names.{names_of, names_in}
@@ -19,30 +23,68 @@ use Rattle.vol_change.specs.Alone.{KeepsContent}
 use Rattle.vol_dir.specs.Tree.{Body, Directory, Device, content_of, node_with, node_of, shape_of, is_place, is_named_place}
 use Rattle.vol_dir.proofs.PlaceTests.{place_passed}
 
+-- what i-node i holds stays, whatever its permission bits are: its kind, the bits of its mode above those, its size and addresses,
+-- its bytes, and what its places name
+pub record KeepsReading (geometry : Geometry) (old new : List ℕ) (i : ℕ) : Type 0 where
+  pub kind : kind_at geometry new i ≡ kind_at geometry old i
+  pub type : mode_of geometry new i / 4096 ≡ mode_of geometry old i / 4096
+  pub size : size_of geometry new i ≡ size_of geometry old i
+  pub addresses : (inode_of geometry.edition new i).addresses ≡ (inode_of geometry.edition old i).addresses
+  pub bytes : IsFile geometry old i → body geometry new i ≡ body geometry old i
+  pub names : (p : List ℕ) → IsPlaceOf geometry old i p → named geometry new i p ≡ named geometry old i p
+
+-- so it does where the whole mode stays
+pub reading : (geometry : Geometry) (old new : List ℕ) (i : ℕ) → KeepsContent geometry old new i → KeepsReading geometry old new i
+reading geometry old new i kept = record {
+  kind = ap (kind_of geometry.edition) kept.mode;
+  type = ap (λ m. m / 4096) kept.mode;
+  size = kept.size;
+  addresses = kept.addresses;
+  bytes = kept.bytes;
+  names = kept.names;
+}
+
 -- the kind stays
 pub kind_same : (geometry : Geometry) (old new : List ℕ) (i : ℕ) → KeepsContent geometry old new i
     → kind_at geometry new i ≡ kind_at geometry old i
 kind_same geometry old new i kept = ap (kind_of geometry.edition) kept.mode
 
+-- modes with the same bits above the permissions have the same large flag
+pub large_by : (edition : Edition) (mode other : ℕ) → mode / 4096 ≡ other / 4096 → is_large edition mode ≡ is_large edition other
+large_by V6 mode other same = ap (λ n. n % 2 == 1) same
+large_by V7 mode other same = refl
+
+-- and the same form, if they are of the same kind
+pub form_by : (edition : Edition) (mode other : ℕ) → kind_of edition mode ≡ kind_of edition other → mode / 4096 ≡ other / 4096
+    → form_of edition mode ≡ form_of edition other
+form_by V6 mode other kind same =
+    ap (λ k. if has_places k then file_form V6 mode else Bare) kind
+    ∙ ap (λ large. if has_places (kind_of V6 other) then (if large then Large else Small) else Bare) (large_by V6 mode other same)
+form_by V7 mode other kind same = ap (λ k. if has_places k then Deep else Bare) kind
+
+-- the form stays
+pub form_reads : (geometry : Geometry) (old new : List ℕ) (i : ℕ) → KeepsReading geometry old new i → form_at geometry new i ≡ form_at geometry old i
+form_reads geometry old new i kept = form_by geometry.edition (mode_of geometry new i) (mode_of geometry old i) kept.kind kept.type
+
 -- how many slots there are stays
-slots_count : (geometry : Geometry) (old new : List ℕ) (i : ℕ) → KeepsContent geometry old new i
+slots_count : (geometry : Geometry) (old new : List ℕ) (i : ℕ) → KeepsReading geometry old new i
     → slot_count geometry new i ≡ slot_count geometry old i
 slots_count geometry old new i kept = ap (λ n. min n (constants geometry.edition).greatest / 16) kept.size
 
 -- the entry in each slot stays
-pub entry_same : (geometry : Geometry) (old new : List ℕ) (i s : ℕ) → KeepsContent geometry old new i → IsFile geometry old i
+pub entry_reads : (geometry : Geometry) (old new : List ℕ) (i s : ℕ) → KeepsReading geometry old new i → IsFile geometry old i
     → entry_at geometry new i s ≡ entry_at geometry old i s
 unfolding entry_at
-entry_same geometry old new i s kept file =
+entry_reads geometry old new i s kept file =
     ap (λ n. if nat_lt s n then entry_in (slot_at (body geometry new i) (16 * s)) else None) (slots_count geometry old new i kept)
     ∙ ap (λ xs. if nat_lt s (slot_count geometry old i) then entry_in (slot_at xs (16 * s)) else None) (kept.bytes file)
 
 -- the entries stay
-slots_same : (geometry : Geometry) (old new : List ℕ) (i : ℕ) → KeepsContent geometry old new i → IsFile geometry old i
+slots_same : (geometry : Geometry) (old new : List ℕ) (i : ℕ) → KeepsReading geometry old new i → IsFile geometry old i
     → slots geometry new i ≡ slots geometry old i
 unfolding slots
 slots_same geometry old new i kept file =
-    let each : entry_at geometry new i ≡ entry_at geometry old i = λ k s. entry_same geometry old new i s kept file k in
+    let each : entry_at geometry new i ≡ entry_at geometry old i = λ k s. entry_reads geometry old new i s kept file k in
     ap (λ n. map (entry_at geometry new i) (range_with_len 0 n)) (slots_count geometry old new i kept)
     ∙ ap (λ f. map f (range_with_len 0 (slot_count geometry old i))) each
 
@@ -52,7 +94,7 @@ pub file_by : (geometry : Geometry) (image : List ℕ) (i : ℕ) (kind : Kind) �
 file_by geometry image i kind first last is has = record { first = first; last = last; kind = ap has_places is ∙ has }
 
 -- the content stays, by kinds
-content_by : (geometry : Geometry) (old new : List ℕ) (i : ℕ) (kind : Kind) → KeepsContent geometry old new i → 1 ≤ i → i ≤ geometry.last_inode
+content_by : (geometry : Geometry) (old new : List ℕ) (i : ℕ) (kind : Kind) → KeepsReading geometry old new i → 1 ≤ i → i ≤ geometry.last_inode
     → kind_at geometry old i ≡ kind → content_of geometry new i kind ≡ content_of geometry old i kind
 content_by geometry old new i kinds.Free kept first last is = refl
 content_by geometry old new i kinds.Odd kept first last is = refl
@@ -61,21 +103,21 @@ content_by geometry old new i kinds.Regular kept first last is =
 content_by geometry old new i kinds.Directory kept first last is =
     ap (λ xs. Some (Directory (names_of xs))) (slots_same geometry old new i kept (file_by geometry old i kinds.Directory first last is refl))
 content_by geometry old new i kinds.Special kept first last is =
-    ap (λ m. Some (Device (m / 4096) (inode_of geometry.edition new i).addresses)) kept.mode
+    ap (λ m. Some (Device m (inode_of geometry.edition new i).addresses)) kept.type
     ∙ ap (λ xs. Some (Device (mode_of geometry old i / 4096) xs)) kept.addresses
 
 -- the content stays
-pub content_same : (geometry : Geometry) (old new : List ℕ) (i : ℕ) → KeepsContent geometry old new i → 1 ≤ i → i ≤ geometry.last_inode
+pub content_reads : (geometry : Geometry) (old new : List ℕ) (i : ℕ) → KeepsReading geometry old new i → 1 ≤ i → i ≤ geometry.last_inode
     → content_of geometry new i (kind_at geometry new i) ≡ content_of geometry old i (kind_at geometry old i)
-content_same geometry old new i kept first last =
-    ap (content_of geometry new i) (kind_same geometry old new i kept)
+content_reads geometry old new i kept first last =
+    ap (content_of geometry new i) kept.kind
     ∙ content_by geometry old new i (kind_at geometry old i) kept first last refl
 
 -- which places name something stays
-names_same : (geometry : Geometry) (old new : List ℕ) (i : ℕ) → KeepsContent geometry old new i → IsFile geometry old i
+names_same : (geometry : Geometry) (old new : List ℕ) (i : ℕ) → KeepsReading geometry old new i → IsFile geometry old i
     → is_named_place geometry new i ≡ is_named_place geometry old i
 names_same geometry old new i kept file =
-    let form : form_at geometry new i ≡ form_at geometry old i = ap (form_of geometry.edition) kept.mode in
+    let form : form_at geometry new i ≡ form_at geometry old i = form_reads geometry old new i kept in
     let each : (p : List ℕ) → is_named_place geometry new i p ≡ is_named_place geometry old i p = λ p.
     ap (λ f. is_place f p && is_named geometry new i p) form
     ∙ elim (is_place (form_at geometry old i) p) as (λ t. is_place (form_at geometry old i) p ≡ t
@@ -86,41 +128,51 @@ names_same geometry old new i kept file =
     λ k p. each p k
 
 -- the shape stays, by kinds
-shape_by : (geometry : Geometry) (old new : List ℕ) (i : ℕ) (kind : Kind) → KeepsContent geometry old new i → 1 ≤ i → i ≤ geometry.last_inode
+shape_by : (geometry : Geometry) (old new : List ℕ) (i : ℕ) (kind : Kind) → KeepsReading geometry old new i → 1 ≤ i → i ≤ geometry.last_inode
     → kind_at geometry old i ≡ kind → shape_of geometry new i kind ≡ shape_of geometry old i kind
 shape_by geometry old new i kinds.Free kept first last is = refl
 shape_by geometry old new i kinds.Odd kept first last is = refl
 shape_by geometry old new i kinds.Special kept first last is = refl
 shape_by geometry old new i kinds.Regular kept first last is =
     let names = names_same geometry old new i kept (file_by geometry old i kinds.Regular first last is refl) in
-    let large : is_large geometry.edition (mode_of geometry new i) ≡ is_large geometry.edition (mode_of geometry old i) = ap (is_large geometry.edition) kept.mode in
+    let large : is_large geometry.edition (mode_of geometry new i) ≡ is_large geometry.edition (mode_of geometry old i) = large_by geometry.edition (mode_of geometry new i) (mode_of geometry old i) kept.type in
     λ k. record { names = names k; large = large k; slots = [] }
 shape_by geometry old new i kinds.Directory kept first last is =
     let file = file_by geometry old i kinds.Directory first last is refl in
     let names = names_same geometry old new i kept file in
-    let large : is_large geometry.edition (mode_of geometry new i) ≡ is_large geometry.edition (mode_of geometry old i) = ap (is_large geometry.edition) kept.mode in
+    let large : is_large geometry.edition (mode_of geometry new i) ≡ is_large geometry.edition (mode_of geometry old i) = large_by geometry.edition (mode_of geometry new i) (mode_of geometry old i) kept.type in
     let entries : names_in (slots geometry new i) ≡ names_in (slots geometry old i) = ap names_in (slots_same geometry old new i kept file) in
     λ k. record { names = names k; large = large k; slots = entries k }
 
 -- the shape stays
-pub shape_same : (geometry : Geometry) (old new : List ℕ) (i : ℕ) → KeepsContent geometry old new i → 1 ≤ i → i ≤ geometry.last_inode
+pub shape_reads : (geometry : Geometry) (old new : List ℕ) (i : ℕ) → KeepsReading geometry old new i → 1 ≤ i → i ≤ geometry.last_inode
     → shape_of geometry new i (kind_at geometry new i) ≡ shape_of geometry old i (kind_at geometry old i)
-shape_same geometry old new i kept first last =
-    ap (shape_of geometry new i) (kind_same geometry old new i kept)
+shape_reads geometry old new i kept first last =
+    ap (shape_of geometry new i) kept.kind
     ∙ shape_by geometry old new i (kind_at geometry old i) kept first last refl
 
 -- the node is that of the new i-node with the old content
-pub node_of_content : (geometry : Geometry) (old new : List ℕ) (i : ℕ) → KeepsContent geometry old new i → 1 ≤ i → i ≤ geometry.last_inode
+pub node_of_reading : (geometry : Geometry) (old new : List ℕ) (i : ℕ) → KeepsReading geometry old new i → 1 ≤ i → i ≤ geometry.last_inode
     → node_of geometry new i
     ≡ option_map (node_with (inode_of geometry.edition new i)) (content_of geometry old i (kind_at geometry old i))
 unfolding node_of
-node_of_content geometry old new i kept first last =
-    ap (option_map (node_with (inode_of geometry.edition new i))) (content_same geometry old new i kept first last)
+node_of_reading geometry old new i kept first last =
+    ap (option_map (node_with (inode_of geometry.edition new i))) (content_reads geometry old new i kept first last)
+
+-- where the whole mode stays, so does the entry in each slot
+pub entry_same : (geometry : Geometry) (old new : List ℕ) (i s : ℕ) → KeepsContent geometry old new i → IsFile geometry old i
+    → entry_at geometry new i s ≡ entry_at geometry old i s
+entry_same geometry old new i s kept = entry_reads geometry old new i s (reading geometry old new i kept)
+
+-- and the shape
+pub shape_same : (geometry : Geometry) (old new : List ℕ) (i : ℕ) → KeepsContent geometry old new i → 1 ≤ i → i ≤ geometry.last_inode
+    → shape_of geometry new i (kind_at geometry new i) ≡ shape_of geometry old i (kind_at geometry old i)
+shape_same geometry old new i kept = shape_reads geometry old new i (reading geometry old new i kept)
 
 -- the node stays where the i-node does
 pub node_same : (geometry : Geometry) (old new : List ℕ) (i : ℕ) → KeepsContent geometry old new i → 1 ≤ i → i ≤ geometry.last_inode
     → inode_of geometry.edition new i ≡ inode_of geometry.edition old i → node_of geometry new i ≡ node_of geometry old i
 unfolding node_of
 node_same geometry old new i kept first last same =
-    ap (option_map (node_with (inode_of geometry.edition new i))) (content_same geometry old new i kept first last)
+    ap (option_map (node_with (inode_of geometry.edition new i))) (content_reads geometry old new i (reading geometry old new i kept) first last)
     ∙ ap (λ node. option_map (node_with node) (content_of geometry old i (kind_at geometry old i))) same

@@ -1,12 +1,12 @@
 -- What writes below the data zone, of the super-block's time or of one i-node, leave of the nodes.
-use Rattle.std.proofs.Common.{◌≡◌, ◌≢◌, ◌∙◌, sym, ap, refl, ℕ, ◌+◌, ◌*◌, ◌≤◌, List, Option, None, Some, get_or, min, inl, inr, arith}
+use Rattle.std.proofs.Common.{◌≡◌, ◌≢◌, ◌∙◌, sym, ap, refl, ℕ, ◌+◌, ◌*◌, ◌/◌, ◌≤◌, List, Option, None, Some, get_or, min, inl, inr, arith}
 use Rattle.std.specs.Option.{option_map}
 use Rattle.std.proofs.lemmas.Bool.{cases_eq}
 use Rattle.pdp_words.specs.Words.{long, SameOutside}
 use Rattle.vol_layout.specs.Edition.{constants}
-use Rattle.vol_layout.specs.Inode.{inode_of, inode_place}
+use Rattle.vol_layout.specs.Inode.{inode_of, inode_place, kind_of}
 use Rattle.vol_layout.specs.Names.{mode_of, named}
-use Rattle.vol_layout.specs.Places.{form_of, has_places}
+use Rattle.vol_layout.specs.Places.{has_places}
 use Rattle.vol_layout.specs.Super.{time_place}
 use Rattle.vol_layout.specs.declared.geometry.Geometry.{Geometry}
 use Rattle.vol_layout.specs.declared.i_node.Inode.{Inode}
@@ -26,29 +26,46 @@ use Rattle.vol_change.specs.Edits.{at_time, change_node}
 use Rattle.vol_change.specs.NodeGraphs.{SetsLinks}
 use Rattle.vol_change.specs.Alone.{KeepsContent}
 use Rattle.vol_change.specs.Whole.{Rules3To8, Keeps}
-use Rattle.vol_change.proofs.Contents.{kind_same, entry_same, shape_same, node_same, node_of_content}
+use Rattle.vol_change.proofs.Contents.{KeepsReading, reading, form_by, kind_same, entry_reads, shape_reads, shape_same, node_same, node_of_reading}
 use Rattle.vol_dir.proofs.WalkLaws.{node_inside}
 use Rattle.vol_change.proofs.States.{makes_node, makes_time}
-use Rattle.vol_change.proofs.WholeLaws.{whole_kept, around_list, zone_behind, super_order}
+use Rattle.vol_change.proofs.WholeLaws.{whole_kept, whole_reading, around_list, zone_behind, super_order}
 
--- a write below the data zone keeps what i-node i stands for, where its mode, size and addresses stay
-content_fields : (geometry : Geometry) (old new : List ℕ) (from to i : ℕ) → IsZoned geometry old → SameOutside old new from to → to ≤ 512 * geometry.zone_start
-    → mode_of geometry new i ≡ mode_of geometry old i → size_of geometry new i ≡ size_of geometry old i
-    → (inode_of geometry.edition new i).addresses ≡ (inode_of geometry.edition old i).addresses → KeepsContent geometry old new i
-content_fields geometry old new from to i zoned same below mode size addresses =
+-- a write below the data zone keeps what i-node i holds, where its kind, the bits of its mode above the permissions, its size and its
+-- addresses stay
+reading_fields : (geometry : Geometry) (old new : List ℕ) (from to i : ℕ) → SameOutside old new from to → to ≤ 512 * geometry.zone_start
+    → kind_at geometry new i ≡ kind_at geometry old i → mode_of geometry new i / 4096 ≡ mode_of geometry old i / 4096
+    → size_of geometry new i ≡ size_of geometry old i
+    → (inode_of geometry.edition new i).addresses ≡ (inode_of geometry.edition old i).addresses → KeepsReading geometry old new i
+reading_fields geometry old new from to i same below kind type size addresses =
     let places : KeepsPlaces geometry old new i = record {
-      form = ap (form_of geometry.edition) mode;
+      form = form_by geometry.edition (mode_of geometry new i) (mode_of geometry old i) kind type;
       addresses = λ k h.
           sym (inode_address geometry.edition new (inode_place geometry.edition i) k h)
           ∙ (ap (λ xs. get_or xs k 0) addresses ∙ inode_address geometry.edition old (inode_place geometry.edition i) k h);
     } in
     record {
-      mode = mode;
+      kind = kind;
+      type = type;
       size = size;
       addresses = addresses;
       bytes = λ file. same_body geometry old new i (ap (λ n. min n (constants geometry.edition).greatest) size)
           (λ n h. body_byte_list_kept geometry old new from to i n places same below);
       names = λ p place. named_list_kept geometry old new from to i p places same below place.place;
+    }
+
+-- and what it stands for, where its whole mode stays
+content_fields : (geometry : Geometry) (old new : List ℕ) (from to i : ℕ) → IsZoned geometry old → SameOutside old new from to → to ≤ 512 * geometry.zone_start
+    → mode_of geometry new i ≡ mode_of geometry old i → size_of geometry new i ≡ size_of geometry old i
+    → (inode_of geometry.edition new i).addresses ≡ (inode_of geometry.edition old i).addresses → KeepsContent geometry old new i
+content_fields geometry old new from to i zoned same below mode size addresses =
+    let reads = reading_fields geometry old new from to i same below (ap (kind_of geometry.edition) mode) (ap (λ m. m / 4096) mode) size addresses in
+    record {
+      mode = mode;
+      size = size;
+      addresses = addresses;
+      bytes = reads.bytes;
+      names = reads.names;
       blocks = λ p r place some h.
           let zone = zone_bounds geometry (named geometry old i p) (zoned i p place some) in
           same.above (512 * named geometry old i p + r) (omega (arith, below, zone.0));
@@ -61,12 +78,12 @@ content_kept geometry old new from to i zoned same below kept =
     content_fields geometry old new from to i zoned same below (mode_kept geometry old new i kept) (size_kept geometry old new i kept)
     (ap (λ node. node.addresses) (inode_of_kept geometry old new i kept))
 
--- the entries of directories stay where all contents do
+-- the entries of directories stay where what all i-nodes hold does
 entries_stay : (geometry : Geometry) (old new : List ℕ) (x s : ℕ)
-    → ((j : ℕ) → 1 ≤ j → j ≤ geometry.last_inode → KeepsContent geometry old new j) → IsDirectory geometry old x
+    → ((j : ℕ) → 1 ≤ j → j ≤ geometry.last_inode → KeepsReading geometry old new j) → IsDirectory geometry old x
     → entry_at geometry new x s ≡ entry_at geometry old x s
 entries_stay geometry old new x s kept is =
-    entry_same geometry old new x s (kept x is.first is.last) (record { first = is.first; last = is.last; kind = ap has_places is.kind })
+    entry_reads geometry old new x s (kept x is.first is.last) (record { first = is.first; last = is.last; kind = ap has_places is.kind })
 
 -- a write of the time leaves each i-node
 time_inode : (geometry : Geometry) (old new : List ℕ) (j : ℕ)
@@ -126,32 +143,71 @@ time_graph geometry old new rules same =
     let kept = λ (j : ℕ). time_content geometry old new j rules same in
     same_graph geometry old new (λ x first last. kind_same geometry old new x (kept x))
     (λ x first last. ap (λ node. node.links) (inode_of_kept geometry old new x (time_inode geometry old new x same)))
-    (λ x is. (kept x).size) (λ x t is. entries_stay geometry old new x t (λ j first last. kept j) is)
+    (λ x is. (kept x).size) (λ x t is. entries_stay geometry old new x t (λ j first last. reading geometry old new j (kept j)) is)
 
--- i-node i was put with the mode, the size and the addresses that it had, and no other byte has changed
+-- i-node i was put with the kind, the size and the addresses that it had, and of its mode no other bits than those of the
+-- permissions have changed, nor has any other byte
 pub record PutsInode (geometry : Geometry) (old new : List ℕ) (i : ℕ) (node : Inode) : Type 0 where
   pub first : 1 ≤ i
   pub last : i ≤ geometry.last_inode
   pub same : SameOutside old new (inode_place geometry.edition i) (inode_place geometry.edition i + (constants geometry.edition).inode_bytes)
   pub is : inode_of geometry.edition new i ≡ node
-  pub mode : node.mode ≡ (inode_of geometry.edition old i).mode
+  pub kind : kind_of geometry.edition node.mode.bits ≡ kind_at geometry old i
+  pub type : node.mode.bits / 4096 ≡ mode_of geometry old i / 4096
   pub size : node.size ≡ (inode_of geometry.edition old i).size
   pub addresses : node.addresses ≡ (inode_of geometry.edition old i).addresses
 
--- then every i-node stands for what it did
+-- the mode of the i-node that was put
+mode_put : (geometry : Geometry) (old new : List ℕ) (i : ℕ) (node : Inode) → PutsInode geometry old new i node → mode_of geometry new i ≡ node.mode.bits
+mode_put geometry old new i node puts =
+    sym (inode_mode geometry.edition new (inode_place geometry.edition i)) ∙ ap (λ n. n.mode.bits) puts.is
+
+-- its size stays
+size_put : (geometry : Geometry) (old new : List ℕ) (i : ℕ) (node : Inode) → PutsInode geometry old new i node
+    → size_of geometry new i ≡ size_of geometry old i
+size_put geometry old new i node puts =
+    sym (inode_size geometry.edition new (inode_place geometry.edition i))
+    ∙ (ap (λ n. n.size) puts.is ∙ (puts.size ∙ inode_size geometry.edition old (inode_place geometry.edition i)))
+
+-- then every i-node but i stands for what it did
+pub put_beside : (geometry : Geometry) (old new : List ℕ) (i j : ℕ) (node : Inode) → Rules3To8 geometry old → PutsInode geometry old new i node
+    → 1 ≤ j → j ≢ i → KeepsContent geometry old new j
+put_beside geometry old new i j node rules puts first other =
+    content_kept geometry old new (inode_place geometry.edition i) (inode_place geometry.edition i + (constants geometry.edition).inode_bytes) j
+    rules.sound.zoned puts.same (place_room geometry old i rules.sound.fits puts.first puts.last)
+    (inode_apart geometry old new i j puts.first first other puts.same)
+
+-- and i too, where its whole mode stays
 pub put_content : (geometry : Geometry) (old new : List ℕ) (i j : ℕ) (node : Inode) → Rules3To8 geometry old → PutsInode geometry old new i node
-    → 1 ≤ j → j ≤ geometry.last_inode → KeepsContent geometry old new j
-put_content geometry old new i j node rules puts first last =
+    → node.mode ≡ (inode_of geometry.edition old i).mode → 1 ≤ j → j ≤ geometry.last_inode → KeepsContent geometry old new j
+put_content geometry old new i j node rules puts mode first last =
     let room = place_room geometry old i rules.sound.fits puts.first puts.last in
     let from = inode_place geometry.edition i in
     let to = inode_place geometry.edition i + (constants geometry.edition).inode_bytes in
     elim (cases_eq j i) [
       | inl e ↦
           rw e (content_fields geometry old new from to i rules.sound.zoned puts.same room
-          (sym (inode_mode geometry.edition new from) ∙ (ap (λ n. n.mode.bits) puts.is ∙ (ap (λ m. m.bits) puts.mode ∙ inode_mode geometry.edition old from)))
-          (sym (inode_size geometry.edition new from) ∙ (ap (λ n. n.size) puts.is ∙ (puts.size ∙ inode_size geometry.edition old from)))
+          (mode_put geometry old new i node puts ∙ (ap (λ m. m.bits) mode ∙ inode_mode geometry.edition old from))
+          (size_put geometry old new i node puts)
           (ap (λ n. n.addresses) puts.is ∙ puts.addresses))
-      | inr other ↦ content_kept geometry old new from to j rules.sound.zoned puts.same room (inode_apart geometry old new i j puts.first first other puts.same)
+      | inr other ↦ put_beside geometry old new i j node rules puts first other
+    ]
+
+-- in any case all i-nodes hold what they did
+pub put_reading : (geometry : Geometry) (old new : List ℕ) (i j : ℕ) (node : Inode) → Rules3To8 geometry old → PutsInode geometry old new i node
+    → 1 ≤ j → j ≤ geometry.last_inode → KeepsReading geometry old new j
+put_reading geometry old new i j node rules puts first last =
+    let room = place_room geometry old i rules.sound.fits puts.first puts.last in
+    let from = inode_place geometry.edition i in
+    let to = inode_place geometry.edition i + (constants geometry.edition).inode_bytes in
+    let mode = mode_put geometry old new i node puts in
+    elim (cases_eq j i) [
+      | inl e ↦
+          rw e (reading_fields geometry old new from to i puts.same room
+          (ap (kind_of geometry.edition) mode ∙ puts.kind) (ap (λ m. m / 4096) mode ∙ puts.type)
+          (size_put geometry old new i node puts)
+          (ap (λ n. n.addresses) puts.is ∙ puts.addresses))
+      | inr other ↦ reading geometry old new j (put_beside geometry old new i j node rules puts first other)
     ]
 
 -- the others stay themselves
@@ -178,7 +234,7 @@ put_keeps geometry old new i node rules puts limit =
     let room = place_room geometry old i rules.sound.fits puts.first puts.last in
     let start = place_from geometry.edition i in
     record {
-      rules = whole_kept geometry old new puts.same.len (λ j first last. put_content geometry old new i j node rules puts first last)
+      rules = whole_reading geometry old new puts.same.len (λ j first last. put_reading geometry old new i j node rules puts first last)
           (λ j first last used. elim (cases_eq j i) [
             | inl e ↦ rw e (rw puts.is limit)
             | inr other ↦ rw (put_other geometry old new i j node puts first other) (rules.sound.sizes.links j first last used)
@@ -195,34 +251,34 @@ node_put : (change : Node → Node) (was node : Inode) (content : Option Content
 node_put change was node None each = refl
 node_put change was node (Some c) each = ap (λ n. Some n) (each c)
 
--- and is the edit that changes node i as the i-node's links and times do
+-- and is the edit that changes node i as its i-node has changed
 pub put_makes : (geometry : Geometry) (old new : List ℕ) (i : ℕ) (node : Inode) (change : Node → Node) → Rules3To8 geometry old
     → PutsInode geometry old new i node → ((c : Content) → node_with node c ≡ change (node_with (inode_of geometry.edition old i) c))
     → state geometry new ≡ change_node i change (state geometry old)
 unfolding node_of
 put_makes geometry old new i node change rules puts each =
-    let kept = λ (j : ℕ) (first : 1 ≤ j) (last : j ≤ geometry.last_inode). put_content geometry old new i j node rules puts first last in
+    let kept = λ (j : ℕ) (first : 1 ≤ j) (last : j ≤ geometry.last_inode). put_reading geometry old new i j node rules puts first last in
     makes_node geometry old new i (option_map change ((state geometry old).tree.nodes i)) (record {
       first = puts.first;
       last = puts.last;
       time = put_time geometry old new i node puts;
       others = λ j first last other. (
-        node_same geometry old new j (kept j first last) first last (put_other geometry old new i j node puts first other),
-        shape_same geometry old new j (kept j first last) first last,
+        node_same geometry old new j (put_beside geometry old new i j node rules puts first other) first last (put_other geometry old new i j node puts first other),
+        shape_reads geometry old new j (kept j first last) first last,
       );
-      here = node_of_content geometry old new i (kept i puts.first puts.last) puts.first puts.last
+      here = node_of_reading geometry old new i (kept i puts.first puts.last) puts.first puts.last
           ∙ (ap (λ n. option_map (node_with n) (content_of geometry old i (kind_at geometry old i))) puts.is
           ∙ (node_put change (inode_of geometry.edition old i) node (content_of geometry old i (kind_at geometry old i)) each
           ∙ sym (ap (option_map change) (node_inside geometry old i puts.first puts.last))));
-      places = shape_same geometry old new i (kept i puts.first puts.last) puts.first puts.last;
+      places = shape_reads geometry old new i (kept i puts.first puts.last) puts.first puts.last;
     })
 
 -- and leaves the graph but for the links of i
 pub put_graph : (geometry : Geometry) (old new : List ℕ) (i : ℕ) (node : Inode) → Rules3To8 geometry old → PutsInode geometry old new i node
     → SetsLinks (graph_of geometry old) (graph_of geometry new) i node.links
 put_graph geometry old new i node rules puts =
-    let kept = λ (j : ℕ) (first : 1 ≤ j) (last : j ≤ geometry.last_inode). put_content geometry old new i j node rules puts first last in
-    let kind = λ (x : ℕ). kind_kept geometry old new x (λ first last. kind_same geometry old new x (kept x first last)) in
+    let kept = λ (j : ℕ) (first : 1 ≤ j) (last : j ≤ geometry.last_inode). put_reading geometry old new i j node rules puts first last in
+    let kind = λ (x : ℕ). kind_kept geometry old new x (λ first last. (kept x first last).kind) in
     record {
       kind = kind;
       size = λ x is. let inside = directory_from geometry old x is in (kept x inside.first inside.last).size;

@@ -6,7 +6,7 @@ use Rattle.vol_layout.specs.Edition.{constants}
 use Rattle.vol_layout.specs.Geometry.{geometry_of, geometry_read, in_zone, Fits}
 use Rattle.vol_layout.specs.Inode.{inode_of}
 use Rattle.vol_layout.specs.Names.{IsFile, IsPlaceOf, named}
-use Rattle.vol_layout.specs.Places.{form_of, has_places, IsPlace}
+use Rattle.vol_layout.specs.Places.{has_places, IsPlace}
 use Rattle.vol_layout.specs.Super.{free_head, cache_head, time_place}
 use Rattle.vol_layout.specs.declared.edition.Edition.{Edition}
 use Rattle.vol_layout.specs.declared.edition.Edition.TheVariants.{V6, V7}
@@ -22,7 +22,7 @@ use Rattle.vol_change.specs.Alone.{KeepsContent}
 use Rattle.vol_judge.specs.Sound.{IsSound}
 use Rattle.vol_judge.proofs.Parts.{sound_whole, sound_bounded, sound_stack, sound_with, sound_covered}
 use Rattle.vol_change.specs.Whole.{Rules3To8, StaysAround, Keeps}
-use Rattle.vol_change.proofs.Contents.{kind_same}
+use Rattle.vol_change.proofs.Contents.{KeepsReading, reading, form_reads}
 
 -- what stays by one change and by the next stays by both
 pub around_then : (geometry : Geometry) (old mid new : List ℕ) → StaysAround geometry old mid → StaysAround geometry mid new → StaysAround geometry old new
@@ -146,26 +146,67 @@ file_to geometry old new j same file = record {
   kind = ap has_places (same file.first file.last) ∙ file.kind;
 }
 
--- where all contents stay, the places name the same
-pub names_stay : (geometry : Geometry) (old new : List ℕ)
-    → ((j : ℕ) → 1 ≤ j → j ≤ geometry.last_inode → KeepsContent geometry old new j) → SameNames geometry old new
-names_stay geometry old new kept = record {
+-- where what all i-nodes hold stays, the places name the same
+pub names_reading : (geometry : Geometry) (old new : List ℕ)
+    → ((j : ℕ) → 1 ≤ j → j ≤ geometry.last_inode → KeepsReading geometry old new j) → SameNames geometry old new
+names_reading geometry old new kept = record {
   from = λ j p place some.
       let here = kept j place.file.first place.file.last in
       let before : IsPlaceOf geometry old j p = record {
-        file = file_to geometry new old j (λ first last. sym (kind_same geometry old new j here)) place.file;
-        place = subst (λ form. IsPlace form p) (ap (form_of geometry.edition) here.mode) place.place;
+        file = file_to geometry new old j (λ first last. sym here.kind) place.file;
+        place = subst (λ form. IsPlace form p) (form_reads geometry old new j here) place.place;
       } in
       (before, here.names p before);
   to = λ j p place some.
       let here = kept j place.file.first place.file.last in (
         record {
-          file = file_to geometry old new j (λ first last. kind_same geometry old new j here) place.file;
-          place = subst (λ form. IsPlace form p) (sym (ap (form_of geometry.edition) here.mode)) place.place;
+          file = file_to geometry old new j (λ first last. here.kind) place.file;
+          place = subst (λ form. IsPlace form p) (sym (form_reads geometry old new j here)) place.place;
         },
         sym (here.names p place),
       );
 }
+
+-- where what all i-nodes hold stays and the link counts are within the limit, rule 4 holds
+pub sizes_reading : (geometry : Geometry) (old new : List ℕ)
+    → ((j : ℕ) → 1 ≤ j → j ≤ geometry.last_inode → KeepsReading geometry old new j)
+    → ((j : ℕ) → 1 ≤ j → j ≤ geometry.last_inode → kind_at geometry old j ≢ kinds.Free
+    → (inode_of geometry.edition new j).links ≤ (constants geometry.edition).link_limit)
+    → HasSizes geometry old → HasSizes geometry new
+sizes_reading geometry old new kept links has = record {
+  greatest = λ j file.
+      let here = kept j file.first file.last in
+      subst (λ n. n ≤ (constants geometry.edition).greatest) (sym here.size)
+      (has.greatest j (file_to geometry new old j (λ first last. sym here.kind) file));
+  small = λ j file small.
+      let here = kept j file.first file.last in
+      subst (λ n. n ≤ 4096) (sym here.size)
+      (has.small j (file_to geometry new old j (λ first last. sym here.kind) file)
+      (sym (form_reads geometry old new j here) ∙ small));
+  links = λ j first last used. links j first last (λ free. used ((kept j first last).kind ∙ free));
+}
+
+-- the rules hold where what all i-nodes hold stays, the link counts are within the limit, and the free blocks stay
+pub whole_reading : (geometry : Geometry) (old new : List ℕ) → length new ≡ length old
+    → ((j : ℕ) → 1 ≤ j → j ≤ geometry.last_inode → KeepsReading geometry old new j)
+    → ((j : ℕ) → 1 ≤ j → j ≤ geometry.last_inode → kind_at geometry old j ≢ kinds.Free
+    → (inode_of geometry.edition new j).links ≤ (constants geometry.edition).link_limit)
+    → ((blocks : List ℕ) → IsFree geometry old blocks → IsFree geometry new blocks) → Rules3To8 geometry old → Rules3To8 geometry new
+whole_reading geometry old new len kept links free rules =
+    whole_names geometry old new len (names_reading geometry old new kept) free
+    (kinds_kept geometry old new rules.sound.fits (λ j first last. (kept j first last).kind) rules.sound.kinds)
+    (sizes_reading geometry old new kept links rules.sound.sizes) rules
+
+-- all i-nodes hold what they did where all contents stay
+readings : (geometry : Geometry) (old new : List ℕ)
+    → ((j : ℕ) → 1 ≤ j → j ≤ geometry.last_inode → KeepsContent geometry old new j)
+    → (j : ℕ) → 1 ≤ j → j ≤ geometry.last_inode → KeepsReading geometry old new j
+readings geometry old new kept j first last = reading geometry old new j (kept j first last)
+
+-- where all contents stay, the places name the same
+pub names_stay : (geometry : Geometry) (old new : List ℕ)
+    → ((j : ℕ) → 1 ≤ j → j ≤ geometry.last_inode → KeepsContent geometry old new j) → SameNames geometry old new
+names_stay geometry old new kept = names_reading geometry old new (readings geometry old new kept)
 
 -- where all contents stay and the link counts are within the limit, rule 4 holds
 pub sizes_stay : (geometry : Geometry) (old new : List ℕ)
@@ -173,18 +214,7 @@ pub sizes_stay : (geometry : Geometry) (old new : List ℕ)
     → ((j : ℕ) → 1 ≤ j → j ≤ geometry.last_inode → kind_at geometry old j ≢ kinds.Free
     → (inode_of geometry.edition new j).links ≤ (constants geometry.edition).link_limit)
     → HasSizes geometry old → HasSizes geometry new
-sizes_stay geometry old new kept links has = record {
-  greatest = λ j file.
-      let here = kept j file.first file.last in
-      subst (λ n. n ≤ (constants geometry.edition).greatest) (sym here.size)
-      (has.greatest j (file_to geometry new old j (λ first last. sym (kind_same geometry old new j here)) file));
-  small = λ j file small.
-      let here = kept j file.first file.last in
-      subst (λ n. n ≤ 4096) (sym here.size)
-      (has.small j (file_to geometry new old j (λ first last. sym (kind_same geometry old new j here)) file)
-      (sym (ap (form_of geometry.edition) here.mode) ∙ small));
-  links = λ j first last used. links j first last (λ free. used (kind_same geometry old new j (kept j first last) ∙ free));
-}
+sizes_stay geometry old new kept = sizes_reading geometry old new (readings geometry old new kept)
 
 -- the rules hold where all contents stay, the link counts are within the limit, and the free blocks stay
 pub whole_kept : (geometry : Geometry) (old new : List ℕ) → length new ≡ length old
@@ -192,10 +222,7 @@ pub whole_kept : (geometry : Geometry) (old new : List ℕ) → length new ≡ l
     → ((j : ℕ) → 1 ≤ j → j ≤ geometry.last_inode → kind_at geometry old j ≢ kinds.Free
     → (inode_of geometry.edition new j).links ≤ (constants geometry.edition).link_limit)
     → ((blocks : List ℕ) → IsFree geometry old blocks → IsFree geometry new blocks) → Rules3To8 geometry old → Rules3To8 geometry new
-whole_kept geometry old new len kept links free rules =
-    whole_names geometry old new len (names_stay geometry old new kept) free
-    (kinds_kept geometry old new rules.sound.fits (λ j first last. kind_same geometry old new j (kept j first last)) rules.sound.kinds)
-    (sizes_stay geometry old new kept links rules.sound.sizes) rules
+whole_kept geometry old new len kept = whole_reading geometry old new len (readings geometry old new kept)
 
 -- a sound image whose geometry fits is whole
 pub whole_of : (edition : Edition) (image : List ℕ) → Fits (geometry_of edition image) image → IsSound edition image

@@ -47,3 +47,7 @@ PutsInBody geometry old new d at text = body geometry new d ≡ spliced (body ge
 -- each file but two stands for what it did, with all bytes of its blocks (this project)
 abbrev pub KeepsFilesBut : Geometry → List ℕ → List ℕ → ℕ → ℕ → Type 0
 KeepsFilesBut geometry old new a b = (j : ℕ) → 1 ≤ j → j ≤ geometry.last_inode → j ≢ a → j ≢ b → KeepsContent geometry old new j
+
+-- each file stands for what it did, with all bytes of its blocks (this project)
+abbrev pub KeepsFiles : Geometry → List ℕ → List ℕ → Type 0
+KeepsFiles geometry old new = (j : ℕ) → 1 ≤ j → j ≤ geometry.last_inode → KeepsContent geometry old new j

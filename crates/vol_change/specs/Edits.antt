@@ -93,6 +93,15 @@ remove_entry now = entry_removed (modified now)
 abbrev pub with_links : ℕ → ℕ → Node → Node
 with_links now links node = record (stamped now node) { links = links }
 
+-- a node with other permission bits, of which those under octal 7777 count, whose i-node was changed by that (chmod, section 2 of
+-- the manual)
+abbrev pub with_permission_bits : ℕ → ℕ → Node → Node
+with_permission_bits now perm node = record (stamped now node) { permissions = perm % 4096 }
+
+-- a node of another user and group, whose i-node was changed by that (chown, section 2 of the manual)
+abbrev pub with_owner : ℕ → ℕ → ℕ → Node → Node
+with_owner now uid gid node = record (stamped now node) { uid = uid; gid = gid }
+
 -- node i gets one link more (Lions on link)
 abbrev pub add_link : ℕ → ℕ → State → State
 add_link now i state = change_node i (λ node. record (stamped now node) { links = node.links + 1 }) state

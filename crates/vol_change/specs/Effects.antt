@@ -1,7 +1,7 @@
 -- What each call makes of a state, once its paths are walked.
 use Rattle.std.specs.Prelude.{ℕ, List, [], Some}
 use Rattle.vol_dir.specs.Tree.{Body, State, no_shape}
-use Rattle.vol_change.specs.Edits.{put_node, put_shape, remove_node, new_node, add_entry, remove_entry, add_link, drop_link, release, new_directory}
+use Rattle.vol_change.specs.Edits.{change_node, with_permission_bits, with_owner, put_node, put_shape, remove_node, new_node, add_entry, remove_entry, add_link, drop_link, release, new_directory}
 use Rattle.vol_change.specs.Nodes.{number_of_name}
 use Rattle.vol_change.specs.Shapes.{new_directory_shape}
 use Rattle.vol_dir.specs.declared.cred.Cred.{Cred}
@@ -32,3 +32,11 @@ after_unlink state now d name = release now (number_of_name state.tree d name) (
 abbrev pub after_rmdir : State → ℕ → ℕ → List ℕ → State
 after_rmdir state now d name =
     remove_node (number_of_name state.tree d name) (drop_link now d (remove_entry now d name state))
+
+-- node i gets other permission bits (chmod, section 2 of the manual)
+abbrev pub after_chmod : State → ℕ → ℕ → ℕ → State
+after_chmod state now perm i = change_node i (with_permission_bits now perm) state
+
+-- node i gets another user and group (chown, section 2 of the manual)
+abbrev pub after_chown : State → ℕ → ℕ → ℕ → ℕ → State
+after_chown state now uid gid i = change_node i (with_owner now uid gid) state

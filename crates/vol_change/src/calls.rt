@@ -1,5 +1,7 @@
-//! The seven calls, once their paths are walked.
+//! The nine calls, once their paths are walked.
 
+pub mod chmod;
+pub mod chown;
 pub mod create;
 pub mod link;
 pub mod mkdir;

@@ -1,4 +1,4 @@
-//! The changes that accepted calls make of a volume, once their paths are walked: each of the seven, and
+//! The changes that accepted calls make of a volume, once their paths are walked: each of the nine, and
 //! the changes of one node of the tree, of which they are made.
 #![tactic(auto)]
 
@@ -7,8 +7,11 @@ pub mod entries;
 mod freeing;
 mod links;
 mod new_nodes;
+mod ownership;
 mod times;
 
+pub use calls::chmod::chmod;
+pub use calls::chown::chown;
 pub use calls::create::create;
 pub use calls::link::link;
 pub use calls::mkdir::mkdir;
@@ -20,4 +23,5 @@ pub use entries::{add_name, remove_name};
 pub use freeing::free_node;
 pub use links::{add_link, drop_link, put_links};
 pub use new_nodes::{NewNode, make_directory, make_file};
+pub use ownership::{put_owner, put_permissions};
 pub use times::{put_time, touch};

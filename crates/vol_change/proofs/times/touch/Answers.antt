@@ -39,7 +39,8 @@ returns-clause-changed c = record {
       ap (λ changed. node_with (record c.inode-node.result { modified = c.args.now; changed = changed }) content) c.stamp.ensures
       ∙ ap (λ was. node_with (record was { modified = c.args.now; changed = option_map (λ _. c.args.now) was.changed }) content) c.inode-node.ensures.value);
   free = inode_free c.args.geometry.now c.args.image.now c.put_inode.new.image c.args.i c.requires.node.rules c.requires.node.first c.requires.node.last c.put_inode.ensures.others;
-  content = λ j first last any. put_content c.args.geometry.now c.args.image.now c.put_inode.new.image c.args.i j (put_node c) c.requires.node.rules (puts c) first last;
+  content = λ j first last any. put_content c.args.geometry.now c.args.image.now c.put_inode.new.image c.args.i j (put_node c) c.requires.node.rules (puts c)
+      (ap (λ node. node.mode) c.inode-node.ensures.value) first last;
 }
 
 pub returns-clause-graph : goal.returns-clause-graph

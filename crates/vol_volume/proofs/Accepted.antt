@@ -12,7 +12,7 @@ use Rattle.vol_dir.specs.Walk.{has_zero, walk, walk_parent, is_directory}
 use Rattle.vol_change.specs.Nodes.{node_at, names_at, number_of_name}
 use Rattle.vol_change.specs.Ready.{TakesName, entry_need, free_in}
 use Rattle.vol_volume.specs.Ids.{is_bad_id}
-use Rattle.vol_volume.specs.Verdict.{first_of, has_name, has_others, is_device, has_free_number, then_others, of_node, of_parent, create_tests, mkdir_tests, link_tests, unlink_tests, rmdir_tests, body_tests, write_tests, write_need, link_refusal}
+use Rattle.vol_volume.specs.Verdict.{first_of, has_name, has_others, is_device, has_free_number, then_others, of_node, of_parent, create_tests, mkdir_tests, link_tests, unlink_tests, rmdir_tests, body_tests, write_tests, chown_tests, write_need, link_refusal}
 use Rattle.vol_dir.specs.declared.cred.Cred.{Cred}
 use Rattle.vol_dir.specs.declared.refusal.Refusal.{Refusal}
 use Rattle.vol_dir.specs.declared.refusal.Refusal.TheVariants as refusals
@@ -222,3 +222,14 @@ truncate_passed state cred path i none walked =
     let other = passed _ _ _ asked in
     let regular = passed _ _ _ other.1 in
     (other.0, regular.0)
+
+-- another owner, whose numbers the edition has
+pub chown_passed : (state : State) (cred : Cred) (path : List ℕ) (uid gid : ℕ)
+    → (if is_bad_id state.tree.geometry.edition uid gid then Some refusals.BadId
+    else then_others state.tree cred (path ∷ []) (of_node (walk state.tree cred path) (λ i. first_of (chown_tests cred)))) ≡ None
+    → (uid ≤ (constants state.tree.geometry.edition).id_limit) × (gid ≤ (constants state.tree.geometry.edition).id_limit)
+chown_passed state cred path uid gid none =
+    let limit = (constants state.tree.geometry.edition).id_limit in
+    let bad = passed (is_bad_id state.tree.geometry.edition uid gid) refusals.BadId _ none in
+    let ids = or_parts (nat_lt limit uid) (nat_lt limit gid) bad.0 in
+    (below limit uid ids.0, below limit gid ids.1)

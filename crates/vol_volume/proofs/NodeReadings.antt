@@ -118,6 +118,16 @@ module _ (geometry : Geometry) (image : List ℕ) where
       → (node_at (tree geometry image) i).links ≡ (inode_of geometry.edition image i).links
   links_are i first files used = links_is geometry image i files.sound.kinds first used.last used.allocated
 
+  -- and the owner
+  pub owner_is : (i : ℕ) → 1 ≤ i → Rules3To7 geometry image → IsInUse geometry image i
+      → (node_at (tree geometry image) i).uid ≡ (inode_of geometry.edition image i).uid
+  owner_is i first files used =
+      let kind = kind_at geometry image i in
+      let stored = content_there geometry image i kind used.allocated (files.sound.kinds.known i first used.last) in
+      let is : node_of geometry image i ≡ Some (node_with (inode_of geometry.edition image i) stored.0) =
+      node_of_kind i kind refl ∙ ap (option_map (node_with (inode_of geometry.edition image i))) stored.1 in
+      ap (λ n. (unwrap_or n no_node).uid) (node_inside geometry image i first used.last ∙ is)
+
   -- of the kinds of what is in use, a regular file is left
   regular_by : (kind : Kind) → kind ≢ kinds.Free → kind ≢ kinds.Odd → kind ≢ kinds.Directory → kind ≢ kinds.Special → kind ≡ kinds.Regular
   regular_by kinds.Free used known directory special = absurd (used refl)

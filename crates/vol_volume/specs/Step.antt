@@ -3,10 +3,10 @@ use Rattle.std.specs.Prelude.{ℕ, List, Option, None, Some, Result, Ok, Err}
 use Rattle.vol_dir.specs.Tree.{State}
 use Rattle.vol_dir.specs.Walk.{walk, walk_parent}
 use Rattle.vol_change.specs.Edits.{at_time, after_write, after_truncate}
-use Rattle.vol_change.specs.Effects.{after_create, after_mkdir, after_link, after_unlink, after_rmdir}
+use Rattle.vol_change.specs.Effects.{after_create, after_mkdir, after_link, after_unlink, after_rmdir, after_chmod, after_chown}
 use Rattle.vol_dir.specs.declared.refusal.Refusal.{Refusal}
 use Rattle.vol_volume.specs.declared.calls.Call.{Call}
-use Rattle.vol_volume.specs.declared.calls.Call.TheVariants.{Create, Mkdir, Link, Unlink, Rmdir, Write, Truncate}
+use Rattle.vol_volume.specs.declared.calls.Call.TheVariants.{Create, Mkdir, Link, Unlink, Rmdir, Write, Truncate, Chmod, Chown}
 use Rattle.vol_volume.specs.declared.calls.Done.{Done}
 use Rattle.vol_volume.specs.declared.calls.Done.TheVariants.{Made, Wrote, Plain}
 
@@ -39,6 +39,8 @@ changed_by state (Unlink cred now path) done = on_parent state (walk_parent stat
 changed_by state (Rmdir cred now path) done = on_parent state (walk_parent state.tree cred path) (after_rmdir state now)
 changed_by state (Write cred now path offset bytes) done = on_node state (walk state.tree cred path) (after_write state now offset bytes)
 changed_by state (Truncate cred now path) done = on_node state (walk state.tree cred path) (after_truncate state now)
+changed_by state (Chmod cred now path perm) done = on_node state (walk state.tree cred path) (after_chmod state now perm)
+changed_by state (Chown cred now path uid gid) done = on_node state (walk state.tree cred path) (after_chown state now uid gid)
 
 -- the moment of a call (this project)
 abbrev pub moment_of : Call → ℕ
@@ -49,6 +51,8 @@ moment_of (Unlink cred now path) = now
 moment_of (Rmdir cred now path) = now
 moment_of (Write cred now path offset bytes) = now
 moment_of (Truncate cred now path) = now
+moment_of (Chmod cred now path perm) = now
+moment_of (Chown cred now path uid gid) = now
 
 -- the state after an accepted call, which always sets the super-block's time (this project)
 abbrev pub step : State → Call → Done → State

@@ -1,5 +1,5 @@
 -- Which refusal a call meets, if any. The refusals are asked in a fixed order, and the first that applies is the answer.
-use Rattle.std.specs.Prelude.{ℕ, ◌+◌, ◌&&◌, Bool, true, false, not, nat_lt, nat_le, if◌then◌else◌, List, [], ◌∷◌, ◌++◌, length, Option, None, Some, is_none, is_some, Result, Ok, Err}
+use Rattle.std.specs.Prelude.{ℕ, ◌+◌, ◌==◌, ◌&&◌, ◌||◌, Bool, true, false, not, nat_lt, nat_le, if◌then◌else◌, List, [], ◌∷◌, ◌++◌, length, Option, None, Some, is_none, is_some, Result, Ok, Err}
 use Rattle.std.specs.List.{list_any, range_with_len}
 use Rattle.vol_layout.specs.Edition.{constants}
 use Rattle.vol_file.specs.Shape.{touched}
@@ -15,7 +15,7 @@ use Rattle.vol_dir.specs.declared.cred.Cred.{Cred}
 use Rattle.vol_dir.specs.declared.refusal.Refusal.{Refusal}
 use Rattle.vol_dir.specs.declared.refusal.Refusal.TheVariants as refusals
 use Rattle.vol_volume.specs.declared.calls.Call.{Call}
-use Rattle.vol_volume.specs.declared.calls.Call.TheVariants.{Create, Mkdir, Link, Unlink, Rmdir, Write, Truncate}
+use Rattle.vol_volume.specs.declared.calls.Call.TheVariants.{Create, Mkdir, Link, Unlink, Rmdir, Write, Truncate, Chmod, Chown}
 
 -- the first refusal whose test holds, in a list of tests with their refusals (this project)
 abbrev pub first_of : List (Bool × Refusal) → Option Refusal
@@ -148,6 +148,18 @@ link_refusal state cred target i =
     if is_directory (node_at state.tree i) then Some refusals.IsDirectory
     else of_parent (walk_parent state.tree cred target) refusals.Exists (link_tests state cred i)
 
+-- whether a user may change a node as its owner: user 0 may, and who owns it (Lions on owner)
+abbrev pub is_owner : Cred → Node → Bool
+is_owner cred node = cred.uid == 0 || cred.uid == node.uid
+
+-- what is asked of a node that is to have other permission bits (chmod, section 2 of the manual)
+abbrev pub chmod_tests : Tree → Cred → ℕ → List (Bool × Refusal)
+chmod_tests tree cred i = (not (is_owner cred (node_at tree i)), refusals.NotOwner) ∷ []
+
+-- what is asked of who gives a node to another user and group, whatever the node (chown, section 2 of the manual)
+abbrev pub chown_tests : Cred → List (Bool × Refusal)
+chown_tests cred = (not (cred.uid == 0), refusals.NotOwner) ∷ []
+
 -- the refusal of a call: the first that applies, of those beside want of memory (this project)
 unfoldable pub verdict : State → Call → Option Refusal
 verdict state (Create cred now path perm) =
@@ -171,3 +183,9 @@ verdict state (Write cred now path offset bytes) =
 verdict state (Truncate cred now path) =
     then_others state.tree cred (path ∷ [])
     (of_node (walk state.tree cred path) (λ i. first_of (body_tests state.tree may_write cred i)))
+verdict state (Chmod cred now path perm) =
+    then_others state.tree cred (path ∷ [])
+    (of_node (walk state.tree cred path) (λ i. first_of (chmod_tests state.tree cred i)))
+verdict state (Chown cred now path uid gid) =
+    if is_bad_id state.tree.geometry.edition uid gid then Some refusals.BadId
+    else then_others state.tree cred (path ∷ []) (of_node (walk state.tree cred path) (λ i. first_of (chown_tests cred)))

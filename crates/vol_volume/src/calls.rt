@@ -97,6 +97,33 @@ pub enum Call {
         /// The file's path.
         path: Bytes,
     },
+    /// Gives a node of any kind other permission bits. Refused: the walk; a user who is neither 0 nor the
+    /// node's owner (NotOwner).
+    Chmod {
+        /// Who calls.
+        cred: Cred,
+        /// The moment.
+        now: u32,
+        /// The node's path.
+        path: Bytes,
+        /// The permission bits, of which those under octal 7777 count.
+        perm: u16,
+    },
+    /// Gives a node of any kind to another user and group; its permission bits stay. Refused: numbers of the
+    /// new user or group that are above the edition's (BadId, before all else); the walk; a user other than 0
+    /// (NotOwner).
+    Chown {
+        /// Who calls.
+        cred: Cred,
+        /// The moment.
+        now: u32,
+        /// The node's path.
+        path: Bytes,
+        /// The new user.
+        uid: u16,
+        /// The new group.
+        gid: u16,
+    },
 }
 
 /// What an accepted call answers.

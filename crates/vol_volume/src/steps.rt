@@ -12,6 +12,8 @@ ghost use Rattle.vol_volume.specs.Standing.{Rules3To7And9};
 ghost use Rattle.vol_volume.specs.Verdict.{verdict};
 
 pub(crate) mod asked;
+mod chmod;
+mod chown;
 mod create;
 pub(crate) mod found;
 mod link;
@@ -98,6 +100,19 @@ pub(crate) fn check(
         Call::Truncate { cred, path, .. } => {
             truncate::check(image, geometry, *cred, path.as_slice())?;
         }
+        Call::Chmod { cred, path, .. } => {
+            chmod::check(image, geometry, *cred, path.as_slice())?;
+        }
+        Call::Chown {
+            cred,
+            path,
+            uid,
+            gid,
+            ..
+        } => {
+            let owner = new_owner(*uid, *gid);
+            chown::check(image, geometry, *cred, path.as_slice(), owner)?;
+        }
     }
     Ok(())
 }
@@ -151,6 +166,13 @@ pub(crate) fn make(
         Call::Truncate { path, .. } => {
             truncate::make(image, geometry, free, caller, path.as_slice())
         }
+        Call::Chmod { path, perm, .. } => {
+            chmod::make(image, geometry, free, caller, path.as_slice(), *perm)
+        }
+        Call::Chown { path, uid, gid, .. } => {
+            let owner = new_owner(*uid, *gid);
+            chown::make(image, geometry, free, caller, path.as_slice(), owner)
+        }
     }
 }
 
@@ -165,7 +187,9 @@ fn caller_of(call: &Call) -> Caller
         | Call::Unlink { cred, now, .. }
         | Call::Rmdir { cred, now, .. }
         | Call::Write { cred, now, .. }
-        | Call::Truncate { cred, now, .. } => (cred, now),
+        | Call::Truncate { cred, now, .. }
+        | Call::Chmod { cred, now, .. }
+        | Call::Chown { cred, now, .. } => (cred, now),
     };
     Caller {
         cred: *cred,
@@ -184,6 +208,14 @@ fn new_node(caller: Caller, permissions: u16) -> NewNode
         permissions,
         moment: caller.moment,
     }
+}
+
+/// The user and group that a node is given to.
+fn new_owner(uid: u16, gid: u16) -> Cred
+    ensures user { result.uid ≡ uid }
+    ensures group { result.gid ≡ gid }
+{
+    Cred { uid, gid }
 }
 
 /// The i-number that is recorded, if one is.

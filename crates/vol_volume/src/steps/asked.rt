@@ -12,7 +12,7 @@ ghost use Rattle.vol_dir.specs.Walk.{IsComponent, has_zero, is_directory, walk_p
 ghost use Rattle.vol_change.specs.Nodes.{node_at, names_at, size_with_entry};
 ghost use Rattle.vol_volume.specs.Ids.{is_bad_id};
 ghost use Rattle.vol_volume.specs.Standing.{Rules3To7And9};
-ghost use Rattle.vol_volume.specs.Verdict.{first_of, has_name, has_others, is_device, has_free_number, is_too_great, is_full, of_parent, body_tests};
+ghost use Rattle.vol_volume.specs.Verdict.{first_of, has_name, has_others, is_device, has_free_number, is_too_great, is_full, is_owner, of_parent, body_tests};
 ghost use Rattle.vol_change.specs.Ready.{entry_need};
 
 use crate::sizes::is_bad_id;
@@ -73,6 +73,16 @@ pub(crate) fn is_full(image: &Image, geometry: &Geometry, i: u16) -> bool
     ensures { result ≡ is_full (tree geometry.now image.now) (node_at (tree geometry.now image.now) i) }
 {
     geometry.edition.constants().link_limit <= inode(image, geometry, i).links
+}
+
+/// Whether a user may change i-node `i`, which is in use, as its owner: user 0 may, and who owns it.
+#[tactic(auto, using(crate::proofs::NodeReadings::owner_is))]
+pub(crate) fn is_owner(image: &Image, geometry: &Geometry, i: u16, cred: Cred) -> bool
+    requires stands { Rules3To7And9 geometry.now image.now }
+    requires used { IsInUse geometry.now image.now i }
+    ensures { result ≡ is_owner cred (node_at (tree geometry.now image.now) i) }
+{
+    cred.uid == 0 || cred.uid == inode(image, geometry, i).uid
 }
 
 /// The entry that `name` has in directory `dir`; NoEntry where the name isn't there.

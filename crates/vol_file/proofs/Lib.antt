@@ -31,3 +31,4 @@ pub mod Taking
 pub mod Touching
 pub mod Truncated
 pub mod Whole
+pub mod ZeroNumbers

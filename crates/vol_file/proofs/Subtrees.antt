@@ -1,15 +1,14 @@
 -- The logical blocks that lie below one place of a file.
-use Rattle.std.proofs.Common.{◌≡◌, ℕ, zero, suc, ◌+◌, ◌-◌, ◌*◌, ◌/◌, ◌%◌, ◌<◌, ◌≤◌, ◌∙◌, sym, ap, subst, List, [], ◌∷◌, length, drop, length-drop, not, ◌==◌, ◌^◌, slice_index, refl, arith, inl, inr, true, false, if◌then◌else◌, Option, Some, None}
+use Rattle.std.proofs.Common.{◌≡◌, ℕ, zero, suc, ◌+◌, ◌-◌, ◌*◌, ◌/◌, ◌%◌, ◌<◌, ◌≤◌, ◌∙◌, sym, ap, subst, List, [], ◌∷◌, length, drop, length-drop, ◌^◌, slice_index, refl, arith, inl, inr, true, false, if◌then◌else◌, Option, Some, None}
 use Rattle.std.specs.Option.{option_map_or}
 use Rattle.std.proofs.lemmas.Bool.{cases_lt}
-use Rattle.std.proofs.lemmas.Bool.Decides.{nat_tests}
 use Rattle.vol_layout.specs.Edition.{constants}
 use Rattle.vol_layout.specs.declared.edition.Edition.{Edition}
 use Rattle.vol_layout.specs.declared.edition.Edition.TheVariants.{V6, V7}
 use Rattle.vol_layout.specs.Geometry.{Fits, in_zone}
 use Rattle.vol_layout.specs.Inode.{kind_of}
 use Rattle.vol_layout.specs.Names.{mode_of, form_at, pointer_in, named}
-use Rattle.vol_layout.specs.Places.{form_of, file_form, first_count, has_places, block_limit, pointer_count, last_place, place_to, end_of}
+use Rattle.vol_layout.specs.Places.{form_of, file_form, has_places, block_limit, pointer_count, last_place, place_to, end_of}
 use Rattle.vol_layout.specs.declared.geometry.Geometry.{Geometry}
 use Rattle.vol_layout.specs.declared.places.Form.{Form}
 use Rattle.vol_layout.specs.declared.places.Form.TheVariants.{Small, Large, Deep, Bare}
@@ -17,7 +16,7 @@ use Rattle.vol_layout.specs.declared.places.Way.{Way}
 use Rattle.vol_layout.proofs.FrameLaws.{pointers_in}
 use Rattle.vol_layout.proofs.NameLaws.{zero_out, named_stops}
 use Rattle.vol_layout.proofs.PlaceLaws.{has_no_way, last_none, last_leaf, entry_to, way_place}
-use Rattle.vol_file.specs.Holes.{IsHole, blocks_left, leads_on}
+use Rattle.vol_file.specs.Holes.{IsHole, blocks_left}
 use Rattle.vol_layout.proofs.LastPlaces.{last_small, last_large, last_huge, last_direct, last_single, last_double, last_triple}
 
 -- the first index of a list, and the others
@@ -197,34 +196,29 @@ among Deep b t n k p e deep few from more within =
     ]
 among Bare b t n k p e deep few from more within = let limit : b < 0 = (last_leaf Bare b p e).limit in absurd (omega arith)
 
--- a number that leads on from the last indirect block nowhere
-zero_is : (n : ℕ) → not (n == 0) ≡ false → n ≡ 0
-zero_is n none = grind (arith, nat_tests)
-
--- what lies below a pointer that leads to nothing names nothing
+-- what lies below a pointer that is 0 names nothing
 below_none : (geometry : Geometry) (image : List ℕ) (i n : ℕ) (p : List ℕ) → Fits geometry image → n < length p
-    → leads_on geometry n (named geometry image i (drop n p)) ≡ false → named geometry image i p ≡ 0
-below_none geometry image i zero p fits few none = zero_is (named geometry image i p) none
+    → named geometry image i (drop n p) ≡ 0 → named geometry image i p ≡ 0
+below_none geometry image i zero p fits few none = none
 below_none geometry image i (suc n) [] fits few none = absurd (omega arith)
 below_none geometry image i (suc n) (j ∷ []) fits few none = absurd (omega arith)
-below_none geometry image i (suc zero) (j ∷ (a ∷ p)) fits few none = named_stops geometry image i j a p none
-below_none geometry image i (suc (suc n)) (j ∷ (a ∷ p)) fits few none =
+below_none geometry image i (suc n) (j ∷ (a ∷ p)) fits few none =
     named_stops geometry image i j a p
-    (ap (in_zone geometry) (below_none geometry image i (suc n) (a ∷ p) fits (omega arith) none) ∙ zero_out geometry image fits)
+    (ap (in_zone geometry) (below_none geometry image i n (a ∷ p) fits (omega arith) none) ∙ zero_out geometry image fits)
 
 -- a place is longer than what is taken off it where some of it is left
 long_enough : (n : ℕ) (q : List ℕ) (x : ℕ) (above : List ℕ) → drop n q ≡ x ∷ above → n < length q
 long_enough n q x above top = let left : length q - n ≡ suc (length above) = sym (length-drop n q) ∙ ap length top in omega arith
 
--- nothing is stored for a logical block below pointers that lead to nothing
+-- nothing is stored for a logical block below pointers that are 0
 stored_none : (geometry : Geometry) (image : List ℕ) (i n low high : ℕ) (above : List ℕ) (o : Option (List ℕ)) → Fits geometry image
     → LiesAmong n above low high o
-    → ((x : ℕ) → low ≤ x → x < high → leads_on geometry n (named geometry image i (x ∷ above)) ≡ false)
+    → ((x : ℕ) → low ≤ x → x < high → named geometry image i (x ∷ above) ≡ 0)
     → option_map_or (named geometry image i) o 0 ≡ 0
 stored_none geometry image i n low high above None fits among none = refl
 stored_none geometry image i n low high above (Some q) fits (x, top, from, to) none =
     below_none geometry image i n q fits (long_enough n q x above top)
-    (ap (λ r. leads_on geometry n (named geometry image i r)) top ∙ none x from to)
+    (ap (named geometry image i) top ∙ none x from to)
 
 -- the place that is left of a way's without its last n entries
 drop_to : (k : ℕ) (entries : List ℕ) (n d : ℕ) → drop n (place_to k entries (n + d)) ≡ place_to k entries d
@@ -254,12 +248,12 @@ pointers_at geometry image i form b way is end =
     ∙ pointers_by geometry.edition (mode_of geometry image i) b (end_of way) (ap (λ f. last_place f b) (sym is) ∙ sym end)
 
 -- nothing is stored for the logical blocks that are left below the place of a way's first `d` entries, and for those below the `k` pointers
--- that follow it, where none of these leads on
+-- that follow it, where all of these are 0
 pub hole_below : (geometry : Geometry) (image : List ℕ) (i : ℕ) (form : Form) (b d n k : ℕ) (way : Way) → Fits geometry image
     → form ≡ form_at geometry image i → Some (end_of way) ≡ last_place form b → 1 ≤ way.depth → n + d ≡ way.depth
     → HasMore (constants geometry.edition).pointers n (end_of way) k
     → ((x : ℕ) → head_of (place_to way.address way.entries d) ≤ x → x < head_of (place_to way.address way.entries d) + k + 1
-    → leads_on geometry n (named geometry image i (x ∷ tail_of (place_to way.address way.entries d))) ≡ false)
+    → named geometry image i (x ∷ tail_of (place_to way.address way.entries d)) ≡ 0)
     → IsHole geometry image i form b
     (b + blocks_left (constants geometry.edition).pointers n (end_of way) + k * (constants geometry.edition).pointers ^ n)
 hole_below geometry image i form b d n k way fits is end deep whole more none = λ t from within.
@@ -272,7 +266,7 @@ hole_below geometry image i form b d n k way fits is end deep whole more none = 
     among form b t n k p (sym end) (omega arith) (omega arith) from (subst (λ m. HasMore m n p k) same more)
     (subst (λ m. t < b + blocks_left m n p + k * m ^ n) same within) in
     stored_none geometry image i n (head_of (drop n p)) (head_of (drop n p) + k + 1) (tail_of (drop n p)) (last_place form t) fits lies
-    (subst (λ q. (x : ℕ) → head_of q ≤ x → x < head_of q + k + 1 → leads_on geometry n (named geometry image i (x ∷ tail_of q)) ≡ false) (sym front) none)
+    (subst (λ q. (x : ℕ) → head_of q ≤ x → x < head_of q + k + 1 → named geometry image i (x ∷ tail_of q) ≡ 0) (sym front) none)
 
 -- each entry on a way is one of an indirect block
 pub few_entries : (geometry : Geometry) (image : List ℕ) (i : ℕ) (form : Form) (b : ℕ) (way : Way) → form ≡ form_at geometry image i
@@ -299,59 +293,19 @@ hole_past geometry image i form b end none = λ t from within.
     let past : block_limit form ≤ t = omega (arith, last_none form b none) in
     ap (λ o. option_map_or (named geometry image i) o 0) (has_no_way form t past)
 
--- an address that names no data block leads to nothing
-leads_deep : (geometry : Geometry) (n v : ℕ) → 1 ≤ n → in_zone geometry v ≡ false → leads_on geometry n v ≡ false
-leads_deep geometry zero v some outside = absurd (omega arith)
-leads_deep geometry (suc n) v some outside = outside
-
 -- what an entry of the block at the end of a front of a way names
 named_under : (geometry : Geometry) (image : List ℕ) (i k : ℕ) (entries : List ℕ) (d x : ℕ)
     → named geometry image i (x ∷ place_to k entries d) ≡ pointer_in geometry image (named geometry image i (place_to k entries d)) x
 named_under geometry image i k entries zero x = refl
 named_under geometry image i k entries (suc d) x = refl
 
--- the blocks of a file have at least 128 pointers
-many_pointers : (edition : Edition) → 128 ≤ (constants edition).pointers
-many_pointers V6 = omega arith
-many_pointers V7 = omega arith
-
--- the address of a way is one of thirteen
-few_addresses : (form : Form) → first_count form ≤ 13
-few_addresses Small = omega arith
-few_addresses Large = omega arith
-few_addresses Deep = omega arith
-few_addresses Bare = omega arith
-
--- nothing is stored for the logical blocks that are left below an address that names no data block
-pub hole_at_address : (geometry : Geometry) (image : List ℕ) (i : ℕ) (form : Form) (b : ℕ) (way : Way) → Fits geometry image
-    → form ≡ form_at geometry image i → Some (end_of way) ≡ last_place form b → 1 ≤ way.depth
-    → in_zone geometry (named geometry image i (way.address ∷ [])) ≡ false
-    → IsHole geometry image i form b (b + blocks_left (constants geometry.edition).pointers way.depth (end_of way))
-hole_at_address geometry image i form b way fits is end deep outside = λ t from within.
-    let pointers = (constants geometry.edition).pointers in
-    let many = many_pointers geometry.edition in
-    let few = few_addresses form in
-    let address : way.address < first_count form = way_place form b way 0 end (omega arith) in
-    let whole : way.depth + 0 ≡ way.depth = omega arith in
-    let front : drop way.depth (end_of way) ≡ way.address ∷ [] =
-    ap (λ m. drop way.depth (place_to way.address way.entries m)) (sym whole) ∙ drop_to way.address way.entries way.depth 0 in
-    let more : HasMore pointers way.depth (end_of way) 0 = record {
-      within = subst (λ q. head_of q + 0 < pointers) (sym front) (omega arith);
-      address = λ none. refl;
-    } in
-    hole_below geometry image i form b 0 way.depth 0 way fits is end deep whole more
-    (λ x low high.
-    let same : x ≡ way.address = omega arith in
-    leads_deep geometry way.depth (named geometry image i (x ∷ [])) deep (ap (λ y. in_zone geometry (named geometry image i (y ∷ []))) same ∙ outside))
-    t from (omega (arith, within))
-
 -- nothing is stored for the logical blocks that are left below an entry of a way, and below the entries that follow it, up to m of them,
--- where none leads on
+-- where all of these are 0
 pub hole_at_entries : (geometry : Geometry) (image : List ℕ) (i : ℕ) (form : Form) (b d m : ℕ) (way : Way) → Fits geometry image
     → form ≡ form_at geometry image i → Some (end_of way) ≡ last_place form b → d < way.depth → 1 ≤ m
     → slice_index way.entries d + m ≤ (constants geometry.edition).pointers
     → ((x : ℕ) → slice_index way.entries d ≤ x → x < slice_index way.entries d + m
-    → leads_on geometry (way.depth - d - 1) (pointer_in geometry image (named geometry image i (place_to way.address way.entries d)) x) ≡ false)
+    → pointer_in geometry image (named geometry image i (place_to way.address way.entries d)) x ≡ 0)
     → IsHole geometry image i form b
     (b + blocks_left (constants geometry.edition).pointers (way.depth - (d + 1)) (end_of way)
     + (m - 1) * (constants geometry.edition).pointers ^ (way.depth - d - 1))
@@ -370,4 +324,4 @@ hole_at_entries geometry image i form b d m way fits is end below some room none
     } in
     subst (λ l. IsHole geometry image i form b (b + blocks_left pointers l (end_of way) + (m - 1) * pointers ^ n)) (sym levels)
     (hole_below geometry image i form b (suc d) n (m - 1) way fits is end (omega arith) whole more
-    (λ x low high. ap (leads_on geometry n) (named_under geometry image i way.address way.entries d x) ∙ none x low (omega arith)))
+    (λ x low high. named_under geometry image i way.address way.entries d x ∙ none x low (omega arith)))

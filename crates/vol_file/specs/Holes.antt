@@ -1,6 +1,5 @@
 -- The holes of a file: logical blocks for which its block map has no number.
-use Rattle.std.specs.Prelude.{◌≡◌, ℕ, zero, suc, ◌-◌, ◌*◌, ◌<◌, ◌≤◌, ◌==◌, Bool, not, List, [], ◌∷◌}
-use Rattle.vol_layout.specs.Geometry.{in_zone}
+use Rattle.std.specs.Prelude.{◌≡◌, ℕ, zero, suc, ◌-◌, ◌*◌, ◌<◌, ◌≤◌, List, [], ◌∷◌}
 use Rattle.vol_layout.specs.Names.{stored}
 use Rattle.vol_layout.specs.declared.geometry.Geometry.{Geometry}
 use Rattle.vol_layout.specs.declared.places.Form.{Form}
@@ -22,8 +21,3 @@ abbrev pub blocks_left : ℕ → ℕ → List ℕ → ℕ
 blocks_left pointers zero place = 1
 blocks_left pointers (suc n) [] = 1
 blocks_left pointers (suc n) (j ∷ place) = blocks_left pointers n place * pointers - j
-
--- whether a pointer with so many levels of indirect blocks below it leads on: where it names a data block, or isn't 0 if there are none (Lions on bmap)
-abbrev pub leads_on : Geometry → ℕ → ℕ → Bool
-leads_on geometry zero number = not (number == 0)
-leads_on geometry (suc levels) number = in_zone geometry number

@@ -4,9 +4,10 @@ ghost use Rattle.vol_layout.specs.Edition.{constants};
 ghost use Rattle.vol_layout.specs.Geometry.{Fits};
 ghost use Rattle.vol_layout.specs.Names.{form_at, pointer_in, stored};
 ghost use Rattle.vol_layout.specs.Places.{end_of};
-ghost use Rattle.vol_file.specs.Holes.{IsHole, IsNextStored, blocks_left, leads_on};
+ghost use Rattle.vol_file.specs.Holes.{IsHole, IsNextStored, blocks_left};
 
 use crate::block_map::entry;
+use crate::pointers::next_pointer;
 use pdp_words::Image;
 use vol_layout::i_list::{address, mode};
 use vol_layout::{Form, Geometry, Way};
@@ -14,8 +15,8 @@ use vol_layout::{Form, Geometry, Way};
 /// The first logical block of i-node `i`, from 1 to the last, from block `from` up to `end`, for which the
 /// block map has a number, which may be outside the data zone; `end` where there is none.
 ///
-/// Costs the way of that block, and one look at each pointer that is passed because it leads to nothing: whatever
-/// lies below it is passed as a whole, however many logical blocks that is.
+/// Costs the way of that block, and what [`next_pointer`] does for the pointers that are passed because they are 0:
+/// whatever lies below them is passed as a whole, however many logical blocks that is.
 pub fn next_block(image: &Image, geometry: &Geometry, i: u16, from: u32, end: u32) -> u32
     requires fits { Fits geometry.now image.now }
     requires first { 1 ≤ i }
@@ -71,50 +72,16 @@ fn hole_end(image: &Image, geometry: &Geometry, i: u16, form: Form, b: u32) -> u
         return u32::MAX;
     };
     let mut block = address(image, geometry, i, way.address);
-    if way.depth > 0 && !geometry.in_zone(block) {
-        return b + left_below(geometry, &way, 0);
-    }
     for d in 0..way.depth {
-        let levels = way.depth - d - 1;
-        let missing = missing_from(image, geometry, block, way.entries[d], levels);
+        let j = way.entries[d];
+        let missing = next_pointer(image, geometry, block, j) - j;
         if missing > 0 {
-            let more = (missing - 1) * blocks_below(geometry, levels);
+            let more = (missing - 1) * blocks_below(geometry, way.depth - d - 1);
             return b + left_below(geometry, &way, d + 1) + more;
         }
-        block = entry(image, geometry, block, way.entries[d]);
+        block = entry(image, geometry, block, j);
     }
     if block == 0 { b + 1 } else { b }
-}
-
-/// How many pointers of indirect block `m`, from pointer `j` on, lead to nothing, one after the other; below each
-/// lie so many `levels` of indirect blocks.
-fn missing_from(image: &Image, geometry: &Geometry, m: u32, j: u32, levels: usize) -> u32
-    requires fits { Fits geometry.now image.now }
-    requires within { j ≤ (constants geometry.now.edition).pointers }
-    ensures within { j + result ≤ (constants geometry.now.edition).pointers }
-    ensures missing { (k : ℕ) → j ≤ k → k < j + result → leads_on geometry.now levels (pointer_in geometry.now image.now m k) ≡ false }
-    ensures some { result ≡ 0 → j < (constants geometry.now.edition).pointers
-        → leads_on geometry.now levels (pointer_in geometry.now image.now m j) ≡ true }
-{
-    let pointers = geometry.edition.constants().pointers;
-    for k in j..pointers {
-        if leads_on(geometry, levels, entry(image, geometry, m, k)) {
-            return k - j;
-        }
-    }
-    pointers - j
-}
-
-/// Whether a pointer leads on: one with no levels of indirect blocks below it where it isn't 0, others where they name a data
-/// block.
-fn leads_on(geometry: &Geometry, levels: usize, number: u32) -> bool
-    ensures { result ≡ leads_on geometry.now levels number }
-{
-    if levels == 0 {
-        number != 0
-    } else {
-        geometry.in_zone(number)
-    }
 }
 
 /// How many logical blocks lie below a pointer with so many levels of indirect blocks below it.

@@ -90,3 +90,14 @@ unfolding entries_from
 entries_fail geometry image d b j n marks mid less done last =
     let at : 0 + j ≡ j = omega arith in
     marked_fails (λ j. blocks_from geometry image d (pointer_in geometry image b j)) 0 j j n marks mid at less done last
+
+-- entries that are 0 are marked by doing nothing
+pub entries_zero : (geometry : Geometry) (image : List ℕ) (d b j n k : ℕ) (marks mid : List ℕ) → j + n ≡ k
+    → ((x : ℕ) → j ≤ x → x < k → pointer_in geometry image b x ≡ 0)
+    → marked marks (entries_from geometry image d b j) ≡ Some mid → marked marks (entries_from geometry image d b k) ≡ Some mid
+entries_zero geometry image d b j zero k marks mid size zeros done =
+    let same : k ≡ j = omega arith in ap (λ x. marked marks (entries_from geometry image d b x)) same ∙ done
+entries_zero geometry image d b j (suc n) k marks mid size zeros done =
+    let before = entries_zero geometry image d b j n (j + n) marks mid refl (λ x low high. zeros x low (omega arith)) done in
+    entries_more geometry image d b (j + n) k marks mid (Some mid) (omega arith) before
+    (mark_zero geometry image d (pointer_in geometry image b (j + n)) mid (zeros (j + n) (omega arith) (omega arith)))

@@ -1,6 +1,6 @@
 -- Laws of numbers below which all that is found is inside the data zone.
 use Rattle.std.proofs.Common.{◌↔◌, IsTrue, ◌≡◌, ◌≢◌, ℕ, zero, suc, ◌-◌, ◌<◌, ◌≤◌, ◌∙◌, sym, ap, subst, List, length, get_or, set, true, false, refl, arith, inl, inr, get_or-set_same, get_or-set_other}
-use Rattle.std.proofs.lemmas.Bool.{cases_eq, false≢true}
+use Rattle.std.proofs.lemmas.Bool.{cases_eq, cases_lt, false≢true}
 use Rattle.vol_layout.specs.Edition.{constants}
 use Rattle.vol_layout.specs.Geometry.{in_zone, Fits}
 use Rattle.vol_layout.specs.Names.{pointer_in}
@@ -53,6 +53,17 @@ inside_all geometry image zero b zone one all = absurd (omega arith)
 inside_all geometry image (suc d) b zone one all =
     let less : suc d - 1 ≡ d = omega arith in
     (λ some. zone, λ j h. subst (λ x. IsInside geometry image x (pointer_in geometry image b j)) less (all j h))
+
+-- so is what is found below entries that are 0
+pub inside_zeros : (geometry : Geometry) (image : List ℕ) (d b from n : ℕ) → Fits geometry image
+    → ((k : ℕ) → from ≤ k → k < n → pointer_in geometry image b k ≡ 0)
+    → ((k : ℕ) → k < from → IsInside geometry image d (pointer_in geometry image b k))
+    → (k : ℕ) → k < n → IsInside geometry image d (pointer_in geometry image b k)
+inside_zeros geometry image d b from n fits zeros before k h =
+    elim (cases_lt k from) [
+      | inl low ↦ before k low
+      | inr high ↦ subst (IsInside geometry image d) (sym (zeros k high h)) (inside_zero geometry image d fits)
+    ]
 
 -- nothing is known where no levels are
 pub knows_nothing : (geometry : Geometry) (image known : List ℕ) → ((b : ℕ) → get_or known b 0 ≡ 0) → KnowsInside geometry image known

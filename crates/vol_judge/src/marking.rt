@@ -16,6 +16,7 @@ ghost use Rattle.vol_judge.specs.Marks.{
 
 use pdp_words::{BLOCK, Image};
 use std::alloc::{AllocError, Global};
+use vol_file::next_pointer;
 use vol_layout::i_list::{address, mode};
 use vol_layout::{Form, Geometry, number};
 
@@ -145,11 +146,14 @@ fn is_inside(image: &Image, geometry: &Geometry, b: u32, level: u8, known: &mut 
     if level <= known[b as usize] {
         return true;
     }
-    for j in 0..geometry.edition.constants().pointers {
+    let pointers = geometry.edition.constants().pointers;
+    let mut j = next_pointer(image, geometry, b, 0);
+    while j < pointers {
         let entry = number(image, geometry.edition, BLOCK * b as usize, j as usize);
         if !is_inside(image, geometry, entry, level - 1, known) {
             return false;
         }
+        j = next_pointer(image, geometry, b, j + 1);
     }
     known[b as usize] = level;
     true
@@ -212,11 +216,14 @@ fn mark_from(image: &Image, geometry: &Geometry, b: u32, level: u8, marks: &mut 
     if level == 0 {
         return true;
     }
-    for j in 0..geometry.edition.constants().pointers {
+    let pointers = geometry.edition.constants().pointers;
+    let mut j = next_pointer(image, geometry, b, 0);
+    while j < pointers {
         let entry = number(image, geometry.edition, BLOCK * b as usize, j as usize);
         if !mark_from(image, geometry, entry, level - 1, marks) {
             return false;
         }
+        j = next_pointer(image, geometry, b, j + 1);
     }
     true
 }

@@ -1,4 +1,5 @@
-use Rattle.std.proofs.Common.{◌≡◌, ◌-◌, Some, set}
+use Rattle.std.proofs.Common.{◌≡◌, ◌-◌, ◌≤◌, Some, set}
+use Rattle.vol_layout.specs.Edition.{constants}
 use Rattle.vol_judge.specs.Marks.{marked}
 use Rattle.vol_judge.proofs.BlocksFrom.{entries_from}
 use Rattle.vol_judge.proofs.marking.+mark_from.Given as goal
@@ -9,5 +10,11 @@ decreases-mark_from l = l.level
 
 -- the block and what is found from the entries before j on is marked
 abbrev pub invariant-loop-j : goal.invariant-loop-j
-invariant-loop-j l =
-    marked (set l.fn.marks l.b 1) (entries_from l.geometry l.image (l.level - 1) l.b l.j) ≡ Some l.marks
+invariant-loop-j l = record {
+  marked : marked (set l.fn.marks l.b 1) (entries_from l.geometry l.image (l.level - 1) l.b l.j) ≡ Some l.marks;
+  within : l.j ≤ (constants l.geometry.edition).pointers;
+}
+
+-- a later entry each time
+abbrev pub decreases-loop-j : goal.decreases-loop-j
+decreases-loop-j l = (constants l.geometry.edition).pointers - l.j

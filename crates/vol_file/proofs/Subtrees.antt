@@ -6,8 +6,8 @@ use Rattle.vol_layout.specs.Edition.{constants}
 use Rattle.vol_layout.specs.declared.edition.Edition.{Edition}
 use Rattle.vol_layout.specs.declared.edition.Edition.TheVariants.{V6, V7}
 use Rattle.vol_layout.specs.Geometry.{Fits, in_zone}
-use Rattle.vol_layout.specs.Inode.{kind_of}
-use Rattle.vol_layout.specs.Names.{mode_of, form_at, pointer_in, named}
+use Rattle.vol_layout.specs.Inode.{kind_of, inode_place, address_at}
+use Rattle.vol_layout.specs.Names.{mode_of, form_at, pointer_in, named, stored}
 use Rattle.vol_layout.specs.Places.{form_of, file_form, has_places, block_limit, pointer_count, last_place, place_to, end_of}
 use Rattle.vol_layout.specs.declared.geometry.Geometry.{Geometry}
 use Rattle.vol_layout.specs.declared.places.Form.{Form}
@@ -16,7 +16,7 @@ use Rattle.vol_layout.specs.declared.places.Way.{Way}
 use Rattle.vol_layout.proofs.FrameLaws.{pointers_in}
 use Rattle.vol_layout.proofs.NameLaws.{zero_out, named_stops}
 use Rattle.vol_layout.proofs.PlaceLaws.{has_no_way, last_none, last_leaf, entry_to, way_place}
-use Rattle.vol_file.specs.Holes.{IsHole, blocks_left}
+use Rattle.vol_file.specs.Holes.{IsHole, blocks_left, direct_count}
 use Rattle.vol_layout.proofs.LastPlaces.{last_small, last_large, last_huge, last_direct, last_single, last_double, last_triple}
 
 -- the first index of a list, and the others
@@ -286,6 +286,14 @@ few_blocks Bare = omega arith
 -- a logical block that has a way
 pub low_block : (form : Form) (b : ℕ) (p : List ℕ) → last_place form b ≡ Some p → b < 2113674
 low_block form b p e = let limit = (last_leaf form b p e).limit in let few = few_blocks form in omega arith
+
+-- what is stored for one of the first logical blocks is its address
+pub stored_direct : (geometry : Geometry) (image : List ℕ) (i : ℕ) (form : Form) (b : ℕ) → b < direct_count form
+    → stored geometry image i form b ≡ address_at geometry.edition image (inode_place geometry.edition i) b
+stored_direct geometry image i Small b low = ap (λ o. option_map_or (named geometry image i) o 0) (last_small b low)
+stored_direct geometry image i Large b low = absurd (omega arith)
+stored_direct geometry image i Deep b low = ap (λ o. option_map_or (named geometry image i) o 0) (last_direct b low)
+stored_direct geometry image i Bare b low = absurd (omega arith)
 
 -- past the blocks that have a way nothing is stored
 pub hole_past : (geometry : Geometry) (image : List ℕ) (i : ℕ) (form : Form) (b end : ℕ) → last_place form b ≡ None → IsHole geometry image i form b end

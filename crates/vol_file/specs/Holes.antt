@@ -3,6 +3,7 @@ use Rattle.std.specs.Prelude.{◌≡◌, ℕ, zero, suc, ◌-◌, ◌*◌, ◌<�
 use Rattle.vol_layout.specs.Names.{stored}
 use Rattle.vol_layout.specs.declared.geometry.Geometry.{Geometry}
 use Rattle.vol_layout.specs.declared.places.Form.{Form}
+use Rattle.vol_layout.specs.declared.places.Form.TheVariants.{Small, Large, Deep, Bare}
 
 -- no number is stored for the logical blocks from `from` to before `end` (Lions on bmap)
 abbrev pub IsHole : Geometry → List ℕ → ℕ → Form → ℕ → ℕ → Type 0
@@ -21,3 +22,10 @@ abbrev pub blocks_left : ℕ → ℕ → List ℕ → ℕ
 blocks_left pointers zero place = 1
 blocks_left pointers (suc n) [] = 1
 blocks_left pointers (suc n) (j ∷ place) = blocks_left pointers n place * pointers - j
+
+-- how many of the first logical blocks have an address of the i-node each (Lions on bmap; ino.h of the seventh edition)
+abbrev pub direct_count : Form → ℕ
+direct_count Small = 8
+direct_count Large = 0
+direct_count Deep = 10
+direct_count Bare = 0

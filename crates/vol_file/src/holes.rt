@@ -1,10 +1,11 @@
 //! Going over the logical blocks of a file without its holes.
-ghost use Rattle.std.specs.Prelude.{◌≡◌, ℕ, ◌+◌, ◌-◌, ◌^◌, ◌<◌, ◌≤◌, false, true, slice_index};
+ghost use Rattle.std.specs.Prelude.{◌≡◌, ◌≢◌, ℕ, ◌-◌, ◌^◌, ◌<◌, ◌≤◌, slice_index};
 ghost use Rattle.vol_layout.specs.Edition.{constants};
 ghost use Rattle.vol_layout.specs.Geometry.{Fits};
-ghost use Rattle.vol_layout.specs.Names.{form_at, pointer_in, stored};
+ghost use Rattle.vol_layout.specs.Inode.{address_at, inode_place};
+ghost use Rattle.vol_layout.specs.Names.{form_at, stored};
 ghost use Rattle.vol_layout.specs.Places.{end_of};
-ghost use Rattle.vol_file.specs.Holes.{IsHole, IsNextStored, blocks_left};
+ghost use Rattle.vol_file.specs.Holes.{IsHole, IsNextStored, blocks_left, direct_count};
 
 use crate::block_map::entry;
 use crate::pointers::next_pointer;
@@ -55,8 +56,8 @@ pub(crate) fn next_stored(
     end
 }
 
-/// The end of the hole in which logical block `b` lies, as far as it is one because of missing pointers of the
-/// same block; `b` itself where a number is stored for it.
+/// The end of the hole in which logical block `b` lies, as far as it is one because of missing addresses of first blocks,
+/// or of missing pointers of the same block; `b` itself where a number is stored for it.
 #[tactic(auto, using(crate::proofs::Indexes::way_address, crate::proofs::Indexes::way_entry))]
 fn hole_end(image: &Image, geometry: &Geometry, i: u16, form: Form, b: u32) -> u32
     requires fits { Fits geometry.now image.now }
@@ -68,6 +69,10 @@ fn hole_end(image: &Image, geometry: &Geometry, i: u16, form: Form, b: u32) -> u
     ensures hole { IsHole geometry.now image.now i form b result }
     ensures none { result ≡ b → stored geometry.now image.now i form b ≡ 0 → ⊥ }
 {
+    let direct = direct_count(form);
+    if b < direct {
+        return next_address(image, geometry, i, b, direct);
+    }
     let Some(way) = form.way(b) else {
         return u32::MAX;
     };
@@ -82,6 +87,38 @@ fn hole_end(image: &Image, geometry: &Geometry, i: u16, form: Form, b: u32) -> u
         block = entry(image, geometry, block, j);
     }
     if block == 0 { b + 1 } else { b }
+}
+
+/// How many of the first logical blocks of a file have an address of the i-node each.
+fn direct_count(form: Form) -> u32
+    ensures { result ≡ direct_count form }
+{
+    match form {
+        Form::Small => 8,
+        Form::Deep => 10,
+        Form::Large | Form::Bare => 0,
+    }
+}
+
+/// The first address of i-node `i` from address `from` on that isn't 0; `end` where none before it is.
+fn next_address(image: &Image, geometry: &Geometry, i: u16, from: u32, end: u32) -> u32
+    requires fits { Fits geometry.now image.now }
+    requires first { 1 ≤ i }
+    requires last { i ≤ geometry.now.last_inode }
+    requires order { from ≤ end }
+    requires few { end ≤ 13 }
+    ensures order { from ≤ result }
+    ensures within { result ≤ end }
+    ensures zeros { (k : ℕ) → from ≤ k → k < result
+        → address_at geometry.now.edition image.now (inode_place geometry.now.edition i) k ≡ 0 }
+    ensures some { result < end → address_at geometry.now.edition image.now (inode_place geometry.now.edition i) result ≢ 0 }
+{
+    for k in from..end {
+        if address(image, geometry, i, k as usize) != 0 {
+            return k;
+        }
+    }
+    end
 }
 
 /// How many logical blocks lie below a pointer with so many levels of indirect blocks below it.

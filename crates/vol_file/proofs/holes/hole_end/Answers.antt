@@ -1,11 +1,24 @@
-use Rattle.std.proofs.Common.{◌+◌, ◌-◌, ◌*◌, ◌≤◌, ◌∙◌, ap, sym, subst, arith, slice_index}
+use Rattle.std.proofs.Common.{◌+◌, ◌-◌, ◌<◌, ◌*◌, ◌≤◌, ◌∙◌, ap, sym, subst, arith, slice_index}
 use Rattle.std.proofs.Math.Nat.{mul-le-mul}
 use Rattle.vol_layout.specs.Edition.{constants}
+use Rattle.vol_layout.specs.Inode.{address_at, inode_place}
 use Rattle.vol_layout.specs.Names.{pointer_in}
 use Rattle.vol_layout.specs.Places.{end_of}
 use Rattle.vol_file.specs.Holes.{IsHole, blocks_left}
-use Rattle.vol_file.proofs.Subtrees.{hole_at_entries, hole_past, few_entries, few_pointers, low_block}
+use Rattle.vol_file.proofs.Subtrees.{stored_direct, hole_at_entries, hole_past, few_entries, few_pointers, low_block}
 use Rattle.vol_file.proofs.holes.hole_end.Goals as goal
+
+pub returns-then-b-direct-clause-hole : goal.returns-then-b-direct-clause-hole
+returns-then-b-direct-clause-hole c = λ t low high.
+    stored_direct c.args.geometry.now c.args.image.now c.args.i c.args.form t (omega (arith, c.next_address.ensures.within, c.direct_count-direct.ensures))
+    ∙ c.next_address.ensures.zeros t low high
+
+pub returns-then-b-direct-clause-none : goal.returns-then-b-direct-clause-none
+returns-then-b-direct-clause-none c = λ same none.
+    let within : c.next_address.result < c.direct_count-direct.result = omega (arith, c.if-b-direct.true) in
+    c.next_address.ensures.some within
+    (ap (address_at c.args.geometry.now.edition c.args.image.now (inode_place c.args.geometry.now.edition c.args.i)) same
+    ∙ (sym (stored_direct c.args.geometry.now c.args.image.now c.args.i c.args.form c.args.b (omega (arith, c.if-b-direct.true, c.direct_count-direct.ensures))) ∙ none))
 
 pub returns-in_default-clause-hole : goal.returns-in_default-clause-hole
 returns-in_default-clause-hole c = hole_past c.args.geometry.now c.args.image.now c.args.i c.args.form c.args.b 4294967295 (sym c.in_default.ensures.end)

@@ -1,5 +1,5 @@
 //! The entries of a directory: finding one, and the place of a new one.
-ghost use Rattle.std.specs.Prelude.{◌≡◌, ℕ, ◌+◌, ◌-◌, ◌*◌, ◌<◌, ◌≤◌, not, false, length, OnErr, IfOk, IfErr, Some, None};
+ghost use Rattle.std.specs.Prelude.{◌≡◌, ℕ, ◌+◌, ◌-◌, ◌*◌, ◌<◌, ◌≤◌, not, true, false, length, OnErr, IfOk, IfErr, Some, None};
 ghost use Rattle.std.specs.List.{list_any};
 ghost use Rattle.vol_layout.specs.Geometry.{Fits};
 ghost use Rattle.vol_layout.specs.Slot.{slot_at};
@@ -8,6 +8,7 @@ ghost use Rattle.vol_dir.specs.Names.{get, names_of, names_in, is_dots};
 ghost use Rattle.vol_dir.specs.Scanning.{GoesOn};
 ghost use Rattle.vol_dir.specs.Searching.{is_sought, Searches, Finds, new_slot, slot_named};
 
+use pdp_words::words::word;
 use pdp_words::{BLOCK, Image};
 use vol_file::{block_at, next_block};
 use vol_layout::i_list::size;
@@ -72,6 +73,18 @@ fn slot_count(image: &Image, geometry: &Geometry, dir: u16) -> u32
     size(image, geometry, dir).min(geometry.edition.constants().greatest) / SLOT as u32
 }
 
+/// Whether a search goes on past the slot at byte `at`, because it is empty and an entry is sought: so its i-number says
+/// alone, and its name isn't read.
+fn is_passed(bytes: &[u8], at: usize, sought: Sought<'_>) -> bool
+    requires room { at + 16 ≤ length bytes.now }
+    ensures { result ≡ true → is_sought sought.entry (entry_in (slot_at bytes.now at)) ≡ false }
+{
+    match sought {
+        Sought::Empty | Sought::NamedOrEmpty(_) => false,
+        _ => word(bytes, at) == 0,
+    }
+}
+
 /// The first slot from `start` on that is sought, of `count` from byte `at` on.
 fn first_from(
     image: &Image,
@@ -86,9 +99,12 @@ fn first_from(
 {
     let bytes = image.as_bytes();
     for s in start..count {
-        let slot = Slot::read(bytes, at + SLOT * s as usize);
-        if is_sought(&slot, sought) {
-            return Some((s, slot));
+        let place = at + SLOT * s as usize;
+        if !is_passed(bytes, place, sought) {
+            let slot = Slot::read(bytes, place);
+            if is_sought(&slot, sought) {
+                return Some((s, slot));
+            }
         }
     }
     None
@@ -134,8 +150,34 @@ fn first_in_block(
 }
 
 /// The logical block of directory `dir` where a search goes on after block `b`, of `blocks`: the next one, but
-/// where holes have nothing that is sought the next that is none.
+/// after a hole, where holes have nothing that is sought, the next that is none.
 fn block_after(
+    image: &Image,
+    geometry: &Geometry,
+    dir: u16,
+    b: u32,
+    blocks: u32,
+    sought: Sought<'_>,
+) -> u32
+    requires fits { Fits geometry.now image.now }
+    requires first { 1 ≤ dir }
+    requires last { dir ≤ geometry.now.last_inode }
+    requires below { b < blocks }
+    ensures onward { b < result }
+    ensures within { result ≤ blocks }
+    ensures passed { (t : ℕ) → 32 * (b + 1) ≤ t → t < 32 * result → t < slot_count geometry.now image.now dir
+        → is_sought sought.entry (entry_at geometry.now image.now dir t) ≡ false }
+{
+    if block_at(image, geometry, dir, b).is_some() {
+        b + 1
+    } else {
+        after_hole(image, geometry, dir, b, blocks, sought)
+    }
+}
+
+/// The logical block of directory `dir` where a search goes on after the hole `b`, of `blocks`: the next one, but
+/// where holes have nothing that is sought the next that is none.
+fn after_hole(
     image: &Image,
     geometry: &Geometry,
     dir: u16,
@@ -160,8 +202,8 @@ fn block_after(
 
 /// The first slot of directory `dir` from slot `from` on that is sought, and what it holds.
 ///
-/// Costs two ways for each logical block that is passed and isn't a hole, a look at each of its slots, and what
-/// [`next_block`] does for the holes between: time follows the blocks that the directory names, pointers among
+/// Costs two ways for each logical block that is passed and isn't a hole, a look at each of its slots, and a way
+/// and what [`next_block`] does for each run of holes between: time follows the blocks that the directory names, pointers among
 /// them, and not its size.
 pub(crate) fn first_slot(
     image: &Image,

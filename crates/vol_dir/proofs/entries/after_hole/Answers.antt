@@ -6,7 +6,7 @@ use Rattle.vol_dir.specs.Searching.{is_sought}
 use Rattle.vol_dir.specs.declared.entries.Sought.{Sought}
 use Rattle.vol_dir.specs.declared.entries.Sought.TheVariants.{Named, Empty, NamedOrEmpty, Any, Other}
 use Rattle.vol_dir.proofs.SlotReading.{entry_in_hole}
-use Rattle.vol_dir.proofs.entries.block_after.Goals as goal
+use Rattle.vol_dir.proofs.entries.after_hole.Goals as goal
 
 -- an empty slot is what a search for anything else passes
 empty_passed : (sought : Sought) → sought ≢ Empty → ((name : _) → sought ≢ NamedOrEmpty name) → is_sought sought None ≡ false

@@ -4,6 +4,7 @@ pub mod Collecting
 pub mod Comparing
 pub mod Counts
 pub mod Deciding
+pub mod DotEntries
 pub mod DroppedGraphs
 pub mod EachDirectory
 pub mod EditedGraphs

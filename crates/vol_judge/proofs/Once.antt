@@ -1,14 +1,15 @@
 -- Directories are entered once, and the root never.
-use Rattle.std.proofs.Common.{◌≡◌, ℕ, ◌+◌, ◌<◌, ◌≤◌, inl, inr, Bool, true, false, List, length, refl, sym, ap, ◌∙◌, arith, get_or-set_other, get_or-set_same}
+use Rattle.std.proofs.Common.{◌≡◌, ℕ, ◌+◌, ◌<◌, ◌≤◌, inl, inr, Bool, true, false, List, ◌++◌, length, take, drop, refl, sym, ap, ◌∙◌, arith, get_or-set_other, get_or-set_same}
 use Rattle.std.proofs.Math.ListN.{set, length-set}
 use Rattle.std.proofs.lemmas.Bool.{cases_eq}
+use Rattle.std.proofs.lemmas.List.{take-append-le, take_all}
 use Rattle.vol_layout.specs.Slot.{name_of}
 use Rattle.vol_layout.specs.declared.geometry.Geometry.{Geometry}
 use Rattle.vol_layout.specs.declared.slot.Slot.{Slot}
 use Rattle.vol_dir.specs.Entries.{IsDirectory}
 use Rattle.vol_dir.specs.Names.{is_dots}
 use Rattle.vol_judge.specs.Directories.{root_of, Enters}
-use Rattle.vol_judge.specs.InodeMarks.{is_marked, IsEnteredBefore, MarksOnce, IsOnce}
+use Rattle.vol_judge.specs.InodeMarks.{is_marked, HasRoot, IsEnteredBefore, MarksOnce, IsOnce}
 use Rattle.vol_judge.specs.Stepping.{rank, IsNextSlot, IsPastEntries}
 use Rattle.vol_judge.proofs.Passing.{split}
 
@@ -28,10 +29,26 @@ mark_here marks n room = rw get_or-set_same refl
 pub mark_before : (marks : List Bool) (n i : ℕ) → (i ≡ n → ⊥) → is_marked (set marks n true) i ≡ true → is_marked marks i ≡ true
 mark_before marks n i apart marked = rw get_or-set_other at marked
 
+-- marks that are written over as a whole are the new ones
+pub marks_written : {A : Type 0} (len : ℕ) (new old : List A) → length new ≡ len → take len (new ++ drop (length new) old) ≡ new
+marks_written len new old all = take-append-le len new (drop (length new) old) (omega (arith, all)) ∙ take_all len new (omega (arith, all))
+
 -- what stands before a place stands before a later one
 entered_later : {geometry : Geometry} {image : List ℕ} {place i : ℕ} (later : ℕ) → place ≤ later → IsEnteredBefore geometry image place i
     → IsEnteredBefore geometry image later i
 entered_later later low had = record { directory = had.directory; slot = had.slot; enters = had.enters; before = omega (arith, had.before) }
+
+-- before the first entry the root alone is marked
+pub once_first : {geometry : Geometry} {image : List ℕ} {marks : List Bool} (place : ℕ) → HasRoot geometry marks → place ≤ rank 1 0
+    → MarksOnce geometry image place marks
+once_first place is low = record {
+  room = is.room;
+  root = is.root;
+  all = λ e t i directory enters before. absurd (omega (arith, before, low, enters.1.directory.first));
+  only = λ i marked. inl (is.only i marked);
+  once = λ e s f t i directory enters enters' before before'. absurd (omega (arith, before, low, enters.1.directory.first));
+  root_none = λ e s enters before. absurd (omega (arith, before, low, enters.1.directory.first));
+}
 
 -- an entry of `.` or `..`, or for what is no directory, is passed
 pub once_passed : {geometry : Geometry} {image : List ℕ} {marks : List Bool} {place d s : ℕ} {slot : Slot} → IsDirectory geometry image (root_of geometry)

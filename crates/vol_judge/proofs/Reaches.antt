@@ -1,216 +1,186 @@
--- Reaching the directories from the root.
-use Rattle.std.proofs.Common.{◌≡◌, ℕ, ◌+◌, ◌-◌, ◌<◌, ◌≤◌, ◌⊎◌, inl, inr, Bool, true, false, if◌then◌else◌, List, [], ◌∷◌, ◌++◌, None, length, take, refl, sym, ap, ◌∙◌, arith, length-append}
+-- Reaching the directories from the root, by going up from each.
+use Rattle.std.proofs.Common.{◌≡◌, ◌≢◌, ℕ, ◌+◌, ◌<◌, ◌≤◌, ◌==◌, ◌⊎◌, inl, inr, false, if◌then◌else◌, List, Option, None, Some, length, get_or, refl, sym, ◌∙◌, arith, get_or-set_other, get_or-set_same}
 use Rattle.std.proofs.Math.ListN.{set, length-set}
-use Rattle.std.specs.List.{Contains}
-use Rattle.std.proofs.lemmas.Bool.{cases_lt, cases_eq}
-use Rattle.std.proofs.lemmas.List.Elements.{Contains-append_left, Contains-append_right, Contains-append_cases}
+use Rattle.std.proofs.lemmas.Bool.{cases_eq}
+use Rattle.std.proofs.lemmas.Bool.Decides.{nat_tests}
 use Rattle.std.proofs.lemmas.List.Sums.{sum_by-set}
-use Rattle.vol_layout.specs.Slot.{name_of}
 use Rattle.vol_layout.specs.declared.geometry.Geometry.{Geometry}
-use Rattle.vol_layout.specs.declared.slot.Slot.{Slot}
-use Rattle.vol_dir.specs.Entries.{entry_at, slot_count, IsDirectory}
-use Rattle.vol_dir.specs.Names.{is_dots}
-use Rattle.vol_dir.specs.Scanning.{IsNextEntry}
-use Rattle.vol_judge.specs.Directories.{root_of, Enters, IsReached, at_root, below, IsTree}
-use Rattle.vol_judge.specs.InodeMarks.{is_marked, HasRoot, IsOnce}
-use Rattle.vol_judge.specs.Reaching.{MarksReached, Explores, ExploresBelow, load}
-use Rattle.vol_judge.proofs.Collecting.{same_entry, none_some}
-use Rattle.vol_judge.proofs.NextEntries.{entry_next, none_from}
-use Rattle.vol_judge.proofs.Once.{mark_kept, mark_here, mark_before}
+use Rattle.vol_file.proofs.Naming.{root_first}
+use Rattle.vol_dir.specs.Entries.{IsDirectory}
+use Rattle.vol_judge.specs.Directories.{root_of, Enters, HasDots, IsReached, at_root, below, IsTree}
+use Rattle.vol_judge.specs.InodeMarks.{HasUps, IsOnce}
+use Rattle.vol_judge.specs.Reaching.{AreWalked, WalksUp, unwalked}
 
--- a list of one has that one alone
-one_of : (n e : ℕ) → Contains (n ∷ []) e → e ≡ n
-one_of n e has =
-    let first : has.0 ≡ 0 = omega (arith, has.1) in
-    let at = rw first at has.2 in
-    sym at
+-- a directory other than the root names one by `..` that has an entry for it
+pub entered_above : {geometry : Geometry} {image : List ℕ} {ups : List (Option ℕ)} → HasDots geometry image → HasUps geometry image ups → (i : ℕ)
+    → IsDirectory geometry image i → i ≢ root_of geometry → (e : ℕ) × (t : ℕ) × Enters geometry image e t i × (get_or ups i None ≡ Some e)
+entered_above dots ups i is other =
+    let parent = dots.parent i is other in
+    (parent.1, parent.2, parent.4, (ups.named i is).all parent.0 parent.1 parent.3)
 
--- and has it
-one_in : (n : ℕ) → Contains (n ∷ []) n
-one_in n = (0, omega arith, refl)
-
--- first the root alone is marked, and to be entered
-pub explores_first : {geometry : Geometry} {image : List ℕ} {marks : List Bool} (work : List ℕ) → HasRoot geometry marks
-    → IsDirectory geometry image (root_of geometry) → work ≡ root_of geometry ∷ [] → Explores geometry image marks work
-explores_first {geometry = geometry} {image = image} {marks = marks} work is directory alone = record {
-  room = is.room;
-  root = is.root;
-  reached = λ i marked. rw (is.only i marked) at_root;
-  waiting = λ e has.
-      let has' = rw alone at has in
-      let same = one_of (root_of geometry) e has' in
-      rw same (directory, is.root);
-  closed = λ e t i marked enters number.
-      inr (rw (alone, is.only e marked) (one_in (root_of geometry)));
+-- first the root alone is marked
+pub walked_first : (geometry : Geometry) (image walks : List ℕ) → length walks ≡ geometry.last_inode + 1 → ((i : ℕ) → get_or walks i 0 ≡ 0)
+    → root_of geometry < length walks → AreWalked geometry image 1 (set walks (root_of geometry) (root_of geometry))
+walked_first geometry image walks len none room = record {
+  room = simp length-set len;
+  root = rw get_or-set_same refl;
+  early = λ i apart some. absurd (some (rw get_or-set_other (none i)));
+  reached = λ i some.
+      elim (cases_eq i (root_of geometry)) [
+        | inl same ↦ rw same at_root
+        | inr apart ↦ absurd (some (rw get_or-set_other (none i)))
+      ];
 }
 
--- a directory is taken out of the work, to be entered
-pub explores_taken : {geometry : Geometry} {image : List ℕ} {marks : List Bool} {work : List ℕ} (rest : List ℕ) (d : ℕ)
-    → Explores geometry image marks work → work ≡ rest ++ d ∷ [] → IsDirectory geometry image d × ExploresBelow geometry image d 0 marks rest
-explores_taken {geometry = geometry} {image = image} {marks = marks} {work = work} rest d is taken =
-    let last : Contains work d = rw taken (Contains-append_right rest (d ∷ []) d (one_in d)) in (
-      (is.waiting d last).0,
+-- what is no directory, and the root, has no way
+pub walked_later : {geometry : Geometry} {image walks : List ℕ} {d : ℕ} → AreWalked geometry image d walks → AreWalked geometry image (d + 1) walks
+walked_later is = record { room = is.room; root = is.root; early = λ i apart some. omega (arith, is.early i apart some); reached = is.reached }
+
+-- a way begins at its directory
+pub walk_first : {geometry : Geometry} {image walks : List ℕ} {d : ℕ} (ups : List (Option ℕ)) → AreWalked geometry image d walks → IsDirectory geometry image d
+    → d ≢ root_of geometry → WalksUp geometry image ups d d walks
+walk_first {geometry = geometry} {image = image} {walks = walks} {d = d} ups is directory other =
+    let none : (i : ℕ) → get_or walks i 0 ≡ d → ⊥ = λ i same.
+    elim (cases_eq i (root_of geometry)) [
+      | inl root ↦
+          let same' = rw root at same in
+          other (sym same' ∙ is.root)
+      | inr apart ↦ omega (arith, same, directory.first, is.early i apart (λ zero. omega (arith, zero, same, directory.first)))
+    ] in
+    record {
+      room = is.room;
+      root = is.root;
+      early = λ i apart some. omega (arith, is.early i apart some);
+      reached = λ i some apart. is.reached i some;
+      directory = directory;
+      onto = λ i same reached. absurd (none i same);
+      way = λ i same. absurd (none i same);
+      next = λ i e same named. absurd (none i same);
+      begun = inl refl;
+    }
+
+-- a mark of a way is kept, and so is the one that is set
+set_walk : (walks : List ℕ) (n d i : ℕ) → n < length walks → (get_or walks i 0 ≡ d) ⊎ (i ≡ n) → get_or (set walks n d) i 0 ≡ d
+set_walk walks n d i room (inr same) = rw same (rw get_or-set_same refl)
+set_walk walks n d i room (inl walked) =
+    elim (cases_eq i n) [
+      | inl same ↦ rw same (rw get_or-set_same refl)
+      | inr apart ↦ rw get_or-set_other walked
+    ]
+
+-- a mark of a way that isn't the one that is set was there before
+was_walk : (walks : List ℕ) (n d i v : ℕ) → (i ≡ n → ⊥) → get_or (set walks n d) i 0 ≡ v → get_or walks i 0 ≡ v
+was_walk walks n d i v apart same = rw get_or-set_other at same
+
+-- a way goes on to what the directory names by `..`
+pub walk_next : {geometry : Geometry} {image walks : List ℕ} {ups : List (Option ℕ)} {d place : ℕ} (up : ℕ) → HasDots geometry image → HasUps geometry image ups
+    → WalksUp geometry image ups d place walks → place ≢ root_of geometry → place < length walks → get_or ups place None ≡ Some up
+    → WalksUp geometry image ups d up (set walks place d)
+walk_next {geometry = geometry} {image = image} {walks = walks} {ups = ups} {d = d} {place = place} up dots ups_are is other room named =
+    let above = entered_above dots ups_are place is.directory other in
+    let number : above.0 ≡ up = let both : Some above.0 ≡ Some up = sym above.3 ∙ named in cc in
+    let enters : Enters geometry image up above.1 place = rw number at above.2 in
+    record {
+      room = simp length-set is.room;
+      root = let apart : root_of geometry ≢ place = λ same. other (sym same) in rw get_or-set_other is.root;
+      early = λ i apart' some.
+          elim (cases_eq i place) [
+            | inl same ↦ rw same (rw get_or-set_same (omega arith))
+            | inr apart ↦ rw get_or-set_other (is.early i apart' (λ zero. some (rw get_or-set_other zero)))
+          ];
+      reached = λ i some more.
+          elim (cases_eq i place) [
+            | inl same ↦ absurd (more (set_walk walks place d i room (inr same)))
+            | inr apart ↦ is.reached i (λ zero. some (rw get_or-set_other zero)) (λ walked. more (rw get_or-set_other walked))
+          ];
+      directory = enters.1.directory;
+      onto = λ i walked reached.
+          let here : IsReached geometry image place = below up above.1 place reached enters in
+          elim (cases_eq i place) [
+            | inl same ↦ rw same here
+            | inr apart ↦ is.onto i (was_walk walks place d i d apart walked) here
+          ];
+      way = λ i walked.
+          elim (cases_eq i place) [
+            | inl same ↦ rw same is.directory
+            | inr apart ↦ is.way i (was_walk walks place d i d apart walked)
+          ];
+      next = λ i e walked names.
+          elim (cases_eq i place) [
+            | inl same ↦
+                let names' = rw same at names in
+                inl (let both : Some e ≡ Some up = sym names' ∙ named in cc)
+            | inr apart ↦ elim (is.next i e (was_walk walks place d i d apart walked) names) [
+              | inl here ↦ inr (set_walk walks place d e room (inr here))
+              | inr there ↦ inr (set_walk walks place d e room (inl there))
+            ]
+          ];
+      begun = elim is.begun [
+        | inl same ↦ inr (set_walk walks place d d room (inr (sym same)))
+        | inr walked ↦ inr (set_walk walks place d d room (inl walked))
+      ];
+    }
+
+-- where no way came by is not the root
+pub not_root : {geometry : Geometry} {image walks : List ℕ} {ups : List (Option ℕ)} {d place : ℕ} → WalksUp geometry image ups d place walks
+    → get_or walks place 0 ≡ 0 → place ≢ root_of geometry
+not_root {geometry = geometry} is zero same = let zero' = rw same at zero in omega (arith, zero', is.root, root_first geometry.edition)
+
+-- a directory that isn't the root isn't the last of its way upwards
+pub walk_on : {geometry : Geometry} {image walks : List ℕ} {ups : List (Option ℕ)} {d place : ℕ} → HasDots geometry image → HasUps geometry image ups
+    → WalksUp geometry image ups d place walks → place ≢ root_of geometry → get_or ups place None ≡ None → ⊥
+walk_on {place = place} dots ups is other none = let above = entered_above dots ups place is.directory other in let both = sym none ∙ above.3 in cc
+
+-- a way that comes to where an earlier one came by comes to the root
+pub walk_done : {geometry : Geometry} {image walks : List ℕ} {ups : List (Option ℕ)} {d place : ℕ} → WalksUp geometry image ups d place walks
+    → get_or walks place 0 ≢ 0 → get_or walks place 0 ≢ d → AreWalked geometry image (d + 1) walks × IsReached geometry image d
+walk_done {geometry = geometry} {image = image} {walks = walks} {d = d} {place = place} is some other =
+    let top : IsReached geometry image place = is.reached place some other in (
       record {
         room = is.room;
         root = is.root;
-        current = (is.waiting d last).1;
-        reached = is.reached;
-        waiting = λ e has. is.waiting e (rw taken (Contains-append_left rest (d ∷ []) e has));
-        closed = λ e t i marked enters number.
-            elim (is.closed e t i marked enters number) [
-              | inl known ↦ inl known
-              | inr has ↦
-                  let has' = rw taken at has in
-                  elim (Contains-append_cases rest (d ∷ []) e has') [
-                    | inl left ↦ inr (inl left)
-                    | inr right ↦ inr (inr (one_of d e right, omega arith))
-                  ]
+        early = is.early;
+        reached = λ i marked.
+            elim (cases_eq (get_or walks i 0) d) [
+              | inl same ↦ is.onto i same top
+              | inr apart ↦ is.reached i marked apart
             ];
       },
+      elim is.begun [
+        | inl same ↦ rw (sym same) top
+        | inr walked ↦ is.onto d walked top
+      ],
     )
 
--- what an entry at or after slot `from` is: the next one, or one after it
-later : {geometry : Geometry} {image : List ℕ} {d from s : ℕ} {slot : Slot} (t i : ℕ) → IsNextEntry (entry_at geometry image d) from (slot_count geometry image d) s slot
-    → Enters geometry image d t i → from ≤ t → ((i ≡ slot.inode) × (is_dots (name_of slot.name) ≡ false)) ⊎ (s + 1 ≤ t)
-later {geometry = geometry} {image = image} {d = d} {from = from} {s = s} {slot = slot} t i next enters above =
-    elim (cases_lt t s) [
-      | inl low ↦ absurd (none_some (entry_at geometry image d t) (enters.0, i) enters.1.entry (next.none t above low))
-      | inr high ↦ elim (cases_eq t s) [
-        | inl same ↦
-            let here = rw same at enters.1.entry in
-            let both = same_entry (entry_at geometry image d s) enters.0 (name_of slot.name) i slot.inode here (entry_next next) in
-            inl (both.1, ap is_dots (sym both.0) ∙ enters.2)
-        | inr apart ↦ inr (omega arith)
-      ]
-    ]
+-- what a way came by that runs into itself isn't reached
+ring : {geometry : Geometry} {image walks : List ℕ} {ups : List (Option ℕ)} {d place : ℕ} (i : ℕ) → HasDots geometry image → HasUps geometry image ups
+    → IsOnce geometry image → WalksUp geometry image ups d place walks → get_or walks place 0 ≡ d → d ≢ root_of geometry
+    → IsReached geometry image i → get_or walks i 0 ≡ d → ⊥
+ring _ dots ups once is top other at_root walked = other (sym walked ∙ is.root)
+ring {geometry = geometry} {walks = walks} {d = d} _ dots ups once is top other (below e s i reached enters) walked =
+    let apart : i ≢ root_of geometry = λ same. let walked' = rw same at walked in other (sym walked' ∙ is.root) in
+    let above = entered_above dots ups i (is.way i walked) apart in
+    let one = once.one i e s above.0 above.1 (is.way i walked) enters above.2 in
+    let up : get_or walks above.0 0 ≡ d = elim (is.next i above.0 walked above.3) [ inl here ↦ rw here top | inr there ↦ there ] in
+    ring e dots ups once is top other reached (rw one.0 up)
 
--- an entry for a directory that isn't marked marks it, and it is to be entered
-pub explores_marked : {geometry : Geometry} {image : List ℕ} {marks : List Bool} {work : List ℕ} {d from s : ℕ} {slot : Slot}
-    → ExploresBelow geometry image d from marks work → IsDirectory geometry image d → IsNextEntry (entry_at geometry image d) from (slot_count geometry image d) s slot
-    → slot.inode < length marks → (is_dots (name_of slot.name) ≡ false) × IsDirectory geometry image slot.inode
-    → ExploresBelow geometry image d (s + 1) (set marks slot.inode true) (work ++ slot.inode ∷ [])
-explores_marked {geometry = geometry} {image = image} {marks = marks} {work = work} {d = d} {from = from} {s = s} {slot = slot} is directory next room enters =
-    let one = slot.inode ∷ [] in
-    record {
-      room = simp length-set is.room;
-      root = mark_kept marks slot.inode (root_of geometry) room is.root;
-      current = mark_kept marks slot.inode d room is.current;
-      reached = λ i marked.
-          elim (cases_eq i slot.inode) [
-            | inl same ↦ rw same (below d s slot.inode (is.reached d is.current)
-                (name_of slot.name, record { directory = directory; entry = entry_next next }, enters.0))
-            | inr apart ↦ is.reached i (mark_before marks slot.inode i apart marked)
-          ];
-      waiting = λ e has.
-          elim (Contains-append_cases work one e has) [
-            | inl left ↦ let had = is.waiting e left in (had.0, mark_kept marks slot.inode e room had.1)
-            | inr right ↦ let same = one_of slot.inode e right in rw same (enters.1, mark_here marks slot.inode room)
-          ];
-      closed = λ e t i marked entered number.
-          elim (cases_eq e slot.inode) [
-            | inl same ↦ inr (inl (rw same (Contains-append_right work one slot.inode (one_in slot.inode))))
-            | inr apart ↦ elim (is.closed e t i (mark_before marks slot.inode e apart marked) entered number) [
-              | inl known ↦ inl (mark_kept marks slot.inode i room known)
-              | inr other ↦ elim other [
-                | inl has ↦ inr (inl (Contains-append_left work one e has))
-                | inr left ↦
-                    let entered' = rw left.0 at entered in
-                    elim (later t i next entered' left.1) [
-                      | inl here ↦ inl (rw here.0 (mark_here marks slot.inode room))
-                      | inr high ↦ inr (inr (left.0, high))
-                    ]
-              ]
-            ]
-          ];
-    }
+-- the directory of a way that runs into itself isn't reached
+pub walk_ring : {geometry : Geometry} {image walks : List ℕ} {ups : List (Option ℕ)} {d place : ℕ} → HasDots geometry image → HasUps geometry image ups
+    → IsOnce geometry image → WalksUp geometry image ups d place walks → get_or walks place 0 ≡ d → d ≢ root_of geometry
+    → IsReached geometry image d → ⊥
+walk_ring {walks = walks} {d = d} dots ups once is top other reached =
+    ring d dots ups once is top other reached (elim is.begun [ inl same ↦ rw same at top | inr walked ↦ walked ])
 
--- an entry for what is no directory or is marked, or of `.` or `..`, is passed
-pub explores_passed : {geometry : Geometry} {image : List ℕ} {marks : List Bool} {work : List ℕ} {d from s : ℕ} {slot : Slot}
-    → ExploresBelow geometry image d from marks work → IsNextEntry (entry_at geometry image d) from (slot_count geometry image d) s slot
-    → ((is_dots (name_of slot.name) ≡ false) × IsDirectory geometry image slot.inode → is_marked marks slot.inode ≡ true)
-    → ExploresBelow geometry image d (s + 1) marks work
-explores_passed {geometry = geometry} {image = image} {marks = marks} {slot = slot} is next known = record {
-  room = is.room;
-  root = is.root;
-  current = is.current;
-  reached = is.reached;
-  waiting = is.waiting;
-  closed = λ e t i marked entered number.
-      elim (is.closed e t i marked entered number) [
-        | inl old ↦ inl old
-        | inr other ↦ elim other [
-          | inl has ↦ inr (inl has)
-          | inr left ↦
-              let entered' = rw left.0 at entered in
-              elim (later t i next entered' left.1) [
-                | inl here ↦
-                    let number' = rw here.0 at number in
-                    inl (rw here.0 (known (here.1, number')))
-                | inr high ↦ inr (inr (left.0, high))
-              ]
-        ]
-      ];
-}
+-- each step leaves fewer i-numbers that no way came by
+pub walk_fewer : (walks : List ℕ) (n d : ℕ) → n < length walks → get_or walks n 0 ≡ 0 → 1 ≤ d → unwalked (set walks n d) + 1 ≤ unwalked walks
+walk_fewer walks n d room zero first =
+    let sums = sum_by-set (λ walk. if walk == 0 then 1 else 0) walks n d 0 room in
+    let sums' = rw zero at sums in
+    let some : (d == 0) ≡ false = grind (arith, nat_tests) in
+    let sums'' = rw some at sums' in
+    omega (arith, sums'')
 
--- where no slot is left, the directory is entered
-pub explores_entered : {geometry : Geometry} {image : List ℕ} {marks : List Bool} {work : List ℕ} {d from : ℕ}
-    → ExploresBelow geometry image d from marks work → ((t : ℕ) → from ≤ t → t < slot_count geometry image d → entry_at geometry image d t ≡ None)
-    → Explores geometry image marks work
-explores_entered {geometry = geometry} {image = image} {d = d} {from = from} is none = record {
-  room = is.room;
-  root = is.root;
-  reached = is.reached;
-  waiting = is.waiting;
-  closed = λ e t i marked entered number.
-      elim (is.closed e t i marked entered number) [
-        | inl old ↦ inl old
-        | inr other ↦ elim other [
-          | inl has ↦ inr has
-          | inr left ↦
-              let entered' = rw left.0 at entered in
-              absurd (none_some (entry_at geometry image d t) (entered'.0, i) entered'.1.entry (none_from geometry image d from none t left.1))
-        ]
-      ];
-}
-
--- a list from which nothing is taken is empty
-pub taken_none : (old new : List ℕ) (n : ℕ) → n ≡ 0 → new ≡ take (n - 1) old → old ≡ new ++ [] → length old ≡ 0
-taken_none old new n zero rest items =
-    let first : n - 1 ≡ 0 = omega arith in
-    let none : new ≡ [] = rest ∙ ap (λ k. take k old) first in
-    let items' = rw none at items in
-    rw items' refl
-
--- where no work is left, all is marked that is reached
-pub explores_all : {geometry : Geometry} {image : List ℕ} {marks : List Bool} {work : List ℕ} → Explores geometry image marks work → length work ≡ 0
-    → MarksReached geometry image marks
-explores_all is empty = record {
-  room = is.room;
-  root = is.root;
-  reached = is.reached;
-  closed = λ e t i marked entered number.
-      elim (is.closed e t i marked entered number) [
-        | inl old ↦ old
-        | inr has ↦ absurd (omega (arith, has.1))
-      ];
-}
-
--- a new mark and a directory more to be entered lessen the load
-pub load_marked : (marks : List Bool) (work : List ℕ) (n : ℕ) → n < length marks → is_marked marks n ≡ false
-    → load (set marks n true) (work ++ n ∷ []) + 1 ≤ load marks work
-load_marked marks work n room new =
-    let sums = sum_by-set (λ mark. if mark then 0 else 1) marks n true false room in
-    let sums' = rw new at sums in
-    omega (arith, sums', length-append work (n ∷ []))
-
--- a directory that is reached is marked
-pub reached_marked : {geometry : Geometry} {image : List ℕ} {marks : List Bool} (i : ℕ) → MarksReached geometry image marks → IsReached geometry image i
-    → IsDirectory geometry image i → is_marked marks i ≡ true
-reached_marked _ is at_root directory = is.root
-reached_marked _ is (below d s i reached enters) directory =
-    is.closed d s i (reached_marked d is reached enters.1.directory) enters directory
-
--- rule 11 holds where each directory is marked
-pub tree_holds : {geometry : Geometry} {image : List ℕ} {marks : List Bool} → IsOnce geometry image → MarksReached geometry image marks
-    → ((d : ℕ) → IsDirectory geometry image d → is_marked marks d ≡ true) → IsTree geometry image
-tree_holds once is all = record { reached = λ d directory. is.reached d (all d directory); one = once.one; root_none = once.root_none }
+-- rule 11 holds where each directory is entered once, and reached
+pub tree_holds : {geometry : Geometry} {image : List ℕ} → IsOnce geometry image → ((d : ℕ) → IsDirectory geometry image d → IsReached geometry image d)
+    → IsTree geometry image
+tree_holds once reached = record { reached = reached; one = once.one; root_none = once.root_none }

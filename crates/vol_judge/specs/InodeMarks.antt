@@ -1,7 +1,7 @@
 -- What marks by i-number stand for, while the entries of a volume are gone over.
 use Rattle.std.specs.Prelude.{◌≡◌, ℕ, ◌+◌, ◌<◌, ◌⊎◌, Bool, true, false, List, Option, None, Some, length, slice_index_or}
 use Rattle.vol_dir.specs.Entries.{IsDirectory, HasEntry}
-use Rattle.vol_dir.specs.Names.{dot_dot}
+use Rattle.vol_dir.specs.Names.{dot, dot_dot}
 use Rattle.vol_layout.specs.declared.geometry.Geometry.{Geometry}
 use Rattle.vol_judge.specs.Directories.{root_of, Enters}
 use Rattle.vol_judge.specs.Stepping.{rank}
@@ -30,6 +30,27 @@ pub record HasUpsBelow (geometry : Geometry) (image : List ℕ) (d : ℕ) (ups :
 pub record HasUps (geometry : Geometry) (image : List ℕ) (ups : List (Option ℕ)) : Type 0 where
   pub room : length ups ≡ geometry.last_inode + 1
   pub named : (d : ℕ) → IsDirectory geometry image d → IsNamed geometry image d dot_dot (slice_index_or ups d None)
+
+-- what directory d names by a name in its slots below n, if it has such an entry there (manual section 5, directories)
+pub record IsNamedUpTo (geometry : Geometry) (image : List ℕ) (d n : ℕ) (name : List ℕ) (number : Option ℕ) : Type 0 where
+  pub all : (s i : ℕ) → s < n → HasEntry geometry image d s name i → number ≡ Some i
+  pub only : (i : ℕ) → number ≡ Some i → (s : ℕ) × HasEntry geometry image d s name i
+
+-- the directories below d name themselves by `.`, and this is what they name by `..` (rule 10)
+pub record NameThemselvesBelow (geometry : Geometry) (image : List ℕ) (d : ℕ) (ups : List (Option ℕ)) : Type 0 where
+  pub itself : (e : ℕ) → e < d → IsDirectory geometry image e → (s : ℕ) × HasEntry geometry image e s dot e
+  pub named : HasUpsBelow geometry image d ups
+
+-- each directory names itself by `.`, and this is what each names by `..` (rule 10)
+pub record NameThemselves (geometry : Geometry) (image : List ℕ) (ups : List (Option ℕ)) : Type 0 where
+  pub itself : (d : ℕ) → IsDirectory geometry image d → (s : ℕ) × HasEntry geometry image d s dot d
+  pub named : HasUps geometry image ups
+
+-- each directory names itself by `.`, and the root itself by `..`; and this is what each names by `..` (rule 10)
+pub record HasParents (geometry : Geometry) (image : List ℕ) (ups : List (Option ℕ)) : Type 0 where
+  pub itself : (d : ℕ) → IsDirectory geometry image d → (s : ℕ) × HasEntry geometry image d s dot d
+  pub root : IsNamed geometry image (root_of geometry) dot_dot (Some (root_of geometry))
+  pub named : HasUps geometry image ups
 
 -- directory e has an entry for i-number i, other than `.` and `..`, and i names it by `..` (manual section 5, directories)
 pub record IsChild (geometry : Geometry) (image : List ℕ) (ups : List (Option ℕ)) (i : ℕ) : Type 0 where

@@ -1,43 +1,29 @@
--- Reaching the directories from the root: marks of those found, and the work that is left.
-use Rattle.std.specs.Prelude.{◌≡◌, ℕ, ◌+◌, ◌*◌, ◌≤◌, ◌⊎◌, Bool, true, if◌then◌else◌, List, length}
-use Rattle.std.specs.List.{sum_by, Contains}
+-- Reaching the directories from the root: the ways up from directories, by what they name by `..`.
+use Rattle.std.specs.Prelude.{◌≡◌, ◌≢◌, ℕ, ◌+◌, ◌<◌, ◌==◌, ◌⊎◌, if◌then◌else◌, List, Option, None, Some, length, slice_index, slice_index_or}
+use Rattle.std.specs.List.{sum_by}
 use Rattle.vol_dir.specs.Entries.{IsDirectory}
 use Rattle.vol_layout.specs.declared.geometry.Geometry.{Geometry}
-use Rattle.vol_judge.specs.Directories.{root_of, Enters, IsReached}
-use Rattle.vol_judge.specs.InodeMarks.{is_marked}
+use Rattle.vol_judge.specs.Directories.{root_of, IsReached}
 
--- the root is marked, what is marked is reached from the root, and each directory that a marked one enters is marked (ncheck)
-pub record MarksReached (geometry : Geometry) (image : List ℕ) (marks : List Bool) : Type 0 where
-  pub room : length marks ≡ geometry.last_inode + 1
-  pub root : is_marked marks (root_of geometry) ≡ true
-  pub reached : (i : ℕ) → is_marked marks i ≡ true → IsReached geometry image i
-  pub closed : (e t i : ℕ) → is_marked marks e ≡ true → Enters geometry image e t i → IsDirectory geometry image i → is_marked marks i ≡ true
+-- what the ways from directories below d came by is marked by that directory's number, and the root by its own; all of it is reached from the root (this project)
+pub record AreWalked (geometry : Geometry) (image : List ℕ) (d : ℕ) (walks : List ℕ) : Type 0 where
+  pub room : length walks ≡ geometry.last_inode + 1
+  pub root : slice_index walks (root_of geometry) ≡ root_of geometry
+  pub early : (i : ℕ) → i ≢ root_of geometry → slice_index walks i ≢ 0 → slice_index walks i < d
+  pub reached : (i : ℕ) → slice_index walks i ≢ 0 → IsReached geometry image i
 
--- the root is marked, what is marked is reached from the root, the directories yet to be entered are marked, and each directory
--- that a marked one enters is marked, or that one is yet to be entered (this project)
-pub record Explores (geometry : Geometry) (image : List ℕ) (marks : List Bool) (work : List ℕ) : Type 0 where
-  pub room : length marks ≡ geometry.last_inode + 1
-  pub root : is_marked marks (root_of geometry) ≡ true
-  pub reached : (i : ℕ) → is_marked marks i ≡ true → IsReached geometry image i
-  pub waiting : (e : ℕ) → Contains work e → IsDirectory geometry image e × (is_marked marks e ≡ true)
-  pub closed : (e t i : ℕ) → is_marked marks e ≡ true → Enters geometry image e t i → IsDirectory geometry image i
-      → (is_marked marks i ≡ true) ⊎ Contains work e
+-- the way from directory d has come as far as directory `at`, and is marked by d; all other marks are of what is reached from the root (this project)
+pub record WalksUp (geometry : Geometry) (image : List ℕ) (ups : List (Option ℕ)) (d at : ℕ) (walks : List ℕ) : Type 0 where
+  pub room : length walks ≡ geometry.last_inode + 1
+  pub root : slice_index walks (root_of geometry) ≡ root_of geometry
+  pub early : (i : ℕ) → i ≢ root_of geometry → slice_index walks i ≢ 0 → slice_index walks i < d + 1
+  pub reached : (i : ℕ) → slice_index walks i ≢ 0 → slice_index walks i ≢ d → IsReached geometry image i
+  pub directory : IsDirectory geometry image at
+  pub onto : (i : ℕ) → slice_index walks i ≡ d → IsReached geometry image at → IsReached geometry image i
+  pub way : (i : ℕ) → slice_index walks i ≡ d → IsDirectory geometry image i
+  pub next : (i e : ℕ) → slice_index walks i ≡ d → slice_index_or ups i None ≡ Some e → (e ≡ at) ⊎ (slice_index walks e ≡ d)
+  pub begun : (at ≡ d) ⊎ (slice_index walks d ≡ d)
 
--- the root and directory d are marked, what is marked is reached from the root, the directories yet to be entered are marked, and
--- each directory that a marked one enters is marked, or that one is yet to be entered, or is d and enters it by slot `from` or a later one (this project)
-pub record ExploresBelow (geometry : Geometry) (image : List ℕ) (d from : ℕ) (marks : List Bool) (work : List ℕ) : Type 0 where
-  pub room : length marks ≡ geometry.last_inode + 1
-  pub root : is_marked marks (root_of geometry) ≡ true
-  pub current : is_marked marks d ≡ true
-  pub reached : (i : ℕ) → is_marked marks i ≡ true → IsReached geometry image i
-  pub waiting : (e : ℕ) → Contains work e → IsDirectory geometry image e × (is_marked marks e ≡ true)
-  pub closed : (e t i : ℕ) → is_marked marks e ≡ true → Enters geometry image e t i → IsDirectory geometry image i
-      → (is_marked marks i ≡ true) ⊎ (Contains work e ⊎ ((e ≡ d) × (from ≤ t)))
-
--- how many i-numbers aren't marked (this project)
-abbrev pub unmarked : List Bool → ℕ
-unmarked marks = sum_by (λ mark. if mark then 0 else 1) marks
-
--- the work that is left at most: each i-number yet to be marked, and then entered (this project)
-abbrev pub load : List Bool → List ℕ → ℕ
-load marks work = 2 * unmarked marks + length work
+-- how many i-numbers no way came by (this project)
+abbrev pub unwalked : List ℕ → ℕ
+unwalked walks = sum_by (λ walk. if walk == 0 then 1 else 0) walks

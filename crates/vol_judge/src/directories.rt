@@ -6,11 +6,13 @@ ghost use Rattle.vol_judge.specs.Judging.{IsFirstBroken};
 ghost use Rattle.vol_judge.specs.Sound.{directory_rules};
 
 mod dots;
+mod entered;
 mod links;
 mod tree;
 
 use crate::entries::has_entries;
-use dots::has_dots;
+use dots::{has_dots, parents};
+use entered::find_entered;
 use links::has_links;
 use pdp_words::Image;
 use std::alloc::{AllocError, Global};
@@ -35,13 +37,17 @@ pub(crate) fn judge_directories(
     if !has_entries(alloc, image, geometry)? {
         return Ok(Some(9));
     }
-    if !has_dots(alloc, image, geometry)? {
+    let Some(ups) = parents(alloc, image, geometry)? else {
+        return Ok(Some(10));
+    };
+    let found = find_entered(alloc, image, geometry, &ups)?;
+    if !has_dots(image, geometry, &ups, &found.children) {
         return Ok(Some(10));
     }
-    if !is_tree(alloc, image, geometry)? {
+    if !is_tree(alloc, image, geometry, &ups, found.once)? {
         return Ok(Some(11));
     }
-    if !has_links(alloc, image, geometry)? {
+    if !has_links(image, geometry, &found.counts) {
         return Ok(Some(12));
     }
     Ok(None)

@@ -1,107 +1,124 @@
 //! Rule 10: the entries `.` and `..`.
-ghost use Rattle.std.specs.Prelude.{◌≡◌, ℕ, ◌+◌, IfOk, IsTrue, ◌↔◌, length};
+ghost use Rattle.std.specs.Prelude.{◌≡◌, ◌+◌, if◌then◌else◌, Some, IfOk, IsTrue, ◌↔◌, MatchOption};
+ghost use Rattle.std.specs.Str.{bytes_eq};
 ghost use Rattle.vol_layout.specs.Geometry.{Fits};
+ghost use Rattle.vol_layout.specs.Slot.{name_of};
 ghost use Rattle.vol_file.specs.Rules.{HasKinds};
-ghost use Rattle.vol_dir.specs.Entries.{IsDirectory, HasEntry, HasEntries};
-ghost use Rattle.vol_dir.specs.Names.{dot};
+ghost use Rattle.vol_dir.specs.Entries.{IsDirectory, HasEntries};
+ghost use Rattle.vol_dir.specs.Names.{dot, dot_dot};
 ghost use Rattle.vol_judge.specs.Directories.{HasDots};
-ghost use Rattle.vol_judge.specs.InodeMarks.{IsNamed, HasUps, MarksChildren};
+ghost use Rattle.vol_judge.specs.InodeMarks.{IsNamed, NameThemselves, HasParents, MarksChildren};
 ghost use Rattle.vol_judge.specs.Stepping.{rank};
 
-use crate::inode_marks::{are_marked, root_marked};
-use crate::reading::{Place, is_directory, next_entry};
+use crate::inode_marks::are_marked;
+use crate::reading::is_directory;
 use pdp_words::Image;
 use std::alloc::{AllocError, Global};
-use vol_dir::find;
-use vol_layout::Geometry;
+use vol_layout::{Geometry, Slot};
 
-/// Whether rule 10 holds of a volume on which rules 3 and 9 hold.
+/// What a directory names by `.` and by `..`; None where it has no such entry.
+#[derive(Clone, Copy)]
+struct Dots {
+    own: Option<u16>,
+    up: Option<u16>,
+}
+
+/// Whether rule 10 holds, by what each directory names by `..` where it names itself by `.`, and the marks
+/// of those that are entered there.
 ///
-/// Costs three looks at each slot of each directory. Memory is taken for five bytes an i-number.
+/// Costs a look at each i-node. Takes no memory.
 pub(crate) fn has_dots(
+    image: &Image,
+    geometry: &Geometry,
+    ups: &[Option<u16>],
+    children: &[bool],
+) -> bool
+    requires fits { Fits geometry.now image.now }
+    requires parents { HasParents geometry.now image.now ups.now }
+    requires children { MarksChildren geometry.now image.now ups.now (rank (geometry.now.last_inode + 1) 0) children.now }
+    ensures { IsTrue result ↔ HasDots geometry.now image.now }
+{
+    are_marked(image, geometry, children)
+}
+
+/// What each directory names by `..`, of a volume on which rules 3 and 9 hold; None where some directory doesn't
+/// name itself by `.`, or the root doesn't name itself by `..`.
+///
+/// Costs a look at each slot of each directory, up to those two entries. Memory is taken for four bytes an i-number.
+pub(crate) fn parents(
     alloc: Global,
     image: &Image,
     geometry: &Geometry,
-) -> Result<bool, AllocError>
+) -> Result<Option<Vec<Option<u16>>>, AllocError>
     requires fits { Fits geometry.now image.now }
     requires kinds { HasKinds geometry.now image.now }
     requires entries { HasEntries geometry.now image.now }
-    ensures { IfOk result (λ holds. IsTrue holds ↔ HasDots geometry.now image.now) }
+    ensures { IfOk result (λ ups. MatchOption ups (HasDots geometry.now image.now → ⊥)
+        (λ ups. HasParents geometry.now image.now ups.items)) }
 {
+    let Some(ups) = ups(alloc, image, geometry)? else {
+        return Ok(None);
+    };
     let root = geometry.edition.constants().root;
-    if !name_themselves(image, geometry)
-        || named_in(image, geometry, root, b"..".as_slice()) != Some(root)
-    {
-        return Ok(false);
+    if ups[root as usize] != Some(root) {
+        return Ok(None);
     }
-    let ups = ups(alloc, image, geometry)?;
-    let children = children(alloc, image, geometry, &ups)?;
-    Ok(are_marked(image, geometry, &children))
+    Ok(Some(ups))
 }
 
-/// Whether each directory names itself by `.`.
-fn name_themselves(image: &Image, geometry: &Geometry) -> bool
+/// What each directory names by `..`; None where some directory doesn't name itself by `.`.
+fn ups(
+    alloc: Global,
+    image: &Image,
+    geometry: &Geometry,
+) -> Result<Option<Vec<Option<u16>>>, AllocError>
     requires fits { Fits geometry.now image.now }
     requires entries { HasEntries geometry.now image.now }
-    ensures { IsTrue result ↔ ((d : ℕ) → IsDirectory geometry.now image.now d
-        → (s : ℕ) × HasEntry geometry.now image.now d s dot d) }
-{
-    for d in 1..=geometry.last_inode {
-        if is_directory(image, geometry, d)
-            && named_in(image, geometry, d, b".".as_slice()) != Some(d)
-        {
-            return false;
-        }
-    }
-    true
-}
-
-/// The i-number that directory `d` names by a name.
-#[tactic(auto, using(crate::proofs::Parents::named_by_map))]
-fn named_in(image: &Image, geometry: &Geometry, d: u16, name: &[u8]) -> Option<u16>
-    requires fits { Fits geometry.now image.now }
-    requires directory { IsDirectory geometry.now image.now d }
-    requires entries { HasEntries geometry.now image.now }
-    ensures { IsNamed geometry.now image.now d name.now result }
-{
-    find(image, geometry, d, name)
-}
-
-/// What each directory names by `..`.
-fn ups(alloc: Global, image: &Image, geometry: &Geometry) -> Result<Vec<Option<u16>>, AllocError>
-    requires fits { Fits geometry.now image.now }
-    requires entries { HasEntries geometry.now image.now }
-    ensures { IfOk result (λ ups. HasUps geometry.now image.now ups.items) }
+    ensures { IfOk result (λ ups. MatchOption ups (HasDots geometry.now image.now → ⊥)
+        (λ ups. NameThemselves geometry.now image.now ups.items)) }
 {
     let mut ups = vec![in alloc; None; geometry.last_inode as usize + 1]?;
     for d in 1..=geometry.last_inode {
         if is_directory(image, geometry, d) {
-            ups[d as usize] = named_in(image, geometry, d, b"..".as_slice());
+            let dots = dots_in(image, geometry, d);
+            if dots.own != Some(d) {
+                return Ok(None);
+            }
+            ups[d as usize] = dots.up;
         }
     }
-    Ok(ups)
+    Ok(Some(ups))
 }
 
-/// Marks of the root, and of what has an entry in the directory that it names by `..`.
-fn children(
-    alloc: Global,
-    image: &Image,
-    geometry: &Geometry,
-    ups: &[Option<u16>],
-) -> Result<Vec<bool>, AllocError>
+/// What directory `d` names by `.` and by `..`. Looks at its slots up to those two entries.
+fn dots_in(image: &Image, geometry: &Geometry, d: u16) -> Dots
     requires fits { Fits geometry.now image.now }
+    requires directory { IsDirectory geometry.now image.now d }
     requires entries { HasEntries geometry.now image.now }
-    requires room { length ups.now ≡ geometry.now.last_inode + 1 }
-    ensures { IfOk result (λ marks. MarksChildren geometry.now image.now ups.now (rank (geometry.now.last_inode + 1) 0) marks.items) }
+    ensures own { IsNamed geometry.now image.now d dot result.own }
+    ensures up { IsNamed geometry.now image.now d dot_dot result.up }
 {
-    let mut marks = root_marked(alloc, geometry)?;
-    let mut place = Place::first();
-    while let Some(entry) = next_entry(image, geometry, place) {
-        let child = entry.slot.inode as usize;
-        if !entry.is_dots() && ups[child] == Some(entry.directory) {
-            marks[child] = true;
+    let mut own = None;
+    let mut up = None;
+    let mut from = 0;
+    while let Some((s, slot)) = vol_dir::next_entry(image, geometry, d, from) {
+        own = noted(&slot, b".".as_slice(), own);
+        up = noted(&slot, b"..".as_slice(), up);
+        if own.is_some() && up.is_some() {
+            return Dots { own, up };
         }
-        place = entry.next_place();
+        from = s + 1;
     }
-    Ok(marks)
+    Dots { own, up }
+}
+
+/// The i-number of a slot, if it has a name; else what was known before.
+fn noted(slot: &Slot, name: &[u8], before: Option<u16>) -> Option<u16>
+    ensures { result ≡ if bytes_eq name.now (name_of slot.now.name) then Some slot.now.inode else before }
+{
+    if name == slot.name() {
+        Some(slot.inode)
+    } else {
+        before
+    }
 }

@@ -1,6 +1,6 @@
-use Rattle.vol_judge.specs.InodeMarks.{HasUpsBelow}
+use Rattle.vol_judge.specs.InodeMarks.{NameThemselvesBelow}
 use Rattle.vol_judge.proofs.directories.dots.ups.Given as goal
 
--- what the directories below d name by `..` is kept
+-- the directories below d are gone over
 abbrev pub invariant-loop-d : goal.invariant-loop-d
-invariant-loop-d l = HasUpsBelow l.geometry l.image l.d l.ups.items
+invariant-loop-d l = NameThemselvesBelow l.geometry l.image l.d l.ups.items

@@ -1,0 +1,19 @@
+use Rattle.std.proofs.Common.{◌≡◌, ◌-◌, ◌+◌, ◌≤◌, true, false, length}
+use Rattle.vol_judge.specs.Counting.{CountsBefore}
+use Rattle.vol_judge.specs.InodeMarks.{IsOnce, MarksChildren, MarksOnce}
+use Rattle.vol_judge.specs.Stepping.{rank}
+use Rattle.vol_judge.proofs.directories.entered.find_entered.Given as goal
+
+-- the entries before the place are gone over
+abbrev pub invariant-loop-entry : goal.invariant-loop-entry
+invariant-loop-entry l = record {
+  first : 1 ≤ l.place.directory;
+  children : MarksChildren l.geometry l.image l.ups (rank l.place.directory l.place.slot) l.children.items;
+  room : length l.directories.items ≡ l.geometry.last_inode + 1;
+  once : l.once ≡ true → MarksOnce l.geometry l.image (rank l.place.directory l.place.slot) l.directories.items;
+  twice : l.once ≡ false → IsOnce l.geometry l.image → ⊥;
+  counts : CountsBefore l.geometry l.image (rank l.place.directory l.place.slot) l.counts.items;
+}
+
+abbrev pub decreases-loop-entry : goal.decreases-loop-entry
+decreases-loop-entry l = 281479271677952 - rank l.place.directory l.place.slot

@@ -1,18 +1,20 @@
 -- Steps of a truncation one after another.
-use Rattle.std.proofs.Common.{◌≡◌, ℕ, ◌+◌, ◌-◌, ◌*◌, ◌<◌, ◌≤◌, ◌⊎◌, ◌∙◌, sym, ap, subst, List, [], ◌∷◌, ◌++◌, refl, arith, inl, inr, true, append_assoc}
+use Rattle.std.proofs.Common.{◌≡◌, ℕ, ◌+◌, ◌-◌, ◌*◌, ◌<◌, ◌≤◌, ◌⊎◌, ◌∙◌, Bool, sym, ap, subst, List, [], ◌∷◌, ◌++◌, slice_index, refl, arith, inl, inr, true, false, true≢false, append_assoc}
 use Rattle.vol_layout.specs.Edition.{number}
 use Rattle.vol_layout.specs.Geometry.{in_zone, Fits}
 use Rattle.vol_layout.specs.Places.{levels_below, pointer_count}
 use Rattle.vol_layout.specs.Laws.{IsFront}
 use Rattle.vol_layout.specs.Names.{form_at, IsPlaceOf, named}
 use Rattle.vol_layout.specs.declared.geometry.Geometry.{Geometry}
+use Rattle.vol_layout.proofs.InodeLaws.{form_same}
 use Rattle.vol_layout.proofs.PlaceLaws.{place_front}
 use Rattle.vol_layout.proofs.NameLaws.{entry_in}
 use Rattle.vol_file.specs.Rules.{Rules3To7With, IsCovered}
-use Rattle.vol_file.specs.Clears.{IsUnder, blocks_at, places_among, places_below, IsNamedAt, IsEmptyUnder, Clears}
+use Rattle.vol_file.specs.Clears.{IsUnder, IsPastUnder, places_among, places_below, IsNamedAt, IsEmptyUnder, Clears}
 use Rattle.vol_file.proofs.Alone.{elsewhere_self, elsewhere_then}
-use Rattle.vol_file.proofs.BlockLists.{at_nil, at_some, from_below, below_same, from_none, among_step}
-use Rattle.vol_file.proofs.Fronts.{front_zero, under_front, under_longer, under_later, under_apart, under_more, under_here, under_split}
+use Rattle.vol_file.proofs.BlockLists.{at_nil, from_below}
+use Rattle.vol_file.proofs.PastLists.{past_at, past_kept, past_some, past_none, below_same, among_step}
+use Rattle.vol_file.proofs.Fronts.{front_zero, front_under, under_front, under_longer, under_later, under_apart, under_more, under_here, under_split}
 use Rattle.vol_file.proofs.Naming.{place_same}
 use Rattle.vol_file.proofs.Taking.{rest_within}
 
@@ -29,6 +31,7 @@ clears_none geometry image i Cleared blocks sound none = record {
   less = λ q place. inl refl;
   gone = none;
   kept = λ q place apart. refl;
+  bytes = λ q r place bottom apart some low. refl;
   unused = λ k r within low. refl;
 }
 
@@ -59,6 +62,12 @@ clears_then geometry old mid new i First Second Both given more blocks fits one 
       ];
       kept = λ q place apart.
           t.kept q (place_same geometry old mid i q s.mode place) (λ g. apart (second q g)) ∙ s.kept q place (λ f. apart (first q f));
+      bytes = λ q r place bottom apart some low.
+          let same : named geometry mid i q ≡ named geometry old i q = s.kept q place (λ f. apart (first q f)) in
+          let leaf : levels_below (form_at geometry mid i) q ≡ 0 = ap (λ f. levels_below f q) (form_same geometry old mid i s.mode) ∙ bottom in
+          subst (λ x. slice_index new (512 * x + r) ≡ slice_index mid (512 * x + r)) same
+          (t.bytes q r (place_same geometry old mid i q s.mode place) leaf (λ g. apart (second q g)) (λ zero. some (sym same ∙ zero)) low)
+          ∙ s.bytes q r place bottom (λ f. apart (first q f)) some low;
       unused = λ k r within low. t.unused k r (rest_within k given blocks (given ++ blocks) refl within) low ∙ s.unused k r within low;
     }
 
@@ -76,87 +85,150 @@ clears_as geometry old new i Cleared Other given same blocks e split other s = r
   less = s.less;
   gone = λ q place o. elim (split q place o) [ inl cleared ↦ s.gone q place cleared | inr none ↦ none ];
   kept = λ q place apart. s.kept q place (λ cleared. apart (other q cleared));
+  bytes = λ q r place bottom apart some low. s.bytes q r place bottom (λ cleared. apart (other q cleared)) some low;
   unused = s.unused;
 }
 
--- the entries of place p from entry j on are cleared, of `count` entries, below each of which so many more levels lie
-abbrev pub ClearsFrom : Geometry → List ℕ → List ℕ → ℕ → ℕ → (ℕ → ℕ) → List ℕ → ℕ → ℕ → List ℕ → Type 0
-ClearsFrom geometry old new i n level p count j blocks =
-    Clears geometry old new i (IsUnder p j) (blocks_at geometry old i (places_among n level p j (count - j))) blocks
+-- the entries of place p from entry j on are cleared, of `count` entries, below each of which so many more levels lie,
+-- where they are past the kept blocks
+abbrev pub ClearsFrom : Geometry → List ℕ → List ℕ → ℕ → (List ℕ → Bool) → ℕ → (ℕ → ℕ) → List ℕ → ℕ → ℕ → List ℕ → Type 0
+ClearsFrom geometry old new i past n level p count j blocks =
+    Clears geometry old new i (IsPastUnder past p j) (past_at geometry old i past (places_among n level p j (count - j))) blocks
 
 -- before the first step no entry is cleared
-pub from_start : (geometry : Geometry) (image : List ℕ) (i n : ℕ) (level : ℕ → ℕ) (p : List ℕ) (count j : ℕ) (blocks : List ℕ) → j ≡ count
-    → Rules3To7With geometry image blocks → ((x : ℕ) → IsPlaceOf geometry image i (x ∷ p) → x < count)
-    → ClearsFrom geometry image image i n level p count j blocks
-from_start geometry image i n level p count j blocks e sound few =
+pub from_start : (geometry : Geometry) (image : List ℕ) (i : ℕ) (past : List ℕ → Bool) (n : ℕ) (level : ℕ → ℕ) (p : List ℕ) (count j : ℕ) (blocks : List ℕ)
+    → j ≡ count → Rules3To7With geometry image blocks → ((x : ℕ) → IsPlaceOf geometry image i (x ∷ p) → x < count)
+    → ClearsFrom geometry image image i past n level p count j blocks
+from_start geometry image i past n level p count j blocks e sound few =
     let none : count - j ≡ 0 = omega arith in
-    let list : [] ≡ blocks_at geometry image i (places_among n level p j (count - j)) =
-    sym (ap (λ c. blocks_at geometry image i (places_among n level p j c)) none ∙ at_nil geometry image i) in
-    subst (λ xs. Clears geometry image image i (IsUnder p j) xs blocks) list
-    (clears_none geometry image i (IsUnder p j) blocks sound
-    (λ q place under.
+    let list : [] ≡ past_at geometry image i past (places_among n level p j (count - j)) =
+    sym (ap (λ c. past_at geometry image i past (places_among n level p j c)) none ∙ at_nil geometry image i) in
+    subst (λ xs. Clears geometry image image i (IsPastUnder past p j) xs blocks) list
+    (clears_none geometry image i (IsPastUnder past p j) blocks sound
+    (λ q place past_under.
+    let under = past_under.0 in
     let entry : IsPlaceOf geometry image i (under.index ∷ p) =
     record { file = place.file; place = place_front (form_at geometry image i) q (under.index ∷ p) place.place under.front } in
     let low : under.index < count = few under.index entry in
     let from : j ≤ under.index = under.from in
     absurd (omega arith)))
 
--- an entry that names nothing is cleared already
-pub from_none_on : (geometry : Geometry) (old new : List ℕ) (i n : ℕ) (level : ℕ → ℕ) (p : List ℕ) (count j k : ℕ) (blocks : List ℕ)
-    → k ≡ j + 1 → k ≤ count → Fits geometry old → IsPlaceOf geometry old i (j ∷ p) → named geometry new i (j ∷ p) ≡ 0
-    → ClearsFrom geometry old new i n level p count k blocks → ClearsFrom geometry old new i n level p count j blocks
-from_none_on geometry old new i n level p count j k blocks next few fits place none s =
+-- an entry at or under which nothing past the kept blocks is named is cleared already
+pub from_none_on : (geometry : Geometry) (old new : List ℕ) (i : ℕ) (past : List ℕ → Bool) (n : ℕ) (level : ℕ → ℕ) (p : List ℕ) (count j k : ℕ) (blocks : List ℕ)
+    → k ≡ j + 1 → k ≤ count → Fits geometry old → IsPlaceOf geometry old i (j ∷ p)
+    → n ≤ pointer_count (form_at geometry old i) → level j ≤ levels_below (form_at geometry old i) (j ∷ p) → named geometry new i (j ∷ p) ≡ 0
+    → ClearsFrom geometry old new i past n level p count k blocks → ClearsFrom geometry old new i past n level p count j blocks
+from_none_on geometry old new i past n level p count j k blocks next few fits place many deep none s =
     let less : j < k = omega arith in
-    let was : named geometry old i (j ∷ p) ≡ 0 = sym (s.kept (j ∷ p) place (under_later p j k less)) ∙ none in
-    let list : blocks_at geometry old i (places_among n level p j (count - j)) ≡ blocks_at geometry old i (places_among n level p k (count - k)) =
-    among_step geometry old i n level p j k (count - j) (count - k) next (omega arith)
-    ∙ ap (λ xs. xs ++ blocks_at geometry old i (places_among n level p k (count - k)))
-    (from_none geometry old i n (level j) j p (λ q front. front_zero geometry old i (j ∷ p) q fits was front)) in
-    clears_as geometry old new i (IsUnder p k) (IsUnder p j) (blocks_at geometry old i (places_among n level p k (count - k)))
-    (blocks_at geometry old i (places_among n level p j (count - j))) blocks (sym list)
-    (λ q place_q under. elim (under_split p q j k next under) [
-      | inl later ↦ inl later
+    let was : named geometry old i (j ∷ p) ≡ 0 = sym (s.kept (j ∷ p) place (λ under. under_later p j k less under.0)) ∙ none in
+    let later = past_at geometry old i past (places_among n level p k (count - k)) in
+    let list : past_at geometry old i past (places_among n level p j (count - j)) ≡ later =
+    among_step geometry old i past n level p j k (count - j) (count - k) next (omega arith)
+    ∙ ap (λ xs. xs ++ later)
+    (past_none geometry old i past (form_at geometry old i) n (level j) j p many place.place deep
+    (λ q place_q front on. front_zero geometry old i (j ∷ p) q fits was front)) in
+    clears_as geometry old new i (IsPastUnder past p k) (IsPastUnder past p j) later
+    (past_at geometry old i past (places_among n level p j (count - j))) blocks (sym list)
+    (λ q place_q under. elim (under_split p q j k next under.0) [
+      | inl later ↦ inl (later, under.1)
       | inr front ↦ inr (front_zero geometry new i (j ∷ p) q s.sound.fits none front)
     ])
-    (λ q under. under_more p q j k (omega arith) under) s
+    (λ q under. (under_more p q j k (omega arith) under.0, under.1)) s
 
 -- an entry that names a block is cleared once what lies below it is, and then the entry itself
-pub from_some_on : (geometry : Geometry) (old mid low new : List ℕ) (i n b : ℕ) (level : ℕ → ℕ) (p : List ℕ) (count j k : ℕ) (blocks : List ℕ)
+pub from_some_on : (geometry : Geometry) (old mid low new : List ℕ) (i : ℕ) (past : List ℕ → Bool) (n b : ℕ) (level : ℕ → ℕ) (p : List ℕ) (count j k : ℕ) (blocks : List ℕ)
     → k ≡ j + 1 → k ≤ count → Fits geometry old → IsPlaceOf geometry old i (j ∷ p)
     → n ≤ pointer_count (form_at geometry old i) → level j ≤ levels_below (form_at geometry old i) (j ∷ p) → IsNamedAt geometry mid i (j ∷ p) b
-    → ClearsFrom geometry old mid i n level p count k blocks
-    → Clears geometry mid low i (IsUnder (j ∷ p) 0) (blocks_at geometry mid i (places_below n (j ∷ p) (level j)))
-    (blocks_at geometry old i (places_among n level p k (count - k)) ++ blocks)
+    → ((q : List ℕ) → IsFront (j ∷ p) q → past q ≡ true)
+    → ClearsFrom geometry old mid i past n level p count k blocks
+    → Clears geometry mid low i (IsPastUnder past (j ∷ p) 0) (past_at geometry mid i past (places_below n (j ∷ p) (level j)))
+    (past_at geometry old i past (places_among n level p k (count - k)) ++ blocks)
     → Clears geometry low new i (IsFront (j ∷ p)) (b ∷ [])
-    (blocks_at geometry mid i (places_below n (j ∷ p) (level j)) ++ (blocks_at geometry old i (places_among n level p k (count - k)) ++ blocks))
-    → ClearsFrom geometry old new i n level p count j blocks
-from_some_on geometry old mid low new i n b level p count j k blocks next few fits place many deep is s t u =
+    (past_at geometry mid i past (places_below n (j ∷ p) (level j)) ++ (past_at geometry old i past (places_among n level p k (count - k)) ++ blocks))
+    → ClearsFrom geometry old new i past n level p count j blocks
+from_some_on geometry old mid low new i past n b level p count j k blocks next few fits place many deep is all s t u =
     let less : j < k = omega arith in
-    let later = blocks_at geometry old i (places_among n level p k (count - k)) in
-    let below = blocks_at geometry mid i (places_below n (j ∷ p) (level j)) in
-    let was : named geometry old i (j ∷ p) ≡ b = sym (s.kept (j ∷ p) place (under_later p j k less)) ∙ is.names in
-    let same : below ≡ blocks_at geometry old i (places_below n (j ∷ p) (level j)) =
-    below_same geometry old mid i (form_at geometry old i) n (level j) j p many place.place deep
-    (λ q place_q front. s.kept q (record { file = place.file; place = place_q }) (under_apart p q j k less front)) in
-    let list : (b ∷ below) ++ later ≡ blocks_at geometry old i (places_among n level p j (count - j)) =
-    sym (among_step geometry old i n level p j k (count - j) (count - k) next (omega arith)
-    ∙ ap (λ xs. xs ++ later) (ap (blocks_at geometry old i) (from_below n (j ∷ p) (level j))
-    ∙ (at_some geometry old i b (j ∷ p) (places_below n (j ∷ p) (level j)) was is.some ∙ ap (λ xs. b ∷ xs) (sym same)))) in
+    let later = past_at geometry old i past (places_among n level p k (count - k)) in
+    let below = past_at geometry mid i past (places_below n (j ∷ p) (level j)) in
+    let was : named geometry old i (j ∷ p) ≡ b = sym (s.kept (j ∷ p) place (λ under. under_later p j k less under.0)) ∙ is.names in
+    let same : below ≡ past_at geometry old i past (places_below n (j ∷ p) (level j)) =
+    below_same geometry old mid i past (form_at geometry old i) n (level j) j p many place.place deep
+    (λ q place_q front. s.kept q (record { file = place.file; place = place_q }) (λ under. under_apart p q j k less front under.0)) in
+    let list : (b ∷ below) ++ later ≡ past_at geometry old i past (places_among n level p j (count - j)) =
+    sym (among_step geometry old i past n level p j k (count - j) (count - k) next (omega arith)
+    ∙ ap (λ xs. xs ++ later) (ap (past_at geometry old i past) (from_below n (j ∷ p) (level j))
+    ∙ (past_some geometry old i b past (j ∷ p) (places_below n (j ∷ p) (level j)) (all (j ∷ p) (inl refl)) was is.some ∙ ap (λ xs. b ∷ xs) (sym same)))) in
     let rest : Clears geometry mid new i (IsFront (j ∷ p)) ((b ∷ []) ++ below) (later ++ blocks) =
-    clears_then geometry mid low new i (IsUnder (j ∷ p) 0) (IsFront (j ∷ p)) (IsFront (j ∷ p)) below (b ∷ []) (later ++ blocks)
-    s.sound.fits place.file.first (λ q front. inr front) (λ q under. under_front j 0 p q under) (λ q front. front) t u in
-    let whole : Clears geometry old new i (IsUnder p j) (((b ∷ []) ++ below) ++ later) blocks =
-    clears_then geometry old mid new i (IsUnder p k) (IsFront (j ∷ p)) (IsUnder p j) later ((b ∷ []) ++ below) blocks
-    fits place.file.first (λ q under. under_split p q j k next under) (λ q under. under_more p q j k (omega arith) under)
-    (λ q front. under_here p q j front) s rest in
-    subst (λ xs. Clears geometry old new i (IsUnder p j) xs blocks) list whole
+    clears_then geometry mid low new i (IsPastUnder past (j ∷ p) 0) (IsFront (j ∷ p)) (IsFront (j ∷ p)) below (b ∷ []) (later ++ blocks)
+    s.sound.fits place.file.first (λ q front. inr front) (λ q under. under_front j 0 p q under.0) (λ q front. front) t u in
+    let whole : Clears geometry old new i (IsPastUnder past p j) (((b ∷ []) ++ below) ++ later) blocks =
+    clears_then geometry old mid new i (IsPastUnder past p k) (IsFront (j ∷ p)) (IsPastUnder past p j) later ((b ∷ []) ++ below) blocks
+    fits place.file.first
+    (λ q under. elim (under_split p q j k next under.0) [ inl after ↦ inl (after, under.1) | inr front ↦ inr front ])
+    (λ q under. (under_more p q j k (omega arith) under.0, under.1))
+    (λ q front. (under_here p q j front, all q front)) s rest in
+    subst (λ xs. Clears geometry old new i (IsPastUnder past p j) xs blocks) list whole
+
+-- an entry below which kept blocks lie is cleared once what lies behind them is
+pub from_part_on : (geometry : Geometry) (old mid new : List ℕ) (i : ℕ) (past : List ℕ → Bool) (n : ℕ) (level : ℕ → ℕ) (p : List ℕ) (count j k : ℕ) (blocks : List ℕ)
+    → k ≡ j + 1 → k ≤ count → Fits geometry old → IsPlaceOf geometry old i (j ∷ p)
+    → n ≤ pointer_count (form_at geometry old i) → level j ≤ levels_below (form_at geometry old i) (j ∷ p) → past (j ∷ p) ≡ false
+    → ClearsFrom geometry old mid i past n level p count k blocks
+    → Clears geometry mid new i (IsPastUnder past (j ∷ p) 0) (past_at geometry mid i past (places_below n (j ∷ p) (level j)))
+    (past_at geometry old i past (places_among n level p k (count - k)) ++ blocks)
+    → ClearsFrom geometry old new i past n level p count j blocks
+from_part_on geometry old mid new i past n level p count j k blocks next few fits place many deep part s t =
+    let less : j < k = omega arith in
+    let later = past_at geometry old i past (places_among n level p k (count - k)) in
+    let below = past_at geometry mid i past (places_below n (j ∷ p) (level j)) in
+    let same : below ≡ past_at geometry old i past (places_below n (j ∷ p) (level j)) =
+    below_same geometry old mid i past (form_at geometry old i) n (level j) j p many place.place deep
+    (λ q place_q front. s.kept q (record { file = place.file; place = place_q }) (λ under. under_apart p q j k less front under.0)) in
+    let list : below ++ later ≡ past_at geometry old i past (places_among n level p j (count - j)) =
+    sym (among_step geometry old i past n level p j k (count - j) (count - k) next (omega arith)
+    ∙ ap (λ xs. xs ++ later) (ap (past_at geometry old i past) (from_below n (j ∷ p) (level j))
+    ∙ (past_kept geometry old i past (j ∷ p) (places_below n (j ∷ p) (level j)) part ∙ sym same))) in
+    let whole : Clears geometry old new i (IsPastUnder past p j) (below ++ later) blocks =
+    clears_then geometry old mid new i (IsPastUnder past p k) (IsPastUnder past (j ∷ p) 0) (IsPastUnder past p j) later below blocks
+    fits place.file.first
+    (λ q under. elim (under_split p q j k next under.0) [
+      | inl after ↦ inl (after, under.1)
+      | inr front ↦ elim (front_under (j ∷ p) q front) [
+        | inl e ↦ absurd (true≢false (sym under.1 ∙ (ap past e ∙ part)))
+        | inr deeper ↦ inr (deeper, under.1)
+      ]
+    ])
+    (λ q under. (under_more p q j k (omega arith) under.0, under.1))
+    (λ q under. (under_here p q j (under_front j 0 p q under.0), under.1)) s t in
+    subst (λ xs. Clears geometry old new i (IsPastUnder past p j) xs blocks) list whole
+
+-- entries below which nothing but kept blocks lies are cleared already
+pub from_kept_on : (geometry : Geometry) (old new : List ℕ) (i : ℕ) (past : List ℕ → Bool) (n : ℕ) (level : ℕ → ℕ) (p : List ℕ) (count j k : ℕ) (blocks : List ℕ)
+    → k ≡ j + 1 → k ≤ count → IsPlaceOf geometry old i (j ∷ p)
+    → n ≤ pointer_count (form_at geometry old i) → level j ≤ levels_below (form_at geometry old i) (j ∷ p)
+    → ((q : List ℕ) → IsPlaceOf geometry old i q → IsFront (j ∷ p) q → past q ≡ false)
+    → ClearsFrom geometry old new i past n level p count k blocks → ClearsFrom geometry old new i past n level p count j blocks
+from_kept_on geometry old new i past n level p count j k blocks next few place many deep none s =
+    let later = past_at geometry old i past (places_among n level p k (count - k)) in
+    let list : past_at geometry old i past (places_among n level p j (count - j)) ≡ later =
+    among_step geometry old i past n level p j k (count - j) (count - k) next (omega arith)
+    ∙ ap (λ xs. xs ++ later)
+    (past_none geometry old i past (form_at geometry old i) n (level j) j p many place.place deep
+    (λ q place_q front on. absurd (true≢false (sym on ∙ none q (record { file = place.file; place = place_q }) front)))) in
+    clears_as geometry old new i (IsPastUnder past p k) (IsPastUnder past p j) later
+    (past_at geometry old i past (places_among n level p j (count - j))) blocks (sym list)
+    (λ q place_q under. elim (under_split p q j k next under.0) [
+      | inl later ↦ inl (later, under.1)
+      | inr front ↦ absurd (true≢false (sym under.1 ∙ none q place_q front))
+    ])
+    (λ q under. (under_more p q j k (omega arith) under.0, under.1)) s
 
 -- what is known of an entry before its step: its block still names what it did
-pub from_above : (geometry : Geometry) (old new : List ℕ) (i n m : ℕ) (level : ℕ → ℕ) (p : List ℕ) (count k : ℕ) (blocks : List ℕ)
-    → IsNamedAt geometry old i p m → ClearsFrom geometry old new i n level p count k blocks → IsNamedAt geometry new i p m
-from_above geometry old new i n m level p count k blocks is s = record {
+pub from_above : (geometry : Geometry) (old new : List ℕ) (i : ℕ) (past : List ℕ → Bool) (n m : ℕ) (level : ℕ → ℕ) (p : List ℕ) (count k : ℕ) (blocks : List ℕ)
+    → IsNamedAt geometry old i p m → ClearsFrom geometry old new i past n level p count k blocks → IsNamedAt geometry new i p m
+from_above geometry old new i past n m level p count k blocks is s = record {
   place = place_same geometry old new i p s.mode is.place;
-  names = s.kept p is.place (under_longer p k) ∙ is.names;
+  names = s.kept p is.place (λ under. under_longer p k under.0) ∙ is.names;
   some = is.some;
 }
 
@@ -174,14 +246,17 @@ entry_named geometry image blocks i j a m p sound is =
     subst (λ x. named geometry image i (j ∷ (a ∷ p)) ≡ number geometry.edition image (512 * x) j) is.names
     (entry_in geometry image (named geometry image i (a ∷ p)) j (ap (in_zone geometry) is.names ∙ zone))
 
--- what is known of a place once all below it is cleared
-pub below_after : (geometry : Geometry) (old new : List ℕ) (i b : ℕ) (q given blocks : List ℕ) → IsNamedAt geometry old i q b
-    → Clears geometry old new i (IsUnder q 0) given blocks → IsNamedAt geometry new i q b × IsEmptyUnder geometry new i q
-below_after geometry old new i b q given blocks is s = (
-  record {
-    place = place_same geometry old new i q s.mode is.place;
-    names = s.kept q is.place (under_longer q 0) ∙ is.names;
-    some = is.some;
-  },
-  λ p place under. s.gone p (place_same geometry new old i p (sym s.mode) place) under,
-)
+-- a place names its block still once what lies below it is cleared
+pub below_named : (geometry : Geometry) (old new : List ℕ) (i : ℕ) (past : List ℕ → Bool) (b : ℕ) (q given blocks : List ℕ) → IsNamedAt geometry old i q b
+    → Clears geometry old new i (IsPastUnder past q 0) given blocks → IsNamedAt geometry new i q b
+below_named geometry old new i past b q given blocks is s = record {
+  place = place_same geometry old new i q s.mode is.place;
+  names = s.kept q is.place (λ under. under_longer q 0 under.0) ∙ is.names;
+  some = is.some;
+}
+
+-- nothing below a place is named once all below it is cleared
+pub below_empty : (geometry : Geometry) (old new : List ℕ) (i : ℕ) (past : List ℕ → Bool) (q given blocks : List ℕ)
+    → ((p : List ℕ) → IsUnder q 0 p → past p ≡ true) → Clears geometry old new i (IsPastUnder past q 0) given blocks → IsEmptyUnder geometry new i q
+below_empty geometry old new i past q given blocks all s p place under =
+    s.gone p (place_same geometry new old i p (sym s.mode) place) (under, all p under)

@@ -4,6 +4,7 @@ use Rattle.std.proofs.lemmas.Bool.{cases_eq}
 use Rattle.vol_layout.specs.Edition.{constants}
 use Rattle.vol_layout.specs.Geometry.{in_zone, Fits}
 use Rattle.vol_layout.specs.Inode.{kind_of}
+use Rattle.vol_layout.specs.Places.{levels_below}
 use Rattle.vol_layout.specs.Laws.{IsFront}
 use Rattle.vol_layout.specs.Names.{mode_of, form_at, IsFile, IsPlaceOf, named}
 use Rattle.vol_layout.specs.declared.geometry.Geometry.{Geometry}
@@ -178,6 +179,18 @@ drops geometry old mid new blocks i b q sound is empty store stays free =
       less = λ p place. elim (front_or q p) [ inl front ↦ inr (drop.gone p place front) | inr apart ↦ inl (drop.kept p place apart) ];
       gone = drop.gone;
       kept = drop.kept;
+      bytes = λ p r place bottom apart some low.
+          let k = named geometry old i p in
+          let zone = sound.zoned i p place some in
+          let other : k ≢ b = λ e.
+          let one = sound.apart i i p q place is.place some (e ∙ sym is.names) in
+          apart (subst (IsFront q) (sym one.1) (front_self (form_at geometry old i) q is.place.place)) in
+          (stays_block geometry mid new b 202 k stays (omega arith) (zone_two geometry old k sound.fits zone) other).bytes r low
+          ∙ store.bytes k r zone
+          (λ at at_place deep e.
+          let one = sound.apart i i p at place at_place some (sym e) in
+          let leaf : levels_below (form_at geometry old i) at ≡ 0 = ap (levels_below (form_at geometry old i)) (sym one.1) ∙ bottom in
+          absurd (omega arith)) low;
       unused = λ k r within low.
           let zone = free_zone sound.free k within in
           let other : k ≢ b = λ e. sound.outside i q is.place (subst (λ x. IsIn x blocks) (e ∙ sym is.names) within) in

@@ -11,12 +11,15 @@ pub mod Enlarging
 pub mod Entries
 pub mod Extending
 pub mod Filling
+pub mod FirstBlocks
 pub mod Fronts
 pub mod Gaining
 pub mod Indexes
+pub mod KeptPlaces
 pub mod Lasts
 pub mod Naming
 pub mod Nodes
+pub mod PastLists
 pub mod PlaceLists
 pub mod Ranges
 pub mod Reaching

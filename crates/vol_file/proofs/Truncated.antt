@@ -1,38 +1,47 @@
--- The end of a truncation: the size and the mode of a file that names nothing any more.
-use Rattle.std.proofs.Common.{◌≡◌, ℕ, ◌+◌, ◌*◌, ◌<◌, ◌≤◌, ◌∙◌, sym, ap, subst, List, [], ◌∷◌, ◌++◌, length, get_or, refl, arith, inl, inr, true, false}
+-- The end of a truncation: the size and the mode of a file whose places past the kept blocks name nothing any more.
+use Rattle.std.proofs.Common.{◌≡◌, ℕ, ◌+◌, ◌*◌, ◌/◌, ◌%◌, ◌<◌, ◌≤◌, ◌⊎◌, ◌∙◌, sym, ap, subst, List, [], ◌∷◌, ◌++◌, length, take, map, filter, get_or, refl, arith, inl, inr, true, false, true≢false, None, Some, if◌then◌else◌}
+use Rattle.std.specs.Prelude.{◌==◌, not}
 use Rattle.std.proofs.lemmas.Bool.{cases_eq}
 use Rattle.std.proofs.lemmas.Bool.Decides.{nat_tests}
+use Rattle.std.proofs.lemmas.List.{length-take-le, get_or-take}
+use Rattle.std.proofs.lemmas.Grind.{same_number_lists}
 use Rattle.pdp_words.specs.Words.{SameOutside}
-use Rattle.pdp_words.proofs.Outside.{join, widen}
+use Rattle.pdp_words.proofs.Outside.{join}
 use Rattle.vol_layout.specs.Edition.{constants}
 use Rattle.vol_layout.specs.Geometry.{Fits}
 use Rattle.vol_layout.specs.Inode.{inode_place, address_count, address_offset, size_place, size_bytes, size_at, with_large, kind_of}
-use Rattle.vol_layout.specs.Places.{has_places, first_count}
-use Rattle.vol_layout.specs.Names.{mode_of, form_at, IsFile, IsPlaceOf, named}
-use Rattle.vol_layout.specs.Body.{body, body_size}
+use Rattle.vol_layout.specs.Places.{IsPlace, has_places, first_count, block_limit, last_place, places}
+use Rattle.vol_layout.specs.Names.{mode_of, form_at, IsFile, IsPlaceOf, named, stored}
+use Rattle.vol_layout.specs.Body.{zone_byte, body_byte, body, body_size}
 use Rattle.vol_layout.specs.declared.edition.Edition.{Edition}
 use Rattle.vol_layout.specs.declared.edition.Edition.TheVariants.{V6, V7}
 use Rattle.vol_layout.specs.declared.geometry.Geometry.{Geometry}
-use Rattle.vol_layout.proofs.AddressLaws.{addresses_before, size_within, mode_within, mode_behind, size_above}
-use Rattle.vol_layout.proofs.InodeLaws.{place_from, place_room}
-use Rattle.vol_layout.proofs.BodyLaws.{zone_bounds, length-body}
-use Rattle.vol_layout.proofs.NameLaws.{zone_some, holds_named}
-use Rattle.vol_layout.proofs.FrameLaws.{addresses_in}
+use Rattle.vol_layout.specs.declared.places.Form.{Form}
+use Rattle.vol_layout.proofs.AddressLaws.{addresses_before, size_within, mode_within, size_above}
+use Rattle.vol_layout.proofs.InodeLaws.{place_from, place_room, form_same}
+use Rattle.vol_layout.proofs.PlaceLaws.{last_leaf}
+use Rattle.vol_layout.proofs.BodyLaws.{zone_bounds, length-body, get_or-body, body_byte_is, zone_byte_out}
+use Rattle.vol_layout.proofs.NameLaws.{zero_out, zone_some, holds_named, stored_is, stored_none}
+use Rattle.vol_layout.proofs.FrameLaws.{addresses_in, zone_byte_kept}
 use Rattle.vol_layout.proofs.KindLaws.{file_allocated, form_file}
 use Rattle.vol_free.specs.Stack.{IsIn, IsFree}
 use Rattle.vol_free.proofs.Stacks.{head_end}
 use Rattle.vol_free.proofs.Frames.{IsFree-before_zone, free_zone}
-use Rattle.vol_file.specs.Rules.{size_of, kind_at, Rules3To7With}
-use Rattle.vol_file.specs.Changes.{StaysElsewhere, is_kept_byte, blocks_of, truncated_mode, Truncates}
-use Rattle.vol_file.specs.Clears.{IsUnder, Clears}
+use Rattle.vol_file.specs.Rules.{size_of, kind_at, Rules3To7With, Rules3To7, IsCovered}
+use Rattle.vol_file.specs.Changes.{StaysElsewhere, is_kept_byte, blocks_of, block_count, is_kept, blocks_past, truncated_mode, Truncates}
+use Rattle.vol_file.specs.Clears.{first_block, is_past, IsPast, blocks_at, Gains, ClearsPast}
 use Rattle.vol_file.proofs.Alone.{fits_len, elsewhere_names, elsewhere_then, elsewhere_changes}
 use Rattle.vol_file.proofs.Taking.{rest_within}
 use Rattle.vol_file.proofs.Cells.{names_zoned}
+use Rattle.vol_file.proofs.Filling.{limit_of}
+use Rattle.vol_file.proofs.FirstBlocks.{past_true, past_false}
 use Rattle.vol_file.proofs.Fronts.{front_zero}
+use Rattle.vol_file.proofs.Gaining.{gains_given}
+use Rattle.vol_file.proofs.KeptPlaces.{first_leaf, kept_is, past_list}
 use Rattle.vol_file.proofs.Soundness.{Lessens, named_before, sound_after}
 use Rattle.vol_file.proofs.PlaceLists.{front_first}
 use Rattle.vol_file.proofs.Naming.{place_same}
-use Rattle.vol_file.proofs.Sizing.{size_apart}
+use Rattle.vol_file.proofs.Sizing.{Resized, resized, size_apart}
 
 -- each address of a file's i-node is a place
 pub addresses_file : (geometry : Geometry) (image : List ℕ) (i : ℕ) → IsFile geometry image i
@@ -79,18 +88,18 @@ head_elsewhere geometry old new blocks i sound file same kept =
       behind = λ k h. same.above k (omega (arith, within.2, room, zone));
     }
 
--- what the last steps of a truncation leave of a file that names nothing any more: its size and mode are put
+-- what the last steps of a truncation to nothing leave of a file that names nothing any more: its size and mode are put
 pub record Ends (geometry : Geometry) (old low new : List ℕ) (i : ℕ) : Type 0 where
   pub same : SameOutside low new (inode_place geometry.edition i) (inode_place geometry.edition i + address_offset geometry.edition)
   pub kept : (r : ℕ) → is_kept_byte geometry.edition r ≡ true
       → get_or new (inode_place geometry.edition i + r) 0 ≡ get_or low (inode_place geometry.edition i + r) 0
   pub size : size_of geometry new i ≡ 0
-  pub mode : mode_of geometry new i ≡ truncated_mode geometry.edition (mode_of geometry old i)
+  pub mode : mode_of geometry new i ≡ truncated_mode geometry.edition 0 (mode_of geometry old i)
   pub kind : kind_at geometry new i ≡ kind_at geometry old i
 
 -- its places name nothing
 ends_named : (geometry : Geometry) (old low new blocks : List ℕ) (i : ℕ) (p : List ℕ) → IsFile geometry old i
-    → Clears geometry old low i (IsUnder [] 0) (blocks_of geometry old i) blocks → Ends geometry old low new i
+    → ClearsPast geometry old low i 0 blocks → Ends geometry old low new i
     → IsPlaceOf geometry new i p → named geometry new i p ≡ 0
 ends_named geometry old low new blocks i p file clear end place =
     let base = front_first (form_at geometry new i) p place.place in
@@ -98,7 +107,7 @@ ends_named geometry old low new blocks i p file clear end place =
     let many : first_count (form_at geometry new i) ≡ address_count geometry.edition = addresses_file geometry new i place.file in
     let low_k : base.0 < first_count (form_at geometry old i) = omega (arith, base.1, few, many) in
     let none : named geometry low i (base.0 ∷ []) ≡ 0 =
-    clear.gone (base.0 ∷ []) (record { file = file; place = low_k }) (record { index = base.0; from = omega arith; front = inl refl }) in
+    clear.gone (base.0 ∷ []) (record { file = file; place = low_k }) (past_true (form_at geometry old i) 0 (base.0 ∷ []) (omega arith)) in
     let same : named geometry new i (base.0 ∷ []) ≡ 0 =
     addresses_before geometry.edition low new i (inode_place geometry.edition i) (inode_place geometry.edition i + address_offset geometry.edition) base.0
     end.same (omega arith) ∙ none in
@@ -106,14 +115,23 @@ ends_named geometry old low new blocks i p file clear end place =
 
 -- the file lessens
 ends_lessens : (geometry : Geometry) (old low new blocks : List ℕ) (i : ℕ) → IsFile geometry old i
-    → Clears geometry old low i (IsUnder [] 0) (blocks_of geometry old i) blocks → Ends geometry old low new i → IsFile geometry low i
+    → (clear : ClearsPast geometry old low i 0 blocks) → Ends geometry old low new i → IsFile geometry low i
     → Lessens geometry low new i
 ends_lessens geometry old low new blocks i file clear end is = record {
-  alone = head_elsewhere geometry low new (blocks_of geometry old i ++ blocks) i clear.sound is end.same end.kept;
+  alone = head_elsewhere geometry low new _ i clear.sound is end.same end.kept;
   kind = end.kind ∙ ap (kind_of geometry.edition) (sym clear.mode);
   greatest = subst (λ n. n ≤ (constants geometry.edition).greatest) (sym end.size) (omega arith);
   small = λ e. subst (λ n. n ≤ 4096) (sym end.size) (omega arith);
   names = λ p place some. absurd (some (ends_named geometry old low new blocks i p file clear end place));
+}
+
+-- the file is one after its places are cleared
+file_low : (geometry : Geometry) (old low : List ℕ) (i kept : ℕ) (blocks : List ℕ) → IsFile geometry old i → ClearsPast geometry old low i kept blocks
+    → IsFile geometry low i
+file_low geometry old low i kept blocks file clear = record {
+  first = file.first;
+  last = file.last;
+  kind = ap (λ mode. has_places (kind_of geometry.edition mode)) clear.mode ∙ file.kind;
 }
 
 -- an empty list
@@ -127,50 +145,177 @@ body_empty geometry image i e =
     let size : body_size geometry image i ≡ 0 = omega (arith, e) in
     nil_of (body geometry image i) (length-body geometry image i ∙ size)
 
--- the truncation is whole
-pub truncated : (geometry : Geometry) (old low new blocks : List ℕ) (i : ℕ) → Fits geometry old → IsFile geometry old i
-    → Clears geometry old low i (IsUnder [] 0) (blocks_of geometry old i) blocks → Ends geometry old low new i
-    → Truncates geometry old new i blocks
-truncated geometry old low new blocks i fits file clear end =
-    let after = blocks_of geometry old i ++ blocks in
-    let is : IsFile geometry low i = record {
-      first = file.first;
-      last = file.last;
-      kind = ap (λ mode. has_places (kind_of geometry.edition mode)) clear.mode ∙ file.kind;
-    } in
+-- the truncation to nothing is whole
+emptied : (geometry : Geometry) (old low new blocks : List ℕ) (i : ℕ) → Fits geometry old → IsFile geometry old i
+    → ClearsPast geometry old low i 0 blocks → Ends geometry old low new i → Truncates geometry old new i 0 blocks
+emptied geometry old low new blocks i fits file clear end =
+    let given = blocks_at geometry old i (filter (is_past (form_at geometry old i) 0) (places (form_at geometry old i))) in
+    let after = given ++ blocks in
+    let list : after ≡ blocks_past geometry old i 0 ++ blocks = ap (λ xs. xs ++ blocks) (past_list geometry old i 0 (omega arith)) in
+    let is = file_low geometry old low i 0 blocks file clear in
     let less = ends_lessens geometry old low new blocks i file clear end is in
     let room = place_room geometry low i clear.sound.fits file.first file.last in
     let from = place_from geometry.edition i in
     let within = size_within geometry.edition i in
     let free : IsFree geometry new after = IsFree-before_zone end.same (omega arith) (omega (arith, within.2, room)) clear.sound.free in
+    let sound : Rules3To7With geometry new after = sound_after geometry low new after after i clear.sound is less free
+    (λ j p place inside.
+    let zone = free_zone free (named geometry new j p) inside in
+    let some = zone_some geometry new (named geometry new j p) (fits_len geometry low new end.same.len clear.sound.fits) zone in
+    let before = named_before geometry low new i j p clear.sound.fits is less place some in
+    clear.sound.outside j p before.0 (subst (λ k. IsIn k after) before.1 inside)) in
+    let covers : IsCovered geometry old blocks → IsCovered geometry new after = λ covered k zone. elim (clear.covered covered k zone) [
+      | inl inside ↦ inl inside
+      | inr (j, p, names) ↦ elim (cases_eq j i) [
+        | inl same ↦
+            let held = holds_named geometry low j p k names.holds in
+            let place : IsPlaceOf geometry low i p = subst (λ x. IsPlaceOf geometry low x p) same names.place in
+            let before : IsPlaceOf geometry old i p = place_same geometry low old i p (sym clear.mode) place in
+            let none : named geometry low i p ≡ 0 = clear.gone p before (past_true (form_at geometry old i) 0 p (omega arith)) in
+            absurd (held.1 (sym held.0 ∙ (ap (λ x. named geometry low x p) same ∙ none)))
+        | inr other ↦ inr (j, p, elsewhere_names geometry low new i j p k clear.sound.fits less.alone file.first other names)
+      ]
+    ] in
     record {
-      sound = sound_after geometry low new after after i clear.sound is less free
-          (λ j p place inside.
-          let zone = free_zone free (named geometry new j p) inside in
-          let some = zone_some geometry new (named geometry new j p) (fits_len geometry low new end.same.len clear.sound.fits) zone in
-          let before = named_before geometry low new i j p clear.sound.fits is less place some in
-          clear.sound.outside j p before.0 (subst (λ k. IsIn k after) before.1 inside));
-      covered = λ covered k zone. elim (clear.covered covered k zone) [
-        | inl inside ↦ inl inside
-        | inr (j, p, names) ↦ elim (cases_eq j i) [
-          | inl same ↦
-              let held = holds_named geometry low j p k names.holds in
-              let place : IsPlaceOf geometry low i p = subst (λ x. IsPlaceOf geometry low x p) same names.place in
-              let before : IsPlaceOf geometry old i p = place_same geometry low old i p (sym clear.mode) place in
-              let base = front_first (form_at geometry old i) p before.place in
-              let none : named geometry low i p ≡ 0 = clear.gone p before (record { index = base.0; from = omega arith; front = base.2 }) in
-              absurd (held.1 (sym held.0 ∙ (ap (λ x. named geometry low x p) same ∙ none)))
-          | inr other ↦ inr (j, p, elsewhere_names geometry low new i j p k clear.sound.fits less.alone file.first other names)
-        ]
-      ];
+      sound = subst (Rules3To7With geometry new) list sound;
+      covered = λ covered. subst (IsCovered geometry new) list (covers covered);
       alone = elsewhere_changes geometry old new i fits file.first (elsewhere_then geometry old low new i fits file.first clear.alone less.alone);
       mode = end.mode;
       size = end.size;
       body = body_empty geometry new i end.size;
       names = λ p place. ends_named geometry old low new blocks i p file clear end place;
+      bytes = λ n low. absurd (omega (arith, low));
       unused = λ k r inside small.
-          let bounds = zone_bounds geometry k (free_zone free k (rest_within k (blocks_of geometry old i) blocks after refl inside)) in
+          let bounds = zone_bounds geometry k (free_zone free k (rest_within k given blocks after refl inside)) in
           end.same.above (512 * k + r) (omega (arith, within.2, room, bounds.0)) ∙ clear.unused k r inside small;
+    }
+
+-- a truncation to nothing, by the size that is put
+pub emptied_to : (geometry : Geometry) (old low new blocks : List ℕ) (i left : ℕ) → left ≡ 0 → Fits geometry old → IsFile geometry old i
+    → ClearsPast geometry old low i (block_count left) blocks → Ends geometry old low new i → Truncates geometry old new i left blocks
+emptied_to geometry old low new blocks i left none fits file clear end =
+    subst (λ n. Truncates geometry old new i n blocks) (sym none)
+    (emptied geometry old low new blocks i fits file (subst (λ n. ClearsPast geometry old low i (block_count n) blocks) none clear) end)
+
+-- a kept place isn't past the kept blocks, and another is
+kept_or : (form : Form) (left : ℕ) (p : List ℕ) → IsPlace form p → block_count left ≤ block_limit form
+    → ((is_kept form left p ≡ true) × (is_past form (block_count left) p ≡ false)) ⊎ ((is_kept form left p ≡ false) × (is_past form (block_count left) p ≡ true))
+kept_or form left p place few =
+    elim (is_past form (block_count left) p) as (λ t. is_past form (block_count left) p ≡ t
+    → ((is_kept form left p ≡ true) × (t ≡ false)) ⊎ ((is_kept form left p ≡ false) × (t ≡ true))) [
+      | true ↦ λ e. inr (kept_is form left p place few ∙ ap not e, refl)
+      | false ↦ λ e. inl (kept_is form left p place few ∙ ap not e, refl)
+    ] refl
+
+-- what the places name once those past the kept blocks are cleared
+cleared_names : (geometry : Geometry) (old low : List ℕ) (i left : ℕ) (blocks p : List ℕ) → block_count left ≤ block_limit (form_at geometry old i)
+    → ClearsPast geometry old low i (block_count left) blocks → IsPlaceOf geometry old i p
+    → named geometry low i p ≡ (if is_kept (form_at geometry old i) left p then named geometry old i p else 0)
+cleared_names geometry old low i left blocks p few clear place =
+    elim (kept_or (form_at geometry old i) left p place.place few) [
+      | inl (kept, on) ↦ clear.kept p place (λ past. true≢false (sym past ∙ on)) ∙ sym (ap (λ t. if t then named geometry old i p else 0) kept)
+      | inr (kept, on) ↦ clear.gone p place on ∙ sym (ap (λ t. if t then named geometry old i p else 0) kept)
+    ]
+
+-- the first blocks of a file keep what is stored in them
+cleared_bytes : (geometry : Geometry) (old low : List ℕ) (i left : ℕ) (blocks : List ℕ) (n : ℕ) → Fits geometry old → IsFile geometry old i
+    → ClearsPast geometry old low i (block_count left) blocks → n / 512 < block_count left → body_byte geometry low i n ≡ body_byte geometry old i n
+cleared_bytes geometry old low i left blocks n fits file clear low_n =
+    let form = form_at geometry old i in
+    let b = n / 512 in
+    let same : form_at geometry low i ≡ form = form_same geometry old low i clear.mode in
+    let stored_same : (q : List ℕ) → last_place form b ≡ Some q → zone_byte geometry low (stored geometry low i form b) (n % 512) ≡ zone_byte geometry old (stored geometry old i form b) (n % 512) =
+    λ q e.
+    let leaf = last_leaf form b q e in
+    let place : IsPlaceOf geometry old i q = record { file = file; place = leaf.place } in
+    let first : first_block form q ≡ b = first_leaf form q leaf.place leaf.bottom ∙ leaf.block in
+    let apart : IsPast geometry old i (block_count left) q → ⊥ = λ past. true≢false (sym past ∙ past_false form (block_count left) q (omega (arith, first, low_n))) in
+    let name : named geometry low i q ≡ named geometry old i q = clear.kept q place apart in
+    ap (λ m. zone_byte geometry low m (n % 512)) (stored_is geometry low i form b q e ∙ name)
+    ∙ (zone_byte_kept geometry old low (named geometry old i q) (n % 512)
+    (λ zone. clear.bytes q (n % 512) place leaf.bottom apart (zone_some geometry old (named geometry old i q) fits zone) (omega arith))
+    ∙ sym (ap (λ m. zone_byte geometry old m (n % 512)) (stored_is geometry old i form b q e))) in
+    body_byte_is geometry low i n
+    ∙ (ap (λ f. zone_byte geometry low (stored geometry low i f b) (n % 512)) same
+    ∙ (elim (last_place form b) as (λ o. last_place form b ≡ o
+    → zone_byte geometry low (stored geometry low i form b) (n % 512) ≡ zone_byte geometry old (stored geometry old i form b) (n % 512)) [
+      | None ↦ λ e.
+          ap (λ m. zone_byte geometry low m (n % 512)) (stored_none geometry low i form b e)
+          ∙ (zone_byte_out geometry low 0 (n % 512) (zero_out geometry low clear.sound.fits)
+          ∙ sym (ap (λ m. zone_byte geometry old m (n % 512)) (stored_none geometry old i form b e)
+          ∙ zone_byte_out geometry old 0 (n % 512) (zero_out geometry old fits)))
+      | Some q ↦ stored_same q
+    ] refl ∙ sym (body_byte_is geometry old i n)))
+
+-- the body is the first bytes of the one before
+body_front : (geometry : Geometry) (old new : List ℕ) (i left : ℕ) → size_of geometry new i ≡ left → left ≤ size_of geometry old i
+    → size_of geometry old i ≤ (constants geometry.edition).greatest
+    → ((n : ℕ) → n / 512 < block_count left → body_byte geometry new i n ≡ body_byte geometry old i n)
+    → body geometry new i ≡ take left (body geometry old i)
+body_front geometry old new i left size less great bytes =
+    let count : body_size geometry new i ≡ left = omega (arith, size, less, great) in
+    let whole : body_size geometry old i ≡ size_of geometry old i = omega (arith, great) in
+    let long = length-body geometry old i in
+    same_number_lists (body geometry new i) (take left (body geometry old i))
+    (length-body geometry new i ∙ (count ∙ sym (length-take-le left (body geometry old i) (omega (arith, long, whole, less)))))
+    (λ n h.
+    let short = length-body geometry new i in
+    let low : n < left = omega (arith, h, short, count) in
+    get_or-body geometry new i n (omega (arith, low, count))
+    ∙ (bytes n (omega (arith, low))
+    ∙ (sym (get_or-body geometry old i n (omega (arith, low, whole, less))) ∙ sym (get_or-take left (body geometry old i) n 0 low))))
+
+-- the kept blocks of a file are no more than it can have
+pub kept_few : (geometry : Geometry) (image : List ℕ) (i left : ℕ) (blocks : List ℕ) → Rules3To7With geometry image blocks → IsFile geometry image i
+    → left ≤ size_of geometry image i → block_count left ≤ block_limit (form_at geometry image i)
+kept_few geometry image i left blocks sound file less =
+    let great = sound.sizes.greatest i file in
+    limit_of geometry.edition (mode_of geometry image i) (block_count left) file.kind (omega (arith, great, less))
+    (λ e. let small = sound.sizes.small i file e in omega (arith, small, less))
+
+-- as many blocks are given back as were past the kept ones
+pub given_count : (geometry : Geometry) (old low : List ℕ) (i left count : ℕ) → Rules3To7 geometry old → IsFile geometry old i
+    → left ≤ size_of geometry old i → Gains geometry old low count
+    → ((blocks : List ℕ) → Rules3To7With geometry old blocks → ClearsPast geometry old low i (block_count left) blocks)
+    → count ≡ length (blocks_past geometry old i left)
+given_count geometry old low i left count has file less gains clear =
+    let few = kept_few geometry old i left has.blocks has.sound file less in
+    gains_given geometry old low (blocks_at geometry old i (filter (is_past (form_at geometry old i) (block_count left)) (places (form_at geometry old i))))
+    has.blocks count gains has.sound.free (clear has.blocks has.sound).sound.free
+    ∙ ap length (past_list geometry old i left few)
+
+-- the truncation is whole where the mode stays
+pub shortened : (geometry : Geometry) (old low new blocks : List ℕ) (i left : ℕ) → Rules3To7With geometry old blocks → IsFile geometry old i
+    → left ≤ size_of geometry old i → mode_of geometry old i ≡ truncated_mode geometry.edition left (mode_of geometry old i)
+    → ClearsPast geometry old low i (block_count left) blocks
+    → SameOutside low new (size_place geometry.edition i) (size_place geometry.edition i + size_bytes geometry.edition)
+    → size_at geometry.edition new (inode_place geometry.edition i) ≡ left → Truncates geometry old new i left blocks
+shortened geometry old low new blocks i left sound file less mode clear same put =
+    let form = form_at geometry old i in
+    let given = blocks_at geometry old i (filter (is_past form (block_count left)) (places form)) in
+    let few = kept_few geometry old i left blocks sound file less in
+    let great = sound.sizes.greatest i file in
+    let list : given ++ blocks ≡ blocks_past geometry old i left ++ blocks = ap (λ xs. xs ++ blocks) (past_list geometry old i left few) in
+    let is = file_low geometry old low i (block_count left) blocks file clear in
+    let end : Resized geometry low new i left (given ++ blocks) =
+    resized geometry low new (given ++ blocks) i left clear.sound is same put (omega (arith, great, less))
+    (λ e. let small = sound.sizes.small i file (sym (form_same geometry old low i clear.mode) ∙ e) in omega (arith, small, less)) in
+    let bytes : (n : ℕ) → n / 512 < block_count left → body_byte geometry new i n ≡ body_byte geometry old i n =
+    λ n low_n. end.bytes n ∙ cleared_bytes geometry old low i left blocks n sound.fits file clear low_n in
+    record {
+      sound = subst (Rules3To7With geometry new) list end.sound;
+      covered = λ covered. subst (IsCovered geometry new) list (end.covered (clear.covered covered));
+      alone = elsewhere_changes geometry old new i sound.fits file.first
+          (elsewhere_then geometry old low new i sound.fits file.first clear.alone end.alone);
+      mode = end.mode ∙ (clear.mode ∙ mode);
+      size = end.size;
+      body = body_front geometry old new i left end.size less great bytes;
+      names = λ p place.
+          let there : IsPlaceOf geometry low i p = place_same geometry new low i p (sym end.mode) place in
+          let before : IsPlaceOf geometry old i p = place_same geometry low old i p (sym clear.mode) there in
+          end.names p there ∙ cleared_names geometry old low i left blocks p few clear before;
+      bytes = bytes;
+      unused = λ k r inside small. end.unused k r (rest_within k given blocks (given ++ blocks) refl inside) small ∙ clear.unused k r inside small;
     }
 
 -- the last steps in the sixth edition: the size is 0, and the mode has no large flag
@@ -196,23 +341,31 @@ ends_v6 geometry old low mid new i was bits e file first size second put same_mo
           subst (λ x. get_or new (inode_place x i + r) 0 ≡ get_or mid (inode_place x i + r) 0) (sym e) (kept_mode mid new i r there six)
           ∙ kept_size geometry.edition low mid i r first kept;
       size = size_above geometry.edition mid new i (inode_place geometry.edition i) (inode_place geometry.edition i + 2) second (omega arith) ∙ size;
-      mode = put ∙ (flag ∙ (ap (λ m. with_large m false) same_mode ∙ subst (λ x. with_large (mode_of geometry old i) false ≡ truncated_mode x (mode_of geometry old i)) (sym e) refl));
+      mode = put ∙ (flag ∙ (ap (λ m. with_large m false) same_mode ∙ subst (λ x. with_large (mode_of geometry old i) false ≡ truncated_mode x 0 (mode_of geometry old i)) (sym e) refl));
       kind = ap (kind_of geometry.edition) put ∙ subst (λ x. kind_of x bits ≡ kind_of x (mode_of geometry old i)) (sym e) is_kind;
     }
 
--- the last step in the seventh edition: the size is 0
-pub ends_v7 : (geometry : Geometry) (old low new : List ℕ) (i : ℕ) → geometry.edition ≡ V7
-    → mode_of geometry low i ≡ mode_of geometry old i
-    → SameOutside low new (size_place geometry.edition i) (size_place geometry.edition i + size_bytes geometry.edition)
-    → size_at geometry.edition new (inode_place geometry.edition i) ≡ 0 → Ends geometry old low new i
-ends_v7 geometry old low new i e mode first size =
-    let within = size_within geometry.edition i in
-    let is_mode : mode_of geometry new i ≡ mode_of geometry old i =
-    mode_behind geometry low new i (size_place geometry.edition i) (size_place geometry.edition i + size_bytes geometry.edition) first within.0 ∙ mode in
-    record {
-      same = widen first (omega (arith, within.0)) (omega (arith, within.1));
-      kept = λ r kept. kept_size geometry.edition low new i r first kept;
-      size = size;
-      mode = is_mode ∙ subst (λ x. mode_of geometry old i ≡ truncated_mode x (mode_of geometry old i)) (sym e) refl;
-      kind = ap (kind_of geometry.edition) is_mode;
-    }
+-- all of a list pass a test that is always true
+filter_all : (ps : List (List ℕ)) → filter (λ p. true) ps ≡ ps
+filter_all [] = refl
+filter_all (p ∷ ps) = ap (λ xs. p ∷ xs) (filter_all ps)
+
+-- the mode of the seventh edition stays
+pub mode_v7 : (edition : Edition) (left mode : ℕ) → edition ≡ V7 → mode ≡ truncated_mode edition left mode
+mode_v7 edition left mode e = subst (λ x. mode ≡ truncated_mode x left mode) (sym e) refl
+
+-- where bytes are left the mode stays
+pub mode_left : (edition : Edition) (left mode : ℕ) → (left ≡ 0 → ⊥) → mode ≡ truncated_mode edition left mode
+mode_left V6 left mode some = let no : (left == 0) ≡ false = grind (arith, nat_tests) in sym (ap (λ t. if t then with_large mode false else mode) no)
+mode_left V7 left mode some = refl
+
+-- at size 0 all blocks of the file are given back
+pub past_all : (geometry : Geometry) (image : List ℕ) (i : ℕ) → blocks_past geometry image i 0 ≡ blocks_of geometry image i
+unfolding blocks_past blocks_of
+past_all geometry image i =
+    ap (λ ps. filter (λ k. not (k == 0)) (map (named geometry image i) ps)) (filter_all (places (form_at geometry image i)))
+
+-- and no place names anything
+pub names_none : (geometry : Geometry) (old new : List ℕ) (i : ℕ) (p blocks : List ℕ) → Truncates geometry old new i 0 blocks
+    → IsPlaceOf geometry new i p → named geometry new i p ≡ 0
+names_none geometry old new i p blocks cuts place = cuts.names p place

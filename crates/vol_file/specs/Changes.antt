@@ -1,12 +1,13 @@
 -- What a write and a truncation leave.
-use Rattle.std.specs.Prelude.{◌≡◌, ◌≢◌, ℕ, ◌+◌, ◌-◌, ◌*◌, ◌<◌, ◌≤◌, ◌==◌, ◌&&◌, ◌||◌, Bool, true, false, not, max, nat_lt, nat_le, if◌then◌else◌, List, [], ◌∷◌, ◌++◌, length, map, filter, take, drop, replicate, slice_index}
+use Rattle.std.specs.Prelude.{◌≡◌, ◌≢◌, ℕ, ◌+◌, ◌-◌, ◌*◌, ◌/◌, ◌<◌, ◌≤◌, ◌==◌, ◌&&◌, ◌||◌, Bool, true, false, not, max, nat_lt, nat_le, if◌then◌else◌, List, [], ◌∷◌, ◌++◌, length, map, filter, take, drop, replicate, slice_index}
+use Rattle.std.specs.List.{range_with_len}
 use Rattle.vol_layout.specs.Edition.{constants}
 use Rattle.vol_layout.specs.Inode.{inode_place, with_large}
 use Rattle.vol_layout.specs.Super.{free_head}
 use Rattle.vol_layout.specs.Places.{IsPlace, places}
 use Rattle.vol_layout.specs.Names.{mode_of, form_at, IsFile, IsPlaceOf, named, NamesBlock}
 use Rattle.vol_layout.specs.Body.{body_byte, body}
-use Rattle.vol_file.specs.Shape.{is_named, touched, grows_large, filled}
+use Rattle.vol_file.specs.Shape.{is_named, touched, is_on_ways, grows_large, filled}
 use Rattle.vol_file.specs.Need.{need, places_taken}
 use Rattle.vol_file.specs.Rules.{size_of, Rules3To7With, IsCovered}
 use Rattle.vol_free.specs.Stack.{IsIn}
@@ -86,19 +87,37 @@ pub record Writes (geometry : Geometry) (old new : List ℕ) (i offset : ℕ) (t
 unfoldable pub blocks_of : Geometry → List ℕ → ℕ → List ℕ
 blocks_of geometry image i = filter (λ k. not (k == 0)) (map (named geometry image i) (places (form_at geometry image i)))
 
--- the mode of a file once it is truncated: the sixth edition's large flag goes (Lions on itrunc)
-abbrev pub truncated_mode : Edition → ℕ → ℕ
-truncated_mode V6 mode = with_large mode false
-truncated_mode V7 mode = mode
+-- how many logical blocks hold the first so many bytes of a file: their number rounded up to whole blocks (this project)
+abbrev pub block_count : ℕ → ℕ
+block_count size = (size + 511) / 512
 
--- a truncation of file i to nothing, where `blocks` were free: its blocks lie upon them, in the order of its places,
--- since they are given back from the last place to the first, and those that were free keep their bytes (Lions on itrunc)
-pub record Truncates (geometry : Geometry) (old new : List ℕ) (i : ℕ) (blocks : List ℕ) : Type 0 where
-  pub sound : Rules3To7With geometry new (blocks_of geometry old i ++ blocks)
-  pub covered : IsCovered geometry old blocks → IsCovered geometry new (blocks_of geometry old i ++ blocks)
+-- whether a place is on the way of one of the logical blocks that hold the first `size` bytes (this project)
+abbrev pub is_kept : Form → ℕ → List ℕ → Bool
+is_kept form size p = is_on_ways form (range_with_len 0 (block_count size)) p
+
+-- the blocks that a file names by its other places, in the order of its places (Lions on itrunc; the size is this project's)
+unfoldable pub blocks_past : Geometry → List ℕ → ℕ → ℕ → List ℕ
+blocks_past geometry image i size =
+    filter (λ k. not (k == 0)) (map (named geometry image i)
+    (filter (λ p. not (is_kept (form_at geometry image i) size p)) (places (form_at geometry image i))))
+
+-- the mode of a file once it is truncated: where it is empty then, the sixth edition's large flag goes (Lions on itrunc)
+abbrev pub truncated_mode : Edition → ℕ → ℕ → ℕ
+truncated_mode V6 size mode = if size == 0 then with_large mode false else mode
+truncated_mode V7 size mode = mode
+
+-- a truncation of file i to its first `left` bytes, where `blocks` were free: the places on the ways of the logical blocks that
+-- hold them name what they did, and all others nothing; the blocks of those lie upon the free ones, in the order of the places,
+-- since they are given back from the last place to the first, and those that were free keep their bytes. What is stored in the
+-- blocks that are kept stays, also past the size (Lions on itrunc; the size is this project's)
+pub record Truncates (geometry : Geometry) (old new : List ℕ) (i left : ℕ) (blocks : List ℕ) : Type 0 where
+  pub sound : Rules3To7With geometry new (blocks_past geometry old i left ++ blocks)
+  pub covered : IsCovered geometry old blocks → IsCovered geometry new (blocks_past geometry old i left ++ blocks)
   pub alone : ChangesFileAlone geometry old new i
-  pub mode : mode_of geometry new i ≡ truncated_mode geometry.edition (mode_of geometry old i)
-  pub size : size_of geometry new i ≡ 0
-  pub body : body geometry new i ≡ []
-  pub names : (p : List ℕ) → IsPlaceOf geometry new i p → named geometry new i p ≡ 0
+  pub mode : mode_of geometry new i ≡ truncated_mode geometry.edition left (mode_of geometry old i)
+  pub size : size_of geometry new i ≡ left
+  pub body : body geometry new i ≡ take left (body geometry old i)
+  pub names : (p : List ℕ) → IsPlaceOf geometry new i p
+      → named geometry new i p ≡ (if is_kept (form_at geometry old i) left p then named geometry old i p else 0)
+  pub bytes : (n : ℕ) → n / 512 < block_count left → body_byte geometry new i n ≡ body_byte geometry old i n
   pub unused : KeepsBlocks old new blocks

@@ -1,20 +1,43 @@
 -- What the steps of a truncation leave: which places name nothing any more, and which blocks are free in exchange.
-use Rattle.std.specs.Prelude.{◌≡◌, ◌≢◌, ℕ, zero, suc, ◌+◌, ◌≤◌, ◌⊎◌, ◌==◌, not, List, [], ◌∷◌, ◌++◌, length, map, filter}
+use Rattle.std.specs.Prelude.{◌≡◌, ◌≢◌, ℕ, zero, suc, ◌+◌, ◌-◌, ◌*◌, ◌^◌, ◌<◌, ◌≤◌, ◌⊎◌, ◌==◌, not, Bool, true, nat_le, if◌then◌else◌, List, [], ◌∷◌, ◌++◌, length, map, filter, slice_index}
 use Rattle.std.specs.List.{flat_map, range_with_len}
 use Rattle.vol_layout.specs.Edition.{constants}
-use Rattle.vol_layout.specs.Places.{levels_below, places_from}
+use Rattle.vol_layout.specs.Places.{pointer_count, levels_below, places_from, places}
 use Rattle.vol_layout.specs.Laws.{IsFront}
 use Rattle.vol_layout.specs.Names.{mode_of, form_at, IsPlaceOf, named}
 use Rattle.vol_free.specs.Stack.{IsFree}
 use Rattle.vol_file.specs.Rules.{size_of, Rules3To7With, IsCovered}
 use Rattle.vol_file.specs.Changes.{StaysElsewhere, KeepsBlocks}
 use Rattle.vol_layout.specs.declared.geometry.Geometry.{Geometry}
+use Rattle.vol_layout.specs.declared.places.Form.{Form}
+use Rattle.vol_layout.specs.declared.places.Form.TheVariants.{Small, Large, Deep, Bare}
 
 -- q is entry j or a later one of what place p names, or lies below such an entry (Lions on bmap)
 pub record IsUnder (p : List ℕ) (j : ℕ) (q : List ℕ) : Type 0 where
   pub index : ℕ
   pub from : j ≤ index
   pub front : IsFront (index ∷ p) q
+
+-- the first logical block below address k of an i-node (Lions on bmap; ino.h)
+abbrev pub first_at : Form → ℕ → ℕ
+first_at Small k = k
+first_at Large k = 256 * k
+first_at Deep k = if k == 11 then 138 else if k == 12 then 16522 else k
+first_at Bare k = k
+
+-- the first logical block that lies at or below a place (Lions on bmap)
+abbrev pub first_block : Form → List ℕ → ℕ
+first_block form [] = 0
+first_block form (k ∷ []) = first_at form k
+first_block form (j ∷ (a ∷ p)) = first_block form (a ∷ p) + j * pointer_count form ^ levels_below form (j ∷ (a ∷ p))
+
+-- whether none of the first `kept` logical blocks lies at or below a place (this project)
+abbrev pub is_past : Form → ℕ → List ℕ → Bool
+is_past form kept q = nat_le kept (first_block form q)
+
+-- none of the first `kept` logical blocks of file i lies at or below place q (this project)
+abbrev pub IsPast : Geometry → List ℕ → ℕ → ℕ → List ℕ → Type 0
+IsPast geometry image i kept q = is_past (form_at geometry image i) kept q ≡ true
 
 -- the blocks that some places of a file name, in the order of the places (Lions on itrunc)
 unfoldable pub blocks_at : Geometry → List ℕ → ℕ → List (List ℕ) → List ℕ
@@ -41,7 +64,7 @@ abbrev pub IsEmptyUnder : Geometry → List ℕ → ℕ → List ℕ → Type 0
 IsEmptyUnder geometry image i q = (p : List ℕ) → IsPlaceOf geometry image i p → IsUnder q 0 p → named geometry image i p ≡ 0
 
 -- the places of file i of which `Cleared` holds name nothing any more, the blocks `given` are free besides `blocks`, and
--- nothing else has changed (Lions on itrunc)
+-- nothing else has changed; the data blocks of the other places keep their bytes (Lions on itrunc)
 pub record Clears (geometry : Geometry) (old new : List ℕ) (i : ℕ) (Cleared : List ℕ → Type 0) (given blocks : List ℕ) : Type 0 where
   pub alone : StaysElsewhere geometry old new i
   pub mode : mode_of geometry new i ≡ mode_of geometry old i
@@ -51,6 +74,8 @@ pub record Clears (geometry : Geometry) (old new : List ℕ) (i : ℕ) (Cleared 
   pub less : (q : List ℕ) → IsPlaceOf geometry old i q → (named geometry new i q ≡ named geometry old i q) ⊎ (named geometry new i q ≡ 0)
   pub gone : (q : List ℕ) → IsPlaceOf geometry old i q → Cleared q → named geometry new i q ≡ 0
   pub kept : (q : List ℕ) → IsPlaceOf geometry old i q → (Cleared q → ⊥) → named geometry new i q ≡ named geometry old i q
+  pub bytes : (q : List ℕ) (r : ℕ) → IsPlaceOf geometry old i q → levels_below (form_at geometry old i) q ≡ 0 → (Cleared q → ⊥)
+      → named geometry old i q ≢ 0 → r < 512 → slice_index new (512 * named geometry old i q + r) ≡ slice_index old (512 * named geometry old i q + r)
   pub unused : KeepsBlocks old new blocks
 
 -- so many blocks more are free (Lions on itrunc)
@@ -88,10 +113,21 @@ pub record HasNode (geometry : Geometry) (image : List ℕ) (b level : ℕ) : Ty
   pub is : IsNamedAt geometry image file (index ∷ place) b
   pub below : levels_below (form_at geometry image file) (index ∷ place) ≡ level
 
--- wherever block b was named with so many levels below it, nothing below it is named any more,
--- and what was named there is free (Lions on itrunc)
-abbrev pub ClearsBelow : Geometry → List ℕ → List ℕ → ℕ → ℕ → Type 0
-ClearsBelow geometry old new b level = (i a : ℕ) (p blocks : List ℕ) → Rules3To7With geometry old blocks
+-- q is past the kept blocks, and is entry j or a later one of what place p names, or lies below such an entry (Lions on itrunc)
+abbrev pub IsPastUnder : (List ℕ → Bool) → List ℕ → ℕ → List ℕ → Type 0
+IsPastUnder past p j q = IsUnder p j q × (past q ≡ true)
+
+-- wherever block b was named with so many levels below it, nothing below it is named any more but on the ways of the first
+-- `kept` logical blocks below it, and what was named there is free (Lions on itrunc)
+abbrev pub ClearsBelow : Geometry → List ℕ → List ℕ → ℕ → ℕ → ℕ → Type 0
+ClearsBelow geometry old new b level kept = (i a bound : ℕ) (p blocks : List ℕ) → Rules3To7With geometry old blocks
     → IsNamedAt geometry old i (a ∷ p) b → levels_below (form_at geometry old i) (a ∷ p) ≡ level
-    → Clears geometry old new i (IsUnder (a ∷ p) 0)
-    (blocks_at geometry old i (places_below (constants geometry.edition).pointers (a ∷ p) level)) blocks
+    → kept ≡ bound - first_block (form_at geometry old i) (a ∷ p)
+    → Clears geometry old new i (IsPastUnder (is_past (form_at geometry old i) bound) (a ∷ p) 0)
+    (blocks_at geometry old i (filter (is_past (form_at geometry old i) bound) (places_below (constants geometry.edition).pointers (a ∷ p) level))) blocks
+
+-- the places of file i that are past its first `kept` logical blocks name nothing any more, and what they named is free (Lions on itrunc)
+abbrev pub ClearsPast : Geometry → List ℕ → List ℕ → ℕ → ℕ → List ℕ → Type 0
+ClearsPast geometry old new i kept blocks =
+    Clears geometry old new i (IsPast geometry old i kept)
+    (blocks_at geometry old i (filter (is_past (form_at geometry old i) kept) (places (form_at geometry old i)))) blocks

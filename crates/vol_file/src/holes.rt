@@ -122,7 +122,7 @@ fn next_address(image: &Image, geometry: &Geometry, i: u16, from: u32, end: u32)
 }
 
 /// How many logical blocks lie below a pointer with so many levels of indirect blocks below it.
-fn blocks_below(geometry: &Geometry, levels: usize) -> u32
+pub(crate) fn blocks_below(geometry: &Geometry, levels: usize) -> u32
     requires { levels ≤ 2 }
     ensures exact { result ≡ (constants geometry.now.edition).pointers ^ levels }
     ensures bound { result ≤ 65536 }

@@ -1,49 +1,58 @@
-//! Truncating a file to nothing: its blocks go back to the free list.
-ghost use Rattle.std.specs.Prelude.{◌≡◌, ℕ, ◌*◌, List, [], ◌∷◌, length};
+//! Truncating a file: the blocks past its new size go back to the free list.
+ghost use Rattle.std.specs.Prelude.{◌≡◌, ℕ, ◌*◌, ◌≤◌, List, [], ◌∷◌, length};
 ghost use Rattle.vol_layout.specs.Geometry.{Fits};
 ghost use Rattle.vol_layout.specs.Names.{form_at, IsFile, named};
-ghost use Rattle.vol_file.specs.Rules.{Rules3To7With, Rules3To7};
-ghost use Rattle.vol_file.specs.Changes.{blocks_of, Truncates};
-ghost use Rattle.vol_file.specs.Clears.{IsUnder, Clears, Gains, Drops, HasPointer, HasAddress, HasNode, ClearsBelow};
+ghost use Rattle.vol_file.specs.Rules.{size_of, Rules3To7With, Rules3To7};
+ghost use Rattle.vol_file.specs.Changes.{blocks_past, Truncates};
+ghost use Rattle.vol_file.specs.Clears.{first_at, ClearsPast, Gains, Drops, HasPointer, HasAddress, HasNode, ClearsBelow};
 
+use crate::holes::blocks_below;
 use pdp_words::{BLOCK, Image};
 use vol_free::give;
 use vol_layout::i_list::{address, mode};
 use vol_layout::{Edition, Form, Geometry, number, put_address, put_mode, put_number, put_size};
 
-/// Truncates file `i` to nothing: it has no bytes and names no block any more. Its blocks go back to
-/// the free list, from its last place to its first, so that the next to be taken is the one that its
-/// first place named. In the sixth edition the large flag goes, and the rest of the mode stays. Answers
-/// how many blocks were given back. Takes no memory.
+/// Truncates file `i` to its first `size` bytes, which are at most as many as it has. It keeps the blocks
+/// on the ways of the logical blocks that hold them, and names no other block any more: these go back to
+/// the free list, from its last place to its first, so that the next to be taken is the one that the first
+/// of their places named. In the sixth edition the large flag goes where `size` is 0, and the rest of the
+/// mode stays. Answers how many blocks were given back. Takes no memory.
 ///
-/// Costs one read for each entry of the file's indirect blocks, and two writes for each of its blocks.
-pub fn truncate(image: &mut Image, geometry: &Geometry, i: u16) -> u32
+/// Costs one read for each entry of the file's indirect blocks that lies behind the kept ones, on the way
+/// of the last kept block too, and two writes for each block that is given back.
+pub fn truncate(image: &mut Image, geometry: &Geometry, i: u16, size: u32) -> u32
     requires file { IsFile geometry.now image.old i }
+    requires within { size ≤ size_of geometry.now image.old i }
     requires sound { Rules3To7 geometry.now image.old }
     ensures truncated { (blocks : List ℕ) → Rules3To7With geometry.now image.old blocks
-        → Truncates geometry.now image.old image.new i blocks }
-    ensures count { result ≡ length (blocks_of geometry.now image.old i) }
+        → Truncates geometry.now image.old image.new i size blocks }
+    ensures count { result ≡ length (blocks_past geometry.now image.old i size) }
     ensures sound { Rules3To7 geometry.now image.new }
     ensures fits { Fits geometry.now image.new }
 {
     let mode = mode(image, geometry, i);
-    let given = clear_addresses(image, geometry, i, Form::of(geometry.edition, mode));
-    put_size(image, geometry, i, 0);
-    match geometry.edition {
-        Edition::V6 => put_mode(image, geometry, i, mode.with_large(false)),
-        Edition::V7 => {}
+    let form = Form::of(geometry.edition, mode);
+    let kept = (size + (BLOCK as u32 - 1)) / BLOCK as u32;
+    let given = clear_addresses(image, geometry, i, form, kept);
+    put_size(image, geometry, i, size);
+    if size == 0 {
+        match geometry.edition {
+            Edition::V6 => put_mode(image, geometry, i, mode.with_large(false)),
+            Edition::V7 => {}
+        }
     }
     given
 }
 
-/// Makes all addresses of file `i` 0, the last one first, gives back what they lead to, and answers how
-/// many blocks that is.
-fn clear_addresses(image: &mut Image, geometry: &Geometry, i: u16, form: Form) -> u32
+/// Makes those addresses of file `i` 0 below which none of its first `kept` logical blocks lies, the last
+/// address first, gives back what they lead to, and what the others lead to behind those blocks. Answers
+/// how many blocks that is.
+fn clear_addresses(image: &mut Image, geometry: &Geometry, i: u16, form: Form, kept: u32) -> u32
     requires file { IsFile geometry.now image.old i }
     requires sound { Rules3To7 geometry.now image.old }
     requires form { form ≡ form_at geometry.now image.old i }
     ensures cleared { (blocks : List ℕ) → Rules3To7With geometry.now image.old blocks
-        → Clears geometry.now image.old image.new i (IsUnder [] 0) (blocks_of geometry.now image.old i) blocks }
+        → ClearsPast geometry.now image.old image.new i kept blocks }
     ensures counted { Gains geometry.now image.old image.new result }
 {
     let mut given = 0;
@@ -52,32 +61,56 @@ fn clear_addresses(image: &mut Image, geometry: &Geometry, i: u16, form: Form) -
         k -= 1;
         let b = address(image, geometry, i, k);
         if b != 0 {
-            given += clear_below(image, geometry, b, form.levels(k)) + 1;
-            drop_address(image, geometry, i, k, b);
+            let rest = kept.saturating_sub(first_at(form, k));
+            given += clear_below(image, geometry, b, form.levels(k), rest);
+            if rest == 0 {
+                drop_address(image, geometry, i, k, b);
+                given += 1;
+            }
         }
     }
     given
 }
 
-/// Makes all entries of block `m` 0, the last one first, gives back what they lead to, and answers how
-/// many blocks that is. Block `m` is named by a place with `level` levels below it; where there is none,
-/// nothing is done.
-fn clear_below(image: &mut Image, geometry: &Geometry, m: u32, level: u8) -> u32
+/// The first logical block that lies below address `k` of a file.
+fn first_at(form: Form, k: usize) -> u32
+    requires { k ≤ 12 }
+    ensures { result ≡ first_at form k }
+{
+    match form {
+        Form::Large => 256 * k as u32,
+        Form::Deep if k == 11 => 138,
+        Form::Deep if k == 12 => 16_522,
+        _ => k as u32,
+    }
+}
+
+/// Makes those entries of block `m` 0 below which none of the first `kept` logical blocks below `m` lies,
+/// the last entry first, gives back what they lead to, and what the others lead to behind those blocks.
+/// Answers how many blocks that is. Block `m` is named by a place with `level` levels below it; where
+/// there is none, nothing is done.
+fn clear_below(image: &mut Image, geometry: &Geometry, m: u32, level: u8, kept: u32) -> u32
     requires { HasNode geometry.now image.old m level }
-    ensures cleared { ClearsBelow geometry.now image.old image.new m level }
+    ensures cleared { ClearsBelow geometry.now image.old image.new m level kept }
     ensures counted { Gains geometry.now image.old image.new result }
 {
     if level == 0 {
         return 0;
     }
+    let below = blocks_below(geometry, level as usize - 1);
+    let first = kept / below;
     let mut given = 0;
     let mut j = geometry.edition.constants().pointers;
-    while j > 0 {
+    while j > first {
         j -= 1;
         let b = number(image, geometry.edition, BLOCK * m as usize, j as usize);
         if b != 0 {
-            given += clear_below(image, geometry, b, level - 1) + 1;
-            drop_entry(image, geometry, m, j, b);
+            let rest = kept.saturating_sub(j * below);
+            given += clear_below(image, geometry, b, level - 1, rest);
+            if rest == 0 {
+                drop_entry(image, geometry, m, j, b);
+                given += 1;
+            }
         }
     }
     given

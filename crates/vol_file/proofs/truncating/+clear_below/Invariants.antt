@@ -12,7 +12,7 @@ decreases-clear_below l = l.level
 abbrev pub invariant-loop-j : goal.invariant-loop-j
 invariant-loop-j l = record {
   few : l.j ≤ (constants l.geometry.edition).pointers;
-  cleared : ClearsEntries l.geometry l.fn.image l.image l.m l.level l.j;
+  cleared : ClearsEntries l.geometry l.fn.image l.image l.m l.level l.kept l.j;
   counted : Gains l.geometry l.fn.image l.image l.given;
 }
 

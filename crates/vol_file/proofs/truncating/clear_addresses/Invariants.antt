@@ -9,7 +9,7 @@ use Rattle.vol_file.proofs.truncating.clear_addresses.Given as goal
 abbrev pub invariant-loop-k : goal.invariant-loop-k
 invariant-loop-k l = record {
   few : l.k ≤ first_count (form_at l.geometry l.fn.image l.i);
-  cleared : ClearsAddresses l.geometry l.fn.image l.image l.i l.k;
+  cleared : ClearsAddresses l.geometry l.fn.image l.image l.i l.kept l.k;
   counted : Gains l.geometry l.fn.image l.image l.given;
 }
 

@@ -1,0 +1,143 @@
+-- Laws of the first logical block at or below a place.
+use Rattle.std.proofs.Common.{◌≡◌, ℕ, suc, ◌+◌, ◌-◌, ◌*◌, ◌/◌, ◌^◌, ◌<◌, ◌≤◌, ◌∙◌, true, false, sym, ap, subst, List, [], ◌∷◌, arith, inl, inr}
+use Rattle.std.proofs.lemmas.Bool.Decides.{nat_tests}
+use Rattle.std.proofs.Math.Nat.{one-le-pow, pow-suc, mul-le-mul_right, div-mul-le_self}
+use Rattle.vol_layout.specs.Edition.{constants}
+use Rattle.vol_layout.specs.Places.{pointer_count, levels_below, IsPlace}
+use Rattle.vol_layout.specs.Laws.{IsFront}
+use Rattle.vol_layout.specs.declared.edition.Edition.{Edition}
+use Rattle.vol_layout.specs.declared.edition.Edition.TheVariants.{V6, V7}
+use Rattle.vol_layout.specs.declared.places.Form.{Form}
+use Rattle.vol_layout.specs.declared.places.Form.TheVariants.{Small, Large, Deep, Bare}
+use Rattle.vol_file.specs.Clears.{first_block, is_past}
+
+-- a place is past the kept blocks where its first block is
+pub past_true : (form : Form) (kept : ℕ) (q : List ℕ) → kept ≤ first_block form q → is_past form kept q ≡ true
+past_true form kept q h = grind (arith, nat_tests, h)
+
+-- a place isn't past them where its first block is kept
+pub past_false : (form : Form) (kept : ℕ) (q : List ℕ) → first_block form q < kept → is_past form kept q ≡ false
+past_false form kept q h = grind (arith, nat_tests, h)
+
+-- what is past the kept blocks has its first block there
+pub past_from : (form : Form) (kept : ℕ) (q : List ℕ) → is_past form kept q ≡ true → kept ≤ first_block form q
+past_from form kept q h = grind (arith, nat_tests, h)
+
+-- what isn't past them has its first block among them
+pub past_within : (form : Form) (kept : ℕ) (q : List ℕ) → is_past form kept q ≡ false → first_block form q < kept
+past_within form kept q h = grind (arith, nat_tests, h)
+
+-- the first block below a place is no earlier than that of a front
+pub first_front : (form : Form) (a : ℕ) (p q : List ℕ) → IsFront (a ∷ p) q → first_block form (a ∷ p) ≤ first_block form q
+first_front form a p [] front = absurd front
+first_front form a p (j ∷ r) (inl e) = subst (λ x. first_block form (a ∷ p) ≤ first_block form x) e (omega arith)
+first_front form a p (j ∷ []) (inr front) = absurd front
+first_front form a p (j ∷ (b ∷ r)) (inr front) =
+    let above : first_block form (a ∷ p) ≤ first_block form (b ∷ r) = first_front form a p (b ∷ r) front in
+    omega (arith, above)
+
+-- what has a front past the kept blocks is past them
+pub past_front : (form : Form) (kept a : ℕ) (p q : List ℕ) → is_past form kept (a ∷ p) ≡ true → IsFront (a ∷ p) q → is_past form kept q ≡ true
+past_front form kept a p q on front =
+    let here = past_from form kept (a ∷ p) on in
+    let later = first_front form a p q front in
+    past_true form kept q (omega (arith, here, later))
+
+-- how many logical blocks lie at or below a place
+abbrev pub spread_of : Form → List ℕ → ℕ
+spread_of form q = pointer_count form ^ levels_below form q
+
+-- a form with a place has pointers
+pub some_pointers : (form : Form) (p : List ℕ) → IsPlace form p → 1 ≤ pointer_count form
+some_pointers Small p place = omega arith
+some_pointers Large p place = omega arith
+some_pointers Deep p place = omega arith
+some_pointers Bare [] place = absurd place
+some_pointers Bare (k ∷ []) place = absurd (omega (arith, place))
+some_pointers Bare (j ∷ (a ∷ p)) place = absurd (omega (arith, place.0))
+
+-- at least one block lies at or below a place
+pub spread_some : (form : Form) (p : List ℕ) → IsPlace form p → 1 ≤ spread_of form p
+spread_some form p place =
+    let some = some_pointers form p place in
+    one-le-pow (levels_below form p) (pointer_count form) (omega (arith, some))
+
+-- an entry has its part of the blocks below its block
+spread_entry : (form : Form) (j a : ℕ) (p : List ℕ) → IsPlace form (j ∷ (a ∷ p))
+    → spread_of form (a ∷ p) ≡ spread_of form (j ∷ (a ∷ p)) * pointer_count form
+spread_entry form j a p place =
+    let next : levels_below form (a ∷ p) ≡ suc (levels_below form (j ∷ (a ∷ p))) = omega (arith, place.1) in
+    ap (λ d. pointer_count form ^ d) next ∙ pow-suc (pointer_count form) (levels_below form (j ∷ (a ∷ p)))
+
+-- the blocks below a place end no later than those below a front
+pub spread_front : (form : Form) (a : ℕ) (p q : List ℕ) → IsPlace form q → IsFront (a ∷ p) q
+    → first_block form q + spread_of form q ≤ first_block form (a ∷ p) + spread_of form (a ∷ p)
+spread_front form a p [] place front = absurd front
+spread_front form a p (j ∷ r) place (inl e) =
+    subst (λ x. first_block form x + spread_of form x ≤ first_block form (a ∷ p) + spread_of form (a ∷ p)) e (omega arith)
+spread_front form a p (j ∷ []) place (inr front) = absurd front
+spread_front form a p (j ∷ (b ∷ r)) place (inr front) =
+    let above = spread_front form a p (b ∷ r) place.2 front in
+    let w = spread_of form (j ∷ (b ∷ r)) in
+    let whole : spread_of form (b ∷ r) ≡ w * pointer_count form = spread_entry form j b r place in
+    let part : (j + 1) * w ≤ pointer_count form * w = mul-le-mul_right w (omega (arith, place.0)) in
+    let split : (j + 1) * w ≡ j * w + w = grind arith in
+    let turn : pointer_count form * w ≡ w * pointer_count form = grind arith in
+    omega (arith, above, whole, part, split, turn)
+
+-- the first block below an entry, by the numbers of its edition
+pub entry_first : (form : Form) (n level j a : ℕ) (p : List ℕ) → pointer_count form ≡ n → levels_below form (a ∷ p) ≡ level
+    → first_block form (j ∷ (a ∷ p)) ≡ first_block form (a ∷ p) + j * n ^ (level - 1)
+entry_first form n level j a p many deep =
+    ap (λ c. first_block form (a ∷ p) + j * c ^ levels_below form (j ∷ (a ∷ p))) many
+    ∙ ap (λ d. first_block form (a ∷ p) + j * n ^ (d - 1)) deep
+
+-- what is left of the kept blocks behind more of them
+sub_more : (bound first more kept rest : ℕ) → kept ≡ bound - first → rest ≡ kept - more → rest ≡ bound - (first + more)
+sub_more bound first more kept rest e f = omega arith
+
+-- how many kept blocks lie below an entry, or behind it
+pub entry_rest : (form : Form) (n level j a bound kept rest : ℕ) (p : List ℕ) → pointer_count form ≡ n → levels_below form (a ∷ p) ≡ level
+    → kept ≡ bound - first_block form (a ∷ p) → rest ≡ kept - j * n ^ (level - 1) → rest ≡ bound - first_block form (j ∷ (a ∷ p))
+entry_rest form n level j a bound kept rest p many deep e f =
+    sub_more bound (first_block form (a ∷ p)) (j * n ^ (level - 1)) kept rest e f
+    ∙ ap (λ x. bound - x) (sym (entry_first form n level j a p many deep))
+
+-- where no kept blocks are left at a place, it is past them
+pub rest_past : (form : Form) (bound rest : ℕ) (q : List ℕ) → rest ≡ bound - first_block form q → rest ≡ 0 → is_past form bound q ≡ true
+rest_past form bound rest q e none = past_true form bound q (omega arith)
+
+-- where some are left, it isn't
+pub rest_kept : (form : Form) (bound rest : ℕ) (q : List ℕ) → rest ≡ bound - first_block form q → (rest ≡ 0 → ⊥) → is_past form bound q ≡ false
+rest_kept form bound rest q e some = past_false form bound q (omega arith)
+
+-- entries before that in which the kept blocks end have nothing past them
+pub entry_kept : (form : Form) (n level x j a bound kept : ℕ) (p q : List ℕ) → pointer_count form ≡ n → levels_below form (a ∷ p) ≡ level
+    → kept ≡ bound - first_block form (a ∷ p) → x < j → j ≤ kept / n ^ (level - 1)
+    → IsPlace form q → IsFront (x ∷ (a ∷ p)) q → is_past form bound q ≡ false
+entry_kept form n level x j a bound kept p q many deep e less within place front =
+    let w = n ^ (level - 1) in
+    let is : spread_of form (x ∷ (a ∷ p)) ≡ w = ap (λ c. c ^ levels_below form (x ∷ (a ∷ p))) many ∙ ap (λ d. n ^ (d - 1)) deep in
+    let start = entry_first form n level x a p many deep in
+    let end = spread_front form x (a ∷ p) q place front in
+    let some = spread_some form q place in
+    let split : (x + 1) * w ≡ x * w + w = grind arith in
+    let first : (x + 1) * w ≤ j * w = mul-le-mul_right w (omega arith) in
+    let second : j * w ≤ kept / w * w = mul-le-mul_right w within in
+    let third : kept / w * w ≤ kept = div-mul-le_self kept w in
+    let low : first_block form q + spread_of form q ≤ first_block form (a ∷ p) + (x * w + w) = omega (arith, end, start, is) in
+    past_false form bound q (omega (arith, low, some, split, first, second, third, e))
+
+-- no place has more than three levels below it
+pub levels_few : (form : Form) (p : List ℕ) → IsPlace form p → levels_below form p ≤ 3
+levels_few form [] place = absurd place
+levels_few Small (k ∷ []) place = omega arith
+levels_few Large (k ∷ []) place = grind (arith, nat_tests)
+levels_few Deep (k ∷ []) place = omega (arith, place)
+levels_few Bare (k ∷ []) place = omega arith
+levels_few form (j ∷ (a ∷ p)) place = let above = levels_few form (a ∷ p) place.2 in omega (arith, above)
+
+-- an indirect block has pointers
+pub some_edition : (edition : Edition) → 0 < (constants edition).pointers
+some_edition V6 = omega arith
+some_edition V7 = omega arith

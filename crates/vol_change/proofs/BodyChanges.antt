@@ -4,14 +4,14 @@ use Rattle.vol_layout.specs.Names.{IsFile}
 use Rattle.vol_layout.specs.Places.{has_places}
 use Rattle.vol_layout.specs.declared.geometry.Geometry.{Geometry}
 use Rattle.vol_layout.specs.declared.mode.Kind.TheVariants as kinds
-use Rattle.vol_file.specs.Changes.{Writes, Truncates, ChangesFileAlone, blocks_of}
+use Rattle.vol_file.specs.Changes.{Writes, ChangesFileAlone, Truncates, blocks_past}
 use Rattle.vol_file.specs.Rules.{kind_at, Rules3To7With}
 use Rattle.vol_file.specs.Shape.{touched}
 use Rattle.vol_dir.specs.Tree.{shapes, state}
 use Rattle.vol_judge.specs.Graph.{graph_of}
 use Rattle.vol_judge.specs.GraphEdits.{IsSameGraph}
 use Rattle.vol_change.specs.Changed.{Changed, IsOther}
-use Rattle.vol_change.specs.Contents.{write_body, empty_body}
+use Rattle.vol_change.specs.Contents.{write_body, cut_body}
 use Rattle.vol_change.specs.Shapes.{need_in}
 use Rattle.vol_change.specs.Unused.{KeepsUnused}
 use Rattle.vol_change.specs.Whole.{Rules3To8}
@@ -61,18 +61,18 @@ written_beside geometry old new i offset text rules is each =
     beside geometry old new i rules is writes.alone (written_kind geometry old new rules.blocks i offset text file writes)
 
 -- a truncation
-pub body_emptied : (geometry : Geometry) (old new : List ℕ) (i : ℕ) (rules : Rules3To8 geometry old) → IsKind geometry old i kinds.Regular
-    → ((blocks : List ℕ) → Rules3To7With geometry old blocks → Truncates geometry old new i blocks)
-    → Changed geometry old new (IsOther i) (empty_body i (state geometry old)) (λ blocks. blocks_of geometry old i ++ blocks)
-body_emptied geometry old new i rules is each = let cuts = each rules.blocks rules.sound in record {
-  keeps = truncates_keeps geometry old new i rules cuts;
-  makes = truncated_state geometry old new rules.blocks i is rules.sound.fits cuts;
-  free = truncated_free geometry old new i rules cuts;
+pub body_cut : (geometry : Geometry) (old new : List ℕ) (i size : ℕ) (rules : Rules3To8 geometry old) → IsKind geometry old i kinds.Regular
+    → ((blocks : List ℕ) → Rules3To7With geometry old blocks → Truncates geometry old new i size blocks)
+    → Changed geometry old new (IsOther i) (cut_body i size (state geometry old)) (λ blocks. blocks_past geometry old i size ++ blocks)
+body_cut geometry old new i size rules is each = let cuts = each rules.blocks rules.sound in record {
+  keeps = truncates_keeps geometry old new i size rules cuts;
+  makes = truncated_state geometry old new rules.blocks i size is rules.sound.fits cuts;
+  free = truncated_free geometry old new i size rules cuts;
   content = λ j first last other. ((only_file geometry old new i rules.sound.fits cuts.alone is.first).others j first last other).content;
 }
 
-pub emptied_beside : (geometry : Geometry) (old new : List ℕ) (i : ℕ) (rules : Rules3To8 geometry old) → IsKind geometry old i kinds.Regular
-    → ((blocks : List ℕ) → Rules3To7With geometry old blocks → Truncates geometry old new i blocks) → Beside geometry old new i
-emptied_beside geometry old new i rules is each =
+pub cut_beside : (geometry : Geometry) (old new : List ℕ) (i size : ℕ) (rules : Rules3To8 geometry old) → IsKind geometry old i kinds.Regular
+    → ((blocks : List ℕ) → Rules3To7With geometry old blocks → Truncates geometry old new i size blocks) → Beside geometry old new i
+cut_beside geometry old new i size rules is each =
     let cuts = each rules.blocks rules.sound in
-    beside geometry old new i rules is cuts.alone (truncated_kind geometry old new rules.blocks i is cuts)
+    beside geometry old new i rules is cuts.alone (truncated_kind geometry old new rules.blocks i size is cuts)

@@ -9,7 +9,7 @@ use Rattle.vol_judge.proofs.GraphParts.{same_sound}
 use Rattle.vol_judge.proofs.ImageGraphs.{graph_within}
 use Rattle.vol_change.specs.Changed.{Changed}
 use Rattle.vol_change.specs.Edits.{at_time, change_node, modified, after_write, after_truncate}
-use Rattle.vol_change.specs.Contents.{write_body, empty_body}
+use Rattle.vol_change.specs.Contents.{write_body, cut_body}
 use Rattle.vol_change.specs.Whole.{Keeps}
 use Rattle.vol_change.proofs.TimedEdits.{timed_write, timed_truncate}
 use Rattle.vol_change.proofs.WholeLaws.{keeps_then}
@@ -71,12 +71,12 @@ made_none geometry image [] i offset now ready none = no_step geometry image rea
 made_none geometry image (byte ∷ bytes) i offset now ready none = absurd (omega arith)
 
 -- a truncation, and the times of the node
-pub made_truncate : {Kept Also : ℕ → Type 0} {listed after : List ℕ → List ℕ} (geometry : Geometry) (old mid new : List ℕ) (i now : ℕ)
-    → Rules1To12 geometry old → Changed geometry old mid Kept (empty_body i (state geometry old)) listed
+pub made_truncate : {Kept Also : ℕ → Type 0} {listed after : List ℕ → List ℕ} (geometry : Geometry) (old mid new : List ℕ) (i size now : ℕ)
+    → Rules1To12 geometry old → Changed geometry old mid Kept (cut_body i size (state geometry old)) listed
     → IsSameGraph (graph_of geometry old) (graph_of geometry mid)
     → Changed geometry mid new Also (change_node i (modified now) (state geometry mid)) after
-    → IsSameGraph (graph_of geometry mid) (graph_of geometry new) → HasMade geometry old new (after_truncate (state geometry old) now i)
-made_truncate geometry old mid new i now ready emptied same timed still =
-    let first = step_more geometry old old mid (state geometry old) (λ state. empty_body i state) (no_step geometry old ready) emptied same in
+    → IsSameGraph (graph_of geometry mid) (graph_of geometry new) → HasMade geometry old new (after_truncate (state geometry old) now size i)
+made_truncate geometry old mid new i size now ready cut same timed still =
+    let first = step_more geometry old old mid (state geometry old) (λ state. cut_body i size state) (no_step geometry old ready) cut same in
     let both = step_more geometry old mid new _ (λ state. change_node i (modified now) state) first timed still in
-    record { keeps = both.keeps; sound = both.sound; makes = both.makes ∙ timed_truncate (state geometry old) now i }
+    record { keeps = both.keeps; sound = both.sound; makes = both.makes ∙ timed_truncate (state geometry old) now size i }

@@ -1,5 +1,5 @@
 -- What a change of one file leaves of its i-node.
-use Rattle.std.proofs.Common.{◌≡◌, ◌∙◌, sym, ap, refl, ℕ, ◌+◌, ◌*◌, ◌/◌, ◌%◌, ◌<◌, ◌≤◌, ◌==◌, Bool, if◌then◌else◌, nat_lt, List, get_or, true, false, true≢false, arith, inl, inr}
+use Rattle.std.proofs.Common.{◌≡◌, ◌∙◌, sym, ap, refl, ℕ, zero, suc, ◌&&◌, not, ◌+◌, ◌*◌, ◌/◌, ◌%◌, ◌<◌, ◌≤◌, ◌==◌, Bool, if◌then◌else◌, nat_lt, List, get_or, true, false, true≢false, arith, inl, inr}
 use Rattle.std.specs.Prelude.{◌||◌, Some}
 use Rattle.std.proofs.lemmas.Bool.{cases_Bool}
 use Rattle.std.proofs.lemmas.Bool.Decides.{nat_tests}
@@ -77,10 +77,26 @@ touched_mode edition mode blocks file = elim (cases_Bool (grows_large (form_of e
       rw stays (record { kind = refl; permissions = refl; flag = sym or })
 ]
 
+-- nothing passes both
+pub none_passes : (t : Bool) → (t && false) ≡ false
+none_passes true = refl
+none_passes false = refl
+
+-- what passes beside what always does
+pub all_passes : (t : Bool) → (t && true) ≡ t
+all_passes true = refl
+all_passes false = refl
+
 -- a mode after a truncation
-pub cut_mode : (edition : Edition) (mode : ℕ) → has_places (kind_of edition mode) ≡ true → KeepsMode edition mode (truncated_mode edition mode) false
-cut_mode V6 mode file = with_flag mode false (file_allocated mode file)
-cut_mode V7 mode file = record { kind = refl; permissions = refl; flag = refl }
+pub cut_mode : (edition : Edition) (size mode : ℕ) → has_places (kind_of edition mode) ≡ true
+    → KeepsMode edition mode (truncated_mode edition size mode) (is_large edition mode && not (size == 0))
+cut_mode V6 zero mode file =
+    let small = with_flag mode false (file_allocated mode file) in
+    record { kind = small.kind; permissions = small.permissions; flag = small.flag ∙ sym (none_passes (is_large V6 mode)) }
+cut_mode V6 (suc n) mode file =
+    let some : (suc n == 0) ≡ false = grind (arith, nat_tests) in
+    rw some (record { kind = refl; permissions = refl; flag = sym (all_passes (is_large V6 mode)) })
+cut_mode V7 size mode file = record { kind = refl; permissions = refl; flag = refl }
 
 -- a file's form, by its flag
 pub form_flag : (edition : Edition) (old new : ℕ) (large : Bool) → has_places (kind_of edition old) ≡ true → KeepsMode edition old new large

@@ -18,8 +18,9 @@ use Rattle.vol_dir.specs.Tree.{Node, Shape, State, no_shape, form_in, place_coun
 use Rattle.vol_dir.specs.declared.cred.Cred.{Cred}
 use Rattle.vol_change.specs.Edits.{set_at, at_time, modified, change_names, remove_entry, remove_node, drop_link, release, after_write, after_truncate}
 use Rattle.vol_change.specs.Nodes.{no_node, node_at, names_at, number_of_name}
-use Rattle.vol_change.specs.Shapes.{need_in, stored_shape, entry_blocks, shape_with_entry, shape_without_entry, new_directory_shape}
-use Rattle.vol_change.proofs.PlaceCounts.{stored_count, entry_count, gone_count, none_count, new_directory_count, set_other, set_count, set_counts, free_less, free_same, free_gone}
+use Rattle.vol_change.specs.Shapes.{need_in, stored_shape, entry_blocks, shape_with_entry, shape_without_entry, cut_shape, cut_count, new_directory_shape}
+use Rattle.vol_change.proofs.CutCounts.{cut_leaves}
+use Rattle.vol_change.proofs.PlaceCounts.{stored_count, entry_count, gone_count, none_count, new_directory_count, set_other, set_count, set_counts, free_less, free_more, free_same, free_gone, sum_within}
 use Rattle.vol_change.specs.Effects.{after_create, after_mkdir, after_link, after_unlink, after_rmdir}
 use Rattle.vol_change.specs.Ready.{Rules1To12, entry_need, free_in}
 use Rattle.vol_change.proofs.ReadyLaws.{ready_whole}
@@ -190,9 +191,12 @@ free_after_write geometry image now offset i (byte ∷ bytes) first last =
     free_less geometry old i (stored_shape geometry.edition (old i) blocks) (need_in geometry.edition (old i) blocks) first last
     (stored_count geometry.edition (old i) blocks)
 
--- a file that loses its bytes gives back its blocks
-pub free_after_truncate : (geometry : Geometry) (image : List ℕ) (now i : ℕ) → Rules1To12 geometry image
-    → free_in (at_time now (after_truncate (state geometry image) now i))
-    ≡ free_in (state geometry image) + place_count geometry.edition ((state geometry image).shapes i)
+-- a file that loses bytes gives back the blocks that no way of the others needs
+pub free_after_truncate : (geometry : Geometry) (image : List ℕ) (now size i : ℕ) → Rules1To12 geometry image → 1 ≤ i → i ≤ geometry.last_inode
+    → free_in (at_time now (after_truncate (state geometry image) now size i))
+    ≡ free_in (state geometry image) + cut_count geometry.edition ((state geometry image).shapes i) size
 unfolding tree
-free_after_truncate geometry image now i ready = free_gone geometry image i (ready_whole geometry image ready)
+free_after_truncate geometry image now size i ready first last =
+    let old : ℕ → Shape = shapes geometry image in
+    free_more geometry old i (cut_shape geometry.edition (old i) size) (cut_count geometry.edition (old i) size) first last
+    (sum_within geometry image (ready_whole geometry image ready)) (cut_leaves geometry.edition (old i) size)

@@ -81,7 +81,7 @@ all_within a (suc n) xs all =
     omega (arith, less, rest)
 
 -- as many blocks are named as places name something
-blocks_length : (geometry : Geometry) (image : List ℕ) (i : ℕ) (ps : List (List ℕ)) → length (blocks_at geometry image i ps) ≡ count_by (is_named geometry image i) ps
+pub blocks_length : (geometry : Geometry) (image : List ℕ) (i : ℕ) (ps : List (List ℕ)) → length (blocks_at geometry image i ps) ≡ count_by (is_named geometry image i) ps
 blocks_length geometry image i [] = ap length (at_nil geometry image i)
 blocks_length geometry image i (p ∷ ps) =
     let rest : length (blocks_at geometry image i ps) ≡ count_by (is_named geometry image i) ps = blocks_length geometry image i ps in

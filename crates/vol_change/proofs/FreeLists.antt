@@ -12,7 +12,7 @@ use Rattle.vol_layout.proofs.InodeLaws.{place_from, place_room}
 use Rattle.vol_free.specs.Stack.{IsFree}
 use Rattle.vol_free.proofs.Frames.{IsFree-behind, free_from}
 use Rattle.vol_free.proofs.Stacks.{IsFree_unique}
-use Rattle.vol_file.specs.Changes.{Writes, Truncates, blocks_of}
+use Rattle.vol_file.specs.Changes.{Writes, blocks_of, Truncates, blocks_past}
 use Rattle.vol_file.specs.Laws.{IsAmong}
 use Rattle.vol_file.specs.Need.{need}
 use Rattle.vol_file.specs.Rules.{kind_at}
@@ -79,11 +79,11 @@ drop_suc (suc n) (x ∷ xs) = drop_suc n xs
 pub drop_next : (n : ℕ) (xs : List ℕ) → drop 1 (drop n xs) ≡ drop (n + 1) xs
 drop_next n xs = drop_suc n xs ∙ ap (λ m. drop m xs) (sym (add-one n))
 
--- a truncation puts the blocks of the file on top
-pub truncated_free : (geometry : Geometry) (old new : List ℕ) (i : ℕ) (rules : Rules3To8 geometry old)
-    → Truncates geometry old new i rules.blocks → FreeBecomes geometry old new (λ blocks. blocks_of geometry old i ++ blocks)
-truncated_free geometry old new i rules cuts blocks free =
-    subst (λ xs. IsFree geometry new (blocks_of geometry old i ++ xs)) (one_list geometry old blocks rules free) cuts.sound.free
+-- a truncation puts the blocks that the file loses on top
+pub truncated_free : (geometry : Geometry) (old new : List ℕ) (i size : ℕ) (rules : Rules3To8 geometry old)
+    → Truncates geometry old new i size rules.blocks → FreeBecomes geometry old new (λ blocks. blocks_past geometry old i size ++ blocks)
+truncated_free geometry old new i size rules cuts blocks free =
+    subst (λ xs. IsFree geometry new (blocks_past geometry old i size ++ xs)) (one_list geometry old blocks rules free) cuts.sound.free
 
 -- functions that agree on a list map it to the same
 map_among : (f g : List ℕ → ℕ) (qs : List (List ℕ)) → ((p : List ℕ) → IsAmong p qs → f p ≡ g p) → map f qs ≡ map g qs

@@ -18,7 +18,8 @@ use Rattle.vol_layout.specs.Super.{cache_head}
 use Rattle.vol_free.specs.Numbers.{cache_len, Cached}
 use Rattle.vol_free.proofs.Frames.{IsFree-before_zone}
 use Rattle.vol_file.specs.Rules.{kind_at, Rules3To7With}
-use Rattle.vol_file.specs.Changes.{Truncates, blocks_of}
+use Rattle.vol_file.specs.Changes.{blocks_of, Truncates, blocks_past}
+use Rattle.vol_file.proofs.Truncated.{past_all}
 use Rattle.vol_dir.specs.Tree.{no_shape, content_of, node_with, node_of, shape_of, state}
 use Rattle.vol_judge.specs.Graph.{graph_of}
 use Rattle.vol_judge.proofs.ImageGraphs.{kind_inside}
@@ -33,24 +34,25 @@ use Rattle.vol_change.proofs.OneNode.{only_file, only_inode, only_then, cache_no
 
 -- a truncation keeps the rules
 pub truncated_whole : (geometry : Geometry) (old new : List ℕ) (i : ℕ) → (rules : Rules3To8 geometry old)
-    → ((blocks : List ℕ) → Rules3To7With geometry old blocks → Truncates geometry old new i blocks) → Rules3To8 geometry new
+    → ((blocks : List ℕ) → Rules3To7With geometry old blocks → Truncates geometry old new i 0 blocks) → Rules3To8 geometry new
 truncated_whole geometry old new i rules truncates =
     let done = truncates rules.blocks rules.sound in
-    record { blocks = blocks_of geometry old i ++ rules.blocks; sound = done.sound; covered = done.covered rules.covered }
+    record { blocks = blocks_past geometry old i 0 ++ rules.blocks; sound = done.sound; covered = done.covered rules.covered }
 
 -- and changes that file alone
 pub truncated_only : (geometry : Geometry) (old new : List ℕ) (i : ℕ) → (rules : Rules3To8 geometry old) → 1 ≤ i
-    → ((blocks : List ℕ) → Rules3To7With geometry old blocks → Truncates geometry old new i blocks) → ChangesOnly geometry old new i
+    → ((blocks : List ℕ) → Rules3To7With geometry old blocks → Truncates geometry old new i 0 blocks) → ChangesOnly geometry old new i
 truncated_only geometry old new i rules first truncates =
     only_file geometry old new i rules.sound.fits (truncates rules.blocks rules.sound).alone first
 
 -- its blocks go back to the free list
 pub truncated_list : (geometry : Geometry) (old new : List ℕ) (i : ℕ) → (rules : Rules3To8 geometry old) → has_places (kind_at geometry old i) ≡ true
-    → ((blocks : List ℕ) → Rules3To7With geometry old blocks → Truncates geometry old new i blocks)
+    → ((blocks : List ℕ) → Rules3To7With geometry old blocks → Truncates geometry old new i 0 blocks)
     → FreeBecomes geometry old new (λ blocks. blocks_freed geometry old i ++ blocks)
 truncated_list geometry old new i rules file truncates =
     subst (λ t. FreeBecomes geometry old new (λ blocks. (if t then blocks_of geometry old i else []) ++ blocks)) (sym file)
-    (truncated_free geometry old new i rules (truncates rules.blocks rules.sound))
+    (subst (λ gone. FreeBecomes geometry old new (λ blocks. gone ++ blocks)) (past_all geometry old i)
+    (truncated_free geometry old new i 0 rules (truncates rules.blocks rules.sound)))
 
 -- an i-node has room for its mode
 pub mode_room : (edition : Edition) → 2 ≤ (constants edition).inode_bytes

@@ -2,6 +2,7 @@ pub mod BodyChanges
 pub mod CallSteps
 pub mod ChangedInodes
 pub mod Contents
+pub mod CutCounts
 pub mod DotGraphs
 pub mod DotImages
 pub mod DotRooms

@@ -4,7 +4,7 @@ use Rattle.std.specs.Option.{option_map}
 use Rattle.std.proofs.lemmas.Bool.{cases_Bool}
 use Rattle.vol_dir.specs.Tree.{Node, Shape, State}
 use Rattle.vol_change.specs.Edits.{set_at, change_node, put_shape, modified, after_write, after_truncate}
-use Rattle.vol_change.specs.Contents.{write_body, empty_body}
+use Rattle.vol_change.specs.Contents.{write_body, cut_body}
 
 -- one change after another
 map_twice : (f g : Node → Node) (node : Option Node) → option_map f (option_map g node) ≡ option_map (λ x. f (g x)) node
@@ -45,5 +45,5 @@ timed_write state now offset i [] h = absurd (omega arith)
 timed_write state now offset i (byte ∷ bytes) h = change_twice state i _ (modified now) _
 
 -- a truncation, and then the times
-pub timed_truncate : (state : State) (now i : ℕ) → change_node i (modified now) (empty_body i state) ≡ after_truncate state now i
-timed_truncate state now i = change_twice state i _ (modified now) _
+pub timed_truncate : (state : State) (now size i : ℕ) → change_node i (modified now) (cut_body i size state) ≡ after_truncate state now size i
+timed_truncate state now size i = change_twice state i _ (modified now) _

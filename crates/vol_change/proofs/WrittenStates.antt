@@ -1,25 +1,29 @@
 -- The state after a change of one file.
-use Rattle.std.proofs.Common.{◌≡◌, ◌∙◌, sym, ap, subst, refl, ℕ, ◌+◌, ◌≤◌, ◌==◌, ◌&&◌, Bool, not, true, false, max, List, [], length, Option, Some}
+use Rattle.std.proofs.Common.{◌≡◌, ◌∙◌, sym, ap, subst, refl, ℕ, zero, suc, ◌+◌, ◌≤◌, ◌==◌, ◌&&◌, Bool, not, true, false, if◌then◌else◌, max, take, List, [], length, Option, Some, arith}
 use Rattle.std.specs.Option.{option_map}
+use Rattle.std.proofs.lemmas.Bool.Decides.{nat_tests}
 use Rattle.vol_layout.specs.Geometry.{Fits}
-use Rattle.vol_layout.specs.Inode.{inode_place, inode_of, kind_of, is_large}
-use Rattle.vol_layout.specs.Names.{mode_of, form_at, IsFile}
-use Rattle.vol_layout.specs.Places.{has_places}
+use Rattle.vol_layout.specs.Inode.{inode_place, inode_of, kind_of, is_large, with_large}
+use Rattle.vol_layout.specs.Names.{mode_of, form_at, IsFile, named}
+use Rattle.vol_layout.specs.Places.{form_of, has_places}
 use Rattle.vol_layout.specs.Body.{body}
+use Rattle.vol_layout.specs.declared.edition.Edition.{Edition}
+use Rattle.vol_layout.specs.declared.edition.Edition.TheVariants.{V6, V7}
 use Rattle.vol_layout.specs.declared.geometry.Geometry.{Geometry}
 use Rattle.vol_layout.specs.declared.mode.Kind.{Kind}
 use Rattle.vol_layout.specs.declared.mode.Kind.TheVariants as kinds
 use Rattle.vol_layout.proofs.InodeLaws.{inode_size}
-use Rattle.vol_file.specs.Changes.{spliced, Writes, Truncates}
+use Rattle.vol_file.specs.Changes.{spliced, Writes, is_kept, truncated_mode, Truncates}
 use Rattle.vol_file.specs.Rules.{kind_at, size_of}
 use Rattle.vol_file.specs.Shape.{is_named, touched}
-use Rattle.vol_dir.specs.Tree.{Content, Body, Node, is_place, is_named_place, content_of, node_with, node_of, shape_of, tree, state}
-use Rattle.vol_change.specs.Contents.{write_body, empty_body}
+use Rattle.vol_dir.specs.Tree.{Content, Body, Node, form_in, is_place, is_named_place, content_of, node_with, node_of, shape_of, tree, state}
+use Rattle.vol_change.specs.Contents.{write_body, cut_body}
 use Rattle.vol_change.specs.Edits.{body_of}
-use Rattle.vol_change.specs.Shapes.{stored_shape}
+use Rattle.vol_change.specs.Shapes.{stored_shape, cut_shape}
 use Rattle.vol_change.specs.Whole.{Rules3To8, Keeps}
-use Rattle.vol_change.proofs.FileInodes.{KeepsMode, KeepsFields, cut_mode, fields_kept, node_changed}
+use Rattle.vol_change.proofs.FileInodes.{KeepsMode, KeepsFields, none_passes, all_passes, cut_mode, fields_kept, node_changed}
 use Rattle.vol_dir.proofs.WalkLaws.{node_inside}
+use Rattle.vol_change.proofs.FreeCounts.{form_shape}
 use Rattle.vol_change.proofs.OneNode.{alone_around, only_file, only_makes}
 use Rattle.vol_change.proofs.States.{shape_here}
 use Rattle.vol_judge.specs.Graph.{graph_of}
@@ -78,9 +82,9 @@ writes_keeps geometry old new i offset text rules writes = record {
 }
 
 -- what a truncation keeps
-pub truncates_keeps : (geometry : Geometry) (old new : List ℕ) (i : ℕ) (rules : Rules3To8 geometry old)
-    → Truncates geometry old new i rules.blocks → Keeps geometry old new
-truncates_keeps geometry old new i rules cuts = record {
+pub truncates_keeps : (geometry : Geometry) (old new : List ℕ) (i size : ℕ) (rules : Rules3To8 geometry old)
+    → Truncates geometry old new i size rules.blocks → Keeps geometry old new
+truncates_keeps geometry old new i size rules cuts = record {
   rules = record { blocks = _; sound = cuts.sound; covered = cuts.covered rules.covered };
   around = alone_around geometry old new i cuts.alone;
 }
@@ -110,38 +114,76 @@ written_state geometry old new free i offset text is fits writes =
     ∙ sym (ap (λ shape. stored_shape geometry.edition shape blocks)
     (shape_here geometry old i is.first is.last ∙ ap (shape_of geometry old i) is.kind))))
 
--- nothing passes both
-none_passes : (t : Bool) → (t && false) ≡ false
-none_passes true = refl
-none_passes false = refl
+-- a number that is chosen or not
+chosen : (t : Bool) (n : ℕ) → not ((if t then n else 0) == 0) ≡ (not (n == 0) && t)
+chosen true n = sym (all_passes (not (n == 0)))
+chosen false n = sym (none_passes (not (n == 0)))
+
+-- tests one after another
+passes_then : (s t u : Bool) → (s && (t && u)) ≡ ((s && t) && u)
+passes_then true t u = refl
+passes_then false t u = refl
+
+-- the places on the ways of bytes that stay are places of the file as it was
+cut_places : (edition : Edition) (size old new : ℕ) (names : Bool) (p : List ℕ) → new ≡ truncated_mode edition size old
+    → (is_place (form_of edition new) p && (names && is_kept (form_of edition old) size p))
+    ≡ (is_place (form_of edition old) p && (names && is_kept (form_of edition old) size p))
+cut_places V6 zero old new names p cut =
+    let none = none_passes names in
+    ap (λ t. is_place (form_of V6 new) p && t) none
+    ∙ (none_passes (is_place (form_of V6 new) p)
+    ∙ sym (ap (λ t. is_place (form_of V6 old) p && t) none ∙ none_passes (is_place (form_of V6 old) p)))
+cut_places V6 (suc n) old new names p cut =
+    let some : (suc n == 0) ≡ false = grind (arith, nat_tests) in
+    ap (λ mode. is_place (form_of V6 mode) p && (names && is_kept (form_of V6 old) (suc n) p))
+    (cut ∙ ap (λ t. if t then with_large old false else old) some)
+cut_places V7 size old new names p cut =
+    ap (λ mode. is_place (form_of V7 mode) p && (names && is_kept (form_of V7 old) size p)) cut
+
+-- which places name something after a truncation
+cut_names : (geometry : Geometry) (old new free : List ℕ) (i size : ℕ) → IsFile geometry new i → has_places (kind_at geometry old i) ≡ true
+    → Truncates geometry old new i size free → (p : List ℕ) → is_named_place geometry new i p
+    ≡ (is_named_place geometry old i p && is_kept (form_in geometry.edition (is_large geometry.edition (mode_of geometry old i))) size p)
+cut_names geometry old new free i size file was cuts p =
+    let before = form_at geometry old i in
+    let after = form_at geometry new i in
+    guarded (is_place after p) (is_named geometry new i p) (is_named geometry old i p && is_kept before size p)
+    (λ passes.
+    ap (λ n. not (n == 0)) (cuts.names p (record { file = file; place = place_passed after p passes }))
+    ∙ chosen (is_kept before size p) (named geometry old i p))
+    ∙ (cut_places geometry.edition size (mode_of geometry old i) (mode_of geometry new i) (is_named geometry old i p) p cuts.mode
+    ∙ (passes_then (is_place before p) (is_named geometry old i p) (is_kept before size p)
+    ∙ sym (ap (λ form. is_named_place geometry old i p && is_kept form size p) (form_shape geometry.edition (mode_of geometry old i) was))))
 
 -- the state after a truncation of a regular file
-pub truncated_state : (geometry : Geometry) (old new free : List ℕ) (i : ℕ) → IsKind geometry old i kinds.Regular → Fits geometry old
-    → Truncates geometry old new i free → state geometry new ≡ empty_body i (state geometry old)
+pub truncated_state : (geometry : Geometry) (old new free : List ℕ) (i size : ℕ) → IsKind geometry old i kinds.Regular → Fits geometry old
+    → Truncates geometry old new i size free → state geometry new ≡ cut_body i size (state geometry old)
 unfolding tree
-truncated_state geometry old new free i is fits cuts =
+truncated_state geometry old new free i size is fits cuts =
     let edition = geometry.edition in
-    let mode : KeepsMode edition (mode_of geometry old i) (mode_of geometry new i) false =
-    subst (λ m. KeepsMode edition (mode_of geometry old i) m false) (sym cuts.mode) (cut_mode edition (mode_of geometry old i) (ap has_places is.kind)) in
+    let large = is_large edition (mode_of geometry old i) in
+    let mode : KeepsMode edition (mode_of geometry old i) (mode_of geometry new i) (large && not (size == 0)) =
+    subst (λ m. KeepsMode edition (mode_of geometry old i) m (large && not (size == 0))) (sym cuts.mode)
+    (cut_mode edition size (mode_of geometry old i) (ap has_places is.kind)) in
     let kind : kind_at geometry new i ≡ kinds.Regular = mode.kind ∙ is.kind in
     let file : IsFile geometry new i = record { first = is.first; last = is.last; kind = ap has_places kind } in
-    let none : (p : List ℕ) → is_named_place geometry new i p ≡ false = λ p.
-    guarded (is_place (form_at geometry new i) p) (is_named geometry new i p) false
-    (λ passes. ap (λ n. not (n == 0)) (cuts.names p (record { file = file; place = place_passed (form_at geometry new i) p passes })))
-    ∙ none_passes (is_place (form_at geometry new i) p) in
+    let names = cut_names geometry old new free i size file (ap has_places is.kind) cuts in
     let old_node = inode_of edition old i in
     only_makes geometry old new i _ _ is.first is.last (only_file geometry old new i fits cuts.alone is.first)
-    (node_edited geometry old new i (λ node. record node { content = Body []; size = 0 }) (Body (body geometry old i)) (Body (body geometry new i)) 0
+    (node_edited geometry old new i (λ node. record node { content = Body (take size (body_of node.content)); size = size })
+    (Body (body geometry old i)) (Body (body geometry new i)) size
     is.first is.last (ap (content_of geometry old i) is.kind) (ap (content_of geometry new i) kind)
     (fields_kept edition old new (inode_place edition i) cuts.alone.elsewhere.inode mode.permissions) cuts.size
-    (λ k. record (node_with old_node (Body (body geometry old i))) { content = Body (cuts.body k); size = 0 }))
-    (ap (shape_of geometry new i) kind ∙ (λ k. record { names = λ p. none p k; large = mode.flag k; slots = [] }))
+    (λ k. record (node_with old_node (Body (body geometry old i))) { content = Body (cuts.body k); size = size }))
+    (ap (shape_of geometry new i) kind
+    ∙ ((λ k. record { names = λ p. names p k; large = mode.flag k; slots = [] })
+    ∙ sym (ap (λ shape. cut_shape edition shape size) (shape_here geometry old i is.first is.last ∙ ap (shape_of geometry old i) is.kind))))
 
 -- what a truncation leaves of the kind
-pub truncated_kind : (geometry : Geometry) (old new free : List ℕ) (i : ℕ) → IsKind geometry old i kinds.Regular
-    → Truncates geometry old new i free → kind_at geometry new i ≡ kind_at geometry old i
-truncated_kind geometry old new free i is cuts =
-    ap (kind_of geometry.edition) cuts.mode ∙ (cut_mode geometry.edition (mode_of geometry old i) (ap has_places is.kind)).kind
+pub truncated_kind : (geometry : Geometry) (old new free : List ℕ) (i size : ℕ) → IsKind geometry old i kinds.Regular
+    → Truncates geometry old new i size free → kind_at geometry new i ≡ kind_at geometry old i
+truncated_kind geometry old new free i size is cuts =
+    ap (kind_of geometry.edition) cuts.mode ∙ (cut_mode geometry.edition size (mode_of geometry old i) (ap has_places is.kind)).kind
 
 -- what a write leaves of the kind
 pub written_kind : (geometry : Geometry) (old new free : List ℕ) (i offset : ℕ) (text : List ℕ) → IsFile geometry old i

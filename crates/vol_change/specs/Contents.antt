@@ -1,7 +1,7 @@
 -- Changes of a file's bytes and of a directory's entries, before the times of the node are put.
 use Rattle.std.specs.Prelude.{ℕ, List}
 use Rattle.vol_dir.specs.Tree.{Node, State}
-use Rattle.vol_change.specs.Edits.{entry_added, entry_removed, bytes_written, bytes_lost}
+use Rattle.vol_change.specs.Edits.{entry_added, entry_removed, bytes_written, bytes_cut}
 
 -- the node as it is: its times stay (this project)
 abbrev pub untimed : Node → Node
@@ -11,9 +11,10 @@ untimed node = node
 abbrev pub write_body : ℕ → ℕ → List ℕ → State → State
 write_body = bytes_written untimed
 
--- file i loses its bytes and all its places, and its times stay (Lions on itrunc)
-abbrev pub empty_body : ℕ → State → State
-empty_body = bytes_lost untimed
+-- of the bytes of file i the first stay, as many as `size`, and the places on their ways; its times stay (Lions on itrunc; that bytes
+-- may stay is this project's)
+abbrev pub cut_body : ℕ → ℕ → State → State
+cut_body = bytes_cut untimed
 
 -- directory d gets an entry, a name for i, and its times stay (Lions on wdir)
 abbrev pub put_entry : ℕ → List ℕ → ℕ → State → State

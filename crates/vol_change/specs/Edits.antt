@@ -1,12 +1,12 @@
 -- Changes of one node of the tree, of which calls are made.
-use Rattle.std.specs.Prelude.{ℕ, ◌+◌, ◌-◌, ◌%◌, ◌==◌, max, nat_le, if◌then◌else◌, List, [], ◌∷◌, length, Option, None}
+use Rattle.std.specs.Prelude.{ℕ, ◌+◌, ◌-◌, ◌%◌, ◌==◌, max, nat_le, if◌then◌else◌, List, [], ◌∷◌, length, take, Option, None}
 use Rattle.std.specs.Option.{option_map}
 use Rattle.vol_file.specs.Changes.{spliced}
 use Rattle.vol_file.specs.Shape.{touched}
 use Rattle.vol_dir.specs.Names.{Names, insert, remove, dot, dot_dot}
 use Rattle.vol_dir.specs.Tree.{Content, Body, Directory, Device, Node, Shape, State, no_shape}
 use Rattle.vol_change.specs.Nodes.{node_at, size_with_entry}
-use Rattle.vol_change.specs.Shapes.{stored_shape, shape_with_entry, shape_without_entry}
+use Rattle.vol_change.specs.Shapes.{stored_shape, shape_with_entry, shape_without_entry, cut_shape}
 use Rattle.vol_layout.specs.Inode.{first_change}
 use Rattle.vol_layout.specs.declared.edition.Edition.{Edition}
 use Rattle.vol_dir.specs.declared.cred.Cred.{Cred}
@@ -138,11 +138,14 @@ abbrev pub after_write : State → ℕ → ℕ → List ℕ → ℕ → State
 after_write state now offset [] i = state
 after_write state now offset (byte ∷ bytes) i = bytes_written (modified now) i offset (byte ∷ bytes) state
 
--- file i loses its bytes and all its places, and its times change as `timed` says (Lions on itrunc)
-abbrev pub bytes_lost : (Node → Node) → ℕ → State → State
-bytes_lost timed i state =
-    put_shape i no_shape (change_node i (λ node. record (timed node) { content = Body []; size = 0 }) state)
+-- of the bytes of file i the first stay, as many as `size`, and the places on their ways; its times change as `timed` says (Lions on
+-- itrunc; that bytes may stay is this project's)
+abbrev pub bytes_cut : (Node → Node) → ℕ → ℕ → State → State
+bytes_cut timed i size state =
+    put_shape i (cut_shape state.tree.geometry.edition (state.shapes i) size)
+    (change_node i (λ node. record (timed node) { content = Body (take size (body_of node.content)); size = size }) state)
 
--- file i loses its bytes and all its places, and its bytes were last changed now (Lions on itrunc)
-abbrev pub after_truncate : State → ℕ → ℕ → State
-after_truncate state now i = bytes_lost (modified now) i state
+-- of the bytes of file i the first stay, as many as `size`, and the places on their ways; its bytes were last changed now (Lions on
+-- itrunc; that bytes may stay is this project's)
+abbrev pub after_truncate : State → ℕ → ℕ → ℕ → State
+after_truncate state now size i = bytes_cut (modified now) i size state

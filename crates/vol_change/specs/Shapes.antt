@@ -1,5 +1,8 @@
 -- How the shapes of files change, and how many blocks that takes.
-use Rattle.std.specs.Prelude.{ℕ, ◌/◌, ◌||◌, List, [], ◌∷◌, map, Some}
+use Rattle.std.specs.Prelude.{ℕ, ◌/◌, ◌==◌, ◌&&◌, ◌||◌, not, List, [], ◌∷◌, map, Some}
+use Rattle.std.specs.List.{count_by}
+use Rattle.vol_layout.specs.Places.{places}
+use Rattle.vol_file.specs.Changes.{is_kept}
 use Rattle.vol_file.specs.Shape.{filled, grows_large}
 use Rattle.vol_file.specs.Need.{need_of}
 use Rattle.vol_dir.specs.Editing.{with_item}
@@ -33,6 +36,20 @@ shape_with_entry edition shape name = record (stored_shape edition shape (entry_
 -- the shape of a directory without the entry of this name (Lions on unlink)
 abbrev pub shape_without_entry : Shape → List ℕ → Shape
 shape_without_entry shape name = record shape { slots = map (emptied name) shape.slots }
+
+-- the shape of a file of which the first bytes stay, as many as `size`: with the places on their ways, and small if there are none
+-- (Lions on itrunc; that bytes may stay is this project's)
+abbrev pub cut_shape : Edition → Shape → ℕ → Shape
+cut_shape edition shape size = record {
+  names = λ p. shape.names p && is_kept (form_in edition shape.large) size p;
+  large = shape.large && not (size == 0);
+  slots = shape.slots;
+}
+
+-- how many places of the file named something and don't then (Lions on itrunc; that bytes may stay is this project's)
+abbrev pub cut_count : Edition → Shape → ℕ → ℕ
+cut_count edition shape size =
+    count_by (λ p. shape.names p && not (is_kept (form_in edition shape.large) size p)) (places (form_in edition shape.large))
 
 -- the shape of a new directory: one block, with `.` in the first slot and `..` in the second (mkdir)
 abbrev pub new_directory_shape : Edition → Shape

@@ -53,7 +53,7 @@ fn free_blocks(image: &mut Image, geometry: &Geometry, i: u16) -> u32
     ensures none { (p : List ℕ) → IsPlaceOf geometry.now image.new i p → named geometry.now image.new i p ≡ 0 }
 {
     match kind(image, geometry, i) {
-        Kind::Regular | Kind::Directory => truncate(image, geometry, i),
+        Kind::Regular | Kind::Directory => truncate(image, geometry, i, 0),
         Kind::Free | Kind::Special | Kind::Odd => 0,
     }
 }

@@ -1,5 +1,6 @@
-use Rattle.std.proofs.Common.{◌∙◌, ap, sym, inl, inr}
+use Rattle.std.proofs.Common.{◌∙◌, ap, sym, length, inl, inr}
 use Rattle.vol_layout.specs.Places.{has_places}
+use Rattle.vol_file.proofs.Truncated.{past_all, names_none}
 use Rattle.vol_change.proofs.FreeCounts.{count_number, count_none_bare}
 use Rattle.vol_change.proofs.FreedNodes.{truncated_list, truncated_whole, truncated_only}
 use Rattle.vol_change.proofs.OneNode.{alone_inode}
@@ -30,7 +31,12 @@ returns-in-Regular-clause-free c =
 
 pub returns-in-Regular-clause-count : goal.returns-in-Regular-clause-count
 returns-in-Regular-clause-count c =
-    c.truncate.ensures.count ∙ sym (count_number c.args.geometry.now c.args.image.now c.args.i c.requires.first c.requires.last)
+    c.truncate.ensures.count ∙ ap length (past_all c.args.geometry.now c.args.image.now c.args.i) ∙ sym (count_number c.args.geometry.now c.args.image.now c.args.i c.requires.first c.requires.last)
+
+pub returns-in-Regular-clause-none : goal.returns-in-Regular-clause-none
+returns-in-Regular-clause-none c = λ p place.
+    names_none c.args.geometry.now c.args.image.now c.truncate.new.image c.args.i p c.requires.rules.blocks
+    (c.truncate.ensures.truncated c.requires.rules.blocks c.requires.rules.sound) place
 
 pub returns-in-Free-clause-count : goal.returns-in-Free-clause-count
 returns-in-Free-clause-count c =

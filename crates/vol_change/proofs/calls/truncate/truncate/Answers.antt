@@ -1,9 +1,9 @@
 use Rattle.std.proofs.Common.{◌∙◌, ap, sym}
 use Rattle.vol_layout.specs.Places.{has_places}
 use Rattle.vol_layout.specs.declared.mode.Kind.TheVariants as kinds
-use Rattle.vol_change.proofs.BodyChanges.{body_emptied, emptied_beside}
+use Rattle.vol_change.proofs.BodyChanges.{body_cut, cut_beside}
 use Rattle.vol_change.proofs.CallSteps.{changed, made_truncate}
-use Rattle.vol_change.proofs.FreeCounts.{count_number}
+use Rattle.vol_change.proofs.CutCounts.{cut_number}
 use Rattle.vol_change.proofs.OneNode.{content_then}
 use Rattle.vol_change.proofs.ReadyLaws.{ready_whole}
 use Rattle.vol_change.proofs.UnusedBytes.{unused_then}
@@ -24,10 +24,10 @@ touch-requires c =
     record { first = c.requires.first; last = c.requires.last; kind = c.requires.regular } in
     record {
       node = record {
-        rules = (body_emptied _ _ _ _ (ready_whole _ _ c.requires.ready) is c.truncate-given.ensures.truncated).keeps.rules;
+        rules = (body_cut _ _ _ _ c.args.size (ready_whole _ _ c.requires.ready) is c.truncate-given.ensures.truncated).keeps.rules;
         first = c.requires.first;
         last = c.requires.last;
-        used = (emptied_beside _ _ _ _ (ready_whole _ _ c.requires.ready) is c.truncate-given.ensures.truncated).kind;
+        used = (cut_beside _ _ _ _ c.args.size (ready_whole _ _ c.requires.ready) is c.truncate-given.ensures.truncated).kind;
       };
     }
 
@@ -40,18 +40,18 @@ returns c =
     let new = c.put_time.new.image in
     let rules = ready_whole geometry old c.requires.ready in
     let is : IsKind geometry old c.args.i kinds.Regular = record { first = c.requires.first; last = c.requires.last; kind = c.requires.regular } in
-    let emptied = body_emptied geometry old mid c.args.i rules is c.truncate-given.ensures.truncated in
-    let beside = emptied_beside geometry old mid c.args.i rules is c.truncate-given.ensures.truncated in
+    let cut = body_cut geometry old mid c.args.i c.args.size rules is c.truncate-given.ensures.truncated in
+    let beside = cut_beside geometry old mid c.args.i c.args.size rules is c.truncate-given.ensures.truncated in
     record {
       changes = changed _ _ _ _ _ c.args.moment c.requires.ready
-          (made_truncate geometry old mid timed c.args.i c.args.moment c.requires.ready
-          emptied beside.graph
+          (made_truncate geometry old mid timed c.args.i c.args.size c.args.moment c.requires.ready
+          cut beside.graph
           c.touch.ensures.changed c.touch.ensures.graph)
           c.put_time.ensures.changed c.put_time.ensures.graph;
-      list = λ blocks free. c.put_time.ensures.changed.free _ (c.touch.ensures.changed.free _ (emptied.free blocks free));
-      count = c.truncate-given.ensures.count ∙ sym (count_number geometry old c.args.i c.requires.first c.requires.last);
+      list = λ blocks free. c.put_time.ensures.changed.free _ (c.touch.ensures.changed.free _ (cut.free blocks free));
+      count = c.truncate-given.ensures.count ∙ sym (cut_number geometry old c.args.i c.args.size is);
       files = λ j low high other also.
-          content_then geometry old mid new j (emptied.content j low high other)
+          content_then geometry old mid new j (cut.content j low high other)
           (content_then geometry mid timed new j (c.touch.ensures.changed.content j low high tt) (c.put_time.ensures.changed.content j low high tt));
       unused = λ j low high.
           unused_then geometry old mid new j (beside.unused j low high)

@@ -5,14 +5,13 @@ use Rattle.std.specs.Option.{is_some}
 use Rattle.std.proofs.lemmas.Bool.{or_parts}
 use Rattle.std.proofs.lemmas.Bool.Decides.{nat_tests}
 use Rattle.vol_layout.specs.Edition.{constants}
-use Rattle.vol_dir.specs.Access.{may_write}
 use Rattle.vol_dir.specs.Names.{get, is_dots}
 use Rattle.vol_dir.specs.Tree.{Tree, State}
 use Rattle.vol_dir.specs.Walk.{has_zero, walk, walk_parent, is_directory}
 use Rattle.vol_change.specs.Nodes.{node_at, names_at, number_of_name}
 use Rattle.vol_change.specs.Ready.{TakesName, entry_need, free_in}
 use Rattle.vol_volume.specs.Ids.{is_bad_id}
-use Rattle.vol_volume.specs.Verdict.{first_of, has_name, has_others, is_device, has_free_number, then_others, of_node, of_parent, create_tests, mkdir_tests, link_tests, unlink_tests, rmdir_tests, body_tests, write_tests, chown_tests, write_need, link_refusal}
+use Rattle.vol_volume.specs.Verdict.{first_of, has_name, has_others, is_device, has_free_number, then_others, of_node, of_parent, create_tests, mkdir_tests, link_tests, unlink_tests, rmdir_tests, write_tests, chown_tests, write_need, link_refusal}
 use Rattle.vol_dir.specs.declared.cred.Cred.{Cred}
 use Rattle.vol_dir.specs.declared.refusal.Refusal.{Refusal}
 use Rattle.vol_dir.specs.declared.refusal.Refusal.TheVariants as refusals
@@ -209,19 +208,6 @@ write_passed state cred path offset len i none walked =
     let great = passed _ _ _ granted.1 in
     let room = passed _ _ _ great.1 in
     record { other = other.0; regular = regular.0; greatest = below _ _ great.0; room = below _ _ room.0 }
-
--- a file that becomes empty
-pub truncate_passed : (state : State) (cred : Cred) (path : List ℕ) (i : ℕ)
-    → then_others state.tree cred (path ∷ []) (of_node (walk state.tree cred path) (λ j. first_of (body_tests state.tree may_write cred j))) ≡ None
-    → walk state.tree cred path ≡ Ok i
-    → (is_directory (node_at state.tree i) ≡ false) × (is_device (node_at state.tree i).content ≡ false)
-truncate_passed state cred path i none walked =
-    let others = λ (i : ℕ). first_of (body_tests state.tree may_write cred i) in
-    let first = first_passed state.tree cred (path ∷ []) (of_node (walk state.tree cred path) others) none in
-    let asked = node_asked state.tree cred path others i walked first.others in
-    let other = passed _ _ _ asked in
-    let regular = passed _ _ _ other.1 in
-    (other.0, regular.0)
 
 -- another owner, whose numbers the edition has
 pub chown_passed : (state : State) (cred : Cred) (path : List ℕ) (uid gid : ℕ)

@@ -18,26 +18,27 @@ use Rattle.vol_volume.specs.declared.calls.Done.{Done}
 use Rattle.vol_volume.specs.declared.calls.Record.{Record}
 
 -- a volume of some fields
-abbrev pub volume_of : Edition → List ℕ → List ℕ → List Record → Mounted
-volume_of edition image base journal = record { edition = edition; image = image; base = base; journal = journal }
+abbrev pub volume_of : Edition → List ℕ → List ℕ → List Record → ℕ → Mounted
+volume_of edition image base journal first = record { edition = edition; image = image; base = base; journal = journal; first = first }
 
-module _ (geometry : Geometry) (old new base : List ℕ) (journal : List Record) (call : Call) (done : Done) (free : ℕ)
+module _ (geometry : Geometry) (old new base : List ℕ) (journal : List Record) (first : ℕ) (call : Call) (done : Done) (free : ℕ)
     (sizes : geometry ≡ geometry_of geometry.edition old) (accepted : verdict (state geometry old) call ≡ None)
     (performed : IsPerformed geometry old new call done free) where
   -- the call was accepted, made and recorded
-  pub accepts : Accepts (volume_of geometry.edition old base journal)
-      (volume_of geometry.edition new base (journal ++ record { call = call; done = done } ∷ [])) call done
+  pub accepts : Accepts (volume_of geometry.edition old base journal first)
+      (volume_of geometry.edition new base (journal ++ record { call = call; done = done } ∷ []) first) call done
   accepts = record {
     accepted = subst (λ g. verdict (state g old) call ≡ None) sizes accepted;
     performed = subst (λ g. Performs g old new call done) sizes performed.performed;
     edition = refl;
     base = refl;
     journal = refl;
+    first = refl;
   }
 
   -- so the volume is consistent still
-  pub consistent : IsConsistent (volume_of geometry.edition old base journal)
-      → IsConsistent (volume_of geometry.edition new base (journal ++ record { call = call; done = done } ∷ []))
+  pub consistent : IsConsistent (volume_of geometry.edition old base journal first)
+      → IsConsistent (volume_of geometry.edition new base (journal ++ record { call = call; done = done } ∷ []) first)
   consistent was = kept_consistent _ _ call done was accepts
 
 -- the number of free blocks, of the image
@@ -51,26 +52,26 @@ counts_new : (geometry : Geometry) (old new : List ℕ) (call : Call) (done : Do
 counts_new geometry old new call done free performed = performed.counted ∙ counted geometry new
 
 -- what every volume keeps of its fields
-pub fields_kept : (geometry : Geometry) (old new base : List ℕ) (journal longer : List Record) (call : Call) (done : Done) (free : ℕ)
+pub fields_kept : (geometry : Geometry) (old new base : List ℕ) (journal longer : List Record) (first : ℕ) (call : Call) (done : Done) (free : ℕ)
     → geometry ≡ geometry_of geometry.edition old → verdict (state geometry old) call ≡ None → IsPerformed geometry old new call done free
-    → longer ≡ journal ++ record { call = call; done = done } ∷ [] → IsConsistent (volume_of geometry.edition old base journal)
-    → (geometry ≡ geometry_of geometry.edition new) × IsConsistent (volume_of geometry.edition new base longer)
+    → longer ≡ journal ++ record { call = call; done = done } ∷ [] → IsConsistent (volume_of geometry.edition old base journal first)
+    → (geometry ≡ geometry_of geometry.edition new) × IsConsistent (volume_of geometry.edition new base longer first)
     × (free ≡ free_count geometry (shapes geometry new))
-fields_kept geometry old new base journal longer call done free sizes accepted performed appended was = (
+fields_kept geometry old new base journal longer first call done free sizes accepted performed appended was = (
   performed.performed.changes.ready.sizes,
-  subst (λ records. IsConsistent (volume_of geometry.edition new base records)) (sym appended)
-      (consistent geometry old new base journal call done free sizes accepted performed was),
+  subst (λ records. IsConsistent (volume_of geometry.edition new base records first)) (sym appended)
+      (consistent geometry old new base journal first call done free sizes accepted performed was),
   counts_new geometry old new call done free performed,
 )
 
 -- the call was accepted, whatever the record of it is read as
-pub fields_accepted : (geometry : Geometry) (old new base : List ℕ) (journal longer : List Record) (call : Call) (done : Done) (free : ℕ)
+pub fields_accepted : (geometry : Geometry) (old new base : List ℕ) (journal longer : List Record) (first : ℕ) (call : Call) (done : Done) (free : ℕ)
     → geometry ≡ geometry_of geometry.edition old → verdict (state geometry old) call ≡ None → IsPerformed geometry old new call done free
     → longer ≡ journal ++ record { call = call; done = done } ∷ []
-    → Accepts (volume_of geometry.edition old base journal) (volume_of geometry.edition new base longer) call done
-fields_accepted geometry old new base journal longer call done free sizes accepted performed appended =
-    subst (λ records. Accepts (volume_of geometry.edition old base journal) (volume_of geometry.edition new base records) call done) (sym appended)
-    (accepts geometry old new base journal call done free sizes accepted performed)
+    → Accepts (volume_of geometry.edition old base journal first) (volume_of geometry.edition new base longer first) call done
+fields_accepted geometry old new base journal longer first call done free sizes accepted performed appended =
+    subst (λ records. Accepts (volume_of geometry.edition old base journal first) (volume_of geometry.edition new base records first) call done) (sym appended)
+    (accepts geometry old new base journal first call done free sizes accepted performed)
 
 -- a call that is refused is so of what the image reads as
 pub refused : (geometry : Geometry) (image : List ℕ) (call : Call) (refusal : Refusal) → geometry ≡ geometry_of geometry.edition image
@@ -102,27 +103,27 @@ pub record IsAnswered (geometry : Geometry) (old new : List ℕ) (journal longer
   pub same_free : OnErr answer (free_new ≡ free_old)
   pub same_journal : OnErr answer (longer ≡ journal)
 
-module _ (geometry : Geometry) (old new base : List ℕ) (journal longer : List Record) (call : Call) (free_old free_new : ℕ)
+module _ (geometry : Geometry) (old new base : List ℕ) (journal longer : List Record) (first : ℕ) (call : Call) (free_old free_new : ℕ)
     (sizes : geometry ≡ geometry_of geometry.edition old) where
   -- what every volume keeps of its fields is kept
   pub answered_kept : (answer : Result Done (Refusal × Call)) → free_old ≡ free_count geometry (shapes geometry old)
-      → IsAnswered geometry old new journal longer call free_old free_new answer → IsConsistent (volume_of geometry.edition old base journal)
-      → (geometry ≡ geometry_of geometry.edition new) × IsConsistent (volume_of geometry.edition new base longer)
+      → IsAnswered geometry old new journal longer call free_old free_new answer → IsConsistent (volume_of geometry.edition old base journal first)
+      → (geometry ≡ geometry_of geometry.edition new) × IsConsistent (volume_of geometry.edition new base longer first)
       × (free_new ≡ free_count geometry (shapes geometry new))
   answered_kept (Ok done) count answered was =
-      fields_kept geometry old new base journal longer call done free_new sizes answered.accepted answered.performed answered.records was
+      fields_kept geometry old new base journal longer first call done free_new sizes answered.accepted answered.performed answered.records was
   answered_kept (Err back) count answered was = (
     subst (λ image. geometry ≡ geometry_of geometry.edition image) (sym answered.same_image) sizes,
-    subst (λ image. IsConsistent (volume_of geometry.edition image base longer)) (sym answered.same_image)
-        (subst (λ records. IsConsistent (volume_of geometry.edition old base records)) (sym answered.same_journal) was),
+    subst (λ image. IsConsistent (volume_of geometry.edition image base longer first)) (sym answered.same_image)
+        (subst (λ records. IsConsistent (volume_of geometry.edition old base records first)) (sym answered.same_journal) was),
     subst (λ image. free_new ≡ free_count geometry (shapes geometry image)) (sym answered.same_image) (answered.same_free ∙ count),
   )
 
   -- the call was accepted where its answer is one
   pub answered_accepts : (answer : Result Done (Refusal × Call)) → IsAnswered geometry old new journal longer call free_old free_new answer
-      → IfOk answer (λ done. Accepts (volume_of geometry.edition old base journal) (volume_of geometry.edition new base longer) call done)
+      → IfOk answer (λ done. Accepts (volume_of geometry.edition old base journal first) (volume_of geometry.edition new base longer first) call done)
   answered_accepts (Ok done) answered =
-      fields_accepted geometry old new base journal longer call done free_new sizes answered.accepted answered.performed answered.records
+      fields_accepted geometry old new base journal longer first call done free_new sizes answered.accepted answered.performed answered.records
   answered_accepts (Err back) answered = tt
 
   -- and refused where it comes back

@@ -52,10 +52,17 @@ keep_same : (now : State) (old : Mounted) (new : List ℕ) (call : Call) (done :
     → MayFollow now (record { call = call; done = done })
     → now ≡ after (reads_as old.edition old.base) old.journal
     → Performs (geometry_of old.edition old.image) old.image new call done
-    → IsConsistent (record { edition = old.edition; image = new; base = old.base; journal = old.journal ++ record { call = call; done = done } ∷ [] })
+    → IsConsistent (record {
+      edition = old.edition;
+      image = new;
+      base = old.base;
+      journal = old.journal ++ record { call = call; done = done } ∷ [];
+      first = old.first;
+    })
 keep_same now old new call done was reads follows made performed = record {
   image_sound = performed.changes.ready.sound;
   base_sound = was.base_sound;
+  len = was.len ∙ sym performed.changes.around.len;
   legal = legal-append _ old.journal (record { call = call; done = done } ∷ []) was.legal
       (subst (λ at. IsLegal at (record { call = call; done = done } ∷ [])) made (follows, tt));
   reads = reads_made old.edition old.image new call done performed ∙ ap (λ at. step at call done) (sym reads ∙ made)
@@ -65,10 +72,22 @@ keep_same now old new call done was reads follows made performed = record {
 -- what every volume keeps is kept
 pub kept_consistent : (old new : Mounted) (call : Call) (done : Done) → IsConsistent old → Accepts old new call done → IsConsistent new
 kept_consistent old new call done was accepts =
-    let same : IsConsistent (record { edition = old.edition; image = new.image; base = old.base; journal = old.journal ++ record { call = call; done = done } ∷ [] }) =
+    let same : IsConsistent (record {
+      edition = old.edition;
+      image = new.image;
+      base = old.base;
+      journal = old.journal ++ record { call = call; done = done } ∷ [];
+      first = old.first;
+    }) =
     keep_same (reads_as old.edition old.image) old new.image call done was refl
     (record { accepted = accepts.accepted; answered = accepts.performed.answered }) was.reads accepts.performed
     in
-    let fields : new ≡ record { edition = old.edition; image = new.image; base = old.base; journal = old.journal ++ record { call = call; done = done } ∷ [] } =
-    λ j. record { edition = accepts.edition j; image = new.image; base = accepts.base j; journal = accepts.journal j }
+    let fields : new ≡ record {
+      edition = old.edition;
+      image = new.image;
+      base = old.base;
+      journal = old.journal ++ record { call = call; done = done } ∷ [];
+      first = old.first;
+    } =
+    λ j. record { edition = accepts.edition j; image = new.image; base = accepts.base j; journal = accepts.journal j; first = accepts.first j }
     in subst IsConsistent (sym fields) same

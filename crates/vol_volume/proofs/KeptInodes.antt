@@ -1,5 +1,5 @@
 -- The bytes of i-nodes that are not in use, after each call.
-use Rattle.std.proofs.Common.{◌≡◌, ◌≢◌, ◌∙◌, sym, ap, refl, ℕ, ◌+◌, ◌-◌, ◌<◌, ◌≤◌, if◌then◌else◌, Bool, true, false, nat_le, List, [], ◌∷◌, length, slice_index, max, Option, None, Some, inl, inr, eq-eqb, arith}
+use Rattle.std.proofs.Common.{◌≡◌, ◌≢◌, ◌∙◌, sym, ap, refl, ℕ, ◌+◌, ◌-◌, ◌<◌, ◌≤◌, if◌then◌else◌, Bool, true, false, nat_le, List, [], ◌∷◌, length, slice_index, max, take, Option, None, Some, inl, inr, eq-eqb, arith}
 use Rattle.std.specs.Option.{option_map, is_none}
 use Rattle.std.proofs.lemmas.Bool.{cases_eq, true≢false}
 use Rattle.std.proofs.lemmas.Bool.Decides.{nat_tests}
@@ -67,9 +67,10 @@ write_free state now offset (byte ∷ bytes) i j =
       size = max node.size (offset + length (byte ∷ bytes));
     }) j
 
--- or a file that becomes empty
-truncate_free : (state : State) (now i j : ℕ) → free_at (after_truncate state now i) j ≡ free_at state j
-truncate_free state now i j = changed_free state i (λ node. record (modified now node) { content = Body []; size = 0 }) j
+-- or a file of which the first bytes stay
+truncate_free : (state : State) (now size i j : ℕ) → free_at (after_truncate state now size i) j ≡ free_at state j
+truncate_free state now size i j =
+    changed_free state i (λ node. record (modified now node) { content = Body (take size (body_of node.content)); size = size }) j
 
 module _ (geometry : Geometry) (old new : List ℕ) where
   -- what an image reads as says which i-numbers are free
@@ -143,10 +144,10 @@ module _ (geometry : Geometry) (old new : List ℕ) where
   write_inodes now offset bytes i makes kept =
       inodes_same (λ j. free_as _ makes j ∙ write_free (state geometry old) now offset bytes i j) kept
 
-  -- a file that becomes empty
-  pub truncate_inodes : (now i : ℕ) → state geometry new ≡ at_time now (after_truncate (state geometry old) now i)
+  -- a file of which the first bytes stay
+  pub truncate_inodes : (now size i : ℕ) → state geometry new ≡ at_time now (after_truncate (state geometry old) now size i)
       → ((j : ℕ) → 1 ≤ j → j ≤ geometry.last_inode → KeepsUnused geometry old new j) → KeepsInodes geometry old new
-  truncate_inodes now i makes kept = inodes_same (λ j. free_as _ makes j ∙ truncate_free (state geometry old) now i j) kept
+  truncate_inodes now size i makes kept = inodes_same (λ j. free_as _ makes j ∙ truncate_free (state geometry old) now size i j) kept
 
   -- a further name
   pub link_inodes : (now i d : ℕ) (name : List ℕ) → state geometry new ≡ at_time now (after_link (state geometry old) now i d name)

@@ -14,8 +14,10 @@ pub mod NewFiles
 pub mod NewRules
 pub mod NewSizes
 pub mod NewVolumes
+pub mod FirstTests
 pub mod FreeNumbers
 pub mod KeptInodes
+pub mod LeftRests
 pub mod NeedReadings
 pub mod NodeReadings
 pub mod Outputs

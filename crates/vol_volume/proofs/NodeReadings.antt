@@ -3,11 +3,12 @@ use Rattle.std.proofs.Common.{◌≡◌, ◌≢◌, ℕ, ◌≤◌, ◌∙◌, a
 use Rattle.std.specs.Option.{option_map, unwrap_or, is_none}
 use Rattle.std.proofs.lemmas.Bool.{false≢true}
 use Rattle.vol_layout.specs.Edition.{constants}
-use Rattle.vol_layout.specs.Inode.{inode_of}
+use Rattle.vol_layout.specs.Inode.{inode_place, inode_of}
 use Rattle.vol_layout.specs.declared.geometry.Geometry.{Geometry}
 use Rattle.vol_layout.specs.declared.mode.Kind.{Kind}
 use Rattle.vol_layout.specs.declared.mode.Kind.TheVariants as kinds
-use Rattle.vol_file.specs.Rules.{kind_at, Rules3To7}
+use Rattle.vol_layout.proofs.InodeLaws.{inode_size}
+use Rattle.vol_file.specs.Rules.{kind_at, size_of, Rules3To7}
 use Rattle.vol_file.proofs.Naming.{root_first}
 use Rattle.vol_dir.specs.Entries.{slots, IsDirectory, IsInUse}
 use Rattle.vol_dir.specs.Names.{names_of}
@@ -127,6 +128,17 @@ module _ (geometry : Geometry) (image : List ℕ) where
       let is : node_of geometry image i ≡ Some (node_with (inode_of geometry.edition image i) stored.0) =
       node_of_kind i kind refl ∙ ap (option_map (node_with (inode_of geometry.edition image i))) stored.1 in
       ap (λ n. (unwrap_or n no_node).uid) (node_inside geometry image i first used.last ∙ is)
+
+  -- and the size
+  pub size_is : (i : ℕ) → 1 ≤ i → Rules3To7 geometry image → IsInUse geometry image i
+      → (node_at (tree geometry image) i).size ≡ size_of geometry image i
+  size_is i first files used =
+      let kind = kind_at geometry image i in
+      let stored = content_there geometry image i kind used.allocated (files.sound.kinds.known i first used.last) in
+      let is : node_of geometry image i ≡ Some (node_with (inode_of geometry.edition image i) stored.0) =
+      node_of_kind i kind refl ∙ ap (option_map (node_with (inode_of geometry.edition image i))) stored.1 in
+      ap (λ n. (unwrap_or n no_node).size) (node_inside geometry image i first used.last ∙ is)
+      ∙ inode_size geometry.edition image (inode_place geometry.edition i)
 
   -- of the kinds of what is in use, a regular file is left
   regular_by : (kind : Kind) → kind ≢ kinds.Free → kind ≢ kinds.Odd → kind ≢ kinds.Directory → kind ≢ kinds.Special → kind ≡ kinds.Regular

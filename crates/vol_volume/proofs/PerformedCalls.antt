@@ -15,6 +15,7 @@ use Rattle.vol_change.specs.Ready.{Rules1To12, Becomes, free_in}
 use Rattle.vol_change.proofs.FreeAfter.{free_after_unlink, free_after_last_unlink}
 use Rattle.vol_volume.specs.Inodes.{KeepsInodes}
 use Rattle.vol_volume.specs.Journal.{MayAnswer}
+use Rattle.vol_volume.specs.Leaving.{LeavesTheRest}
 use Rattle.vol_volume.specs.Performing.{IsPerformed}
 use Rattle.vol_volume.specs.Step.{on_node, on_parent, changed_by, step}
 use Rattle.vol_dir.specs.declared.cred.Cred.{Cred}
@@ -27,12 +28,13 @@ use Rattle.vol_volume.specs.declared.calls.Done.TheVariants.{Made, Plain}
 -- a call is performed where its change is made
 pub performed_by : (geometry : Geometry) (old new : List ℕ) (call : Call) (done : Done) (made : State) (free : ℕ)
     → step (state geometry old) call done ≡ made → MayAnswer (state geometry old) call done → Becomes geometry old new made → KeepsInodes geometry old new
-    → free ≡ free_in made → IsPerformed geometry old new call done free
-performed_by geometry old new call done made free stepped answered changes inodes counted = record {
+    → LeavesTheRest geometry old new call done → free ≡ free_in made → IsPerformed geometry old new call done free
+performed_by geometry old new call done made free stepped answered changes inodes rest counted = record {
   performed = record {
     answered = answered;
     changes = subst (λ s. Becomes geometry old new s) (sym stepped) changes;
     inodes = inodes;
+    rest = rest;
   };
   counted = counted ∙ ap free_in (sym changes.makes);
 }
@@ -77,11 +79,11 @@ module _ (state : State) (cred : Cred) (now : ℕ) (path : List ℕ) where
   unfolding changed_by
   step_write offset bytes i done walked = ap (λ w. at_time now (on_node state w (after_write state now offset bytes))) walked
 
-  -- a file that becomes empty
-  pub step_truncate : (i : ℕ) → walk state.tree cred path ≡ Ok i
-      → step state (Truncate cred now path) Plain ≡ at_time now (after_truncate state now i)
+  -- a file of which the first bytes stay
+  pub step_truncate : (size i : ℕ) → walk state.tree cred path ≡ Ok i
+      → step state (Truncate cred now path size) Plain ≡ at_time now (after_truncate state now size i)
   unfolding changed_by
-  step_truncate i walked = ap (λ w. at_time now (on_node state w (after_truncate state now))) walked
+  step_truncate size i walked = ap (λ w. at_time now (on_node state w (after_truncate state now size))) walked
 
   -- other permission bits
   pub step_chmod : (perm i : ℕ) → walk state.tree cred path ≡ Ok i

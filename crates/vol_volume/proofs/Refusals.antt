@@ -3,14 +3,14 @@ use Rattle.std.proofs.Common.{◌≡◌, ◌≢◌, ℕ, Bool, true, false, if�
 use Rattle.std.specs.List.{list_any}
 use Rattle.std.specs.Option.{option_map, option_map_or, ok_or}
 use Rattle.std.proofs.lemmas.Bool.{false≢true}
-use Rattle.vol_dir.specs.Access.{grants, may_execute, may_read, may_write}
+use Rattle.vol_dir.specs.Access.{grants, may_execute, may_read}
 use Rattle.vol_dir.specs.Names.{Names, get}
 use Rattle.vol_dir.specs.Tree.{Node, Tree, State}
 use Rattle.vol_dir.specs.Walk.{has_zero, map_of, search_node, search, and_then, find_in, walk_from, walk, parent_from, walk_parent, split_last, components, root, is_directory}
 use Rattle.vol_volume.specs.Ids.{is_bad_id}
 use Rattle.vol_change.specs.Nodes.{node_at}
 use Rattle.vol_volume.specs.Journal.{Refuses}
-use Rattle.vol_volume.specs.Verdict.{first_of, then_others, of_node, of_parent, link_refusal, verdict, create_tests, mkdir_tests, link_tests, unlink_tests, rmdir_tests, body_tests, write_tests, chmod_tests, chown_tests}
+use Rattle.vol_volume.specs.Verdict.{first_of, then_others, of_node, of_parent, link_refusal, verdict, create_tests, mkdir_tests, link_tests, unlink_tests, rmdir_tests, body_tests, write_tests, truncate_tests, chmod_tests, chown_tests}
 use Rattle.vol_volume.specs.Answer.{query_refusal, list_tests}
 use Rattle.vol_dir.specs.declared.cred.Cred.{Cred}
 use Rattle.vol_dir.specs.declared.refusal.Refusal.{Refusal}
@@ -156,10 +156,10 @@ says_verdict state (Write cred now path offset bytes) =
     says_then state.tree cred (path ∷ []) _
     (says_node (walk state.tree cred path) (λ i. first_of (write_tests state cred offset (length bytes) i)) (fails_walk state.tree cred path)
     (λ i. says_first (write_tests state cred offset (length bytes) i) (refl, (refl, (refl, (refl, (refl, tt)))))))
-says_verdict state (Truncate cred now path) =
+says_verdict state (Truncate cred now path size) =
     says_then state.tree cred (path ∷ []) _
-    (says_node (walk state.tree cred path) (λ i. first_of (body_tests state.tree may_write cred i)) (fails_walk state.tree cred path)
-    (λ i. says_first (body_tests state.tree may_write cred i) (refl, (refl, (refl, tt)))))
+    (says_node (walk state.tree cred path) (λ i. first_of (truncate_tests state.tree cred size i)) (fails_walk state.tree cred path)
+    (λ i. says_first (truncate_tests state.tree cred size i) (refl, (refl, (refl, (refl, tt))))))
 says_verdict state (Chmod cred now path perm) =
     says_then state.tree cred (path ∷ []) _
     (says_node (walk state.tree cred path) (λ i. first_of (chmod_tests state.tree cred i)) (fails_walk state.tree cred path)

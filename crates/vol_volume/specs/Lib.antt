@@ -6,6 +6,7 @@ pub mod Ids
 pub mod Inodes
 pub mod Journal
 pub mod Laws
+pub mod Leaving
 pub mod Mkfs
 pub mod Performing
 pub mod Standing

@@ -50,7 +50,7 @@ cred_of (Link cred now source target) = cred
 cred_of (Unlink cred now path) = cred
 cred_of (Rmdir cred now path) = cred
 cred_of (Write cred now path offset bytes) = cred
-cred_of (Truncate cred now path) = cred
+cred_of (Truncate cred now path size) = cred
 cred_of (Chmod cred now path perm) = cred
 cred_of (Chown cred now path uid gid) = cred
 

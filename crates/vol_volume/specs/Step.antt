@@ -38,7 +38,7 @@ changed_by state (Link cred now source target) done =
 changed_by state (Unlink cred now path) done = on_parent state (walk_parent state.tree cred path) (after_unlink state now)
 changed_by state (Rmdir cred now path) done = on_parent state (walk_parent state.tree cred path) (after_rmdir state now)
 changed_by state (Write cred now path offset bytes) done = on_node state (walk state.tree cred path) (after_write state now offset bytes)
-changed_by state (Truncate cred now path) done = on_node state (walk state.tree cred path) (after_truncate state now)
+changed_by state (Truncate cred now path size) done = on_node state (walk state.tree cred path) (after_truncate state now size)
 changed_by state (Chmod cred now path perm) done = on_node state (walk state.tree cred path) (after_chmod state now perm)
 changed_by state (Chown cred now path uid gid) done = on_node state (walk state.tree cred path) (after_chown state now uid gid)
 
@@ -50,7 +50,7 @@ moment_of (Link cred now source target) = now
 moment_of (Unlink cred now path) = now
 moment_of (Rmdir cred now path) = now
 moment_of (Write cred now path offset bytes) = now
-moment_of (Truncate cred now path) = now
+moment_of (Truncate cred now path size) = now
 moment_of (Chmod cred now path perm) = now
 moment_of (Chown cred now path uid gid) = now
 

@@ -142,6 +142,12 @@ write_tests state cred offset len i =
     ∷ (is_above_free state (write_need state i offset len), refusals.NoSpace)
     ∷ []
 
+-- what is asked of a file of which the first bytes are to stay, as many as `size` (Lions on itrunc; that bytes may stay is this
+-- project's)
+abbrev pub truncate_tests : Tree → Cred → ℕ → ℕ → List (Bool × Refusal)
+truncate_tests tree cred size i =
+    body_tests tree may_write cred i ++ (nat_lt (node_at tree i).size size, refusals.Invalid) ∷ []
+
 -- what is asked of a call for a further name, once its source is found: whether that is a directory, and then the parent of the new name (Lions on link)
 abbrev pub link_refusal : State → Cred → List ℕ → ℕ → Option Refusal
 link_refusal state cred target i =
@@ -180,9 +186,9 @@ verdict state (Rmdir cred now path) =
 verdict state (Write cred now path offset bytes) =
     then_others state.tree cred (path ∷ [])
     (of_node (walk state.tree cred path) (λ i. first_of (write_tests state cred offset (length bytes) i)))
-verdict state (Truncate cred now path) =
+verdict state (Truncate cred now path size) =
     then_others state.tree cred (path ∷ [])
-    (of_node (walk state.tree cred path) (λ i. first_of (body_tests state.tree may_write cred i)))
+    (of_node (walk state.tree cred path) (λ i. first_of (truncate_tests state.tree cred size i)))
 verdict state (Chmod cred now path perm) =
     then_others state.tree cred (path ∷ [])
     (of_node (walk state.tree cred path) (λ i. first_of (chmod_tests state.tree cred i)))

@@ -1,5 +1,5 @@
 -- A mounted volume, and what its calls promise.
-use Rattle.std.specs.Prelude.{◌≡◌, ℕ, List, [], ◌∷◌, ◌++◌, None}
+use Rattle.std.specs.Prelude.{◌≡◌, ℕ, ◌+◌, List, [], ◌∷◌, ◌++◌, length, None}
 use Rattle.vol_layout.specs.Geometry.{geometry_of}
 use Rattle.vol_dir.specs.Tree.{State, state}
 use Rattle.vol_judge.specs.Sound.{IsSound}
@@ -8,40 +8,55 @@ use Rattle.vol_volume.specs.Verdict.{verdict}
 use Rattle.vol_volume.specs.Step.{step}
 use Rattle.vol_volume.specs.Inodes.{KeepsInodes}
 use Rattle.vol_volume.specs.Journal.{MayAnswer, after, IsLegal}
+use Rattle.vol_volume.specs.Leaving.{LeavesTheRest}
 use Rattle.vol_layout.specs.declared.edition.Edition.{Edition}
 use Rattle.vol_layout.specs.declared.geometry.Geometry.{Geometry}
 use Rattle.vol_volume.specs.declared.calls.Call.{Call}
 use Rattle.vol_volume.specs.declared.calls.Done.{Done}
 use Rattle.vol_volume.specs.declared.calls.Record.{Record}
 
--- a volume as contracts see it: its bytes, the bytes that were mounted, and the calls that were accepted since (this project)
+-- a volume as contracts see it: its bytes, those that were mounted or left by the last cut, the calls that were accepted since, and
+-- how many records were cut before (this project)
 pub record Mounted : Type 0 where
   pub edition : Edition
   pub image : List ℕ
   pub base : List ℕ
   pub journal : List Record
+  pub first : ℕ
 
 -- the tree and the shapes that an image reads as (manual section 5, file system)
 abbrev pub reads_as : Edition → List ℕ → State
 reads_as edition image = state (geometry_of edition image) image
 
 -- what every volume keeps between calls: it is sound, and reads as exactly the tree that the journal makes of the sound one
--- that was mounted (this project)
+-- that was mounted or left by the last cut (this project)
 pub record IsConsistent (volume : Mounted) : Type 0 where
   pub image_sound : IsSound volume.edition volume.image
   pub base_sound : IsSound volume.edition volume.base
+  pub len : length volume.base ≡ length volume.image
   pub legal : IsLegal (reads_as volume.edition volume.base) volume.journal
   pub reads : reads_as volume.edition volume.image ≡ after (reads_as volume.edition volume.base) volume.journal
 
 -- a volume just mounted (this project)
 abbrev pub mounted : Edition → List ℕ → Mounted
-mounted edition bytes = record { edition = edition; image = bytes; base = bytes; journal = [] }
+mounted edition bytes = record { edition = edition; image = bytes; base = bytes; journal = []; first = 0 }
+
+-- a volume whose journal is cut: its records go, and what they made of it is what the next ones start from (this project)
+abbrev pub after_cut : Mounted → Mounted
+after_cut volume = record {
+  edition = volume.edition;
+  image = volume.image;
+  base = volume.image;
+  journal = [];
+  first = volume.first + length volume.journal;
+}
 
 -- an image after an accepted call (this project)
 pub record Performs (geometry : Geometry) (old new : List ℕ) (call : Call) (done : Done) : Type 0 where
   pub answered : MayAnswer (state geometry old) call done
   pub changes : Becomes geometry old new (step (state geometry old) call done)
   pub inodes : KeepsInodes geometry old new
+  pub rest : LeavesTheRest geometry old new call done
 
 -- a volume after a call that was accepted, made and recorded (this project)
 pub record Accepts (old new : Mounted) (call : Call) (done : Done) : Type 0 where
@@ -50,3 +65,4 @@ pub record Accepts (old new : Mounted) (call : Call) (done : Done) : Type 0 wher
   pub edition : new.edition ≡ old.edition
   pub base : new.base ≡ old.base
   pub journal : new.journal ≡ old.journal ++ record { call = call; done = done } ∷ []
+  pub first : new.first ≡ old.first

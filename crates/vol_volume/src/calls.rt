@@ -87,8 +87,8 @@ pub enum Call {
         /// The bytes. A write of none changes nothing but the super-block's time.
         bytes: Bytes,
     },
-    /// Makes a regular file empty. Refused: the walk; a directory (IsDirectory); a special file (NotRegular);
-    /// a file that doesn't grant write (Access).
+    /// Cuts a regular file to its first bytes. Refused: the walk; a directory (IsDirectory); a special file
+    /// (NotRegular); a file that doesn't grant write (Access); a length above the file's size (Invalid).
     Truncate {
         /// Who calls.
         cred: Cred,
@@ -96,6 +96,8 @@ pub enum Call {
         now: u32,
         /// The file's path.
         path: Bytes,
+        /// How many bytes stay.
+        length: u32,
     },
     /// Gives a node of any kind other permission bits. Refused: the walk; a user who is neither 0 nor the
     /// node's owner (NotOwner).

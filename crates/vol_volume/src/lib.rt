@@ -20,4 +20,4 @@ pub use calls::{Call, Done, Record};
 pub use making::mkfs;
 pub use queries::{Listing, Query, Reply, Stat};
 pub use vol_judge::judge;
-pub use volume::{MountFault, Volume};
+pub use volume::{MountFault, TooManyRecords, Volume};

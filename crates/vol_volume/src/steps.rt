@@ -97,8 +97,13 @@ pub(crate) fn check(
             let len = bytes.as_slice().len();
             write::check(image, geometry, free, *cred, path.as_slice(), *offset, len)?;
         }
-        Call::Truncate { cred, path, .. } => {
-            truncate::check(image, geometry, *cred, path.as_slice())?;
+        Call::Truncate {
+            cred,
+            path,
+            length,
+            ..
+        } => {
+            truncate::check(image, geometry, *cred, path.as_slice(), *length)?;
         }
         Call::Chmod { cred, path, .. } => {
             chmod::check(image, geometry, *cred, path.as_slice())?;
@@ -163,8 +168,8 @@ pub(crate) fn make(
             let bytes = bytes.as_slice();
             write::make(image, geometry, free, caller, path, *offset, bytes)
         }
-        Call::Truncate { path, .. } => {
-            truncate::make(image, geometry, free, caller, path.as_slice())
+        Call::Truncate { path, length, .. } => {
+            truncate::make(image, geometry, free, caller, path.as_slice(), *length)
         }
         Call::Chmod { path, perm, .. } => {
             chmod::make(image, geometry, free, caller, path.as_slice(), *perm)

@@ -1,5 +1,5 @@
 //! Mounted volumes.
-ghost use Rattle.std.specs.Prelude.{◌≡◌, ◌<◌, IfOk, IfErr, IfSome, OnOk, OnErr, [], ◌∷◌, ◌++◌, vec_len, vec_capacity, None, Some, unwrap_or};
+ghost use Rattle.std.specs.Prelude.{◌≡◌, ◌<◌, IfOk, IfErr, IfSome, OnOk, OnErr, ◌≤◌, ◌+◌, ◌^◌, [], ◌∷◌, ◌++◌, length, vec_len, vec_capacity, None, Some, unwrap_or};
 ghost use Rattle.vol_layout.specs.Geometry.{geometry_of};
 ghost use Rattle.vol_dir.specs.Tree.{state, free_count, shapes};
 ghost use Rattle.vol_judge.specs.Sound.{IsSound};
@@ -8,7 +8,7 @@ ghost use Rattle.vol_volume.specs.Answer.{Answers};
 ghost use Rattle.vol_volume.specs.Journal.{Refuses, MayAnswer, MayFollow};
 ghost use Rattle.vol_volume.specs.Performing.{IsPerformed};
 ghost use Rattle.vol_volume.specs.Verdict.{verdict};
-ghost use Rattle.vol_volume.specs.Volume.{IsConsistent, Accepts, mounted, reads_as};
+ghost use Rattle.vol_volume.specs.Volume.{IsConsistent, Accepts, mounted, after_cut, reads_as};
 
 use crate::answering::answer;
 use crate::calls::{Call, Done, Record};
@@ -33,15 +33,22 @@ pub enum MountFault {
     NoMemory,
 }
 
-/// A mounted volume: a sound image, the bytes that were mounted, and the journal of the calls accepted
-/// since. The image always reads as exactly the tree that the journal makes of the one mounted.
+/// The next record after a cut would have no number below 2^64.
+#[derive(Clone, Copy, Debug, PartialEq, Eq, Error)]
+#[error("too many records")]
+pub struct TooManyRecords;
+
+/// A mounted volume: a sound image, the bytes that were mounted or left by the last cut, and the journal of
+/// the calls accepted since. The image always reads as exactly the tree that the journal makes of the one
+/// mounted or last cut.
 #[derive(Debug, Drop)]
 pub struct Volume {
     geometry: Geometry,
     current: Image,
     free: u32,
-    mounted: Vec<u8>,
+    base: Vec<u8>,
     records: Vec<Record>,
+    first: u64,
 }
 
 impl Model for Volume {
@@ -52,10 +59,10 @@ impl Model for Volume {
 
     ghost Value = { Mounted };
 
-    ghost view = { λ v. record { edition = v.geometry.edition; image = v.current; base = v.mounted.items; journal = v.records.items } };
+    ghost view = { λ v. record { edition = v.geometry.edition; image = v.current; base = v.base.items; journal = v.records.items; first = v.first } };
 
     ghost invariant = { λ v. (v.geometry ≡ geometry_of v.geometry.edition v.current)
-        × IsConsistent (record { edition = v.geometry.edition; image = v.current; base = v.mounted.items; journal = v.records.items })
+        × IsConsistent (record { edition = v.geometry.edition; image = v.current; base = v.base.items; journal = v.records.items; first = v.first })
         × (v.free ≡ free_count v.geometry (shapes v.geometry v.current)) };
 }
 
@@ -96,15 +103,16 @@ impl Volume {
         ensures fault { IfErr result (λ (fault, same). fault ≡ MountFault.NoMemory) }
         ensures handed_back { IfErr result (λ (fault, same). same.items ≡ image) }
     {
-        let Ok(mounted) = Vec::from_slice(alloc, image.as_bytes()) else {
+        let Ok(base) = Vec::from_slice(alloc, image.as_bytes()) else {
             return Err((MountFault::NoMemory, image.into_bytes()));
         };
         Ok(Volume {
             geometry: examined.geometry,
             current: image,
             free: examined.free,
-            mounted,
+            base,
             records: Vec::new(alloc),
+            first: 0,
         })
     }
 
@@ -115,11 +123,11 @@ impl Volume {
         self.geometry.edition
     }
 
-    /// The bytes that were mounted.
+    /// The bytes that were mounted or left by the last cut.
     pub fn base(&self) -> &[u8]
         ensures { result.now ≡ self.now.base }
     {
-        &self.mounted
+        &self.base
     }
 
     /// The image as the calls have left it.
@@ -134,6 +142,13 @@ impl Volume {
         ensures { result.now ≡ self.now.journal }
     {
         &self.records
+    }
+
+    /// How many records were cut since the volume was mounted, which is the number of the journal's first.
+    pub fn first(&self) -> u64
+        ensures { result ≡ self.now.first }
+    {
+        self.first
     }
 
     /// The answer to a query: that of the tree which the image reads as, and no other. BadId comes first,
@@ -152,7 +167,9 @@ impl Volume {
     }
 
     /// Makes a call, where nothing speaks against it, and appends it to the journal; the answer says what
-    /// was made. A call that is refused comes back, and changes nothing.
+    /// was made. A call that is refused comes back, and changes nothing. One that is accepted takes the next
+    /// blocks of the free list alone, or puts on it what it gives back; every file that it doesn't change keeps
+    /// all bytes of its blocks.
     ///
     /// The refusals are asked in this order. BadId: the numbers of the user or the group are above the
     /// edition's. Invalid: a path has a zero byte. Then what the variant of [`Call`] lists, in that order.
@@ -172,7 +189,13 @@ impl Volume {
         // The journal grows by the allocator that it was made with.
         let _ = alloc;
         if self.records.reserve(1).is_err() {
-            let refusal = refusal_without_room(&self.current, &self.geometry, self.free, &call);
+            let refusal = refusal_without_room(
+                &self.current,
+                &self.geometry,
+                self.free,
+                &self.records,
+                &call,
+            );
             return Err((refusal, call));
         }
         accept(
@@ -212,6 +235,24 @@ impl Volume {
             Ok(_) => Ok(()),
             Err(_) => unreachable!(),
         }
+    }
+
+    /// Cuts the journal: its records go, the base becomes the present image, and the first record's number
+    /// grows by as many. The image stays. Where the records' numbers would reach 2^64, nothing changes.
+    ///
+    /// Takes no memory. Costs a copy of the image's bytes, and the journal's drop.
+    pub fn cut(&mut self) -> Result<(), TooManyRecords>
+        ensures cut { OnOk result (self.new ≡ after_cut self.old) }
+        ensures fault { OnErr result (2 ^ 64 ≤ self.old.first + length self.old.journal) }
+        ensures unchanged { OnErr result (self.new ≡ self.old) }
+    {
+        let Some(first) = self.first.checked_add(self.records.len() as u64) else {
+            return Err(TooManyRecords);
+        };
+        self.base.copy_from_slice(self.current.as_bytes());
+        self.records.clear();
+        self.first = first;
+        Ok(())
     }
 
     /// Gives the image's bytes back. The journal goes. Takes no memory.
@@ -269,13 +310,22 @@ fn accept(
     Ok(done)
 }
 
-/// The refusal of a call for whose record there is no room: what speaks against it, else NoMemory.
-fn refusal_without_room(image: &Image, geometry: &Geometry, free: u32, call: &Call) -> Refusal
+/// The refusal of a call for whose record a full journal has no room: what speaks against it, else NoMemory.
+fn refusal_without_room(
+    image: &Image,
+    geometry: &Geometry,
+    free: u32,
+    records: &Vec<Record>,
+    call: &Call,
+) -> Refusal
+    requires full { vec_capacity records.now < vec_len records.now + 1 }
     requires sound { IsSound geometry.now.edition image.now }
     requires sizes { geometry.now ≡ geometry_of geometry.now.edition image.now }
     requires count { free ≡ free_count geometry.now (shapes geometry.now image.now) }
     ensures { result ≡ unwrap_or (verdict (state geometry.now image.now) call.now) Refusal.NoMemory }
 {
+    // That the journal is full is owed, and the body needs nothing of it.
+    let _ = records;
     stands(image, geometry);
     check(image, geometry, free, call)
         .err()

@@ -1,41 +1,65 @@
-//! A call by which a file becomes empty.
-ghost use Rattle.std.specs.Prelude.{◌≡◌, [], ◌∷◌, IfOk, OnErr};
+//! A call of which the first bytes of a file stay.
+ghost use Rattle.std.specs.Prelude.{◌≡◌, ◌≤◌, ◌∷◌, [], IfOk, OnErr, OnOk};
 ghost use Rattle.std.specs.Result.{result_err};
-ghost use Rattle.vol_dir.specs.Access.{may_write};
+ghost use Rattle.vol_dir.specs.Entries.{IsInUse};
 ghost use Rattle.vol_dir.specs.Tree.{tree, state};
 ghost use Rattle.vol_dir.specs.Walk.{walk};
+ghost use Rattle.vol_file.specs.Rules.{kind_at, size_of};
 ghost use Rattle.vol_change.specs.Ready.{Rules1To12, free_in};
 ghost use Rattle.vol_volume.specs.Performing.{LeadsToNode, IsPerformed};
 ghost use Rattle.vol_volume.specs.Standing.{Rules3To7And9};
-ghost use Rattle.vol_volume.specs.Verdict.{first_of, then_others, of_node, body_tests, verdict};
+ghost use Rattle.vol_volume.specs.Verdict.{first_of, then_others, of_node, truncate_tests, verdict};
 
 use crate::calls::{Call, Done};
-use crate::steps::asked::{body_tests, first_tests};
+use crate::steps::asked::{body_tests, first_tests, refuse_if};
 use crate::steps::{Caller, Performed, ready_stands};
 use pdp_words::Image;
 use vol_dir::{Access, Cred, Refusal, walk};
-use vol_layout::Geometry;
+use vol_layout::i_list::size;
+use vol_layout::{Geometry, Kind};
 
-/// What speaks against a call by which a file becomes empty; else the file.
+/// What speaks against keeping the first `length` bytes alone of i-node `i`, which is in use.
+#[tactic(auto, using(crate::proofs::NodeReadings::size_is))]
+fn truncate_tests(
+    image: &Image,
+    geometry: &Geometry,
+    cred: Cred,
+    i: u16,
+    length: u32,
+) -> Result<(), Refusal>
+    requires stands { Rules3To7And9 geometry.now image.now }
+    requires used { IsInUse geometry.now image.now i }
+    ensures refusal { result_err result ≡ first_of (truncate_tests (tree geometry.now image.now) cred length i) }
+    ensures regular { OnOk result (kind_at geometry.now image.now i ≡ Kind.Regular) }
+    ensures size { OnOk result (length ≤ size_of geometry.now image.now i) }
+{
+    body_tests(image, geometry, Access::Write, cred, i)?;
+    refuse_if(size(image, geometry, i) < length, Refusal::Invalid)
+}
+
+/// What speaks against a call of which the first `length` bytes of a file stay; else the file.
 #[tactic(auto, using(crate::proofs::NodeReadings::tree_geometry))]
 pub(crate) fn check(
     image: &Image,
     geometry: &Geometry,
     cred: Cred,
     path: &[u8],
+    length: u32,
 ) -> Result<u16, Refusal>
     requires { Rules3To7And9 geometry.now image.now }
     ensures refusal { result_err result ≡ then_others (tree geometry.now image.now) cred (path.now ∷ [])
-        (of_node (walk (tree geometry.now image.now) cred path.now) (λ i. first_of (body_tests (tree geometry.now image.now) may_write cred i))) }
+        (of_node (walk (tree geometry.now image.now) cred path.now) (λ i. first_of (truncate_tests (tree geometry.now image.now) cred length i))) }
     ensures node { IfOk result (λ i. LeadsToNode geometry.now image.now cred path.now i) }
+    ensures regular { IfOk result (λ i. kind_at geometry.now image.now i ≡ Kind.Regular) }
+    ensures size { IfOk result (λ i. length ≤ size_of geometry.now image.now i) }
 {
     first_tests(geometry, cred, path)?;
     let i = walk(image, geometry, cred, path)?;
-    body_tests(image, geometry, Access::Write, cred, i)?;
+    truncate_tests(image, geometry, cred, i, length)?;
     Ok(i)
 }
 
-/// Makes a file empty, where nothing speaks against the call.
+/// Keeps the first `length` bytes of a file, where nothing speaks against the call.
 #[tactic(auto, unfolding(crate::specs::Verdict::verdict))]
 pub(crate) fn make(
     image: &mut Image,
@@ -43,18 +67,19 @@ pub(crate) fn make(
     free: u32,
     caller: Caller,
     path: &[u8],
+    length: u32,
 ) -> Result<Performed, Refusal>
     requires ready { Rules1To12 geometry.now image.old }
     requires count { free ≡ free_in (state geometry.now image.old) }
-    ensures refusal { result_err result ≡ verdict (state geometry.now image.old) (Call.Truncate caller.cred caller.moment path.now) }
+    ensures refusal { result_err result ≡ verdict (state geometry.now image.old) (Call.Truncate caller.cred caller.moment path.now length) }
     ensures unchanged { OnErr result (image.new ≡ image.old) }
     ensures done { IfOk result (λ performed. performed.done ≡ Done.Plain) }
     ensures performed { IfOk result (λ performed. IsPerformed geometry.now image.old image.new
-        (Call.Truncate caller.cred caller.moment path.now) performed.done performed.free) }
+        (Call.Truncate caller.cred caller.moment path.now length) performed.done performed.free) }
 {
     ready_stands(image, geometry);
-    let i = check(image, geometry, caller.cred, path)?;
-    let freed = vol_change::truncate(image, geometry, i, caller.moment);
+    let i = check(image, geometry, caller.cred, path, length)?;
+    let freed = vol_change::truncate(image, geometry, i, length, caller.moment);
     Ok(Performed {
         done: Done::Plain,
         free: free + freed,

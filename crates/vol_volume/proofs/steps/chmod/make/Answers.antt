@@ -2,6 +2,7 @@ use Rattle.vol_dir.specs.Tree.{tree, state}
 use Rattle.vol_change.specs.Edits.{at_time}
 use Rattle.vol_change.specs.Effects.{after_chmod}
 use Rattle.vol_volume.proofs.KeptInodes.{chmod_inodes}
+use Rattle.vol_volume.proofs.LeftRests.{chmod_leaves}
 use Rattle.vol_volume.proofs.PerformedCalls.{performed_by, step_chmod}
 use Rattle.vol_volume.specs.declared.calls.Call.TheVariants.{Chmod}
 use Rattle.vol_volume.specs.declared.calls.Done.TheVariants.{Plain}
@@ -17,4 +18,6 @@ returns-clause-performed c =
     c.chmod.ensures.changes
     (chmod_inodes c.args.geometry.now c.args.image.now c.chmod.new.image c.args.caller.moment c.args.perm c.in_ok-i.i
     c.chmod.ensures.changes.makes c.chmod.ensures.unused)
+    (chmod_leaves c.args.geometry.now c.args.image.now c.chmod.new.image c.args.caller.cred c.args.caller.moment c.args.path.now c.in_ok-i.i
+    c.in_ok-i.ensures.node.walked c.args.perm c.chmod.ensures.list c.chmod.ensures.files)
     c.requires.count

@@ -4,6 +4,7 @@ use Rattle.vol_change.specs.Edits.{at_time}
 use Rattle.vol_change.specs.Effects.{after_chown}
 use Rattle.vol_volume.proofs.Accepted.{chown_passed}
 use Rattle.vol_volume.proofs.KeptInodes.{chown_inodes}
+use Rattle.vol_volume.proofs.LeftRests.{chown_leaves}
 use Rattle.vol_volume.proofs.PerformedCalls.{performed_by, step_chown}
 use Rattle.vol_volume.specs.declared.calls.Call.TheVariants.{Chown}
 use Rattle.vol_volume.specs.declared.calls.Done.TheVariants.{Plain}
@@ -31,4 +32,6 @@ returns-clause-performed c =
     c.chown.ensures.changes
     (chown_inodes c.args.geometry.now c.args.image.now c.chown.new.image c.args.caller.moment c.args.owner.uid c.args.owner.gid c.in_ok-i.i
     c.chown.ensures.changes.makes c.chown.ensures.unused)
+    (chown_leaves c.args.geometry.now c.args.image.now c.chown.new.image c.args.caller.cred c.args.caller.moment c.args.path.now c.args.owner.uid c.args.owner.gid
+    c.chown.ensures.list c.chown.ensures.files)
     c.requires.count

@@ -7,6 +7,7 @@ use Rattle.vol_change.proofs.FreeAfter.{free_after_create}
 use Rattle.vol_volume.proofs.Accepted.{create_passed}
 use Rattle.vol_volume.proofs.FreeNumbers.{number_free, some_free, recorded_free, number_none}
 use Rattle.vol_volume.proofs.KeptInodes.{create_inodes}
+use Rattle.vol_volume.proofs.LeftRests.{create_leaves}
 use Rattle.vol_volume.proofs.PerformedCalls.{performed_by, step_create}
 use Rattle.vol_volume.specs.declared.calls.Call.TheVariants.{Create}
 use Rattle.vol_volume.specs.declared.calls.Done.TheVariants.{Made}
@@ -61,4 +62,7 @@ returns-clause-performed c =
     c.in_ok-found.found.dir c.in_ok-found.found.name.now c.create-made.ensures.changes.makes
     (number_none c.args.geometry.now c.args.image.now c.ready_stands.ensures.files c.create-made.result c.create-made.ensures.free)
     c.create-made.ensures.unused c.create-made.ensures.others)
+    (create_leaves c.args.geometry.now c.args.image.now c.create-made.new.image c.args.new.owner c.args.new.moment c.args.path.now c.in_ok-found.found.dir c.in_ok-found.found.name.now
+    c.in_ok-found.ensures.leads.walked c.in_ok-found.found.place.slot c.args.new.permissions c.create-made.result c.in_ok-found.ensures.place.slot
+    c.create-made.ensures.list c.create-made.ensures.files c.create-made.ensures.bytes)
     (omega (arith, count, needed, after))

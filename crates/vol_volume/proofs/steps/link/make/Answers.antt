@@ -6,6 +6,7 @@ use Rattle.vol_change.specs.Ready.{entry_need, free_in}
 use Rattle.vol_change.proofs.FreeAfter.{free_after_link}
 use Rattle.vol_volume.proofs.Accepted.{link_passed}
 use Rattle.vol_volume.proofs.KeptInodes.{link_inodes}
+use Rattle.vol_volume.proofs.LeftRests.{link_leaves}
 use Rattle.vol_volume.proofs.NodeReadings.{other_kind, used_first}
 use Rattle.vol_volume.proofs.PerformedCalls.{performed_by, step_link}
 use Rattle.vol_volume.specs.declared.calls.Call.TheVariants.{Link}
@@ -49,4 +50,7 @@ returns-clause-performed c =
     c.link.ensures.changes
     (link_inodes c.args.geometry.now c.args.image.now c.link.new.image c.args.caller.moment c.in_ok-i.i c.in_ok-i.found.dir c.in_ok-i.found.name.now
     c.link.ensures.changes.makes c.link.ensures.unused)
+    (link_leaves c.args.geometry.now c.args.image.now c.link.new.image c.args.caller.cred c.args.caller.moment c.args.target.now c.in_ok-i.found.dir c.in_ok-i.found.name.now
+    c.in_ok-i.ensures.leads.walked c.in_ok-i.found.place.slot c.args.source.now c.in_ok-i.i c.in_ok-i.ensures.node.walked c.in_ok-i.ensures.place.slot
+    c.link.ensures.list c.link.ensures.files c.link.ensures.bytes)
     (omega (arith, count, needed, after))

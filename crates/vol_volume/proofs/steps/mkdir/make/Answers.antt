@@ -7,6 +7,7 @@ use Rattle.vol_change.proofs.FreeAfter.{free_after_mkdir}
 use Rattle.vol_volume.proofs.Accepted.{mkdir_passed}
 use Rattle.vol_volume.proofs.FreeNumbers.{number_free, some_free, recorded_free, number_none}
 use Rattle.vol_volume.proofs.KeptInodes.{mkdir_inodes}
+use Rattle.vol_volume.proofs.LeftRests.{mkdir_leaves}
 use Rattle.vol_volume.proofs.PerformedCalls.{performed_by, step_mkdir}
 use Rattle.vol_volume.specs.declared.calls.Call.TheVariants.{Mkdir}
 use Rattle.vol_volume.specs.declared.calls.Done.TheVariants.{Made}
@@ -73,4 +74,7 @@ returns-clause-performed c =
     c.in_ok-found.found.dir c.in_ok-found.found.name.now c.mkdir-made.ensures.changes.makes
     (number_none c.args.geometry.now c.args.image.now c.ready_stands.ensures.files c.mkdir-made.result c.mkdir-made.ensures.free)
     c.mkdir-made.ensures.unused c.mkdir-made.ensures.others)
+    (mkdir_leaves c.args.geometry.now c.args.image.now c.mkdir-made.new.image c.args.new.owner c.args.new.moment c.args.path.now c.in_ok-found.found.dir c.in_ok-found.found.name.now
+    c.in_ok-found.ensures.leads.walked c.in_ok-found.found.place.slot c.args.new.permissions c.mkdir-made.result c.in_ok-found.ensures.place.slot
+    c.mkdir-made.ensures.list c.mkdir-made.ensures.files c.mkdir-made.ensures.bytes)
     (omega (arith, count, needed, after))

@@ -9,6 +9,7 @@ use Rattle.vol_change.proofs.FreeAfter.{free_after_rmdir}
 use Rattle.vol_volume.specs.Verdict.{has_others}
 use Rattle.vol_volume.proofs.Accepted.{rmdir_passed}
 use Rattle.vol_volume.proofs.KeptInodes.{rmdir_inodes}
+use Rattle.vol_volume.proofs.LeftRests.{rmdir_leaves}
 use Rattle.vol_change.proofs.FreeAfter.{entry_is}
 use Rattle.vol_volume.proofs.NodeReadings.{tree_geometry, used_first, used_some, directory_from}
 use Rattle.vol_volume.proofs.PerformedCalls.{performed_by, step_rmdir, free_low}
@@ -54,4 +55,7 @@ returns-clause-performed c =
     (used_some c.args.geometry.now c.args.image.now c.in_ok-found.found.entry.inode
     (used_first c.args.geometry.now c.args.image.now c.in_ok-found.found.entry.inode c.in_ok-found.ensures.entry.used) c.ready_stands.ensures.files c.in_ok-found.ensures.entry.used)
     c.rmdir-freed.ensures.cleared c.rmdir-freed.ensures.others)
+    (rmdir_leaves c.args.geometry.now c.args.image.now c.rmdir-freed.new.image c.args.caller.cred c.args.caller.moment c.args.path.now c.in_ok-found.found.dir c.in_ok-found.found.name.now
+    c.in_ok-found.ensures.leads.walked c.in_ok-found.found.entry.slot c.in_ok-found.found.entry.inode c.in_ok-found.ensures.entry.named
+    c.in_ok-found.ensures.entry.slot c.rmdir-freed.ensures.list c.rmdir-freed.ensures.files c.rmdir-freed.ensures.bytes)
     (omega (arith, count, freed, after))

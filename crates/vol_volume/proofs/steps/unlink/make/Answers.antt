@@ -8,6 +8,7 @@ use Rattle.vol_change.specs.Effects.{after_unlink}
 use Rattle.vol_change.specs.Ready.{free_in}
 use Rattle.vol_volume.proofs.Accepted.{unlink_passed}
 use Rattle.vol_volume.proofs.KeptInodes.{unlink_inodes}
+use Rattle.vol_volume.proofs.LeftRests.{unlink_leaves}
 use Rattle.vol_change.proofs.FreeAfter.{entry_is}
 use Rattle.vol_volume.proofs.NodeReadings.{tree_geometry, used_first, used_some, links_are, other_kind}
 use Rattle.vol_volume.proofs.PerformedCalls.{performed_by, step_unlink, free_low, freed_blocks, freed_by, free_unlinked}
@@ -60,4 +61,10 @@ returns-clause-performed c =
     first c.in_ok-found.ensures.entry.used.last
     (links_are c.args.geometry.now c.args.image.now c.in_ok-found.found.entry.inode first c.ready_stands.ensures.files c.in_ok-found.ensures.entry.used)
     c.unlink-freed.ensures.cleared c.unlink-freed.ensures.unused c.unlink-freed.ensures.others)
+    (unlink_leaves c.args.geometry.now c.args.image.now c.unlink-freed.new.image c.args.caller.cred c.args.caller.moment c.args.path.now c.in_ok-found.found.dir c.in_ok-found.found.name.now
+    c.in_ok-found.ensures.leads.walked c.in_ok-found.found.entry.slot c.in_ok-found.found.entry.inode c.in_ok-found.ensures.entry.named
+    c.in_ok-found.ensures.entry.slot
+    (inode_of c.args.geometry.now.edition c.args.image.now c.in_ok-found.found.entry.inode).links
+    (links_are c.args.geometry.now c.args.image.now c.in_ok-found.found.entry.inode first c.ready_stands.ensures.files c.in_ok-found.ensures.entry.used)
+    c.unlink-freed.ensures.freed c.unlink-freed.ensures.list c.unlink-freed.ensures.kept c.unlink-freed.ensures.files c.unlink-freed.ensures.bytes)
     (omega (arith, count, lost, after))

@@ -9,6 +9,7 @@ use Rattle.vol_change.proofs.FreeAfter.{free_after_write}
 use Rattle.vol_volume.proofs.Accepted.{write_passed}
 use Rattle.vol_volume.proofs.NeedReadings.{greatest_fits}
 use Rattle.vol_volume.proofs.KeptInodes.{write_inodes}
+use Rattle.vol_volume.proofs.LeftRests.{write_leaves}
 use Rattle.vol_volume.proofs.NodeReadings.{used_first, regular_file}
 use Rattle.vol_volume.proofs.PerformedCalls.{performed_by, step_write}
 use Rattle.vol_volume.specs.declared.calls.Call.TheVariants.{Write}
@@ -60,4 +61,6 @@ returns-clause-performed c =
     c.write.ensures.changes
     (write_inodes c.args.geometry.now c.args.image.now c.write.new.image c.args.caller.moment c.args.offset c.args.bytes.now c.in_ok-target.target.inode
     c.write.ensures.changes.makes c.write.ensures.unused)
+    (write_leaves c.args.geometry.now c.args.image.now c.write.new.image c.args.caller.cred c.args.caller.moment c.args.path.now c.in_ok-target.target.inode
+    c.in_ok-target.ensures.node.walked c.args.offset c.args.bytes.now (Wrote (length c.args.bytes.now)) c.write.ensures.list c.write.ensures.files)
     (omega (arith, count, needed, after))

@@ -1,23 +1,11 @@
-use Rattle.std.proofs.Common.{◌≡◌, ◌∙◌, ◌+◌, sym, refl, Bool, true, false, ◌++◌, List, [], ◌∷◌, None, Some}
+use Rattle.std.proofs.Common.{◌∙◌, ◌+◌, sym, [], ◌∷◌}
 use Rattle.std.proofs.lemmas.Result.{err_from_is_err_and}
 use Rattle.vol_dir.specs.Access.{may_write}
 use Rattle.vol_dir.specs.Tree.{tree, state}
-use Rattle.vol_dir.specs.declared.refusal.Refusal.{Refusal}
 use Rattle.vol_dir.specs.declared.refusal.Refusal.TheVariants as refusals
-use Rattle.vol_volume.specs.Verdict.{first_of, is_too_great, is_above_free, write_need, body_tests}
+use Rattle.vol_volume.specs.Verdict.{is_too_great, is_above_free, write_need, body_tests}
+use Rattle.vol_volume.proofs.FirstTests.{first_some, first_none}
 use Rattle.vol_volume.proofs.steps.write.write_tests.Goals as goal
-
--- what is asked first, where one of it applies
-first_some : (tests others : List (Bool × Refusal)) (refusal : Refusal) → first_of tests ≡ Some refusal → first_of (tests ++ others) ≡ Some refusal
-first_some [] others refusal e = cc
-first_some ((true, first) ∷ tests) others refusal e = e
-first_some ((false, first) ∷ tests) others refusal e = first_some tests others refusal e
-
--- and where none of it does
-first_none : (tests others : List (Bool × Refusal)) → first_of tests ≡ None → first_of (tests ++ others) ≡ first_of others
-first_none [] others e = refl
-first_none ((true, first) ∷ tests) others e = cc
-first_none ((false, first) ∷ tests) others e = first_none tests others e
 
 pub returns-in_err-body_tests-clause-refusal : goal.returns-in_err-body_tests-clause-refusal
 returns-in_err-body_tests-clause-refusal c =

@@ -26,18 +26,18 @@ answered c = record {
 
 pub invariant_of-self-2 : goal.invariant_of-self-2
 invariant_of-self-2 c =
-    answered_kept c.self.inside.geometry c.self.inside.current c.accept.new.image c.self.inside.mounted.items c.self.inside.records.items
-    c.accept.new.records.items c.args.call c.self.inside.free c.accept.new.free c.self.invariant.0 c.accept.result c.self.invariant.2 (answered c)
+    answered_kept c.self.inside.geometry c.self.inside.current c.accept.new.image c.self.inside.base.items c.self.inside.records.items
+    c.accept.new.records.items c.self.inside.first c.args.call c.self.inside.free c.accept.new.free c.self.invariant.0 c.accept.result c.self.invariant.2 (answered c)
     c.self.invariant.1
 
 pub returns-clause-accepted : goal.returns-clause-accepted
 returns-clause-accepted c =
     rw (← c.self.view_is)
-    (answered_accepts c.self.inside.geometry c.self.inside.current c.accept.new.image c.self.inside.mounted.items c.self.inside.records.items
-    c.accept.new.records.items c.args.call c.self.inside.free c.accept.new.free c.self.invariant.0 c.accept.result (answered c))
+    (answered_accepts c.self.inside.geometry c.self.inside.current c.accept.new.image c.self.inside.base.items c.self.inside.records.items
+    c.accept.new.records.items c.self.inside.first c.args.call c.self.inside.free c.accept.new.free c.self.invariant.0 c.accept.result (answered c))
 
 pub returns-clause-refused : goal.returns-clause-refused
 returns-clause-refused c =
     rw (← c.self.view_is)
-    (answered_refuses c.self.inside.geometry c.self.inside.current c.accept.new.image c.self.inside.mounted.items c.self.inside.records.items
-    c.accept.new.records.items c.args.call c.self.inside.free c.accept.new.free c.self.invariant.0 c.accept.result (answered c))
+    (answered_refuses c.self.inside.geometry c.self.inside.current c.accept.new.image c.self.inside.base.items c.self.inside.records.items
+    c.accept.new.records.items c.self.inside.first c.args.call c.self.inside.free c.accept.new.free c.self.invariant.0 c.accept.result (answered c))

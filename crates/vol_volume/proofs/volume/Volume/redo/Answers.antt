@@ -20,6 +20,6 @@ answered c = record {
 
 pub invariant_of-self-2 : goal.invariant_of-self-2
 invariant_of-self-2 c =
-    answered_kept c.self.inside.geometry c.self.inside.current c.accept.new.image c.self.inside.mounted.items c.self.inside.records.items
-    c.accept.new.records.items c.args.entry.call c.self.inside.free c.accept.new.free c.self.invariant.0 c.accept.result c.self.invariant.2 (answered c)
+    answered_kept c.self.inside.geometry c.self.inside.current c.accept.new.image c.self.inside.base.items c.self.inside.records.items
+    c.accept.new.records.items c.self.inside.first c.args.entry.call c.self.inside.free c.accept.new.free c.self.invariant.0 c.accept.result c.self.invariant.2 (answered c)
     c.self.invariant.1

@@ -1,5 +1,5 @@
 -- What is read of the words that the command line takes.
-use Rattle.std.proofs.Common.{◌≡◌, ◌∙◌, true≢false, is_some, Bool, ℕ, true, false, List, ◌∷◌, [], Option, Some, None, Ok, Err, Result, IfErr, IfOk, IsErrAnd, IfSome, refl, sym, ap, subst, inl, inr, codes}
+use Rattle.std.proofs.Common.{◌≡◌, ◌⊎◌, ◌∙◌, true≢false, is_some, Bool, ℕ, true, false, List, ◌∷◌, [], Option, Some, None, Ok, Err, Result, IfErr, IfOk, IsErrAnd, IfSome, refl, sym, ap, subst, inl, inr, codes}
 use Rattle.std.specs.Option.{option_map}
 use Rattle.std.specs.Borrow.{Bor}
 use Rattle.clap.proofs.WalkLemmas.{first_value-rows}
@@ -19,7 +19,8 @@ use Rattle.vol_layout.specs.declared.edition.Edition.{Edition}
 use Rattle.vol_layout.specs.declared.edition.Edition.TheVariants.{V6, V7}
 use Rattle.vol_volume.specs.declared.blank.NewVolume.{NewVolume}
 use Rattle.command_line.specs.Decimal.{IsNumberUpTo}
-use Rattle.command_line.specs.CommandLine.{Asks, AsksFor, AsksNothing, TellsOf, IsChange, IsEditionNamed, IsGiven, IsNewVolumeGiven, IsNoCat, IsNoCommand, IsNoEdition, IsNoMoment, IsNoNewVolume, IsNoValue, IsRead, IsRefused, command_name, given_by, given_in, word_or_empty}
+use Rattle.command_line.specs.Octal.{IsOctalUpTo}
+use Rattle.command_line.specs.CommandLine.{Asks, AsksFor, AsksNothing, TellsOf, IsChange, IsEditionNamed, IsGiven, IsNewVolumeGiven, IsNoCat, IsNoChange, IsNoChmod, IsNoChown, IsNoCommand, IsNoEdition, IsNoMoment, IsNoNewVolume, IsNoValue, IsRead, IsRefused, command_name, given_by, given_in, word_or_empty}
 use Rattle.command_line.specs.Words.{AreEditions, app, command_in, command_shape, edition_rule, faults_of, named_shape, program, unixvol_app, with_argument, with_command, word_rule}
 use Rattle.command_line.specs.declared.Invocation.{Invocation}
 use Rattle.command_line.specs.declared.Invocation.TheVariants.{Cat, Mkfs, OnVolume}
@@ -88,6 +89,8 @@ number_given given (OnVolume volume (jobs.Rm path now)) test none is = absurd (t
 number_given given (OnVolume volume (jobs.Rmdir path now)) test none is = absurd (true≢false (sym test))
 number_given given (OnVolume volume (jobs.Mkdir path now)) test none is = absurd (true≢false (sym test))
 number_given given (OnVolume volume (jobs.Ln from to now)) test none is = absurd (true≢false (sym test))
+number_given given (OnVolume volume (jobs.Chmod path perm now)) test none is = absurd (true≢false (sym test))
+number_given given (OnVolume volume (jobs.Chown path uid gid now)) test none is = absurd (true≢false (sym test))
 
 -- a new volume has its sizes, its owner and a moment
 sizes_given : (given : List ℕ → List ℕ) (volume : NewVolume) → IsNoNewVolume given → IsNewVolumeGiven given volume → ⊥
@@ -111,10 +114,12 @@ new_volume_given given (OnVolume volume (jobs.Rm path now)) test none is = absur
 new_volume_given given (OnVolume volume (jobs.Rmdir path now)) test none is = absurd (true≢false (sym test))
 new_volume_given given (OnVolume volume (jobs.Mkdir path now)) test none is = absurd (true≢false (sym test))
 new_volume_given given (OnVolume volume (jobs.Ln from to now)) test none is = absurd (true≢false (sym test))
+new_volume_given given (OnVolume volume (jobs.Chmod path perm now)) test none is = absurd (true≢false (sym test))
+new_volume_given given (OnVolume volume (jobs.Chown path uid gid now)) test none is = absurd (true≢false (sym test))
 
 -- a command that changes a volume, as a test
 abbrev is_change : List ℕ → Bool
-is_change name = list_any (bytes_eq name) (codes "put" ∷ codes "rm" ∷ codes "rmdir" ∷ codes "mkdir" ∷ codes "ln" ∷ [])
+is_change name = list_any (bytes_eq name) (codes "put" ∷ codes "rm" ∷ codes "rmdir" ∷ codes "mkdir" ∷ codes "ln" ∷ codes "chmod" ∷ codes "chown" ∷ [])
 
 change_test : (name : List ℕ) → IsChange name → is_change name ≡ true
 change_test name (inl is) = rw is refl
@@ -134,16 +139,57 @@ moment_given given (OnVolume volume (jobs.Rm path now)) test none is = none is.1
 moment_given given (OnVolume volume (jobs.Rmdir path now)) test none is = none is.1.1.0
 moment_given given (OnVolume volume (jobs.Mkdir path now)) test none is = none is.1.1.0
 moment_given given (OnVolume volume (jobs.Ln from to now)) test none is = none is.1.2.0
+moment_given given (OnVolume volume (jobs.Chmod path perm now)) test none is = none is.1.2.0
+moment_given given (OnVolume volume (jobs.Chown path uid gid now)) test none is = none is.1.3.0
+
+-- a command that is a change asks for nothing where its edition or its moment is no value
+no_change : (name : List ℕ) (given : List ℕ → List ℕ) (invocation : Invocation) → is_change name ≡ true → IsNoChange given → AsksFor name given invocation → ⊥
+no_change name given invocation test (inl none) asks = edition_given given invocation none asks.1
+no_change name given invocation test (inr none) asks = moment_given given invocation (subst (λ n. is_change n ≡ true) asks.0 test) none asks.1
+
+-- `chmod` has permissions
+permissions_given : (given : List ℕ → List ℕ) (invocation : Invocation) → bytes_eq (codes "chmod") (command_name invocation) ≡ true
+    → (IsOctalUpTo 4095 (given (codes "PERM")) → ⊥) → IsGiven given invocation → ⊥
+permissions_given given (Cat volume ino) test none is = absurd (true≢false (sym test))
+permissions_given given (Mkfs image volume) test none is = absurd (true≢false (sym test))
+permissions_given given (OnVolume volume (jobs.Ls path)) test none is = absurd (true≢false (sym test))
+permissions_given given (OnVolume volume (jobs.Get path)) test none is = absurd (true≢false (sym test))
+permissions_given given (OnVolume volume (jobs.Put path file now)) test none is = absurd (true≢false (sym test))
+permissions_given given (OnVolume volume (jobs.Rm path now)) test none is = absurd (true≢false (sym test))
+permissions_given given (OnVolume volume (jobs.Rmdir path now)) test none is = absurd (true≢false (sym test))
+permissions_given given (OnVolume volume (jobs.Mkdir path now)) test none is = absurd (true≢false (sym test))
+permissions_given given (OnVolume volume (jobs.Ln from to now)) test none is = absurd (true≢false (sym test))
+permissions_given given (OnVolume volume (jobs.Chmod path perm now)) test none is = none is.1.1.0
+permissions_given given (OnVolume volume (jobs.Chown path uid gid now)) test none is = absurd (true≢false (sym test))
+
+-- `chown` has a user and a group
+owner_given : (given : List ℕ → List ℕ) (invocation : Invocation) → bytes_eq (codes "chown") (command_name invocation) ≡ true
+    → (IsNumberUpTo 65535 (given (codes "UID")) → ⊥) ⊎ (IsNumberUpTo 65535 (given (codes "GID")) → ⊥) → IsGiven given invocation → ⊥
+owner_given given (Cat volume ino) test none is = absurd (true≢false (sym test))
+owner_given given (Mkfs image volume) test none is = absurd (true≢false (sym test))
+owner_given given (OnVolume volume (jobs.Ls path)) test none is = absurd (true≢false (sym test))
+owner_given given (OnVolume volume (jobs.Get path)) test none is = absurd (true≢false (sym test))
+owner_given given (OnVolume volume (jobs.Put path file now)) test none is = absurd (true≢false (sym test))
+owner_given given (OnVolume volume (jobs.Rm path now)) test none is = absurd (true≢false (sym test))
+owner_given given (OnVolume volume (jobs.Rmdir path now)) test none is = absurd (true≢false (sym test))
+owner_given given (OnVolume volume (jobs.Mkdir path now)) test none is = absurd (true≢false (sym test))
+owner_given given (OnVolume volume (jobs.Ln from to now)) test none is = absurd (true≢false (sym test))
+owner_given given (OnVolume volume (jobs.Chmod path perm now)) test none is = absurd (true≢false (sym test))
+owner_given given (OnVolume volume (jobs.Chown path uid gid now)) test (inl none) is = none is.1.1.0
+owner_given given (OnVolume volume (jobs.Chown path uid gid now)) test (inr none) is = none is.1.2.0
 
 -- where one of the words is no value, nothing is asked for
 no_value : (name : List ℕ) (given : List ℕ → List ℕ) → IsNoValue name given → (invocation : Invocation) → AsksFor name given invocation → ⊥
-unfolding IsNoCat
+unfolding IsNoCat IsNoChmod IsNoChown
 no_value name given (inl none) invocation asks = edition_given given invocation none asks.1
 no_value name given (inr (inl (is, inl none))) invocation asks = edition_given given invocation none asks.1
 no_value name given (inr (inl (is, inr none))) invocation asks = number_given given invocation (same _ _ (sym is ∙ asks.0)) none asks.1
 no_value name given (inr (inr (inl (is, none)))) invocation asks = new_volume_given given invocation (same _ _ (sym is ∙ asks.0)) none asks.1
-no_value name given (inr (inr (inr (change, inl none)))) invocation asks = edition_given given invocation none asks.1
-no_value name given (inr (inr (inr (change, inr none)))) invocation asks = moment_given given invocation (change_test _ (subst IsChange asks.0 change)) none asks.1
+no_value name given (inr (inr (inr (inl (change, none))))) invocation asks = no_change name given invocation (change_test name change) none asks
+no_value name given (inr (inr (inr (inr (inl (is, inl none)))))) invocation asks = no_change name given invocation (rw is refl) none asks
+no_value name given (inr (inr (inr (inr (inl (is, inr none)))))) invocation asks = permissions_given given invocation (same _ _ (sym is ∙ asks.0)) none asks.1
+no_value name given (inr (inr (inr (inr (inr (is, inl none)))))) invocation asks = no_change name given invocation (rw is refl) none asks
+no_value name given (inr (inr (inr (inr (inr (is, inr none)))))) invocation asks = owner_given given invocation (same _ _ (sym is ∙ asks.0)) none asks.1
 
 -- where the name is that of no command, nothing is asked for
 no_command : (name : List ℕ) (given : List ℕ → List ℕ) → IsNoCommand name → (invocation : Invocation) → AsksFor name given invocation → ⊥
@@ -156,6 +202,8 @@ no_command name given none (OnVolume volume (jobs.Rm path now)) asks = none.5 as
 no_command name given none (OnVolume volume (jobs.Rmdir path now)) asks = none.6 asks.0
 no_command name given none (OnVolume volume (jobs.Mkdir path now)) asks = none.7 asks.0
 no_command name given none (OnVolume volume (jobs.Ln from to now)) asks = none.8 asks.0
+no_command name given none (OnVolume volume (jobs.Chmod path perm now)) asks = none.9 asks.0
+no_command name given none (OnVolume volume (jobs.Chown path uid gid now)) asks = none.10 asks.0
 
 -- what a parse found asks for what its command asks for
 pub asked : {E : Type 0} (matches values : ArgMatches) (name : List ℕ) (result : Result (Option Invocation) E) → Some name ≡ subcommand_name_of matches

@@ -8,6 +8,7 @@ use Rattle.clap.specs.declared.parser.matches.ArgMatches.{ArgMatches}
 use Rattle.vol_layout.specs.declared.edition.Edition.{Edition}
 use Rattle.vol_layout.specs.declared.edition.Edition.TheVariants.{V6, V7}
 use Rattle.command_line.specs.Decimal.{IsNumberUpTo, IsNumberGiven}
+use Rattle.command_line.specs.Octal.{IsOctalUpTo, IsOctalGiven}
 use Rattle.command_line.specs.Words.{AreEditions, command_in, faults_of, unixvol_app}
 use Rattle.command_line.specs.declared.Invocation.{Invocation}
 use Rattle.command_line.specs.declared.Invocation.TheVariants.{Cat, Mkfs, OnVolume}
@@ -30,6 +31,7 @@ abbrev pub IsNoCommand : List ℕ → Type 0
 IsNoCommand text =
     (text ≢ codes "cat") × (text ≢ codes "ls") × (text ≢ codes "get") × (text ≢ codes "mkfs") × (text ≢ codes "put")
     × (text ≢ codes "rm") × (text ≢ codes "rmdir") × (text ≢ codes "mkdir") × (text ≢ codes "ln")
+    × (text ≢ codes "chmod") × (text ≢ codes "chown")
 
 -- a word, or the empty one where there is none (this project)
 abbrev pub word_or_empty : Option (List ℕ) → List ℕ
@@ -53,6 +55,8 @@ job_name (jobs.Rm path now) = codes "rm"
 job_name (jobs.Rmdir path now) = codes "rmdir"
 job_name (jobs.Mkdir path now) = codes "mkdir"
 job_name (jobs.Ln from to now) = codes "ln"
+job_name (jobs.Chmod path perm now) = codes "chmod"
+job_name (jobs.Chown path uid gid now) = codes "chown"
 
 -- the name of the command (this project)
 abbrev pub command_name : Invocation → List ℕ
@@ -88,6 +92,11 @@ IsJobGiven given (jobs.Rmdir path now) = (path.now ≡ given (codes "PATH")) × 
 IsJobGiven given (jobs.Mkdir path now) = (path.now ≡ given (codes "PATH")) × IsMomentGiven given now
 IsJobGiven given (jobs.Ln from to now) =
     (from.now ≡ given (codes "FROM")) × (to.now ≡ given (codes "TO")) × IsMomentGiven given now
+IsJobGiven given (jobs.Chmod path perm now) =
+    (path.now ≡ given (codes "PATH")) × IsOctalGiven 4095 (given (codes "PERM")) perm × IsMomentGiven given now
+IsJobGiven given (jobs.Chown path uid gid now) =
+    (path.now ≡ given (codes "PATH")) × IsNumberGiven 65535 (given (codes "UID")) uid
+    × IsNumberGiven 65535 (given (codes "GID")) gid × IsMomentGiven given now
 
 -- the words that were given for the arguments of its command describe what is asked for (this project)
 abbrev pub IsGiven : (List ℕ → List ℕ) → Invocation → Type 0
@@ -111,13 +120,21 @@ IsNoCat given = IsNoEdition (given (codes "EDITION")) ⊎ (IsNumberUpTo 65535 (g
 abbrev pub IsNoChange : (List ℕ → List ℕ) → Type 0
 IsNoChange given = IsNoEdition (given (codes "EDITION")) ⊎ IsNoMoment given
 
+-- one of the words of `chmod` is no value of its argument (this project)
+unfoldable pub IsNoChmod : (List ℕ → List ℕ) → Type 0
+IsNoChmod given = IsNoChange given ⊎ (IsOctalUpTo 4095 (given (codes "PERM")) → ⊥)
+
+-- one of the words of `chown` is no value of its argument (this project)
+unfoldable pub IsNoChown : (List ℕ → List ℕ) → Type 0
+IsNoChown given = IsNoChange given ⊎ (IsNumberUpTo 65535 (given (codes "UID")) → ⊥) ⊎ (IsNumberUpTo 65535 (given (codes "GID")) → ⊥)
+
 -- one of the words of `mkfs` is no value of its argument (this project)
 unfoldable pub IsNoNewVolume : (List ℕ → List ℕ) → Type 0
 IsNoNewVolume given = IsNoEdition (given (codes "EDITION"))
     ⊎ (IsNumberUpTo 4294967295 (given (codes "FSIZE")) → ⊥) ⊎ (IsNumberUpTo 65535 (given (codes "IBLOCKS")) → ⊥)
     ⊎ (IsNumberUpTo 65535 (given (codes "UID")) → ⊥) ⊎ (IsNumberUpTo 65535 (given (codes "GID")) → ⊥) ⊎ IsNoMoment given
 
--- a command of this name changes a volume (this project)
+-- a command of this name changes a volume, and takes no number but the moment (this project)
 abbrev pub IsChange : List ℕ → Type 0
 IsChange name = (name ≡ codes "put") ⊎ (name ≡ codes "rm") ⊎ (name ≡ codes "rmdir") ⊎ (name ≡ codes "mkdir") ⊎ (name ≡ codes "ln")
 
@@ -125,6 +142,7 @@ IsChange name = (name ≡ codes "put") ⊎ (name ≡ codes "rm") ⊎ (name ≡ c
 abbrev pub IsNoValue : List ℕ → (List ℕ → List ℕ) → Type 0
 IsNoValue name given = IsNoEdition (given (codes "EDITION")) ⊎ ((name ≡ codes "cat") × IsNoCat given)
     ⊎ ((name ≡ codes "mkfs") × IsNoNewVolume given) ⊎ (IsChange name × IsNoChange given)
+    ⊎ ((name ≡ codes "chmod") × IsNoChmod given) ⊎ ((name ≡ codes "chown") × IsNoChown given)
 
 -- memory ran out, or the error tells of a word that is no value, of which this holds (this project)
 abbrev pub TellsOf : Type 0 → Error → Type 0

@@ -1,4 +1,5 @@
 pub mod CommandLine
 pub mod Decimal
 pub mod Laws
+pub mod Octal
 pub mod Words

@@ -25,7 +25,7 @@ pub fn long_of(text: &str) -> Option<u32>
 }
 
 /// Whether a text begins with a plus sign, which Rust's numbers may.
-fn is_signed(text: &str) -> bool
+pub(crate) fn is_signed(text: &str) -> bool
     ensures { result ≡ (slice_index text.now 0 == 43) }
 {
     text.as_bytes().first() == Some(&b'+')

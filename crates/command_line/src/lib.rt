@@ -17,6 +17,7 @@ mod cat;
 pub mod decimal;
 pub mod laws;
 mod mkfs;
+pub mod octal;
 mod texts;
 mod volumes;
 mod words;
@@ -106,6 +107,8 @@ fn read_command<'a>(
         Verb::Rmdir => volumes::read_rmdir(alloc, values)?,
         Verb::Mkdir => volumes::read_mkdir(alloc, values)?,
         Verb::Ln => volumes::read_ln(alloc, values)?,
+        Verb::Chmod => volumes::read_chmod(alloc, values)?,
+        Verb::Chown => volumes::read_chown(alloc, values)?,
     };
     Ok(Some(invocation))
 }
@@ -150,7 +153,9 @@ fn with_changes<'a>(
     let command = with_one_more(command, volumes::rm_command(alloc, editions))?;
     let command = with_one_more(command, volumes::rmdir_command(alloc, editions))?;
     let command = with_one_more(command, volumes::mkdir_command(alloc, editions))?;
-    with_one_more(command, volumes::ln_command(alloc, editions))
+    let command = with_one_more(command, volumes::ln_command(alloc, editions))?;
+    let command = with_one_more(command, volumes::chmod_command(alloc, editions))?;
+    with_one_more(command, volumes::chown_command(alloc, editions))
 }
 
 /// Adds one more command to the command line, where the memory for making it was there.

@@ -3,7 +3,9 @@ ghost use Rattle.std.specs.Prelude.{◌≡◌, ◌∷◌, [], IfOk, IfErr, codes
 ghost use Rattle.command_line.specs.Words.{shape, command_shape};
 ghost use Rattle.command_line.specs.CommandLine.{AsksFor, IsNoNewVolume, TellsOf, given_in};
 
-use super::words::{IMAGE, NOW, Verb, edition_in, long_in, of_edition, required, text_in, word_in};
+use super::words::{
+    GID, IMAGE, NOW, UID, Verb, edition_in, long_in, of_edition, required, text_in, word_in,
+};
 use super::{Invocation, texts};
 use clap::{ArgMatches, Command, Error};
 use std::alloc::{AllocError, Global};
@@ -13,10 +15,6 @@ use vol_volume::NewVolume;
 const BLOCKS: &str = "FSIZE";
 
 const LIST_BLOCKS: &str = "IBLOCKS";
-
-const UID: &str = "UID";
-
-const GID: &str = "GID";
 
 /// The command `mkfs`.
 pub(super) fn command<'a>(alloc: Global, editions: &'a [&'a str]) -> Result<Command<'a>, AllocError>

@@ -42,6 +42,8 @@ pub const WORD: &str = "not a number from 0 to 65535 in decimal digits";
 
 pub const LONG: &str = "not a number from 0 to 4294967295 in decimal digits";
 
+pub const OCTAL: &str = "not a number from 0 to 7777 in octal digits";
+
 pub const MKFS_ABOUT: &str = "Makes a new volume, with an empty root directory.";
 
 pub const MKFS_MORE: &str = "\
@@ -239,6 +241,60 @@ Status:
   2  the command line can't be read
   3  `unixvol: cannot read IMAGE`, `unixvol: cannot write IMAGE`
   4  `unixvol: 12 NoMemory`";
+
+pub const CHMOD_ABOUT: &str = "Changes the permissions of a file or directory of a volume.";
+
+pub const CHMOD_MORE: &str = "\
+Example:
+  unixvol chmod 7 disk.img /etc/rc 0755 173750400
+
+PERM is the sum of the bits that are to be set: 400, 200 and 100 let the owner read, write and execute, 40, 20
+and 10 the group, 4, 2 and 1 all others; 4000 is set-user-id, 2000 set-group-id, and 1000 keeps the text of a
+program. Special files have permissions too. IMAGE is written only where all went well: a new file is written
+beside it and then takes its place.
+
+A path starts at the root, with or without a slash. Repeated slashes count as one, those at its end as none,
+and each name is cut to 14 bytes. The volume must be sound: its twelve rules are asked first.
+
+Status:
+  0  the permissions are these, and the volume was saved
+  1  `unixvol: unsound, rule N`: the volume breaks this rule, and none before it
+     `unixvol: 2 NoEntry`: there is no such name
+     `unixvol: 20 NotDirectory`: what PATH leads through is no directory
+  2  the command line can't be read
+  3  `unixvol: cannot read IMAGE`, `unixvol: cannot write IMAGE`
+  4  `unixvol: 12 NoMemory`";
+
+pub const CHOWN_ABOUT: &str = "Gives a file or directory of a volume to another user and group.";
+
+pub const CHOWN_MORE: &str = "\
+Example:
+  unixvol chown 7 disk.img /usr/ken 3 1 173750400
+
+Its permissions stay, set-user-id and set-group-id too. Special files have owners too. In the sixth edition
+users and groups have numbers up to 255, in the seventh up to 32767. IMAGE is written only where all went
+well: a new file is written beside it and then takes its place.
+
+A path starts at the root, with or without a slash. Repeated slashes count as one, those at its end as none,
+and each name is cut to 14 bytes. The volume must be sound: its twelve rules are asked first.
+
+Status:
+  0  the user and the group are these, and the volume was saved
+  1  `unixvol: unsound, rule N`: the volume breaks this rule, and none before it
+     `unixvol: 104 BadId`: UID or GID is above the edition's highest
+     `unixvol: 2 NoEntry`: there is no such name
+     `unixvol: 20 NotDirectory`: what PATH leads through is no directory
+  2  the command line can't be read
+  3  `unixvol: cannot read IMAGE`, `unixvol: cannot write IMAGE`
+  4  `unixvol: 12 NoMemory`";
+
+pub const OWNED: &str = "The path of the file or directory in the volume";
+
+pub const PERM: &str = "The permissions, in octal digits, at most 7777";
+
+pub const NEW_UID: &str = "The new user's number";
+
+pub const NEW_GID: &str = "The new group's number";
 
 pub const DIRECTORY: &str = "The directory's path in the volume";
 

@@ -1,9 +1,12 @@
 //! The words of the commands on the tree of a volume.
 ghost use Rattle.std.specs.Prelude.{◌≡◌, ◌∷◌, [], IfOk, IfErr, codes};
 ghost use Rattle.command_line.specs.Words.{shape, command_shape};
-ghost use Rattle.command_line.specs.CommandLine.{AsksFor, IsMomentGiven, IsNoChange, IsNoEdition, IsVolumeGiven, TellsOf, given_in};
+ghost use Rattle.command_line.specs.CommandLine.{AsksFor, IsMomentGiven, IsNoChange, IsNoChmod, IsNoChown, IsNoEdition, IsVolumeGiven, TellsOf, given_in};
 
-use super::words::{IMAGE, NOW, Verb, edition_in, long_in, on_volume, required, text_in};
+use super::words::{
+    GID, IMAGE, NOW, UID, Verb, edition_in, long_in, on_volume, permissions_in, required, text_in,
+    word_in,
+};
 use super::{Invocation, VolumeFile, texts};
 use clap::{ArgMatches, Command, Error};
 use std::alloc::{AllocError, Global};
@@ -17,6 +20,8 @@ const FILE: &str = "FILE";
 const FROM: &str = "FROM";
 
 const TO: &str = "TO";
+
+const PERM: &str = "PERM";
 
 /// The command `ls`.
 pub(super) fn ls_command<'a>(
@@ -129,6 +134,45 @@ pub(super) fn ln_command<'a>(
         .arg(required(alloc, NOW, texts::CALL_NOW))
 }
 
+/// The command `chmod`.
+pub(super) fn chmod_command<'a>(
+    alloc: Global,
+    editions: &'a [&'a str],
+) -> Result<Command<'a>, AllocError>
+    ensures { IfOk result (λ command. shape command ≡ command_shape editions.entry (codes "chmod") (codes "IMAGE" ∷ codes "PATH" ∷ codes "PERM" ∷ codes "NOW" ∷ [])) }
+{
+    on_volume(
+        alloc,
+        editions,
+        Verb::Chmod,
+        texts::CHMOD_ABOUT,
+        texts::CHMOD_MORE,
+    )?
+    .arg(required(alloc, PATH, texts::OWNED))?
+    .arg(required(alloc, PERM, texts::PERM))?
+    .arg(required(alloc, NOW, texts::CALL_NOW))
+}
+
+/// The command `chown`.
+pub(super) fn chown_command<'a>(
+    alloc: Global,
+    editions: &'a [&'a str],
+) -> Result<Command<'a>, AllocError>
+    ensures { IfOk result (λ command. shape command ≡ command_shape editions.entry (codes "chown") (codes "IMAGE" ∷ codes "PATH" ∷ codes "UID" ∷ codes "GID" ∷ codes "NOW" ∷ [])) }
+{
+    on_volume(
+        alloc,
+        editions,
+        Verb::Chown,
+        texts::CHOWN_ABOUT,
+        texts::CHOWN_MORE,
+    )?
+    .arg(required(alloc, PATH, texts::OWNED))?
+    .arg(required(alloc, UID, texts::NEW_UID))?
+    .arg(required(alloc, GID, texts::NEW_GID))?
+    .arg(required(alloc, NOW, texts::CALL_NOW))
+}
+
 /// Reads the words of `ls`.
 pub(super) fn read_ls<'a>(alloc: Global, values: &ArgMatches<'a>) -> Result<Invocation<'a>, Error>
     ensures read { IfOk result (AsksFor (codes "ls") (given_in values.now)) }
@@ -211,6 +255,44 @@ pub(super) fn read_ln<'a>(alloc: Global, values: &ArgMatches<'a>) -> Result<Invo
     let from = text_in(values, FROM);
     let to = text_in(values, TO);
     let job = Job::Ln { from, to, now };
+    Ok(Invocation::OnVolume { volume, job })
+}
+
+/// Reads the words of `chmod`.
+#[tactic(auto, unfolding(crate::specs::CommandLine::IsNoChmod))]
+pub(super) fn read_chmod<'a>(
+    alloc: Global,
+    values: &ArgMatches<'a>,
+) -> Result<Invocation<'a>, Error>
+    ensures read { IfOk result (AsksFor (codes "chmod") (given_in values.now)) }
+    ensures refused { IfErr result (TellsOf (IsNoChmod (given_in values.now))) }
+{
+    let (volume, now) = volume_and_now(alloc, Verb::Chmod, values)?;
+    let path = text_in(values, PATH);
+    let perm = permissions_in(alloc, Verb::Chmod, values, PERM)?;
+    let job = Job::Chmod { path, perm, now };
+    Ok(Invocation::OnVolume { volume, job })
+}
+
+/// Reads the words of `chown`.
+#[tactic(auto, unfolding(crate::specs::CommandLine::IsNoChown))]
+pub(super) fn read_chown<'a>(
+    alloc: Global,
+    values: &ArgMatches<'a>,
+) -> Result<Invocation<'a>, Error>
+    ensures read { IfOk result (AsksFor (codes "chown") (given_in values.now)) }
+    ensures refused { IfErr result (TellsOf (IsNoChown (given_in values.now))) }
+{
+    let (volume, now) = volume_and_now(alloc, Verb::Chown, values)?;
+    let path = text_in(values, PATH);
+    let uid = word_in(alloc, Verb::Chown, values, UID)?;
+    let gid = word_in(alloc, Verb::Chown, values, GID)?;
+    let job = Job::Chown {
+        path,
+        uid,
+        gid,
+        now,
+    };
     Ok(Invocation::OnVolume { volume, job })
 }
 

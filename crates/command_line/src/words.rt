@@ -5,9 +5,11 @@ ghost use Rattle.clap.specs.declared.error.kind.ErrorKind.TheVariants as clap_ki
 ghost use Rattle.command_line.specs.CommandLine.{IsEditionNamed, IsNoCommand, IsNoEdition, TellsOf, given_in};
 ghost use Rattle.command_line.specs.Words.{command_shape, verb_name, rule, shape, word_rule, edition_rule};
 ghost use Rattle.command_line.specs.Decimal.{IsNumberUpTo, IsNumberGiven};
+ghost use Rattle.command_line.specs.Octal.{IsOctalUpTo, IsOctalGiven};
 
 use super::{cat, mkfs, texts, volumes};
 use crate::decimal::{long_of, word_of};
+use crate::octal::permissions_of;
 use clap::error::ErrorKind;
 use clap::{Arg, ArgMatches, Command, Error};
 use std::alloc::{AllocError, Global};
@@ -19,6 +21,10 @@ pub(super) const EDITION: &str = "EDITION";
 pub(super) const IMAGE: &str = "IMAGE";
 
 pub(super) const NOW: &str = "NOW";
+
+pub(super) const UID: &str = "UID";
+
+pub(super) const GID: &str = "GID";
 
 /// The editions' names on the command line.
 pub(super) static EDITIONS: [&str; 2] = ["6", "7"];
@@ -35,10 +41,12 @@ pub(super) enum Verb {
     Rmdir,
     Mkdir,
     Ln,
+    Chmod,
+    Chown,
 }
 
 /// All commands, in the order in which the help lists them.
-static VERBS: [Verb; 9] = [
+static VERBS: [Verb; 11] = [
     Verb::Cat,
     Verb::Ls,
     Verb::Get,
@@ -48,6 +56,8 @@ static VERBS: [Verb; 9] = [
     Verb::Rmdir,
     Verb::Mkdir,
     Verb::Ln,
+    Verb::Chmod,
+    Verb::Chown,
 ];
 
 impl Verb {
@@ -65,6 +75,8 @@ impl Verb {
             Verb::Rmdir => "rmdir",
             Verb::Mkdir => "mkdir",
             Verb::Ln => "ln",
+            Verb::Chmod => "chmod",
+            Verb::Chown => "chown",
         }
     }
 
@@ -92,6 +104,8 @@ impl Verb {
             Verb::Rmdir => volumes::rmdir_command(alloc, editions),
             Verb::Mkdir => volumes::mkdir_command(alloc, editions),
             Verb::Ln => volumes::ln_command(alloc, editions),
+            Verb::Chmod => volumes::chmod_command(alloc, editions),
+            Verb::Chown => volumes::chown_command(alloc, editions),
         }
     }
 }
@@ -211,6 +225,23 @@ pub(super) fn long_in(
     match long_of(text) {
         Some(number) => Ok(number),
         None => Err(wrong_value(alloc, verb, name, text, texts::LONG)?),
+    }
+}
+
+/// The permissions that were given for an argument.
+pub(super) fn permissions_in(
+    alloc: Global,
+    verb: Verb,
+    values: &ArgMatches<'_>,
+    name: &str,
+) -> Result<u16, Error>
+    ensures read { IfOk result (λ number. IsOctalGiven 4095 (given_in values.now name.now) number) }
+    ensures refused { IfErr result (TellsOf (IsOctalUpTo 4095 (given_in values.now name.now) → ⊥)) }
+{
+    let text = text_in(values, name);
+    match permissions_of(text) {
+        Some(number) => Ok(number),
+        None => Err(wrong_value(alloc, verb, name, text, texts::OCTAL)?),
     }
 }
 

@@ -205,8 +205,13 @@ fn run_job<R: ImageFiles + Clock + Eprint + AllocGlobal, O: Sink, E: Sink>(
 {
     match job {
         Job::Ls { .. } | Job::Get { .. } => run_query(rt, output, errors, volume, job),
-        Job::Put { .. } | Job::Rm { .. } | Job::Rmdir { .. } | Job::Mkdir { .. } | Job::Ln { .. } =>
-            run_change(rt, output, errors, volume, job),
+        Job::Put { .. }
+        | Job::Rm { .. }
+        | Job::Rmdir { .. }
+        | Job::Mkdir { .. }
+        | Job::Ln { .. }
+        | Job::Chmod { .. }
+        | Job::Chown { .. } => run_change(rt, output, errors, volume, job),
     }
 }
 

@@ -1,4 +1,5 @@
 pub mod Concluded
+pub mod Emptying
 pub mod Lines
 pub mod Reasons
 pub mod Replies

@@ -59,7 +59,7 @@ pub record ChangesVolume (edition : Edition) (image : List ℕ) (calls : List Ca
 -- the call that makes a file empty: a create with permissions 0644 where a question for it answers that it is missing, else a truncate (this project)
 abbrev pub emptying_by : Result Reply Refusal → ℕ → List ℕ → Call
 emptying_by (Err refusals.NoEntry) now path = calls.Create user now path 0o644
-emptying_by _ now path = calls.Truncate user now path
+emptying_by _ now path = calls.Truncate user now path 0
 
 -- the calls of `put` (this project)
 abbrev pub put_calls : Tree → ℕ → List ℕ → List ℕ → List Call

@@ -43,3 +43,6 @@ Does edition image bytes streams answer (jobs.Rmdir path now) = Calls edition im
 Does edition image bytes streams answer (jobs.Mkdir path now) = Calls edition image streams answer (calls.Mkdir user now path.now 0o755 ∷ [])
 Does edition image bytes streams answer (jobs.Ln from to now) =
     Calls edition image streams answer (calls.Link user now from.now to.now ∷ [])
+Does edition image bytes streams answer (jobs.Chmod path perm now) = Calls edition image streams answer (calls.Chmod user now path.now perm ∷ [])
+Does edition image bytes streams answer (jobs.Chown path uid gid now) =
+    Calls edition image streams answer (calls.Chown user now path.now uid gid ∷ [])

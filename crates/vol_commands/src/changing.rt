@@ -1,6 +1,6 @@
 //! The commands that change a volume: each makes calls on the volume in some bytes, as user 0, and answers the
 //! bytes that are to be saved.
-ghost use Rattle.std.specs.Prelude.{◌≡◌, IfOk, IfErr, OnOk, [], ◌∷◌};
+ghost use Rattle.std.specs.Prelude.{◌≡◌, ◌≢◌, IfOk, IfErr, MatchBool, OnOk, [], ◌∷◌};
 ghost use Rattle.std.specs.Io.KnownBytes.{Keeps};
 ghost use Rattle.vol_judge.specs.Sound.{IsSound};
 ghost use Rattle.vol_volume.specs.Answer.{answer};
@@ -18,9 +18,9 @@ use crate::faults::Fault;
 use crate::mounting::{USER, copy, mount};
 use pdp_words::Sink;
 use std::alloc::{AllocError, Global};
-use vol_dir::Refusal;
+use vol_dir::{Cred, Refusal};
 use vol_layout::Edition;
-use vol_volume::{Bytes, Call, Query, Volume};
+use vol_volume::{Bytes, Call, Volume};
 
 /// Permissions of a new file.
 const FILE_PERMISSIONS: u16 = 0o644;
@@ -32,7 +32,7 @@ const DIRECTORY_PERMISSIONS: u16 = 0o755;
 /// to be saved unless both calls are accepted.
 ///
 /// Takes memory for what [`Volume::mount`] takes, and for two copies of the path, which the journal keeps; the
-/// file's bytes stand in memory once. Walks the path three times: to see whether it is there, and once a call.
+/// file's bytes stand in memory once. Walks the path once a call, and where it is missing once more before them.
 pub fn put<O: Sink, E: Sink>(
     alloc: Global,
     edition: Edition,
@@ -128,6 +128,46 @@ pub fn ln<O: Sink, E: Sink>(
     conclude(change(alloc, edition, image, call), errors)
 }
 
+/// `chmod`: gives other permission bits to what a path leads to; of `perm`, those under octal 7777 count.
+pub fn chmod<O: Sink, E: Sink>(
+    alloc: Global,
+    edition: Edition,
+    image: Vec<u8>,
+    path: &str,
+    perm: u16,
+    now: u32,
+    _output: &mut O,
+    errors: &mut E,
+) -> Answer
+    ensures changed { ChangesVolume edition image.items (asked.Chmod user now path.now perm ∷ [])
+        (Gets (E.failed errors.new) (E.contents errors.old) (E.contents errors.new)) result }
+    ensures unprinted { Keeps (O.contents _output.old) (O.contents _output.new) }
+    ensures unused { O.failed _output.new ≡ O.failed _output.old }
+{
+    let call = chmod_call(alloc, path, perm, now);
+    conclude(change(alloc, edition, image, call), errors)
+}
+
+/// `chown`: gives another user and group to what a path leads to; `owner` are their numbers.
+pub fn chown<O: Sink, E: Sink>(
+    alloc: Global,
+    edition: Edition,
+    image: Vec<u8>,
+    path: &str,
+    owner: Cred,
+    now: u32,
+    _output: &mut O,
+    errors: &mut E,
+) -> Answer
+    ensures changed { ChangesVolume edition image.items (asked.Chown user now path.now owner.uid owner.gid ∷ [])
+        (Gets (E.failed errors.new) (E.contents errors.old) (E.contents errors.new)) result }
+    ensures unprinted { Keeps (O.contents _output.old) (O.contents _output.new) }
+    ensures unused { O.failed _output.new ≡ O.failed _output.old }
+{
+    let call = chown_call(alloc, path, owner, now);
+    conclude(change(alloc, edition, image, call), errors)
+}
+
 /// Makes the calls of `put`.
 fn put_file(
     alloc: Global,
@@ -160,8 +200,8 @@ fn fill(
         (put_calls (reads_as volume.old.edition volume.old.image).tree now path.now file.items)) }
 {
     let target = copy(alloc, path)?;
-    let first = emptying(alloc, volume, path, now)?;
-    perform(alloc, volume, first)?;
+    let emptied = copy(alloc, path)?;
+    empty(alloc, volume, emptied, now)?;
     let write = Call::Write {
         cred: USER,
         now,
@@ -172,26 +212,48 @@ fn fill(
     perform(alloc, volume, write)
 }
 
-/// The call that makes a file empty, or makes an empty one where it is missing.
-fn emptying(alloc: Global, volume: &Volume, path: &str, now: u32) -> Result<Call, AllocError>
-    ensures { IfOk result (λ call. call
-        ≡ emptying_by (answer (reads_as volume.now.edition volume.now.image).tree (questions.Stat user path.now)) now path.now) }
+/// Makes a file empty, or makes an empty one where it is missing, which the refusal of the first call tells.
+fn empty(alloc: Global, volume: &mut Volume, path: Bytes, now: u32) -> Result<(), Fault>
+    ensures accepted { OnOk result ((done : Done) × Accepts volume.old volume.new
+        (emptying_by (answer (reads_as volume.old.edition volume.old.image).tree (questions.Stat user path)) now path) done) }
+    ensures refused { IfErr result (λ fault. (refusal : Refusal) × (fault ≡ Fault.Refused refusal)
+        × Refuses (reads_as volume.old.edition volume.old.image)
+        (emptying_by (answer (reads_as volume.old.edition volume.old.image).tree (questions.Stat user path)) now path) refusal) }
 {
     let cred = USER;
-    let query = Query::Stat {
+    let truncate = Call::Truncate {
         cred,
-        path: copy(alloc, path)?,
+        now,
+        path,
+        length: 0,
     };
-    let answer = volume.ask(alloc, &query);
-    let (Query::Stat { path, .. } | Query::Read { path, .. } | Query::List { path, .. }) = query;
-    match answer {
-        Err(Refusal::NoEntry) => Ok(Call::Create {
-            cred,
-            now,
-            path,
-            perm: FILE_PERMISSIONS,
-        }),
-        _ => Ok(Call::Truncate { cred, now, path }),
+    let (refusal, call) = match volume.call(alloc, truncate) {
+        Ok(_) => return Ok(()),
+        Err(refused) => refused,
+    };
+    if !is_missing(refusal) {
+        return Err(Fault::Refused(refusal));
+    }
+    // The call came back with its path.
+    let Call::Truncate { path, .. } = call else {
+        unreachable!();
+    };
+    let create = Call::Create {
+        cred,
+        now,
+        path,
+        perm: FILE_PERMISSIONS,
+    };
+    perform(alloc, volume, create)
+}
+
+/// Whether a refusal tells that a directory on the way hasn't the name.
+fn is_missing(refusal: Refusal) -> bool
+    ensures { MatchBool result (refusal ≡ Refusal.NoEntry) (refusal ≢ Refusal.NoEntry) }
+{
+    match refusal {
+        Refusal::NoEntry => true,
+        _ => false,
     }
 }
 
@@ -238,6 +300,31 @@ fn link_call(alloc: Global, from: &str, to: &str, now: u32) -> Result<Call, Allo
         now,
         source: copy(alloc, from)?,
         target: copy(alloc, to)?,
+    })
+}
+
+/// The call of `chmod`.
+fn chmod_call(alloc: Global, path: &str, perm: u16, now: u32) -> Result<Call, AllocError>
+    ensures { IfOk result (λ call. call ≡ asked.Chmod user now path.now perm) }
+{
+    Ok(Call::Chmod {
+        cred: USER,
+        now,
+        path: copy(alloc, path)?,
+        perm,
+    })
+}
+
+/// The call of `chown`.
+fn chown_call(alloc: Global, path: &str, owner: Cred, now: u32) -> Result<Call, AllocError>
+    ensures { IfOk result (λ call. call ≡ asked.Chown user now path.now owner.uid owner.gid) }
+{
+    Ok(Call::Chown {
+        cred: USER,
+        now,
+        path: copy(alloc, path)?,
+        uid: owner.uid,
+        gid: owner.gid,
     })
 }
 

@@ -3,10 +3,11 @@ ghost use Rattle.vol_commands.specs.Faults.{Gets};
 ghost use Rattle.vol_commands.specs.Jobs.{Does};
 
 use crate::answer::Answer;
-use crate::changing::{ln, mkdir, put, rm, rmdir};
+use crate::changing::{chmod, chown, ln, mkdir, put, rm, rmdir};
 use crate::showing::{get, ls};
 use pdp_words::Sink;
 use std::alloc::Global;
+use vol_dir::Cred;
 use vol_layout::Edition;
 
 /// What is to be done with the tree of a volume. Paths lead on from the root, with `/` between their names;
@@ -48,6 +49,19 @@ pub enum Job<'a> {
         to: &'a str,
         now: u32,
     },
+    /// Give a file or directory other permissions, of which the bits under octal 7777 count.
+    Chmod {
+        path: &'a str,
+        perm: u16,
+        now: u32,
+    },
+    /// Give a file or directory to another user and group.
+    Chown {
+        path: &'a str,
+        uid: u16,
+        gid: u16,
+        now: u32,
+    },
 }
 
 /// Does a job with the volume in some bytes; `file` has the bytes that are put. The answer's status is 0, or 1
@@ -78,5 +92,17 @@ pub fn do_job<O: Sink, E: Sink>(
         Job::Rmdir { path, now } => rmdir(alloc, edition, image, path, now, output, errors),
         Job::Mkdir { path, now } => mkdir(alloc, edition, image, path, now, output, errors),
         Job::Ln { from, to, now } => ln(alloc, edition, image, from, to, now, output, errors),
+        Job::Chmod { path, perm, now } => chmod(
+            alloc, edition, image, path, perm, now, output, errors,
+        ),
+        Job::Chown {
+            path,
+            uid,
+            gid,
+            now,
+        } => {
+            let owner = Cred { uid, gid };
+            chown(alloc, edition, image, path, owner, now, output, errors)
+        }
     }
 }

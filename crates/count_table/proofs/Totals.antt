@@ -1,0 +1,199 @@
+-- Laws of sums by weights.
+use Rattle.std.proofs.Common.{◌≡◌, ◌≢◌, ◌⊎◌, ℕ, zero, suc, ◌+◌, ◌<◌, ◌≤◌, List, [], ◌∷◌, ◌++◌, length, set, slice_index, sym, refl, ap, ◌∙◌, nat_lt, min, ◌==◌, ◌&&◌, if◌then◌else◌, le_refl, inl, inr, arith}
+use mathlib.Core.Option.{some, some-injective, some-ne-none}
+use lib.ListN.{get_elem?}
+use Rattle.count_table.specs.declared.rule.Mark.{Mark}
+use Rattle.count_table.specs.Views.{mark}
+use Rattle.count_table.specs.Sums.{total, below, past, least_at, amount_at}
+
+module _ {A : Type 0} (weight : A → ℕ) where
+  -- no member weighs nothing
+  pub total_nil : total weight [] ≡ 0
+  unfolding total
+  total_nil = refl
+
+  -- a first member weighs beside the others
+  pub total_cons : (x : A) (xs : List A) → total weight (x ∷ xs) ≡ weight x + total weight xs
+  unfolding total
+  total_cons x xs = refl
+
+  -- two lists weigh what both do
+  pub total_append : (xs ys : List A) → total weight (xs ++ ys) ≡ total weight xs + total weight ys
+  unfolding total
+  total_append [] ys = omega arith
+  total_append (x ∷ xs) ys = let h = total_append xs ys in omega arith
+
+  -- a last member weighs beside the others
+  pub total_push : (xs : List A) (x : A) → total weight (xs ++ x ∷ []) ≡ total weight xs + weight x
+  total_push xs x = let h = total_append xs (x ∷ []) in let e = total_cons x [] in let n = total_nil in omega arith
+
+  -- a member changes
+  pub total_set : (xs : List A) (i : ℕ) (x y : A) → get_elem? xs i ≡ some x → total weight (set xs i y) + weight x ≡ total weight xs + weight y
+  unfolding total
+  total_set [] i x y e = absurd (some-ne-none x (sym e))
+  total_set (z ∷ xs) zero x y e = let s = ap weight (some-injective z x e) in omega arith
+  total_set (z ∷ xs) (suc i) x y e = let h = total_set xs i x y e in omega arith
+
+  -- a member weighs at most what all do
+  pub total_part : (xs : List A) (i : ℕ) (x : A) → get_elem? xs i ≡ some x → weight x ≤ total weight xs
+  unfolding total
+  total_part [] i x e = absurd (some-ne-none x (sym e))
+  total_part (z ∷ xs) zero x e = let s = ap weight (some-injective z x e) in omega arith
+  total_part (z ∷ xs) (suc i) x e = let h = total_part xs i x e in omega arith
+
+  -- where no member weighs, all weigh nothing
+  pub total_none : (xs : List A) → ((i : ℕ) (x : A) → get_elem? xs i ≡ some x → weight x ≡ 0) → total weight xs ≡ 0
+  unfolding total
+  total_none [] each = refl
+  total_none (z ∷ xs) each = let h = total_none xs (λ i x e. each (suc i) x e) in let g = each 0 z refl in omega arith
+
+-- a weight of 1 counts
+pub total_ones : {A : Type 0} (xs : List A) → total (λ x. 1) xs ≡ length xs
+unfolding total
+total_ones [] = refl
+total_ones (x ∷ xs) = let h = total_ones xs in omega arith
+
+pub below_more : (weight : ℕ → ℕ) (n : ℕ) → below weight (n + 1) ≡ below weight n + weight n
+unfolding below
+below_more weight n = let s : n + 1 ≡ suc n = omega arith in ap (below weight) s
+
+pub below_none : (weight : ℕ → ℕ) → below weight 0 ≡ 0
+unfolding below
+below_none weight = refl
+
+pub below_ones : (n : ℕ) → below (λ k. 1) n ≡ n
+unfolding below
+below_ones zero = refl
+below_ones (suc n) = let h = below_ones n in omega arith
+
+-- a lesser weight sums to less
+pub total_le : {A : Type 0} (f g : A → ℕ) (xs : List A) → ((x : A) → f x ≤ g x) → total f xs ≤ total g xs
+unfolding total
+total_le f g [] le = omega arith
+total_le f g (x ∷ xs) le = let h = total_le f g xs le in let m = le x in omega arith
+
+pub total_le_at : {A : Type 0} (f g : A → ℕ) (xs : List A) → ((i : ℕ) (x : A) → get_elem? xs i ≡ some x → f x ≤ g x) → total f xs ≤ total g xs
+unfolding total
+total_le_at f g [] le = omega arith
+total_le_at f g (x ∷ xs) le = let h = total_le_at f g xs (λ i y e. le (suc i) y e) in let m = le 0 x refl in omega arith
+
+-- all numbers past a bound, below another
+past_cases : (bound n : ℕ) → ((bound ≤ n) × (past bound n ≡ 1)) ⊎ ((n < bound) × (past bound n ≡ 0))
+past_cases bound n = grind arith
+
+pub past_here : (bound n : ℕ) → bound ≤ n → past bound n ≡ 1
+past_here bound n le = grind arith
+
+pub past_short : (bound n : ℕ) → n < bound → past bound n ≡ 0
+past_short bound n lt = grind arith
+
+-- those below n that are past the bound are n less the bound
+pub below_past : (bound n : ℕ) → n ≤ below (past bound) n + bound
+unfolding below
+below_past bound zero = omega arith
+below_past bound (suc n) = let h = below_past bound n in elim (past_cases bound n) [
+  | inl there ↦ let e = there.1 in omega arith
+  | inr early ↦ let e = early.1 in let l = early.0 in omega arith
+]
+
+-- at most 1
+pub past_one : (bound n : ℕ) → past bound n ≤ 1
+past_one bound n = elim (past_cases bound n) [
+  | inl there ↦ let e = there.1 in omega arith
+  | inr early ↦ let e = early.1 in omega arith
+]
+
+-- none is past the bound up to it
+pub below_early : (bound n : ℕ) → n ≤ bound → below (past bound) n ≡ 0
+unfolding below
+below_early bound zero le = refl
+below_early bound (suc n) le = let h = below_early bound n (omega arith) in let e = past_short bound n (omega arith) in omega arith
+
+-- the word is at most the bound and the late draws
+pub word_bound : (bound n late : ℕ) → below (past bound) n ≤ late → n ≤ bound + late
+word_bound bound n late le = let h = below_past bound n in omega arith
+
+pub least_nil : (w : ℕ) → 18446744073709551615 ≡ least_at w []
+unfolding least_at
+least_nil w = refl
+
+-- a mark on a word, and on another
+pub amount_here : (w k : ℕ) → amount_at w (mark w k) ≡ k
+amount_here w k = grind arith
+
+pub amount_else : (v w k : ℕ) → w ≢ v → amount_at w (mark v k) ≡ 0
+amount_else v w k ne = grind arith
+
+-- 1 for a mark on a word that is less than k
+abbrev under : ℕ → ℕ → Mark → ℕ
+under w k m = if (m.word == w) && nat_lt m.amount k then 1 else 0
+
+under_cases : (w k : ℕ) (m : Mark) → ((m.word ≡ w) × (m.amount < k) × (under w k m ≡ 1)) ⊎ ((m.word ≡ w → k ≤ m.amount) × (under w k m ≡ 0))
+under_cases w k m = grind arith
+
+-- the least after one mark more
+least_cases : (w : ℕ) (m : Mark) (ms : List Mark) → ((m.word ≡ w) × (least_at w (m ∷ ms) ≡ min m.amount (least_at w ms))) ⊎ ((m.word ≢ w) × (least_at w (m ∷ ms) ≡ least_at w ms))
+unfolding least_at
+least_cases w m ms = grind arith
+
+least_top : (w : ℕ) (ms : List Mark) → least_at w ms ≤ 18446744073709551615
+unfolding least_at
+least_top w [] = omega arith
+least_top w (m ∷ ms) = let h = least_top w ms in elim (least_cases w m ms) [
+  | inl here ↦ let e = here.1 in omega arith
+  | inr elsewhere ↦ let e = elsewhere.1 in omega arith
+]
+
+none_under : (w k : ℕ) (ms : List Mark) → k ≤ least_at w ms → total (under w k) ms ≡ 0
+unfolding total
+none_under w k [] le = refl
+none_under w k (m ∷ ms) le = elim (least_cases w m ms) [
+  | inl here ↦ let e = here.1 in let h = none_under w k ms (omega arith) in elim (under_cases w k m) [
+    | inl less ↦ let l = less.1 in absurd (omega arith)
+    | inr more ↦ let z = more.1 in omega arith
+  ]
+  | inr elsewhere ↦ let e = elsewhere.1 in let h = none_under w k ms (omega arith) in elim (under_cases w k m) [
+    | inl less ↦ absurd (elsewhere.0 less.0)
+    | inr more ↦ let z = more.1 in omega arith
+  ]
+]
+
+under_none : (w k : ℕ) (ms : List Mark) → k ≤ 18446744073709551615 → total (under w k) ms ≡ 0 → k ≤ least_at w ms
+unfolding total least_at
+under_none w k [] le none = le
+under_none w k (m ∷ ms) le none = let h = under_none w k ms le (omega arith) in elim (under_cases w k m) [
+  | inl less ↦ let o = less.2 in absurd (omega arith)
+  | inr more ↦ elim (least_cases w m ms) [
+    | inl here ↦ let e = here.1 in let l = more.0 here.0 in omega arith
+    | inr elsewhere ↦ let e = elsewhere.1 in omega arith
+  ]
+]
+
+least_le : (w : ℕ) (xs ys : List Mark) → ((weight : Mark → ℕ) → total weight xs ≡ total weight ys) → least_at w xs ≤ least_at w ys
+least_le w xs ys same =
+    let k = least_at w xs in
+    under_none w k ys (least_top w xs) (sym (same (under w k)) ∙ none_under w k xs (le_refl k))
+
+-- the least of marks is by their weights alone
+pub least_same : (w : ℕ) (xs ys : List Mark) → ((weight : Mark → ℕ) → total weight xs ≡ total weight ys) → least_at w xs ≡ least_at w ys
+least_same w xs ys same =
+    let a = least_le w xs ys same in let b = least_le w ys xs (λ weight. sym (same weight)) in omega arith
+
+-- the least after a mark on the word, and on another
+pub least_here : (w k : ℕ) (ms : List Mark) → least_at w (mark w k ∷ ms) ≡ min (least_at w ms) k
+least_here w k ms = elim (least_cases w (mark w k) ms) [
+  | inl here ↦ let e = here.1 in omega arith
+  | inr elsewhere ↦ absurd (elsewhere.0 refl)
+]
+
+pub least_else : (v w k : ℕ) (ms : List Mark) → w ≢ v → least_at w (mark v k ∷ ms) ≡ least_at w ms
+least_else v w k ms ne = elim (least_cases w (mark v k) ms) [
+  | inl here ↦ absurd (ne (sym here.0))
+  | inr elsewhere ↦ elsewhere.1
+]
+
+-- an item that is there is read
+pub read_at : (xs : List ℕ) (i x : ℕ) → get_elem? xs i ≡ some x → x ≡ slice_index xs i
+read_at [] i x e = absurd (some-ne-none x (sym e))
+read_at (y ∷ xs) zero x e = sym (some-injective y x e)
+read_at (y ∷ xs) (suc i) x e = read_at xs i x e

@@ -1,0 +1,4 @@
+pub mod Sums
+pub mod Views
+pub mod Rule
+pub mod Tallies

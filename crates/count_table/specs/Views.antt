@@ -1,0 +1,47 @@
+-- What a seat knows, and how each step changes it.
+use Rattle.std.specs.Prelude.{◌≡◌, ℕ, ◌+◌, ◌-◌, ◌≤◌, List, [], ◌∷◌, ◌++◌, length}
+use Rattle.atomic_table.specs.Table.{Me, Step}
+use Rattle.count_table.specs.declared.rule.Mark.{Mark}
+use Rattle.count_table.specs.declared.rule.View.{View}
+use Rattle.count_table.specs.declared.rule.Shape.{Shape}
+
+abbrev pub view : ℕ → List ℕ → List Mark → View
+view parts draws marks = record { parts = parts; draws = draws; marks = marks }
+
+abbrev pub mark : ℕ → ℕ → Mark
+mark word amount = record { word = word; amount = amount }
+
+-- a seat that stands for nothing, drew nothing and marked nothing (this project)
+abbrev pub blank : View
+blank = view 0 [] []
+
+-- the first seat stands for all (this project)
+abbrev pub first_view : Shape → View
+first_view shape = view shape.seats [] []
+
+-- a seat once it drew a number (this project)
+abbrev pub drew : View → ℕ → View
+drew v number = view v.parts (v.draws ++ number ∷ []) v.marks
+
+-- a seat once it made a mark (this project)
+abbrev pub marked_view : View → Mark → View
+marked_view v m = view v.parts v.draws (v.marks ++ m ∷ [])
+
+-- what is left of a seat that gives one part away, and what the other gets (this project)
+abbrev pub kept_half : View → View
+kept_half v = view (v.parts - 1) v.draws v.marks
+
+abbrev pub given_half : View → View
+given_half v = view 1 [] []
+
+-- two seats as one (this project)
+abbrev pub joined : View → View → View
+joined v w = view (v.parts + w.parts) (v.draws ++ w.draws) (v.marks ++ w.marks)
+
+-- the number found is drawn, and is at least as great as the number of this seat's draws before (this project)
+abbrev pub Drew : Step (Unit {0}) → Me (Unit {0}) View → ℕ → Me (Unit {0}) View → Type 0
+Drew st before found after = (after ≡ (drew before.0 found, before.1)) × (length before.0.draws ≤ found)
+
+-- the step's word and operand are marked (this project)
+abbrev pub Marked : Step (Unit {0}) → Me (Unit {0}) View → ℕ → Me (Unit {0}) View → Type 0
+Marked st before found after = after ≡ (marked_view before.0 (mark st.word st.first), before.1)

@@ -1,0 +1,15 @@
+//! A table of counts that threads add to without a lock, and what its words are at the end.
+//!
+//! Word 0 is the number of the next piece of work. Then come words that only grow by sums, and words that
+//! only fall to the least value given.
+#![tactic(auto)]
+
+mod rule;
+mod summed;
+mod tally;
+#[cfg(test)]
+mod tests;
+mod words;
+
+pub use rule::{AllCounted, Mark, Shape, TallySeat, View};
+pub use words::{Summed, Tally};

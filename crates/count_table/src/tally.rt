@@ -1,0 +1,108 @@
+//! The table and its steps.
+ghost use Rattle.std.specs.Prelude.{◌≡◌, ℕ, ◌+◌, ◌-◌, ◌^◌, ◌<◌, ◌≤◌, [], ◌∷◌, ◌++◌, length, IfOk};
+ghost use Rattle.count_table.specs.Sums.{late};
+ghost use Rattle.count_table.specs.Views.{view, mark, first_view};
+ghost use Rattle.count_table.specs.Tallies.{IsSeatAt, shape_of, items_of};
+ghost use Rattle.count_table.specs.Rule.{IsStart, IsSummed};
+
+use crate::rule::{Claim, Gather, Give, MarkMade, Shape, TallySeat};
+use crate::words::{Summed, Tally};
+use atomic_table::Table;
+use std::alloc::{AllocError, Global};
+
+impl Tally {
+    /// A table of this shape, all of whose counts are 0 and whose leasts are 2^64 - 1, with one seat for all.
+    ///
+    /// Takes eight bytes for each word.
+    pub fn new(alloc: Global, shape: Shape) -> Result<(Tally, TallySeat), AllocError>
+        requires pieces { shape.pieces + shape.seats < 2 ^ 63 }
+        requires words { shape.counts + shape.leasts < 2 ^ 48 }
+        ensures shape { IfOk result (λ t. shape_of t.0 ≡ shape) }
+        ensures own { IfOk result (λ t. IsSeatAt t.0 t.1) }
+        ensures first { IfOk result (λ t. t.1.me.0 ≡ view shape.seats [] []) }
+    {
+        let words = first_words(alloc, shape)?;
+        let (table, seat) = Table::of_words(alloc, &words, &shape)?;
+        Ok((Tally { table }, seat))
+    }
+
+    /// Cuts one part off a seat that did nothing yet.
+    pub fn split(&self, seat: &mut TallySeat) -> TallySeat
+        requires own { IsSeatAt self.now seat.old }
+        requires parts { 1 ≤ seat.old.me.0.parts }
+        requires draws { seat.old.me.0.draws ≡ [] }
+        requires marks { seat.old.me.0.marks ≡ [] }
+        ensures own { IsSeatAt self.now seat.new × IsSeatAt self.now result }
+        ensures kept { seat.new.me.0 ≡ view (seat.old.me.0.parts - 1) [] [] }
+        ensures given { result.me.0 ≡ view 1 [] [] }
+    {
+        self.table.shared.split_seat::<Give>(seat)
+    }
+
+    /// Makes one seat of two.
+    pub fn join(&self, seat: &mut TallySeat, other: TallySeat)
+        requires own { IsSeatAt self.now seat.old × IsSeatAt self.now other }
+        ensures own { IsSeatAt self.now seat.new }
+        ensures joined { seat.new.me.0 ≡ view (seat.old.me.0.parts + other.me.0.parts) (seat.old.me.0.draws ++ other.me.0.draws) (seat.old.me.0.marks ++ other.me.0.marks) }
+    {
+        self.table.shared.join_seat::<Gather>(seat, other);
+    }
+
+    /// Draws the next number.
+    pub fn claim(&self, seat: &mut TallySeat) -> u64
+        requires own { IsSeatAt self.now seat.old }
+        requires early { late (shape_of self.now).pieces seat.old.me.0.draws < seat.old.me.0.parts }
+        ensures own { IsSeatAt self.now seat.new }
+        ensures drew { seat.new.me.0 ≡ view seat.old.me.0.parts (seat.old.me.0.draws ++ result ∷ []) seat.old.me.0.marks }
+        ensures more { length seat.old.me.0.draws ≤ result }
+    {
+        self.table.shared.fetch_add::<Claim>(seat, 0, 1)
+    }
+
+    /// Adds an amount to a count word.
+    pub fn count(&self, seat: &mut TallySeat, word: usize, amount: u64)
+        requires own { IsSeatAt self.now seat.old }
+        requires parts { 1 ≤ seat.old.me.0.parts }
+        requires first { 1 ≤ word }
+        requires last { word < 1 + (shape_of self.now).counts }
+        ensures own { IsSeatAt self.now seat.new }
+        ensures marked { seat.new.me.0 ≡ view seat.old.me.0.parts seat.old.me.0.draws (seat.old.me.0.marks ++ mark word amount ∷ []) }
+    {
+        let _found = self.table.shared.fetch_add::<MarkMade>(seat, word, amount);
+    }
+
+    /// Lowers a least word to a value, if that is less.
+    pub fn lower(&self, seat: &mut TallySeat, word: usize, value: u64)
+        requires own { IsSeatAt self.now seat.old }
+        requires parts { 1 ≤ seat.old.me.0.parts }
+        requires first { 1 + (shape_of self.now).counts ≤ word }
+        requires last { word < 1 + ((shape_of self.now).counts + (shape_of self.now).leasts) }
+        ensures own { IsSeatAt self.now seat.new }
+        ensures marked { seat.new.me.0 ≡ view seat.old.me.0.parts seat.old.me.0.draws (seat.old.me.0.marks ++ mark word value ∷ []) }
+    {
+        let _found = self.table.shared.fetch_min::<MarkMade>(seat, word, value);
+    }
+
+    /// The words at the end, where this seat stands for all.
+    pub fn close(self, seat: TallySeat) -> Summed
+        requires own { IsSeatAt self seat }
+        requires whole { seat.me.0.parts ≡ (shape_of self).seats }
+        ensures { IsSummed (shape_of self) seat.me.0 (items_of result) }
+    {
+        let Tally { table } = self;
+        Summed {
+            closed: table.close_with(seat),
+        }
+    }
+}
+
+/// Word 0 and the counts are 0, the leasts are 2^64 - 1.
+fn first_words(alloc: Global, shape: Shape) -> Result<Vec<u64>, AllocError>
+    requires words { shape.counts + shape.leasts < 2 ^ 48 }
+    ensures { IfOk result (λ words. IsStart shape words.items) }
+{
+    let counts = shape.counts as usize;
+    let mut words = vec![in alloc; 0; 1 + counts + shape.leasts as usize]?;
+    words[1 + counts..].fill(u64::MAX);
+    Ok(words)
+}

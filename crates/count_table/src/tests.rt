@@ -1,0 +1,26 @@
+use crate::{Shape, Tally};
+use std::test::Fail;
+
+#[test]
+fn counts_and_least_values_of_two_seats(rt: HostRuntime) -> Result<(), Fail> {
+    let shape = Shape {
+        pieces: 2,
+        counts: 2,
+        leasts: 1,
+        seats: 2,
+    };
+    let (tally, mut first) = Tally::new(rt.alloc(), shape)?;
+    let mut second = tally.split(&mut first);
+    tally.count(&mut first, 1, 5);
+    tally.count(&mut second, 1, 7);
+    tally.count(&mut second, 2, 1);
+    tally.lower(&mut first, 3, 9);
+    tally.lower(&mut second, 3, 4);
+    tally.join(&mut first, second);
+    let summed = tally.close(first);
+    assert_eq!(rt;
+        [summed.word(1), summed.word(2), summed.word(3)],
+        [12, 1, 4]
+    );
+    Ok(())
+}

@@ -1,0 +1,29 @@
+//! The table, and its words once no thread shares it any more.
+ghost use Rattle.std.specs.Prelude.{◌≡◌, ◌+◌};
+ghost use Rattle.std.specs.Slots.{slots_len, IsFull};
+
+use crate::rule::{AllCounted, Shape, View};
+use atomic_table::{Closed, Table};
+use std::alloc::Global;
+
+/// A table of counts. Its steps take no lock.
+#[derive(Drop)]
+pub struct Tally {
+    pub(crate) table: Table<(), View, Shape, AllCounted, Global>,
+    ghost wide: { table.shared.table_id.words ≡ 1 + (table.shared.key.counts + table.shared.key.leasts) },
+    ghost bare: { table.shared.table_id.slots ≡ 0 },
+}
+
+/// The words at the end.
+pub struct Summed {
+    pub(crate) closed: Closed<(), Global>,
+    ghost full: { IsFull closed.words },
+    ghost bare: { slots_len closed.slots ≡ 0 },
+}
+
+impl Drop for Summed {
+    fn drop(self) {
+        let Summed { closed } = self;
+        closed.free();
+    }
+}

@@ -1,0 +1,47 @@
+-- Marks that are made one after another.
+use Rattle.std.proofs.Common.{◌≡◌, ℕ, ◌+◌, [], ◌∷◌, ◌++◌, refl, ap, ◌∙◌, arith}
+use Rattle.atomic_table.specs.declared.shared.Seat.{Seat}
+use Rattle.count_table.specs.declared.rule.Mark.{Mark}
+use Rattle.count_table.specs.declared.rule.View.{View}
+use Rattle.count_table.specs.declared.words.Tally.{Tally}
+use Rattle.count_table.specs.Sums.{total}
+use Rattle.count_table.specs.Views.{view, mark}
+use Rattle.count_table.specs.Tallies.{IsSeatAt}
+use Rattle.count_table.proofs.Totals.{total_push}
+use Rattle.vol_check.specs.Pieces.{Adds}
+
+module _ (tally : Tally) where
+  -- one mark
+  pub added : (old new : Seat (Unit {0}) View) (w a : ℕ) (amount : (Mark → ℕ) → ℕ) → IsSeatAt tally new
+      → new.me.0 ≡ view old.me.0.parts old.me.0.draws (old.me.0.marks ++ mark w a ∷ [])
+      → ((weight : Mark → ℕ) → weight (mark w a) ≡ amount weight) → Adds tally old new amount
+  added old new w a amount own is same = record {
+    own = own;
+    parts = ap (λ v. v.parts) is;
+    draws = ap (λ v. v.draws) is;
+    marks = λ weight. ap (λ v. total weight v.marks) is ∙ (total_push weight old.me.0.marks (mark w a) ∙ ap (λ n. total weight old.me.0.marks + n) (same weight));
+  }
+
+  -- none
+  pub adds_none : (old : Seat (Unit {0}) View) (amount : (Mark → ℕ) → ℕ) → IsSeatAt tally old → ((weight : Mark → ℕ) → amount weight ≡ 0)
+      → Adds tally old old amount
+  adds_none old amount own none = record { own = own; parts = refl; draws = refl; marks = λ weight. let z = none weight in omega arith }
+
+  -- some, and then others
+  pub adds_then : (a b c : Seat (Unit {0}) View) (f g h : (Mark → ℕ) → ℕ) → Adds tally a b f → Adds tally b c g
+      → ((weight : Mark → ℕ) → h weight ≡ f weight + g weight) → Adds tally a c h
+  adds_then a b c f g h first second same = record {
+    own = second.own;
+    parts = second.parts ∙ first.parts;
+    draws = second.draws ∙ first.draws;
+    marks = λ weight. let s = same weight in let x = first.marks weight in let y = second.marks weight in omega arith;
+  }
+
+  -- the same marks, counted otherwise
+  pub adds_as : (a b : Seat (Unit {0}) View) (f h : (Mark → ℕ) → ℕ) → Adds tally a b f → ((weight : Mark → ℕ) → h weight ≡ f weight) → Adds tally a b h
+  adds_as a b f h first same = record {
+    own = first.own;
+    parts = first.parts;
+    draws = first.draws;
+    marks = λ weight. let s = same weight in let x = first.marks weight in omega arith;
+  }

@@ -1,0 +1,7 @@
+pub mod Words
+pub mod FreeWalk
+pub mod Walking
+pub mod Pieces
+pub mod Shapes
+pub mod Seats
+pub mod Stepping

@@ -1,0 +1,34 @@
+-- Which word of the table of counts stands for what.
+use Rattle.std.specs.Prelude.{◌≡◌, ℕ, ◌+◌, ◌-◌, ◌*◌}
+use Rattle.vol_layout.specs.declared.geometry.Geometry.{Geometry}
+use Rattle.count_table.specs.declared.rule.Shape.{Shape}
+
+-- how many data blocks a volume has (filsys.h)
+abbrev pub zone_len : Geometry → ℕ
+zone_len g = g.zone_end - g.zone_start
+
+-- the word that counts the places that name data block b (this project)
+abbrev pub place_word : Geometry → ℕ → ℕ
+place_word g b = 1 + (b - g.zone_start)
+
+-- the word that counts how often data block b is met in the free list (this project)
+abbrev pub free_word : Geometry → ℕ → ℕ
+free_word g b = 1 + (zone_len g + (b - g.zone_start))
+
+-- the word that counts the places of i-node i that name no data block (this project)
+abbrev pub bad_word : Geometry → ℕ → ℕ
+bad_word g i = 1 + (2 * zone_len g + (i - 1))
+
+-- the words that count the i-nodes of a kind: regular files, directories, special files, odd ones (this project)
+abbrev pub kind_word : Geometry → ℕ → ℕ
+kind_word g k = 1 + (2 * zone_len g + (g.last_inode + k))
+
+-- the word that has the least number, of no data block, that a place of i-node i names (this project)
+abbrev pub least_word : Geometry → ℕ → ℕ
+least_word g i = 1 + (2 * zone_len g + (g.last_inode + 4)) + (i - 1)
+
+-- a table of counts has these words, and a piece for the free list and one for each i-number (this project)
+pub record HasWords (g : Geometry) (shape : Shape) : Type 0 where
+  pub pieces : shape.pieces ≡ g.last_inode + 1
+  pub counts : shape.counts ≡ 2 * zone_len g + (g.last_inode + 4)
+  pub leasts : shape.leasts ≡ g.last_inode

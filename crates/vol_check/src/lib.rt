@@ -1,0 +1,20 @@
+//! What the blocks of an image are, whether it is sound or not, found by any number of threads.
+#![tactic(auto)]
+
+mod dealing;
+mod free_walk;
+mod gate;
+mod inode_marks;
+mod report;
+mod rest;
+mod seats;
+mod sweep;
+mod sweeps;
+#[cfg(test)]
+mod tests;
+mod words;
+
+pub use gate::{Gate, Open};
+pub use report::FreeFault;
+pub use seats::{CheckSeat, Piece};
+pub use sweeps::Sweep;

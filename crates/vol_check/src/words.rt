@@ -1,0 +1,58 @@
+//! Which word of the table of counts stands for what.
+ghost use Rattle.std.specs.Prelude.{◌≡◌, ◌^◌, ◌≤◌, ◌<◌, true};
+ghost use Rattle.vol_layout.specs.Geometry.{in_zone};
+ghost use Rattle.vol_check.specs.Words.{place_word, free_word, bad_word, kind_word, least_word, zone_len};
+
+use vol_layout::Geometry;
+
+/// How many data blocks the volume has.
+pub(crate) fn zone_len(geometry: &Geometry) -> usize
+    requires zone { geometry.now.zone_start < geometry.now.zone_end }
+    ensures exact { result ≡ zone_len geometry.now }
+    ensures bound { result < 2 ^ 32 }
+{
+    (geometry.zone_end - geometry.zone_start) as usize
+}
+
+/// The word that counts the places that name data block `b`.
+pub(crate) fn place_word(geometry: &Geometry, b: u32) -> usize
+    requires zone { in_zone geometry.now b ≡ true }
+    ensures { result ≡ place_word geometry.now b }
+{
+    1 + (b - geometry.zone_start) as usize
+}
+
+/// The word that counts how often data block `b` is met in the free list.
+pub(crate) fn free_word(geometry: &Geometry, b: u32) -> usize
+    requires zone { in_zone geometry.now b ≡ true }
+    ensures { result ≡ free_word geometry.now b }
+{
+    1 + (zone_len(geometry) + (b - geometry.zone_start) as usize)
+}
+
+/// The word that counts the places of i-node `i` that name no data block.
+pub(crate) fn bad_word(geometry: &Geometry, i: u16) -> usize
+    requires zone { geometry.now.zone_start < geometry.now.zone_end }
+    requires first { 1 ≤ i }
+    ensures { result ≡ bad_word geometry.now i }
+{
+    1 + (2 * zone_len(geometry) + (i - 1) as usize)
+}
+
+/// The word that counts the i-nodes of a kind: 0 for regular files, 1 for directories, 2 for special files, 3 for odd ones.
+pub(crate) fn kind_word(geometry: &Geometry, k: usize) -> usize
+    requires zone { geometry.now.zone_start < geometry.now.zone_end }
+    requires few { k ≤ 3 }
+    ensures { result ≡ kind_word geometry.now k }
+{
+    1 + (2 * zone_len(geometry) + (geometry.last_inode as usize + k))
+}
+
+/// The word that has the least number, of no data block, that a place of i-node `i` names.
+pub(crate) fn least_word(geometry: &Geometry, i: u16) -> usize
+    requires zone { geometry.now.zone_start < geometry.now.zone_end }
+    requires first { 1 ≤ i }
+    ensures { result ≡ least_word geometry.now i }
+{
+    1 + (2 * zone_len(geometry) + (geometry.last_inode as usize + 4)) + (i - 1) as usize
+}

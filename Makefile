@@ -26,7 +26,8 @@ test: build
 	$(RT) ci
 
 bench: build
-	bench/run.sh ./unixvol
+	cd crates/many_calls && $(RT) run -- 0 0 create
+	bench/run.sh ./unixvol crates/many_calls/out/many_calls
 
 install: build
 	install -d $(DESTDIR)$(PREFIX)/bin

@@ -1,13 +1,14 @@
 #!/usr/bin/env bash
 # Times the program against bench/plain, which does the same jobs in plain Rust, and compares what both write, byte by byte.
-# Usage: bench/run.sh PROGRAM. It needs rustc, some 900 MB of disk, and a machine that does nothing else.
+# Usage: bench/run.sh PROGRAM CALLS, the second being the built crates/many_calls. It needs rustc, some 900 MB of disk, and a machine that does nothing else.
 # Times are the best of five runs of the whole command, by turns; memory is the greatest that was resident in a run.
 # For jobs that mount a volume, the last column is that memory by two copies of the image and one of the file that is put.
 # A row ends with what it is above, where it is above what is wanted.
 # FOLDER names another place for the files than bench/out: one in memory shows the programs without the disk.
 set -uo pipefail
 export LC_ALL=C
-program=$(realpath "${1:?usage: bench/run.sh PROGRAM}")
+program=$(realpath "${1:?usage: bench/run.sh PROGRAM CALLS}")
+calls=$(realpath "${2:?usage: bench/run.sh PROGRAM CALLS}")
 bench=$(dirname "$(realpath "$0")")
 if ! command -v rustc > /dev/null; then
     echo 'bench: rustc is not there, which builds the plain program' >&2
@@ -100,8 +101,56 @@ against() {
         printf "\n" }'
 }
 
+# quickest WORD..: runs a command five times, and leaves the microseconds of the quickest run in `best`
+quickest() {
+    best=999999999
+    for _ in 1 2 3 4 5; do
+        microseconds output "$@"
+        [ "$taken" -lt "$best" ] && best=$taken
+    done
+}
+
+# difference LABEL TIMES OURS_WITHOUT OURS THEIRS_WITHOUT THEIRS: a row of the table, for what takes the time between two runs
+difference() {
+    awk -v label="$1" -v times="$2" -v ours="$(($4 - $3))" -v theirs="$(($6 - $5))" 'BEGIN {
+        printf "%-34s %9.1f %9.1f %6.2f", label, ours / 1000, theirs / 1000, ours / theirs
+        if (ours > times * theirs) printf "  time above %s", times
+        printf "\n" }'
+}
+
+# many DIRECTORIES NAMES: so many directories are made with so many files each, and then a byte is written into each file;
+# two rows of the table. Both programs leave the same volume.
+many() {
+    local directories=$1 names=$2 none theirs_none created theirs_created written theirs_written
+    "$calls" "$directories" "$names" write image > ours || exit 1
+    "$plain" calls "$directories" "$names" write image > theirs || exit 1
+    if ! cmp ours theirs; then
+        echo "bench: $directories directories of $names names: the two programs differ" >&2
+        exit 1
+    fi
+    quickest "$calls" 0 0 create
+    none=$best
+    quickest "$plain" calls 0 0 create
+    theirs_none=$best
+    quickest "$calls" "$directories" "$names" create
+    created=$best
+    quickest "$plain" calls "$directories" "$names" create
+    theirs_created=$best
+    quickest "$calls" "$directories" "$names" write
+    written=$best
+    quickest "$plain" calls "$directories" "$names" write
+    theirs_written=$best
+    difference "10,000 Creates, $names names each" 1.3 "$none" "$created" "$theirs_none" "$theirs_created"
+    difference "10,000 Writes, $names names each" 1.3 "$created" "$written" "$theirs_created" "$theirs_written"
+}
+
 echo "load before: $(cut -d ' ' -f 1-3 /proc/loadavg)"
 printf '%-34s %9s %9s %6s %9s %9s %6s %6s\n' job 'ms' 'plain ms' ratio 'MiB' 'plain MiB' ratio copies
+
+# Calls on files of directories of 100 and of 5,000 names.
+many 100 100
+many 2 5000
+rm -f ours theirs
 
 # A file of 16,000,000 bytes in a volume of the sixth edition, and one of 200,000,000 in one of the seventh.
 "$plain" sample 6 six.img 33000 100 16000000 || exit 1

@@ -8,8 +8,10 @@
 //! plain rm 6|7 IMAGE PATH NOW
 //! plain sample 6|7 IMAGE FSIZE IBLOCKS BYTES     a new volume with a file of so many bytes, the i-node after the root's
 //! plain fill 6|7 IMAGE FSIZE IBLOCKS FILES       a new volume with so many files of various sizes, half of them in /many
+//! plain calls DIRECTORIES NAMES create|write [image]     so many calls, as `many_calls` makes them
 //! plain sparse 6|7 IMAGE FSIZE IBLOCKS COUNT     a new volume with so many directories of the greatest size, nearly all holes
 
+mod calls;
 mod files;
 mod judging;
 mod samples;
@@ -17,6 +19,7 @@ mod saving;
 mod tree;
 mod volume;
 
+use calls::Session;
 use saving::save;
 use std::env;
 use std::error::Error;
@@ -122,7 +125,22 @@ fn run(words: &[String]) -> Outcome<()> {
             volume.make_sparse(count.parse()?)?;
             save(&volume, image)
         }
-        _ => Err("plain cat|ls|mkfs|put|rm|sample|fill|sparse, see bench/plain/main.rs".into()),
+        ["calls", directories, names, job, ref rest @ ..] => {
+            let session =
+                Session::with_calls(directories.parse()?, names.parse()?, job == "write")?;
+            black_box((&session.base, &session.journal));
+            print(|output| {
+                if rest.is_empty() {
+                    writeln!(output, "{} calls", session.journal.len())?;
+                } else {
+                    output.write_all(&session.volume.bytes)?;
+                }
+                Ok(())
+            })
+        }
+        _ => {
+            Err("plain cat|ls|mkfs|put|rm|sample|fill|sparse|calls, see bench/plain/main.rs".into())
+        }
     }
 }
 

@@ -108,11 +108,61 @@ impl Volume {
 
     /// Makes an empty file.
     pub fn make_file(&mut self, dir: usize, name: &[u8], now: usize) -> Outcome<usize> {
+        let index = self.free_slot(dir);
+        self.make_file_at(dir, index, name, now)
+    }
+
+    /// Makes an empty file, whose entry goes into a slot that is empty or the next one.
+    fn make_file_at(
+        &mut self,
+        dir: usize,
+        index: usize,
+        name: &[u8],
+        now: usize,
+    ) -> Outcome<usize> {
         let ino = self.take_inode().ok_or("103 NoInode")?;
         self.put_inode(ino, 0o100644, 1, now);
-        self.enter(dir, name, ino, now)?;
+        self.enter_at(dir, index, name, ino, now)?;
         self.put_time(now);
         Ok(ino)
+    }
+
+    /// Makes an empty file, where its directory hasn't the name: looks for the name and for a free slot in one pass.
+    pub fn create(&mut self, path: &str, now: usize) -> Outcome<usize> {
+        let names = components(path);
+        let (name, above) = names.split_last().ok_or("17 Exists")?;
+        let dir = self.directory(self.walk(above)?)?;
+        let mut free = None;
+        for (index, slot) in self.slots(dir).enumerate() {
+            if slot.ino == 0 {
+                free = free.or(Some(index));
+            } else if slot.name == *name {
+                return Err("17 Exists".into());
+            }
+        }
+        let index = free.unwrap_or(self.size(dir) / SLOT);
+        self.make_file_at(dir, index, name, now)
+    }
+
+    /// Makes an empty directory at a path.
+    pub fn mkdir(&mut self, path: &str, now: usize) -> Outcome<usize> {
+        let names = components(path);
+        let (name, above) = names.split_last().ok_or("17 Exists")?;
+        let dir = self.directory(self.walk(above)?)?;
+        if self.find(dir, name).is_some() {
+            return Err("17 Exists".into());
+        }
+        self.make_directory(dir, name, now)
+    }
+
+    /// Gives an empty file this body.
+    pub fn write_at(&mut self, path: &str, body: &[u8], now: usize) -> Outcome<()> {
+        let ino = self.walk(&components(path))?;
+        match self.kind(ino) {
+            Kind::Regular => self.write(ino, body, now),
+            Kind::Directory => Err("21 IsDirectory".into()),
+            _ => Err("102 NotRegular".into()),
+        }
     }
 
     /// Makes an empty directory.
@@ -156,11 +206,27 @@ impl Volume {
         Ok(())
     }
 
+    /// The first empty slot of a directory, or the one after its last.
+    fn free_slot(&self, dir: usize) -> usize {
+        let index = self.slots(dir).position(|slot| slot.ino == 0);
+        index.unwrap_or(self.size(dir) / SLOT)
+    }
+
     /// Puts a new entry into the first empty slot of a directory, or at its end.
     fn enter(&mut self, dir: usize, name: &[u8], ino: usize, now: usize) -> Outcome<()> {
+        self.enter_at(dir, self.free_slot(dir), name, ino, now)
+    }
+
+    /// Puts a new entry into a slot of a directory.
+    fn enter_at(
+        &mut self,
+        dir: usize,
+        index: usize,
+        name: &[u8],
+        ino: usize,
+        now: usize,
+    ) -> Outcome<()> {
         let size = self.size(dir);
-        let index = self.slots(dir).position(|slot| slot.ino == 0);
-        let index = index.unwrap_or(size / SLOT);
         let end = (index + 1) * SLOT;
         if end > self.layout.greatest {
             return Err("27 TooBig".into());

@@ -1,0 +1,135 @@
+//! Makes many calls on a new volume in memory, for the benchmark, which takes the time of it.
+//!
+//! many_calls DIRECTORIES NAMES create|write [image]
+//!
+//! Makes a volume of the seventh edition of 16,000 blocks, in it so many directories, and in each so many empty files. With
+//! `write` it then writes one byte into each of them. Prints how many calls were accepted or, with a further word, the bytes of
+//! the volume. Ends with status 1 where a call is refused.
+#![tactic(auto)]
+
+use pdp_words::{IntoWrite, write_all};
+use std::alloc::Global;
+use std::env;
+use std::process::ExitCode;
+use vol_dir::Cred;
+use vol_layout::Edition;
+use vol_volume::{Bytes, Call, Volume, mkfs};
+
+/// The user who makes all calls, to whom everything is permitted.
+const ROOT: Cred = Cred { uid: 0, gid: 0 };
+
+/// What one run does.
+#[derive(Clone, Copy)]
+struct Task {
+    directories: u32,
+    names: u32,
+    writes: bool,
+    prints_image: bool,
+}
+
+impl Task {
+    /// The task that these words ask for, of which the first is the program's own name.
+    fn read(words: &[String]) -> Option<Task> {
+        Some(Task {
+            directories: words.get(1)?.as_str().parse::<u32>().ok()?,
+            names: words.get(2)?.as_str().parse::<u32>().ok()?,
+            writes: words.get(3)?.as_str() == "write",
+            prints_image: words.len() > 4,
+        })
+    }
+
+    /// Makes the calls on a volume. None where one is refused.
+    fn make_calls(self, alloc: Global, volume: &mut Volume) -> Option<()> {
+        for d in 0..self.directories {
+            accept(alloc, volume, mkdir(alloc, d)?)?;
+            for n in 0..self.names {
+                accept(alloc, volume, create(alloc, d, n)?)?;
+            }
+        }
+        if self.writes {
+            self.write_files(alloc, volume)?;
+        }
+        Some(())
+    }
+
+    /// Writes one byte into each file.
+    fn write_files(self, alloc: Global, volume: &mut Volume) -> Option<()> {
+        for d in 0..self.directories {
+            for n in 0..self.names {
+                accept(alloc, volume, write(alloc, d, n)?)?;
+            }
+        }
+        Some(())
+    }
+}
+
+/// The call that makes directory number `d`.
+fn mkdir(alloc: Global, d: u32) -> Option<Call> {
+    let path = format!(in alloc; "/d{d}").ok()?;
+    Some(Call::Mkdir {
+        cred: ROOT,
+        now: 1,
+        path: Bytes::from_vec(path.into_bytes()),
+        perm: 0o755,
+    })
+}
+
+/// The call that makes file number `n` of a directory.
+fn create(alloc: Global, d: u32, n: u32) -> Option<Call> {
+    Some(Call::Create {
+        cred: ROOT,
+        now: 2,
+        path: file_path(alloc, d, n)?,
+        perm: 0o644,
+    })
+}
+
+/// The call that writes a byte into file number `n` of a directory.
+fn write(alloc: Global, d: u32, n: u32) -> Option<Call> {
+    Some(Call::Write {
+        cred: ROOT,
+        now: 3,
+        path: file_path(alloc, d, n)?,
+        offset: 0,
+        bytes: Bytes::from_vec(Vec::from_slice(alloc, b"x").ok()?),
+    })
+}
+
+/// The path of file number `n` of a directory.
+fn file_path(alloc: Global, d: u32, n: u32) -> Option<Bytes> {
+    let path = format!(in alloc; "/d{d}/f{n}").ok()?;
+    Some(Bytes::from_vec(path.into_bytes()))
+}
+
+/// Makes a call. None where it is refused.
+fn accept(alloc: Global, volume: &mut Volume, call: Call) -> Option<()> {
+    volume.call(alloc, call).ok()?;
+    Some(())
+}
+
+/// A new volume, mounted.
+fn new_volume(alloc: Global) -> Option<Volume> {
+    let bytes = mkfs(alloc, Edition::V7, 16_000, 1_300, 0, 0, 0).ok()?;
+    Volume::mount(alloc, Edition::V7, bytes).ok()
+}
+
+/// Does what the words ask for, and prints what came of it.
+fn run(rt: &HostRuntime) -> Option<()> {
+    let words = env::args(rt).ok()?.collect::<Vec<String>>(rt.alloc()).ok()?;
+    let task = Task::read(words.as_slice())?;
+    let mut volume = new_volume(rt.alloc())?;
+    task.make_calls(rt.alloc(), &mut volume)?;
+    let mut output = IntoWrite::new(rt.stdout());
+    if task.prints_image {
+        return write_all(&mut output, &volume.unmount()).ok();
+    }
+    let line = format!(in rt.alloc(); "{} calls\n", volume.journal().len()).ok()?;
+    write_all(&mut output, line.as_bytes()).ok()
+}
+
+fn main(rt: HostRuntime) -> ExitCode {
+    match run(&rt) {
+        Some(()) => ExitCode::SUCCESS,
+        None => ExitCode::from(1),
+    }
+}

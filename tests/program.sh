@@ -468,7 +468,7 @@ misread 'error: unexpected argument' mkfs 6 volumes/kept 20 2 0 0 0 0
 saves 'a file whose command line was misread' volumes/kept hello
 
 # Words of the commands on trees that are none of the command line's.
-for command in 'ls /' 'get /a' 'put /a hello 1' 'rm /a 1' 'rmdir /a 1' 'mkdir /a 1' 'ln /a /b 1'; do
+for command in 'ls /' 'get /a' 'put /a hello 1' 'rm /a 1' 'rmdir /a 1' 'mkdir /a 1' 'ln /a /b 1' 'chmod /a 644 1' 'chown /a 1 2 1'; do
     read -r -a given <<< "$command"
     misread "error: invalid value '8'" "${given[0]}" 8 volumes/a "${given[@]:1}"
     misread 'error: the following required arguments were not provided' "${given[0]}" 6 volumes/a "${given[@]:2}"
@@ -480,6 +480,16 @@ for number in 4294967296 +1 0x1 '' one; do
     misread "error: invalid value '$number' for '<NOW>'" rmdir 6 volumes/a /a "$number"
     misread "error: invalid value '$number' for '<NOW>'" mkdir 6 volumes/a /a "$number"
     misread "error: invalid value '$number' for '<NOW>'" ln 6 volumes/a /a /b "$number"
+    misread "error: invalid value '$number' for '<NOW>'" chmod 6 volumes/a /a 644 "$number"
+    misread "error: invalid value '$number' for '<NOW>'" chown 6 volumes/a /a 1 2 "$number"
+done
+for number in 10000 99999999999999999999 8 0648 +1 0x1 0o17 u+x '' ' 1' '1 ' one; do
+    misread "error: invalid value '$number' for '<PERM>'" chmod 6 volumes/a / "$number" 1
+done
+misread 'error: unexpected argument' chmod 6 volumes/a / -x 1
+for number in 65536 99999999999999999999 +1 0x1 '' ' 1' root; do
+    misread "error: invalid value '$number' for '<UID>'" chown 6 volumes/a / "$number" 2 1
+    misread "error: invalid value '$number' for '<GID>'" chown 6 volumes/a / 1 "$number" 1
 done
 saves 'a volume whose command line was misread' volumes/a made
 
@@ -560,6 +570,46 @@ for numbers in '6 1 32 31' '7 2 16 15'; do
     prints none mkdir "$edition" "$tree" /d 1016
 done
 
+# Permissions and owners, which stand in the i-nodes: in the sixth edition as mode, links, user and group in the first five
+# bytes, in the seventh as two bytes each in the first eight.
+# holds LABEL FILE AT HEX: FILE has these bytes from byte AT on
+holds() {
+    local digits=${4// /}
+    has "$1" "${digits,,}" "$(od -An -v -tx1 -j "$3" -N $((${#digits} / 2)) "$2" | tr -d ' \n')"
+}
+
+owned=volumes/owned
+# Each row: the edition; where the i-nodes of the root and of /hello begin; the greatest number of a user or group; what stands
+# in the i-node of /hello when it is put, after chmod, after chown, and after chown to the greatest numbers; and in the root's.
+while IFS=: read -r edition root_at at greatest put_as permitted given greatly top; do
+    prints none mkfs "$edition" "$owned" 100 2 0 0 1000
+    prints none put "$edition" "$owned" /hello hello 1001
+    holds 'the i-node of a file that was put' "$owned" "$at" "$put_as"
+    prints none chmod "$edition" "$owned" /hello 4751 1002
+    holds 'the i-node of a file with other permissions' "$owned" "$at" "$permitted"
+    prints none chown "$edition" "$owned" hello/ 3 17 1003
+    holds 'the i-node of a file with another owner' "$owned" "$at" "$given"
+    prints none chown "$edition" "$owned" /hello "$greatest" "$greatest" 1004
+    holds 'the i-node of a file with the greatest owner' "$owned" "$at" "$greatly"
+    prints none chmod "$edition" "$owned" / 000700 1005
+    holds 'the i-node of a root with other permissions' "$owned" "$root_at" "$top"
+    cp "$owned" before
+    refuses 1 'unixvol: 2 NoEntry' chmod "$edition" "$owned" /none 644 2000
+    refuses 1 'unixvol: 20 NotDirectory' chmod "$edition" "$owned" /hello/a 644 2000
+    refuses 1 'unixvol: 2 NoEntry' chown "$edition" "$owned" /none 3 17 2000
+    refuses 1 'unixvol: 20 NotDirectory' chown "$edition" "$owned" /hello/a 3 17 2000
+    refuses 1 'unixvol: 104 BadId' chown "$edition" "$owned" /hello $((greatest + 1)) 17 2000
+    refuses 1 'unixvol: 104 BadId' chown "$edition" "$owned" /none 3 $((greatest + 1)) 2000
+    saves 'a volume whose permissions and owners stay' "$owned" before
+    # As user 0 all that there was can still be done.
+    prints hello get "$edition" "$owned" /hello
+    prints none put "$edition" "$owned" /hello none 1006
+    prints none rm "$edition" "$owned" /hello 1007
+done <<'END'
+6:1024:2016:255:A4 81 01 00 00:E9 89 01 00 00:E9 89 01 03 11:E9 89 01 FF FF:C0 C1 02 00 00
+7:1088:1984:32767:A4 81 01 00 00 00 00 00:E9 89 01 00 00 00 00 00:E9 89 01 00 03 00 11 00:E9 89 01 00 FF 7F FF 7F:C0 41 02 00 00 00 00 00
+END
+
 # Refusals that want a volume of their own: i-nodes, links, sizes, special files.
 edition=6
 prints none mkfs 6 volumes/small 20 1 0 0 0
@@ -576,6 +626,9 @@ put volumes/special $((1024 + 32 * 31)) 'A4 A1'
 lists volumes/special / '    1 .' '    1 ..' '   32 tty'
 refuses 1 'unixvol: 102 NotRegular' get 6 volumes/special /tty
 refuses 1 'unixvol: 102 NotRegular' put 6 volumes/special /tty hello 1
+prints none chmod 6 volumes/special /tty 600 1
+prints none chown 6 volumes/special /tty 7 8 1
+holds 'the i-node of a special file' volumes/special $((1024 + 32 * 31)) '80 A1 01 07 08'
 prints none ln 6 volumes/special /tty /terminal 1
 prints none rm 6 volumes/special /tty 1
 prints none rm 6 volumes/special /terminal 1
@@ -586,6 +639,8 @@ cp volumes/a unsound
 put unsound 1026 '05'
 refuses 1 'unixvol: unsound, rule 12' ls 6 unsound /
 refuses 1 'unixvol: unsound, rule 12' put 6 unsound /a hello 1
+refuses 1 'unixvol: unsound, rule 12' chmod 6 unsound / 644 1
+refuses 1 'unixvol: unsound, rule 12' chown 6 unsound / 1 2 1
 refuses 1 'unixvol: unsound, rule 1' get 6 none /
 refuses 3 'unixvol: cannot read missing' ls 6 missing /
 refuses 3 'unixvol: cannot read .' rm 6 . / 1
@@ -630,7 +685,7 @@ wants 'rm where the new file finds no room' 3 none line
 saves 'a volume whose new file found no room' volumes/linked before
 
 # An image that is a pipe, a socket or a terminal isn't changed, and isn't read either; it can be looked at.
-for command in 'put /a hello 1' 'rm /a 1' 'rmdir /a 1' 'mkdir /a 1' 'ln /a /b 1'; do
+for command in 'put /a hello 1' 'rm /a 1' 'rmdir /a 1' 'mkdir /a 1' 'ln /a /b 1' 'chmod /a 644 1' 'chown /a 1 2 1'; do
     read -r -a given <<< "$command"
     refuses 3 'unixvol: cannot write pipe' "${given[0]}" 6 pipe "${given[@]:1}"
     { cat volumes/linked; echo more; } | { "$program" "${given[0]}" 6 /dev/stdin "${given[@]:1}" > output 2> error; echo $? > status; cat > rest; }
@@ -686,6 +741,19 @@ for command in 'get large /great' 'cat large 32'; do
     echo 'unixvol: cannot write -' > line
     wants "${given[0]} of a great file to a full device" 3 none line
 done
+
+# A file of 100,000,000 bytes, of which no two blocks are equal, into a volume that it nearly fills, and out again.
+seq -w 12000000 | head -c 100000000 > great
+prints none mkfs 7 large 196880 4 0 0 1
+prints none put 7 large /great great 1
+has 'the size of a volume with a great file' 100802560 "$(wc -c < large)"
+gives great get 7 large /great
+gives great cat 7 large 32
+refuses 1 'unixvol: 28 NoSpace' put 7 large /more great 1
+prints none put 7 large /great great 2 # into the blocks that it gave back
+gives great get 7 large /great
+prints none rm 7 large /great 1
+rm great large
 
 # A command that is refused leaves the image with its i-number and its time of modification.
 touch -d '2001-02-03 04:05:06.789' absolute
@@ -832,6 +900,9 @@ prints motd get 6 disk.img /etc/motd
 prints none ln 6 disk.img /etc/motd /motd 173750403
 prints none rm 6 disk.img /etc/motd 173750404
 prints none rmdir 6 disk.img /etc 173750405
+prints none chmod 6 disk.img /motd 0600 173750406
+prints none chown 6 disk.img /motd 3 1 173750407
+holds 'the i-node of the file of the examples' disk.img $((1024 + 32 * 99)) '80 81 01 03 01'
 printf '%s\n' '    1 .' '    1 ..' '  100 motd' > lines
 prints lines ls 6 disk.img /
 put disk.img 1026 '05'
@@ -852,7 +923,7 @@ helps --help
 helps help
 helps cat --help
 helps help cat
-for command in mkfs ls get put rm mkdir rmdir ln; do
+for command in mkfs ls get put rm mkdir rmdir ln chmod chown; do
     helps "$command" --help
     helps help "$command"
 done

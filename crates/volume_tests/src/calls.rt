@@ -13,6 +13,7 @@ use vol_layout::{Edition, Geometry};
 use vol_volume::{Bytes, Call, Done, Record, Volume};
 
 mod borders;
+mod cutting;
 mod directories;
 mod files;
 mod i_numbers;
@@ -20,6 +21,7 @@ mod junk;
 mod memory;
 mod refusals;
 mod replays;
+mod truncations;
 
 /// The moment of the calls, which stands on the disk as 02 01 04 03.
 const LATER: u32 = 0x0102_0304;
@@ -41,8 +43,8 @@ enum Asked<'a> {
     Write(&'a [u8], u32, &'a [u8]),
     /// That writes so many of one byte into a file from its first byte on.
     Fill(&'a [u8], usize, u8),
-    /// By which a file becomes empty.
-    Truncate(&'a [u8]),
+    /// By which the first bytes of a file stay, so many.
+    Truncate(&'a [u8], u32),
 }
 
 /// A step of a run.
@@ -129,10 +131,12 @@ fn call_by(rt: &impl Abort, alloc: Global, cred: Cred, asked: Asked) -> Call {
             let path = bytes_of(rt, alloc, path);
             write(cred, path, 0, Bytes::from_vec(filled(rt, alloc, len, byte)))
         }
-        Asked::Truncate(path) => {
-            let path = bytes_of(rt, alloc, path);
-            Call::Truncate { cred, now, path }
-        }
+        Asked::Truncate(path, length) => Call::Truncate {
+            cred,
+            now,
+            path: bytes_of(rt, alloc, path),
+            length,
+        },
     }
 }
 
@@ -192,8 +196,7 @@ fn check_number(rt: &impl Abort, alloc: Global, volume: &Volume, path: &[u8], wa
     assert_eq!(rt; stat(rt, alloc, volume, ROOT, path).number, wanted);
 }
 
-/// The journal of a volume, made again on the bytes that were mounted, once by calls and once by its
-/// records, gives the same answers and the same image.
+/// The journal of a volume, made again on its base, once by calls and once by its records, gives the same answers and the same image.
 fn check_replays(rt: &impl Abort, alloc: Global, volume: &Volume) {
     let mut called = base_of(rt, alloc, volume);
     for record in volume.journal() {
@@ -204,7 +207,7 @@ fn check_replays(rt: &impl Abort, alloc: Global, volume: &Volume) {
     check_redone(rt, alloc, volume);
 }
 
-/// The records of a volume, made again on the bytes that were mounted, give the same image.
+/// The records of a volume, made again on its base, give the same image.
 fn check_redone(rt: &impl Abort, alloc: Global, volume: &Volume) {
     let mut redone = base_of(rt, alloc, volume);
     for record in volume.journal() {
@@ -213,7 +216,7 @@ fn check_redone(rt: &impl Abort, alloc: Global, volume: &Volume) {
     check_whole(rt, redone.image().as_bytes(), volume.image().as_bytes());
 }
 
-/// The bytes that were mounted as a volume, mounted once more.
+/// The base of a volume, mounted as one.
 fn base_of(rt: &impl Abort, alloc: Global, volume: &Volume) -> Volume {
     let bytes = copied(rt, alloc, volume.base());
     mount(rt, alloc, volume.edition(), bytes)
@@ -293,10 +296,16 @@ fn copied_call(rt: &impl Abort, alloc: Global, call: &Call) -> Call
             offset: *offset,
             bytes: bytes_of(rt, alloc, bytes.as_slice()),
         },
-        Call::Truncate { cred, now, path } => Call::Truncate {
+        Call::Truncate {
+            cred,
+            now,
+            path,
+            length,
+        } => Call::Truncate {
             cred: *cred,
             now: *now,
             path: bytes_of(rt, alloc, path.as_slice()),
+            length: *length,
         },
         _ => copied_making(rt, alloc, call),
     }

@@ -16,7 +16,7 @@ const VOLUME: VolumeFile<'static> = VolumeFile {
 type Row = (&'static [&'static str], Job<'static>);
 
 /// One row for each command.
-static ROWS: [Row; 7] = [
+static ROWS: [Row; 9] = [
     (&["ls", "7", "disk", "/d"], Job::Ls { path: "/d" }),
     (&["get", "7", "disk", "/d/f"], Job::Get { path: "/d/f" }),
     (
@@ -48,6 +48,23 @@ static ROWS: [Row; 7] = [
             from: "/from",
             to: "/to",
             now: 3,
+        },
+    ),
+    (
+        &["chmod", "7", "disk", "/d", "07777", "4"],
+        Job::Chmod {
+            path: "/d",
+            perm: 4095,
+            now: 4,
+        },
+    ),
+    (
+        &["chown", "7", "disk", "/d", "65535", "010", "5"],
+        Job::Chown {
+            path: "/d",
+            uid: 65_535,
+            gid: 10,
+            now: 5,
         },
     ),
 ];

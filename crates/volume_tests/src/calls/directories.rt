@@ -208,7 +208,7 @@ static TWO_NAMES: [Step; 5] = [
 ];
 
 static LAST_NAME: [Step; 4] = [
-    Call(Truncate(b"/f"), Err(Refusal::NoEntry)),
+    Call(Truncate(b"/f", 0), Err(Refusal::NoEntry)),
     Call(Unlink(b"/g"), Ok(Plain)),
     Call(Link(b"/g", b"/h"), Err(Refusal::NoEntry)),
     Call(Create(b"/h", 0o600), Ok(Made(16))),

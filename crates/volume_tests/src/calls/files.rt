@@ -1,11 +1,11 @@
 // Files: the blocks that writes take, where they are named, and what is read back.
-use super::Asked::{Create, Fill, Truncate, Write};
+use super::Asked::{Create, Fill, Write};
 use super::Step::{self, All, At, Call};
 use super::{check_run, check_steps};
 use crate::fixtures::{ROOT, check_read, edited, new_volume, seventh, sixth, stat};
 use vol_dir::Refusal;
 use vol_layout::Edition;
-use vol_volume::Done::{Made, Plain, Wrote};
+use vol_volume::Done::{Made, Wrote};
 
 /// The greatest size of a file of the seventh edition.
 const GREATEST: u32 = 1_082_201_088;
@@ -191,21 +191,4 @@ fn a_write_of_no_bytes_is_recorded(rt: HostRuntime) {
         assert_eq!(rt; stat(&rt, alloc, &volume, ROOT, b"/f"), before);
         assert_eq!(rt; volume.journal().len(), 3);
     }
-}
-
-static EMPTIED: [Step; 8] = [
-    Call(Create(b"/f", 0o644), Ok(Made(32))),
-    Call(Write(b"/f", 0, b"x"), Ok(Wrote(1))),
-    Call(Write(b"/f", 4096, b"y"), Ok(Wrote(1))),
-    Call(Truncate(b"/f"), Ok(Plain)),
-    At(516, b"\x10\x00"),
-    At(544, b"\x07\x00\x05\x00\x06\x00"),
-    At(2016, b"\xA4\x81\x01\x00\x00\x00\x00\x00"),
-    All(2024, 16, 0),
-];
-
-#[test]
-fn an_emptied_file_gives_its_blocks_back(rt: HostRuntime) {
-    let alloc = rt.alloc();
-    check_run(&rt, alloc, &mut sixth(&rt, alloc), &EMPTIED);
 }

@@ -79,7 +79,7 @@ static WITHOUT_NUMBERS: [Step; 5] = [
     Call(Link(b"/g", b"/h"), Ok(Plain)),
     Call(Unlink(b"/f"), Ok(Plain)),
     Call(Write(b"/g", 0, b"x"), Ok(Wrote(1))),
-    Call(Truncate(b"/h"), Ok(Plain)),
+    Call(Truncate(b"/h", 0), Ok(Plain)),
 ];
 
 #[test]

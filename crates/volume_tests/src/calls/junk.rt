@@ -40,7 +40,7 @@ fn no_call_on_something_else_changes_what_no_tree_shows(rt: HostRuntime) {
             Fill(b"/d/f", 7000, 0xFF),
             Link(b"/d/f", b"/g"),
             Unlink(b"/d/f"),
-            Truncate(b"/g"),
+            Truncate(b"/g", 0),
             Write(b"/g", 3, b"again"),
             Unlink(b"/g"),
             Rmdir(b"/d"),

@@ -19,9 +19,9 @@ const OTHER: Cred = Cred { uid: 6, gid: 6 };
 static BY_CLASS: [(Cred, Asked, Result<Done, Refusal>); 6] = [
     (OWNER, Create(b"/f", 0o047), Ok(Made(32))),
     (OWNER, Write(b"/f", 0, b"xyz"), Err(Refusal::Access)),
-    (OWNER, Truncate(b"/f"), Err(Refusal::Access)),
+    (OWNER, Truncate(b"/f", 0), Err(Refusal::Access)),
     (MEMBER, Write(b"/f", 0, b"xyz"), Err(Refusal::Access)),
-    (MEMBER, Truncate(b"/f"), Err(Refusal::Access)),
+    (MEMBER, Truncate(b"/f", 1), Err(Refusal::Access)),
     (OTHER, Write(b"/f", 0, b"abc"), Ok(Wrote(3))),
 ];
 

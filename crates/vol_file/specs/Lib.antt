@@ -7,3 +7,4 @@ pub mod Need
 pub mod Rules
 pub mod Shape
 pub mod Steps
+pub mod Visits

@@ -9,6 +9,7 @@ mod pieces;
 pub mod pointers;
 pub mod reading;
 pub mod truncating;
+pub mod visiting;
 mod ways;
 pub mod writing;
 
@@ -18,4 +19,5 @@ pub use needing::need;
 pub use pointers::next_pointer;
 pub use reading::read;
 pub use truncating::truncate;
+pub use visiting::read_range;
 pub use writing::write;

@@ -1,0 +1,56 @@
+//! Going over a range of the logical blocks of a file.
+ghost use Rattle.std.specs.Prelude.{◌≡◌, ℕ, ◌+◌, ◌^◌, ◌<◌, ◌≤◌, length, slice_index};
+ghost use Rattle.std.specs.List.{FoldsTo, range_with_len};
+ghost use Rattle.vol_layout.specs.Body.{zone_byte};
+ghost use Rattle.vol_layout.specs.Geometry.{Fits};
+ghost use Rattle.vol_file.specs.Visits.{Visits};
+
+use crate::block_map::number_at;
+use pdp_words::{BLOCK, Image};
+use vol_layout::i_list::mode;
+use vol_layout::{Form, Geometry};
+
+/// Calls `visit` with the 512 bytes of each of `count` logical blocks of i-node `i`, from 1 to the last, in their
+/// order from block `first` on. Holes, numbers outside the data zone and blocks past those that a file can have read
+/// as zeros; so does all of an i-node that is no regular file or directory. What is stored past the size is handed
+/// out too.
+///
+/// Takes no memory, and copies nothing. Costs the way of each block.
+pub fn read_range<F: FnMut(&[u8])>(
+    image: &Image,
+    geometry: &Geometry,
+    i: u16,
+    first: u32,
+    count: u32,
+    mut visit: F,
+)
+    requires fits { Fits geometry.now image.now }
+    requires first { 1 ≤ i }
+    requires last { i ≤ geometry.now.last_inode }
+    requires range { first + count < 2 ^ 32 }
+    requires callable { F.IsAlwaysCallable visit }
+    ensures { (end : F) × FoldsTo (Visits F.FnMut geometry.now image.now i) visit (range_with_len first count) end }
+{
+    let form = Form::of(geometry.edition, mode(image, geometry, i));
+    let hole = [0; BLOCK];
+    for b in first..first + count {
+        let block = number_at(image, geometry, i, form, b);
+        visit(block_bytes(image, geometry, block, &hole));
+    }
+}
+
+/// The bytes of block `k`, or those of `hole` where `k` is no data block.
+#[tactic(auto, unfolding(vol_layout::specs::Body::zone_byte))]
+fn block_bytes<'a>(image: &'a Image, geometry: &Geometry, k: u32, hole: &'a [u8]) -> &'a [u8]
+    requires fits { Fits geometry.now image.now }
+    requires len { length hole.now ≡ 512 }
+    requires zeros { (r : ℕ) → r < 512 → slice_index hole.now r ≡ 0 }
+    ensures len { length result.now ≡ 512 }
+    ensures bytes { (r : ℕ) → r < 512 → slice_index result.now r ≡ zone_byte geometry.now image.now k r }
+{
+    if geometry.in_zone(k) {
+        image.block(k)
+    } else {
+        hole
+    }
+}

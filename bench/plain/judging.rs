@@ -20,16 +20,23 @@ struct Entries {
 impl Volume {
     /// Tests the rules from the third on; the fault names the least that is broken.
     pub fn judge(&self) -> Outcome<()> {
-        match self.broken_rule() {
+        self.judge_rules(true)
+    }
+
+    /// The same without those of the free list.
+    pub fn judge_but_free(&self) -> Outcome<()> {
+        self.judge_rules(false)
+    }
+
+    fn judge_rules(&self, with_free: bool) -> Outcome<()> {
+        let broken = self
+            .broken_inode_rule()
+            .or_else(|| self.broken_block_rule(with_free))
+            .or_else(|| self.broken_directory_rule());
+        match broken {
             Some(rule) => Err(format!("unsound, rule {rule}").into()),
             None => Ok(()),
         }
-    }
-
-    fn broken_rule(&self) -> Option<u8> {
-        self.broken_inode_rule()
-            .or_else(|| self.broken_block_rule())
-            .or_else(|| self.broken_directory_rule())
     }
 
     fn broken_inode_rule(&self) -> Option<u8> {
@@ -52,7 +59,7 @@ impl Volume {
         (1..=self.last_inode()).any(is_wrong).then_some(4)
     }
 
-    fn broken_block_rule(&self) -> Option<u8> {
+    fn broken_block_rule(&self, with_free: bool) -> Option<u8> {
         let mut named = vec![false; self.zone_end];
         let mut is_twice = false;
         for ino in 1..=self.last_inode() {
@@ -66,6 +73,9 @@ impl Volume {
                     }
                 }
             }
+        }
+        if !with_free {
+            return is_twice.then_some(7);
         }
         let Some(stacked) = self.free_blocks() else {
             return Some(6);

@@ -6,14 +6,24 @@
 //! plain mkfs 6|7 IMAGE FSIZE IBLOCKS UID GID NOW
 //! plain put 6|7 IMAGE PATH FILE NOW
 //! plain rm 6|7 IMAGE PATH NOW
+//! plain icheck|dcheck|ncheck 6|7 IMAGE
+//! plain salvage 6|7 IMAGE
+//! plain migrate OLD NEW FSIZE IBLOCKS NOW
+//! plain play 6|7 IMAGE SCRIPT..
+//! plain deep 6|7 IMAGE FSIZE IBLOCKS COUNT       a new volume with so many directories, one below the other
+//! plain names 6|7 IMAGE FSIZE IBLOCKS COUNT      a new volume whose directory /many has so many names of two files
+//! plain script FOLDER CALLS half|whole           a script of so many calls below /FOLDER, with as many answers between them, if half
 //! plain sample 6|7 IMAGE FSIZE IBLOCKS BYTES     a new volume with a file of so many bytes, the i-node after the root's
 //! plain fill 6|7 IMAGE FSIZE IBLOCKS FILES       a new volume with so many files of various sizes, half of them in /many
 //! plain calls DIRECTORIES NAMES create|write [image]     so many calls, as `many_calls` makes them
 //! plain sparse 6|7 IMAGE FSIZE IBLOCKS COUNT     a new volume with so many directories of the greatest size, nearly all holes
 
 mod calls;
+mod checking;
 mod files;
 mod judging;
+mod migrating;
+mod playing;
 mod samples;
 mod saving;
 mod tree;
@@ -110,6 +120,55 @@ fn run(words: &[String]) -> Outcome<()> {
             mounted.volume.unlink(path, now)?;
             mounted.save(image)
         }
+        ["icheck", edition, image] => {
+            let volume = open(edition, image)?;
+            print(|output| volume.check_blocks(output).map(drop))
+        }
+        ["dcheck", edition, image] => {
+            let volume = open(edition, image)?;
+            print(|output| volume.check_links(output).map(drop))
+        }
+        ["ncheck", edition, image] => {
+            let volume = open(edition, image)?;
+            print(|output| volume.check_names(output).map(drop))
+        }
+        ["salvage", edition, image] => {
+            let mut volume = open(edition, image)?;
+            volume.salvage()?;
+            save(&volume, image)
+        }
+        ["migrate", old, new, blocks, list_blocks, now] => {
+            let old = open("6", old)?;
+            old.judge()?;
+            save(
+                &old.migrated(blocks.parse()?, list_blocks.parse()?, now.parse()?)?,
+                new,
+            )
+        }
+        ["play", edition, image, ref scripts @ ..] => {
+            let volume = open(edition, image)?;
+            let scripts = scripts.iter().map(fs::read_to_string);
+            let scripts = scripts.collect::<Result<Vec<String>, _>>()?;
+            let mut played = None;
+            print(|output| {
+                played = Some(playing::play(volume, &scripts, output)?);
+                Ok(())
+            })?;
+            played.map_or(Ok(()), |volume| save(&volume, image))
+        }
+        ["deep", edition, image, blocks, list_blocks, count] => {
+            let mut volume = make(edition, [blocks, list_blocks, "0", "0", "0"])?;
+            volume.make_deep(count.parse()?)?;
+            save(&volume, image)
+        }
+        ["names", edition, image, blocks, list_blocks, count] => {
+            let mut volume = make(edition, [blocks, list_blocks, "0", "0", "0"])?;
+            volume.make_names(count.parse()?)?;
+            save(&volume, image)
+        }
+        ["script", folder, calls, answers] => {
+            print(|output| samples::write_script(folder, calls.parse()?, answers == "half", output))
+        }
         ["sample", edition, image, blocks, list_blocks, size] => {
             let mut volume = make(edition, [blocks, list_blocks, "0", "0", "0"])?;
             volume.put_file(size.parse()?)?;
@@ -138,9 +197,7 @@ fn run(words: &[String]) -> Outcome<()> {
                 Ok(())
             })
         }
-        _ => {
-            Err("plain cat|ls|mkfs|put|rm|sample|fill|sparse|calls, see bench/plain/main.rs".into())
-        }
+        _ => Err("plain COMMAND WORD.., see bench/plain/main.rs".into()),
     }
 }
 

@@ -2,6 +2,7 @@
 
 use crate::volume::{Edition, Volume, BLOCK, SLOT};
 use crate::Outcome;
+use std::io::Write;
 
 /// The directories over which half of the files are spread.
 const FOLDERS: usize = 50;
@@ -108,4 +109,67 @@ impl Volume {
         }
         Ok(())
     }
+
+    /// Makes so many directories, one below the other.
+    pub fn make_deep(&mut self, directories: usize) -> Outcome<()> {
+        let mut dir = self.layout.root;
+        for _ in 0..directories {
+            dir = self.make_directory(dir, b"d", MOMENT)?;
+        }
+        Ok(())
+    }
+
+    /// Makes a directory with so many names, which two files share.
+    pub fn make_names(&mut self, names: usize) -> Outcome<()> {
+        let many = self.make_directory(self.layout.root, b"many", MOMENT)?;
+        let mut file = 0;
+        for number in 0..names {
+            let name = format!("name{number}");
+            if number % names.div_ceil(2) == 0 {
+                file = self.make_file_at(many, number + 2, name.as_bytes(), MOMENT)?;
+            } else {
+                self.enter_at(many, number + 2, name.as_bytes(), file, MOMENT)?;
+                self.put_links(file, self.links(file) + 1);
+            }
+        }
+        Ok(())
+    }
+}
+
+/// Writes a script of so many calls: directories of 100 files each below one of its own, a file made, written with 100 bytes,
+/// and each second one unlinked again.
+pub fn write_script(
+    folder: &str,
+    calls: usize,
+    with_answers: bool,
+    output: &mut impl Write,
+) -> Outcome<()> {
+    let mut lines = 0;
+    let mut line = |output: &mut dyn Write, words: String| -> Outcome<bool> {
+        writeln!(output, "5 0 0 {words}")?;
+        lines += 1;
+        Ok(lines < calls)
+    };
+    let body = "5a".repeat(100);
+    let mut goes_on = line(output, format!("mkdir /{folder} 755"))?;
+    for number in 0.. {
+        if !goes_on {
+            break;
+        }
+        let dir = format!("/{folder}/d{}", number / 100);
+        if number % 100 == 0 {
+            line(output, format!("mkdir {dir} 755"))?;
+        }
+        let path = format!("{dir}/f{number}");
+        line(output, format!("create {path} 644"))?;
+        goes_on = line(output, format!("write {path} 0 {body}"))?;
+        if with_answers {
+            line(output, format!("stat {path}"))?;
+            goes_on = line(output, format!("create {path} 644"))?;
+        }
+        if number % 2 == 1 {
+            goes_on = line(output, format!("unlink {path}"))?;
+        }
+    }
+    Ok(())
 }

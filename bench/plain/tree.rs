@@ -66,6 +66,11 @@ impl Volume {
         })
     }
 
+    /// The i-node to which a path leads from the root.
+    pub fn find_path(&self, path: &str) -> Outcome<usize> {
+        self.walk(&components(path))
+    }
+
     fn directory(&self, ino: usize) -> Outcome<usize> {
         match self.kind(ino) {
             Kind::Directory => Ok(ino),
@@ -113,7 +118,7 @@ impl Volume {
     }
 
     /// Makes an empty file, whose entry goes into a slot that is empty or the next one.
-    fn make_file_at(
+    pub fn make_file_at(
         &mut self,
         dir: usize,
         index: usize,
@@ -218,7 +223,7 @@ impl Volume {
     }
 
     /// Puts a new entry into a slot of a directory.
-    fn enter_at(
+    pub fn enter_at(
         &mut self,
         dir: usize,
         index: usize,

@@ -144,15 +144,8 @@ impl Volume {
         Ok(volume)
     }
 
-    /// A new volume with an empty root directory.
-    pub fn make(
-        edition: Edition,
-        blocks: usize,
-        list_blocks: usize,
-        uid: usize,
-        gid: usize,
-        now: usize,
-    ) -> Outcome<Volume> {
+    /// A volume with nothing but its sizes.
+    pub fn sized(edition: Edition, blocks: usize, list_blocks: usize) -> Outcome<Volume> {
         let layout = edition.layout();
         if list_blocks < 1
             || list_blocks > layout.most_list_blocks
@@ -160,9 +153,6 @@ impl Volume {
             || blocks > layout.most_blocks
         {
             return Err("bounds".into());
-        }
-        if uid > layout.most_id || gid > layout.most_id {
-            return Err("104 BadId".into());
         }
         let mut volume = Volume {
             edition,
@@ -180,6 +170,22 @@ impl Volume {
                 volume.put_word(BLOCK, list_blocks + 2);
                 volume.put_long(BLOCK + 2, blocks);
             }
+        }
+        Ok(volume)
+    }
+
+    /// A new volume with an empty root directory.
+    pub fn make(
+        edition: Edition,
+        blocks: usize,
+        list_blocks: usize,
+        uid: usize,
+        gid: usize,
+        now: usize,
+    ) -> Outcome<Volume> {
+        let mut volume = Volume::sized(edition, blocks, list_blocks)?;
+        if uid > volume.layout.most_id || gid > volume.layout.most_id {
+            return Err("104 BadId".into());
         }
         volume.put_time(now);
         volume.put_root(uid, gid, now);

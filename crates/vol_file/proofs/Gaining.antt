@@ -10,7 +10,7 @@ use Rattle.vol_free.specs.Stack.{IsFree, HasStack}
 use Rattle.vol_free.proofs.Lengths.{free_within}
 use Rattle.vol_free.proofs.Stacks.{IsFree_unique, zone_behind}
 use Rattle.vol_layout.specs.Names.{form_at}
-use Rattle.vol_file.specs.Clears.{first_block, Gains, HasNode, ClearsBelow}
+use Rattle.vol_file.specs.Clears.{first_block, Gains, IsNamedAtLevel, ClearsBelow}
 
 -- the list of free blocks is one
 free_same : (geometry : Geometry) (image xs ys : List ℕ) → 1 ≤ geometry.zone_start → IsFree geometry image xs → IsFree geometry image ys
@@ -59,7 +59,7 @@ gains_few geometry image old new count fits from to gains =
     let limit = number_limit geometry.edition geometry.zone_end fits.limit in omega (arith, more, few, limit)
 
 -- some blocks are free once all below a block is cleared
-pub below_stack : (geometry : Geometry) (old new : List ℕ) (b level kept : ℕ) → ClearsBelow geometry old new b level kept → HasNode geometry old b level
+pub below_stack : (geometry : Geometry) (old new : List ℕ) (b level kept : ℕ) → ClearsBelow geometry old new b level kept → IsNamedAtLevel geometry old b level
     → HasStack geometry new
 below_stack geometry old new b level kept cleared node =
     let first = first_block (form_at geometry old node.file) (node.index ∷ node.place) in
@@ -67,11 +67,11 @@ below_stack geometry old new b level kept cleared node =
     record { blocks = _; free = s.sound.free }
 
 -- some blocks are free where one is named
-node_stack : (geometry : Geometry) (image : List ℕ) (b level : ℕ) → HasNode geometry image b level → HasStack geometry image
+node_stack : (geometry : Geometry) (image : List ℕ) (b level : ℕ) → IsNamedAtLevel geometry image b level → HasStack geometry image
 node_stack geometry image b level node = record { blocks = node.blocks; free = node.sound.free }
 
 -- the blocks given by one step more are no more than can be counted
-pub step_few : (geometry : Geometry) (old mid low : List ℕ) (b level kept given count : ℕ) → HasStack geometry old → HasNode geometry mid b level
+pub step_few : (geometry : Geometry) (old mid low : List ℕ) (b level kept given count : ℕ) → HasStack geometry old → IsNamedAtLevel geometry mid b level
     → Gains geometry old mid given → ClearsBelow geometry mid low b level kept → Gains geometry mid low count → given + (count + 1) ≤ 33554433
 step_few geometry old mid low b level kept given count has node gains cleared more =
     let first = gains_few geometry mid old mid given node.sound.fits has (node_stack geometry mid b level node) gains in
@@ -79,13 +79,13 @@ step_few geometry old mid low b level kept given count has node gains cleared mo
     omega (arith, first, second)
 
 -- the blocks given by one step more: those below a block
-pub step_part : (geometry : Geometry) (old mid low : List ℕ) (b level given count : ℕ) → HasNode geometry mid b level
+pub step_part : (geometry : Geometry) (old mid low : List ℕ) (b level given count : ℕ) → IsNamedAtLevel geometry mid b level
     → Gains geometry old mid given → Gains geometry mid low count → Gains geometry old low (given + count)
 step_part geometry old mid low b level given count node gains more =
     gains_then geometry old mid low given count (node_stack geometry mid b level node) gains more
 
 -- the blocks given by one step more: those below a block, and the block
-pub step_gains : (geometry : Geometry) (old mid low new : List ℕ) (b level kept given count : ℕ) → HasNode geometry mid b level
+pub step_gains : (geometry : Geometry) (old mid low new : List ℕ) (b level kept given count : ℕ) → IsNamedAtLevel geometry mid b level
     → Gains geometry old mid given → ClearsBelow geometry mid low b level kept → Gains geometry mid low count → Gains geometry low new 1
     → Gains geometry old new (given + count + 1)
 step_gains geometry old mid low new b level kept given count node gains cleared more one =

@@ -16,7 +16,7 @@ use Rattle.vol_layout.proofs.PlaceLaws.{leaf_block, small_levels, last_leaf, fro
 use Rattle.vol_layout.proofs.LastPlaces.{last_small, last_large, last_huge, last_direct, last_single, last_double, last_triple}
 use Rattle.vol_file.specs.Shape.{is_on_ways}
 use Rattle.vol_file.specs.Laws.{IsAmong}
-use Rattle.vol_file.specs.Changes.{block_count, is_kept, blocks_past}
+use Rattle.vol_file.specs.Changes.{whole_blocks, is_kept, blocks_past}
 use Rattle.vol_file.specs.Clears.{first_at, first_block, is_past, blocks_at}
 use Rattle.vol_file.proofs.FirstBlocks.{past_true, past_false, first_front, some_pointers}
 use Rattle.vol_file.proofs.Lasts.{front_true, way_is}
@@ -224,10 +224,10 @@ kept_first form kept a p place few =
     ]
 
 -- the kept places are those that aren't past the kept blocks
-pub kept_is : (form : Form) (left : ℕ) (p : List ℕ) → IsPlace form p → block_count left ≤ block_limit form
-    → is_kept form left p ≡ not (is_past form (block_count left) p)
+pub kept_is : (form : Form) (left : ℕ) (p : List ℕ) → IsPlace form p → whole_blocks left ≤ block_limit form
+    → is_kept form left p ≡ not (is_past form (whole_blocks left) p)
 kept_is form left [] place few = absurd place
-kept_is form left (a ∷ p) place few = kept_first form (block_count left) a p place few
+kept_is form left (a ∷ p) place few = kept_first form (whole_blocks left) a p place few
 
 -- tests that agree on a list pick the same of it
 filter_same : (f g : List ℕ → Bool) (ps : List (List ℕ)) → ((p : List ℕ) → IsAmong p ps → f p ≡ g p) → filter f ps ≡ filter g ps
@@ -242,12 +242,12 @@ not_not true = refl
 not_not false = refl
 
 -- the blocks past the kept ones are those of the places that are past them
-pub past_list : (geometry : Geometry) (image : List ℕ) (i left : ℕ) → block_count left ≤ block_limit (form_at geometry image i)
-    → blocks_at geometry image i (filter (is_past (form_at geometry image i) (block_count left)) (places (form_at geometry image i)))
+pub past_list : (geometry : Geometry) (image : List ℕ) (i left : ℕ) → whole_blocks left ≤ block_limit (form_at geometry image i)
+    → blocks_at geometry image i (filter (is_past (form_at geometry image i) (whole_blocks left)) (places (form_at geometry image i)))
     ≡ blocks_past geometry image i left
 unfolding blocks_past blocks_at
 past_list geometry image i left few =
     let form = form_at geometry image i in
     ap (λ ps. blocks_at geometry image i ps)
-    (filter_same (is_past form (block_count left)) (λ p. not (is_kept form left p)) (places form)
-    (λ p among. sym (ap not (kept_is form left p (among_places form p among) few) ∙ not_not (is_past form (block_count left) p))))
+    (filter_same (is_past form (whole_blocks left)) (λ p. not (is_kept form left p)) (places form)
+    (λ p among. sym (ap not (kept_is form left p (among_places form p among) few) ∙ not_not (is_past form (whole_blocks left) p))))

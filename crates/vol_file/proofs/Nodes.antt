@@ -15,7 +15,7 @@ use Rattle.vol_layout.proofs.PlaceLaws.{place_front}
 use Rattle.vol_layout.proofs.FrameLaws.{pointers_in}
 use Rattle.vol_layout.proofs.KindLaws.{form_file}
 use Rattle.vol_file.specs.Rules.{Rules3To7With}
-use Rattle.vol_file.specs.Clears.{IsUnder, IsPast, IsPastUnder, first_at, first_block, is_past, places_among, places_below, IsNamedAt, Clears, Drops, HasNode, HasPointer, HasAddress, ClearsBelow, ClearsPast}
+use Rattle.vol_file.specs.Clears.{IsUnder, IsPast, IsPastUnder, first_at, first_block, is_past, places_among, places_below, IsNamedAt, Clears, Drops, IsNamedAtLevel, HasPointer, HasAddress, ClearsBelow, ClearsPast}
 use Rattle.vol_file.proofs.BlockLists.{at_nil}
 use Rattle.vol_file.proofs.Fronts.{front_longer, under_front}
 use Rattle.vol_file.proofs.Clearing.{ClearsFrom, clears_none, clears_as, from_start, from_none_on, from_some_on, from_part_on, from_kept_on, from_above, entry_place, entry_named, below_named, below_empty}
@@ -192,7 +192,7 @@ entries_at geometry old new m level kept j k b i a bound p blocks cleared sound 
     }
 
 -- the entry lies within the image
-pub entries_room : (geometry : Geometry) (old new : List ℕ) (m level kept j k : ℕ) → ClearsEntries geometry old new m level kept k → HasNode geometry old m level
+pub entries_room : (geometry : Geometry) (old new : List ℕ) (m level kept j k : ℕ) → ClearsEntries geometry old new m level kept k → IsNamedAtLevel geometry old m level
     → j < (constants geometry.edition).pointers → 512 * m + (constants geometry.edition).number_bytes * (j + 1) ≤ length new
 entries_room geometry old new m level kept j k cleared node low =
     let q = node.index ∷ node.place in
@@ -216,8 +216,8 @@ entries_none geometry old new m level kept j k next few some none cleared i a bo
 
 -- the block that an entry names has one level less below it
 pub entries_node : (geometry : Geometry) (old new : List ℕ) (m level kept j k b : ℕ) → ClearsEntries geometry old new m level kept k
-    → HasNode geometry old m level → 1 ≤ level → j < (constants geometry.edition).pointers → b ≡ number geometry.edition new (512 * m) j → b ≢ 0
-    → HasNode geometry new b (level - 1)
+    → IsNamedAtLevel geometry old m level → 1 ≤ level → j < (constants geometry.edition).pointers → b ≡ number geometry.edition new (512 * m) j → b ≢ 0
+    → IsNamedAtLevel geometry new b (level - 1)
 entries_node geometry old new m level kept j k b cleared node some low number_is not_zero =
     let n = (constants geometry.edition).pointers in
     let q = node.index ∷ node.place in
@@ -237,7 +237,7 @@ entries_node geometry old new m level kept j k b cleared node some low number_is
 
 -- the entry names its block still once what lies below it is cleared
 pub entries_entry : (geometry : Geometry) (old mid low : List ℕ) (m level kept rest j k b : ℕ) → ClearsEntries geometry old mid m level kept k
-    → HasNode geometry old m level → 1 ≤ level → j < (constants geometry.edition).pointers → b ≡ number geometry.edition mid (512 * m) j → b ≢ 0
+    → IsNamedAtLevel geometry old m level → 1 ≤ level → j < (constants geometry.edition).pointers → b ≡ number geometry.edition mid (512 * m) j → b ≢ 0
     → ClearsBelow geometry mid low b (level - 1) rest → HasPointer geometry low m j b
 unfolding entries_node
 entries_entry geometry old mid low m level kept rest j k b cleared node some index number_is not_zero below =
@@ -349,7 +349,7 @@ addresses_none geometry old new i kept j k next few file none cleared blocks sou
 -- the block that an address names has as many levels below it as the address
 pub addresses_node : (geometry : Geometry) (old new : List ℕ) (i kept j k b : ℕ) (blocks : List ℕ) → IsFile geometry old i → ClearsAddresses geometry old new i kept k
     → Rules3To7With geometry old blocks → j < first_count (form_at geometry old i)
-    → b ≡ address_at geometry.edition new (inode_place geometry.edition i) j → b ≢ 0 → HasNode geometry new b (levels (form_at geometry old i) j)
+    → b ≡ address_at geometry.edition new (inode_place geometry.edition i) j → b ≢ 0 → IsNamedAtLevel geometry new b (levels (form_at geometry old i) j)
 addresses_node geometry old new i kept j k b blocks file cleared sound low is not_zero =
     let s = cleared blocks sound in
     let form = form_at geometry old i in

@@ -28,7 +28,7 @@ use Rattle.vol_free.specs.Stack.{IsIn, IsFree}
 use Rattle.vol_free.proofs.Stacks.{head_end}
 use Rattle.vol_free.proofs.Frames.{IsFree-before_zone, free_zone}
 use Rattle.vol_file.specs.Rules.{size_of, kind_at, Rules3To7With, Rules3To7, IsCovered}
-use Rattle.vol_file.specs.Changes.{StaysElsewhere, is_kept_byte, blocks_of, block_count, is_kept, blocks_past, truncated_mode, Truncates}
+use Rattle.vol_file.specs.Changes.{StaysElsewhere, is_kept_byte, blocks_of, whole_blocks, is_kept, blocks_past, truncated_mode, Truncates}
 use Rattle.vol_file.specs.Clears.{first_block, is_past, IsPast, blocks_at, Gains, ClearsPast}
 use Rattle.vol_file.proofs.Alone.{fits_len, elsewhere_names, elsewhere_then, elsewhere_changes}
 use Rattle.vol_file.proofs.Taking.{rest_within}
@@ -192,24 +192,24 @@ emptied geometry old low new blocks i fits file clear end =
 
 -- a truncation to nothing, by the size that is put
 pub emptied_to : (geometry : Geometry) (old low new blocks : List ℕ) (i left : ℕ) → left ≡ 0 → Fits geometry old → IsFile geometry old i
-    → ClearsPast geometry old low i (block_count left) blocks → Ends geometry old low new i → Truncates geometry old new i left blocks
+    → ClearsPast geometry old low i (whole_blocks left) blocks → Ends geometry old low new i → Truncates geometry old new i left blocks
 emptied_to geometry old low new blocks i left none fits file clear end =
     subst (λ n. Truncates geometry old new i n blocks) (sym none)
-    (emptied geometry old low new blocks i fits file (subst (λ n. ClearsPast geometry old low i (block_count n) blocks) none clear) end)
+    (emptied geometry old low new blocks i fits file (subst (λ n. ClearsPast geometry old low i (whole_blocks n) blocks) none clear) end)
 
 -- a kept place isn't past the kept blocks, and another is
-kept_or : (form : Form) (left : ℕ) (p : List ℕ) → IsPlace form p → block_count left ≤ block_limit form
-    → ((is_kept form left p ≡ true) × (is_past form (block_count left) p ≡ false)) ⊎ ((is_kept form left p ≡ false) × (is_past form (block_count left) p ≡ true))
+kept_or : (form : Form) (left : ℕ) (p : List ℕ) → IsPlace form p → whole_blocks left ≤ block_limit form
+    → ((is_kept form left p ≡ true) × (is_past form (whole_blocks left) p ≡ false)) ⊎ ((is_kept form left p ≡ false) × (is_past form (whole_blocks left) p ≡ true))
 kept_or form left p place few =
-    elim (is_past form (block_count left) p) as (λ t. is_past form (block_count left) p ≡ t
+    elim (is_past form (whole_blocks left) p) as (λ t. is_past form (whole_blocks left) p ≡ t
     → ((is_kept form left p ≡ true) × (t ≡ false)) ⊎ ((is_kept form left p ≡ false) × (t ≡ true))) [
       | true ↦ λ e. inr (kept_is form left p place few ∙ ap not e, refl)
       | false ↦ λ e. inl (kept_is form left p place few ∙ ap not e, refl)
     ] refl
 
 -- what the places name once those past the kept blocks are cleared
-cleared_names : (geometry : Geometry) (old low : List ℕ) (i left : ℕ) (blocks p : List ℕ) → block_count left ≤ block_limit (form_at geometry old i)
-    → ClearsPast geometry old low i (block_count left) blocks → IsPlaceOf geometry old i p
+cleared_names : (geometry : Geometry) (old low : List ℕ) (i left : ℕ) (blocks p : List ℕ) → whole_blocks left ≤ block_limit (form_at geometry old i)
+    → ClearsPast geometry old low i (whole_blocks left) blocks → IsPlaceOf geometry old i p
     → named geometry low i p ≡ (if is_kept (form_at geometry old i) left p then named geometry old i p else 0)
 cleared_names geometry old low i left blocks p few clear place =
     elim (kept_or (form_at geometry old i) left p place.place few) [
@@ -219,7 +219,7 @@ cleared_names geometry old low i left blocks p few clear place =
 
 -- the first blocks of a file keep what is stored in them
 cleared_bytes : (geometry : Geometry) (old low : List ℕ) (i left : ℕ) (blocks : List ℕ) (n : ℕ) → Fits geometry old → IsFile geometry old i
-    → ClearsPast geometry old low i (block_count left) blocks → n / 512 < block_count left → body_byte geometry low i n ≡ body_byte geometry old i n
+    → ClearsPast geometry old low i (whole_blocks left) blocks → n / 512 < whole_blocks left → body_byte geometry low i n ≡ body_byte geometry old i n
 cleared_bytes geometry old low i left blocks n fits file clear low_n =
     let form = form_at geometry old i in
     let b = n / 512 in
@@ -229,7 +229,7 @@ cleared_bytes geometry old low i left blocks n fits file clear low_n =
     let leaf = last_leaf form b q e in
     let place : IsPlaceOf geometry old i q = record { file = file; place = leaf.place } in
     let first : first_block form q ≡ b = first_leaf form q leaf.place leaf.bottom ∙ leaf.block in
-    let apart : IsPast geometry old i (block_count left) q → ⊥ = λ past. true≢false (sym past ∙ past_false form (block_count left) q (omega (arith, first, low_n))) in
+    let apart : IsPast geometry old i (whole_blocks left) q → ⊥ = λ past. true≢false (sym past ∙ past_false form (whole_blocks left) q (omega (arith, first, low_n))) in
     let name : named geometry low i q ≡ named geometry old i q = clear.kept q place apart in
     ap (λ m. zone_byte geometry low m (n % 512)) (stored_is geometry low i form b q e ∙ name)
     ∙ (zone_byte_kept geometry old low (named geometry old i q) (n % 512)
@@ -250,7 +250,7 @@ cleared_bytes geometry old low i left blocks n fits file clear low_n =
 -- the body is the first bytes of the one before
 body_front : (geometry : Geometry) (old new : List ℕ) (i left : ℕ) → size_of geometry new i ≡ left → left ≤ size_of geometry old i
     → size_of geometry old i ≤ (constants geometry.edition).greatest
-    → ((n : ℕ) → n / 512 < block_count left → body_byte geometry new i n ≡ body_byte geometry old i n)
+    → ((n : ℕ) → n / 512 < whole_blocks left → body_byte geometry new i n ≡ body_byte geometry old i n)
     → body geometry new i ≡ take left (body geometry old i)
 body_front geometry old new i left size less great bytes =
     let count : body_size geometry new i ≡ left = omega (arith, size, less, great) in
@@ -267,40 +267,40 @@ body_front geometry old new i left size less great bytes =
 
 -- the kept blocks of a file are no more than it can have
 pub kept_few : (geometry : Geometry) (image : List ℕ) (i left : ℕ) (blocks : List ℕ) → Rules3To7With geometry image blocks → IsFile geometry image i
-    → left ≤ size_of geometry image i → block_count left ≤ block_limit (form_at geometry image i)
+    → left ≤ size_of geometry image i → whole_blocks left ≤ block_limit (form_at geometry image i)
 kept_few geometry image i left blocks sound file less =
     let great = sound.sizes.greatest i file in
-    limit_of geometry.edition (mode_of geometry image i) (block_count left) file.kind (omega (arith, great, less))
+    limit_of geometry.edition (mode_of geometry image i) (whole_blocks left) file.kind (omega (arith, great, less))
     (λ e. let small = sound.sizes.small i file e in omega (arith, small, less))
 
 -- as many blocks are given back as were past the kept ones
 pub given_count : (geometry : Geometry) (old low : List ℕ) (i left count : ℕ) → Rules3To7 geometry old → IsFile geometry old i
     → left ≤ size_of geometry old i → Gains geometry old low count
-    → ((blocks : List ℕ) → Rules3To7With geometry old blocks → ClearsPast geometry old low i (block_count left) blocks)
+    → ((blocks : List ℕ) → Rules3To7With geometry old blocks → ClearsPast geometry old low i (whole_blocks left) blocks)
     → count ≡ length (blocks_past geometry old i left)
 given_count geometry old low i left count has file less gains clear =
     let few = kept_few geometry old i left has.blocks has.sound file less in
-    gains_given geometry old low (blocks_at geometry old i (filter (is_past (form_at geometry old i) (block_count left)) (places (form_at geometry old i))))
+    gains_given geometry old low (blocks_at geometry old i (filter (is_past (form_at geometry old i) (whole_blocks left)) (places (form_at geometry old i))))
     has.blocks count gains has.sound.free (clear has.blocks has.sound).sound.free
     ∙ ap length (past_list geometry old i left few)
 
 -- the truncation is whole where the mode stays
 pub shortened : (geometry : Geometry) (old low new blocks : List ℕ) (i left : ℕ) → Rules3To7With geometry old blocks → IsFile geometry old i
     → left ≤ size_of geometry old i → mode_of geometry old i ≡ truncated_mode geometry.edition left (mode_of geometry old i)
-    → ClearsPast geometry old low i (block_count left) blocks
+    → ClearsPast geometry old low i (whole_blocks left) blocks
     → SameOutside low new (size_place geometry.edition i) (size_place geometry.edition i + size_bytes geometry.edition)
     → size_at geometry.edition new (inode_place geometry.edition i) ≡ left → Truncates geometry old new i left blocks
 shortened geometry old low new blocks i left sound file less mode clear same put =
     let form = form_at geometry old i in
-    let given = blocks_at geometry old i (filter (is_past form (block_count left)) (places form)) in
+    let given = blocks_at geometry old i (filter (is_past form (whole_blocks left)) (places form)) in
     let few = kept_few geometry old i left blocks sound file less in
     let great = sound.sizes.greatest i file in
     let list : given ++ blocks ≡ blocks_past geometry old i left ++ blocks = ap (λ xs. xs ++ blocks) (past_list geometry old i left few) in
-    let is = file_low geometry old low i (block_count left) blocks file clear in
+    let is = file_low geometry old low i (whole_blocks left) blocks file clear in
     let end : Resized geometry low new i left (given ++ blocks) =
     resized geometry low new (given ++ blocks) i left clear.sound is same put (omega (arith, great, less))
     (λ e. let small = sound.sizes.small i file (sym (form_same geometry old low i clear.mode) ∙ e) in omega (arith, small, less)) in
-    let bytes : (n : ℕ) → n / 512 < block_count left → body_byte geometry new i n ≡ body_byte geometry old i n =
+    let bytes : (n : ℕ) → n / 512 < whole_blocks left → body_byte geometry new i n ≡ body_byte geometry old i n =
     λ n low_n. end.bytes n ∙ cleared_bytes geometry old low i left blocks n sound.fits file clear low_n in
     record {
       sound = subst (Rules3To7With geometry new) list end.sound;

@@ -88,12 +88,12 @@ unfoldable pub blocks_of : Geometry → List ℕ → ℕ → List ℕ
 blocks_of geometry image i = filter (λ k. not (k == 0)) (map (named geometry image i) (places (form_at geometry image i)))
 
 -- how many logical blocks hold the first so many bytes of a file: their number rounded up to whole blocks (this project)
-abbrev pub block_count : ℕ → ℕ
-block_count size = (size + 511) / 512
+abbrev pub whole_blocks : ℕ → ℕ
+whole_blocks size = (size + 511) / 512
 
 -- whether a place is on the way of one of the logical blocks that hold the first `size` bytes (this project)
 abbrev pub is_kept : Form → ℕ → List ℕ → Bool
-is_kept form size p = is_on_ways form (range_with_len 0 (block_count size)) p
+is_kept form size p = is_on_ways form (range_with_len 0 (whole_blocks size)) p
 
 -- the blocks that a file names by its other places, in the order of its places (Lions on itrunc; the size is this project's)
 unfoldable pub blocks_past : Geometry → List ℕ → ℕ → ℕ → List ℕ
@@ -119,5 +119,5 @@ pub record Truncates (geometry : Geometry) (old new : List ℕ) (i left : ℕ) (
   pub body : body geometry new i ≡ take left (body geometry old i)
   pub names : (p : List ℕ) → IsPlaceOf geometry new i p
       → named geometry new i p ≡ (if is_kept (form_at geometry old i) left p then named geometry old i p else 0)
-  pub bytes : (n : ℕ) → n / 512 < block_count left → body_byte geometry new i n ≡ body_byte geometry old i n
+  pub bytes : (n : ℕ) → n / 512 < whole_blocks left → body_byte geometry new i n ≡ body_byte geometry old i n
   pub unused : KeepsBlocks old new blocks

@@ -104,7 +104,7 @@ pub record HasAddress (geometry : Geometry) (image : List ℕ) (i k b : ℕ) : T
   pub is : IsNamedAt geometry image i (k ∷ []) b
 
 -- block b is named by a place of a file with so many levels below it (manual section 5, file system)
-pub record HasNode (geometry : Geometry) (image : List ℕ) (b level : ℕ) : Type 0 where
+pub record IsNamedAtLevel (geometry : Geometry) (image : List ℕ) (b level : ℕ) : Type 0 where
   pub blocks : List ℕ
   pub sound : Rules3To7With geometry image blocks
   pub file : ℕ

@@ -4,7 +4,7 @@ ghost use Rattle.vol_layout.specs.Geometry.{Fits};
 ghost use Rattle.vol_layout.specs.Names.{form_at, IsFile, named};
 ghost use Rattle.vol_file.specs.Rules.{size_of, Rules3To7With, Rules3To7};
 ghost use Rattle.vol_file.specs.Changes.{blocks_past, Truncates};
-ghost use Rattle.vol_file.specs.Clears.{first_at, ClearsPast, Gains, Drops, HasPointer, HasAddress, HasNode, ClearsBelow};
+ghost use Rattle.vol_file.specs.Clears.{first_at, ClearsPast, Gains, Drops, HasPointer, HasAddress, IsNamedAtLevel, ClearsBelow};
 
 use crate::holes::blocks_below;
 use pdp_words::{BLOCK, Image};
@@ -90,7 +90,7 @@ fn first_at(form: Form, k: usize) -> u32
 /// Answers how many blocks that is. Block `m` is named by a place with `level` levels below it; where
 /// there is none, nothing is done.
 fn clear_below(image: &mut Image, geometry: &Geometry, m: u32, level: u8, kept: u32) -> u32
-    requires { HasNode geometry.now image.old m level }
+    requires { IsNamedAtLevel geometry.now image.old m level }
     ensures cleared { ClearsBelow geometry.now image.old image.new m level kept }
     ensures counted { Gains geometry.now image.old image.new result }
 {

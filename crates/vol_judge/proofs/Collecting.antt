@@ -17,7 +17,7 @@ use Rattle.vol_layout.specs.declared.slot.Slot.{Slot}
 use Rattle.vol_file.specs.Rules.{size_of}
 use Rattle.vol_dir.specs.Entries.{entry_at, slot_count, IsDirectory, HasEntry, HasEntries}
 use Rattle.vol_dir.specs.Scanning.{IsNextEntry}
-use Rattle.vol_judge.specs.Naming.{IsEntry, HasEntriesBelow, HasEntriesIn, is_in, HoldsNames}
+use Rattle.vol_judge.specs.Naming.{IsValidEntry, HasEntriesBelow, HasEntriesIn, is_in, HoldsNamesBelow}
 use Rattle.vol_judge.proofs.NextEntries.{entry_next, none_from}
 
 -- zero bytes are no name
@@ -92,7 +92,7 @@ entry_split geometry image d {from = from} {s = s} {slot = slot} t i name next l
     ]
 
 -- a name below the next entry is in the set
-below_in : {geometry : Geometry} {image : List ℕ} {d from t i : ℕ} {names : BTreeSet (List ℕ)} (name other : List ℕ) → HoldsNames geometry image d from names
+below_in : {geometry : Geometry} {image : List ℕ} {d from t i : ℕ} {names : BTreeSet (List ℕ)} (name other : List ℕ) → HoldsNamesBelow geometry image d from names
     → t < from → entry_at geometry image d t ≡ Some (name, i) → name ≡ other → is_in names (padded_name other) ≡ false → ⊥
 below_in {names = names} name other held low entry same new =
     let there : is_in names (padded_name name) ≡ true = held.all _ _ name low entry in
@@ -100,7 +100,7 @@ below_in {names = names} name other held low entry same new =
 
 -- the next entry, of a name that isn't in the set, keeps rule 9
 pub below_next : {geometry : Geometry} {image : List ℕ} {d from s : ℕ} {slot : Slot} {names : BTreeSet (List ℕ)} → HasEntriesBelow geometry image d from
-    → HoldsNames geometry image d from names → IsNextEntry (entry_at geometry image d) from (slot_count geometry image d) s slot → IsEntry geometry image (name_of slot.name) slot.inode
+    → HoldsNamesBelow geometry image d from names → IsNextEntry (entry_at geometry image d) from (slot_count geometry image d) s slot → IsValidEntry geometry image (name_of slot.name) slot.inode
     → is_in names (padded_name (name_of slot.name)) ≡ false → HasEntriesBelow geometry image d (s + 1)
 below_next {geometry = geometry} {image = image} {d = d} {slot = slot} {names = names} below held next good new = record {
   entries = λ t i name low entry.
@@ -123,8 +123,8 @@ below_next {geometry = geometry} {image = image} {d = d} {slot = slot} {names = 
 
 -- once its name is in the set
 pub names_next : {geometry : Geometry} {image : List ℕ} {d from s : ℕ} {slot : Slot} {names after : BTreeSet (List ℕ)}
-    → HoldsNames geometry image d from names → IsNextEntry (entry_at geometry image d) from (slot_count geometry image d) s slot
-    → Updates (slice_cmp nat_cmp) names after (padded_name (name_of slot.name)) true → HoldsNames geometry image d (s + 1) after
+    → HoldsNamesBelow geometry image d from names → IsNextEntry (entry_at geometry image d) from (slot_count geometry image d) s slot
+    → Updates (slice_cmp nat_cmp) names after (padded_name (name_of slot.name)) true → HoldsNamesBelow geometry image d (s + 1) after
 names_next {geometry = geometry} {image = image} {d = d} {from = from} {s = s} {slot = slot} {names = names} {after = after} held next updates =
     let key = padded_name (name_of slot.name) in
     record {
@@ -156,7 +156,7 @@ names_next {geometry = geometry} {image = image} {d = d} {from = from} {s = s} {
     }
 
 -- a name that is in the set comes twice
-pub twice : {geometry : Geometry} {image : List ℕ} {d from s : ℕ} {slot : Slot} {names : BTreeSet (List ℕ)} → HoldsNames geometry image d from names
+pub twice : {geometry : Geometry} {image : List ℕ} {d from s : ℕ} {slot : Slot} {names : BTreeSet (List ℕ)} → HoldsNamesBelow geometry image d from names
     → IsNextEntry (entry_at geometry image d) from (slot_count geometry image d) s slot → is_in names (padded_name (name_of slot.name)) ≡ true → HasEntriesIn geometry image d → ⊥
 twice {slot = slot} held next there rule =
     let had = held.only (padded_name (name_of slot.name)) there in

@@ -11,7 +11,7 @@ use Rattle.vol_free.proofs.Stacks.{IsFree_unique, zone_from, zone_below, zone_be
 use Rattle.vol_free.proofs.Frames.{free_zone}
 use Rattle.vol_file.specs.Rules.{IsZoned}
 use Rattle.vol_judge.specs.FreeWalk.{AreFreeMarks}
-use Rattle.vol_judge.specs.Marks.{MarksNamed, IsMarked, Finds}
+use Rattle.vol_judge.specs.Marks.{MarksNamed, IsMarked, FindsMarks}
 use Rattle.vol_judge.specs.declared.marking.Places.{Places}
 use Rattle.vol_judge.specs.declared.marking.Places.TheVariants.{OutOfZone, Twice, Once}
 use Rattle.vol_judge.specs.Sound.{IsFreeApart, IsNoneLost}
@@ -72,13 +72,13 @@ covered_marks {geometry = geometry} places free len marks set covered k from bel
 
 -- where a walk over the places broke off nowhere, it marked them all
 pub found_once : {geometry : Geometry} {image marks : List ℕ} (places : Places) → places ≢ OutOfZone → places ≢ Twice
-    → Finds geometry image marks places → IsMarked geometry image marks
+    → FindsMarks geometry image marks places → IsMarked geometry image marks
 found_once OutOfZone zoned once found = absurd (zoned refl)
 found_once Twice zoned once found = absurd (once refl)
 found_once Once zoned once found = found
 
 -- where a walk over the places left the data zone nowhere, each number is that of a data block
-pub found_zoned : {geometry : Geometry} {image : List ℕ} (marks : List ℕ) (places : Places) → places ≢ OutOfZone → Finds geometry image marks places
+pub found_zoned : {geometry : Geometry} {image : List ℕ} (marks : List ℕ) (places : Places) → places ≢ OutOfZone → FindsMarks geometry image marks places
     → IsZoned geometry image
 found_zoned marks OutOfZone zoned found = absurd (zoned refl)
 found_zoned marks Twice zoned found = found.0

@@ -13,7 +13,7 @@ use Rattle.vol_layout.proofs.NameLaws.{zone_some}
 use Rattle.vol_free.specs.Stack.{IsIn, Once, IsFree, IsStack, HasStack}
 use Rattle.vol_free.proofs.Stacks.{zone_below, zone_behind, stack_none}
 use Rattle.vol_judge.specs.declared.free_marks.Rest.{Rest}
-use Rattle.vol_judge.specs.FreeWalk.{AreFreeMarks, IsRest, IsReadable, IsBefore, IsEnd, IsMet, joined, IsWalked, IsCounted}
+use Rattle.vol_judge.specs.FreeWalk.{AreFreeMarks, IsRest, IsReadable, IsBefore, IsEnd, IsMet, turned_onto, IsWalked, IsCountedWalk}
 
 -- where two numbers or more are left, the stack begins with the last, and one less is left behind it
 shorter : (geometry : Geometry) (image : List ℕ) (at n b : ℕ) (blocks : List ℕ) → 2 ≤ n → b ≡ number geometry.edition image (at + 2) (n - 1)
@@ -110,46 +110,46 @@ broken_by geometry image rest marks b some is more (inr marked) blocks s fresh =
     fresh b (first_of geometry image rest.head rest.count b blocks some is more s).0 marked
 
 -- what comes later stands in the list as often
-joined_later : (met blocks : List ℕ) → Once (joined met blocks) → Once blocks
-unfolding joined Once
-joined_later [] blocks once = once
-joined_later (b ∷ met) blocks once = (joined_later met (b ∷ blocks) once).1
+turned_later : (met blocks : List ℕ) → Once (turned_onto met blocks) → Once blocks
+unfolding turned_onto Once
+turned_later [] blocks once = once
+turned_later (b ∷ met) blocks once = (turned_later met (b ∷ blocks) once).1
 
 -- where none comes twice, what was met doesn't come later
-pub joined_apart : (met blocks : List ℕ) → Once (joined met blocks) → (k : ℕ) → IsIn k met → IsIn k blocks → ⊥
-unfolding joined Once IsIn
-joined_apart [] blocks once k i j = i
-joined_apart (b ∷ met) blocks once k (inl same) j = (joined_later met (b ∷ blocks) once).0 (rw (← same) j)
-joined_apart (b ∷ met) blocks once k (inr i) j = joined_apart met (b ∷ blocks) once k i (inr j)
+pub turned_apart : (met blocks : List ℕ) → Once (turned_onto met blocks) → (k : ℕ) → IsIn k met → IsIn k blocks → ⊥
+unfolding turned_onto Once IsIn
+turned_apart [] blocks once k i j = i
+turned_apart (b ∷ met) blocks once k (inl same) j = (turned_later met (b ∷ blocks) once).0 (rw (← same) j)
+turned_apart (b ∷ met) blocks once k (inr i) j = turned_apart met (b ∷ blocks) once k i (inr j)
 
 -- what was met once, and doesn't come later, doesn't come twice
-joined_once : (met blocks : List ℕ) → Once met → Once blocks → ((k : ℕ) → IsIn k met → IsIn k blocks → ⊥) → Once (joined met blocks)
-unfolding joined Once IsIn
-joined_once [] blocks first later apart = later
-joined_once (b ∷ met) blocks first later apart =
-    joined_once met (b ∷ blocks) first.1 (λ j. apart b (inl refl) j, later) (λ k i j. elim j [
+turned_once : (met blocks : List ℕ) → Once met → Once blocks → ((k : ℕ) → IsIn k met → IsIn k blocks → ⊥) → Once (turned_onto met blocks)
+unfolding turned_onto Once IsIn
+turned_once [] blocks first later apart = later
+turned_once (b ∷ met) blocks first later apart =
+    turned_once met (b ∷ blocks) first.1 (λ j. apart b (inl refl) j, later) (λ k i j. elim j [
       | inl same ↦ first.0 (rw (← same) i)
       | inr more ↦ apart k (inr i) more
     ])
 
 -- what stands in the list was met or comes later
-joined_in : (met blocks : List ℕ) (k : ℕ) → IsIn k (joined met blocks) → IsIn k met ⊎ IsIn k blocks
-unfolding joined IsIn
-joined_in [] blocks k i = inr i
-joined_in (b ∷ met) blocks k i = elim (joined_in met (b ∷ blocks) k i) [
+turned_in : (met blocks : List ℕ) (k : ℕ) → IsIn k (turned_onto met blocks) → IsIn k met ⊎ IsIn k blocks
+unfolding turned_onto IsIn
+turned_in [] blocks k i = inr i
+turned_in (b ∷ met) blocks k i = elim (turned_in met (b ∷ blocks) k i) [
   | inl before ↦ inl (inr before)
   | inr after ↦ elim after [ inl same ↦ inl (inl same) | inr later ↦ inr later ]
 ]
 
 -- what comes later stands in the list
-in_later : (met blocks : List ℕ) (k : ℕ) → IsIn k blocks → IsIn k (joined met blocks)
-unfolding joined IsIn
+in_later : (met blocks : List ℕ) (k : ℕ) → IsIn k blocks → IsIn k (turned_onto met blocks)
+unfolding turned_onto IsIn
 in_later [] blocks k i = i
 in_later (b ∷ met) blocks k i = in_later met (b ∷ blocks) k (inr i)
 
 -- what was met stands in the list
-in_met : (met blocks : List ℕ) (k : ℕ) → IsIn k met → IsIn k (joined met blocks)
-unfolding joined IsIn
+in_met : (met blocks : List ℕ) (k : ℕ) → IsIn k met → IsIn k (turned_onto met blocks)
+unfolding turned_onto IsIn
 in_met [] blocks k i = absurd i
 in_met (b ∷ met) blocks k (inl same) = in_later met (b ∷ blocks) k (inl same)
 in_met (b ∷ met) blocks k (inr i) = in_met met (b ∷ blocks) k i
@@ -158,7 +158,7 @@ in_met (b ∷ met) blocks k (inr i) = in_met met (b ∷ blocks) k i
 pub walked_start : (geometry : Geometry) (image : List ℕ) (marks : List Bool) (rest : Rest)
     → rest.head ≡ free_head geometry.edition → rest.count ≡ word image (free_head geometry.edition)
     → ((k : ℕ) → get_or marks k false ≡ false) → IsWalked geometry image marks rest
-unfolding joined Once IsIn
+unfolding turned_onto Once IsIn
 walked_start geometry image marks rest head count clear = record {
   met = [];
   once = tt;
@@ -171,7 +171,7 @@ walked_start geometry image marks rest head count clear = record {
 -- the marks behind a block that was met
 pub walked_next : {geometry : Geometry} {image : List ℕ} {old new : List Bool} {rest next : Rest} → length old ≡ geometry.zone_end
     → IsWalked geometry image old rest → IsMet geometry image old new rest next → IsWalked geometry image new next
-unfolding joined Once IsIn
+unfolding turned_onto Once IsIn
 walked_next {geometry = geometry} {old = old} {new = new} len walked step =
     let within : step.block < length old = omega (arith, zone_below geometry step.block step.zone) in
     record {
@@ -192,7 +192,7 @@ walked_next {geometry = geometry} {old = old} {new = new} len walked step =
       from = λ blocks s.
           let all = walked.from blocks s in
           let later = step.before.from all.0 all.2 in
-          (later.0, all.1 ∙ ap (joined walked.met) later.1, later.2);
+          (later.0, all.1 ∙ ap (turned_onto walked.met) later.1, later.2);
     }
 
 -- at the end all free blocks are marked
@@ -201,38 +201,38 @@ pub walked_end : {geometry : Geometry} {image : List ℕ} {marks : List Bool} {r
     → IsWalked geometry image marks rest → IsEnd geometry image rest → AreFreeMarks geometry image marks
 unfolding Once IsIn
 walked_end few walked end = record {
-  blocks = joined walked.met [];
-  free = record { count = few; stack = walked.onto [] end.empty; once = joined_once walked.met [] walked.once tt (λ k i j. j) };
+  blocks = turned_onto walked.met [];
+  free = record { count = few; stack = walked.onto [] end.empty; once = turned_once walked.met [] walked.once tt (λ k i j. j) };
   marked = λ k h. in_met walked.met [] k (walked.marked k h);
-  all = λ k i. elim (joined_in walked.met [] k i) [ inl before ↦ walked.all k before | inr later ↦ absurd later ];
+  all = λ k i. elim (turned_in walked.met [] k i) [ inl before ↦ walked.all k before | inr later ↦ absurd later ];
 }
 
 -- at the start none was counted
 pub counted_start : (geometry : Geometry) (image : List ℕ) (marks : List Bool) (rest : Rest)
     → rest.head ≡ free_head geometry.edition → rest.count ≡ word image (free_head geometry.edition)
-    → ((k : ℕ) → get_or marks k false ≡ false) → IsCounted geometry image marks rest 0
+    → ((k : ℕ) → get_or marks k false ≡ false) → IsCountedWalk geometry image marks rest 0
 unfolding walked_start
 counted_start geometry image marks rest head count clear = record { walked = walked_start geometry image marks rest head count clear; counted = refl }
 
 -- and one more behind a block that was met
 pub counted_next : {geometry : Geometry} {image : List ℕ} {old new : List Bool} {rest next : Rest} {count : ℕ} → length old ≡ geometry.zone_end
-    → IsCounted geometry image old rest count → IsMet geometry image old new rest next → IsCounted geometry image new next (count + 1)
+    → IsCountedWalk geometry image old rest count → IsMet geometry image old new rest next → IsCountedWalk geometry image new next (count + 1)
 unfolding walked_next
 counted_next len walked step = record { walked = walked_next len walked.walked step; counted = let counted = walked.counted in omega (arith, counted) }
 
 -- there are as many blocks in the list as were met and come later
-length-joined : (met blocks : List ℕ) → length (joined met blocks) ≡ length met + length blocks
-unfolding joined
-length-joined [] blocks = omega arith
-length-joined (b ∷ met) blocks = let later = length-joined met (b ∷ blocks) in omega arith
+length-turned_onto : (met blocks : List ℕ) → length (turned_onto met blocks) ≡ length met + length blocks
+unfolding turned_onto
+length-turned_onto [] blocks = omega arith
+length-turned_onto (b ∷ met) blocks = let later = length-turned_onto met (b ∷ blocks) in omega arith
 
 -- so at the end as many blocks are free as were met
-pub walked_count : {geometry : Geometry} {image : List ℕ} {marks : List Bool} {rest : Rest} {count : ℕ} → IsCounted geometry image marks rest count
+pub walked_count : {geometry : Geometry} {image : List ℕ} {marks : List Bool} {rest : Rest} {count : ℕ} → IsCountedWalk geometry image marks rest count
     → IsEnd geometry image rest → (blocks : List ℕ) → IsFree geometry image blocks → count ≡ length blocks
 walked_count walked end blocks free =
     let all = walked.walked.from blocks free.stack in
     let none : all.0 ≡ [] = end.none all.0 all.2 in
-    let whole : length blocks ≡ length walked.walked.met + length all.0 = ap length all.1 ∙ length-joined walked.walked.met all.0 in
+    let whole : length blocks ≡ length walked.walked.met + length all.0 = ap length all.1 ∙ length-turned_onto walked.walked.met all.0 in
     let nothing : length all.0 ≡ 0 = ap length none in
     omega (arith, whole, nothing, walked.counted)
 
@@ -243,7 +243,7 @@ pub walked_broken : {geometry : Geometry} {image : List ℕ} {marks : List Bool}
 walked_broken walked broken has =
     let all = walked.from has.blocks has.free.stack in
     let once = rw all.1 at has.free.once in
-    broken all.0 all.2 (λ b i marked. joined_apart walked.met all.0 once b (walked.marked b marked) i)
+    broken all.0 all.2 (λ b i marked. turned_apart walked.met all.0 once b (walked.marked b marked) i)
 
 -- what a mark counts while it isn't set
 abbrev unset : Bool → ℕ

@@ -52,16 +52,16 @@ pub record IsMet (geometry : Geometry) (image : List ℕ) (old new : List Bool) 
   pub before : IsBefore geometry image rest block next
 
 -- what one step of the walk found; where it is broken, there is no stack of blocks that aren't marked (icheck)
-abbrev pub Steps : Geometry → List ℕ → List Bool → List Bool → Rest → Outcome → Type 0
-Steps geometry image old new rest (Met next) = IsMet geometry image old new rest next
-Steps geometry image old new rest End = IsEnd geometry image rest × (new ≡ old)
-Steps geometry image old new rest Broken =
+abbrev pub StepFinds : Geometry → List ℕ → List Bool → List Bool → Rest → Outcome → Type 0
+StepFinds geometry image old new rest (Met next) = IsMet geometry image old new rest next
+StepFinds geometry image old new rest End = IsEnd geometry image rest × (new ≡ old)
+StepFinds geometry image old new rest Broken =
     (blocks : List ℕ) → IsRest geometry image rest blocks → ((b : ℕ) → IsIn b blocks → slice_index_or old b false ≡ true → ⊥) → ⊥
 
 -- the blocks of one list, the last first, and then those of the other (this project)
-unfoldable pub joined : List ℕ → List ℕ → List ℕ
-joined [] blocks = blocks
-joined (b ∷ met) blocks = joined met (b ∷ blocks)
+unfoldable pub turned_onto : List ℕ → List ℕ → List ℕ
+turned_onto [] blocks = blocks
+turned_onto (b ∷ met) blocks = turned_onto met (b ∷ blocks)
 
 -- the marked blocks are those that the walk met, each once, and with what is left they make up the whole free stack (icheck)
 pub record IsWalked (geometry : Geometry) (image : List ℕ) (marks : List Bool) (rest : Rest) : Type 0 where
@@ -70,11 +70,11 @@ pub record IsWalked (geometry : Geometry) (image : List ℕ) (marks : List Bool)
   pub marked : (k : ℕ) → slice_index_or marks k false ≡ true → IsIn k met
   pub all : (k : ℕ) → IsIn k met → slice_index_or marks k false ≡ true
   pub onto : (blocks : List ℕ) → IsRest geometry image rest blocks
-      → IsStack geometry image (free_head geometry.edition) (word image (free_head geometry.edition)) (joined met blocks)
+      → IsStack geometry image (free_head geometry.edition) (word image (free_head geometry.edition)) (turned_onto met blocks)
   pub from : (blocks : List ℕ) → IsStack geometry image (free_head geometry.edition) (word image (free_head geometry.edition)) blocks
-      → (later : List ℕ) × (blocks ≡ joined met later) × IsRest geometry image rest later
+      → (later : List ℕ) × (blocks ≡ turned_onto met later) × IsRest geometry image rest later
 
 -- the walk met so many blocks (icheck)
-pub record IsCounted (geometry : Geometry) (image : List ℕ) (marks : List Bool) (rest : Rest) (count : ℕ) : Type 0 where
+pub record IsCountedWalk (geometry : Geometry) (image : List ℕ) (marks : List Bool) (rest : Rest) (count : ℕ) : Type 0 where
   pub walked : IsWalked geometry image marks rest
   pub counted : length walked.met ≡ count

@@ -51,7 +51,7 @@ pub record IsMarked (geometry : Geometry) (image marks : List ℕ) : Type 0 wher
   pub named : MarksNamed geometry image marks
 
 -- what a walk over the places finds: the lesser of rules 5 and 7 that fails, or the marks (icheck)
-abbrev pub Finds : Geometry → List ℕ → List ℕ → Places → Type 0
-Finds geometry image marks OutOfZone = IsZoned geometry image → ⊥
-Finds geometry image marks Twice = IsZoned geometry image × (IsApart geometry image → ⊥)
-Finds geometry image marks Once = IsMarked geometry image marks
+abbrev pub FindsMarks : Geometry → List ℕ → List ℕ → Places → Type 0
+FindsMarks geometry image marks OutOfZone = IsZoned geometry image → ⊥
+FindsMarks geometry image marks Twice = IsZoned geometry image × (IsApart geometry image → ⊥)
+FindsMarks geometry image marks Once = IsMarked geometry image marks

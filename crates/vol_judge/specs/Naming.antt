@@ -12,7 +12,7 @@ use Rattle.vol_layout.specs.declared.geometry.Geometry.{Geometry}
 use Rattle.vol_layout.specs.declared.mode.Kind.TheVariants as kinds
 
 -- an entry has a name, without a slash, for an allocated i-number from the root's to the last (rule 9)
-pub record IsEntry (geometry : Geometry) (image name : List ℕ) (i : ℕ) : Type 0 where
+pub record IsValidEntry (geometry : Geometry) (image name : List ℕ) (i : ℕ) : Type 0 where
   pub some : name ≢ []
   pub no_slash : list_any (λ c. c == 47) name ≡ false
   pub first : (constants geometry.edition).root ≤ i
@@ -21,14 +21,14 @@ pub record IsEntry (geometry : Geometry) (image name : List ℕ) (i : ℕ) : Typ
 
 -- rule 9 holds of the slots of directory d below slot n (this project)
 pub record HasEntriesBelow (geometry : Geometry) (image : List ℕ) (d n : ℕ) : Type 0 where
-  pub entries : (t i : ℕ) (name : List ℕ) → t < n → entry_at geometry image d t ≡ Some (name, i) → IsEntry geometry image name i
+  pub entries : (t i : ℕ) (name : List ℕ) → t < n → entry_at geometry image d t ≡ Some (name, i) → IsValidEntry geometry image name i
   pub once : (s t i j : ℕ) (name : List ℕ) → s < n → t < n → entry_at geometry image d s ≡ Some (name, i)
       → entry_at geometry image d t ≡ Some (name, j) → s ≡ t
 
 -- rule 9 holds of directory d (this project)
 pub record HasEntriesIn (geometry : Geometry) (image : List ℕ) (d : ℕ) : Type 0 where
   pub whole : size_of geometry image d % 16 ≡ 0
-  pub entries : (t i : ℕ) (name : List ℕ) → entry_at geometry image d t ≡ Some (name, i) → IsEntry geometry image name i
+  pub entries : (t i : ℕ) (name : List ℕ) → entry_at geometry image d t ≡ Some (name, i) → IsValidEntry geometry image name i
   pub once : (s t i j : ℕ) (name : List ℕ) → entry_at geometry image d s ≡ Some (name, i)
       → entry_at geometry image d t ≡ Some (name, j) → s ≡ t
 
@@ -44,6 +44,6 @@ abbrev pub is_in : BTreeSet (List ℕ) → List ℕ → Bool
 is_in names name = contains (slice_cmp nat_cmp) names name
 
 -- the names, as slots store them, are those of the entries of directory d below slot n (this project)
-pub record HoldsNames (geometry : Geometry) (image : List ℕ) (d n : ℕ) (names : BTreeSet (List ℕ)) : Type 0 where
+pub record HoldsNamesBelow (geometry : Geometry) (image : List ℕ) (d n : ℕ) (names : BTreeSet (List ℕ)) : Type 0 where
   pub all : (t i : ℕ) (name : List ℕ) → t < n → entry_at geometry image d t ≡ Some (name, i) → is_in names (padded_name name) ≡ true
   pub only : (name : List ℕ) → is_in names name ≡ true → IsNamedBelow geometry image d n (name_of name)

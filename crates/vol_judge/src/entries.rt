@@ -3,7 +3,7 @@ ghost use Rattle.std.specs.Prelude.{◌≡◌, ◌<◌, IfOk, IsTrue, ◌↔◌}
 ghost use Rattle.vol_layout.specs.Geometry.{Fits};
 ghost use Rattle.vol_layout.specs.Slot.{name_of, padded_name};
 ghost use Rattle.vol_dir.specs.Entries.{IsDirectory, HasEntries};
-ghost use Rattle.vol_judge.specs.Naming.{IsEntry, HasEntriesIn};
+ghost use Rattle.vol_judge.specs.Naming.{IsValidEntry, HasEntriesIn};
 
 use crate::reading::is_directory;
 use pdp_words::Image;
@@ -62,7 +62,7 @@ fn has_entries_in(
 /// last.
 fn is_entry(image: &Image, geometry: &Geometry, slot: &Slot) -> bool
     requires { Fits geometry.now image.now }
-    ensures { IsTrue result ↔ IsEntry geometry.now image.now (name_of slot.now.name) slot.now.inode }
+    ensures { IsTrue result ↔ IsValidEntry geometry.now image.now (name_of slot.now.name) slot.now.inode }
 {
     let name = slot.name();
     !name.is_empty()

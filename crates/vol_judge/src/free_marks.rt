@@ -3,7 +3,7 @@ ghost use Rattle.std.specs.Prelude.{◌≡◌, ℕ, ◌+◌, ◌-◌, ◌*◌, �
 ghost use Rattle.vol_layout.specs.Edition.{constants, number};
 ghost use Rattle.vol_layout.specs.Geometry.{Fits, in_zone};
 ghost use Rattle.vol_free.specs.Stack.{HasStack, IsFree};
-ghost use Rattle.vol_judge.specs.FreeWalk.{AreFreeMarks, IsReadable, IsBehind, Steps};
+ghost use Rattle.vol_judge.specs.FreeWalk.{AreFreeMarks, IsReadable, IsBehind, StepFinds};
 
 use pdp_words::{BLOCK, Image};
 use vol_layout::{Geometry, Super, number};
@@ -65,7 +65,7 @@ fn step(image: &Image, geometry: &Geometry, marks: &mut [bool], rest: Rest) -> O
     requires fits { Fits geometry.now image.now }
     requires room { length marks.old ≡ geometry.now.zone_end }
     requires readable { IsReadable geometry.now image.now rest }
-    ensures { Steps geometry.now image.now marks.old marks.new rest result }
+    ensures { StepFinds geometry.now image.now marks.old marks.new rest result }
 {
     if rest.count == 0 {
         return Outcome::End;

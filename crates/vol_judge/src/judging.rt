@@ -4,7 +4,7 @@ ghost use Rattle.std.specs.Result.{result_err};
 ghost use Rattle.vol_layout.specs.Geometry.{Fits, geometry_of};
 ghost use Rattle.vol_free.specs.Stack.{IsFree};
 ghost use Rattle.vol_judge.specs.Judging.{IsFirstBroken};
-ghost use Rattle.vol_judge.specs.Marks.{Finds};
+ghost use Rattle.vol_judge.specs.Marks.{FindsMarks};
 ghost use Rattle.vol_judge.specs.Sound.{Asked, IsJudged, free_rules, block_rules, volume_rules};
 
 use crate::blocks::{are_apart, are_covered};
@@ -130,7 +130,7 @@ fn judge_free(
 ) -> Result<Result<u32, u8>, AllocError>
     requires fits { Fits geometry.now image.now }
     requires room { length named.now ≡ geometry.now.zone_end }
-    requires places { Finds geometry.now image.now named.now places }
+    requires places { FindsMarks geometry.now image.now named.now places }
     requires zoned { places ≢ Places.OutOfZone }
     ensures least { IfOk result (λ found. IsFirstBroken 6 (free_rules true geometry.now image.now) (result_err found)) }
     ensures count { IfOk result (λ found. IfOk found (λ count.
@@ -153,7 +153,7 @@ fn judge_marks(
     requires room { length named.now ≡ geometry.now.zone_end }
     requires free_room { length free.old ≡ geometry.now.zone_end }
     requires clear { (k : ℕ) → slice_index_or free.old k false ≡ false }
-    requires places { Finds geometry.now image.now named.now places }
+    requires places { FindsMarks geometry.now image.now named.now places }
     requires zoned { places ≢ Places.OutOfZone }
     ensures least { IsFirstBroken 6 (free_rules true geometry.now image.now) (result_err result) }
     ensures count { IfOk result (λ count. (blocks : List ℕ) → IsFree geometry.now image.now blocks → count ≡ length blocks) }

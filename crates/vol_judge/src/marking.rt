@@ -11,7 +11,7 @@ ghost use Rattle.vol_judge.specs.Marks.{
   marked,
   MarksNamed,
   AreNamed,
-  Finds,
+  FindsMarks,
 };
 
 use pdp_words::{BLOCK, Image};
@@ -74,7 +74,7 @@ fn set_marked(marks: &[u8], flags: &mut [bool])
 pub(crate) fn mark_places(image: &Image, geometry: &Geometry, marks: &mut [u8]) -> Places
     requires fits { Fits geometry.now image.now }
     requires len { length marks.old ≡ geometry.now.zone_end }
-    ensures { Finds geometry.now image.now marks.new result }
+    ensures { FindsMarks geometry.now image.now marks.new result }
 {
     if !is_zoned(image, geometry, marks) {
         return Places::OutOfZone;

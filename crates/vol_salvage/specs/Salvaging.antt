@@ -17,6 +17,6 @@ pub record IsSalvaged (edition : Edition) (old new : List ℕ) : Type 0 where
   pub around : StaysAround (geometry_of edition old) old new
 
 -- why an image isn't salvaged: want of memory, or the least rule that fails, but for what concerns the free list (this project)
-abbrev pub IsFaultOf : Edition → List ℕ → SalvageFault → Type 0
-IsFaultOf edition bytes faults.NoMemory = Unit {0}
-IsFaultOf edition bytes (faults.Unsound n) = IsLeastBroken false edition bytes n
+abbrev pub IsSalvageFault : Edition → List ℕ → SalvageFault → Type 0
+IsSalvageFault edition bytes faults.NoMemory = Unit {0}
+IsSalvageFault edition bytes (faults.Unsound n) = IsLeastBroken false edition bytes n

@@ -4,7 +4,7 @@
 ghost use Rattle.std.specs.Prelude.{◌≡◌, false, IfOk, IfErr};
 ghost use Rattle.vol_layout.specs.Geometry.{Fits, geometry_of};
 ghost use Rattle.vol_judge.specs.Sound.{KeepsRules};
-ghost use Rattle.vol_salvage.specs.Salvaging.{IsSalvaged, IsFaultOf};
+ghost use Rattle.vol_salvage.specs.Salvaging.{IsSalvaged, IsSalvageFault};
 
 use pdp_words::Image;
 use std::alloc::{AllocError, Global};
@@ -35,7 +35,7 @@ pub fn salvage(
     bytes: Vec<u8>,
 ) -> Result<Vec<u8>, (SalvageFault, Vec<u8>)>
     ensures salvaged { IfOk result (λ salvaged. IsSalvaged edition bytes.items salvaged.items) }
-    ensures fault { IfErr result (λ (fault, same). IsFaultOf edition bytes.items fault) }
+    ensures fault { IfErr result (λ (fault, same). IsSalvageFault edition bytes.items fault) }
     ensures handed_back { IfErr result (λ (fault, same). same.items ≡ bytes.items) }
 {
     let mut image = Image::from_bytes(bytes);

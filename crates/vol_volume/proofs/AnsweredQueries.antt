@@ -12,7 +12,7 @@ use Rattle.vol_layout.specs.declared.geometry.Geometry.{Geometry}
 use Rattle.vol_change.specs.Nodes.{node_at, names_at}
 use Rattle.vol_change.specs.Edits.{body_of}
 use Rattle.vol_volume.specs.Answer.{list_tests, query_refusal, read_bytes, reply_at, reply_of, refused_or, stat_of, Answers}
-use Rattle.vol_volume.specs.Answering.{IsRefused, LeadsTo}
+use Rattle.vol_volume.specs.Answering.{IsPathRefused, LeadsTo}
 use Rattle.vol_volume.specs.Ids.{is_bad_id}
 use Rattle.vol_volume.specs.Verdict.{first_of, body_tests, then_others, of_node}
 use Rattle.vol_volume.specs.declared.queries.Query.{Query}
@@ -40,7 +40,7 @@ left_by false false others is = refl
 -- a bad number of a user or group is refused first, then a zero byte
 pub first_refused : (geometry : Geometry) (image : List ℕ) (cred : Cred) (path : List ℕ) (refusal : Refusal)
     → Some refusal ≡ (if is_bad_id geometry.edition cred.uid cred.gid then Some refusals.BadId else if has_zero path then Some refusals.Invalid else None)
-    → IsRefused (tree geometry image) cred path refusal
+    → IsPathRefused (tree geometry image) cred path refusal
 unfolding tree
 first_refused geometry image cred path refusal is =
     λ others. refused_by (is_bad_id geometry.edition cred.uid cred.gid) (has_zero path) (of_node (walk (tree geometry image) cred path) others) refusal is
@@ -56,7 +56,7 @@ asked geometry image cred path others none = left_by (is_bad_id geometry.edition
 pub walked : (geometry : Geometry) (image : List ℕ) (cred : Cred) (path : List ℕ) (result : Result ℕ Refusal)
     → None ≡ (if is_bad_id geometry.edition cred.uid cred.gid then Some refusals.BadId else if has_zero path then Some refusals.Invalid else None)
     → result ≡ walk (tree geometry image) cred path
-    → MatchResult result (LeadsTo (tree geometry image) cred path) (IsRefused (tree geometry image) cred path)
+    → MatchResult result (LeadsTo (tree geometry image) cred path) (IsPathRefused (tree geometry image) cred path)
 walked geometry image cred path (Ok i) none is = record {
   walked = sym is;
   asked = λ others. asked geometry image cred path (of_node (walk (tree geometry image) cred path) others) none ∙ ap (λ r. of_node r others) (sym is);
@@ -88,7 +88,7 @@ replied : (tree : Tree) (query : Query) (reply : Reply) → query_refusal tree q
 replied tree query reply none is = sym (ap (λ refusal. refused_or refusal (reply_of tree query)) none ∙ is)
 
 -- Stat: a path that is refused
-pub stat_refused : (tree : Tree) (cred : Cred) (path : List ℕ) (refusal : Refusal) → IsRefused tree cred path refusal
+pub stat_refused : (tree : Tree) (cred : Cred) (path : List ℕ) (refusal : Refusal) → IsPathRefused tree cred path refusal
     → Answers tree (queries.Stat cred path) (Err refusal)
 unfolding query_refusal
 stat_refused tree cred path refusal denied = refused tree (queries.Stat cred path) refusal (denied (λ i. None))
@@ -102,7 +102,7 @@ stat_replied tree cred path i stat leads is =
     (ap (λ r. reply_at r (λ i. replies.Stat (stat_of i (node_at tree i)))) leads.walked ∙ ap (λ s. Ok (replies.Stat s)) (sym is))
 
 -- Read: a path that is refused
-pub read_refused : (tree : Tree) (cred : Cred) (path : List ℕ) (offset len : ℕ) (refusal : Refusal) → IsRefused tree cred path refusal
+pub read_refused : (tree : Tree) (cred : Cred) (path : List ℕ) (offset len : ℕ) (refusal : Refusal) → IsPathRefused tree cred path refusal
     → Answers tree (queries.Read cred path offset len) (Err refusal)
 unfolding query_refusal
 read_refused tree cred path offset len refusal denied =
@@ -134,7 +134,7 @@ read_replied tree cred path offset len i bytes leads none is =
     ∙ ap (λ b. Ok (replies.Bytes b)) (sym is))
 
 -- List: a path that is refused
-pub list_refused : (tree : Tree) (cred : Cred) (path : List ℕ) (refusal : Refusal) → IsRefused tree cred path refusal
+pub list_refused : (tree : Tree) (cred : Cred) (path : List ℕ) (refusal : Refusal) → IsPathRefused tree cred path refusal
     → Answers tree (queries.List cred path) (Err refusal)
 unfolding query_refusal
 list_refused tree cred path refusal denied = refused tree (queries.List cred path) refusal (denied (λ i. first_of (list_tests tree cred i)))

@@ -19,8 +19,8 @@ use Rattle.vol_volume.proofs.BlankStacks.{blank_free}
 use Rattle.vol_volume.proofs.NewRules.{new_sound}
 use Rattle.vol_change.proofs.WholeLaws.{super_order}
 use Rattle.vol_volume.proofs.NewSizes.{fits_makeable, read_makeable, sizes_kept, time_kept}
-use Rattle.vol_volume.specs.Blank.{blank_in, head_byte, HasHead, block_byte, volume_byte, volume_bytes, IsBlank, IsFirst, IsMade}
-use Rattle.vol_volume.specs.Mkfs.{is_chain, is_size, size_bytes, IsMakeable, IsOutside, IsUnused, IsNewVolume}
+use Rattle.vol_volume.specs.Blank.{blank_in, head_byte, HasHead, block_byte, volume_byte, volume_bytes, IsBlank, IsBlankFirst, IsMade}
+use Rattle.vol_volume.specs.Mkfs.{is_chain, is_size, sizes_bytes, IsMakeable, IsNoneOf, IsUnused, IsNewVolume}
 
 -- the root's i-node ends within the first block of the i-list
 pub root_end : (edition : Edition) → inode_place edition (constants edition).root + (constants edition).inode_bytes ≤ 1536
@@ -98,15 +98,15 @@ volume_at geometry first k b r within small place =
     get_or-map-range_with_len (volume_byte geometry first) 0 (512 * geometry.zone_end) k k 0 low (omega arith) ∙ rw (block, offset)
 
 -- what the super-block has ends within it
-order_end : (edition : Edition) → (512 + size_bytes edition ≤ 1024) × (free_head edition + 202 ≤ 1024) × (time_place edition + 4 ≤ 1024)
+order_end : (edition : Edition) → (512 + sizes_bytes edition ≤ 1024) × (free_head edition + 202 ≤ 1024) × (time_place edition + 4 ≤ 1024)
 order_end V6 = (omega arith, omega arith, omega arith)
 order_end V7 = (omega arith, omega arith, omega arith)
 
 -- a byte of a chain block that is none of its head
-outside_chain : (b r k : ℕ) → k ≡ 512 * b + r → IsOutside (512 * b) 202 k → 202 ≤ r
+outside_chain : (b r k : ℕ) → k ≡ 512 * b + r → IsNoneOf (512 * b) 202 k → 202 ≤ r
 outside_chain b r k place apart = elim (cases_lt r 202) [ inl low ↦ absurd (apart (omega arith) (omega arith)) | inr high ↦ high ]
 
-module _ (geometry : Geometry) (uid gid now : ℕ) (first : List ℕ) (makeable : IsMakeable geometry) (is : IsFirst geometry uid gid now first)
+module _ (geometry : Geometry) (uid gid now : ℕ) (first : List ℕ) (makeable : IsMakeable geometry) (is : IsBlankFirst geometry uid gid now first)
     (some : geometry.zone_start < geometry.zone_end) where
   -- all bytes
   bytes : List ℕ
@@ -175,7 +175,7 @@ module _ (geometry : Geometry) (uid gid now : ℕ) (first : List ℕ) (makeable 
 
   -- a byte that has no part in what is put is zero
   rest : (k : ℕ) → k < 512 * geometry.zone_end → IsUnused geometry.edition (512 * geometry.zone_start) k
-      → ((b : ℕ) → is_chain geometry b ≡ true → IsOutside (512 * b) 202 k) → get_or bytes k 0 ≡ 0
+      → ((b : ℕ) → is_chain geometry b ≡ true → IsNoneOf (512 * b) 202 k) → get_or bytes k 0 ≡ 0
   unfolding bytes
   rest k within blank apart =
       let edition = geometry.edition in
@@ -257,7 +257,7 @@ module _ (geometry : Geometry) (uid gid now : ℕ) (first : List ℕ) (makeable 
   blank_made = record { new = blank_new; sound = new_sound geometry uid gid now (volume_bytes geometry first) makeable blank_new }
 
 -- blocks that say what a volume is are those of the volume that they say
-pub blank_stands : (geometry : Geometry) (uid gid now : ℕ) (first : List ℕ) → IsMakeable geometry → IsFirst geometry uid gid now first
+pub blank_stands : (geometry : Geometry) (uid gid now : ℕ) (first : List ℕ) → IsMakeable geometry → IsBlankFirst geometry uid gid now first
     → IsBlank geometry first
 blank_stands geometry uid gid now first makeable is =
     let blank = blank_in geometry first in
@@ -266,8 +266,8 @@ blank_stands geometry uid gid now first makeable is =
     let moment : now ≡ blank.now = sym is.time in
     record {
       makeable = makeable;
-      stands = subst (λ n. IsFirst geometry blank.uid blank.gid n first) moment
-          (subst (λ n. IsFirst geometry blank.uid n now first) group (subst (λ n. IsFirst geometry n gid now first) user is));
+      stands = subst (λ n. IsBlankFirst geometry blank.uid blank.gid n first) moment
+          (subst (λ n. IsBlankFirst geometry blank.uid n now first) group (subst (λ n. IsBlankFirst geometry n gid now first) user is));
     }
 
 -- the data zone of a volume that can be made has a block

@@ -18,16 +18,16 @@ use Rattle.vol_volume.specs.declared.queries.Reply.TheVariants as replies
 use Rattle.vol_volume.specs.declared.queries.Stat.{Stat}
 
 -- what a node with some content is (manual section 5, file system)
-abbrev pub kind_in : Content → Kind
-kind_in (Body bytes) = kinds.Regular
-kind_in (Directory names) = kinds.Directory
-kind_in (Device type addresses) = kinds.Special
+abbrev pub kind_of_content : Content → Kind
+kind_of_content (Body bytes) = kinds.Regular
+kind_of_content (Directory names) = kinds.Directory
+kind_of_content (Device type addresses) = kinds.Special
 
 -- what is told of node i (stat)
 abbrev pub stat_of : ℕ → Node → Stat
 stat_of i node = record {
   number = i;
-  kind = kind_in node.content;
+  kind = kind_of_content node.content;
   permissions = node.permissions;
   links = node.links;
   uid = node.uid;

@@ -9,8 +9,8 @@ use Rattle.vol_dir.specs.declared.cred.Cred.{Cred}
 use Rattle.vol_dir.specs.declared.refusal.Refusal.{Refusal}
 
 -- a path is refused, whatever would be asked of its node (this project)
-abbrev pub IsRefused : Tree → Cred → List ℕ → Refusal → Type 0
-IsRefused tree cred path refusal =
+abbrev pub IsPathRefused : Tree → Cred → List ℕ → Refusal → Type 0
+IsPathRefused tree cred path refusal =
     (others : ℕ → Option Refusal) → then_others tree cred (path ∷ []) (of_node (walk tree cred path) others) ≡ Some refusal
 
 -- a path leads to node i, of which the rest is asked (this project)

@@ -97,7 +97,7 @@ volume_bytes geometry first = map (volume_byte geometry first) (range_with_len 0
 
 -- the blocks 0, 1 and 2 of a new volume, and then the root's: the sizes, the time and the free list stand in the super-block, the
 -- root has its i-node and its two slots, and all other bytes are zeros (mkfs)
-pub record IsFirst (geometry : Geometry) (uid gid now : ℕ) (first : List ℕ) : Type 0 where
+pub record IsBlankFirst (geometry : Geometry) (uid gid now : ℕ) (first : List ℕ) : Type 0 where
   pub len : length first ≡ 2048
   pub start : first_data_block geometry.edition first ≡ geometry.zone_start
   pub end : block_count geometry.edition first ≡ geometry.zone_end
@@ -123,4 +123,4 @@ blank_in geometry first =
 -- what every new volume keeps: its sizes are those of a volume, and its blocks say what it is (this project)
 pub record IsBlank (geometry : Geometry) (first : List ℕ) : Type 0 where
   pub makeable : IsMakeable geometry
-  pub stands : IsFirst geometry (blank_in geometry first).uid (blank_in geometry first).gid (blank_in geometry first).now first
+  pub stands : IsBlankFirst geometry (blank_in geometry first).uid (blank_in geometry first).gid (blank_in geometry first).now first

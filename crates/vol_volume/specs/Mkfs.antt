@@ -51,22 +51,22 @@ is_chain geometry b =
     nat_lt geometry.zone_start b && (nat_lt b geometry.zone_end && ((geometry.zone_end - b) % (constants geometry.edition).free_slots == 0))
 
 -- byte k is none of `count` bytes from byte `at` on (a frame)
-abbrev pub IsOutside : ℕ → ℕ → ℕ → Type 0
-IsOutside at count k = at ≤ k → k < at + count → ⊥
+abbrev pub IsNoneOf : ℕ → ℕ → ℕ → Type 0
+IsNoneOf at count k = at ≤ k → k < at + count → ⊥
 
 -- how many bytes the two sizes at the front of the super-block have: two words in the sixth edition, a word and a long in the seventh (filsys.h)
-abbrev pub size_bytes : Edition → ℕ
-size_bytes V6 = 4
-size_bytes V7 = 6
+abbrev pub sizes_bytes : Edition → ℕ
+sizes_bytes V6 = 4
+sizes_bytes V7 = 6
 
 -- byte k of a new volume is none of the sizes, the free list's head, the time, the root's i-node, or the root's two slots, which
 -- stand at byte `slots` (mkfs)
 pub record IsUnused (edition : Edition) (slots k : ℕ) : Type 0 where
-  pub sizes : IsOutside 512 (size_bytes edition) k
-  pub free : IsOutside (free_head edition) 202 k
-  pub time : IsOutside (time_place edition) 4 k
-  pub root : IsOutside (inode_place edition (constants edition).root) (constants edition).inode_bytes k
-  pub names : IsOutside slots 32 k
+  pub sizes : IsNoneOf 512 (sizes_bytes edition) k
+  pub free : IsNoneOf (free_head edition) 202 k
+  pub time : IsNoneOf (time_place edition) 4 k
+  pub root : IsNoneOf (inode_place edition (constants edition).root) (constants edition).inode_bytes k
+  pub names : IsNoneOf slots 32 k
 
 -- an image is that of a new volume: its geometry is the one asked for and it has no more bytes, its time is `now`, the
 -- root has its i-node and its two slots, both of which name it, each other i-node is all zeros, the free blocks are all
@@ -84,4 +84,4 @@ pub record IsNewVolume (geometry : Geometry) (uid gid now : ℕ) (image : List �
   pub free : IsFree geometry image (range_with_len (geometry.zone_start + 1) (geometry.zone_end - (geometry.zone_start + 1)))
   pub unused : geometry.edition ≡ V7 → slice_index image (inode_place V7 (constants V7).root + 51) ≡ 0
   pub rest : (k : ℕ) → k < 512 * geometry.zone_end → IsUnused geometry.edition (512 * geometry.zone_start) k
-      → ((b : ℕ) → is_chain geometry b ≡ true → IsOutside (512 * b) 202 k) → slice_index image k ≡ 0
+      → ((b : ℕ) → is_chain geometry b ≡ true → IsNoneOf (512 * b) 202 k) → slice_index image k ≡ 0

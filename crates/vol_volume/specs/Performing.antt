@@ -32,7 +32,7 @@ pub record LeadsToNode (geometry : Geometry) (image : List ℕ) (cred : Cred) (p
   pub used : IsInUse geometry image i
 
 -- where a new entry of directory d goes, and how many blocks it needs (Lions on wdir)
-pub record IsPlace (geometry : Geometry) (image : List ℕ) (d : ℕ) (place : Place) : Type 0 where
+pub record IsEntryPlace (geometry : Geometry) (image : List ℕ) (d : ℕ) (place : Place) : Type 0 where
   pub slot : place.slot ≡ new_slot (shapes geometry image d).slots
   pub needed : place.needed ≡ entry_need (state geometry image) d
 

@@ -10,7 +10,7 @@ ghost use Rattle.vol_dir.specs.Tree.{tree};
 ghost use Rattle.vol_judge.specs.Sound.{IsSound};
 ghost use Rattle.vol_change.specs.Nodes.{node_at};
 ghost use Rattle.vol_volume.specs.Answer.{stat_of, list_tests, read_bytes, Answers};
-ghost use Rattle.vol_volume.specs.Answering.{IsRefused, LeadsTo, listed_names};
+ghost use Rattle.vol_volume.specs.Answering.{IsPathRefused, LeadsTo, listed_names};
 ghost use Rattle.vol_volume.specs.Standing.{Rules3To7And9};
 ghost use Rattle.vol_volume.specs.Verdict.{first_of};
 
@@ -115,7 +115,7 @@ fn answer_list(
 fn find_node(image: &Image, geometry: &Geometry, cred: Cred, path: &[u8]) -> Result<u16, Refusal>
     requires stands { Rules3To7And9 geometry.now image.now }
     ensures found { MatchResult result (LeadsTo (tree geometry.now image.now) cred path.now)
-        (IsRefused (tree geometry.now image.now) cred path.now) }
+        (IsPathRefused (tree geometry.now image.now) cred path.now) }
     ensures used { IfOk result (λ i. IsInUse geometry.now image.now i) }
 {
     first_tests(geometry, cred, path)?;

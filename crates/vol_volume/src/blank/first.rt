@@ -7,8 +7,8 @@ ghost use Rattle.vol_layout.specs.Geometry.{first_data_block, block_count};
 ghost use Rattle.vol_layout.specs.Inode.{inode_place, inode_of, IsStorable};
 ghost use Rattle.vol_layout.specs.Slot.{padded_name, slot_at};
 ghost use Rattle.vol_layout.specs.Super.{free_head, time_place};
-ghost use Rattle.vol_volume.specs.Blank.{HasHead, first_chain, IsFirst};
-ghost use Rattle.vol_volume.specs.Mkfs.{root_inode, size_bytes, IsMakeable, IsOutside};
+ghost use Rattle.vol_volume.specs.Blank.{HasHead, first_chain, IsBlankFirst};
+ghost use Rattle.vol_volume.specs.Mkfs.{root_inode, sizes_bytes, IsMakeable, IsNoneOf};
 ghost use Rattle.vol_volume.specs.Ids.{is_bad_id};
 
 use crate::blank::FIRST_BLOCKS;
@@ -31,7 +31,7 @@ pub fn fill(image: &mut Image, geometry: &Geometry, uid: u16, gid: u16, now: u32
     requires id { is_bad_id geometry.now.edition uid gid ≡ false }
     requires len { length image.old ≡ 2048 }
     requires zeros { (k : ℕ) → slice_index image.old k ≡ 0 }
-    ensures { IsFirst geometry.now uid gid now image.new }
+    ensures { IsBlankFirst geometry.now uid gid now image.new }
 {
     put_free_list(image, geometry);
     put_super(image, geometry, now);
@@ -78,7 +78,7 @@ fn put_super(image: &mut Image, geometry: &Geometry, now: u32)
     ensures kept { (k : ℕ) → free_head geometry.now.edition ≤ k → k < free_head geometry.now.edition + 202
         → slice_index image.new k ≡ slice_index image.old k }
     ensures others { SameOutside image.old image.new 512 1024 }
-    ensures rest { (k : ℕ) → IsOutside 512 (size_bytes geometry.now.edition) k → IsOutside (time_place geometry.now.edition) 4 k
+    ensures rest { (k : ℕ) → IsNoneOf 512 (sizes_bytes geometry.now.edition) k → IsNoneOf (time_place geometry.now.edition) 4 k
         → slice_index image.new k ≡ slice_index image.old k }
 {
     let super_block = Super {

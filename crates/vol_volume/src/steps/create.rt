@@ -5,7 +5,7 @@ ghost use Rattle.vol_dir.specs.Entries.{IsDirectory};
 ghost use Rattle.vol_dir.specs.Tree.{tree, state};
 ghost use Rattle.vol_dir.specs.Walk.{walk_parent};
 ghost use Rattle.vol_change.specs.Ready.{Rules1To12, free_in};
-ghost use Rattle.vol_volume.specs.Performing.{LeadsToParent, IsPlace, IsPerformed};
+ghost use Rattle.vol_volume.specs.Performing.{LeadsToParent, IsEntryPlace, IsPerformed};
 ghost use Rattle.vol_volume.specs.Standing.{Rules3To7And9};
 ghost use Rattle.vol_volume.specs.Verdict.{first_of, then_others, of_parent, create_tests, is_free_number, verdict};
 
@@ -35,7 +35,7 @@ fn create_tests(
     requires count { free ≡ free_in (state geometry.now image.now) }
     requires directory { IsDirectory geometry.now image.now dir }
     ensures refusal { result_err result ≡ first_of (create_tests (state geometry.now image.now) cred dir name.now) }
-    ensures place { IfOk result (λ place. IsPlace geometry.now image.now dir place) }
+    ensures place { IfOk result (λ place. IsEntryPlace geometry.now image.now dir place) }
 {
     let slot = vacant(image, geometry, dir, name)?;
     refuse_if(
@@ -66,7 +66,7 @@ pub(crate) fn check<'a>(
     ensures refusal { result_err result ≡ then_others (tree geometry.now image.now) cred (path.now ∷ [])
         (of_parent (walk_parent (tree geometry.now image.now) cred path.now) Refusal.Exists (create_tests (state geometry.now image.now) cred)) }
     ensures leads { IfOk result (λ found. LeadsToParent geometry.now image.now cred path.now found.dir found.name.now) }
-    ensures place { IfOk result (λ found. IsPlace geometry.now image.now found.dir found.place) }
+    ensures place { IfOk result (λ found. IsEntryPlace geometry.now image.now found.dir found.place) }
 {
     first_tests(geometry, cred, path)?;
     let (dir, name) = parent(image, geometry, cred, path, Refusal::Exists)?;

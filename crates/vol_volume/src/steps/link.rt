@@ -5,7 +5,7 @@ ghost use Rattle.vol_dir.specs.Entries.{IsDirectory, IsInUse};
 ghost use Rattle.vol_dir.specs.Tree.{tree, state};
 ghost use Rattle.vol_dir.specs.Walk.{has_zero, walk};
 ghost use Rattle.vol_change.specs.Ready.{Rules1To12, free_in};
-ghost use Rattle.vol_volume.specs.Performing.{LeadsToParent, LeadsToNode, IsPlace, IsPerformed};
+ghost use Rattle.vol_volume.specs.Performing.{LeadsToParent, LeadsToNode, IsEntryPlace, IsPerformed};
 ghost use Rattle.vol_volume.specs.Standing.{Rules3To7And9};
 ghost use Rattle.vol_volume.specs.Verdict.{first_of, then_others, of_node, link_tests, link_refusal, verdict};
 
@@ -36,7 +36,7 @@ fn link_tests(
     requires used { IsInUse geometry.now image.now i }
     requires directory { IsDirectory geometry.now image.now dir }
     ensures refusal { result_err result ≡ first_of (link_tests (state geometry.now image.now) cred i dir name.now) }
-    ensures place { IfOk result (λ place. IsPlace geometry.now image.now dir place) }
+    ensures place { IfOk result (λ place. IsEntryPlace geometry.now image.now dir place) }
 {
     let slot = vacant(image, geometry, dir, name)?;
     refuse_if(
@@ -68,7 +68,7 @@ fn check_target<'a>(
     requires text { has_zero target.now ≡ false }
     ensures refusal { result_err result ≡ link_refusal (state geometry.now image.now) cred target.now i }
     ensures leads { IfOk result (λ found. LeadsToParent geometry.now image.now cred target.now found.dir found.name.now) }
-    ensures place { IfOk result (λ found. IsPlace geometry.now image.now found.dir found.place) }
+    ensures place { IfOk result (λ found. IsEntryPlace geometry.now image.now found.dir found.place) }
 {
     refuse_if(is_directory(image, geometry, i), Refusal::IsDirectory)?;
     let (dir, name) = parent(image, geometry, cred, target, Refusal::Exists)?;
@@ -92,7 +92,7 @@ pub(crate) fn check<'a>(
         (of_node (walk (tree geometry.now image.now) cred source.now) (link_refusal (state geometry.now image.now) cred target.now)) }
     ensures node { IfOk result (λ found. LeadsToNode geometry.now image.now cred source.now found.0) }
     ensures leads { IfOk result (λ found. LeadsToParent geometry.now image.now cred target.now found.1.dir found.1.name.now) }
-    ensures place { IfOk result (λ found. IsPlace geometry.now image.now found.1.dir found.1.place) }
+    ensures place { IfOk result (λ found. IsEntryPlace geometry.now image.now found.1.dir found.1.place) }
 {
     first_tests(geometry, cred, source)?;
     refuse_if(has_zero(target), Refusal::Invalid)?;

@@ -2,7 +2,7 @@ use Rattle.std.proofs.Common.{◌≡◌, ◌-◌, ◌≤◌, arith, sym, ap, sub
 use Rattle.vol_layout.specs.Inode.{inode_place, address_at}
 use Rattle.vol_layout.specs.Names.{form_at}
 use Rattle.vol_layout.specs.Places.{first_count, levels}
-use Rattle.vol_file.specs.Clears.{first_at, HasNode, ClearsBelow}
+use Rattle.vol_file.specs.Clears.{first_at, IsNamedAtLevel, ClearsBelow}
 use Rattle.vol_file.proofs.Nodes.{addresses_start, addresses_end, addresses_none, addresses_node, addresses_address, addresses_part, addresses_some}
 use Rattle.vol_file.proofs.Gaining.{gains_none, step_few, step_part, step_gains, zone_some}
 use Rattle.vol_file.proofs.truncating.clear_addresses.Goals as goal
@@ -22,7 +22,7 @@ clear_below-given-requires c =
     let few : c.loop-k.k ≤ first_count (form_at c.args.geometry.now c.args.image.now c.args.i) = c.loop-k.invariant.few in
     let below : c.levels.result ≡ levels (form_at c.args.geometry.now c.args.image.now c.args.i) (c.loop-k.k - 1) =
     c.levels.ensures ∙ ap (λ form. levels form (c.loop-k.k - 1)) c.requires.form in
-    subst (HasNode c.args.geometry.now c.loop-k.image c.address-b.result) (sym below)
+    subst (IsNamedAtLevel c.args.geometry.now c.loop-k.image c.address-b.result) (sym below)
     (addresses_node c.args.geometry.now c.args.image.now c.loop-k.image c.args.i c.args.kept (c.loop-k.k - 1) c.loop-k.k c.address-b.result c.requires.sound.blocks
     c.requires.file c.loop-k.invariant.cleared c.requires.sound.sound (omega arith) c.address-b.ensures c.if-b-ne0.true)
 
@@ -31,7 +31,7 @@ overflow_add-given c =
     let few : c.loop-k.k ≤ first_count (form_at c.args.geometry.now c.args.image.now c.args.i) = c.loop-k.invariant.few in
     let below : c.levels.result ≡ levels (form_at c.args.geometry.now c.args.image.now c.args.i) (c.loop-k.k - 1) =
     c.levels.ensures ∙ ap (λ form. levels form (c.loop-k.k - 1)) c.requires.form in
-    let node = subst (HasNode c.args.geometry.now c.loop-k.image c.address-b.result) (sym below)
+    let node = subst (IsNamedAtLevel c.args.geometry.now c.loop-k.image c.address-b.result) (sym below)
     (addresses_node c.args.geometry.now c.args.image.now c.loop-k.image c.args.i c.args.kept (c.loop-k.k - 1) c.loop-k.k c.address-b.result c.requires.sound.blocks
     c.requires.file c.loop-k.invariant.cleared c.requires.sound.sound (omega arith) c.address-b.ensures c.if-b-ne0.true) in
     let bound = step_few c.args.geometry.now c.args.image.now c.loop-k.image c.clear_below-given.new.image c.address-b.result c.levels.result
@@ -44,7 +44,7 @@ overflow_add-given-then-rest-eq0 c =
     let few : c.loop-k.k ≤ first_count (form_at c.args.geometry.now c.args.image.now c.args.i) = c.loop-k.invariant.few in
     let below : c.levels.result ≡ levels (form_at c.args.geometry.now c.args.image.now c.args.i) (c.loop-k.k - 1) =
     c.levels.ensures ∙ ap (λ form. levels form (c.loop-k.k - 1)) c.requires.form in
-    let node = subst (HasNode c.args.geometry.now c.loop-k.image c.address-b.result) (sym below)
+    let node = subst (IsNamedAtLevel c.args.geometry.now c.loop-k.image c.address-b.result) (sym below)
     (addresses_node c.args.geometry.now c.args.image.now c.loop-k.image c.args.i c.args.kept (c.loop-k.k - 1) c.loop-k.k c.address-b.result c.requires.sound.blocks
     c.requires.file c.loop-k.invariant.cleared c.requires.sound.sound (omega arith) c.address-b.ensures c.if-b-ne0.true) in
     let bound = step_few c.args.geometry.now c.args.image.now c.loop-k.image c.clear_below-given.new.image c.address-b.result c.levels.result
@@ -70,7 +70,7 @@ loop-k-preserved-then-rest-eq0 c =
     c.levels.ensures ∙ ap (λ form. levels form (c.loop-k.k - 1)) c.requires.form in
     let left : c.saturating_sub-rest.result ≡ c.args.kept - first_at (form_at c.args.geometry.now c.args.image.now c.args.i) (c.loop-k.k - 1) =
     c.saturating_sub-rest.ensures ∙ ap (λ x. c.args.kept - x) (c.first_at.ensures ∙ ap (λ form. first_at form (c.loop-k.k - 1)) c.requires.form) in
-    let node = subst (HasNode c.args.geometry.now c.loop-k.image c.address-b.result) (sym below)
+    let node = subst (IsNamedAtLevel c.args.geometry.now c.loop-k.image c.address-b.result) (sym below)
     (addresses_node c.args.geometry.now c.args.image.now c.loop-k.image c.args.i c.args.kept (c.loop-k.k - 1) c.loop-k.k c.address-b.result c.requires.sound.blocks
     c.requires.file c.loop-k.invariant.cleared c.requires.sound.sound (omega arith) c.address-b.ensures c.if-b-ne0.true) in
     record {
@@ -94,7 +94,7 @@ loop-k-preserved-else-rest-eq0 c =
     c.levels.ensures ∙ ap (λ form. levels form (c.loop-k.k - 1)) c.requires.form in
     let left : c.saturating_sub-rest.result ≡ c.args.kept - first_at (form_at c.args.geometry.now c.args.image.now c.args.i) (c.loop-k.k - 1) =
     c.saturating_sub-rest.ensures ∙ ap (λ x. c.args.kept - x) (c.first_at.ensures ∙ ap (λ form. first_at form (c.loop-k.k - 1)) c.requires.form) in
-    let node = subst (HasNode c.args.geometry.now c.loop-k.image c.address-b.result) (sym below)
+    let node = subst (IsNamedAtLevel c.args.geometry.now c.loop-k.image c.address-b.result) (sym below)
     (addresses_node c.args.geometry.now c.args.image.now c.loop-k.image c.args.i c.args.kept (c.loop-k.k - 1) c.loop-k.k c.address-b.result c.requires.sound.blocks
     c.requires.file c.loop-k.invariant.cleared c.requires.sound.sound (omega arith) c.address-b.ensures c.if-b-ne0.true) in
     record {

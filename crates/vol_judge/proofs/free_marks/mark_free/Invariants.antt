@@ -1,5 +1,5 @@
 use Rattle.std.proofs.Common.{◌≡◌, ◌+◌, ◌≤◌, length}
-use Rattle.vol_judge.specs.FreeWalk.{IsReadable, IsCounted}
+use Rattle.vol_judge.specs.FreeWalk.{IsReadable, IsCountedWalk}
 use Rattle.vol_judge.proofs.FreeWalks.{unmarked}
 use Rattle.vol_judge.proofs.free_marks.mark_free.Given as goal
 
@@ -9,7 +9,7 @@ invariant-loop-next l = record {
   room : length l.marks ≡ l.geometry.zone_end;
   low : l.count + unmarked l.marks ≤ l.geometry.zone_end;
   readable : IsReadable l.geometry l.image l.rest;
-  walked : IsCounted l.geometry l.image l.marks l.rest l.count;
+  walked : IsCountedWalk l.geometry l.image l.marks l.rest l.count;
 }
 
 -- each step marks a block

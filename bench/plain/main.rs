@@ -6,7 +6,7 @@
 //! plain mkfs 6|7 IMAGE FSIZE IBLOCKS UID GID NOW
 //! plain put 6|7 IMAGE PATH FILE NOW
 //! plain rm 6|7 IMAGE PATH NOW
-//! plain icheck|dcheck|ncheck 6|7 IMAGE
+//! plain icheck|dcheck|ncheck 6|7 IMAGE WORKERS      by one worker, however many are asked for
 //! plain salvage 6|7 IMAGE
 //! plain migrate OLD NEW FSIZE IBLOCKS NOW
 //! plain play 6|7 IMAGE SCRIPT..
@@ -120,15 +120,15 @@ fn run(words: &[String]) -> Outcome<()> {
             mounted.volume.unlink(path, now)?;
             mounted.save(image)
         }
-        ["icheck", edition, image] => {
+        ["icheck", edition, image, _workers] => {
             let volume = open(edition, image)?;
             print(|output| volume.check_blocks(output).map(drop))
         }
-        ["dcheck", edition, image] => {
+        ["dcheck", edition, image, _workers] => {
             let volume = open(edition, image)?;
             print(|output| volume.check_links(output).map(drop))
         }
-        ["ncheck", edition, image] => {
+        ["ncheck", edition, image, _workers] => {
             let volume = open(edition, image)?;
             print(|output| volume.check_names(output).map(drop))
         }

@@ -9,6 +9,7 @@ pub mod LastPlaces
 pub mod NameLaws
 pub mod NewInodes
 pub mod PlaceLaws
+pub mod RaisedModes
 pub mod SlotLaws
 pub mod StoredInodes
 pub mod WayOrder

@@ -40,6 +40,10 @@ is_large V7 mode = false
 abbrev pub with_large : ℕ → Bool → ℕ
 with_large mode large = mode % 4096 + mode / 8192 * 8192 + (if large then 4096 else 0)
 
+-- the mode of the seventh edition for an allocated one of the sixth: the type and the permission bits stay, the large flag goes (manual section 5 of the sixth edition, file system; stat.h of the seventh)
+abbrev pub raised_mode : ℕ → ℕ
+raised_mode mode = (if mode / 8192 % 4 == 0 then 32768 else mode / 8192 % 4 * 8192) + mode % 4096
+
 -- the byte where i-node i begins: the i-list begins in block 2, with i-number 1 (manual section 5, file system)
 abbrev pub inode_place : Edition → ℕ → ℕ
 inode_place edition i = 1024 + (constants edition).inode_bytes * (i - 1)
@@ -141,3 +145,8 @@ pub data IsStorable : Edition → Inode → Type 0 where
       → ((k : ℕ) → 8 ≤ k → slice_index node.addresses k ≡ 0)
       → node.changed ≡ None → IsStorable V6 node
   in_v7 : {node : Inode} → ((k : ℕ) → slice_index node.addresses k < 16777216) → IsSome node.changed → IsStorable V7 node
+
+-- the i-node of the seventh edition for an allocated one of the sixth, before it has blocks: it changed at `now`, and all else but its addresses stays (manual section 5 of the sixth edition, file system; ino.h of the seventh)
+abbrev pub raised_inode : Inode → ℕ → Inode
+raised_inode node now =
+    record node { mode = record { bits = raised_mode node.mode.bits }; addresses = replicate 13 0; changed = Some now }

@@ -1,5 +1,5 @@
 //! An i-node, in memory.
-ghost use Rattle.std.specs.Prelude.{◌≡◌};
+ghost use Rattle.std.specs.Prelude.{◌≡◌, ◌≤◌};
 
 use crate::edition::Edition;
 use crate::mode::Mode;
@@ -28,7 +28,7 @@ pub struct Inode {
 }
 
 impl Inode {
-    ghost use Rattle.vol_layout.specs.Inode.{new_inode};
+    ghost use Rattle.vol_layout.specs.Inode.{new_inode, raised_inode, IsStorable};
 
     /// The i-node of a new node: it has no bytes and no addresses, and all its times are `now`, in seconds.
     pub fn new(edition: Edition, mode: Mode, links: u16, uid: u16, gid: u16, now: u32) -> Inode
@@ -47,6 +47,21 @@ impl Inode {
                 Edition::V6 => None,
                 Edition::V7 => Some(now),
             },
+        }
+    }
+
+    /// The seventh edition's i-node for this allocated one of the sixth, which changes its layout at `now`, in
+    /// seconds: it has no addresses yet, and the large flag goes. All else stays.
+    pub fn raised(self, now: u32) -> Inode
+        requires allocated { 32768 ≤ self.mode.bits }
+        ensures value { result ≡ raised_inode self now }
+        ensures storable { IsStorable Edition.V7 result }
+    {
+        Inode {
+            mode: self.mode.raised(),
+            addresses: [0; 13],
+            changed: Some(now),
+            ..self
         }
     }
 }

@@ -41,7 +41,7 @@ const SEVENTH_TYPE: u16 = 0o170000;
 const PERMISSIONS: u16 = 0o7777;
 
 impl Mode {
-    ghost use Rattle.vol_layout.specs.Inode.{kind_of, permissions_of, is_large, with_large};
+    ghost use Rattle.vol_layout.specs.Inode.{kind_of, permissions_of, is_large, with_large, raised_mode};
 
     /// What an i-node with this mode is.
     #[tactic(auto, using(crate::proofs::BitLaws::type_v6, crate::proofs::BitLaws::allocated_bit), unfolding(crate::specs::Inode::kind_of))]
@@ -139,6 +139,21 @@ impl Mode {
             } else {
                 self.bits & !LARGE
             },
+        }
+    }
+
+    /// The seventh edition's mode for this allocated one of the sixth: the kind, a special file's type and the
+    /// permission bits stay. The large flag goes.
+    pub fn raised(self) -> Mode
+        requires allocated { 32768 ≤ self.bits }
+        ensures bits { result.bits ≡ raised_mode self.bits }
+        ensures kind { kind_of Edition.V7 result.bits ≡ kind_of Edition.V6 self.bits }
+        ensures permissions { permissions_of result.bits ≡ permissions_of self.bits }
+    {
+        let kind = self.bits & SIXTH_TYPE;
+        let kind = if kind == 0 { 0o100000 } else { kind };
+        Mode {
+            bits: kind + (self.bits & PERMISSIONS),
         }
     }
 }

@@ -1,10 +1,13 @@
 //! Bytes that calls and replies hold.
-ghost use Rattle.std.specs.Prelude.{◌≡◌};
+ghost use Rattle.std.specs.Prelude.{◌≡◌, ◌==◌};
+ghost use Rattle.std.specs.Cmp.Lexicographic.{pointwise};
+ghost use Rattle.std.specs.Cmp.Rules.{comparing};
+ghost use Rattle.std.proofs.Common.{rules};
 
 use std::marker::Model;
 
 /// Some bytes: a path, what is to be written, or what was read. A caller sees them as a list.
-#[derive(Debug, Drop)]
+#[derive(Clone, Debug, Drop)]
 pub struct Bytes {
     bytes: Vec<u8>,
 }
@@ -38,4 +41,19 @@ impl Bytes {
     {
         self.bytes.as_slice()
     }
+}
+
+impl PartialEq for Bytes {
+    ghost eq = { pointwise ◌==◌ };
+
+    ghost laws = { Prim.search (comparing, rules) };
+
+    /// Whether they are the same bytes.
+    fn eq(&self, other: &Bytes) -> bool {
+        self.as_slice() == other.as_slice()
+    }
+}
+
+impl Eq for Bytes {
+    ghost laws = { Prim.search (comparing, rules) };
 }

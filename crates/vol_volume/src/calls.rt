@@ -7,7 +7,7 @@ use vol_dir::Cred;
 ///
 /// Each variant lists its refusals in their order. A walk is refused where it meets what is no directory
 /// (NotDirectory), a directory that doesn't grant execute (Access), or one that hasn't the name (NoEntry).
-#[derive(Debug, Drop)]
+#[derive(Clone, Debug, PartialEq, Eq, Drop)]
 pub enum Call {
     /// Makes an empty regular file. Refused: a path without component (Exists); the walk to the parent; a
     /// name that is there (Exists); a parent that doesn't grant write (Access), or whose size is past the
@@ -140,7 +140,7 @@ pub enum Done {
 }
 
 /// A call that was accepted, and what it answered.
-#[derive(Debug, Drop)]
+#[derive(Clone, Debug, PartialEq, Eq, Drop)]
 pub struct Record {
     /// The call.
     pub call: Call,

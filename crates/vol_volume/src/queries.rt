@@ -1,5 +1,9 @@
 //! What is asked of a volume without changing it.
-ghost use Rattle.std.specs.Prelude.{◌≡◌};
+ghost use Rattle.std.specs.Prelude.{◌≡◌, ◌==◌};
+ghost use Rattle.std.specs.Cmp.Lexicographic.{pointwise};
+ghost use Rattle.std.specs.Cmp.Rules.{comparing};
+ghost use Rattle.std.specs.Ordering.{eq_of_both, on};
+ghost use Rattle.std.proofs.Common.{rules};
 
 use crate::bytes::Bytes;
 use std::marker::Model;
@@ -7,7 +11,7 @@ use vol_dir::Cred;
 use vol_layout::Kind;
 
 /// A query, in the name of a user. Paths start at the root, whether or not they begin with a slash.
-#[derive(Debug, Drop)]
+#[derive(Debug, PartialEq, Eq, Drop)]
 pub enum Query {
     /// Asks what a node is.
     Stat {
@@ -37,7 +41,7 @@ pub enum Query {
 }
 
 /// The reply to a query.
-#[derive(Debug, Drop)]
+#[derive(Debug, PartialEq, Eq, Drop)]
 pub enum Reply {
     /// What a node is.
     Stat(Stat),
@@ -107,4 +111,19 @@ impl Listing {
     {
         self.entries.as_slice()
     }
+}
+
+impl PartialEq for Listing {
+    ghost eq = { pointwise (eq_of_both (on (λ e. e.0) (pointwise ◌==◌)) (on (λ e. e.1) ◌==◌)) };
+
+    ghost laws = { Prim.search (comparing, rules) };
+
+    /// Whether they are the same names with the same i-numbers, in the same order.
+    fn eq(&self, other: &Listing) -> bool {
+        self.as_slice() == other.as_slice()
+    }
+}
+
+impl Eq for Listing {
+    ghost laws = { Prim.search (comparing, rules) };
 }

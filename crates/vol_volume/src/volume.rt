@@ -166,6 +166,17 @@ impl Volume {
         answer(alloc, &self.current, &self.geometry, query)
     }
 
+    /// What speaks against a call as the volume stands: the refusal that [`Volume::call`] would meet first, of
+    /// those beside NoMemory. None where nothing does. Nothing changes.
+    ///
+    /// Takes no memory. Costs the walks of the call's paths, and one search of the last directory; a new node
+    /// costs a search for a free i-number, and a write one way for each logical block that it touches.
+    pub fn refusal(&self, call: &Call) -> Option<Refusal>
+        ensures { result ≡ verdict (reads_as self.now.edition self.now.image) call.now }
+    {
+        refusal_of(&self.current, &self.geometry, self.free, call)
+    }
+
     /// Makes a call, where nothing speaks against it, and appends it to the journal; the answer says what
     /// was made. A call that is refused comes back, and changes nothing. One that is accepted takes the next
     /// blocks of the free list alone, or puts on it what it gives back; every file that it doesn't change keeps
@@ -326,8 +337,16 @@ fn refusal_without_room(
 {
     // That the journal is full is owed, and the body needs nothing of it.
     let _ = records;
+    refusal_of(image, geometry, free, call).unwrap_or(Refusal::NoMemory)
+}
+
+/// What speaks against a call, of what is asked beside want of memory the first, if anything does.
+fn refusal_of(image: &Image, geometry: &Geometry, free: u32, call: &Call) -> Option<Refusal>
+    requires sound { IsSound geometry.now.edition image.now }
+    requires sizes { geometry.now ≡ geometry_of geometry.now.edition image.now }
+    requires count { free ≡ free_count geometry.now (shapes geometry.now image.now) }
+    ensures { result ≡ verdict (state geometry.now image.now) call.now }
+{
     stands(image, geometry);
-    check(image, geometry, free, call)
-        .err()
-        .unwrap_or(Refusal::NoMemory)
+    check(image, geometry, free, call).err()
 }

@@ -474,6 +474,9 @@ for command in 'ls /' 'get /a' 'put /a hello 1' 'rm /a 1' 'rmdir /a 1' 'mkdir /a
     misread 'error: the following required arguments were not provided' "${given[0]}" 6 volumes/a "${given[@]:2}"
     misread 'error: unexpected argument' "${given[0]}" 6 volumes/a "${given[@]:1}" 2
 done
+misread "error: invalid value '8'" salvage 8 volumes/a
+misread 'error: the following required arguments were not provided' salvage 6
+misread 'error: unexpected argument' salvage 6 volumes/a 2
 for number in 4294967296 +1 0x1 '' one; do
     misread "error: invalid value '$number' for '<NOW>'" put 6 volumes/a /a hello "$number"
     misread "error: invalid value '$number' for '<NOW>'" rm 6 volumes/a /a "$number"
@@ -633,6 +636,63 @@ prints none ln 6 volumes/special /tty /terminal 1
 prints none rm 6 volumes/special /tty 1
 prints none rm 6 volumes/special /terminal 1
 lists volumes/special / '    1 .' '    1 ..'
+
+# Free lists that are made anew. `made` has the list that `mkfs` makes, which is the one that `salvage` makes of it.
+# salvages LABEL AT HEX: a copy of `made` with these bytes from byte AT on is refused by `ls`, and `salvage` gives `made` back
+salvages() {
+    changed made damaged "$2" "$3"
+    chmod 640 damaged
+    runs ls 6 damaged /
+    has "the status of ls of $1" 1 "$(cat status)"
+    prints none salvage 6 damaged
+    saves "$1, salvaged" damaged made
+    has "the permissions of $1" 640 "$(stat -c %a damaged)"
+}
+salvages 'a volume that lost a block' 516 '0F 00'
+salvages 'a volume with a free block that the root has' 520 '04 00'
+salvages 'a volume with too long a free list' 516 '65 00'
+salvages 'a volume with a free block outside of the data' 520 '14 00'
+cp made damaged
+prints none salvage 6 damaged
+saves 'a volume with a free list that was right' damaged made
+{ cat made; echo tail; } > longer
+changed longer damaged 516 '0F 00'
+prints none salvage 6 damaged
+saves 'an image with bytes behind the volume, salvaged' damaged longer
+prints none mkfs 7 made7 100 2 0 0 168496141
+changed made7 damaged 25602 '00 00 32 00' # block 50, which has the rest of the list, names itself as the next such block
+refuses 1 'unixvol: unsound, rule 6' ls 7 damaged /
+prints none salvage 7 damaged
+saves 'a volume with a free list that goes round, salvaged' damaged made7
+# Two files of one block each, and the second one names the block of the first.
+cp made twice
+printf A > one_letter
+prints none put 6 twice /a one_letter 1
+prints none put 6 twice /b one_letter 1
+put twice $((1024 + 32 * 30 + 8)) '05 00'
+cp twice before
+touch -d '2001-02-03 04:05:06.789' twice
+stood=$(stat -c '%i %y' twice)
+refuses 1 'unixvol: unsound, rule 7' salvage 6 twice
+saves 'a volume with a block of two files' twice before
+has 'a volume that was not salvaged' "$stood" "$(stat -c '%i %y' twice)"
+changed made damaged 1026 '05'
+refuses 1 'unixvol: unsound, rule 12' salvage 6 damaged
+put damaged 516 '0F 00'
+refuses 1 'unixvol: unsound, rule 12' salvage 6 damaged
+refuses 1 'unixvol: unsound, rule 1' salvage 6 none
+refuses 3 'unixvol: cannot read missing' salvage 6 missing
+refuses 3 'unixvol: cannot write pipe' salvage 6 pipe
+changed made damaged 516 '0F 00'
+cp damaged before
+(ulimit -f 8; trap '' XFSZ; runs salvage 6 damaged)
+echo 'unixvol: cannot write damaged' > line
+wants 'salvage where the new file finds no room' 3 none line
+saves 'a volume whose salvaged one found no room' damaged before
+ln -s damaged leads
+prints none salvage 6 leads
+has 'a link to a volume that was salvaged' damaged "$(readlink leads)"
+saves 'what a link leads to, salvaged' damaged made
 
 # Volumes that aren't sound, and files that can't be read or written.
 cp volumes/a unsound
@@ -923,7 +983,7 @@ helps --help
 helps help
 helps cat --help
 helps help cat
-for command in mkfs ls get put rm mkdir rmdir ln chmod chown; do
+for command in mkfs ls get put rm mkdir rmdir ln chmod chown salvage; do
     helps "$command" --help
     helps help "$command"
 done

@@ -103,6 +103,7 @@ asks_listing given edition image path (OnVolume volume (jobs.Mkdir p now)) test 
 asks_listing given edition image path (OnVolume volume (jobs.Ln from to now)) test e_is i_is p_is is = absurd (true≢false (sym test))
 asks_listing given edition image path (OnVolume volume (jobs.Chmod p perm now)) test e_is i_is p_is is = absurd (true≢false (sym test))
 asks_listing given edition image path (OnVolume volume (jobs.Chown p uid gid now)) test e_is i_is p_is is = absurd (true≢false (sym test))
+asks_listing given edition image path (OnVolume volume jobs.Salvage) test e_is i_is p_is is = absurd (true≢false (sym test))
 
 -- what `ls` asks for, by the command that was met and the rows of its words
 listed : (met : Option (List ℕ × List Row)) (edition : Edition) (image path : List ℕ) (invocation : Invocation) → seen met ≡ codes "ls" ∷ word_of edition ∷ image ∷ path ∷ []
@@ -146,6 +147,7 @@ listing_asks (Some met) edition image path (OnVolume volume (jobs.Mkdir p now)) 
 listing_asks (Some met) edition image path (OnVolume volume (jobs.Ln from to now)) is listed = absurd listed
 listing_asks (Some met) edition image path (OnVolume volume (jobs.Chmod p perm now)) is listed = absurd listed
 listing_asks (Some met) edition image path (OnVolume volume (jobs.Chown p uid gid now)) is listed = absurd listed
+listing_asks (Some met) edition image path (OnVolume volume jobs.Salvage) is listed = absurd listed
 
 -- the words of `ls` ask for a listing, where they have its edition's word
 abbrev AsksListing : Bor (List (Bor (List ℕ))) → Edition → List ℕ → List ℕ → List ℕ → List ℕ → Type 0

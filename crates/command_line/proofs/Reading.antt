@@ -91,6 +91,7 @@ number_given given (OnVolume volume (jobs.Mkdir path now)) test none is = absurd
 number_given given (OnVolume volume (jobs.Ln from to now)) test none is = absurd (true≢false (sym test))
 number_given given (OnVolume volume (jobs.Chmod path perm now)) test none is = absurd (true≢false (sym test))
 number_given given (OnVolume volume (jobs.Chown path uid gid now)) test none is = absurd (true≢false (sym test))
+number_given given (OnVolume volume jobs.Salvage) test none is = absurd (true≢false (sym test))
 
 -- a new volume has its sizes, its owner and a moment
 sizes_given : (given : List ℕ → List ℕ) (volume : NewVolume) → IsNoNewVolume given → IsNewVolumeGiven given volume → ⊥
@@ -116,6 +117,7 @@ new_volume_given given (OnVolume volume (jobs.Mkdir path now)) test none is = ab
 new_volume_given given (OnVolume volume (jobs.Ln from to now)) test none is = absurd (true≢false (sym test))
 new_volume_given given (OnVolume volume (jobs.Chmod path perm now)) test none is = absurd (true≢false (sym test))
 new_volume_given given (OnVolume volume (jobs.Chown path uid gid now)) test none is = absurd (true≢false (sym test))
+new_volume_given given (OnVolume volume jobs.Salvage) test none is = absurd (true≢false (sym test))
 
 -- a command that changes a volume, as a test
 abbrev is_change : List ℕ → Bool
@@ -141,6 +143,7 @@ moment_given given (OnVolume volume (jobs.Mkdir path now)) test none is = none i
 moment_given given (OnVolume volume (jobs.Ln from to now)) test none is = none is.1.2.0
 moment_given given (OnVolume volume (jobs.Chmod path perm now)) test none is = none is.1.2.0
 moment_given given (OnVolume volume (jobs.Chown path uid gid now)) test none is = none is.1.3.0
+moment_given given (OnVolume volume jobs.Salvage) test none is = absurd (true≢false (sym test))
 
 -- a command that is a change asks for nothing where its edition or its moment is no value
 no_change : (name : List ℕ) (given : List ℕ → List ℕ) (invocation : Invocation) → is_change name ≡ true → IsNoChange given → AsksFor name given invocation → ⊥
@@ -161,6 +164,7 @@ permissions_given given (OnVolume volume (jobs.Mkdir path now)) test none is = a
 permissions_given given (OnVolume volume (jobs.Ln from to now)) test none is = absurd (true≢false (sym test))
 permissions_given given (OnVolume volume (jobs.Chmod path perm now)) test none is = none is.1.1.0
 permissions_given given (OnVolume volume (jobs.Chown path uid gid now)) test none is = absurd (true≢false (sym test))
+permissions_given given (OnVolume volume jobs.Salvage) test none is = absurd (true≢false (sym test))
 
 -- `chown` has a user and a group
 owner_given : (given : List ℕ → List ℕ) (invocation : Invocation) → bytes_eq (codes "chown") (command_name invocation) ≡ true
@@ -177,6 +181,7 @@ owner_given given (OnVolume volume (jobs.Ln from to now)) test none is = absurd 
 owner_given given (OnVolume volume (jobs.Chmod path perm now)) test none is = absurd (true≢false (sym test))
 owner_given given (OnVolume volume (jobs.Chown path uid gid now)) test (inl none) is = none is.1.1.0
 owner_given given (OnVolume volume (jobs.Chown path uid gid now)) test (inr none) is = none is.1.2.0
+owner_given given (OnVolume volume jobs.Salvage) test none is = absurd (true≢false (sym test))
 
 -- where one of the words is no value, nothing is asked for
 no_value : (name : List ℕ) (given : List ℕ → List ℕ) → IsNoValue name given → (invocation : Invocation) → AsksFor name given invocation → ⊥
@@ -204,6 +209,7 @@ no_command name given none (OnVolume volume (jobs.Mkdir path now)) asks = none.7
 no_command name given none (OnVolume volume (jobs.Ln from to now)) asks = none.8 asks.0
 no_command name given none (OnVolume volume (jobs.Chmod path perm now)) asks = none.9 asks.0
 no_command name given none (OnVolume volume (jobs.Chown path uid gid now)) asks = none.10 asks.0
+no_command name given none (OnVolume volume jobs.Salvage) asks = none.11 asks.0
 
 -- what a parse found asks for what its command asks for
 pub asked : {E : Type 0} (matches values : ArgMatches) (name : List ℕ) (result : Result (Option Invocation) E) → Some name ≡ subcommand_name_of matches

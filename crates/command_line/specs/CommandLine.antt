@@ -31,7 +31,7 @@ abbrev pub IsNoCommand : List ℕ → Type 0
 IsNoCommand text =
     (text ≢ codes "cat") × (text ≢ codes "ls") × (text ≢ codes "get") × (text ≢ codes "mkfs") × (text ≢ codes "put")
     × (text ≢ codes "rm") × (text ≢ codes "rmdir") × (text ≢ codes "mkdir") × (text ≢ codes "ln")
-    × (text ≢ codes "chmod") × (text ≢ codes "chown")
+    × (text ≢ codes "chmod") × (text ≢ codes "chown") × (text ≢ codes "salvage")
 
 -- a word, or the empty one where there is none (this project)
 abbrev pub word_or_empty : Option (List ℕ) → List ℕ
@@ -57,6 +57,7 @@ job_name (jobs.Mkdir path now) = codes "mkdir"
 job_name (jobs.Ln from to now) = codes "ln"
 job_name (jobs.Chmod path perm now) = codes "chmod"
 job_name (jobs.Chown path uid gid now) = codes "chown"
+job_name jobs.Salvage = codes "salvage"
 
 -- the name of the command (this project)
 abbrev pub command_name : Invocation → List ℕ
@@ -97,6 +98,7 @@ IsJobGiven given (jobs.Chmod path perm now) =
 IsJobGiven given (jobs.Chown path uid gid now) =
     (path.now ≡ given (codes "PATH")) × IsNumberGiven 65535 (given (codes "UID")) uid
     × IsNumberGiven 65535 (given (codes "GID")) gid × IsMomentGiven given now
+IsJobGiven given jobs.Salvage = Unit {0}
 
 -- the words that were given for the arguments of its command describe what is asked for (this project)
 abbrev pub IsGiven : (List ℕ → List ℕ) → Invocation → Type 0

@@ -54,6 +54,7 @@ verb_name verbs.Mkdir = codes "mkdir"
 verb_name verbs.Ln = codes "ln"
 verb_name verbs.Chmod = codes "chmod"
 verb_name verbs.Chown = codes "chown"
+verb_name verbs.Salvage = codes "salvage"
 
 -- a command of this name, which takes an edition and then a word for each of these arguments (this project)
 unfoldable pub command_shape : Bor (List (Bor (List ℕ))) → List ℕ → List (List ℕ) → Shape
@@ -88,6 +89,7 @@ changing = (codes "mkfs", codes "IMAGE" ∷ codes "FSIZE" ∷ codes "IBLOCKS" �
     ∷ (codes "ln", codes "IMAGE" ∷ codes "FROM" ∷ codes "TO" ∷ codes "NOW" ∷ [])
     ∷ (codes "chmod", codes "IMAGE" ∷ codes "PATH" ∷ codes "PERM" ∷ codes "NOW" ∷ [])
     ∷ (codes "chown", codes "IMAGE" ∷ codes "PATH" ∷ codes "UID" ∷ codes "GID" ∷ codes "NOW" ∷ [])
+    ∷ (codes "salvage", codes "IMAGE" ∷ [])
     ∷ []
 
 -- a program with these commands more (this project)

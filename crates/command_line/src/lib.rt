@@ -109,6 +109,7 @@ fn read_command<'a>(
         Verb::Ln => volumes::read_ln(alloc, values)?,
         Verb::Chmod => volumes::read_chmod(alloc, values)?,
         Verb::Chown => volumes::read_chown(alloc, values)?,
+        Verb::Salvage => volumes::read_salvage(alloc, values)?,
     };
     Ok(Some(invocation))
 }
@@ -155,7 +156,8 @@ fn with_changes<'a>(
     let command = with_one_more(command, volumes::mkdir_command(alloc, editions))?;
     let command = with_one_more(command, volumes::ln_command(alloc, editions))?;
     let command = with_one_more(command, volumes::chmod_command(alloc, editions))?;
-    with_one_more(command, volumes::chown_command(alloc, editions))
+    let command = with_one_more(command, volumes::chown_command(alloc, editions))?;
+    with_one_more(command, volumes::salvage_command(alloc, editions))
 }
 
 /// Adds one more command to the command line, where the memory for making it was there.

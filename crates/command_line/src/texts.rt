@@ -288,6 +288,26 @@ Status:
   3  `unixvol: cannot read IMAGE`, `unixvol: cannot write IMAGE`
   4  `unixvol: 12 NoMemory`";
 
+pub const SALVAGE_ABOUT: &str =
+    "Makes the free list of a volume anew, where nothing else is wrong.";
+
+pub const SALVAGE_MORE: &str = "\
+Example:
+  unixvol salvage 7 disk.img
+
+The new list has each data block that no file or directory has. These stay as they are, and so does the time
+of the volume. What other rules ask must hold: then the volume is sound afterwards, and else nothing is
+written. A free list that is right is made anew too. IMAGE is written only where all went well: a new file is
+written beside it and then takes its place.
+
+Status:
+  0  the free list was made, and the volume saved
+  1  `unixvol: unsound, rule N`: the volume breaks this rule and none before it, leaving out what they ask
+     of the free list
+  2  the command line can't be read
+  3  `unixvol: cannot read IMAGE`, `unixvol: cannot write IMAGE`
+  4  `unixvol: 12 NoMemory`";
+
 pub const OWNED: &str = "The path of the file or directory in the volume";
 
 pub const PERM: &str = "The permissions, in octal digits, at most 7777";

@@ -1,4 +1,4 @@
-//! The words of the commands on the tree of a volume.
+//! The words of the commands on a volume in a file.
 ghost use Rattle.std.specs.Prelude.{◌≡◌, ◌∷◌, [], IfOk, IfErr, codes};
 ghost use Rattle.command_line.specs.Words.{shape, command_shape};
 ghost use Rattle.command_line.specs.CommandLine.{AsksFor, IsMomentGiven, IsNoChange, IsNoChmod, IsNoChown, IsNoEdition, IsVolumeGiven, TellsOf, given_in};
@@ -173,6 +173,22 @@ pub(super) fn chown_command<'a>(
     .arg(required(alloc, NOW, texts::CALL_NOW))
 }
 
+/// The command `salvage`.
+pub(super) fn salvage_command<'a>(
+    alloc: Global,
+    editions: &'a [&'a str],
+) -> Result<Command<'a>, AllocError>
+    ensures { IfOk result (λ command. shape command ≡ command_shape editions.entry (codes "salvage") (codes "IMAGE" ∷ [])) }
+{
+    on_volume(
+        alloc,
+        editions,
+        Verb::Salvage,
+        texts::SALVAGE_ABOUT,
+        texts::SALVAGE_MORE,
+    )
+}
+
 /// Reads the words of `ls`.
 pub(super) fn read_ls<'a>(alloc: Global, values: &ArgMatches<'a>) -> Result<Invocation<'a>, Error>
     ensures read { IfOk result (AsksFor (codes "ls") (given_in values.now)) }
@@ -293,6 +309,19 @@ pub(super) fn read_chown<'a>(
         gid,
         now,
     };
+    Ok(Invocation::OnVolume { volume, job })
+}
+
+/// Reads the words of `salvage`.
+pub(super) fn read_salvage<'a>(
+    alloc: Global,
+    values: &ArgMatches<'a>,
+) -> Result<Invocation<'a>, Error>
+    ensures read { IfOk result (AsksFor (codes "salvage") (given_in values.now)) }
+    ensures refused { IfErr result (TellsOf (IsNoEdition (given_in values.now (codes "EDITION")))) }
+{
+    let volume = volume_in(alloc, Verb::Salvage, values)?;
+    let job = Job::Salvage;
     Ok(Invocation::OnVolume { volume, job })
 }
 

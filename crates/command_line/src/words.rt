@@ -43,10 +43,11 @@ pub(super) enum Verb {
     Ln,
     Chmod,
     Chown,
+    Salvage,
 }
 
 /// All commands, in the order in which the help lists them.
-static VERBS: [Verb; 11] = [
+static VERBS: [Verb; 12] = [
     Verb::Cat,
     Verb::Ls,
     Verb::Get,
@@ -58,6 +59,7 @@ static VERBS: [Verb; 11] = [
     Verb::Ln,
     Verb::Chmod,
     Verb::Chown,
+    Verb::Salvage,
 ];
 
 impl Verb {
@@ -77,6 +79,7 @@ impl Verb {
             Verb::Ln => "ln",
             Verb::Chmod => "chmod",
             Verb::Chown => "chown",
+            Verb::Salvage => "salvage",
         }
     }
 
@@ -106,6 +109,7 @@ impl Verb {
             Verb::Ln => volumes::ln_command(alloc, editions),
             Verb::Chmod => volumes::chmod_command(alloc, editions),
             Verb::Chown => volumes::chown_command(alloc, editions),
+            Verb::Salvage => volumes::salvage_command(alloc, editions),
         }
     }
 }

@@ -211,7 +211,8 @@ fn run_job<R: ImageFiles + Clock + Eprint + AllocGlobal, O: Sink, E: Sink>(
         | Job::Mkdir { .. }
         | Job::Ln { .. }
         | Job::Chmod { .. }
-        | Job::Chown { .. } => run_change(rt, output, errors, volume, job),
+        | Job::Chown { .. }
+        | Job::Salvage => run_change(rt, output, errors, volume, job),
     }
 }
 

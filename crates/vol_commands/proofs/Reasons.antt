@@ -1,5 +1,5 @@
 -- The faults of commands: a rule that one names is one of the twelve.
-use Rattle.std.proofs.Common.{ℕ, zero, suc, ◌≤◌, Bool, true, List, Option, Result, Ok, Err, IfErr, arith}
+use Rattle.std.proofs.Common.{ℕ, zero, suc, ◌≤◌, Bool, true, false, List, Option, Result, Ok, Err, IfErr, arith, sym, subst}
 use Rattle.std.specs.Global.{Vec}
 use Rattle.vol_judge.specs.Sound.{Rule, IsLeastBroken}
 use Rattle.vol_layout.specs.declared.edition.Edition.{Edition}
@@ -7,7 +7,11 @@ use Rattle.vol_volume.specs.declared.calls.Call.{Call}
 use Rattle.vol_volume.specs.declared.queries.Query.{Query}
 use Rattle.vol_commands.specs.Changing.{IsReason}
 use Rattle.vol_commands.specs.Showing.{Prints}
-use Rattle.vol_commands.specs.Faults.{IsRuled}
+use Rattle.vol_commands.specs.Faults.{IsRuled, unsalvaged}
+use Rattle.vol_commands.specs.Salvaging.{IsUnsalvaged}
+use Rattle.vol_salvage.specs.Salvaging.{IsSalvageFault}
+use Rattle.vol_salvage.specs.declared.SalvageFault.{SalvageFault}
+use Rattle.vol_salvage.specs.declared.SalvageFault.TheVariants as salvages
 use Rattle.vol_commands.specs.declared.faults.Fault.{Fault}
 use Rattle.vol_commands.specs.declared.faults.Fault.TheVariants as faults
 
@@ -57,3 +61,13 @@ pub printing_ruled : (edition : Edition) (image : List ℕ) (query : Query) (old
     → Prints edition image query old new had_failed failed outcome → IfErr outcome IsRuled
 printing_ruled edition image query old new had_failed failed (Ok done) printed = tt
 printing_ruled edition image query old new had_failed failed (Err fault) printed = printed_ruled edition image query old new had_failed failed fault printed
+
+-- the rule of a reason not to salvage is one of the twelve
+unsalvaged_ruled : (edition : Edition) (image : List ℕ) (why : SalvageFault) → IsSalvageFault edition image why → IsRuled (unsalvaged why)
+unsalvaged_ruled edition image (salvages.Unsound rule) is = least_within false edition image rule is
+unsalvaged_ruled edition image salvages.NoMemory is = tt
+
+-- a fault of salvaging names a rule of the twelve
+pub salvaging_ruled : (edition : Edition) (image : List ℕ) (outcome : Result (Vec ℕ) Fault) → IfErr outcome (IsUnsalvaged edition image) → IfErr outcome IsRuled
+salvaging_ruled edition image (Ok bytes) reason = tt
+salvaging_ruled edition image (Err fault) reason = subst IsRuled (sym reason.2) (unsalvaged_ruled edition image reason.0 reason.1)

@@ -1,4 +1,4 @@
--- What the commands on a mounted volume have in common: their user, and what they answer where they fail.
+-- What the commands on a volume have in common: their user, and what they answer where they fail.
 use Rattle.std.specs.Prelude.{◌≡◌, ℕ, ◌≤◌, ◌+◌, ◌/◌, ◌%◌, ◌++◌, Bool, false, true, nat_lt, if◌then◌else◌, List, [], ◌∷◌, Option, codes}
 use Rattle.std.specs.Io.KnownBytes.{Appends}
 use Rattle.pdp_words.specs.Devices.{AppendsFront}
@@ -7,6 +7,8 @@ use Rattle.vol_dir.specs.declared.cred.Cred.{Cred}
 use Rattle.vol_dir.specs.declared.refusal.Refusal.{Refusal}
 use Rattle.vol_dir.specs.declared.refusal.Refusal.TheVariants as refusals
 use Rattle.vol_layout.specs.declared.edition.Edition.{Edition}
+use Rattle.vol_salvage.specs.declared.SalvageFault.{SalvageFault}
+use Rattle.vol_salvage.specs.declared.SalvageFault.TheVariants as salvages
 use Rattle.vol_volume.specs.declared.volume.MountFault.{MountFault}
 use Rattle.vol_volume.specs.declared.volume.MountFault.TheVariants as mounts
 use Rattle.vol_commands.specs.declared.faults.Fault.{Fault}
@@ -63,6 +65,11 @@ no_memory = faults.Refused refusals.NoMemory
 abbrev pub unmounted : MountFault → Fault
 unmounted (mounts.Unsound rule) = faults.Unsound rule
 unmounted mounts.NoMemory = no_memory
+
+-- the fault of a command that can't salvage a volume for this reason (this project)
+abbrev pub unsalvaged : SalvageFault → Fault
+unsalvaged (salvages.Unsound rule) = faults.Unsound rule
+unsalvaged salvages.NoMemory = no_memory
 
 -- the rule that a fault names is one of the twelve (this project)
 abbrev pub IsRuled : Fault → Type 0

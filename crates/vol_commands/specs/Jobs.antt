@@ -4,6 +4,7 @@ use Rattle.std.specs.Io.KnownBytes.{Keeps}
 use Rattle.vol_volume.specs.Volume.{reads_as}
 use Rattle.vol_commands.specs.Changing.{ChangesVolume, put_calls}
 use Rattle.vol_commands.specs.Faults.{user}
+use Rattle.vol_commands.specs.Salvaging.{SalvagesVolume}
 use Rattle.vol_commands.specs.Showing.{Shows, Prints}
 use Rattle.vol_layout.specs.declared.edition.Edition.{Edition}
 use Rattle.vol_volume.specs.declared.calls.Call.{Call}
@@ -32,7 +33,12 @@ abbrev pub Calls : Edition → List ℕ → Streams → Answer → List Call →
 Calls edition image streams answer calls =
     ChangesVolume edition image calls streams.said answer × Keeps streams.old streams.new × (streams.failed ≡ streams.had_failed)
 
--- what a job comes to: the query or the calls that it stands for (this project)
+-- the free list is made anew, and standard output is as it was (this project)
+abbrev pub Salvages : Edition → List ℕ → Streams → Answer → Type 0
+Salvages edition image streams answer =
+    SalvagesVolume edition image streams.said answer × Keeps streams.old streams.new × (streams.failed ≡ streams.had_failed)
+
+-- what a job comes to: the query or the calls that it stands for, or a new free list (this project)
 abbrev pub Does : Edition → List ℕ → List ℕ → Streams → Answer → Job → Type 0
 Does edition image bytes streams answer (jobs.Ls path) = Asks edition image streams answer (queries.List user path.now)
 Does edition image bytes streams answer (jobs.Get path) = Asks edition image streams answer (queries.Read user path.now 0 4294967295)
@@ -46,3 +52,4 @@ Does edition image bytes streams answer (jobs.Ln from to now) =
 Does edition image bytes streams answer (jobs.Chmod path perm now) = Calls edition image streams answer (calls.Chmod user now path.now perm ∷ [])
 Does edition image bytes streams answer (jobs.Chown path uid gid now) =
     Calls edition image streams answer (calls.Chown user now path.now uid gid ∷ [])
+Does edition image bytes streams answer jobs.Salvage = Salvages edition image streams answer

@@ -4,4 +4,5 @@ pub mod Faults
 pub mod Jobs
 pub mod Laws
 pub mod Making
+pub mod Salvaging
 pub mod Showing

@@ -1,10 +1,11 @@
 //! Why a command on a mounted volume fails.
 ghost use Rattle.std.specs.Prelude.{◌≡◌, ◌≤◌};
-ghost use Rattle.vol_commands.specs.Faults.{fault_status, fault_line, line_of_rule, line_of_refusal, no_memory, unmounted, IsRuled};
+ghost use Rattle.vol_commands.specs.Faults.{fault_status, fault_line, line_of_rule, line_of_refusal, no_memory, unmounted, unsalvaged, IsRuled};
 
 use crate::status::{BAD_FILE, NO_MEMORY, REFUSED};
 use std::alloc::AllocError;
 use vol_dir::Refusal;
+use vol_salvage::SalvageFault;
 use vol_volume::MountFault;
 
 /// The line where standard output fails.
@@ -62,6 +63,17 @@ impl From<MountFault> for Fault {
         match why {
             MountFault::Unsound(rule) => Fault::Unsound(rule),
             MountFault::NoMemory => Fault::Refused(Refusal::NoMemory),
+        }
+    }
+}
+
+impl From<SalvageFault> for Fault {
+    ghost from_gives = { λ why fault. fault ≡ unsalvaged why };
+
+    fn from(why: SalvageFault) -> Fault {
+        match why {
+            SalvageFault::Unsound(rule) => Fault::Unsound(rule),
+            SalvageFault::NoMemory => Fault::Refused(Refusal::NoMemory),
         }
     }
 }

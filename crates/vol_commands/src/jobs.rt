@@ -1,16 +1,17 @@
-//! Does what the command line asks for with the tree of a volume.
+//! Does what the command line asks for with a volume.
 ghost use Rattle.vol_commands.specs.Faults.{Gets};
 ghost use Rattle.vol_commands.specs.Jobs.{Does};
 
 use crate::answer::Answer;
 use crate::changing::{chmod, chown, ln, mkdir, put, rm, rmdir};
+use crate::salvaging::salvage;
 use crate::showing::{get, ls};
 use pdp_words::Sink;
 use std::alloc::Global;
 use vol_dir::Cred;
 use vol_layout::Edition;
 
-/// What is to be done with the tree of a volume. Paths lead on from the root, with `/` between their names;
+/// What is to be done with a volume. Paths lead on from the root, with `/` between their names;
 /// `now` is the moment of the call, in seconds since the beginning of 1970.
 #[derive(Clone, Copy, Debug, PartialEq, Eq)]
 pub enum Job<'a> {
@@ -62,6 +63,8 @@ pub enum Job<'a> {
         gid: u16,
         now: u32,
     },
+    /// Make the free list anew, where it alone is wrong.
+    Salvage,
 }
 
 /// Does a job with the volume in some bytes; `file` has the bytes that are put. The answer's status is 0, or 1
@@ -104,5 +107,6 @@ pub fn do_job<O: Sink, E: Sink>(
             let owner = Cred { uid, gid };
             chown(alloc, edition, image, path, owner, now, output, errors)
         }
+        Job::Salvage => salvage(alloc, edition, image, output, errors),
     }
 }

@@ -9,6 +9,7 @@ pub mod jobs;
 pub mod laws;
 pub mod making;
 mod mounting;
+pub mod salvaging;
 pub mod showing;
 pub mod status;
 

@@ -24,7 +24,13 @@ returns-in-Put-clause-runs g c =
             | inl mkdir ↦ rw mkdir.2 (same_job _ files c.args.volume.edition c.run_change.result mkdir.2 runs)
             | inr others ↦ elim others [
               | inl ln ↦ rw ln.3 (same_job _ files c.args.volume.edition c.run_change.result ln.3 runs)
-              | inr others ↦ elim others [ inl chmod ↦ rw chmod.3 (same_job _ files c.args.volume.edition c.run_change.result chmod.3 runs) | inr chown ↦ rw chown.4 (same_job _ files c.args.volume.edition c.run_change.result chown.4 runs) ]
+              | inr others ↦ elim others [
+                | inl chmod ↦ rw chmod.3 (same_job _ files c.args.volume.edition c.run_change.result chmod.3 runs)
+                | inr others ↦ elim others [
+                  | inl chown ↦ rw chown.4 (same_job _ files c.args.volume.edition c.run_change.result chown.4 runs)
+                  | inr salvage ↦ rw salvage (same_job _ files c.args.volume.edition c.run_change.result salvage runs)
+                ]
+              ]
             ]
           ]
         ]

@@ -1,0 +1,38 @@
+//! `salvage`: makes the free list of the volume in some bytes anew, and answers the bytes that are to be saved.
+ghost use Rattle.std.specs.Prelude.{◌≡◌, IfOk, IfErr};
+ghost use Rattle.std.specs.Io.KnownBytes.{Keeps};
+ghost use Rattle.vol_salvage.specs.Salvaging.{IsSalvaged};
+ghost use Rattle.vol_commands.specs.Faults.{Gets};
+ghost use Rattle.vol_commands.specs.Salvaging.{SalvagesVolume, IsUnsalvaged};
+
+use crate::answer::{Answer, conclude};
+use crate::faults::Fault;
+use pdp_words::Sink;
+use std::alloc::Global;
+use vol_layout::Edition;
+
+/// `salvage`: makes the free list anew, of the data blocks that no file has, where the volume breaks no rule but
+/// those of the free list. A volume that breaks another one isn't to be saved.
+///
+/// Takes memory for what [`vol_salvage::salvage`] takes.
+pub fn salvage<O: Sink, E: Sink>(
+    alloc: Global,
+    edition: Edition,
+    image: Vec<u8>,
+    _output: &mut O,
+    errors: &mut E,
+) -> Answer
+    ensures salvaged { SalvagesVolume edition image.items (Gets (E.failed errors.new) (E.contents errors.old) (E.contents errors.new)) result }
+    ensures unprinted { Keeps (O.contents _output.old) (O.contents _output.new) }
+    ensures unused { O.failed _output.new ≡ O.failed _output.old }
+{
+    conclude(salvaged(alloc, edition, image), errors)
+}
+
+/// The bytes of a volume with its new free list.
+fn salvaged(alloc: Global, edition: Edition, image: Vec<u8>) -> Result<Vec<u8>, Fault>
+    ensures salvaged { IfOk result (λ bytes. IsSalvaged edition image.items bytes.items) }
+    ensures fault { IfErr result (IsUnsalvaged edition image.items) }
+{
+    vol_salvage::salvage(alloc, edition, image).map_err(|(fault, _)| Fault::from(fault))
+}

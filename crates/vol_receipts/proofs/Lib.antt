@@ -1,0 +1,4 @@
+pub mod Agreement
+pub mod FoundReceipts
+pub mod Records
+pub mod Verdicts

@@ -1,0 +1,137 @@
+//! Whether a receipt agrees with a journal, by its records and by a volume that has the first of them.
+ghost use Rattle.std.specs.Prelude.{◌≡◌, ◌≤◌, ◌↔◌, length, IsTrue, IfOk, Some, Ok, Err};
+ghost use Rattle.std.specs.List.{slice_get};
+ghost use Rattle.vol_volume.specs.Answer.{answer};
+ghost use Rattle.vol_volume.specs.Verdict.{verdict};
+ghost use Rattle.vol_volume.specs.Volume.{reads_as};
+ghost use Rattle.vol_receipts.specs.Agrees.{origin_of, IsAnswer, AgreesAfter};
+ghost use Rattle.vol_receipts.specs.Replay.{HasFirst, IsBehind};
+
+use crate::receipts::{Asked, Outcome, Receipt};
+use crate::replaying::go_on;
+use std::alloc::{AllocError, Global};
+use vol_dir::Refusal;
+use vol_volume::{Call, Done, Listing, Query, Record, Reply, Volume};
+
+/// Whether what came of a receipt's question is what comes after the first `count` records of a volume. Of
+/// these, some may be made again already; they go on to `count` where the outcome is no accepted call.
+pub(crate) fn agrees_after(
+    volume: &Volume,
+    again: &mut Option<Volume>,
+    alloc: Global,
+    count: usize,
+    receipt: &Receipt,
+) -> Result<bool, AllocError>
+    requires behind { IsBehind volume.now again.old count }
+    requires within { count ≤ length volume.now.journal }
+    ensures behind { IsBehind volume.now again.new count }
+    ensures agrees { IfOk result (λ agrees. IsTrue agrees ↔ AgreesAfter (origin_of volume.now) volume.now.journal count receipt.now.asked receipt.now.outcome) }
+{
+    if let (Asked::Change(call), Outcome::Accepted(done)) = (&receipt.asked, &receipt.outcome) {
+        return Ok(is_record(volume.journal(), count, call, *done));
+    }
+    let made = go_on(volume, again.take(), alloc, count)?;
+    let agrees = is_answer(&made, alloc, &receipt.asked, &receipt.outcome)?;
+    *again = Some(made);
+    Ok(agrees)
+}
+
+/// Whether a volume as it stands refuses or answers so what is asked of it.
+fn is_answer(
+    volume: &Volume,
+    alloc: Global,
+    asked: &Asked,
+    outcome: &Outcome,
+) -> Result<bool, AllocError>
+    ensures { IfOk result (λ is. IsTrue is ↔ IsAnswer (reads_as volume.now.edition volume.now.image) asked.now outcome.now) }
+{
+    match (asked, outcome) {
+        (Asked::Change(call), Outcome::Refused(refusal)) => Ok(refuses(volume, call, *refusal)),
+        (Asked::Question(query), Outcome::Refused(refusal)) => {
+            is_refused(volume, alloc, query, *refusal)
+        }
+        (Asked::Question(query), Outcome::Answered(reply)) => {
+            is_answered(volume, alloc, query, reply)
+        }
+        _ => Ok(false),
+    }
+}
+
+/// Whether a journal's record `k`, counted from its first, is that of a call with an answer.
+#[tactic(auto, using(std::proofs::lemmas::Option::slice_get_read, std::proofs::lemmas::Option::slice_get_past))]
+fn is_record(journal: &[Record], k: usize, call: &Call, done: Done) -> bool
+    ensures { IsTrue result ↔ (slice_get journal.now k ≡ Some (record { call = call.now; done = done })) }
+{
+    match journal.get(k) {
+        Some(entry) => is_of(entry, call, done),
+        None => false,
+    }
+}
+
+/// Whether a record is that of a call with an answer.
+fn is_of(entry: &Record, call: &Call, done: Done) -> bool
+    ensures { IsTrue result ↔ (entry.now ≡ record { call = call.now; done = done }) }
+{
+    entry.call == *call && entry.done == done
+}
+
+/// Whether a volume would refuse a call so.
+fn refuses(volume: &Volume, call: &Call, refusal: Refusal) -> bool
+    ensures { IsTrue result ↔ (verdict (reads_as volume.now.edition volume.now.image) call.now ≡ Some refusal) }
+{
+    match volume.refusal(call) {
+        Some(met) => met == refusal,
+        None => false,
+    }
+}
+
+/// Whether a volume refuses a query so.
+fn is_refused(
+    volume: &Volume,
+    alloc: Global,
+    query: &Query,
+    refusal: Refusal,
+) -> Result<bool, AllocError>
+    ensures { IfOk result (λ is. IsTrue is ↔ (answer (reads_as volume.now.edition volume.now.image).tree query.now ≡ Err refusal)) }
+{
+    match volume.ask(alloc, query) {
+        Ok(_) => Ok(false),
+        Err(Refusal::NoMemory) => Err(AllocError),
+        Err(met) => Ok(met == refusal),
+    }
+}
+
+/// Whether a volume answers a query so.
+fn is_answered(
+    volume: &Volume,
+    alloc: Global,
+    query: &Query,
+    reply: &Reply,
+) -> Result<bool, AllocError>
+    ensures { IfOk result (λ is. IsTrue is ↔ (answer (reads_as volume.now.edition volume.now.image).tree query.now ≡ Ok reply.now)) }
+{
+    match volume.ask(alloc, query) {
+        Ok(met) => Ok(is_same(&met, reply)),
+        Err(Refusal::NoMemory) => Err(AllocError),
+        Err(_) => Ok(false),
+    }
+}
+
+/// Whether two replies are the same.
+fn is_same(one: &Reply, other: &Reply) -> bool
+    ensures { IsTrue result ↔ (one.now ≡ other.now) }
+{
+    match (one, other) {
+        (Reply::Stat(one), Reply::Stat(other)) => one == other,
+        (Reply::Bytes(one), Reply::Bytes(other)) => one == other,
+        (Reply::Names(one), Reply::Names(other)) => is_same_listing(one, other),
+        _ => false,
+    }
+}
+
+/// Whether two listings are the same.
+fn is_same_listing(one: &Listing, other: &Listing) -> bool
+    ensures { IsTrue result ↔ (one.now ≡ other.now) }
+{
+    one == other
+}

@@ -1,0 +1,105 @@
+//! Calls and queries that leave receipts.
+ghost use Rattle.std.specs.Prelude.{◌≡◌, ◌+◌, ◌-◌, ◌<◌, ◌≤◌, ◌^◌, ◌++◌, ◌∷◌, [], length, IfOk, IfErr, IfSome, Some};
+ghost use Rattle.std.specs.List.{slice_get};
+ghost use Rattle.vol_volume.specs.Volume.{reads_as};
+ghost use Rattle.vol_receipts.specs.Agrees.{origin_of, IsAnswer, Agrees, record_of};
+
+use crate::receipts::{Asked, Outcome, Receipt};
+use std::alloc::{AllocError, Global};
+use vol_dir::Refusal;
+use vol_volume::{Call, Done, Query, Volume};
+
+/// Makes a call, and tells what came of it; the receipt has the copy. An accepted call is the journal's next
+/// record, and a refused one changes nothing.
+///
+/// Where the journal has no room for a record, the call comes back and nothing changes. Room ends with the
+/// memory, and with the numbers below 2^64. Costs what [`Volume::call`] does.
+pub fn change(
+    volume: &mut Volume,
+    alloc: Global,
+    call: Call,
+    asked: Call,
+) -> Result<Receipt, (AllocError, Call)>
+    requires { asked ≡ call }
+    ensures origin { origin_of volume.new ≡ origin_of volume.old }
+    ensures journal { IfOk result (λ receipt. volume.new.journal ≡ volume.old.journal ++ record_of receipt.asked receipt.outcome) }
+    ensures at { IfOk result (λ receipt. receipt.at ≡ volume.old.first + length volume.old.journal) }
+    ensures numbered { IfOk result (λ receipt. receipt.at + 1 < 2 ^ 64) }
+    ensures asked { IfOk result (λ receipt. receipt.asked ≡ Asked.Change call) }
+    ensures agrees { IfOk result (λ receipt. Agrees (origin_of volume.new) volume.new.journal receipt) }
+    ensures unchanged { IfErr result (λ (error, same). volume.new.journal ≡ volume.old.journal) }
+    ensures handed_back { IfErr result (λ (error, same). same ≡ call) }
+{
+    let Some(at) = next_number(volume) else {
+        return Err((AllocError, call));
+    };
+    match volume.call(alloc, call) {
+        Ok(done) => Ok(accepted(volume, at, asked, done)),
+        Err((Refusal::NoMemory, call)) => Err((AllocError, call)),
+        Err((refusal, _)) => {
+            let outcome = Outcome::Refused(refusal);
+            Ok(told(volume, at, Asked::Change(asked), outcome))
+        }
+    }
+}
+
+/// Asks a query, and tells what came of it.
+///
+/// Where memory or the numbers below 2^64 run out, the query comes back. Costs what [`Volume::ask`] does.
+pub fn reply(volume: &Volume, alloc: Global, query: Query) -> Result<Receipt, (AllocError, Query)>
+    ensures at { IfOk result (λ receipt. receipt.at ≡ volume.now.first + length volume.now.journal) }
+    ensures numbered { IfOk result (λ receipt. receipt.at + 1 < 2 ^ 64) }
+    ensures asked { IfOk result (λ receipt. receipt.asked ≡ Asked.Question query) }
+    ensures agrees { IfOk result (λ receipt. Agrees (origin_of volume.now) volume.now.journal receipt) }
+    ensures handed_back { IfErr result (λ (error, same). same ≡ query) }
+{
+    let Some(at) = next_number(volume) else {
+        return Err((AllocError, query));
+    };
+    let outcome = match volume.ask(alloc, &query) {
+        Ok(reply) => Outcome::Answered(reply),
+        Err(Refusal::NoMemory) => return Err((AllocError, query)),
+        Err(refusal) => Outcome::Refused(refusal),
+    };
+    Ok(told(volume, at, Asked::Question(query), outcome))
+}
+
+/// The number of the journal's next record, where the one after it has a number too.
+fn next_number(volume: &Volume) -> Option<u64>
+    ensures { IfSome result (λ at. (at ≡ volume.now.first + length volume.now.journal) × (at + 1 < 2 ^ 64)) }
+{
+    let at = volume.first().checked_add(volume.journal().len() as u64)?;
+    if at == u64::MAX { None } else { Some(at) }
+}
+
+/// The receipt of a call that was accepted, whose record is the journal's last.
+fn accepted(volume: &Volume, at: u64, asked: Call, done: Done) -> Receipt
+    requires first { volume.now.first ≤ at }
+    requires last { slice_get volume.now.journal (at - volume.now.first) ≡ Some (record { call = asked; done = done }) }
+    ensures at { result.at ≡ at }
+    ensures asked { result.asked ≡ Asked.Change asked }
+    ensures outcome { result.outcome ≡ Outcome.Accepted done }
+    ensures agrees { Agrees (origin_of volume.now) volume.now.journal result }
+{
+    // What the receipt agrees with is for the contract alone.
+    let _ = volume;
+    Receipt {
+        at,
+        asked: Asked::Change(asked),
+        outcome: Outcome::Accepted(done),
+    }
+}
+
+/// The receipt of a refusal or of a reply, which come of the tree that all records make.
+#[tactic(auto, using(crate::proofs::Records::agrees_told))]
+fn told(volume: &Volume, at: u64, asked: Asked, outcome: Outcome) -> Receipt
+    requires at { at ≡ volume.now.first + length volume.now.journal }
+    requires answer { IsAnswer (reads_as volume.now.edition volume.now.image) asked outcome }
+    ensures at { result.at ≡ at }
+    ensures asked { result.asked ≡ asked }
+    ensures outcome { result.outcome ≡ outcome }
+    ensures agrees { Agrees (origin_of volume.now) volume.now.journal result }
+{
+    volume.check();
+    Receipt { at, asked, outcome }
+}

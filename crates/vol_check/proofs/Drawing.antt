@@ -9,7 +9,7 @@ use Rattle.count_table.specs.Views.{view}
 use Rattle.count_table.specs.Tallies.{IsSeatAt, shape_of}
 use Rattle.count_table.proofs.Totals.{total_nil, total_push, past_here, past_short}
 use Rattle.vol_check.specs.declared.seats.CheckSeat.{CheckSeat}
-use Rattle.vol_check.specs.FreeWalk.{free_walk}
+use Rattle.vol_reports.specs.FreeWalk.{free_walk}
 use Rattle.vol_check.specs.Pieces.{piece_weight, free_weight, inode_weight}
 use Rattle.vol_check.specs.Shapes.{Layout}
 use Rattle.vol_check.specs.Seats.{one_if, IsSeatOf, IsOf, IsFresh, layout_weight, layout_fault}

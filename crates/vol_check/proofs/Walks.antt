@@ -16,10 +16,10 @@ use Rattle.count_table.specs.Sums.{total}
 use Rattle.count_table.specs.Views.{mark}
 use Rattle.count_table.specs.Tallies.{IsSeatAt}
 use Rattle.count_table.proofs.Totals.{total_set, total_nil, total_cons}
-use Rattle.vol_check.specs.declared.report.FreeFault.{FreeFault}
+use Rattle.vol_reports.specs.declared.line.FreeFault.{FreeFault}
 use Rattle.vol_check.specs.declared.rest.Rest.{Rest}
-use Rattle.vol_check.specs.Words.{zone_len, free_word}
-use Rattle.vol_check.specs.FreeWalk.{Walked, walk_rest, free_walk}
+use Rattle.vol_reports.specs.Words.{zone_len, free_word}
+use Rattle.vol_reports.specs.FreeWalk.{Walked, walk_rest, free_walk}
 use Rattle.vol_check.specs.Walking.{FlagsMet, Meets}
 use Rattle.vol_check.specs.Pieces.{Adds, free_weight}
 use Rattle.vol_check.proofs.Adding.{adds_none, adds_then, adds_as}

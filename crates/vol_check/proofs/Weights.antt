@@ -15,7 +15,7 @@ use Rattle.count_table.specs.declared.rule.Mark.{Mark}
 use Rattle.count_table.specs.Sums.{total, below}
 use Rattle.count_table.specs.Views.{mark}
 use Rattle.count_table.proofs.Totals.{total_nil, total_cons}
-use Rattle.vol_check.specs.Words.{place_word, bad_word, least_word}
+use Rattle.vol_reports.specs.Words.{place_word, bad_word, least_word}
 use Rattle.vol_check.specs.Pieces.{place_weight}
 use Rattle.vol_check.proofs.Sums.{total_flat, total_start, below_zero}
 

@@ -1,5 +1,3 @@
-pub mod Words
-pub mod FreeWalk
 pub mod Walking
 pub mod Pieces
 pub mod Shapes

@@ -7,10 +7,10 @@ use Rattle.count_table.specs.declared.words.Tally.{Tally}
 use Rattle.count_table.specs.Sums.{total, late}
 use Rattle.count_table.specs.Views.{view}
 use Rattle.count_table.specs.Tallies.{IsSeatAt, shape_of}
-use Rattle.vol_check.specs.declared.report.FreeFault.{FreeFault}
+use Rattle.vol_reports.specs.declared.line.FreeFault.{FreeFault}
 use Rattle.vol_check.specs.declared.seats.CheckSeat.{CheckSeat}
 use Rattle.vol_check.specs.Shapes.{Layout}
-use Rattle.vol_check.specs.FreeWalk.{free_walk}
+use Rattle.vol_reports.specs.FreeWalk.{free_walk}
 use Rattle.vol_check.specs.Pieces.{piece_weight}
 
 -- 1 for true (this project)

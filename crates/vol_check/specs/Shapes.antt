@@ -3,7 +3,7 @@ use Rattle.std.specs.Prelude.{◌≡◌, ◌<◌, Result, Ok, Err}
 use Rattle.vol_layout.specs.declared.geometry.Geometry.{Geometry}
 use Rattle.vol_layout.specs.declared.geometry.GeometryFault.{GeometryFault}
 use Rattle.count_table.specs.declared.rule.Shape.{Shape}
-use Rattle.vol_check.specs.Words.{HasWords}
+use Rattle.vol_reports.specs.Words.{HasWords}
 
 -- what an image's super-block says of its layout: its geometry, or which of rules 1 and 2 fails (filsys.h)
 abbrev pub Layout : Type 0

@@ -7,7 +7,7 @@ use Rattle.count_table.specs.Tallies.{shape_of}
 use Rattle.vol_check.specs.declared.seats.CheckSeat.{CheckSeat}
 use Rattle.vol_check.specs.declared.seats.Piece.{Piece}
 use Rattle.vol_check.specs.declared.sweeps.Sweep.{Sweep}
-use Rattle.vol_check.specs.FreeWalk.{free_walk}
+use Rattle.vol_reports.specs.FreeWalk.{free_walk}
 use Rattle.vol_check.specs.Pieces.{Adds, piece_weight}
 use Rattle.vol_check.specs.Seats.{IsSeatOf, IsOf}
 

@@ -6,7 +6,7 @@ use Rattle.vol_layout.specs.declared.geometry.Geometry.{Geometry}
 use Rattle.vol_check.specs.declared.rest.Rest.{Rest}
 use Rattle.vol_check.specs.declared.rest.Outcome.{Outcome}
 use Rattle.vol_check.specs.declared.rest.Outcome.TheVariants.{Met, End, Fault}
-use Rattle.vol_check.specs.FreeWalk.{walk_rest}
+use Rattle.vol_reports.specs.FreeWalk.{walk_rest}
 
 -- the flag of each data block says whether it was met (icheck)
 abbrev pub FlagsMet : Geometry → List Bool → List ℕ → Type 0

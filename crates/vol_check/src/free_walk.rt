@@ -3,18 +3,18 @@ ghost use Rattle.std.specs.Prelude.{◌≡◌, ℕ, ◌+◌, ◌-◌, ◌*◌, �
 ghost use Rattle.pdp_words.specs.Words.{word};
 ghost use Rattle.vol_layout.specs.Geometry.{Fits};
 ghost use Rattle.count_table.specs.Tallies.{IsSeatAt, shape_of};
-ghost use Rattle.vol_check.specs.FreeWalk.{free_walk};
+ghost use Rattle.vol_reports.specs.FreeWalk.{free_walk};
 ghost use Rattle.vol_check.specs.Walking.{Steps};
-ghost use Rattle.vol_check.specs.Words.{HasWords, zone_len};
+ghost use Rattle.vol_reports.specs.Words.{HasWords, zone_len};
 ghost use Rattle.vol_check.specs.Pieces.{Adds, free_weight};
 
-use crate::report::FreeFault;
 use crate::rest::{Outcome, Rest};
-use crate::words::{free_word, zone_len};
 use count_table::{Tally, TallySeat};
 use pdp_words::{BLOCK, Image};
 use std::alloc::{AllocError, Global};
 use vol_layout::{Geometry, Super, number};
+use vol_reports::FreeFault;
+use vol_reports::words::{free_word, zone_len};
 
 /// Marks each block that a walk over the free list meets, and answers the fault that ended it. Takes a byte for
 /// each data block; where there is no memory nothing is marked.

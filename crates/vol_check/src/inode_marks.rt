@@ -6,14 +6,14 @@ ghost use Rattle.vol_file.specs.Rules.{kind_at};
 ghost use Rattle.vol_judge.specs.Marks.{blocks_from};
 ghost use Rattle.count_table.specs.Sums.{total};
 ghost use Rattle.count_table.specs.Tallies.{IsSeatAt, shape_of};
-ghost use Rattle.vol_check.specs.Words.{HasWords};
+ghost use Rattle.vol_reports.specs.Words.{HasWords};
 ghost use Rattle.vol_check.specs.Pieces.{Adds, place_weight, kind_weight, inode_weight};
 
-use crate::words::{bad_word, kind_word, least_word, place_word};
 use count_table::{Tally, TallySeat};
 use pdp_words::{BLOCK, Image};
 use vol_layout::i_list::{address, kind, mode};
 use vol_layout::{Form, Geometry, Kind, number};
+use vol_reports::words::{bad_word, kind_word, least_word, place_word};
 
 /// Marks the places and the kind of i-node `i`. Takes no memory.
 pub(crate) fn mark_inode(

@@ -5,16 +5,14 @@ mod dealing;
 mod free_walk;
 mod gate;
 mod inode_marks;
-mod report;
 mod rest;
 mod seats;
 mod sweep;
 mod sweeps;
 #[cfg(test)]
 mod tests;
-mod words;
 
 pub use gate::{Gate, Open};
-pub use report::FreeFault;
 pub use seats::{CheckSeat, Piece};
 pub use sweeps::Sweep;
+pub use vol_reports::FreeFault;

@@ -1,5 +1,5 @@
 //! What a walk over the free list has before it.
-use crate::report::FreeFault;
+use vol_reports::FreeFault;
 
 /// What a walk over the free list has not met: the first `count` numbers of the array whose count stands at
 /// byte `head`, and what its number 0 leads to.

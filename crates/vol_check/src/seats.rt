@@ -1,6 +1,6 @@
 //! What one thread has of a sweep.
-use crate::report::FreeFault;
 use count_table::TallySeat;
+use vol_reports::FreeFault;
 
 /// A thread's place in a sweep.
 #[derive(Drop)]

@@ -2,7 +2,7 @@
 ghost use Rattle.std.specs.Prelude.{◌≤◌, IfOk, IfErr};
 ghost use Rattle.count_table.specs.Tallies.{IsSeatAt, shape_of};
 ghost use Rattle.vol_layout.specs.Geometry.{Fits};
-ghost use Rattle.vol_check.specs.Words.{HasWords};
+ghost use Rattle.vol_reports.specs.Words.{HasWords};
 ghost use Rattle.vol_check.specs.Seats.{IsSeatOf, IsOf, HasLayout};
 ghost use Rattle.vol_check.specs.Stepping.{Stepped, Works, Fails};
 

@@ -3,8 +3,8 @@ use Rattle.std.proofs.lemmas.Bool.{cases_eq}
 use Rattle.vol_layout.specs.Edition.{constants}
 use Rattle.vol_layout.specs.Geometry.{in_zone}
 use Rattle.vol_layout.proofs.BodyLaws.{zone_room}
-use Rattle.vol_check.specs.declared.report.FreeFault.TheVariants.{TooMany}
-use Rattle.vol_check.specs.FreeWalk.{walk_rest}
+use Rattle.vol_reports.specs.declared.line.FreeFault.TheVariants.{TooMany}
+use Rattle.vol_reports.specs.FreeWalk.{walk_rest}
 use Rattle.vol_check.proofs.WalkLaws.{failed, walk_none, walk_many, walk_end, walk_out, walk_again, walk_chain, walk_on}
 use Rattle.vol_check.proofs.free_walk.step.Goals.{else-rest-eq1-via-then-rest-eq1+else-b-eq0, else-rest-eq1-via-else-rest-eq1}
 use Rattle.vol_check.proofs.free_walk.step.Goals as goal

@@ -1,8 +1,8 @@
 use Rattle.std.proofs.Common.{◌-◌, sym, ap, arith, Some, None}
 use Rattle.vol_layout.proofs.BodyLaws.{zone_bounds}
 use Rattle.count_table.specs.Views.{mark}
-use Rattle.vol_check.specs.Words.{free_word}
-use Rattle.vol_check.specs.FreeWalk.{Walked}
+use Rattle.vol_reports.specs.Words.{free_word}
+use Rattle.vol_reports.specs.FreeWalk.{Walked}
 use Rattle.vol_check.proofs.Adding.{added}
 use Rattle.vol_check.proofs.Walks.{starts, walks_on, walk_is, walk_marks, unset, unset_less}
 use Rattle.vol_check.proofs.free_walk.walk.Goals as goal

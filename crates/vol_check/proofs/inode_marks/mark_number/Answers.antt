@@ -1,7 +1,7 @@
 use Rattle.std.proofs.Common.{◌≡◌, sym, ap, ◌∙◌, false, true}
 use Rattle.vol_layout.specs.Geometry.{in_zone}
 use Rattle.count_table.specs.Views.{mark}
-use Rattle.vol_check.specs.Words.{bad_word, least_word}
+use Rattle.vol_reports.specs.Words.{bad_word, least_word}
 use Rattle.vol_check.specs.Pieces.{place_weight}
 use Rattle.vol_check.proofs.Adding.{added, adds_then}
 use Rattle.vol_check.proofs.Weights.{place_inside, place_outside}

@@ -1,12 +1,13 @@
 //! Which word of the table of counts stands for what.
 ghost use Rattle.std.specs.Prelude.{◌≡◌, ◌^◌, ◌≤◌, ◌<◌, true};
 ghost use Rattle.vol_layout.specs.Geometry.{in_zone};
-ghost use Rattle.vol_check.specs.Words.{place_word, free_word, bad_word, kind_word, least_word, zone_len};
+ghost use Rattle.vol_reports.specs.Words.{place_word, free_word, bad_word, kind_word, least_word, entry_word, name_word, zone_len};
+ghost use Rattle.vol_judge.specs.Stepping.{rank};
 
 use vol_layout::Geometry;
 
 /// How many data blocks the volume has.
-pub(crate) fn zone_len(geometry: &Geometry) -> usize
+pub fn zone_len(geometry: &Geometry) -> usize
     requires zone { geometry.now.zone_start < geometry.now.zone_end }
     ensures exact { result ≡ zone_len geometry.now }
     ensures bound { result < 2 ^ 32 }
@@ -15,7 +16,7 @@ pub(crate) fn zone_len(geometry: &Geometry) -> usize
 }
 
 /// The word that counts the places that name data block `b`.
-pub(crate) fn place_word(geometry: &Geometry, b: u32) -> usize
+pub fn place_word(geometry: &Geometry, b: u32) -> usize
     requires zone { in_zone geometry.now b ≡ true }
     ensures { result ≡ place_word geometry.now b }
 {
@@ -23,7 +24,7 @@ pub(crate) fn place_word(geometry: &Geometry, b: u32) -> usize
 }
 
 /// The word that counts how often data block `b` is met in the free list.
-pub(crate) fn free_word(geometry: &Geometry, b: u32) -> usize
+pub fn free_word(geometry: &Geometry, b: u32) -> usize
     requires zone { in_zone geometry.now b ≡ true }
     ensures { result ≡ free_word geometry.now b }
 {
@@ -31,7 +32,7 @@ pub(crate) fn free_word(geometry: &Geometry, b: u32) -> usize
 }
 
 /// The word that counts the places of i-node `i` that name no data block.
-pub(crate) fn bad_word(geometry: &Geometry, i: u16) -> usize
+pub fn bad_word(geometry: &Geometry, i: u16) -> usize
     requires zone { geometry.now.zone_start < geometry.now.zone_end }
     requires first { 1 ≤ i }
     ensures { result ≡ bad_word geometry.now i }
@@ -40,7 +41,7 @@ pub(crate) fn bad_word(geometry: &Geometry, i: u16) -> usize
 }
 
 /// The word that counts the i-nodes of a kind: 0 for regular files, 1 for directories, 2 for special files, 3 for odd ones.
-pub(crate) fn kind_word(geometry: &Geometry, k: usize) -> usize
+pub fn kind_word(geometry: &Geometry, k: usize) -> usize
     requires zone { geometry.now.zone_start < geometry.now.zone_end }
     requires few { k ≤ 3 }
     ensures { result ≡ kind_word geometry.now k }
@@ -49,10 +50,31 @@ pub(crate) fn kind_word(geometry: &Geometry, k: usize) -> usize
 }
 
 /// The word that has the least number, of no data block, that a place of i-node `i` names.
-pub(crate) fn least_word(geometry: &Geometry, i: u16) -> usize
+pub fn least_word(geometry: &Geometry, i: u16) -> usize
     requires zone { geometry.now.zone_start < geometry.now.zone_end }
     requires first { 1 ≤ i }
     ensures { result ≡ least_word geometry.now i }
 {
     1 + (2 * zone_len(geometry) + (geometry.last_inode as usize + 4)) + (i - 1) as usize
+}
+
+/// The word that counts the entries for i-number `i`.
+pub fn entry_word(i: u16) -> usize
+    ensures { result ≡ entry_word i }
+{
+    i as usize
+}
+
+/// The word that has the rank of the first entry for i-number `i`, other than `.` and `..`.
+pub fn name_word(i: u16) -> usize
+    ensures { result ≡ name_word i }
+{
+    i as usize
+}
+
+/// Where slot `slot` of directory `directory` stands among the slots of all directories.
+pub fn rank(directory: u16, slot: u32) -> u64
+    ensures { result ≡ rank directory slot }
+{
+    (u64::from(directory) << 32) + u64::from(slot)
 }

@@ -27,8 +27,26 @@ kind_word g k = 1 + (2 * zone_len g + (g.last_inode + k))
 abbrev pub least_word : Geometry → ℕ → ℕ
 least_word g i = 1 + (2 * zone_len g + (g.last_inode + 4)) + (i - 1)
 
--- a table of counts has these words, and a piece for the free list and one for each i-number (this project)
+-- a table of counts has the words of the blocks, and a piece for the free list and one for each i-number (this project)
 pub record HasWords (g : Geometry) (shape : Shape) : Type 0 where
   pub pieces : shape.pieces ≡ g.last_inode + 1
   pub counts : shape.counts ≡ 2 * zone_len g + (g.last_inode + 4)
+  pub leasts : shape.leasts ≡ g.last_inode
+
+-- the word that counts the entries for i-number i (this project)
+abbrev pub entry_word : ℕ → ℕ
+entry_word i = i
+
+-- a table of counts has a word for the entries for each i-number (this project)
+pub record HasEntryWords (g : Geometry) (shape : Shape) : Type 0 where
+  pub counts : shape.counts ≡ g.last_inode
+  pub leasts : shape.leasts ≡ 0
+
+-- the word that has the rank of the first entry for i-number i, other than `.` and `..` (this project)
+abbrev pub name_word : ℕ → ℕ
+name_word i = i
+
+-- a table of counts has a least word for each i-number (this project)
+pub record HasNameWords (g : Geometry) (shape : Shape) : Type 0 where
+  pub counts : shape.counts ≡ 0
   pub leasts : shape.leasts ≡ g.last_inode

@@ -1,0 +1,8 @@
+pub mod Ranges
+pub mod BlockLines
+pub mod EntryLines
+pub mod Climbs
+pub mod Naming
+pub mod NameLines
+pub mod PathLists
+pub mod Digits

@@ -1,0 +1,10 @@
+use Rattle.std.proofs.Common.{◌≡◌, ◌++◌}
+use Rattle.vol_reports.specs.Climbing.{trail}
+use Rattle.vol_reports.proofs.climbing.push_names.Given as goal
+
+-- what is left of the way comes behind the path
+abbrev pub invariant-loop-entry : goal.invariant-loop-entry
+invariant-loop-entry l = l.path.items ++ trail l.way.items ≡ l.initial.path.items ++ trail l.initial.way.items
+
+abbrev pub decreases-loop-entry : goal.decreases-loop-entry
+decreases-loop-entry l = goal.left-loop-entry l

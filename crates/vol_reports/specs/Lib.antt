@@ -1,0 +1,11 @@
+pub mod Words
+pub mod FreeWalk
+pub mod Placed
+pub mod Blocks
+pub mod Entries
+pub mod Names
+pub mod Reports
+pub mod Texts
+pub mod Counted
+pub mod FromWords
+pub mod Climbing

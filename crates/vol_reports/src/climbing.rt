@@ -1,0 +1,123 @@
+//! The paths of entries: going up from a directory, by the entries that name directories.
+ghost use Rattle.std.specs.Prelude.{◌≡◌, ◌+◌, ◌++◌, [], length, IfOk, OnOk};
+ghost use Rattle.vol_judge.specs.Directories.{root_of};
+ghost use Rattle.vol_reports.specs.Names.{slashed, path_up};
+ghost use Rattle.vol_reports.specs.Climbing.{naming_in, trail, path_start, AreBefore, Steps};
+
+use crate::entered::Entered;
+use std::alloc::{AllocError, Global};
+use vol_layout::Geometry;
+
+/// What a path begins with where it doesn't lead up to the root.
+const DOTS: &[u8] = b"...";
+
+/// The path of an entry. The marks say by which turn the ways up came by each directory last; this one is turn `turn`.
+/// `way` is for the entries of the way.
+///
+/// Costs as much as the path is long.
+pub(crate) fn entry_path<'a>(
+    alloc: Global,
+    geometry: &Geometry,
+    naming: &[Option<&'a Entered>],
+    marks: &mut [usize],
+    turn: usize,
+    way: &mut Vec<&'a Entered>,
+    entry: &Entered,
+) -> Result<Vec<u8>, AllocError>
+    requires room { length marks.old ≡ length naming.now }
+    requires marks { AreBefore turn marks.old }
+    requires way { way.old.items ≡ [] }
+    ensures path { IfOk result (λ path. path.items ≡ path_up (root_of geometry.now) (naming_in naming.now) (length naming.now + 1) [] entry.now.directory
+        ++ slashed entry.now.name) }
+    ensures marks { OnOk result (AreBefore (turn + 1) marks.new) }
+    ensures way { OnOk result (way.new.items ≡ []) }
+{
+    let rooted = climb(geometry, naming, marks, turn, way, entry.directory())?;
+    let mut path = first_bytes(alloc, rooted)?;
+    push_names(&mut path, way)?;
+    push_name(&mut path, entry.name())?;
+    Ok(path)
+}
+
+/// Goes up from directory `d`, and gathers the naming entries of the way, the lowest first. Answers whether the way ends
+/// at the root, and not at a directory met before on it, or one without naming entry.
+fn climb<'a>(
+    geometry: &Geometry,
+    naming: &[Option<&'a Entered>],
+    marks: &mut [usize],
+    turn: usize,
+    way: &mut Vec<&'a Entered>,
+    d: u16,
+) -> Result<bool, AllocError>
+    requires room { length marks.old ≡ length naming.now }
+    requires marks { AreBefore turn marks.old }
+    requires way { way.old.items ≡ [] }
+    ensures path { IfOk result (λ rooted. path_up (root_of geometry.now) (naming_in naming.now) (length naming.now + 1) [] d
+        ≡ path_start rooted ++ trail way.new.items) }
+    ensures marks { OnOk result (AreBefore (turn + 1) marks.new) }
+{
+    let root = geometry.edition.constants().root;
+    let mut at = d;
+    while at != root {
+        let Some(entry) = step(naming, marks, turn, at) else {
+            return Ok(false);
+        };
+        way.push(entry)?;
+        at = entry.directory();
+    }
+    Ok(true)
+}
+
+/// Marks directory `at`, and answers its naming entry; None where it was marked in this turn, or has no naming entry.
+fn step<'a>(
+    naming: &[Option<&'a Entered>],
+    marks: &mut [usize],
+    turn: usize,
+    at: u16,
+) -> Option<&'a Entered>
+    requires room { length marks.old ≡ length naming.now }
+    requires marks { AreBefore (turn + 1) marks.old }
+    ensures step { Steps naming.now turn at marks.old marks.new result }
+    ensures marks { AreBefore (turn + 1) marks.new }
+{
+    let k = at as usize;
+    if k >= marks.len() {
+        return None;
+    }
+    if marks[k] == turn {
+        return None;
+    }
+    marks[k] = turn;
+    naming[k]
+}
+
+/// What a path begins with.
+fn first_bytes(alloc: Global, rooted: bool) -> Result<Vec<u8>, AllocError>
+    ensures { IfOk result (λ path. path.items ≡ path_start rooted) }
+{
+    let mut path = Vec::new(alloc);
+    if !rooted {
+        path.extend_from_slice(DOTS)?;
+    }
+    Ok(path)
+}
+
+/// Appends the names of the entries of a way, the last of them first, and leaves no entry of the way.
+fn push_names(path: &mut Vec<u8>, way: &mut Vec<&Entered>) -> Result<(), AllocError>
+    ensures path { IfOk result (λ _. path.new.items ≡ path.old.items ++ trail way.old.items) }
+    ensures way { OnOk result (way.new.items ≡ []) }
+{
+    while let Some(entry) = way.pop() {
+        push_name(path, entry.name())?;
+    }
+    Ok(())
+}
+
+/// Appends a slash and a name.
+fn push_name(path: &mut Vec<u8>, name: &[u8]) -> Result<(), AllocError>
+    ensures { IfOk result (λ _. path.new.items ≡ path.old.items ++ slashed name.now) }
+{
+    path.push(b'/')?;
+    path.extend_from_slice(name)?;
+    Ok(())
+}

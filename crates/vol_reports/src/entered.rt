@@ -1,0 +1,66 @@
+//! An entry that a checker met.
+ghost use Rattle.std.specs.Prelude.{◌≡◌};
+ghost use Rattle.vol_layout.specs.Slot.{name_of};
+ghost use Rattle.vol_reports.specs.Placed.{placed};
+
+use std::marker::Model;
+use vol_layout::Slot;
+
+/// An entry of a directory, with its place. A caller sees its place, its i-number and its name; what stands behind
+/// the name's end is nothing to it.
+#[derive(Debug, Drop)]
+pub struct Entered {
+    directory: u16,
+    number: u32,
+    slot: Slot,
+}
+
+impl Model for Entered {
+    ghost use Rattle.vol_layout.specs.Slot.{name_of};
+    ghost use Rattle.vol_reports.specs.Placed.{Placed, placed};
+
+    ghost Value = { Placed };
+
+    ghost view = { λ held. placed held.directory held.number held.slot.inode (name_of held.slot.name) };
+}
+
+impl Entered {
+    /// The entry in a slot of a directory, whose number in it this is.
+    pub fn new(directory: u16, number: u32, slot: Slot) -> Entered
+        ensures { result ≡ placed directory number slot.inode (name_of slot.name) }
+    {
+        Entered {
+            directory,
+            number,
+            slot,
+        }
+    }
+
+    /// The directory's i-number.
+    pub fn directory(&self) -> u16
+        ensures { result ≡ self.now.directory }
+    {
+        self.directory
+    }
+
+    /// The number of the slot.
+    pub fn slot(&self) -> u32
+        ensures { result ≡ self.now.slot }
+    {
+        self.number
+    }
+
+    /// The i-number that the entry is for.
+    pub fn inode(&self) -> u16
+        ensures { result ≡ self.now.inode }
+    {
+        self.slot.inode
+    }
+
+    /// Its name.
+    pub fn name(&self) -> &[u8]
+        ensures { result.now ≡ self.now.name }
+    {
+        self.slot.name()
+    }
+}

@@ -1,0 +1,25 @@
+//! The reports of the checkers: what they say of any image, and their lines from what was counted.
+#![tactic(auto)]
+
+mod blocks;
+mod climbing;
+mod entered;
+mod entries;
+mod line;
+mod links;
+mod names;
+mod path;
+mod report;
+#[cfg(test)]
+mod tests;
+mod texts;
+pub mod words;
+
+pub use blocks::block_report;
+pub use entered::Entered;
+pub use entries::entry_report;
+pub use line::{FreeFault, Line, Total};
+pub use links::{LinkCount, link_counts};
+pub use names::name_report;
+pub use path::Path;
+pub use report::Report;

@@ -1,61 +1,25 @@
 -- What a seat knows once it drew a number.
-use Rattle.std.proofs.Common.{◌≡◌, ◌≢◌, ℕ, ◌<◌, ◌≤◌, ◌∙◌, ◌==◌, sym, ap, subst, if◌then◌else◌, Bool, nat_le, true, false, List, [], ◌∷◌, ◌++◌, Option, None, Ok, Err, refl, arith, inl, inr}
-use Rattle.std.proofs.lemmas.Bool.{cases_eq, eq-eqb, ne_eqb}
+use Rattle.std.proofs.Common.{◌≡◌, ℕ, ◌<◌, ◌≤◌, ◌∙◌, ◌==◌, sym, ap, subst, if◌then◌else◌, Bool, true, false, List, [], ◌∷◌, ◌++◌, None, Ok, Err, refl, arith}
 use Rattle.vol_layout.specs.declared.geometry.Geometry.{Geometry}
-use Rattle.count_table.specs.declared.rule.Mark.{Mark}
 use Rattle.count_table.specs.declared.words.Tally.{Tally}
 use Rattle.count_table.specs.Sums.{total, late, past}
 use Rattle.count_table.specs.Views.{view}
 use Rattle.count_table.specs.Tallies.{IsSeatAt, shape_of}
 use Rattle.count_table.proofs.Totals.{total_nil, total_push, past_here, past_short}
-use Rattle.vol_check.specs.declared.seats.CheckSeat.{CheckSeat}
+use Rattle.vol_reports.specs.Blocks.{one_if}
 use Rattle.vol_reports.specs.FreeWalk.{free_walk}
-use Rattle.vol_check.specs.Pieces.{piece_weight, free_weight, inode_weight}
+use Rattle.vol_check.specs.declared.kind.Kind.{Kind}
+use Rattle.vol_check.specs.declared.kind.Kind.TheVariants.{Blocks, Entries, Names}
+use Rattle.vol_check.specs.declared.seats.CheckSeat.{CheckSeat}
 use Rattle.vol_check.specs.Shapes.{Layout}
-use Rattle.vol_check.specs.Seats.{one_if, IsSeatOf, IsOf, IsFresh, layout_weight, layout_fault}
+use Rattle.vol_check.specs.Seats.{IsSeatOf, IsOf, IsFresh, kind_weight, kind_kept, kind_fault, layout_weight, layout_kept, layout_fault}
+use Rattle.vol_check.specs.Noting.{Stays}
 use Rattle.vol_check.specs.Stepping.{Works}
+use Rattle.vol_check.proofs.PastPieces.{IsPast, kept_next}
 
--- past the last piece nothing is marked
-pub past_weight : (g : Geometry) (image : List ℕ) (weight : Mark → ℕ) (n : ℕ) → g.last_inode < n → piece_weight g image weight n ≡ 0
-unfolding piece_weight
-past_weight g image weight n lt = grind (arith, lt)
-
--- piece 0, and the others
-pub free_piece : (g : Geometry) (image : List ℕ) (weight : Mark → ℕ) (n : ℕ) → n ≡ 0 → piece_weight g image weight n ≡ free_weight g image weight
-unfolding piece_weight
-free_piece g image weight n e = ap (λ t. if t then free_weight g image weight else if nat_le n g.last_inode then inode_weight g image weight n else 0) (eq-eqb n 0 e)
-
-pub inode_piece : (g : Geometry) (image : List ℕ) (weight : Mark → ℕ) (n : ℕ) → 1 ≤ n → n ≤ g.last_inode → piece_weight g image weight n ≡ inode_weight g image weight n
-unfolding piece_weight
-inode_piece g image weight n low high = grind (arith, low, high)
-
--- the fault kept once piece 0 is drawn, and once another number is
-zero_kept : (g : Geometry) (image : List ℕ) (draws : List ℕ) (n : ℕ) → n ≡ 0 → layout_fault (Ok g) image (draws ++ n ∷ []) ≡ (free_walk g image).fault
-zero_kept g image draws n e =
-    let p = total_push (λ p. one_if (p == 0)) draws n in
-    let o : ◌≡◌ {A = ℕ} (one_if (n == 0)) 1 = ap one_if (eq-eqb n 0 e) in
-    let some : total (λ p. one_if (p == 0)) (draws ++ n ∷ []) ≢ 0 = λ z. omega (arith, p, o, z) in
-    ap (λ t. if t then None else (free_walk g image).fault) (ne_eqb (total (λ p. one_if (p == 0)) (draws ++ n ∷ [])) 0 some)
-
-pub other_kept : (layout : Layout) (image : List ℕ) (draws : List ℕ) (n : ℕ) → n ≢ 0 → layout_fault layout image (draws ++ n ∷ []) ≡ layout_fault layout image draws
-other_kept (Ok g) image draws n ne =
-    let p = total_push (λ p. one_if (p == 0)) draws n in
-    let o : ◌≡◌ {A = ℕ} (one_if (n == 0)) 0 = ap one_if (ne_eqb n 0 ne) in
-    let same : total (λ p. one_if (p == 0)) (draws ++ n ∷ []) ≡ total (λ p. one_if (p == 0)) draws = omega (arith, p, o) in
-    ap (λ k. if k == 0 then None else (free_walk g image).fault) same
-other_kept (Err fault) image draws n ne = refl
-
--- the fault, once piece n was done
-kept_next : (g : Geometry) (image : List ℕ) (draws : List ℕ) (n : ℕ) (old new : Option _) → old ≡ layout_fault (Ok g) image draws
-    → new ≡ (if n == 0 then (free_walk g image).fault else old) → new ≡ layout_fault (Ok g) image (draws ++ n ∷ [])
-kept_next g image draws n old new before is = elim (cases_eq n 0) [
-  | inl e ↦ is ∙ (ap (λ t. if t then (free_walk g image).fault else old) (eq-eqb n 0 e) ∙ sym (zero_kept g image draws n e))
-  | inr ne ↦ is ∙ (ap (λ t. if t then (free_walk g image).fault else old) (ne_eqb n 0 ne) ∙ (before ∙ sym (other_kept (Ok g) image draws n ne)))
-]
-
-module _ (tally : Tally) (layout : Layout) (image : List ℕ) (old mid new : CheckSeat) (n : ℕ) (own : IsSeatOf tally old) (knows : IsOf layout image old)
-    (early : old.ended ≡ false) (well : old.spoiled ≡ false)
-    (is : mid.seat.me.0 ≡ view old.seat.me.0.parts (old.seat.me.0.draws ++ n ∷ []) old.seat.me.0.marks) where
+module _ (tally : Tally) (kind : Kind) (layout : Layout) (image : List ℕ) (old mid new : CheckSeat) (n : ℕ) (own : IsSeatOf tally old)
+    (knows : IsOf kind layout image old) (early : old.ended ≡ false) (well : old.spoiled ≡ false)
+    (is : mid.seat.me.0 ≡ view old.seat.me.0.parts (old.seat.me.0.draws ++ n ∷ []) old.seat.me.0.marks) (kept : mid.entries ≡ old.entries) where
   abbrev parts_is : mid.seat.me.0.parts ≡ old.seat.me.0.parts
   parts_is = ap (λ v. v.parts) is
 
@@ -72,7 +36,7 @@ module _ (tally : Tally) (layout : Layout) (image : List ℕ) (old mid new : Che
       let z : ◌≡◌ {A = ℕ} (one_if old.ended) 0 = ap one_if early in omega (arith, p, l, z)
 
   -- a piece was done
-  pub done_own : (g : Geometry) → n < (shape_of tally).pieces → Works tally g image n mid new → mid.ended ≡ old.ended → IsSeatOf tally new
+  pub done_own : (g : Geometry) → n < (shape_of tally).pieces → Works tally kind g image n mid new → mid.ended ≡ old.ended → IsSeatOf tally new
   done_own g low works ended = record {
     own = works.adds.own;
     parts = works.adds.parts ∙ (parts_is ∙ own.parts);
@@ -80,19 +44,27 @@ module _ (tally : Tally) (layout : Layout) (image : List ℕ) (old mid new : Che
         ∙ sym (ap one_if (works.ended ∙ (ended ∙ early)))));
   }
 
-  pub done_knows : (g : Geometry) → layout ≡ Ok g → Works tally g image n mid new → mid.fault ≡ old.fault → IsOf layout image new
+  pub done_knows : (g : Geometry) → layout ≡ Ok g → Works tally kind g image n mid new → mid.fault ≡ old.fault → IsOf kind layout image new
   done_knows g ok works fault = record {
     marks = λ fine weight.
         let a = works.adds.marks weight in
         let m = ap (total weight) marks_is in
         let k = knows.marks well weight in
-        let p = total_push (layout_weight layout image weight) old.seat.me.0.draws n in
-        let l : ◌≡◌ {A = ℕ} (layout_weight layout image weight n) (piece_weight g image weight n) = ap (λ (x : Layout). layout_weight x image weight n) ok in
-        let d = ap (total (layout_weight layout image weight)) (works.adds.draws ∙ draws_is) in
+        let p = total_push (layout_weight kind layout image weight) old.seat.me.0.draws n in
+        let l : ◌≡◌ {A = ℕ} (layout_weight kind layout image weight n) (kind_weight kind g image weight n) = ap (λ (x : Layout). layout_weight kind x image weight n) ok in
+        let d = ap (total (layout_weight kind layout image weight)) (works.adds.draws ∙ draws_is) in
         omega (arith, a, m, k, p, l, d);
-    fault = λ fine. subst (λ (x : Layout). new.fault ≡ layout_fault x image new.seat.me.0.draws) (sym ok)
-        (kept_next g image old.seat.me.0.draws n mid.fault new.fault (fault ∙ (knows.fault well ∙ ap (λ (x : Layout). layout_fault x image old.seat.me.0.draws) ok)) works.fault
-        ∙ ap (layout_fault (Ok g) image) (sym (works.adds.draws ∙ draws_is)));
+    entries = λ fine weight.
+        let a = works.entries weight in
+        let m = ap (λ xs. total weight xs.items) kept in
+        let k = knows.entries well weight in
+        let p = total_push (layout_kept kind layout image weight) old.seat.me.0.draws n in
+        let l : ◌≡◌ {A = ℕ} (layout_kept kind layout image weight n) (kind_kept kind g image weight n) = ap (λ (x : Layout). layout_kept kind x image weight n) ok in
+        let d = ap (total (layout_kept kind layout image weight)) (works.adds.draws ∙ draws_is) in
+        omega (arith, a, m, k, p, l, d);
+    fault = λ fine. subst (λ (x : Layout). new.fault ≡ layout_fault kind x image new.seat.me.0.draws) (sym ok)
+        (kept_next kind g image old.seat.me.0.draws n mid.fault new.fault (fault ∙ (knows.fault well ∙ ap (λ (x : Layout). layout_fault kind x image old.seat.me.0.draws) ok)) works.fault
+        ∙ ap (kind_fault kind g image) (sym (works.adds.draws ∙ draws_is)));
   }
 
   -- the number was no piece's
@@ -104,33 +76,41 @@ module _ (tally : Tally) (layout : Layout) (image : List ℕ) (old mid new : Che
         ∙ (late_is ∙ (past_here (shape_of tally).pieces n high ∙ sym (ap one_if ended))));
   }
 
-  -- a piece wasn't done
-  pub fail_own : n < (shape_of tally).pieces → IsSeatAt tally mid.seat → new.seat ≡ mid.seat → new.ended ≡ old.ended → IsSeatOf tally new
-  fail_own low at same ended = record {
-    own = subst (IsSeatAt tally) (sym same) at;
-    parts = ap (λ s. s.me.0.parts) same ∙ (parts_is ∙ own.parts);
-    late = ap (λ s. late (shape_of tally).pieces s.me.0.draws) same ∙ (ap (late (shape_of tally).pieces) draws_is
-        ∙ (late_is ∙ (past_short (shape_of tally).pieces n low ∙ sym (ap one_if (ended ∙ early)))));
-  }
-
-  pub end_knows : ((weight : Mark → ℕ) → layout_weight layout image weight n ≡ 0) → layout_fault layout image (old.seat.me.0.draws ++ n ∷ []) ≡ layout_fault layout image old.seat.me.0.draws
-      → new.seat ≡ mid.seat → new.fault ≡ old.fault → IsOf layout image new
-  end_knows none keeps same fault = record {
+  pub end_knows : IsPast kind layout image n → new.seat ≡ mid.seat → new.entries ≡ mid.entries → new.fault ≡ old.fault → IsOf kind layout image new
+  end_knows none same entries fault = record {
     marks = λ fine weight.
         let a = ap (λ s. total weight s.me.0.marks) same in
         let m = ap (total weight) marks_is in
         let k = knows.marks well weight in
-        let p = total_push (layout_weight layout image weight) old.seat.me.0.draws n in
-        let l = none weight in
-        let d = ap (λ s. total (layout_weight layout image weight) s.me.0.draws) same in
-        let e = ap (total (layout_weight layout image weight)) draws_is in
+        let p = total_push (layout_weight kind layout image weight) old.seat.me.0.draws n in
+        let l = none.marks weight in
+        let d = ap (λ s. total (layout_weight kind layout image weight) s.me.0.draws) same in
+        let e = ap (total (layout_weight kind layout image weight)) draws_is in
         omega (arith, a, m, k, p, l, d, e);
-    fault = λ fine. fault ∙ (knows.fault well ∙ (sym keeps ∙ sym (ap (λ s. layout_fault layout image s.me.0.draws) same ∙ ap (layout_fault layout image) draws_is)));
+    entries = λ fine weight.
+        let a = ap (λ xs. total weight xs.items) (entries ∙ kept) in
+        let k = knows.entries well weight in
+        let p = total_push (layout_kept kind layout image weight) old.seat.me.0.draws n in
+        let l = none.entries weight in
+        let d = ap (λ s. total (layout_kept kind layout image weight) s.me.0.draws) same in
+        let e = ap (total (layout_kept kind layout image weight)) draws_is in
+        omega (arith, a, k, p, l, d, e);
+    fault = λ fine. fault ∙ (knows.fault well ∙ (sym (none.fault old.seat.me.0.draws)
+        ∙ sym (ap (λ s. layout_fault kind layout image s.me.0.draws) same ∙ ap (layout_fault kind layout image) draws_is)));
+  }
+
+  -- a piece wasn't done
+  pub fail_own : n < (shape_of tally).pieces → Stays tally mid new → mid.ended ≡ old.ended → IsSeatOf tally new
+  fail_own low stays ended = record {
+    own = stays.own;
+    parts = stays.parts ∙ (parts_is ∙ own.parts);
+    late = ap (late (shape_of tally).pieces) (stays.draws ∙ draws_is)
+        ∙ (late_is ∙ (past_short (shape_of tally).pieces n low ∙ sym (ap one_if (stays.ended ∙ (ended ∙ early)))));
   }
 
 -- a seat that found no memory says nothing
-pub spoiled_knows : (layout : Layout) (image : List ℕ) (s : CheckSeat) → s.spoiled ≡ true → IsOf layout image s
-spoiled_knows layout image s spoiled = record { marks = λ fine. absurd (clash fine); fault = λ fine. absurd (clash fine) }
+pub spoiled_knows : (kind : Kind) (layout : Layout) (image : List ℕ) (s : CheckSeat) → s.spoiled ≡ true → IsOf kind layout image s
+spoiled_knows kind layout image s spoiled = record { marks = λ fine. absurd (clash fine); fault = λ fine. absurd (clash fine); entries = λ fine. absurd (clash fine) }
   where
     clash : s.spoiled ≡ false → ⊥
     clash fine = let e : ◌≡◌ {A = ℕ} 1 0 = ap one_if (sym spoiled ∙ fine) in omega (arith, e)
@@ -147,13 +127,17 @@ fresh_own tally s fresh = record {
   late = ap (λ v. late (shape_of tally).pieces v.draws) fresh.nothing ∙ (total_nil (past (shape_of tally).pieces) ∙ sym (ap one_if fresh.ended));
 }
 
-nothing_kept : (layout : Layout) (image : List ℕ) → layout_fault layout image [] ≡ None
-nothing_kept (Ok g) image = ap (λ k. if k == 0 then None else (free_walk g image).fault) (total_nil (λ p. one_if (p == 0)))
-nothing_kept (Err fault) image = refl
+nothing_kept : (kind : Kind) (layout : Layout) (image : List ℕ) → layout_fault kind layout image [] ≡ None
+nothing_kept Blocks (Ok g) image = ap (λ k. if k == 0 then None else (free_walk g image).fault) (total_nil (λ p. one_if (p == 0)))
+nothing_kept Entries (Ok g) image = refl
+nothing_kept Names (Ok g) image = refl
+nothing_kept kind (Err fault) image = refl
 
-pub fresh_knows : (tally : Tally) (layout : Layout) (image : List ℕ) (s : CheckSeat) → IsFresh tally s → IsOf layout image s
-fresh_knows tally layout image s fresh = record {
+pub fresh_knows : (tally : Tally) (kind : Kind) (layout : Layout) (image : List ℕ) (s : CheckSeat) → IsFresh tally s → IsOf kind layout image s
+fresh_knows tally kind layout image s fresh = record {
   marks = λ fine weight. ap (λ v. total weight v.marks) fresh.nothing
-      ∙ (total_nil weight ∙ sym (ap (λ v. total (layout_weight layout image weight) v.draws) fresh.nothing ∙ total_nil (layout_weight layout image weight)));
-  fault = λ fine. fresh.fault ∙ sym (ap (λ v. layout_fault layout image v.draws) fresh.nothing ∙ nothing_kept layout image);
+      ∙ (total_nil weight ∙ sym (ap (λ v. total (layout_weight kind layout image weight) v.draws) fresh.nothing ∙ total_nil (layout_weight kind layout image weight)));
+  entries = λ fine weight. ap (total weight) fresh.entries
+      ∙ (total_nil weight ∙ sym (ap (λ v. total (layout_kept kind layout image weight) v.draws) fresh.nothing ∙ total_nil (layout_kept kind layout image weight)));
+  fault = λ fine. fresh.fault ∙ sym (ap (λ v. layout_fault kind layout image v.draws) fresh.nothing ∙ nothing_kept kind layout image);
 }

@@ -11,7 +11,7 @@ total_flat weight f [] = refl
 total_flat weight f (x ∷ xs) = let h = total_flat weight f xs in let a = total_append weight (f x) (flat_map f xs) in omega arith
 
 -- the sum below n begins with 0
-below_front : (f : ℕ → ℕ) (n : ℕ) → below f (suc n) ≡ f 0 + below (λ k. f (k + 1)) n
+pub below_front : (f : ℕ → ℕ) (n : ℕ) → below f (suc n) ≡ f 0 + below (λ k. f (k + 1)) n
 unfolding below
 below_front f zero = omega arith
 below_front f (suc n) = let h = below_front f n in let e : suc n ≡ n + 1 = omega arith in let s = ap f e in omega arith

@@ -1,5 +1,11 @@
 pub mod Walking
 pub mod Pieces
+pub mod Parts
+pub mod Slots
 pub mod Shapes
 pub mod Seats
+pub mod Layouts
+pub mod Noting
 pub mod Stepping
+pub mod Gathering
+pub mod Reporting

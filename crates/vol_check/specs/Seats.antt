@@ -1,35 +1,62 @@
 -- Seats of a sweep, and what they know of an image.
-use Rattle.std.specs.Prelude.{◌≡◌, ℕ, ◌==◌, Bool, false, if◌then◌else◌, List, [], Option, None, Ok, Err}
-use Rattle.vol_layout.specs.Geometry.{geometry_read}
-use Rattle.vol_layout.specs.declared.edition.Edition.{Edition}
+use Rattle.std.specs.Prelude.{◌≡◌, ℕ, ◌==◌, ◌||◌, Bool, false, if◌then◌else◌, List, [], Option, None, Ok, Err}
+use Rattle.vol_layout.specs.declared.geometry.Geometry.{Geometry}
 use Rattle.count_table.specs.declared.rule.Mark.{Mark}
 use Rattle.count_table.specs.declared.words.Tally.{Tally}
 use Rattle.count_table.specs.Sums.{total, late}
 use Rattle.count_table.specs.Views.{view}
 use Rattle.count_table.specs.Tallies.{IsSeatAt, shape_of}
+use Rattle.vol_reports.specs.Blocks.{one_if}
+use Rattle.vol_reports.specs.FreeWalk.{free_walk}
+use Rattle.vol_reports.specs.Placed.{Placed}
 use Rattle.vol_reports.specs.declared.line.FreeFault.{FreeFault}
+use Rattle.vol_check.specs.declared.kind.Kind.{Kind}
+use Rattle.vol_check.specs.declared.kind.Kind.TheVariants.{Blocks, Entries, Names}
 use Rattle.vol_check.specs.declared.seats.CheckSeat.{CheckSeat}
 use Rattle.vol_check.specs.Shapes.{Layout}
-use Rattle.vol_reports.specs.FreeWalk.{free_walk}
 use Rattle.vol_check.specs.Pieces.{piece_weight}
+use Rattle.vol_check.specs.Slots.{slot_weight, slot_kept, slots_piece}
 
--- 1 for true (this project)
-abbrev pub one_if : Bool → ℕ
-one_if b = if b then 1 else 0
+-- what piece p of a sweep marks (icheck, dcheck, ncheck)
+abbrev pub kind_weight : Kind → Geometry → List ℕ → (Mark → ℕ) → ℕ → ℕ
+kind_weight Blocks g image weight p = piece_weight g image weight p
+kind_weight Entries g image weight p = slots_piece g image (slot_weight Entries g weight) p
+kind_weight Names g image weight p = slots_piece g image (slot_weight Names g weight) p
 
--- what a piece marks of an image with this layout (icheck)
-abbrev pub layout_weight : Layout → List ℕ → (Mark → ℕ) → ℕ → ℕ
-layout_weight (Ok g) image weight p = piece_weight g image weight p
-layout_weight (Err fault) image weight p = 0
+-- the entries that are kept of piece p (ncheck)
+abbrev pub kind_kept : Kind → Geometry → List ℕ → (Placed → ℕ) → ℕ → ℕ
+kind_kept Blocks g image weight p = 0
+kind_kept Entries g image weight p = slots_piece g image (slot_kept Entries weight) p
+kind_kept Names g image weight p = slots_piece g image (slot_kept Names weight) p
 
--- the fault of the free walk, kept by the seat that drew piece 0 (icheck)
-abbrev pub layout_fault : Layout → List ℕ → List ℕ → Option (FreeFault × ℕ)
-layout_fault (Ok g) image draws = if total (λ p. one_if (p == 0)) draws == 0 then None else (free_walk g image).fault
-layout_fault (Err fault) image draws = None
+-- the fault of the free walk, which is kept by the seat that drew piece 0 of a sweep over the blocks (icheck)
+abbrev pub kind_fault : Kind → Geometry → List ℕ → List ℕ → Option (FreeFault × ℕ)
+kind_fault Blocks g image draws = if total (λ p. one_if (p == 0)) draws == 0 then None else (free_walk g image).fault
+kind_fault Entries g image draws = None
+kind_fault Names g image draws = None
 
--- an image has the layout that the sweep was made for (this project)
-abbrev pub HasLayout : Edition → Layout → List ℕ → Type 0
-HasLayout edition layout image = geometry_read edition image ≡ layout
+-- what piece p marks of an image with some layout, which has no pieces without geometry (icheck, dcheck, ncheck)
+abbrev pub layout_weight : Kind → Layout → List ℕ → (Mark → ℕ) → ℕ → ℕ
+layout_weight kind (Ok g) image weight p = kind_weight kind g image weight p
+layout_weight kind (Err fault) image weight p = 0
+
+-- the entries that are kept of piece p of an image with some layout (ncheck)
+abbrev pub layout_kept : Kind → Layout → List ℕ → (Placed → ℕ) → ℕ → ℕ
+layout_kept kind (Ok g) image weight p = kind_kept kind g image weight p
+layout_kept kind (Err fault) image weight p = 0
+
+-- the fault that is kept of an image with some layout (icheck)
+abbrev pub layout_fault : Kind → Layout → List ℕ → List ℕ → Option (FreeFault × ℕ)
+layout_fault kind (Ok g) image draws = kind_fault kind g image draws
+layout_fault kind (Err fault) image draws = None
+
+-- a seat found no memory (this project)
+abbrev pub found_no_memory : CheckSeat → Bool
+found_no_memory s = s.spoiled
+
+-- a seat was last answered that no piece is left, or that there is no memory (this project)
+abbrev pub is_stopped : CheckSeat → Bool
+is_stopped s = s.ended || s.spoiled
 
 -- a seat of a table: it stands for itself alone, and where it is at its end it drew one number that is no piece's (this project)
 pub record IsSeatOf (tally : Tally) (s : CheckSeat) : Type 0 where
@@ -37,16 +64,18 @@ pub record IsSeatOf (tally : Tally) (s : CheckSeat) : Type 0 where
   pub parts : s.seat.me.0.parts ≡ 1
   pub late : late (shape_of tally).pieces s.seat.me.0.draws ≡ one_if s.ended
 
--- the marks that a seat made, and the fault that it keeps, are those of the pieces among its draws, in this image; a seat that
--- found no memory says nothing (icheck)
-pub record IsOf (layout : Layout) (image : List ℕ) (s : CheckSeat) : Type 0 where
-  pub marks : s.spoiled ≡ false → (weight : Mark → ℕ) → total weight s.seat.me.0.marks ≡ total (layout_weight layout image weight) s.seat.me.0.draws
-  pub fault : s.spoiled ≡ false → s.fault ≡ layout_fault layout image s.seat.me.0.draws
+-- the marks that a seat made, the fault and the entries that it keeps, are those of the pieces among its draws, in this image; a
+-- seat that found no memory says nothing (icheck, dcheck, ncheck)
+pub record IsOf (kind : Kind) (layout : Layout) (image : List ℕ) (s : CheckSeat) : Type 0 where
+  pub marks : s.spoiled ≡ false → (weight : Mark → ℕ) → total weight s.seat.me.0.marks ≡ total (layout_weight kind layout image weight) s.seat.me.0.draws
+  pub fault : s.spoiled ≡ false → s.fault ≡ layout_fault kind layout image s.seat.me.0.draws
+  pub entries : s.spoiled ≡ false → (weight : Placed → ℕ) → total weight s.entries.items ≡ total (layout_kept kind layout image weight) s.seat.me.0.draws
 
 -- a seat that did nothing yet (this project)
 pub record IsFresh (tally : Tally) (s : CheckSeat) : Type 0 where
   pub own : IsSeatAt tally s.seat
   pub nothing : s.seat.me.0 ≡ view 1 [] []
   pub fault : s.fault ≡ None
+  pub entries : s.entries.items ≡ []
   pub ended : s.ended ≡ false
   pub spoiled : s.spoiled ≡ false

@@ -1,15 +1,46 @@
 -- The layout of an image, and the shape of a table of counts for it.
-use Rattle.std.specs.Prelude.{◌≡◌, ◌<◌, Result, Ok, Err}
+use Rattle.std.specs.Prelude.{◌≡◌, ◌≢◌, ℕ, ◌+◌, ◌*◌, ◌<◌, ◌≤◌, List, length, slice_index, Result, Ok, Err}
+use Rattle.vol_layout.specs.Edition.{constants}
 use Rattle.vol_layout.specs.declared.geometry.Geometry.{Geometry}
 use Rattle.vol_layout.specs.declared.geometry.GeometryFault.{GeometryFault}
 use Rattle.count_table.specs.declared.rule.Shape.{Shape}
-use Rattle.vol_reports.specs.Words.{HasWords}
+use Rattle.vol_reports.specs.declared.links.LinkCount.{LinkCount}
+use Rattle.vol_reports.specs.Words.{HasWords, HasEntryWords, HasNameWords}
+use Rattle.vol_check.specs.declared.kind.Kind.{Kind}
+use Rattle.vol_check.specs.declared.kind.Kind.TheVariants.{Blocks, Entries, Names}
 
 -- what an image's super-block says of its layout: its geometry, or which of rules 1 and 2 fails (filsys.h)
 abbrev pub Layout : Type 0
 Layout = Result Geometry GeometryFault
 
--- the table has the words of a geometry; without one it has no pieces (this project)
-abbrev pub IsShaped : Layout → Shape → Type 0
-IsShaped layout shape = ((g : Geometry) → layout ≡ Ok g → HasWords g shape × (g.zone_start < g.zone_end))
-    × ((fault : GeometryFault) → layout ≡ Err fault → shape.pieces ≡ 0)
+-- a geometry is within the bounds of its edition, as that of each image is (filsys.h)
+pub record IsLaidOut (g : Geometry) : Type 0 where
+  pub i_list : 1024 + (constants g.edition).inode_bytes * g.last_inode ≡ 512 * g.zone_start
+  pub zone : g.zone_start < g.zone_end
+  pub root : (constants g.edition).root < g.last_inode
+  pub limit : g.zone_end ≤ (constants g.edition).number_limit
+
+-- a table has the words that the pieces of a sweep mark (this project)
+pub record HasWordsOf (kind : Kind) (g : Geometry) (shape : Shape) : Type 0 where
+  pub of_blocks : kind ≡ Blocks → HasWords g shape
+  pub of_entries : kind ≡ Entries → HasEntryWords g shape
+  pub of_names : kind ≡ Names → HasNameWords g shape
+
+-- so many pieces stand before those of each i-number, and in all, where the pieces are parts of directories (this project)
+pub record CountsParts (g : Geometry) (pieces : ℕ) (starts : List ℕ) : Type 0 where
+  pub wide : length starts ≡ g.last_inode + 1
+  pub first : slice_index starts 0 ≡ 0
+  pub last : slice_index starts g.last_inode ≡ pieces
+
+-- what a sweep has for images with a geometry: the words, the pieces, and for the entries the link counts (this project)
+pub record IsReady (kind : Kind) (g : Geometry) (pieces : ℕ) (starts : List ℕ) (links : List LinkCount) (shape : Shape) : Type 0 where
+  pub bounds : IsLaidOut g
+  pub words : HasWordsOf kind g shape
+  pub parts : kind ≢ Blocks → CountsParts g pieces starts
+  pub counts : kind ≡ Entries → length links ≡ g.last_inode
+
+-- what a sweep has for images with some layout; those without geometry have no pieces (this project)
+pub record IsShaped (kind : Kind) (layout : Layout) (pieces : ℕ) (starts : List ℕ) (links : List LinkCount) (shape : Shape) : Type 0 where
+  pub count : shape.pieces ≡ pieces
+  pub ready : (g : Geometry) → layout ≡ Ok g → IsReady kind g pieces starts links shape
+  pub none : (fault : GeometryFault) → layout ≡ Err fault → pieces ≡ 0

@@ -1,28 +1,34 @@
 -- What a step of a sweep does.
-use Rattle.std.specs.Prelude.{◌≡◌, ◌⊎◌, ℕ, ◌<◌, ◌≤◌, ◌==◌, true, false, if◌then◌else◌, List, [], ◌∷◌, ◌++◌, length, Option, None, Some, Result, Ok, Err, IsErr}
+use Rattle.std.specs.Prelude.{◌≡◌, ◌⊎◌, ℕ, ◌+◌, ◌<◌, ◌≤◌, ◌==◌, true, false, if◌then◌else◌, List, [], ◌∷◌, ◌++◌, length, Option, None, Some, Result, Ok, Err, IsErr}
 use Rattle.std.specs.declared.alloc.AllocError.{AllocError}
 use Rattle.vol_layout.specs.declared.geometry.Geometry.{Geometry}
 use Rattle.count_table.specs.declared.words.Tally.{Tally}
+use Rattle.count_table.specs.Sums.{total}
 use Rattle.count_table.specs.Tallies.{shape_of}
+use Rattle.vol_reports.specs.declared.line.FreeFault.{FreeFault}
+use Rattle.vol_reports.specs.FreeWalk.{free_walk}
+use Rattle.vol_reports.specs.Placed.{Placed}
+use Rattle.vol_check.specs.declared.kind.Kind.{Kind}
+use Rattle.vol_check.specs.declared.kind.Kind.TheVariants.{Blocks, Entries, Names}
 use Rattle.vol_check.specs.declared.seats.CheckSeat.{CheckSeat}
 use Rattle.vol_check.specs.declared.seats.Piece.{Piece}
 use Rattle.vol_check.specs.declared.sweeps.Sweep.{Sweep}
-use Rattle.vol_reports.specs.FreeWalk.{free_walk}
-use Rattle.vol_check.specs.Pieces.{Adds, piece_weight}
-use Rattle.vol_check.specs.Seats.{IsSeatOf, IsOf}
+use Rattle.vol_check.specs.Pieces.{Adds}
+use Rattle.vol_check.specs.Seats.{IsSeatOf, IsOf, is_stopped, kind_weight, kind_kept}
 
--- a piece was done: its marks are made, and the free list's fault is kept (icheck)
-pub record Works (tally : Tally) (g : Geometry) (image : List ℕ) (p : ℕ) (old new : CheckSeat) : Type 0 where
-  pub adds : Adds tally old.seat new.seat (λ weight. piece_weight g image weight p)
-  pub fault : new.fault ≡ (if p == 0 then (free_walk g image).fault else old.fault)
+-- the fault that is kept once piece p was done (icheck)
+abbrev pub fault_after : Kind → Geometry → List ℕ → ℕ → Option (FreeFault × ℕ) → Option (FreeFault × ℕ)
+fault_after Blocks g image p before = if p == 0 then (free_walk g image).fault else before
+fault_after Entries g image p before = before
+fault_after Names g image p before = before
+
+-- a piece was done: its marks are made, and its fault and its entries are kept (icheck, dcheck, ncheck)
+pub record Works (tally : Tally) (kind : Kind) (g : Geometry) (image : List ℕ) (p : ℕ) (old new : CheckSeat) : Type 0 where
+  pub adds : Adds tally old.seat new.seat (λ weight. kind_weight kind g image weight p)
+  pub entries : (weight : Placed → ℕ) → total weight new.entries.items ≡ total weight old.entries.items + kind_kept kind g image weight p
+  pub fault : new.fault ≡ fault_after kind g image p old.fault
   pub ended : new.ended ≡ old.ended
   pub spoiled : new.spoiled ≡ old.spoiled
-
--- a piece wasn't done, for want of memory (this project)
-pub record Fails (old new : CheckSeat) : Type 0 where
-  pub seat : new.seat ≡ old.seat
-  pub ended : new.ended ≡ old.ended
-  pub spoiled : new.spoiled ≡ true
 
 -- what a step answers: the piece that it drew, or that the number drawn last is no piece's, or that there was no memory (this project)
 abbrev pub Answers : Sweep → CheckSeat → CheckSeat → Result (Option Piece) AllocError → Type 0
@@ -35,8 +41,14 @@ Answers sweep old new (Err failed) = new.spoiled ≡ true
 -- end or had found no memory, which it tells for good (this project)
 pub record Stepped (sweep : Sweep) (image : List ℕ) (old new : CheckSeat) (result : Result (Option Piece) AllocError) : Type 0 where
   pub own : IsSeatOf sweep.tally new
-  pub knows : IsOf sweep.layout image new
+  pub knows : IsOf sweep.kind sweep.layout image new
   pub answers : Answers sweep old new result
   pub drew : (new.seat.me.0.draws ≡ old.seat.me.0.draws) ⊎ ((n : ℕ) × (new.seat.me.0.draws ≡ old.seat.me.0.draws ++ n ∷ []))
   pub for_good : old.spoiled ≡ true → IsErr result
   pub no_more : old.ended ≡ true → new.seat.me.0.draws ≡ old.seat.me.0.draws
+
+-- a seat that did pieces until none was left or it found no memory (this project)
+pub record Ran (sweep : Sweep) (image : List ℕ) (seat : CheckSeat) : Type 0 where
+  pub own : IsSeatOf sweep.tally seat
+  pub knows : IsOf sweep.kind sweep.layout image seat
+  pub stopped : is_stopped seat ≡ true

@@ -1,76 +1,153 @@
 //! Making a sweep, and a seat for each of its threads.
-ghost use Rattle.std.specs.Prelude.{◌≡◌, ℕ, ◌+◌, ◌^◌, ◌≤◌, ◌<◌, List, [], All, IfOk, Ok, vec_len};
+ghost use Rattle.std.specs.Prelude.{◌≡◌, ◌≢◌, ℕ, ◌+◌, ◌^◌, ◌≤◌, ◌<◌, List, [], All, Ok, Err, IfOk, length, slice_index, vec_len};
 ghost use Rattle.count_table.specs.Tallies.{IsSeatAt, shape_of};
 ghost use Rattle.count_table.specs.Views.{view};
-ghost use Rattle.vol_check.specs.Shapes.{IsShaped};
+ghost use Rattle.vol_layout.specs.Geometry.{Fits};
+ghost use Rattle.count_table.specs.declared.rule.Shape.{Shape};
 ghost use Rattle.vol_layout.specs.declared.geometry.Geometry.{Geometry};
-ghost use Rattle.vol_check.specs.Seats.{IsFresh, IsSeatOf, IsOf, HasLayout};
+ghost use Rattle.vol_layout.specs.declared.geometry.GeometryFault.{GeometryFault};
+ghost use Rattle.vol_reports.specs.Counted.{HasLinkCounts};
+ghost use Rattle.vol_check.specs.declared.kind.Kind.TheVariants.{Blocks, Entries};
+ghost use Rattle.vol_check.specs.Parts.{HasStarts};
+ghost use Rattle.vol_check.specs.Shapes.{HasWordsOf, IsLaidOut};
+ghost use Rattle.vol_check.specs.Layouts.{IsFor, HasSameHead};
+ghost use Rattle.vol_check.specs.Seats.{IsFresh, IsSeatOf, IsOf};
 
+use crate::kind::Kind;
+use crate::parts::part_starts;
 use crate::seats::CheckSeat;
 use crate::sweeps::Sweep;
 use count_table::{Shape, Tally, TallySeat};
 use pdp_words::Image;
 use std::alloc::{AllocError, Global};
 use vol_layout::{Edition, Geometry, GeometryFault};
+use vol_reports::{LinkCount, link_counts};
 
 impl Sweep {
-    /// A sweep over images with the layout of this one, and its seats. Reads no more of the image than that layout.
+    /// A sweep over this image, or over any other with the same length and the same bytes before the data zone, and its
+    /// seats. Reads no byte of the image's data blocks.
     ///
-    /// Takes sixteen bytes for each data block, sixteen for each i-number, and a seat for each thread.
+    /// Takes memory for a seat for each thread. Of the blocks takes sixteen bytes for each data block, sixteen for each
+    /// i-number; of entries and names at most sixteen for each i-number.
     pub fn new(
         alloc: Global,
         edition: Edition,
         image: &Image,
+        kind: Kind,
         seats: usize,
     ) -> Result<(Sweep, Vec<CheckSeat>), AllocError>
         requires first { 1 ≤ seats }
         requires last { seats ≤ 64 }
         ensures edition { IfOk result (λ s. s.0.edition ≡ edition) }
-        ensures layout { IfOk result (λ s. HasLayout edition s.0.layout image.now) }
+        ensures kind { IfOk result (λ s. s.0.kind ≡ kind) }
+        ensures image { IfOk result (λ s. IsFor s.0 image.now) }
+        ensures others { IfOk result (λ s. (other : List ℕ) → HasSameHead edition image.now other → IsFor s.0 other) }
         ensures count { IfOk result (λ s. (vec_len s.1 ≡ seats) × ((shape_of s.0.tally).seats ≡ seats)) }
         ensures own { IfOk result (λ s. All (IsSeatOf s.0.tally) s.1.items) }
-        ensures knows { IfOk result (λ s. (bytes : List ℕ) → All (IsOf s.0.layout bytes) s.1.items) }
+        ensures knows { IfOk result (λ s. (bytes : List ℕ) → All (IsOf s.0.kind s.0.layout bytes) s.1.items) }
     {
         let layout = Geometry::read(edition, image);
-        let (tally, first) = Tally::new(alloc, shape_for(&layout, seats as u64))?;
+        let starts = starts_for(alloc, kind, image, &layout)?;
+        let links = links_for(alloc, kind, image, &layout)?;
+        let pieces = piece_count(kind, &layout, &starts);
+        let (tally, first) = Tally::new(alloc, shape_for(kind, &layout, pieces, seats as u64))?;
         let dealt = deal(alloc, &tally, first, seats)?;
         Ok((
             Sweep {
                 tally,
                 edition,
+                kind,
                 layout,
+                pieces,
+                starts,
+                links,
             },
             dealt,
         ))
     }
 }
 
-/// The words and pieces that the block report of an image with this layout wants; none where it has no geometry.
-fn shape_for(layout: &Result<Geometry, GeometryFault>, seats: u64) -> Shape
-    requires zone { (geometry : Geometry) → layout.now ≡ Ok geometry → geometry.zone_start < geometry.zone_end }
-    requires few { seats ≤ 64 }
-    ensures shaped { IsShaped layout.now result }
-    ensures seats { result.seats ≡ seats }
-    ensures pieces { result.pieces ≤ 65536 }
-    ensures words { result.counts + result.leasts < 2 ^ 48 }
+/// How many pieces stand before those of each i-number, and in all; none where the pieces are no parts of directories.
+fn starts_for(
+    alloc: Global,
+    kind: Kind,
+    image: &Image,
+    layout: &Result<Geometry, GeometryFault>,
+) -> Result<Vec<u32>, AllocError>
+    requires fits { IfOk layout.now (λ geometry. Fits geometry image.now) }
+    ensures { IfOk result (λ starts. (geometry : Geometry) → layout.now ≡ Ok geometry → kind ≢ Blocks → HasStarts geometry image.now starts.items) }
 {
-    match *layout {
-        Ok(geometry) => {
-            let last = u64::from(geometry.last_inode);
-            let zone = u64::from(geometry.zone_end - geometry.zone_start);
-            Shape {
-                pieces: last + 1,
-                counts: 2 * zone + (last + 4),
-                leasts: last,
-                seats,
-            }
-        }
-        Err(_) => Shape {
-            pieces: 0,
-            counts: 0,
-            leasts: 0,
-            seats,
-        },
+    match layout {
+        Ok(geometry) if kind != Kind::Blocks => part_starts(alloc, image, geometry),
+        _ => Ok(Vec::new(alloc)),
+    }
+}
+
+/// The link counts, for a report of the entries; else none.
+fn links_for(
+    alloc: Global,
+    kind: Kind,
+    image: &Image,
+    layout: &Result<Geometry, GeometryFault>,
+) -> Result<Vec<LinkCount>, AllocError>
+    requires fits { IfOk layout.now (λ geometry. Fits geometry image.now) }
+    ensures { IfOk result (λ links. (geometry : Geometry) → layout.now ≡ Ok geometry → kind ≡ Entries → HasLinkCounts geometry image.now links.items) }
+{
+    match layout {
+        Ok(geometry) if kind == Kind::Entries => link_counts(alloc, image, geometry),
+        _ => Ok(Vec::new(alloc)),
+    }
+}
+
+/// How many pieces there are: of the blocks the free list and each i-number, else the parts of each i-number.
+fn piece_count(kind: Kind, layout: &Result<Geometry, GeometryFault>, starts: &[u32]) -> u64
+    requires starts { (geometry : Geometry) → layout.now ≡ Ok geometry → kind ≢ Blocks → length starts.now ≡ geometry.last_inode + 1 }
+    ensures blocks { (geometry : Geometry) → layout.now ≡ Ok geometry → kind ≡ Blocks → result ≡ geometry.last_inode + 1 }
+    ensures parts { (geometry : Geometry) → layout.now ≡ Ok geometry → kind ≢ Blocks → result ≡ slice_index starts.now geometry.last_inode }
+    ensures none { (fault : GeometryFault) → layout.now ≡ Err fault → result ≡ 0 }
+    ensures few { result < 2 ^ 32 }
+{
+    match layout {
+        Ok(geometry) if kind == Kind::Blocks => u64::from(geometry.last_inode) + 1,
+        Ok(geometry) => u64::from(starts[geometry.last_inode as usize]),
+        Err(_) => 0,
+    }
+}
+
+/// The words that a sweep wants for images with this layout; none where these have no geometry.
+fn shape_for(kind: Kind, layout: &Result<Geometry, GeometryFault>, pieces: u64, seats: u64) -> Shape
+    requires bounds { IfOk layout.now IsLaidOut }
+    requires blocks { (geometry : Geometry) → layout.now ≡ Ok geometry → kind ≡ Blocks → pieces ≡ geometry.last_inode + 1 }
+    ensures words { (geometry : Geometry) → layout.now ≡ Ok geometry → HasWordsOf kind geometry result }
+    ensures pieces { result.pieces ≡ pieces }
+    ensures seats { result.seats ≡ seats }
+    ensures few { result.counts + result.leasts < 2 ^ 48 }
+{
+    let (counts, leasts) = match layout {
+        Ok(geometry) => words_for(kind, geometry),
+        Err(_) => (0, 0),
+    };
+    Shape {
+        pieces,
+        counts,
+        leasts,
+        seats,
+    }
+}
+
+/// How many count words and how many least words a sweep wants.
+fn words_for(kind: Kind, geometry: &Geometry) -> (u64, u64)
+    requires zone { geometry.now.zone_start < geometry.now.zone_end }
+    ensures words { (shape : Shape) → (kind ≡ Blocks → shape.pieces ≡ geometry.now.last_inode + 1) → shape.counts ≡ result.0 → shape.leasts ≡ result.1
+        → HasWordsOf kind geometry.now shape }
+    ensures few { result.0 + result.1 < 2 ^ 48 }
+{
+    let last = u64::from(geometry.last_inode);
+    let zone = u64::from(geometry.zone_end - geometry.zone_start);
+    match kind {
+        Kind::Blocks => (2 * zone + (last + 4), last),
+        Kind::Entries => (last, 0),
+        Kind::Names => (0, last),
     }
 }
 
@@ -90,14 +167,19 @@ fn deal(
     let mut seats = Vec::new(alloc);
     for _k in 1..count {
         let seat = tally.split(&mut first);
-        push_seat(tally, &mut seats, seat)?;
+        push_seat(alloc, tally, &mut seats, seat)?;
     }
-    push_seat(tally, &mut seats, first)?;
+    push_seat(alloc, tally, &mut seats, first)?;
     Ok(seats)
 }
 
 /// One seat more.
-fn push_seat(tally: &Tally, seats: &mut Vec<CheckSeat>, seat: TallySeat) -> Result<(), AllocError>
+fn push_seat(
+    alloc: Global,
+    tally: &Tally,
+    seats: &mut Vec<CheckSeat>,
+    seat: TallySeat,
+) -> Result<(), AllocError>
     requires own { IsSeatAt tally.now seat }
     requires one { seat.me.0 ≡ view 1 [] [] }
     requires fresh { All (IsFresh tally.now) seats.old.items }
@@ -107,6 +189,7 @@ fn push_seat(tally: &Tally, seats: &mut Vec<CheckSeat>, seat: TallySeat) -> Resu
     let fresh = CheckSeat {
         seat,
         fault: None,
+        entries: Vec::new(alloc),
         ended: false,
         spoiled: false,
     };

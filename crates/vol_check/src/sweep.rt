@@ -1,14 +1,20 @@
 //! A sweep over an image by any number of seats, each of which draws one piece after another.
-ghost use Rattle.std.specs.Prelude.{◌≤◌, IfOk, IfErr};
+ghost use Rattle.std.specs.Prelude.{◌≡◌, ◌≢◌, ◌<◌, ◌≤◌, Ok, IfOk, IfErr};
 ghost use Rattle.count_table.specs.Tallies.{IsSeatAt, shape_of};
 ghost use Rattle.vol_layout.specs.Geometry.{Fits};
+ghost use Rattle.vol_layout.specs.declared.geometry.Geometry.{Geometry};
 ghost use Rattle.vol_reports.specs.Words.{HasWords};
-ghost use Rattle.vol_check.specs.Seats.{IsSeatOf, IsOf, HasLayout};
-ghost use Rattle.vol_check.specs.Stepping.{Stepped, Works, Fails};
+ghost use Rattle.vol_check.specs.declared.kind.Kind.TheVariants.{Blocks};
+ghost use Rattle.vol_check.specs.Seats.{IsSeatOf, IsOf};
+ghost use Rattle.vol_check.specs.Layouts.{IsFor};
+ghost use Rattle.vol_check.specs.Noting.{Stays};
+ghost use Rattle.vol_check.specs.Stepping.{Stepped, Works};
 
 use crate::free_walk::mark_free;
 use crate::gate::{Gate, Open};
 use crate::inode_marks::mark_inode;
+use crate::kind::Kind;
+use crate::parts::part_at;
 use crate::seats::{CheckSeat, Piece};
 use crate::sweeps::Sweep;
 use pdp_words::Image;
@@ -18,8 +24,8 @@ use vol_layout::Geometry;
 impl Sweep {
     /// Draws a piece and does it; None where none is left.
     ///
-    /// Takes a byte for each data block where the piece is the free list, else no memory. Where there is none, this
-    /// seat finds none for good.
+    /// Takes a byte for each data block where the piece is the free list, some for each entry in a sweep for names,
+    /// else no memory. Where there is none, this seat finds none for good.
     pub fn step(
         &self,
         alloc: Global,
@@ -27,8 +33,8 @@ impl Sweep {
         seat: &mut CheckSeat,
     ) -> Result<Option<Piece>, AllocError>
         requires own { IsSeatOf self.now.tally seat.old }
-        requires layout { HasLayout self.now.edition self.now.layout image.now }
-        requires image { IsOf self.now.layout image.now seat.old }
+        requires layout { IsFor self.now image.now }
+        requires image { IsOf self.now.kind self.now.layout image.now seat.old }
         ensures { Stepped self.now image.now seat.old seat.new result }
     {
         self.step_at(alloc, &Open, image, seat)
@@ -43,8 +49,8 @@ impl Sweep {
         seat: &mut CheckSeat,
     ) -> Result<Option<Piece>, AllocError>
         requires own { IsSeatOf self.now.tally seat.old }
-        requires layout { HasLayout self.now.edition self.now.layout image.now }
-        requires image { IsOf self.now.layout image.now seat.old }
+        requires layout { IsFor self.now image.now }
+        requires image { IsOf self.now.kind self.now.layout image.now seat.old }
         ensures { Stepped self.now image.now seat.old seat.new result }
     {
         if seat.spoiled {
@@ -54,26 +60,71 @@ impl Sweep {
             return Ok(None);
         }
         let number = self.tally.claim(&mut seat.seat);
-        let Ok(geometry) = Geometry::read(self.edition, image) else {
-            seat.ended = true;
-            return Ok(None);
-        };
-        if number > u64::from(geometry.last_inode) {
+        if number >= self.pieces {
             seat.ended = true;
             return Ok(None);
         }
         gate.before(number);
-        match self.work(alloc, image, &geometry, seat, number) {
-            Ok(()) => {
-                gate.after(number);
-                Ok(Some(Piece { number }))
+        let done = self.work(alloc, image, seat, number);
+        gate.after(number);
+        match done {
+            Ok(()) => Ok(Some(Piece { number })),
+            Err(failed) => {
+                seat.spoiled = true;
+                Err(failed)
             }
-            Err(failed) => Err(failed),
         }
     }
 
     /// Does the piece of this number.
     fn work(
+        &self,
+        alloc: Global,
+        image: &Image,
+        seat: &mut CheckSeat,
+        number: u64,
+    ) -> Result<(), AllocError>
+        requires layout { IsFor self.now image.now }
+        requires own { IsSeatAt self.now.tally seat.old.seat }
+        requires parts { 1 ≤ seat.old.seat.me.0.parts }
+        requires piece { number < self.now.pieces }
+        ensures ok { IfOk result (λ _. (geometry : Geometry) → self.now.layout ≡ Ok geometry
+            → Works self.now.tally self.now.kind geometry image.now number seat.old seat.new) }
+        ensures err { IfErr result (λ _. Stays self.now.tally seat.old seat.new) }
+    {
+        let Ok(geometry) = self.layout else {
+            unreachable!()
+        };
+        match self.kind {
+            Kind::Blocks => self.check_blocks(alloc, image, &geometry, seat, number),
+            _ => self.note_piece(image, &geometry, seat, number),
+        }
+    }
+
+    /// Does a piece of a sweep over directories.
+    fn note_piece(
+        &self,
+        image: &Image,
+        geometry: &Geometry,
+        seat: &mut CheckSeat,
+        number: u64,
+    ) -> Result<(), AllocError>
+        requires kind { self.now.kind ≢ Blocks }
+        requires layout { self.now.layout ≡ Ok geometry.now }
+        requires image { IsFor self.now image.now }
+        requires own { IsSeatAt self.now.tally seat.old.seat }
+        requires parts { 1 ≤ seat.old.seat.me.0.parts }
+        requires piece { number < self.now.pieces }
+        ensures ok { IfOk result (λ _. Works self.now.tally self.now.kind geometry.now image.now number seat.old seat.new) }
+        ensures err { IfErr result (λ _. Stays self.now.tally seat.old seat.new) }
+    {
+        let _last = geometry.last_inode;
+        let part = part_at(&self.starts, number);
+        self.note_part(image, geometry, seat, part)
+    }
+
+    /// Does a piece of a sweep over the blocks.
+    fn check_blocks(
         &self,
         alloc: Global,
         image: &Image,
@@ -86,23 +137,15 @@ impl Sweep {
         requires own { IsSeatAt self.now.tally seat.old.seat }
         requires parts { 1 ≤ seat.old.seat.me.0.parts }
         requires piece { number ≤ geometry.now.last_inode }
-        ensures ok { IfOk result (λ _. Works self.now.tally geometry.now image.now number seat.old seat.new) }
-        ensures err { IfErr result (λ _. Fails seat.old seat.new) }
+        ensures ok { IfOk result (λ _. Works self.now.tally Blocks geometry.now image.now number seat.old seat.new) }
+        ensures err { IfErr result (λ _. Stays self.now.tally seat.old seat.new) }
     {
         let _last = geometry.last_inode;
         if number > 0 {
             mark_inode(&self.tally, &mut seat.seat, image, geometry, number as u16);
             return Ok(());
         }
-        match mark_free(alloc, &self.tally, &mut seat.seat, image, geometry) {
-            Ok(fault) => {
-                seat.fault = fault;
-                Ok(())
-            }
-            Err(failed) => {
-                seat.spoiled = true;
-                Err(failed)
-            }
-        }
+        seat.fault = mark_free(alloc, &self.tally, &mut seat.seat, image, geometry)?;
+        Ok(())
     }
 }

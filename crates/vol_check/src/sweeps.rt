@@ -1,15 +1,24 @@
 //! A sweep over an image.
 ghost use Rattle.vol_check.specs.Shapes.{IsShaped};
 
+use crate::kind::Kind;
 use count_table::Tally;
 use vol_layout::{Edition, Geometry, GeometryFault};
+use vol_reports::LinkCount;
 
 /// A sweep over an image: the counts that all its seats add to. It borrows no image.
 #[derive(Drop)]
 pub struct Sweep {
     pub(crate) tally: Tally,
     pub(crate) edition: Edition,
+    pub(crate) kind: Kind,
     /// The geometry of the image that it was made for, or why there is none.
     pub(crate) layout: Result<Geometry, GeometryFault>,
-    ghost shaped: { IsShaped layout tally.table.shared.key },
+    /// How many pieces there are.
+    pub(crate) pieces: u64,
+    /// How many of them stand before those of each i-number, where they are parts of directories.
+    pub(crate) starts: Vec<u32>,
+    /// The link counts, for a report of the entries.
+    pub(crate) links: Vec<LinkCount>,
+    ghost shaped: { IsShaped kind layout pieces starts.items links.items tally.table.shared.key },
 }

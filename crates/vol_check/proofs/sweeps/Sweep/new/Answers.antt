@@ -1,15 +1,58 @@
-use Rattle.std.proofs.Common.{sym, subst, slice_index_or}
-use Rattle.vol_check.specs.Shapes.{IsShaped}
+use Rattle.std.proofs.Common.{◌≡◌, ◌+◌, ◌∙◌, slice_index, sym, ap, subst, slice_index_or, Ok, arith}
+use Rattle.std.proofs.lemmas.Result.{IfOk-at_ok}
+use Rattle.vol_layout.specs.Geometry.{Fits, geometry_read}
+use Rattle.vol_layout.specs.declared.geometry.Geometry.{Geometry}
+use Rattle.count_table.specs.declared.rule.Shape.{Shape}
+use Rattle.count_table.proofs.Totals.{below_none}
+use Rattle.vol_check.specs.Parts.{part_count}
+use Rattle.vol_check.specs.Shapes.{HasWordsOf}
+use Rattle.vol_check.proofs.Layouts.{laid_out}
+use Rattle.vol_check.proofs.SameHeads.{read_same, starts_same, links_same}
 use Rattle.vol_check.proofs.Drawing.{fresh_own, fresh_knows}
 use Rattle.vol_check.proofs.sweeps.Sweep.new.Goals as goal
 
 pub invariant_of-result : goal.invariant_of-result
-invariant_of-result c = record {
-  shaped = subst (IsShaped c.read-layout.result) (sym c.in_ok-tally.ensures.shape) c.shape_for.ensures.shaped;
-}
+invariant_of-result c =
+    let key = c.in_ok-tally.ensures.shape in
+    let image = c.args.image.now in
+    record {
+      shaped = record {
+        count = ap (λ (s : Shape). s.pieces) key ∙ c.shape_for.ensures.pieces;
+        ready = λ g is. record {
+          bounds = laid_out g image (IfOk-at_ok (λ g. Fits g image) is c.read-layout.ensures.fits);
+          words = subst (HasWordsOf c.args.kind g) (sym key) (c.shape_for.ensures.words g is);
+          parts = λ other.
+              let starts = c.in_ok-starts.ensures g is other in
+              let value = c.deref.ensures.value in record {
+                wide = starts.wide;
+                first = starts.at 0 (omega arith) ∙ below_none (λ k. part_count g image (k + 1));
+                last = sym (c.piece_count-pieces.ensures.parts g is other ∙ ap (λ xs. slice_index xs g.last_inode) value);
+              };
+          counts = λ e. (c.in_ok-links.ensures g is e).wide;
+        };
+        none = c.piece_count-pieces.ensures.none;
+      };
+    }
 
 pub returns-clause-own : goal.returns-clause-own
 returns-clause-own c = λ k d lt. fresh_own c.in_ok-tally.tally (slice_index_or c.in_ok-dealt.dealt.items k d) (c.in_ok-dealt.ensures.fresh k d lt)
 
 pub returns-clause-knows : goal.returns-clause-knows
-returns-clause-knows c = λ bytes k d lt. fresh_knows c.in_ok-tally.tally c.read-layout.result bytes (slice_index_or c.in_ok-dealt.dealt.items k d) (c.in_ok-dealt.ensures.fresh k d lt)
+returns-clause-knows c = λ bytes k d lt.
+    fresh_knows c.in_ok-tally.tally c.args.kind c.read-layout.result bytes (slice_index_or c.in_ok-dealt.dealt.items k d) (c.in_ok-dealt.ensures.fresh k d lt)
+
+pub returns-clause-others : goal.returns-clause-others
+returns-clause-others c = λ other same.
+    let image = c.args.image.now in
+    let exact = c.read-layout.ensures.exact in
+    let fits : (g : Geometry) → geometry_read c.args.edition image ≡ Ok g → Fits g image =
+    λ g is. IfOk-at_ok (λ g. Fits g image) (exact ∙ is) c.read-layout.ensures.fits in
+    record {
+      read = read_same c.args.edition image other same fits ∙ sym exact;
+      starts = λ g is kind.
+          let read = sym exact ∙ is in
+          starts_same c.args.edition image other same g read (fits g read) c.in_ok-starts.starts.items (c.in_ok-starts.ensures g is kind);
+      links = λ g is kind.
+          let read = sym exact ∙ is in
+          links_same c.args.edition image other same g read (fits g read) c.in_ok-links.links.items (c.in_ok-links.ensures g is kind);
+    }

@@ -1,32 +1,29 @@
-use Rattle.std.proofs.Common.{◌≡◌, ◌≢◌, ◌<◌, ◌≤◌, sym, ap, ◌∙◌, refl, arith, inr, Ok, Err, true, [], ◌∷◌, ◌++◌}
+use Rattle.std.proofs.Common.{◌<◌, ap, ◌∙◌, refl, inr, arith, true}
 use Rattle.count_table.specs.Tallies.{shape_of}
 use Rattle.vol_check.specs.declared.seats.CheckSeat.{CheckSeat}
-use Rattle.vol_check.specs.Shapes.{Layout}
-use Rattle.vol_check.specs.Seats.{layout_weight, layout_fault}
-use Rattle.vol_check.proofs.Drawing.{done_own, done_knows, end_own, end_knows, fail_own, spoiled_knows, past_weight, other_kept, clash}
+use Rattle.vol_check.proofs.PastPieces.{is_past}
+use Rattle.vol_check.proofs.DirectoryPieces.{laid}
+use Rattle.vol_check.proofs.Drawing.{done_own, done_knows, end_own, end_knows, fail_own, spoiled_knows, clash}
 use Rattle.vol_check.proofs.sweeps.Sweep.step_at.Goals as goal
 
-pub returns-in-Ok-work : goal.returns-in-Ok-work
-returns-in-Ok-work g c =
+pub returns-in-Ok : goal.returns-in-Ok
+returns-in-Ok g c =
     let sweep = c.args.self.now in
     let image = c.args.image.now in
     let old = c.args.seat.now in
     let n = c.claim-number.result in
-    let mid : CheckSeat = record { seat = c.claim-number.new.seat; fault = old.fault; ended = old.ended; spoiled = old.spoiled } in
+    let mid : CheckSeat = record { seat = c.claim-number.new.seat; fault = old.fault; entries = old.entries; ended = old.ended; spoiled = old.spoiled } in
     let well = c.if-seat.false in
     let early = c.if-seat-2.false in
-    let geo = c.in-Ok.geometry in
-    let ok : sweep.layout ≡ Ok geo = sym c.requires.layout ∙ sym c.in-Ok.ensures.exact in
-    let words = (sweep.shaped.0 geo ok).0 in
-    let new = c.work.new.seat in
-    let last = c.if-number-from.false in
-    let is-last = c.from.ensures in
-    let low : n < (shape_of sweep.tally).pieces = omega (arith, words.pieces, last, is-last) in
-    let works = c.in-Ok-work.ensures.ok in
+    let new = c.work-done.new.seat in
+    let low : n < (shape_of sweep.tally).pieces = omega (arith, c.if-number-self.false, sweep.shaped.count) in
+    let there = laid sweep.kind sweep.layout sweep.pieces n sweep.starts.items sweep.links.items (shape_of sweep.tally) sweep.shaped (omega (arith, c.if-number-self.false)) in
+    let geo = there.0 in
+    let works = c.in-Ok.ensures.ok geo there.1 in
     let drawn = works.adds.draws ∙ ap (λ v. v.draws) c.claim-number.ensures.drew in
     record {
-      own = done_own sweep.tally sweep.layout image old mid new n c.requires.own c.requires.image early well c.claim-number.ensures.drew geo low works refl;
-      knows = done_knows sweep.tally sweep.layout image old mid new n c.requires.own c.requires.image early well c.claim-number.ensures.drew geo ok works refl;
+      own = done_own sweep.tally sweep.kind sweep.layout image old mid new n c.requires.own c.requires.image early well c.claim-number.ensures.drew refl geo low works refl;
+      knows = done_knows sweep.tally sweep.kind sweep.layout image old mid new n c.requires.own c.requires.image early well c.claim-number.ensures.drew refl geo there.1 works refl;
       answers = (drawn, low, c.claim-number.ensures.more, works.spoiled ∙ well);
       drew = inr (n, drawn);
       for_good = λ s. clash old.spoiled s well;
@@ -39,76 +36,40 @@ returns-in-Err g c =
     let image = c.args.image.now in
     let old = c.args.seat.now in
     let n = c.claim-number.result in
-    let mid : CheckSeat = record { seat = c.claim-number.new.seat; fault = old.fault; ended = old.ended; spoiled = old.spoiled } in
+    let mid : CheckSeat = record { seat = c.claim-number.new.seat; fault = old.fault; entries = old.entries; ended = old.ended; spoiled = old.spoiled } in
     let well = c.if-seat.false in
     let early = c.if-seat-2.false in
-    let geo = c.in-Ok.geometry in
-    let ok : sweep.layout ≡ Ok geo = sym c.requires.layout ∙ sym c.in-Ok.ensures.exact in
-    let words = (sweep.shaped.0 geo ok).0 in
-    let new = c.work.new.seat in
-    let last = c.if-number-from.false in
-    let is-last = c.from.ensures in
-    let low : n < (shape_of sweep.tally).pieces = omega (arith, words.pieces, last, is-last) in
-    let fails = c.in-Err.ensures.err in
-    let drawn = ap (λ s. s.me.0.draws) fails.seat ∙ ap (λ v. v.draws) c.claim-number.ensures.drew in
+    let left = c.work-done.new.seat in
+    let new : CheckSeat = record { seat = left.seat; fault = left.fault; entries = left.entries; ended = left.ended; spoiled = true } in
+    let low : n < (shape_of sweep.tally).pieces = omega (arith, c.if-number-self.false, sweep.shaped.count) in
+    let stays = c.in-Err.ensures.err in
+    let drawn = stays.draws ∙ ap (λ v. v.draws) c.claim-number.ensures.drew in
     record {
-      own = fail_own sweep.tally sweep.layout image old mid new n c.requires.own c.requires.image early well c.claim-number.ensures.drew low
-          c.claim-number.ensures.own fails.seat fails.ended;
-      knows = spoiled_knows sweep.layout image new fails.spoiled;
-      answers = fails.spoiled;
+      own = fail_own sweep.tally sweep.kind sweep.layout image old mid new n c.requires.own c.requires.image early well c.claim-number.ensures.drew refl low
+          (record { own = stays.own; parts = stays.parts; draws = stays.draws; ended = stays.ended }) refl;
+      knows = spoiled_knows sweep.kind sweep.layout image new refl;
+      answers = refl;
       drew = inr (n, drawn);
       for_good = λ s. clash old.spoiled s well;
       no_more = λ e. clash old.ended e early;
     }
 
-pub returns-then-number-from : goal.returns-then-number-from
-returns-then-number-from g c =
+pub returns-then-number-self : goal.returns-then-number-self
+returns-then-number-self g c =
     let sweep = c.args.self.now in
     let image = c.args.image.now in
     let old = c.args.seat.now in
     let n = c.claim-number.result in
-    let mid : CheckSeat = record { seat = c.claim-number.new.seat; fault = old.fault; ended = old.ended; spoiled = old.spoiled } in
+    let mid : CheckSeat = record { seat = c.claim-number.new.seat; fault = old.fault; entries = old.entries; ended = old.ended; spoiled = old.spoiled } in
+    let new : CheckSeat = record { seat = c.claim-number.new.seat; fault = old.fault; entries = old.entries; ended = true; spoiled = old.spoiled } in
     let well = c.if-seat.false in
     let early = c.if-seat-2.false in
-    let geo = c.in-Ok.geometry in
-    let ok : sweep.layout ≡ Ok geo = sym c.requires.layout ∙ sym c.in-Ok.ensures.exact in
-    let words = (sweep.shaped.0 geo ok).0 in
-    let new : CheckSeat = record { seat = c.claim-number.new.seat; fault = old.fault; ended = true; spoiled = old.spoiled } in
-    let last = c.if-number-from.true in
-    let is-last = c.from.ensures in
-    let more : geo.last_inode < n = omega (arith, last, is-last) in
-    let high : (shape_of sweep.tally).pieces ≤ n = omega (arith, words.pieces, more) in
-    let some : n ≢ 0 = λ e. omega (arith, more, e) in
+    let past = is_past sweep.kind sweep.layout image sweep.pieces sweep.starts.items sweep.links.items (shape_of sweep.tally) n sweep.shaped
+    c.requires.layout.starts c.if-number-self.true in
     record {
-      own = end_own sweep.tally sweep.layout image old mid new n c.requires.own c.requires.image early well c.claim-number.ensures.drew high
-          c.claim-number.ensures.own refl refl;
-      knows = end_knows sweep.tally sweep.layout image old mid new n c.requires.own c.requires.image early well c.claim-number.ensures.drew
-          (λ weight. ap (λ (x : Layout). layout_weight x image weight n) ok ∙ past_weight geo image weight n more)
-          (other_kept sweep.layout image old.seat.me.0.draws n some) refl refl;
-      answers = (refl, well);
-      drew = inr (n, ap (λ v. v.draws) c.claim-number.ensures.drew);
-      for_good = λ s. clash old.spoiled s well;
-      no_more = λ e. clash old.ended e early;
-    }
-
-pub returns-in_default : goal.returns-in_default
-returns-in_default g c =
-    let sweep = c.args.self.now in
-    let image = c.args.image.now in
-    let old = c.args.seat.now in
-    let n = c.claim-number.result in
-    let mid : CheckSeat = record { seat = c.claim-number.new.seat; fault = old.fault; ended = old.ended; spoiled = old.spoiled } in
-    let new : CheckSeat = record { seat = c.claim-number.new.seat; fault = old.fault; ended = true; spoiled = old.spoiled } in
-    let well = c.if-seat.false in
-    let early = c.if-seat-2.false in
-    let err : sweep.layout ≡ Err c.in_default.field-0 = sym c.requires.layout ∙ sym c.in_default.ensures.exact in
-    let none = sweep.shaped.1 c.in_default.field-0 err in
-    record {
-      own = end_own sweep.tally sweep.layout image old mid new n c.requires.own c.requires.image early well c.claim-number.ensures.drew (omega (arith, none))
-          c.claim-number.ensures.own refl refl;
-      knows = end_knows sweep.tally sweep.layout image old mid new n c.requires.own c.requires.image early well c.claim-number.ensures.drew
-          (λ weight. ap (λ (x : Layout). layout_weight x image weight n) err)
-          (ap (λ (x : Layout). layout_fault x image (old.seat.me.0.draws ++ n ∷ [])) err ∙ sym (ap (λ (x : Layout). layout_fault x image old.seat.me.0.draws) err)) refl refl;
+      own = end_own sweep.tally sweep.kind sweep.layout image old mid new n c.requires.own c.requires.image early well c.claim-number.ensures.drew refl
+          (omega (arith, c.if-number-self.true, sweep.shaped.count)) c.claim-number.ensures.own refl refl;
+      knows = end_knows sweep.tally sweep.kind sweep.layout image old mid new n c.requires.own c.requires.image early well c.claim-number.ensures.drew refl past refl refl refl;
       answers = (refl, well);
       drew = inr (n, ap (λ v. v.draws) c.claim-number.ensures.drew);
       for_good = λ s. clash old.spoiled s well;

@@ -1,0 +1,16 @@
+//! Tests of the checkers by their public functions: worked reports, by any number of workers, and workers that run at
+//! the same time.
+#![tactic(auto)]
+
+#[cfg(test)]
+mod blocks;
+#[cfg(test)]
+mod entries;
+#[cfg(test)]
+mod fixtures;
+#[cfg(test)]
+mod gates;
+#[cfg(test)]
+mod large;
+#[cfg(test)]
+mod names;

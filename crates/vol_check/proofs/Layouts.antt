@@ -1,0 +1,33 @@
+-- Images with the layout that a sweep was made for.
+use Rattle.std.proofs.Common.{◌≡◌, ◌*◌, ap, Bool, true, false, if◌then◌else◌, List, ℕ, nat_le, length, refl, Ok, Err, arith}
+use Rattle.std.proofs.lemmas.Bool.{and_parts, leb-true}
+use Rattle.vol_layout.specs.Geometry.{geometry_read, geometry_of, is_whole, is_bounded, block_count, Fits}
+use Rattle.vol_layout.specs.declared.edition.Edition.{Edition}
+use Rattle.vol_layout.specs.declared.geometry.Geometry.{Geometry}
+use Rattle.vol_layout.specs.declared.geometry.GeometryFault.TheVariants.{Short, Bounds}
+use Rattle.vol_judge.proofs.Numbering.{read_sizes}
+use Rattle.vol_check.specs.Shapes.{IsLaidOut}
+
+-- a geometry that fits an image is within its bounds
+pub laid_out : (g : Geometry) (image : List ℕ) → Fits g image → IsLaidOut g
+laid_out g image fits = record { i_list = fits.i_list; zone = fits.zone; root = fits.root; limit = fits.limit }
+
+whole : (w b : Bool) (g other : Geometry) → (if w then (if b then Ok g else Err Bounds) else Err Short) ≡ Ok other → w ≡ true
+whole true b g other e = refl
+whole false b g other e = absurd (cc)
+
+-- a geometry within its bounds fits each image of which it is read
+pub read_fits : (edition : Edition) (image : List ℕ) (g : Geometry) → geometry_read edition image ≡ Ok g → IsLaidOut g → Fits g image
+unfolding geometry_read
+read_fits edition image g read bounds =
+    let w = whole (is_whole edition image) (is_bounded edition image) (geometry_of edition image) g read in
+    let parts = and_parts (nat_le 1024 (length image)) (nat_le (512 * block_count edition image) (length image)) w in
+    let long = leb-true (512 * block_count edition image) (length image) parts.1 in
+    let end = ap (λ k. k.zone_end) (read_sizes edition image g read) in
+    record {
+      blocks = omega (arith, long, end);
+      i_list = bounds.i_list;
+      zone = bounds.zone;
+      root = bounds.root;
+      limit = bounds.limit;
+    }

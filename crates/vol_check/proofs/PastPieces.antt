@@ -1,0 +1,118 @@
+-- Past the last piece nothing is marked and nothing kept.
+use Rattle.std.proofs.Common.{◌≡◌, ◌≢◌, ℕ, ◌+◌, ◌<◌, ◌≤◌, ◌∙◌, sym, ap, ◌==◌, if◌then◌else◌, nat_le, List, [], ◌∷◌, ◌++◌, Option, None, Ok, Err, refl, inl, inr, arith}
+use Rattle.std.proofs.lemmas.Bool.{cases_eq, eq-eqb, ne_eqb}
+use Rattle.vol_layout.specs.declared.geometry.Geometry.{Geometry}
+use Rattle.count_table.specs.declared.rule.Mark.{Mark}
+use Rattle.count_table.specs.declared.rule.Shape.{Shape}
+use Rattle.count_table.specs.Sums.{total, below}
+use Rattle.count_table.proofs.Totals.{total_push}
+use Rattle.vol_reports.specs.Blocks.{one_if}
+use Rattle.vol_reports.specs.FreeWalk.{free_walk}
+use Rattle.vol_reports.specs.Placed.{Placed}
+use Rattle.vol_reports.specs.declared.links.LinkCount.{LinkCount}
+use Rattle.vol_check.specs.declared.kind.Kind.{Kind}
+use Rattle.vol_check.specs.declared.kind.Kind.TheVariants.{Blocks, Entries, Names}
+use Rattle.vol_check.specs.Shapes.{Layout, IsReady, IsShaped}
+use Rattle.vol_check.specs.Parts.{part_count, parts_before, HasStarts}
+use Rattle.vol_check.specs.Slots.{SlotWeight, slot_weight, slot_kept, part_sum, slots_piece}
+use Rattle.vol_check.specs.Pieces.{piece_weight, free_weight, inode_weight}
+use Rattle.vol_check.specs.Seats.{kind_weight, kind_kept, kind_fault, layout_weight, layout_kept, layout_fault}
+use Rattle.vol_check.specs.Stepping.{fault_after}
+use Rattle.vol_check.proofs.Sums.{below_same}
+use Rattle.vol_check.proofs.PieceSums.{value_past}
+
+-- past the last i-number the blocks' pieces mark nothing
+pub past_weight : (g : Geometry) (image : List ℕ) (weight : Mark → ℕ) (n : ℕ) → g.last_inode < n → piece_weight g image weight n ≡ 0
+unfolding piece_weight
+past_weight g image weight n lt = grind (arith, lt)
+
+-- piece 0, and the others
+pub free_piece : (g : Geometry) (image : List ℕ) (weight : Mark → ℕ) (n : ℕ) → n ≡ 0 → piece_weight g image weight n ≡ free_weight g image weight
+unfolding piece_weight
+free_piece g image weight n e = ap (λ t. if t then free_weight g image weight else if nat_le n g.last_inode then inode_weight g image weight n else 0) (eq-eqb n 0 e)
+
+pub inode_piece : (g : Geometry) (image : List ℕ) (weight : Mark → ℕ) (n : ℕ) → 1 ≤ n → n ≤ g.last_inode → piece_weight g image weight n ≡ inode_weight g image weight n
+unfolding piece_weight
+inode_piece g image weight n low high = grind (arith, low, high)
+
+-- the pieces of all i-numbers
+pub parts_one : (g : Geometry) (image : List ℕ) (n : ℕ) → below (λ x. part_count g image (1 + x)) n ≡ parts_before g image n
+parts_one g image n = below_same (λ x. part_count g image (1 + x)) (λ k. part_count g image (k + 1)) n (λ k lt. ap (part_count g image) (omega arith))
+
+-- past the last part nothing is noted
+pub slots_past : (g : Geometry) (image : List ℕ) (weight : SlotWeight) (n : ℕ) → parts_before g image g.last_inode ≤ n → slots_piece g image weight n ≡ 0
+unfolding slots_piece
+slots_past g image weight n le =
+    value_past (part_count g image) (part_sum g image weight) 1 g.last_inode n (let e = parts_one g image g.last_inode in omega arith)
+
+module _ (g : Geometry) (image : List ℕ) (pieces : ℕ) (starts : List ℕ) (links : List LinkCount) (shape : Shape) (n : ℕ) (high : pieces ≤ n) where
+  parts_past : (kind : Kind) → kind ≢ Blocks → IsReady kind g pieces starts links shape → HasStarts g image starts → parts_before g image g.last_inode ≤ n
+  parts_past kind other ready has = let p = ready.parts other in let a = has.at g.last_inode (omega arith) in omega (arith, p.last, a, high)
+
+  kind_past : (kind : Kind) → shape.pieces ≡ pieces → IsReady kind g pieces starts links shape → (kind ≢ Blocks → HasStarts g image starts)
+      → (weight : Mark → ℕ) → kind_weight kind g image weight n ≡ 0
+  kind_past Blocks count ready has weight = past_weight g image weight n (omega (arith, count, (ready.words.of_blocks refl).pieces, high))
+  kind_past Entries count ready has weight = let other : Entries ≢ Blocks = λ e. absurd (cc) in
+      slots_past g image (slot_weight Entries g weight) n (parts_past Entries other ready (has other))
+  kind_past Names count ready has weight = let other : Names ≢ Blocks = λ e. absurd (cc) in
+      slots_past g image (slot_weight Names g weight) n (parts_past Names other ready (has other))
+
+  kept_past : (kind : Kind) → IsReady kind g pieces starts links shape → (kind ≢ Blocks → HasStarts g image starts)
+      → (weight : Placed → ℕ) → kind_kept kind g image weight n ≡ 0
+  kept_past Blocks ready has weight = refl
+  kept_past Entries ready has weight = let other : Entries ≢ Blocks = λ e. absurd (cc) in
+      slots_past g image (slot_kept Entries weight) n (parts_past Entries other ready (has other))
+  kept_past Names ready has weight = let other : Names ≢ Blocks = λ e. absurd (cc) in
+      slots_past g image (slot_kept Names weight) n (parts_past Names other ready (has other))
+
+-- the fault kept once piece 0 is drawn, and once another number is
+zero_kept : (g : Geometry) (image : List ℕ) (draws : List ℕ) (n : ℕ) → n ≡ 0 → kind_fault Blocks g image (draws ++ n ∷ []) ≡ (free_walk g image).fault
+zero_kept g image draws n e =
+    let p = total_push (λ p. one_if (p == 0)) draws n in
+    let o : ◌≡◌ {A = ℕ} (one_if (n == 0)) 1 = ap one_if (eq-eqb n 0 e) in
+    let some : total (λ p. one_if (p == 0)) (draws ++ n ∷ []) ≢ 0 = λ z. omega (arith, p, o, z) in
+    ap (λ t. if t then None else (free_walk g image).fault) (ne_eqb (total (λ p. one_if (p == 0)) (draws ++ n ∷ [])) 0 some)
+
+other_kept : (kind : Kind) (g : Geometry) (image : List ℕ) (draws : List ℕ) (n : ℕ) → n ≢ 0 → kind_fault kind g image (draws ++ n ∷ []) ≡ kind_fault kind g image draws
+other_kept Blocks g image draws n ne =
+    let p = total_push (λ p. one_if (p == 0)) draws n in
+    let o : ◌≡◌ {A = ℕ} (one_if (n == 0)) 0 = ap one_if (ne_eqb n 0 ne) in
+    let same : total (λ p. one_if (p == 0)) (draws ++ n ∷ []) ≡ total (λ p. one_if (p == 0)) draws = omega (arith, p, o) in
+    ap (λ k. if k == 0 then None else (free_walk g image).fault) same
+other_kept Entries g image draws n ne = refl
+other_kept Names g image draws n ne = refl
+
+-- the fault, once piece n was done
+pub kept_next : (kind : Kind) (g : Geometry) (image : List ℕ) (draws : List ℕ) (n : ℕ) (old new : Option _) → old ≡ kind_fault kind g image draws
+    → new ≡ fault_after kind g image n old → new ≡ kind_fault kind g image (draws ++ n ∷ [])
+kept_next Blocks g image draws n old new before is = elim (cases_eq n 0) [
+  | inl e ↦ is ∙ (ap (λ t. if t then (free_walk g image).fault else old) (eq-eqb n 0 e) ∙ sym (zero_kept g image draws n e))
+  | inr ne ↦ is ∙ (ap (λ t. if t then (free_walk g image).fault else old) (ne_eqb n 0 ne) ∙ (before ∙ sym (other_kept Blocks g image draws n ne)))
+]
+kept_next Entries g image draws n old new before is = is ∙ before
+kept_next Names g image draws n old new before is = is ∙ before
+
+-- a number past the last piece
+pub record IsPast (kind : Kind) (layout : Layout) (image : List ℕ) (n : ℕ) : Type 0 where
+  pub marks : (weight : Mark → ℕ) → layout_weight kind layout image weight n ≡ 0
+  pub entries : (weight : Placed → ℕ) → layout_kept kind layout image weight n ≡ 0
+  pub fault : (draws : List ℕ) → layout_fault kind layout image (draws ++ n ∷ []) ≡ layout_fault kind layout image draws
+
+-- the last piece of a sweep over the blocks is past piece 0
+some_blocks : (kind : Kind) (g : Geometry) (pieces : ℕ) (starts : List ℕ) (links : List LinkCount) (shape : Shape) (n : ℕ) → shape.pieces ≡ pieces
+    → IsReady kind g pieces starts links shape → pieces ≤ n → (draws : List ℕ) (image : List ℕ)
+    → kind_fault kind g image (draws ++ n ∷ []) ≡ kind_fault kind g image draws
+some_blocks Blocks g pieces starts links shape n count ready high draws image = other_kept Blocks g image draws n (λ e. omega (arith, e, count, (ready.words.of_blocks refl).pieces, high))
+some_blocks Entries g pieces starts links shape n count ready high draws image = refl
+some_blocks Names g pieces starts links shape n count ready high draws image = refl
+
+pub is_past : (kind : Kind) (layout : Layout) (image : List ℕ) (pieces : ℕ) (starts : List ℕ) (links : List LinkCount) (shape : Shape) (n : ℕ)
+    → IsShaped kind layout pieces starts links shape → ((g : Geometry) → layout ≡ Ok g → kind ≢ Blocks → HasStarts g image starts) → pieces ≤ n
+    → IsPast kind layout image n
+is_past kind (Ok g) image pieces starts links shape n shaped has high =
+    let ready = shaped.ready g refl in record {
+      marks = λ weight. kind_past g image pieces starts links shape n high kind shaped.count ready (has g refl) weight;
+      entries = λ weight. kept_past g image pieces starts links shape n high kind ready (has g refl) weight;
+      fault = λ draws. some_blocks kind g pieces starts links shape n shaped.count ready high draws image;
+    }
+is_past kind (Err fault) image pieces starts links shape n shaped has high = record { marks = λ weight. refl; entries = λ weight. refl; fault = λ draws. refl }

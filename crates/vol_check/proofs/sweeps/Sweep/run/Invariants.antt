@@ -1,0 +1,15 @@
+use Rattle.std.proofs.Common.{◌-◌, length}
+use Rattle.count_table.specs.Tallies.{shape_of}
+use Rattle.vol_check.specs.Seats.{IsSeatOf, IsOf}
+use Rattle.vol_check.proofs.sweeps.Sweep.run.Given as goal
+
+-- the seat is one of the sweep's, and of the image
+abbrev pub invariant-loop-piece : goal.invariant-loop-piece
+invariant-loop-piece g l = record {
+  own : IsSeatOf l.self.tally l.seat;
+  knows : IsOf l.self.kind l.self.layout l.image l.seat;
+}
+
+-- each piece is one draw more, and a seat draws at most as many numbers as there are pieces before it ends
+abbrev pub decreases-loop-piece : goal.decreases-loop-piece
+decreases-loop-piece g l = (shape_of l.self.tally).pieces - length l.seat.seat.me.0.draws

@@ -1,0 +1,27 @@
+-- The images that a sweep is for.
+use Rattle.std.specs.Prelude.{◌≡◌, ◌≢◌, ℕ, ◌*◌, ◌<◌, List, length, slice_index, Result, Ok, Err}
+use Rattle.vol_layout.specs.declared.edition.Edition.{Edition}
+use Rattle.vol_layout.specs.declared.geometry.GeometryFault.{GeometryFault}
+use Rattle.vol_layout.specs.Geometry.{geometry_read}
+use Rattle.vol_layout.specs.declared.geometry.Geometry.{Geometry}
+use Rattle.vol_reports.specs.Counted.{HasLinkCounts}
+use Rattle.vol_check.specs.declared.kind.Kind.TheVariants.{Blocks, Entries}
+use Rattle.vol_check.specs.declared.sweeps.Sweep.{Sweep}
+use Rattle.vol_check.specs.Parts.{HasStarts}
+
+-- where the data zone of an image with some layout begins, in bytes; its end where it has no geometry (filsys.h)
+abbrev pub head_end : Result Geometry GeometryFault → ℕ → ℕ
+head_end (Ok g) len = 512 * g.zone_start
+head_end (Err fault) len = len
+
+-- two images have the same length, and the same bytes before the data zone; without geometry, all the same bytes (this project)
+pub record HasSameHead (edition : Edition) (old new : List ℕ) : Type 0 where
+  pub len : length new ≡ length old
+  pub head : (k : ℕ) → k < head_end (geometry_read edition old) (length old) → slice_index new k ≡ slice_index old k
+
+-- an image has the layout, and as far as the sweep asks for them the directories' sizes and the link counts, of the image that
+-- the sweep was made for (this project)
+pub record IsFor (sweep : Sweep) (image : List ℕ) : Type 0 where
+  pub read : geometry_read sweep.edition image ≡ sweep.layout
+  pub starts : (g : Geometry) → sweep.layout ≡ Ok g → sweep.kind ≢ Blocks → HasStarts g image sweep.starts.items
+  pub links : (g : Geometry) → sweep.layout ≡ Ok g → sweep.kind ≡ Entries → HasLinkCounts g image sweep.links.items

@@ -1,0 +1,94 @@
+//! The checks of an image, by as many threads as are asked for.
+ghost use Rattle.std.specs.Prelude.{◌≡◌, ◌≤◌, IfOk};
+ghost use Rattle.vol_reports.specs.Reports.{block_report, entry_report, IsNameReport};
+ghost use Rattle.vol_check.specs.Reporting.{IsReport};
+
+use crate::gate::Gate;
+use crate::kind::Kind;
+use crate::sweeps::Sweep;
+use pdp_words::Image;
+use std::alloc::{AllocError, Global};
+use std::sync::Wait;
+use std::thread::Threads;
+use vol_layout::Edition;
+use vol_reports::Report;
+
+/// The block report of an image, by so many threads, which wait for no lock; where one can't be started, the others
+/// do its pieces. The gate is called round each piece.
+///
+/// Costs a look at each place of each file, at the free list, and at each data block. Takes sixteen bytes for each
+/// data block and each i-number, a byte more for each data block, and memory for the lines.
+pub fn icheck<R: Threads + Sync, W: Wait, G: Gate>(
+    threads: &R,
+    _wait: &W,
+    alloc: Global,
+    edition: Edition,
+    image: &Image,
+    workers: usize,
+    gate: &G,
+) -> Result<Report, AllocError>
+    requires first { 1 ≤ workers }
+    requires last { workers ≤ 64 }
+    ensures { IfOk result (λ report. report ≡ block_report edition image.now) }
+{
+    check(threads, alloc, edition, image, Kind::Blocks, workers, gate)
+}
+
+/// The entry report of an image, by so many threads, as [`icheck`] has them.
+///
+/// Costs a look at each slot of each directory that is in no hole. Takes sixteen bytes for each i-number, and memory for
+/// the lines.
+pub fn dcheck<R: Threads + Sync, W: Wait, G: Gate>(
+    threads: &R,
+    _wait: &W,
+    alloc: Global,
+    edition: Edition,
+    image: &Image,
+    workers: usize,
+    gate: &G,
+) -> Result<Report, AllocError>
+    requires first { 1 ≤ workers }
+    requires last { workers ≤ 64 }
+    ensures { IfOk result (λ report. report ≡ entry_report edition image.now) }
+{
+    check(threads, alloc, edition, image, Kind::Entries, workers, gate)
+}
+
+/// The name report of an image, by so many threads, as [`icheck`] has them.
+///
+/// Costs a look at each slot of each directory that is in no hole, and as much as the report is long, with its sorting.
+/// Takes twelve bytes for each i-number, and memory for each entry and its path.
+pub fn ncheck<R: Threads + Sync, W: Wait, G: Gate>(
+    threads: &R,
+    _wait: &W,
+    alloc: Global,
+    edition: Edition,
+    image: &Image,
+    workers: usize,
+    gate: &G,
+) -> Result<Report, AllocError>
+    requires first { 1 ≤ workers }
+    requires last { workers ≤ 64 }
+    ensures { IfOk result (λ report. IsNameReport edition image.now report) }
+{
+    check(threads, alloc, edition, image, Kind::Names, workers, gate)
+}
+
+/// The report of an image that is asked for, by so many threads.
+fn check<R: Threads + Sync, G: Gate>(
+    threads: &R,
+    alloc: Global,
+    edition: Edition,
+    image: &Image,
+    kind: Kind,
+    workers: usize,
+    gate: &G,
+) -> Result<Report, AllocError>
+    requires first { 1 ≤ workers }
+    requires last { workers ≤ 64 }
+    ensures { IfOk result (λ report. IsReport kind edition image.now report) }
+{
+    let (sweep, mut seats) = Sweep::new(alloc, edition, image, kind, workers)?;
+    sweep.run_all(threads, alloc, gate, image, &mut seats);
+    sweep.finish(alloc, seats)
+}

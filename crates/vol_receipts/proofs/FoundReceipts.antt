@@ -11,7 +11,7 @@ use Rattle.std.proofs.lemmas.Option.{get_or_from_slice_get, slice_get_within}
 use Rattle.vol_volume.specs.Volume.{Mounted}
 use Rattle.vol_volume.specs.declared.calls.Record.{Record}
 use Rattle.vol_receipts.specs.Findings.{IsFound, AreFound, IsNumberOf, IsInOrder}
-use Rattle.vol_receipts.specs.Replay.{IsBehind}
+use Rattle.vol_receipts.specs.Replay.{HasAtMost}
 use Rattle.vol_receipts.specs.declared.finding.Finding.{Finding}
 use Rattle.vol_receipts.specs.declared.finding.Numbered.{Numbered}
 use Rattle.vol_receipts.specs.declared.receipts.Origin.{Origin}
@@ -90,10 +90,10 @@ found_all origin journal receipts order findings k in_order end done = record {
       (done.each there.0 (record { at = receipt.at; index = i }) (omega (arith, there.1))) receipt finding at stands;
 }
 
--- what is behind a number is behind those above it
-pub behind_more : (volume : Mounted) (again : Option Mounted) (m n : ℕ) → m ≤ n → IsBehind volume again m → IsBehind volume again n
-behind_more volume None m n le behind = behind
-behind_more volume (Some made) m n le behind = (behind.0, omega (arith, behind.1, le))
+-- what is at most so many is at most more
+pub at_most_more : (volume : Mounted) (again : Option Mounted) (m n : ℕ) → m ≤ n → HasAtMost volume again m → HasAtMost volume again n
+at_most_more volume None m n le behind = behind
+at_most_more volume (Some made) m n le behind = (behind.0, omega (arith, behind.1, le))
 
 -- the first receipts are numbered
 pub record AreNumbered (receipts : List Receipt) (order : List Numbered) (k : ℕ) : Type 0 where
@@ -131,24 +131,21 @@ in_order receipts order sorted k all end moved ascending = record {
       (all.whole j receipt (omega (arith, slice_get_within receipts j receipt at, end)) at);
 }
 
--- the receipt of a number that is at hand stands at its place
-pub number_at : (receipts : List Receipt) (order : List Numbered) (k : ℕ) (d : Numbered) → All (IsNumberOf receipts) order → k < length order
-    → IsNumberOf receipts (get_or order k d)
-number_at receipts order k d right within = All-get_or (IsNumberOf receipts) order k d within right
-
 -- a number that is at hand has its place among the receipts
 pub place_within : (receipts : List Receipt) (order : List Numbered) (k : ℕ) (d : Numbered) → All (IsNumberOf receipts) order → k < length order
     → (get_or order k d).index < length receipts
 place_within receipts order k d right within =
-    let number : IsNumberOf receipts (get_or order k d) = number_at receipts order k d right within in
+    let number : IsNumberOf receipts (get_or order k d) = All-get_or (IsNumberOf receipts) order k d within right in
     slice_get_within receipts (get_or order k d).index number.0 number.1
 
--- what is read at the place of a number is its receipt
-pub number_of : (receipts : List Receipt) (numbered : Numbered) (read : Receipt) → IsNumberOf receipts numbered
-    → read ≡ get_or receipts numbered.index read
-    → (slice_get receipts numbered.index ≡ Some read) × (numbered.at ≡ read.at)
-number_of receipts numbered read number is =
-    let same : number.0 ≡ read = sym (get_or_from_slice_get receipts numbered.index number.0 read number.1) ∙ sym is in
+-- what is read at the place of a number that is at hand is its receipt
+pub receipt_at : (receipts : List Receipt) (order : List Numbered) (k : ℕ) (d : Numbered) (read : Receipt) → All (IsNumberOf receipts) order
+    → k < length order
+    → read ≡ get_or receipts (get_or order k d).index read
+    → (slice_get receipts (get_or order k d).index ≡ Some read) × ((get_or order k d).at ≡ read.at)
+receipt_at receipts order k d read right within is =
+    let number : IsNumberOf receipts (get_or order k d) = All-get_or (IsNumberOf receipts) order k d within right in
+    let same : number.0 ≡ read = sym (get_or_from_slice_get receipts (get_or order k d).index number.0 read number.1) ∙ sym is in
     (number.1 ∙ ap Some same, number.2 ∙ ap (λ r. r.at) same)
 
 -- later numbers are no less, also when the first is taken off

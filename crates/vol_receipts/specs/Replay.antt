@@ -9,6 +9,6 @@ pub record HasFirst (volume again : Mounted) (count : ℕ) : Type 0 where
   pub journal : again.journal ≡ take count volume.journal
 
 -- some of a volume's first records are made again, at most `count` of them, or it isn't begun (this project)
-abbrev pub IsBehind : Mounted → Option Mounted → ℕ → Type 0
-IsBehind volume again count =
+abbrev pub HasAtMost : Mounted → Option Mounted → ℕ → Type 0
+HasAtMost volume again count =
     IfSome again (λ made. HasFirst volume made (length made.journal) × (length made.journal ≤ count))

@@ -5,7 +5,7 @@ ghost use Rattle.vol_volume.specs.Answer.{answer};
 ghost use Rattle.vol_volume.specs.Verdict.{verdict};
 ghost use Rattle.vol_volume.specs.Volume.{reads_as};
 ghost use Rattle.vol_receipts.specs.Agrees.{origin_of, IsAnswer, AgreesAfter};
-ghost use Rattle.vol_receipts.specs.Replay.{HasFirst, IsBehind};
+ghost use Rattle.vol_receipts.specs.Replay.{HasFirst, HasAtMost};
 
 use crate::receipts::{Asked, Outcome, Receipt};
 use crate::replaying::go_on;
@@ -22,9 +22,9 @@ pub(crate) fn agrees_after(
     count: usize,
     receipt: &Receipt,
 ) -> Result<bool, AllocError>
-    requires behind { IsBehind volume.now again.old count }
+    requires behind { HasAtMost volume.now again.old count }
     requires within { count ≤ length volume.now.journal }
-    ensures behind { IsBehind volume.now again.new count }
+    ensures behind { HasAtMost volume.now again.new count }
     ensures agrees { IfOk result (λ agrees. IsTrue agrees ↔ AgreesAfter (origin_of volume.now) volume.now.journal count receipt.now.asked receipt.now.outcome) }
 {
     if let (Asked::Change(call), Outcome::Accepted(done)) = (&receipt.asked, &receipt.outcome) {
@@ -53,6 +53,7 @@ fn is_answer(
         (Asked::Question(query), Outcome::Answered(reply)) => {
             is_answered(volume, alloc, query, reply)
         }
+        // A volume as it stands makes no record, and answers no call as a query.
         _ => Ok(false),
     }
 }

@@ -2,7 +2,7 @@
 ghost use Rattle.std.specs.Prelude.{◌≡◌, ◌<◌, ◌↔◌, IsTrue, IfOk, Err};
 ghost use Rattle.vol_receipts.specs.Agrees.{origin_of, Agrees};
 
-use crate::agreeing::agrees_after;
+use crate::finding::{Finding, find};
 use crate::receipts::Receipt;
 use std::alloc::Global;
 use thiserror::Error;
@@ -29,14 +29,10 @@ pub fn confirm(volume: &Volume, alloc: Global, receipt: &Receipt) -> Result<bool
     ensures agrees { IfOk result (λ agrees. IsTrue agrees ↔ Agrees (origin_of volume.now) volume.now.journal receipt.now) }
     ensures cut { result ≡ Err ConfirmFault.Cut ↔ receipt.now.at < volume.now.first }
 {
-    let Some(count) = receipt.at.checked_sub(volume.first()) else {
-        return Err(ConfirmFault::Cut);
-    };
-    if count > volume.journal().len() as u64 {
-        return Ok(false);
-    }
-    match agrees_after(volume, &mut None, alloc, count as usize, receipt) {
-        Ok(agrees) => Ok(agrees),
+    match find(volume, &mut None, alloc, receipt) {
+        Ok(Finding::Agrees) => Ok(true),
+        Ok(Finding::Differs) => Ok(false),
+        Ok(Finding::Gone) => Err(ConfirmFault::Cut),
         Err(_) => Err(ConfirmFault::NoMemory),
     }
 }

@@ -1,8 +1,8 @@
 //! Many receipts confirmed, in one pass over the journal.
-ghost use Rattle.std.specs.Prelude.{◌≡◌, ◌-◌, IfOk};
+ghost use Rattle.std.specs.Prelude.{◌≤◌, ◌-◌, IfOk, OnErr};
 ghost use Rattle.vol_receipts.specs.Agrees.{origin_of};
 ghost use Rattle.vol_receipts.specs.Findings.{IsFound, AreFound, AreCounted, IsInOrder};
-ghost use Rattle.vol_receipts.specs.Replay.{IsBehind};
+ghost use Rattle.vol_receipts.specs.Replay.{HasAtMost};
 
 use crate::agreeing::agrees_after;
 use crate::receipts::Receipt;
@@ -103,16 +103,18 @@ fn by_number(alloc: Global, receipts: &[Receipt]) -> Result<Vec<Numbered>, Alloc
     Ok(order)
 }
 
-/// What is found of a receipt, by a volume that has the first records, and goes on to its number.
-fn find(
+/// What is found of a receipt by a volume's journal. Of its records some may be made again already; they go on to the
+/// receipt's number where they are needed.
+pub(crate) fn find(
     volume: &Volume,
     again: &mut Option<Volume>,
     alloc: Global,
     receipt: &Receipt,
 ) -> Result<Finding, AllocError>
-    requires { IsBehind volume.now again.old (receipt.now.at - volume.now.first) }
-    ensures behind { IsBehind volume.now again.new (receipt.now.at - volume.now.first) }
+    requires { HasAtMost volume.now again.old (receipt.now.at - volume.now.first) }
+    ensures behind { HasAtMost volume.now again.new (receipt.now.at - volume.now.first) }
     ensures found { IfOk result (λ finding. IsFound (origin_of volume.now) volume.now.journal receipt.now finding) }
+    ensures error { OnErr result (volume.now.first ≤ receipt.now.at) }
 {
     let Some(count) = receipt.at.checked_sub(volume.first()) else {
         return Ok(Finding::Gone);

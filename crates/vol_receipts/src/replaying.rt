@@ -1,7 +1,7 @@
 //! A volume's records, made once more.
 ghost use Rattle.std.specs.Prelude.{◌≡◌, ◌≤◌, ◌<◌, ◌+◌, length, IfOk, OnOk, Some};
 ghost use Rattle.std.specs.List.{slice_get};
-ghost use Rattle.vol_receipts.specs.Replay.{HasFirst, IsBehind};
+ghost use Rattle.vol_receipts.specs.Replay.{HasFirst, HasAtMost};
 
 use std::alloc::{AllocError, Global};
 use vol_volume::{MountFault, Record, Volume};
@@ -13,7 +13,7 @@ pub(crate) fn go_on(
     alloc: Global,
     count: usize,
 ) -> Result<Volume, AllocError>
-    requires behind { IsBehind volume.now again count }
+    requires behind { HasAtMost volume.now again count }
     requires within { count ≤ length volume.now.journal }
     ensures { IfOk result (λ made. HasFirst volume.now made count) }
 {

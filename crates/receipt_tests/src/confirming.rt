@@ -1,0 +1,231 @@
+//! Receipts that agree with the journal, that don't, and that speak of what was cut.
+use crate::fixtures::{asked, create, created, list, new_volume, read, stat};
+use std::alloc::{AllocError, Global};
+use std::process::Abort;
+use std::test::Fail;
+use vol_dir::Refusal;
+use vol_receipts::{
+    Asked, ConfirmFault, Confirmed, Finding, Outcome, Receipt, confirm, confirm_all, find_all,
+};
+use vol_volume::{Bytes, Done, Listing, Reply, Volume};
+
+/// Whether a receipt agrees is answered so.
+fn check(
+    rt: &impl Abort,
+    alloc: Global,
+    volume: &Volume,
+    receipt: &Receipt,
+    wanted: Result<bool, ConfirmFault>,
+) {
+    assert_eq!(rt; confirm(volume, alloc, receipt), wanted, "{receipt:?}");
+}
+
+/// Whether a receipt that no volume gave agrees is answered so.
+fn check_forged(
+    rt: &impl Abort,
+    alloc: Global,
+    volume: &Volume,
+    at: u64,
+    asked: Asked,
+    outcome: Outcome,
+    wanted: bool,
+) {
+    let receipt = Receipt { at, asked, outcome };
+    check(rt, alloc, volume, &receipt, Ok(wanted));
+}
+
+/// A receipt has this number and this outcome.
+fn check_told(rt: &impl Abort, receipt: Option<&Receipt>, at: u64, outcome: Outcome) {
+    assert_eq!(rt; receipt.map(|receipt| receipt.at), Some(at));
+    assert_eq!(rt; receipt.map(|receipt| &receipt.outcome), Some(&outcome));
+}
+
+/// A receipt of each kind: a call that is accepted, the same call refused, a query refused, and three answered.
+fn each_kind(alloc: Global, volume: &mut Volume) -> Result<Vec<Receipt>, AllocError> {
+    let mut receipts = Vec::new(alloc);
+    receipts.push(created(alloc, volume, b"/a")?)?;
+    receipts.push(created(alloc, volume, b"/a")?)?;
+    receipts.push(asked(alloc, volume, stat(alloc, b"/b")?)?)?;
+    receipts.push(asked(alloc, volume, read(alloc, b"/a")?)?)?;
+    receipts.push(asked(alloc, volume, stat(alloc, b"/a")?)?)?;
+    receipts.push(asked(alloc, volume, list(alloc, b"/")?)?)?;
+    Ok(receipts)
+}
+
+/// Each kind of receipt, as a volume gives it: what it holds, and that it agrees, also when more calls were made.
+#[test]
+fn each_kind_agrees(rt: HostRuntime) -> Result<(), Fail> {
+    let alloc = rt.alloc();
+    let mut volume = new_volume(&rt, alloc);
+    let mut receipts = each_kind(alloc, &mut volume)?;
+    check_told(&rt, receipts.get(0), 0, Outcome::Accepted(Done::Made(16)));
+    check_told(&rt, receipts.get(1), 1, Outcome::Refused(Refusal::Exists));
+    check_told(&rt, receipts.get(2), 1, Outcome::Refused(Refusal::NoEntry));
+    let nothing = Reply::Bytes(Bytes::from_vec(Vec::new(alloc)));
+    check_told(&rt, receipts.get(3), 1, Outcome::Answered(nothing));
+    receipts.push(created(alloc, &mut volume, b"/b")?)?;
+    check_told(&rt, receipts.get(6), 1, Outcome::Accepted(Done::Made(15)));
+    for receipt in &receipts {
+        check(&rt, alloc, &volume, receipt, Ok(true));
+    }
+    Ok(())
+}
+
+/// A volume that made `/a` as number 16, and then `/b` as number 15.
+fn with_two(rt: &impl Abort, alloc: Global) -> Result<Volume, AllocError> {
+    let mut volume = new_volume(rt, alloc);
+    let _ = created(alloc, &mut volume, b"/a")?;
+    let _ = created(alloc, &mut volume, b"/b")?;
+    Ok(volume)
+}
+
+/// Refusals that no volume gave: each holds of the tree which the records before its number make, and of no other.
+#[test]
+fn refusals_hold_at_their_numbers(rt: HostRuntime) -> Result<(), Fail> {
+    let alloc = rt.alloc();
+    let volume = with_two(&rt, alloc)?;
+    for (at, missing, exists) in [
+        (0, true, false),
+        (1, true, true),
+        (2, false, true),
+        (3, false, false),
+    ] {
+        let question = Asked::Question(stat(alloc, b"/b")?);
+        let refused = Outcome::Refused(Refusal::NoEntry);
+        check_forged(&rt, alloc, &volume, at, question, refused, missing);
+        let change = Asked::Change(create(alloc, b"/a")?);
+        let refused = Outcome::Refused(Refusal::Exists);
+        check_forged(&rt, alloc, &volume, at, change, refused, exists);
+    }
+    Ok(())
+}
+
+/// Accepted calls that the journal has, and some that it hasn't: at another number, with another answer, or of another
+/// path.
+#[test]
+fn accepted_calls_are_their_records(rt: HostRuntime) -> Result<(), Fail> {
+    let alloc = rt.alloc();
+    let volume = with_two(&rt, alloc)?;
+    for (at, path, done, wanted) in [
+        (0, b"/a", Done::Made(16), true),
+        (1, b"/b", Done::Made(15), true),
+        (0, b"/a", Done::Made(15), false),
+        (0, b"/a", Done::Plain, false),
+        (0, b"/b", Done::Made(16), false),
+        (1, b"/a", Done::Made(16), false),
+        (2, b"/c", Done::Made(14), false),
+    ] {
+        let change = Asked::Change(create(alloc, path)?);
+        check_forged(
+            &rt,
+            alloc,
+            &volume,
+            at,
+            change,
+            Outcome::Accepted(done),
+            wanted,
+        );
+    }
+    Ok(())
+}
+
+/// Outcomes that nothing has: a call that is answered as a query, a query that is accepted, and a refusal for want of
+/// memory.
+#[test]
+fn no_volume_answers_so(rt: HostRuntime) -> Result<(), Fail> {
+    let alloc = rt.alloc();
+    let volume = new_volume(&rt, alloc);
+    let change = Asked::Change(create(alloc, b"/a")?);
+    let names = Reply::Names(Listing::from_vec(Vec::new(alloc)));
+    check_forged(
+        &rt,
+        alloc,
+        &volume,
+        0,
+        change,
+        Outcome::Answered(names),
+        false,
+    );
+    let question = Asked::Question(list(alloc, b"/")?);
+    check_forged(
+        &rt,
+        alloc,
+        &volume,
+        0,
+        question,
+        Outcome::Accepted(Done::Plain),
+        false,
+    );
+    let change = Asked::Change(create(alloc, b"/a")?);
+    let refused = Outcome::Refused(Refusal::NoMemory);
+    check_forged(&rt, alloc, &volume, 0, change, refused, false);
+    Ok(())
+}
+
+/// Of two volumes each confirms its own receipt, and not that of the other.
+#[test]
+fn each_volume_confirms_its_own(rt: HostRuntime) -> Result<(), Fail> {
+    let alloc = rt.alloc();
+    let mut one = new_volume(&rt, alloc);
+    let mut other = new_volume(&rt, alloc);
+    let own = created(alloc, &mut one, b"/a")?;
+    let foreign = created(alloc, &mut other, b"/b")?;
+    check(&rt, alloc, &one, &own, Ok(true));
+    check(&rt, alloc, &one, &foreign, Ok(false));
+    check(&rt, alloc, &other, &own, Ok(false));
+    check(&rt, alloc, &other, &foreign, Ok(true));
+    Ok(())
+}
+
+/// Receipts of a volume whose journal is cut after one record, the last first: two from after the cut, one from just
+/// before it, and two that lie below it.
+fn around_a_cut(
+    rt: &impl Abort,
+    alloc: Global,
+    volume: &mut Volume,
+) -> Result<Vec<Receipt>, AllocError> {
+    let mut receipts = Vec::new(alloc);
+    receipts.push(asked(alloc, volume, stat(alloc, b"/a")?)?)?;
+    receipts.push(created(alloc, volume, b"/a")?)?;
+    receipts.push(asked(alloc, volume, stat(alloc, b"/a")?)?)?;
+    assert!(rt; volume.cut().is_ok());
+    receipts.push(created(alloc, volume, b"/b")?)?;
+    receipts.push(asked(alloc, volume, list(alloc, b"/")?)?)?;
+    receipts.reverse();
+    Ok(receipts)
+}
+
+/// Where the journal was cut, the receipts from its first number on agree as before, and what lies below is gone; one by
+/// one, and all at once, out of order.
+#[test]
+fn what_is_cut_is_gone(rt: HostRuntime) -> Result<(), Fail> {
+    let alloc = rt.alloc();
+    let mut volume = new_volume(&rt, alloc);
+    let mut receipts = around_a_cut(&rt, alloc, &mut volume)?;
+    receipts.push(Receipt {
+        at: 2,
+        asked: Asked::Question(stat(alloc, b"/b")?),
+        outcome: Outcome::Refused(Refusal::NoEntry),
+    })?;
+    let found = find_all(&volume, alloc, &receipts)?;
+    let wanted = [
+        Finding::Agrees,
+        Finding::Agrees,
+        Finding::Agrees,
+        Finding::Gone,
+        Finding::Gone,
+        Finding::Differs,
+    ];
+    assert_eq!(rt; found.as_slice(), wanted.as_slice());
+    let confirmed = confirm_all(&volume, alloc, &receipts)?;
+    assert_eq!(rt; confirmed, Confirmed { agree: 3, gone: 2 });
+    for (receipt, finding) in receipts.iter().zip(wanted) {
+        let wanted = match finding {
+            Finding::Agrees => Ok(true),
+            Finding::Differs => Ok(false),
+            Finding::Gone => Err(ConfirmFault::Cut),
+        };
+        check(&rt, alloc, &volume, receipt, wanted);
+    }
+    Ok(())
+}

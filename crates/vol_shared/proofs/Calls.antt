@@ -1,0 +1,58 @@
+-- What a session has after a call.
+use Rattle.std.proofs.Common.{◌≡◌, ℕ, ◌+◌, ◌≤◌, List, [], ◌∷◌, ◌++◌, length, Option, None, sym, refl, ap, ◌∙◌, length-append, arith}
+use Rattle.atomic_table.specs.Table.{Me}
+use Rattle.atomic_table.specs.Seated.{TableId}
+use Rattle.vol_volume.specs.declared.calls.Record.{Record}
+use Rattle.vol_receipts.specs.Agrees.{next_of}
+use Rattle.vol_receipts.specs.declared.receipts.Receipt.{Receipt}
+use Rattle.vol_shared.specs.Stored.{Stored, next_number, IsCut}
+use Rattle.vol_shared.specs.Plays.{receipt, took, gave, FindsVolume, Took, IsAnswered, cut}
+use Rattle.vol_shared.specs.Sessions.{known_by, knowledge_of, IsIdle, Got, HasCut}
+use Rattle.vol_shared.specs.declared.knowledge.Knowledge.{Knowledge}
+
+-- what is found has a number for the next record that isn't below the least that a session's receipt may have
+pub reaches : (v : Knowledge) (gone : List Record) (found : Stored) → FindsVolume v gone found
+    → v.opened.origin.first + length v.history ≤ next_number found
+reaches v gone found finds =
+    let f = finds.follows.first in
+    let g = finds.goes_on in
+    let e = ap length g.1 in
+    let a = length-append gone found.journal in
+    let b = length-append v.history g.0 in
+    omega arith
+
+pub got : (views : List Knowledge) (next count : ℕ) → IsIdle views next count → (me end : Me (Option Stored) Knowledge) (found given : Stored) (r : Receipt)
+    → Took (knowledge_of views, []) me found None → IsAnswered found given r → end ≡ (gave me.0 given (receipt r), [])
+    → (table other : TableId) (later : ℕ) → later ≡ next_of r.at r.outcome
+    → Got (known_by table next (knowledge_of views)) (known_by other later end.0) r
+got views next count is me end found given r took-it may gave-it table other later noted =
+    let v = knowledge_of views in
+    let here : end.0 ≡ gave (took v found (took-it.0 ++ found.journal)) given (receipt r) =
+    ap (λ (m : Me (Option Stored) Knowledge). m.0) gave-it ∙ ap (λ (m : Me (Option Stored) Knowledge). gave m.0 given (receipt r)) took-it.2 in
+    let r-at = may.at in
+    let reach = reaches v took-it.0 found took-it.1 in
+    let n = is.reached in
+    record {
+      at = omega arith;
+      next = noted;
+      places = ap (λ (w : Knowledge). w.places) here;
+      cuts = ap (λ (w : Knowledge). w.cuts) here;
+      receipts = ap (λ (w : Knowledge). w.receipts) here;
+    }
+
+pub has_cut : (views : List Knowledge) (next count : ℕ) → IsIdle views next count → (me end : Me (Option Stored) Knowledge) (found given : Stored) (first : ℕ)
+    → Took (knowledge_of views, []) me found None → IsCut found given → first ≡ next_number found → end ≡ (gave me.0 given cut, [])
+    → (table other : TableId) → HasCut (known_by table next (knowledge_of views)) (known_by other first end.0) first
+has_cut views next count is me end found given first took-it cut-it told gave-it table other =
+    let v = knowledge_of views in
+    let here : end.0 ≡ gave (took v found (took-it.0 ++ found.journal)) given cut =
+    ap (λ (m : Me (Option Stored) Knowledge). m.0) gave-it ∙ ap (λ (m : Me (Option Stored) Knowledge). gave m.0 given cut) took-it.2 in
+    let reach = reaches v took-it.0 found took-it.1 in
+    let n = is.reached in
+    record {
+      at = omega arith;
+      next = refl;
+      places = ap (λ (w : Knowledge). w.places) here;
+      cuts = ap (λ (w : Knowledge). w.cuts) here ∙ ap (λ (n : ℕ). v.cuts ++ n ∷ []) (cut-it.first ∙ sym told);
+      receipts = ap (λ (w : Knowledge). w.receipts) here;
+    }

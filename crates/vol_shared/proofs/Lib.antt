@@ -1,0 +1,6 @@
+pub mod Lists
+pub mod Agreement
+pub mod Steps
+pub mod Seats
+pub mod Calls
+pub mod Ending

@@ -1,0 +1,36 @@
+-- The lock as a shared volume keeps it, and what it comes to once one seat stands for all sessions.
+use Rattle.std.specs.Prelude.{◌≡◌, ℕ, ◌+◌, ◌≤◌, List, length, max, false, All}
+use Rattle.std.specs.List.{flat_map}
+use Rattle.atomic_table.specs.Seated.{TableId}
+use Rattle.count_table.specs.Sums.{total, below}
+use Rattle.vol_receipts.specs.Agrees.{Agrees}
+use Rattle.vol_shared.specs.Lists.{greatest_of}
+use Rattle.vol_shared.specs.Sessions.{Known}
+use Rattle.vol_shared.specs.Stored.{Stored, next_number, Continues}
+use Rattle.vol_shared.specs.declared.knowledge.Knowledge.{Knowledge}
+use Rattle.vol_shared.specs.declared.knowledge.Start.{Start}
+
+-- the table has one word and one slot, and was made for some sessions of a volume with so many records (this project)
+pub record IsLock (table : TableId) (key : Start) (records : ℕ) : Type 0 where
+  pub words : table.words ≡ 1
+  pub slots : table.slots ≡ 1
+  pub some_sessions : 1 ≤ key.sessions
+  pub counted : records ≡ next_number key.stock.value
+
+-- a seat stands for all these sessions, and did what they did (this project)
+pub record IsGathered (sessions : List Known) (v : Knowledge) : Type 0 where
+  pub parts : v.parts ≡ length sessions
+  pub free : v.holds ≡ false
+  pub places : v.places ≡ flat_map (λ s. s.places) sessions
+  pub cuts : v.cuts ≡ flat_map (λ s. s.cuts) sessions
+  pub receipts : v.receipts ≡ flat_map (λ s. s.receipts) sessions
+
+-- the volume at the end, by what the seat that stands for all sessions did: it goes on from the one that was opened; the seat's
+-- places are the numbers of the records made since, each once; the journal's first number is the greatest that its cuts answered, or
+-- that of the start; and its receipts agree with the journal, but for those with lesser numbers (this project)
+pub record IsSettled (opened : Stored) (v : Knowledge) (last : Stored) : Type 0 where
+  pub goes_on : Continues opened last
+  pub places : (weight : ℕ → ℕ) → total weight v.places + below weight (next_number opened) ≡ below weight (next_number last)
+  pub first : last.origin.first ≡ max opened.origin.first (greatest_of v.cuts)
+  pub uncut : length v.cuts ≡ 0 → last.origin ≡ opened.origin
+  pub agree : All (λ r. last.origin.first ≤ r.at → Agrees last.origin last.journal r) v.receipts

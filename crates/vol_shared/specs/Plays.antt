@@ -1,0 +1,109 @@
+-- How each step changes what a seat knows, and what it tells.
+use Rattle.std.specs.Prelude.{◌≡◌, ◌≢◌, ℕ, ◌+◌, ◌-◌, ◌≤◌, List, [], ◌∷◌, ◌++◌, length, true, false, Option, Some}
+use Rattle.atomic_table.specs.Table.{Me, Step}
+use Rattle.vol_volume.specs.declared.calls.Record.{Record}
+use Rattle.vol_receipts.specs.Agrees.{Agrees, place_of, record_of}
+use Rattle.vol_receipts.specs.declared.receipts.Receipt.{Receipt}
+use Rattle.vol_shared.specs.Lists.{BeginsWith, longer}
+use Rattle.vol_shared.specs.Stored.{Stored, nothing_stored, next_number, Follows, IsUnchanged, IsCut}
+use Rattle.vol_shared.specs.declared.knowledge.Knowledge.{Knowledge}
+use Rattle.vol_shared.specs.declared.knowledge.Start.{Start}
+
+-- what came of the work on a volume that is given back: nothing, a receipt, or a cut of its journal (this project)
+pub data Event : Type 0 where
+  nothing : Event
+  receipt : Receipt → Event
+  cut : Event
+
+-- a seat that stands for some sessions of a volume just opened (this project)
+abbrev pub fresh : ℕ → Stored → Knowledge
+fresh parts opened = record {
+  parts = parts;
+  holds = false;
+  opened = opened;
+  found = opened;
+  history = opened.journal;
+  places = [];
+  cuts = [];
+  receipts = [];
+}
+
+-- the first seat stands for all sessions (this project)
+abbrev pub first_knowledge : Start → Knowledge
+first_knowledge key = fresh key.sessions key.stock.value
+
+-- a seat that stands for no session (this project)
+abbrev pub nobody : Knowledge
+nobody = fresh 0 nothing_stored
+
+-- what is left of a seat that gives one session away (this project)
+abbrev pub kept_part : Knowledge → Knowledge
+kept_part v = record v { parts = v.parts - 1 }
+
+-- the seat that gets the session (this project)
+abbrev pub given_part : Knowledge → Knowledge
+given_part v = fresh 1 v.opened
+
+-- two seats as one (this project)
+abbrev pub as_one : Knowledge → Knowledge → Knowledge
+as_one v w = record {
+  parts = v.parts + w.parts;
+  holds = false;
+  opened = v.opened;
+  found = v.found;
+  history = longer v.history w.history;
+  places = w.places ++ v.places;
+  cuts = w.cuts ++ v.cuts;
+  receipts = w.receipts ++ v.receipts;
+}
+
+-- a seat once it took the volume, all of whose records, those that were cut among them, are the history (this project)
+abbrev pub took : Knowledge → Stored → List Record → Knowledge
+took v found history = record v { holds = true; found = found; history = history }
+
+-- a seat once it gave the volume back (this project)
+abbrev pub gave : Knowledge → Stored → Event → Knowledge
+gave v given nothing = record v { holds = false; found = given }
+gave v given (receipt r) = record v {
+  holds = false;
+  found = given;
+  history = v.history ++ record_of r.asked r.outcome;
+  places = v.places ++ place_of r.at r.outcome;
+  receipts = v.receipts ++ r ∷ [];
+}
+gave v given cut = record v { holds = false; found = given; cuts = v.cuts ++ given.origin.first ∷ [] }
+
+-- what a seat finds goes on from what was opened and from all that it knew, and has a number for each of its places (this project)
+pub record FindsVolume (v : Knowledge) (gone : List Record) (found : Stored) : Type 0 where
+  pub follows : Follows v.opened gone found
+  pub goes_on : BeginsWith (gone ++ found.journal) v.history
+  pub counted : length v.places ≤ next_number found
+
+-- the volume was taken, and in its slot lies what is left there (this project)
+abbrev pub Took : Me (Option Stored) Knowledge → Me (Option Stored) Knowledge → Stored → Option Stored → Type 0
+Took before after found left =
+    (gone : List Record) × FindsVolume before.0 gone found × (after ≡ (took before.0 found (gone ++ found.journal), (0, left) ∷ []))
+
+-- the word was 0 and the volume was taken, or it was not 0 and nothing changed (this project)
+abbrev pub Tries : Step (Option Stored) → Me (Option Stored) Knowledge → ℕ → Me (Option Stored) Knowledge → Type 0
+Tries st before found after =
+    (found ≡ 0 → (stored : Stored) × Took before after stored (Some stored)) × (found ≢ 0 → after ≡ before)
+
+-- a call or query was answered on a volume: the receipt agrees with its journal, which has the record of an accepted call more, and
+-- is the same else (this project)
+pub record IsAnswered (found given : Stored) (r : Receipt) : Type 0 where
+  pub origin : given.origin ≡ found.origin
+  pub journal : given.journal ≡ found.journal ++ record_of r.asked r.outcome
+  pub at : r.at ≡ next_number found
+  pub agrees : Agrees given.origin given.journal r
+
+-- how a volume that was taken may be given back: with the same journal, with at most one record more, or with its journal cut (this project)
+abbrev pub MayGive : Stored → Stored → Event → Type 0
+MayGive found given nothing = IsUnchanged found given
+MayGive found given (receipt r) = IsAnswered found given r
+MayGive found given cut = IsCut found given
+
+-- the volume was given back, and with it what came of the work on it (this project)
+abbrev pub Gives : Event → Step (Option Stored) → Me (Option Stored) Knowledge → ℕ → Me (Option Stored) Knowledge → Type 0
+Gives event st before found after =
+    (given : Stored) → before.1 ≡ (0, Some given) ∷ [] → after ≡ (gave before.0 given event, [])

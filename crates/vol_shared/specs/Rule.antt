@@ -1,0 +1,42 @@
+-- What holds of the lock's table between any two steps.
+use Rattle.std.specs.Prelude.{◌≡◌, ℕ, ◌+◌, ◌<◌, ◌≤◌, List, [], ◌++◌, length, slice_index, max, true, false, if◌then◌else◌, Option, Some, All}
+use mathlib.Core.Option.{some}
+use lib.ListN.{get_elem?}
+use Rattle.atomic_table.specs.Table.{State}
+use Rattle.count_table.specs.Sums.{total, below}
+use Rattle.vol_volume.specs.declared.calls.Record.{Record}
+use Rattle.vol_receipts.specs.Agrees.{Agrees}
+use Rattle.vol_shared.specs.Lists.{BeginsWith, greatest, greatest_of}
+use Rattle.vol_shared.specs.Stored.{Stored, next_number, Follows}
+use Rattle.vol_shared.specs.declared.knowledge.Knowledge.{Knowledge}
+use Rattle.vol_shared.specs.declared.knowledge.Start.{Start}
+
+-- 1 for a seat that holds the volume (this project)
+abbrev pub hold_of : Knowledge → ℕ
+hold_of v = if v.holds then 1 else 0
+
+-- what a seat knows is right: its receipts agree with the records that it knows, which the history begins with; a seat that holds
+-- the volume knows all; one that stands for no session did nothing (this project)
+pub record SeatFits (opened last : Stored) (history : List Record) (v : Knowledge) : Type 0 where
+  pub same : 0 < v.parts → v.opened ≡ opened
+  pub front : BeginsWith history v.history
+  pub agree : All (Agrees opened.origin v.history) v.receipts
+  pub mine : v.holds ≡ true → (v.history ≡ history) × (v.found ≡ last)
+  pub spent : v.parts ≡ 0 → (v.holds ≡ false) × (v.places ≡ []) × (v.cuts ≡ [])
+
+-- the word is 1 while a seat holds the volume, else the volume that was given back last is at home; it goes on from the one that was
+-- opened; the places of all seats are the numbers of the records made since, each once; the journal's first number is the greatest
+-- that a cut answered, or that of the start (this project)
+pub record Locked (key : Start) (s : State (Option Stored) Knowledge) : Type 0 where
+  pub last : Stored
+  pub gone : List Record
+  pub word : length s.words ≡ 1
+  pub one : slice_index s.words 0 ≤ 1
+  pub lock : slice_index s.words 0 ≡ total hold_of s.views
+  pub home : slice_index s.words 0 ≡ 0 → get_elem? s.homes 0 ≡ some (some (Some last))
+  pub follows : Follows key.stock.value gone last
+  pub parts : total (λ v. v.parts) s.views ≡ key.sessions
+  pub places : (weight : ℕ → ℕ) → total (λ v. total weight v.places) s.views + below weight (next_number key.stock.value) ≡ below weight (next_number last)
+  pub first : last.origin.first ≡ max key.stock.value.origin.first (greatest (λ v. greatest_of v.cuts) s.views)
+  pub uncut : total (λ v. length v.cuts) s.views ≡ 0 → last.origin ≡ key.stock.value.origin
+  pub each : (id : ℕ) (v : Knowledge) → get_elem? s.views id ≡ some v → SeatFits key.stock.value last (gone ++ last.journal) v

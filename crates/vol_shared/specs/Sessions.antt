@@ -1,0 +1,58 @@
+-- What a session is to its callers.
+use Rattle.std.specs.Prelude.{◌≡◌, ℕ, ◌+◌, ◌≤◌, List, [], ◌∷◌, ◌++◌, length, false}
+use Rattle.atomic_table.specs.Seated.{TableId}
+use Rattle.vol_receipts.specs.Agrees.{place_of, next_of}
+use Rattle.vol_receipts.specs.declared.receipts.Receipt.{Receipt}
+use Rattle.vol_shared.specs.Plays.{nobody}
+use Rattle.vol_shared.specs.declared.knowledge.Knowledge.{Knowledge}
+
+-- which shared volume it is, of all that were ever opened (this project)
+pub record Identity : Type 0 where
+  pub table : TableId
+
+-- a session: its shared volume, the least number that its next receipt may have, the numbers of the records that its calls made,
+-- the numbers that its cuts answered, and its receipts (this project)
+pub record Known : Type 0 where
+  pub of : Identity
+  pub next : ℕ
+  pub places : List ℕ
+  pub cuts : List ℕ
+  pub receipts : List Receipt
+
+-- a session that asked nothing yet (this project)
+abbrev pub new_session : Identity → ℕ → Known
+new_session of next = record { of = of; next = next; places = []; cuts = []; receipts = [] }
+
+-- what the one seat of a session knows (this project)
+abbrev pub knowledge_of : List Knowledge → Knowledge
+knowledge_of [] = nobody
+knowledge_of (v ∷ vs) = v
+
+-- what a session's parts are to its callers (this project)
+abbrev pub known_by : TableId → ℕ → Knowledge → Known
+known_by table next v = record { of = record { table = table }; next = next; places = v.places; cuts = v.cuts; receipts = v.receipts }
+
+-- a session between two calls (this project)
+pub record IsIdle (views : List Knowledge) (next count : ℕ) : Type 0 where
+  pub one : views ≡ knowledge_of views ∷ []
+  pub free : (knowledge_of views).holds ≡ false
+  pub part : (knowledge_of views).parts ≡ 1
+  pub reached : next ≤ (knowledge_of views).opened.origin.first + length (knowledge_of views).history
+  pub counted : count ≡ length (knowledge_of views).places
+
+-- a session after it got a receipt: its number isn't below the least that it might have, and joins the places if it is that of an
+-- accepted call (this project)
+pub record Got (old new : Known) (receipt : Receipt) : Type 0 where
+  pub at : old.next ≤ receipt.at
+  pub next : new.next ≡ next_of receipt.at receipt.outcome
+  pub places : new.places ≡ old.places ++ place_of receipt.at receipt.outcome
+  pub cuts : new.cuts ≡ old.cuts
+  pub receipts : new.receipts ≡ old.receipts ++ receipt ∷ []
+
+-- a session after it cut the journal: its next receipt's number is at least that of the journal's first record (this project)
+pub record HasCut (old new : Known) (first : ℕ) : Type 0 where
+  pub at : old.next ≤ first
+  pub next : new.next ≡ first
+  pub places : new.places ≡ old.places
+  pub cuts : new.cuts ≡ old.cuts ++ first ∷ []
+  pub receipts : new.receipts ≡ old.receipts

@@ -1,0 +1,50 @@
+-- The volume as the lock's rule sees it. The rule reads what its journal starts from, and its journal.
+use Rattle.std.specs.Prelude.{◌≡◌, ℕ, ◌+◌, List, [], ◌++◌, length}
+use Rattle.vol_volume.specs.Journal.{after}
+use Rattle.vol_volume.specs.Volume.{Mounted}
+use Rattle.vol_volume.specs.declared.calls.Record.{Record}
+use Rattle.vol_layout.specs.declared.edition.Edition.TheVariants as editions
+use Rattle.vol_receipts.specs.Agrees.{origin_of, start}
+use Rattle.vol_receipts.specs.declared.receipts.Origin.{Origin}
+use Rattle.vol_shared.specs.Lists.{BeginsWith}
+
+-- what lies under the lock: what its journal starts from, the journal, and the image (this project)
+pub record Stored : Type 0 where
+  pub origin : Origin
+  pub journal : List Record
+  pub image : List ℕ
+
+-- what lies under the lock of a volume (this project)
+abbrev pub stored_of : Mounted → Stored
+stored_of volume = record { origin = origin_of volume; journal = volume.journal; image = volume.image }
+
+-- nothing that was ever stored (this project)
+abbrev pub nothing_stored : Stored
+nothing_stored = record { origin = record { edition = editions.V6; bytes = []; first = 0 }; journal = []; image = [] }
+
+-- the number that the next record gets (this project)
+abbrev pub next_number : Stored → ℕ
+next_number stored = stored.origin.first + length stored.journal
+
+-- a volume goes on from another: the records cut since are `gone`, and the journal starts from what they made (this project)
+pub record Follows (opened : Stored) (gone : List Record) (last : Stored) : Type 0 where
+  pub edition : last.origin.edition ≡ opened.origin.edition
+  pub first : last.origin.first ≡ opened.origin.first + length gone
+  pub starts : start last.origin ≡ after (start opened.origin) gone
+  pub begins : BeginsWith (gone ++ last.journal) opened.journal
+
+-- a volume goes on from another, whatever records were cut since (this project)
+abbrev pub Continues : Stored → Stored → Type 0
+Continues opened last = (gone : List Record) × Follows opened gone last
+
+-- a volume has the same journal, from the same start (this project)
+pub record IsUnchanged (old new : Stored) : Type 0 where
+  pub origin : new.origin ≡ old.origin
+  pub journal : new.journal ≡ old.journal
+
+-- a volume's journal is cut: all its records go, and it starts from what they made (this project)
+pub record IsCut (old new : Stored) : Type 0 where
+  pub edition : new.origin.edition ≡ old.origin.edition
+  pub first : new.origin.first ≡ next_number old
+  pub starts : start new.origin ≡ after (start old.origin) old.journal
+  pub journal : new.journal ≡ []

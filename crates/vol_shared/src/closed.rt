@@ -1,0 +1,78 @@
+//! A volume that no thread shares any more.
+ghost use Rattle.std.specs.Prelude.{◌≡◌, ◌+◌, ◌<◌, ◌↔◌, IfOk, IsTrue, Err};
+ghost use Rattle.vol_receipts.specs.Agrees.{origin_of, Agrees};
+ghost use Rattle.vol_receipts.specs.Findings.{AreCounted};
+ghost use Rattle.vol_shared.specs.Stored.{stored_of, next_number};
+
+use crate::stock::Stock;
+use std::alloc::{AllocError, Global};
+use std::marker::Model;
+use vol_receipts::{ConfirmFault, Confirmed, Receipt, confirm, confirm_all};
+use vol_volume::Volume;
+
+/// A volume that no thread shares any more, with the number of records that all its sessions know of.
+#[derive(Debug, Drop)]
+pub struct Closed {
+    pub(crate) volume: Volume,
+    pub(crate) accepted: u64,
+}
+
+impl Model for Closed {
+    ghost use Rattle.std.specs.Prelude.{◌≡◌};
+    ghost use Rattle.vol_volume.specs.Volume.{Mounted};
+    ghost use Rattle.vol_shared.specs.Stored.{stored_of, next_number};
+
+    ghost Value = { Mounted };
+
+    ghost view = { λ c. c.volume };
+
+    ghost invariant = { λ c. c.accepted ≡ next_number (stored_of c.volume) };
+}
+
+impl Closed {
+    /// A volume that was opened with so many records, and on which so many calls were accepted since.
+    pub(crate) fn new(stock: Stock, records: u64, calls: u128) -> Closed
+        requires { calls + records ≡ next_number stock }
+        ensures { stored_of result ≡ stock }
+    {
+        let _end = stock.end();
+        Closed {
+            volume: stock.into_volume(),
+            accepted: records + calls as u64,
+        }
+    }
+
+    /// The volume, with the records that all sessions made since the last cut.
+    pub fn volume(&self) -> &Volume
+        ensures { result.now ≡ self.now }
+    {
+        &self.volume
+    }
+
+    /// How many records the journal had when the volume was opened and how many calls the sessions counted as accepted
+    /// since, added up; those that were cut count too.
+    pub fn accepted(&self) -> u64
+        ensures { result ≡ next_number (stored_of self.now) }
+    {
+        self.accepted
+    }
+
+    /// Whether a receipt agrees with the journal. Cut where its number is below that of the journal's first record;
+    /// NoMemory where an allocation was refused.
+    ///
+    /// Takes memory and costs what [`vol_receipts::confirm`] does.
+    pub fn confirm(&self, alloc: Global, receipt: &Receipt) -> Result<bool, ConfirmFault>
+        ensures agrees { IfOk result (λ agrees. IsTrue agrees ↔ Agrees (origin_of self.now) self.now.journal receipt.now) }
+        ensures cut { result ≡ Err ConfirmFault.Cut ↔ receipt.now.at < self.now.first }
+    {
+        confirm(&self.volume, alloc, receipt)
+    }
+
+    /// How many of some receipts agree with the journal, and of how many what they speak of was cut. Takes memory and
+    /// costs as [`vol_receipts::confirm_all`].
+    pub fn confirm_all(&self, alloc: Global, receipts: &[Receipt]) -> Result<Confirmed, AllocError>
+        ensures { IfOk result (λ confirmed. AreCounted (origin_of self.now) self.now.journal receipts.now confirmed) }
+    {
+        confirm_all(&self.volume, alloc, receipts)
+    }
+}

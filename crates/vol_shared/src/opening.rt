@@ -1,0 +1,91 @@
+//! The lock's table is made, and its sessions are dealt out.
+ghost use Rattle.std.specs.Prelude.{◌≡◌, ◌+◌, ◌<◌, ◌≤◌, [], ◌∷◌, ◌++◌, length, vec_len, vec_capacity, All, IsSome, IfOk, IfErr};
+ghost use Rattle.vol_shared.specs.Closing.{IsLock};
+ghost use Rattle.vol_shared.specs.Plays.{fresh};
+ghost use Rattle.vol_shared.specs.Sessions.{new_session};
+ghost use Rattle.vol_shared.specs.Stored.{Stored, next_number};
+
+use crate::knowledge::{Deal, Knowledge, Lock, OneHolder, Place, Start};
+use crate::session::Session;
+use crate::stock::Stock;
+use atomic_table::{Refused, Table};
+use std::alloc::Global;
+use std::snapshot::Snapshot;
+
+/// The table of a shared volume.
+pub(crate) type Board = Table<Option<Stock>, Knowledge, Start, OneHolder, Global>;
+
+/// A table with the volume at home, and the one place that stands for all its sessions.
+pub(crate) fn lay(alloc: Global, stock: Stock, sessions: u64) -> Result<(Board, Place), Stock>
+    requires { 1 ≤ sessions }
+    ensures lock { IfOk result (λ r. IsLock r.0.shared.table_id r.0.shared.key (next_number stock)) }
+    ensures stock { IfOk result (λ r. r.0.shared.key.stock.value ≡ stock) }
+    ensures sessions { IfOk result (λ r. r.0.shared.key.sessions ≡ sessions) }
+    ensures own { IfOk result (λ r. r.1.table_id ≡ r.0.shared.table_id) }
+    ensures place { IfOk result (λ r. r.1.me ≡ (fresh sessions stock, [])) }
+    ensures handed_back { IfErr result (λ same. same ≡ stock) }
+{
+    let start = Start {
+        stock: Snapshot::of(&stock),
+        sessions,
+    };
+    let Ok(mut slots) = Vec::with_capacity(alloc, 1) else {
+        return Err(stock);
+    };
+    slots.push_reserved(Some(stock));
+    match Table::new(alloc, &[0], slots, &start) {
+        Ok(made) => Ok(made),
+        Err(Refused { slots }) => Err(only(slots)),
+    }
+}
+
+/// The one volume in a list.
+fn only(mut slots: Vec<Option<Stock>>) -> Stock
+    requires one { vec_len slots ≡ 1 }
+    requires full { All (λ slot. IsSome slot) slots.items }
+    ensures { slots.items ≡ Some result ∷ [] }
+{
+    let slot = slots.take_last();
+    slots.destroy_empty();
+    slot.unwrap()
+}
+
+/// Cuts a place that stands for so many sessions into as many, and puts them on the list.
+pub(crate) fn deal(
+    lock: &Lock,
+    mut place: Place,
+    all: &mut Vec<Session>,
+    sessions: usize,
+    records: u64,
+)
+    requires lock { IsLock lock.now.table_id lock.now.key records }
+    requires own { place.table_id ≡ lock.now.table_id }
+    requires place { place.me ≡ (fresh sessions lock.now.key.stock.value, []) }
+    requires some_sessions { 1 ≤ sessions }
+    requires empty { all.old.items ≡ [] }
+    requires room { vec_capacity all.old ≡ sessions }
+    ensures count { length all.new.items ≡ sessions }
+    ensures fresh { All (λ s. s ≡ new_session (record { table = lock.now.table_id }) records) all.new.items }
+{
+    for _i in 1..sessions {
+        let part = lock.split_seat::<Deal>(&mut place);
+        seat_one(all, part, records);
+    }
+    seat_one(all, place, records);
+}
+
+/// Puts one session on the list.
+fn seat_one(all: &mut Vec<Session>, place: Place, records: u64)
+    requires free { place.me.1 ≡ [] }
+    requires room { vec_len all.old < vec_capacity all.old }
+    requires place { (opened : Stored) × (place.me.0 ≡ fresh 1 opened) × (records ≡ next_number opened) }
+    ensures items { all.new.items ≡ all.old.items ++ new_session (record { table = place.table_id }) records ∷ [] }
+    ensures len { vec_len all.new ≡ vec_len all.old + 1 }
+    ensures capacity { vec_capacity all.new ≡ vec_capacity all.old }
+{
+    all.push_reserved(Session {
+        badge: place.into_badge(),
+        next: records,
+        count: 0,
+    });
+}

@@ -1,0 +1,65 @@
+//! Sessions.
+ghost use Rattle.std.specs.Prelude.{◌≡◌, ◌+◌, ◌<◌, ◌≤◌, ◌^◌, [], ◌∷◌, length, None, false};
+ghost use Rattle.vol_receipts.specs.Agrees.{place_of, next_of};
+ghost use Rattle.vol_shared.specs.Plays.{Took};
+ghost use Rattle.vol_shared.specs.Sessions.{knowledge_of};
+
+use crate::knowledge::{Knowledge, Lock, Place};
+use crate::lock::take;
+use crate::stock::Stock;
+use atomic_table::Badge;
+use std::marker::Model;
+use std::mem::replace;
+use std::sync::Wait;
+use vol_receipts::{Outcome, Receipt};
+
+/// A place at a shared volume, for one thread at a time. It keeps the least number that its next receipt may have, and
+/// how many of its calls were accepted.
+#[derive(Drop)]
+pub struct Session {
+    pub(crate) badge: Badge<Knowledge>,
+    pub(crate) next: u64,
+    pub(crate) count: u64,
+}
+
+impl Model for Session {
+    ghost use Rattle.vol_shared.specs.Sessions.{Known, known_by, knowledge_of, IsIdle};
+
+    ghost Value = { Known };
+
+    ghost view = { λ s. known_by s.badge.table_id s.next (knowledge_of s.badge.views) };
+
+    ghost invariant = { λ s. IsIdle s.badge.views s.next s.count };
+}
+
+/// Takes the volume for a session, whose badge is its place until the volume is given back.
+pub(crate) fn enter<R: Wait>(rt: &R, lock: &Lock, badge: &mut Badge<Knowledge>) -> (Place, Stock)
+    requires own { badge.old.table_id ≡ lock.now.table_id }
+    requires words { lock.now.table_id.words ≡ 1 }
+    requires slots { lock.now.table_id.slots ≡ 1 }
+    requires one { badge.old.views ≡ knowledge_of badge.old.views ∷ [] }
+    requires free { (knowledge_of badge.old.views).holds ≡ false }
+    requires part { (knowledge_of badge.old.views).parts ≡ 1 }
+    ensures own { result.0.table_id ≡ lock.now.table_id }
+    ensures took { Took (knowledge_of badge.old.views, []) result.0.me result.1 None }
+{
+    let mut place = replace(badge, Badge::blank()).into_seat();
+    let stock = take(rt, lock, &mut place);
+    (place, stock)
+}
+
+/// Counts what came of a call or query of a session.
+pub(crate) fn note(next: &mut u64, count: &mut u64, receipt: &Receipt)
+    requires numbered { receipt.now.at + 1 < 2 ^ 64 }
+    requires counted { count.old ≤ receipt.now.at }
+    ensures next { next.new ≡ next_of receipt.now.at receipt.now.outcome }
+    ensures count { count.new ≡ count.old + length (place_of receipt.now.at receipt.now.outcome) }
+{
+    match receipt.outcome {
+        Outcome::Accepted(_) => {
+            *next = receipt.at + 1;
+            *count += 1;
+        }
+        Outcome::Refused(_) | Outcome::Answered(_) => *next = receipt.at,
+    }
+}

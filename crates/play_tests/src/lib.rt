@@ -1,0 +1,9 @@
+//! Tests of scripts, and of what comes of playing them.
+#![tactic(auto)]
+
+#[cfg(test)]
+mod endings;
+#[cfg(test)]
+mod fixtures;
+#[cfg(test)]
+mod reading;

@@ -1,0 +1,5 @@
+pub mod DigitLemmas
+pub mod PieceLemmas
+pub mod ReadingLemmas
+pub mod TextLemmas
+pub mod EndingLemmas

@@ -1,0 +1,11 @@
+use Rattle.std.proofs.Common.{◌≡◌, ◌+◌, ◌++◌, drop}
+use Rattle.std.specs.String.{string_bytes}
+use Rattle.vol_scripts.specs.Ending.{scripts_text}
+use Rattle.vol_scripts.proofs.ending.lines_of.Given as goal
+
+-- what was appended, and the lines of the scripts that are left, are the lines of all
+abbrev pub invariant-scripts : goal.invariant-scripts
+invariant-scripts l = record {
+  number : l.number ≡ l.played-index + 1;
+  text : string_bytes l.text ++ scripts_text l.number (drop l.played-index l.scripts) ≡ scripts_text 1 l.scripts;
+}

@@ -1,0 +1,7 @@
+use Rattle.std.proofs.Common.{◌≡◌, ◌++◌}
+use Rattle.vol_scripts.specs.Ending.{all_receipts}
+use Rattle.vol_scripts.proofs.ending.receipts_of.Given as goal
+
+-- the receipts so far, and those of the scripts that are left, are the receipts of all
+abbrev pub invariant-scripts : goal.invariant-scripts
+invariant-scripts l = l.receipts.items ++ all_receipts l.played-iterator.rest.items ≡ all_receipts l.fn.scripts.items

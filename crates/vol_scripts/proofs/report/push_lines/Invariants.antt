@@ -1,0 +1,11 @@
+use Rattle.std.proofs.Common.{◌≡◌, ◌+◌, ◌++◌, drop}
+use Rattle.std.specs.String.{string_bytes}
+use Rattle.vol_scripts.specs.Report.{lines_text}
+use Rattle.vol_scripts.proofs.report.push_lines.Given as goal
+
+-- what was appended, and the lines of the steps that are left, are the lines of all
+abbrev pub invariant-steps : goal.invariant-steps
+invariant-steps l = record {
+  line : l.line ≡ l.came-index + 1;
+  text : string_bytes l.text ++ lines_text l.script l.line (drop l.came-index l.played) ≡ string_bytes l.fn.text ++ lines_text l.script 1 l.played;
+}

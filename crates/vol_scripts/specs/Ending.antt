@@ -1,0 +1,95 @@
+-- How a play ends.
+use Rattle.std.specs.Prelude.{◌≡◌, ◌⊎◌, ℕ, ◌+◌, ◌++◌, Bool, true, nat_lt, if◌then◌else◌, List, [], ◌∷◌, length, map, fold, max, count_by, Option, Some, None, IsSomeAnd, Result, Ok, Err, Vec}
+use Rattle.std.specs.Global.{Global}
+use Rattle.std.specs.Io.KnownBytes.{Appends, Keeps}
+use Rattle.pdp_words.specs.Devices.{AppendsFront}
+use Rattle.vol_commands.specs.Faults.{fault_status, fault_line, no_memory}
+use Rattle.vol_commands.specs.declared.answer.Answer.{Answer}
+use Rattle.vol_commands.specs.declared.faults.Fault.{Fault}
+use Rattle.vol_commands.specs.declared.faults.Fault.TheVariants as faults
+use Rattle.vol_receipts.specs.Agrees.{origin_of}
+use Rattle.vol_receipts.specs.Findings.{AreCounted}
+use Rattle.vol_receipts.specs.declared.finding.Confirmed.{Confirmed}
+use Rattle.vol_receipts.specs.declared.receipts.Outcome.{Outcome}
+use Rattle.vol_receipts.specs.declared.receipts.Outcome.TheVariants as outcomes
+use Rattle.vol_receipts.specs.declared.receipts.Receipt.{Receipt}
+use Rattle.vol_scripts.specs.Report.{lines_text, totals_text}
+use Rattle.vol_scripts.specs.declared.played.Played.{Played}
+use Rattle.vol_scripts.specs.declared.played.Played.TheVariants as played
+use Rattle.vol_volume.specs.Volume.{Mounted}
+
+-- the status by an outcome: 1 for a refusal (this project)
+abbrev pub outcome_status : Outcome → ℕ
+outcome_status (outcomes.Accepted done) = 0
+outcome_status (outcomes.Refused refusal) = 1
+outcome_status (outcomes.Answered reply) = 0
+
+-- the status by what came of a step: 4 for want of memory (this project)
+abbrev pub step_status : Played → ℕ
+step_status (played.Told receipt) = outcome_status receipt.outcome
+step_status (played.Cut first) = 0
+step_status played.NoMemory = 4
+
+-- the status by what came of the steps of a script: the greatest (this project)
+abbrev pub script_status : List Played → ℕ
+script_status steps = fold max 0 (map step_status steps)
+
+-- the status by what came of all steps: the greatest (this project)
+abbrev pub scripts_status : List (Vec Played Global) → ℕ
+scripts_status scripts = fold max 0 (map (λ script. script_status script.items) scripts)
+
+-- the lines of scripts, of which the first has this number (this project)
+abbrev pub scripts_text : ℕ → List (Vec Played Global) → List ℕ
+scripts_text number [] = []
+scripts_text number (script ∷ scripts) = lines_text number 1 script.items ++ scripts_text (number + 1) scripts
+
+-- the receipts of the steps of a script (this project)
+abbrev pub receipts_in : List Played → List Receipt
+receipts_in [] = []
+receipts_in (played.Told receipt ∷ steps) = receipt ∷ receipts_in steps
+receipts_in (played.Cut first ∷ steps) = receipts_in steps
+receipts_in (played.NoMemory ∷ steps) = receipts_in steps
+
+-- the receipts of all scripts, script by script (this project)
+abbrev pub all_receipts : List (Vec Played Global) → List Receipt
+all_receipts [] = []
+all_receipts (script ∷ scripts) = receipts_in script.items ++ all_receipts scripts
+
+-- how many receipts speak of what was cut, where a script cuts the journal (this project)
+abbrev pub gone_of : Mounted → Bool → List Receipt → Option ℕ
+gone_of volume cuts receipts = if cuts then Some (count_by (λ receipt. nat_lt receipt.at volume.first) receipts) else None
+
+-- all that is printed, by how many receipts agree with the journal (this project)
+abbrev pub report_text : Mounted → Bool → List (Vec Played Global) → ℕ → List ℕ
+report_text volume cuts scripts agree =
+    scripts_text 1 scripts ++ totals_text (length volume.journal) agree (gone_of volume cuts (all_receipts scripts))
+
+-- so many of the receipts agree with the journal; where memory ran out, none count (this project)
+abbrev pub AreConfirmed : Mounted → List Receipt → Option Confirmed → ℕ → Type 0
+AreConfirmed volume receipts (Some confirmed) agree = AreCounted (origin_of volume) volume.journal receipts confirmed × (agree ≡ confirmed.agree)
+AreConfirmed volume receipts None agree = agree ≡ 0
+
+-- the status of a play that was printed: want of memory for confirming is as that of a step (this project)
+abbrev pub printed_status : List (Vec Played Global) → Option Confirmed → ℕ
+printed_status scripts (Some confirmed) = scripts_status scripts
+printed_status scripts None = 4
+
+-- the report goes out in a form that this holds of, with the status that goes with it (this project)
+abbrev pub Reports : Mounted → Bool → List (Vec Played Global) → (List ℕ → Option Confirmed → Type 0) → Type 0
+Reports volume cuts scripts goes_out = (confirmed : Option Confirmed) × (agree : ℕ) × AreConfirmed volume (all_receipts scripts) confirmed agree
+    × goes_out (report_text volume cuts scripts agree) confirmed
+
+-- what standard output gets: the report; or, where it failed, the front of it; or nothing, where memory ran out (this project)
+abbrev pub Prints : Mounted → Bool → List (Vec Played Global) → Option (List ℕ) → Option (List ℕ) → Bool → Bool → Result ℕ Fault → Type 0
+Prints volume cuts scripts old new had_failed failed (Ok status) = (failed ≡ had_failed)
+    × Reports volume cuts scripts (λ text confirmed. Appends old new text × (status ≡ printed_status scripts confirmed))
+Prints volume cuts scripts old new had_failed failed (Err faults.Output) =
+    (failed ≡ true) × Reports volume cuts scripts (λ text confirmed. (count : ℕ) × AppendsFront old new text count)
+Prints volume cuts scripts old new had_failed failed (Err fault) =
+    (fault ≡ no_memory) × (failed ≡ had_failed) × Keeps old new
+
+-- what a play comes to: the bytes of the volume are to be saved; the report is printed, and there is no line, or there is a fault, with its status and its line (this project)
+pub record Finishes (volume : Mounted) (cuts : Bool) (scripts : List (Vec Played Global)) (printed : Result ℕ Fault → Type 0)
+    (said : List ℕ → Type 0) (answer : Answer) : Type 0 where
+  pub saved : IsSomeAnd answer.image (λ bytes. bytes.items ≡ volume.image)
+  pub ended : (printed (Ok answer.status) × said []) ⊎ ((fault : Fault) × printed (Err fault) × (answer.status ≡ fault_status fault) × said (fault_line fault))

@@ -1,0 +1,144 @@
+-- The lines of scripts.
+use Rattle.std.specs.Prelude.{ℕ, ◌==◌, List, [], ◌∷◌, Option, Some, None, find, codes}
+use Rattle.std.specs.List.{slice_split}
+use Rattle.std.specs.Option.{option_map, option_and_then}
+use Rattle.std.specs.Str.{bytes_eq}
+use Rattle.vol_dir.specs.declared.cred.Cred.{Cred}
+use Rattle.vol_volume.specs.declared.calls.Call.TheVariants as calls
+use Rattle.vol_volume.specs.declared.queries.Query.TheVariants as queries
+use Rattle.vol_scripts.specs.Numbers.{long_in, short_in, permissions_in, bytes_in}
+use Rattle.vol_scripts.specs.declared.commands.Command.{Command}
+use Rattle.vol_scripts.specs.declared.commands.Command.TheVariants as commands
+use Rattle.vol_scripts.specs.declared.steps.Step.{Step}
+use Rattle.vol_scripts.specs.declared.steps.Step.TheVariants as steps
+
+-- the word of a command (this project)
+abbrev pub command_name : Command → List ℕ
+command_name commands.Create = codes "create"
+command_name commands.Mkdir = codes "mkdir"
+command_name commands.Link = codes "link"
+command_name commands.Unlink = codes "unlink"
+command_name commands.Rmdir = codes "rmdir"
+command_name commands.Write = codes "write"
+command_name commands.Truncate = codes "truncate"
+command_name commands.Chmod = codes "chmod"
+command_name commands.Chown = codes "chown"
+command_name commands.Stat = codes "stat"
+command_name commands.Read = codes "read"
+command_name commands.List = codes "list"
+command_name commands.Cut = codes "cut"
+
+-- all commands (this project)
+abbrev pub all_commands : List Command
+all_commands = commands.Create ∷ commands.Mkdir ∷ commands.Link ∷ commands.Unlink ∷ commands.Rmdir ∷ commands.Write
+    ∷ commands.Truncate ∷ commands.Chmod ∷ commands.Chown ∷ commands.Stat ∷ commands.Read ∷ commands.List ∷ commands.Cut ∷ []
+
+-- the command of a word (this project)
+abbrev pub command_named : List ℕ → Option Command
+command_named word = find (λ command. bytes_eq (command_name command) word) all_commands
+
+-- what follows where there is something (Option::and_then)
+infixl 10 ◌>>=◌
+abbrev pub ◌>>=◌ : {A B : Type 0} → Option A → (A → Option B) → Option B
+found >>= next = option_and_then next found
+
+-- the one word that is left, where just one is (this project)
+abbrev pub one_of : List (List ℕ) → Option (List ℕ)
+one_of (first ∷ []) = Some first
+one_of _ = None
+
+-- the two words that are left, where just two are (this project)
+abbrev pub two_of : List (List ℕ) → Option (List ℕ × List ℕ)
+two_of (first ∷ second ∷ []) = Some (first, second)
+two_of _ = None
+
+-- the three words that are left, where just three are (this project)
+abbrev pub three_of : List (List ℕ) → Option (List ℕ × List ℕ × List ℕ)
+three_of (first ∷ second ∷ third ∷ []) = Some (first, second, third)
+three_of _ = None
+
+-- no word is left (this project)
+abbrev pub none_of : List (List ℕ) → Option (Unit {0})
+none_of [] = Some tt
+none_of _ = None
+
+-- a user and a group (this project)
+abbrev pub cred_in : List ℕ → List ℕ → Option Cred
+cred_in uid gid = do
+  user ← short_in uid
+  group ← short_in gid
+  Some (record { uid = user; gid = group })
+
+-- `PATH PERM` (this project)
+abbrev pub path_and_permissions : List (List ℕ) → Option (List ℕ × ℕ)
+path_and_permissions words = do
+  given ← two_of words
+  permissions ← permissions_in given.1
+  Some (given.0, permissions)
+
+-- `PATH LENGTH` (this project)
+abbrev pub path_and_length : List (List ℕ) → Option (List ℕ × ℕ)
+path_and_length words = do
+  given ← two_of words
+  number ← long_in given.1
+  Some (given.0, number)
+
+-- `PATH UID GID` (this project)
+abbrev pub path_and_owner : List (List ℕ) → Option (List ℕ × Cred)
+path_and_owner words = do
+  given ← three_of words
+  owner ← cred_in given.1 given.2
+  Some (given.0, owner)
+
+-- `PATH OFFSET HEX` (this project)
+abbrev pub path_and_bytes : List (List ℕ) → Option (List ℕ × ℕ × List ℕ)
+path_and_bytes words = do
+  given ← three_of words
+  offset ← long_in given.1
+  bytes ← bytes_in given.2
+  Some (given.0, offset, bytes)
+
+-- `PATH OFFSET LEN` (this project)
+abbrev pub path_and_range : List (List ℕ) → Option (List ℕ × ℕ × ℕ)
+path_and_range words = do
+  given ← three_of words
+  offset ← long_in given.1
+  number ← long_in given.2
+  Some (given.0, offset, number)
+
+-- what a command asks for with the words after it: `create PATH PERM`, `mkdir PATH PERM`, `link FROM TO`, `unlink PATH`, `rmdir PATH`,
+-- `write PATH OFFSET HEX`, `truncate PATH LENGTH`, `chmod PATH PERM`, `chown PATH UID GID`, `stat PATH`, `read PATH OFFSET LEN`, `list PATH`, `cut` (this project)
+abbrev pub asked_by : Command → Cred → ℕ → List (List ℕ) → Option Step
+asked_by commands.Create cred now words =
+    option_map (λ given. steps.Change (calls.Create cred now given.0 given.1)) (path_and_permissions words)
+asked_by commands.Mkdir cred now words =
+    option_map (λ given. steps.Change (calls.Mkdir cred now given.0 given.1)) (path_and_permissions words)
+asked_by commands.Link cred now words = option_map (λ given. steps.Change (calls.Link cred now given.0 given.1)) (two_of words)
+asked_by commands.Unlink cred now words = option_map (λ path. steps.Change (calls.Unlink cred now path)) (one_of words)
+asked_by commands.Rmdir cred now words = option_map (λ path. steps.Change (calls.Rmdir cred now path)) (one_of words)
+asked_by commands.Write cred now words =
+    option_map (λ given. steps.Change (calls.Write cred now given.0 given.1 given.2)) (path_and_bytes words)
+asked_by commands.Truncate cred now words =
+    option_map (λ given. steps.Change (calls.Truncate cred now given.0 given.1)) (path_and_length words)
+asked_by commands.Chmod cred now words =
+    option_map (λ given. steps.Change (calls.Chmod cred now given.0 given.1)) (path_and_permissions words)
+asked_by commands.Chown cred now words =
+    option_map (λ given. steps.Change (calls.Chown cred now given.0 given.1.uid given.1.gid)) (path_and_owner words)
+asked_by commands.Stat cred now words = option_map (λ path. steps.Question (queries.Stat cred path)) (one_of words)
+asked_by commands.Read cred now words =
+    option_map (λ given. steps.Question (queries.Read cred given.0 given.1 given.2)) (path_and_range words)
+asked_by commands.List cred now words = option_map (λ path. steps.Question (queries.List cred path)) (one_of words)
+asked_by commands.Cut cred now words = option_map (λ nothing. steps.Cut) (none_of words)
+
+-- what the words of a line ask for: `NOW UID GID`, the command and its words (this project)
+abbrev pub step_by : List (List ℕ) → Option Step
+step_by (now ∷ uid ∷ gid ∷ name ∷ words) = do
+  moment ← long_in now
+  cred ← cred_in uid gid
+  command ← command_named name
+  asked_by command cred moment words
+step_by _ = None
+
+-- what a line asks for, whose words stand between its single spaces (this project)
+abbrev pub step_in : List ℕ → Option Step
+step_in line = step_by (slice_split (λ b. b == 32) line)

@@ -1,0 +1,67 @@
+-- What is printed of an answer, a refusal and a reply.
+use Rattle.std.specs.Prelude.{ℕ, ◌+◌, ◌/◌, ◌%◌, ◌++◌, List, [], ◌∷◌, length, codes, decimal}
+use Rattle.hex.specs.Hex.{encode_lower}
+use Rattle.vol_dir.specs.declared.refusal.Refusal.{Refusal}
+use Rattle.vol_dir.specs.declared.refusal.Refusal.TheVariants as refusals
+use Rattle.vol_layout.specs.declared.mode.Kind.{Kind}
+use Rattle.vol_layout.specs.declared.mode.Kind.TheVariants as kinds
+use Rattle.vol_volume.specs.declared.calls.Done.{Done}
+use Rattle.vol_volume.specs.declared.calls.Done.TheVariants as dones
+use Rattle.vol_volume.specs.declared.queries.Reply.{Reply}
+use Rattle.vol_volume.specs.declared.queries.Reply.TheVariants as replies
+use Rattle.vol_volume.specs.declared.queries.Stat.{Stat}
+
+-- what an accepted call answered: the i-number made, the bytes written, or 0 (this project)
+abbrev pub done_text : Done → List ℕ
+done_text (dones.Made number) = codes "ok " ++ decimal number
+done_text (dones.Wrote count) = codes "ok " ++ decimal count
+done_text dones.Plain = codes "ok 0"
+
+-- the number and the name of a refusal (this project)
+abbrev pub refusal_text : Refusal → List ℕ
+refusal_text refusals.NotOwner = codes "1 NotOwner"
+refusal_text refusals.NoEntry = codes "2 NoEntry"
+refusal_text refusals.NoMemory = codes "12 NoMemory"
+refusal_text refusals.Access = codes "13 Access"
+refusal_text refusals.Exists = codes "17 Exists"
+refusal_text refusals.NotDirectory = codes "20 NotDirectory"
+refusal_text refusals.IsDirectory = codes "21 IsDirectory"
+refusal_text refusals.Invalid = codes "22 Invalid"
+refusal_text refusals.TooBig = codes "27 TooBig"
+refusal_text refusals.NoSpace = codes "28 NoSpace"
+refusal_text refusals.TooManyLinks = codes "31 TooManyLinks"
+refusal_text refusals.NotEmpty = codes "101 NotEmpty"
+refusal_text refusals.NotRegular = codes "102 NotRegular"
+refusal_text refusals.NoInode = codes "103 NoInode"
+refusal_text refusals.BadId = codes "104 BadId"
+
+-- the word of a kind of node; what is neither a file nor a directory is special (this project)
+abbrev pub kind_text : Kind → List ℕ
+kind_text kinds.Regular = codes "file"
+kind_text kinds.Directory = codes "dir"
+kind_text _ = codes "special"
+
+-- permissions, as four octal digits (this project)
+abbrev pub permissions_text : ℕ → List ℕ
+permissions_text bits = (48 + bits / 512 % 8) ∷ (48 + bits / 64 % 8) ∷ (48 + bits / 8 % 8) ∷ (48 + bits % 8) ∷ []
+
+-- a node's i-number, its kind and its permissions (this project)
+abbrev pub node_text : Stat → List ℕ
+node_text stat = decimal stat.number ++ codes " " ++ kind_text stat.kind ++ codes " " ++ permissions_text stat.permissions
+
+-- what a node is: its i-number, kind, permissions, links, user, group and size (this project)
+abbrev pub stat_text : Stat → List ℕ
+stat_text stat =
+    codes "stat " ++ node_text stat ++ codes " " ++ decimal stat.links ++ codes " " ++ decimal stat.uid ++ codes " " ++ decimal stat.gid ++ codes " "
+    ++ decimal stat.size
+
+-- bytes as hexadecimal digits, or a hyphen for none (this project)
+abbrev pub bytes_text : List ℕ → List ℕ
+bytes_text [] = codes "-"
+bytes_text (byte ∷ bytes) = encode_lower (byte ∷ bytes)
+
+-- what a query replied (this project)
+abbrev pub reply_text : Reply → List ℕ
+reply_text (replies.Stat stat) = stat_text stat
+reply_text (replies.Bytes bytes) = codes "read " ++ bytes_text bytes
+reply_text (replies.Names names) = codes "list " ++ decimal (length names)

@@ -1,0 +1,138 @@
+//! The words after the command: how many there are, and what they write.
+ghost use Rattle.std.specs.Prelude.{◌≡◌, Some, None, MatchOption, IfOk};
+ghost use Rattle.vol_scripts.specs.Grammar.{one_of, two_of, three_of, none_of, cred_in, path_and_permissions, path_and_length, path_and_owner, path_and_bytes, path_and_range};
+ghost use Rattle.vol_scripts.specs.Reading.{Reads};
+
+use crate::lines::LineFault;
+use crate::numbers::{bytes_in, long_in, permissions_in, short_in};
+use crate::pieces::Pieces;
+use std::alloc::{AllocError, Global};
+use vol_dir::Cred;
+use vol_volume::Bytes;
+
+/// That no word is left.
+pub(crate) fn none_of(mut words: Pieces<'_>) -> Option<()>
+    ensures { result ≡ none_of words.entry }
+{
+    match words.take_next() {
+        None => Some(()),
+        Some(_) => None,
+    }
+}
+
+/// The one word that is left.
+fn one_of<'a>(mut words: Pieces<'a>) -> Option<&'a [u8]>
+    ensures { MatchOption result (one_of words.entry ≡ None) (λ word. one_of words.entry ≡ Some word.now) }
+{
+    let word = words.take_next()?;
+    none_of(words)?;
+    Some(word)
+}
+
+/// The two words that are left.
+fn two_of<'a>(mut words: Pieces<'a>) -> Option<(&'a [u8], &'a [u8])>
+    ensures { MatchOption result (two_of words.entry ≡ None) (λ given. two_of words.entry ≡ Some (given.0.now, given.1.now)) }
+{
+    let first = words.take_next()?;
+    let second = one_of(words)?;
+    Some((first, second))
+}
+
+/// The three words that are left.
+fn three_of<'a>(mut words: Pieces<'a>) -> Option<(&'a [u8], &'a [u8], &'a [u8])>
+    ensures { MatchOption result (three_of words.entry ≡ None)
+        (λ given. three_of words.entry ≡ Some (given.0.now, given.1.now, given.2.now)) }
+{
+    let first = words.take_next()?;
+    let (second, third) = two_of(words)?;
+    Some((first, second, third))
+}
+
+/// The user and the group that two words write.
+pub(crate) fn cred_in(uid: &[u8], gid: &[u8]) -> Option<Cred>
+    ensures { result ≡ cred_in uid.now gid.now }
+{
+    Some(Cred {
+        uid: short_in(uid)?,
+        gid: short_in(gid)?,
+    })
+}
+
+/// `PATH`.
+pub(crate) fn path_alone(alloc: Global, words: Pieces<'_>) -> Result<Bytes, LineFault>
+    ensures { Reads (one_of words.entry) result }
+{
+    let path = one_of(words).ok_or(LineFault::Unreadable)?;
+    Ok(copy(alloc, path)?)
+}
+
+/// `FROM TO`.
+pub(crate) fn two_paths(alloc: Global, words: Pieces<'_>) -> Result<(Bytes, Bytes), LineFault>
+    ensures { Reads (two_of words.entry) result }
+{
+    let (source, target) = two_of(words).ok_or(LineFault::Unreadable)?;
+    Ok((copy(alloc, source)?, copy(alloc, target)?))
+}
+
+/// `PATH PERM`.
+pub(crate) fn path_and_permissions(
+    alloc: Global,
+    words: Pieces<'_>,
+) -> Result<(Bytes, u16), LineFault>
+    ensures { Reads (path_and_permissions words.entry) result }
+{
+    let (path, permissions) = two_of(words).ok_or(LineFault::Unreadable)?;
+    let permissions = permissions_in(permissions).ok_or(LineFault::Unreadable)?;
+    Ok((copy(alloc, path)?, permissions))
+}
+
+/// `PATH LENGTH`.
+pub(crate) fn path_and_length(alloc: Global, words: Pieces<'_>) -> Result<(Bytes, u32), LineFault>
+    ensures { Reads (path_and_length words.entry) result }
+{
+    let (path, length) = two_of(words).ok_or(LineFault::Unreadable)?;
+    let length = long_in(length).ok_or(LineFault::Unreadable)?;
+    Ok((copy(alloc, path)?, length))
+}
+
+/// `PATH UID GID`.
+pub(crate) fn path_and_owner(alloc: Global, words: Pieces<'_>) -> Result<(Bytes, Cred), LineFault>
+    ensures { Reads (path_and_owner words.entry) result }
+{
+    let (path, uid, gid) = three_of(words).ok_or(LineFault::Unreadable)?;
+    let owner = cred_in(uid, gid).ok_or(LineFault::Unreadable)?;
+    Ok((copy(alloc, path)?, owner))
+}
+
+/// `PATH OFFSET HEX`.
+pub(crate) fn path_and_bytes(
+    alloc: Global,
+    words: Pieces<'_>,
+) -> Result<(Bytes, u32, Bytes), LineFault>
+    ensures { Reads (path_and_bytes words.entry) result }
+{
+    let (path, offset, bytes) = three_of(words).ok_or(LineFault::Unreadable)?;
+    let offset = long_in(offset).ok_or(LineFault::Unreadable)?;
+    let bytes = bytes_in(alloc, bytes)?;
+    Ok((copy(alloc, path)?, offset, bytes))
+}
+
+/// `PATH OFFSET LEN`.
+pub(crate) fn path_and_range(
+    alloc: Global,
+    words: Pieces<'_>,
+) -> Result<(Bytes, u32, u32), LineFault>
+    ensures { Reads (path_and_range words.entry) result }
+{
+    let (path, offset, len) = three_of(words).ok_or(LineFault::Unreadable)?;
+    let offset = long_in(offset).ok_or(LineFault::Unreadable)?;
+    let len = long_in(len).ok_or(LineFault::Unreadable)?;
+    Ok((copy(alloc, path)?, offset, len))
+}
+
+/// A copy of a path.
+fn copy(alloc: Global, path: &[u8]) -> Result<Bytes, AllocError>
+    ensures { IfOk result (λ bytes. bytes ≡ path.now) }
+{
+    Ok(Bytes::from_vec(Vec::from_slice(alloc, path)?))
+}

@@ -1,0 +1,71 @@
+//! The words that say what a line asks for.
+ghost use Rattle.std.specs.Prelude.{◌≡◌};
+ghost use Rattle.vol_scripts.specs.Grammar.{command_name, command_named};
+
+/// What a line asks for, as its fourth word names it.
+#[derive(Clone, Copy, Debug, PartialEq, Eq)]
+pub(crate) enum Command {
+    Create,
+    Mkdir,
+    Link,
+    Unlink,
+    Rmdir,
+    Write,
+    Truncate,
+    Chmod,
+    Chown,
+    Stat,
+    Read,
+    List,
+    Cut,
+}
+
+/// All commands.
+static COMMANDS: [Command; 13] = [
+    Command::Create,
+    Command::Mkdir,
+    Command::Link,
+    Command::Unlink,
+    Command::Rmdir,
+    Command::Write,
+    Command::Truncate,
+    Command::Chmod,
+    Command::Chown,
+    Command::Stat,
+    Command::Read,
+    Command::List,
+    Command::Cut,
+];
+
+impl Command {
+    /// The word of the command.
+    fn name(self) -> &'static str
+        ensures { result.now ≡ command_name self }
+    {
+        match self {
+            Command::Create => "create",
+            Command::Mkdir => "mkdir",
+            Command::Link => "link",
+            Command::Unlink => "unlink",
+            Command::Rmdir => "rmdir",
+            Command::Write => "write",
+            Command::Truncate => "truncate",
+            Command::Chmod => "chmod",
+            Command::Chown => "chown",
+            Command::Stat => "stat",
+            Command::Read => "read",
+            Command::List => "list",
+            Command::Cut => "cut",
+        }
+    }
+
+    /// The command of a word.
+    pub(crate) fn named(word: &[u8]) -> Option<Command>
+        ensures { result ≡ command_named word.now }
+    {
+        COMMANDS
+            .iter()
+            .copied()
+            .find(|command| command.name().as_bytes() == word)
+    }
+}

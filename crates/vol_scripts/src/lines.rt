@@ -1,0 +1,236 @@
+//! Reading of one line.
+ghost use Rattle.std.specs.Prelude.{◌≡◌, ◌∷◌, ℕ, None, MatchOption};
+ghost use Rattle.vol_scripts.specs.Grammar.{asked_by, step_by, step_in};
+ghost use Rattle.vol_scripts.specs.Reading.{Reads};
+
+use crate::arguments::{
+    cred_in, none_of, path_alone, path_and_bytes, path_and_length, path_and_owner,
+    path_and_permissions, path_and_range, two_paths,
+};
+use crate::commands::Command;
+use crate::numbers::long_in;
+use crate::pieces::Pieces;
+use crate::steps::Step;
+use std::alloc::{AllocError, Global};
+use vol_dir::Cred;
+use vol_volume::{Call, Query};
+
+/// Why a line wasn't read.
+#[derive(Clone, Copy, Debug, PartialEq, Eq)]
+pub(crate) enum LineFault {
+    /// It is none that a script may have.
+    Unreadable,
+    /// An allocation was refused.
+    NoMemory,
+}
+
+impl From<AllocError> for LineFault {
+    ghost use Rattle.vol_scripts.specs.declared.lines.LineFault.TheVariants as faults;
+
+    ghost from_gives = { λ _ fault. fault ≡ faults.NoMemory };
+
+    fn from(_: AllocError) -> LineFault {
+        LineFault::NoMemory
+    }
+}
+
+/// What a line asks for. Takes memory for paths and for the bytes of a write.
+pub(crate) fn read_line(alloc: Global, line: &[u8]) -> Result<Step, LineFault>
+    ensures { Reads (step_in line.now) result }
+{
+    let mut words = Pieces::of(b' ', line);
+    let (command, cred, now) = head_of(&mut words).ok_or(LineFault::Unreadable)?;
+    asked_by(alloc, command, cred, now, words)
+}
+
+/// The command of a line, its user and group, and its moment.
+fn head_of(words: &mut Pieces<'_>) -> Option<(Command, Cred, u32)>
+    ensures { MatchOption result (step_by words.old ≡ None)
+        (λ head. step_by words.old ≡ asked_by head.0 head.1 head.2 words.new) }
+{
+    let (now, uid, gid, name) = first_four_of(words)?;
+    let now = long_in(now)?;
+    let cred = cred_in(uid, gid)?;
+    let command = Command::named(name)?;
+    Some((command, cred, now))
+}
+
+/// The first four words of a line.
+fn first_four_of<'a>(words: &mut Pieces<'a>) -> Option<(&'a [u8], &'a [u8], &'a [u8], &'a [u8])>
+    ensures { MatchOption result (step_by words.old ≡ None)
+        (λ four. words.old ≡ four.0.now ∷ four.1.now ∷ four.2.now ∷ four.3.now ∷ words.new) }
+{
+    let first = words.take_next()?;
+    let second = words.take_next()?;
+    let third = words.take_next()?;
+    let fourth = words.take_next()?;
+    Some((first, second, third, fourth))
+}
+
+/// What a command asks for with the words after it.
+fn asked_by(
+    alloc: Global,
+    command: Command,
+    cred: Cred,
+    now: u32,
+    words: Pieces<'_>,
+) -> Result<Step, LineFault>
+    ensures { Reads (asked_by command cred now words.entry) result }
+{
+    match command {
+        Command::Create => create(alloc, cred, now, words),
+        Command::Mkdir => mkdir(alloc, cred, now, words),
+        Command::Link => link(alloc, cred, now, words),
+        Command::Unlink => unlink(alloc, cred, now, words),
+        Command::Rmdir => rmdir(alloc, cred, now, words),
+        Command::Write => write(alloc, cred, now, words),
+        Command::Truncate => truncate(alloc, cred, now, words),
+        Command::Chmod => chmod(alloc, cred, now, words),
+        Command::Chown => chown(alloc, cred, now, words),
+        Command::Stat => stat(alloc, cred, words),
+        Command::Read => read(alloc, cred, words),
+        Command::List => list(alloc, cred, words),
+        Command::Cut => {
+            none_of(words).ok_or(LineFault::Unreadable)?;
+            Ok(Step::Cut)
+        }
+    }
+}
+
+/// `create`.
+fn create(alloc: Global, cred: Cred, now: u32, words: Pieces<'_>) -> Result<Step, LineFault>
+    ensures { Reads (asked_by Command.Create cred now words.entry) result }
+{
+    let (path, perm) = path_and_permissions(alloc, words)?;
+    Ok(Step::Change(Call::Create {
+        cred,
+        now,
+        path,
+        perm,
+    }))
+}
+
+/// `mkdir`.
+fn mkdir(alloc: Global, cred: Cred, now: u32, words: Pieces<'_>) -> Result<Step, LineFault>
+    ensures { Reads (asked_by Command.Mkdir cred now words.entry) result }
+{
+    let (path, perm) = path_and_permissions(alloc, words)?;
+    Ok(Step::Change(Call::Mkdir {
+        cred,
+        now,
+        path,
+        perm,
+    }))
+}
+
+/// `link`.
+fn link(alloc: Global, cred: Cred, now: u32, words: Pieces<'_>) -> Result<Step, LineFault>
+    ensures { Reads (asked_by Command.Link cred now words.entry) result }
+{
+    let (source, target) = two_paths(alloc, words)?;
+    Ok(Step::Change(Call::Link {
+        cred,
+        now,
+        source,
+        target,
+    }))
+}
+
+/// `unlink`.
+fn unlink(alloc: Global, cred: Cred, now: u32, words: Pieces<'_>) -> Result<Step, LineFault>
+    ensures { Reads (asked_by Command.Unlink cred now words.entry) result }
+{
+    let path = path_alone(alloc, words)?;
+    Ok(Step::Change(Call::Unlink { cred, now, path }))
+}
+
+/// `rmdir`.
+fn rmdir(alloc: Global, cred: Cred, now: u32, words: Pieces<'_>) -> Result<Step, LineFault>
+    ensures { Reads (asked_by Command.Rmdir cred now words.entry) result }
+{
+    let path = path_alone(alloc, words)?;
+    Ok(Step::Change(Call::Rmdir { cred, now, path }))
+}
+
+/// `write`.
+fn write(alloc: Global, cred: Cred, now: u32, words: Pieces<'_>) -> Result<Step, LineFault>
+    ensures { Reads (asked_by Command.Write cred now words.entry) result }
+{
+    let (path, offset, bytes) = path_and_bytes(alloc, words)?;
+    Ok(Step::Change(Call::Write {
+        cred,
+        now,
+        path,
+        offset,
+        bytes,
+    }))
+}
+
+/// `truncate`.
+fn truncate(alloc: Global, cred: Cred, now: u32, words: Pieces<'_>) -> Result<Step, LineFault>
+    ensures { Reads (asked_by Command.Truncate cred now words.entry) result }
+{
+    let (path, length) = path_and_length(alloc, words)?;
+    Ok(Step::Change(Call::Truncate {
+        cred,
+        now,
+        path,
+        length,
+    }))
+}
+
+/// `chmod`.
+fn chmod(alloc: Global, cred: Cred, now: u32, words: Pieces<'_>) -> Result<Step, LineFault>
+    ensures { Reads (asked_by Command.Chmod cred now words.entry) result }
+{
+    let (path, perm) = path_and_permissions(alloc, words)?;
+    Ok(Step::Change(Call::Chmod {
+        cred,
+        now,
+        path,
+        perm,
+    }))
+}
+
+/// `chown`.
+fn chown(alloc: Global, cred: Cred, now: u32, words: Pieces<'_>) -> Result<Step, LineFault>
+    ensures { Reads (asked_by Command.Chown cred now words.entry) result }
+{
+    let (path, owner) = path_and_owner(alloc, words)?;
+    Ok(Step::Change(Call::Chown {
+        cred,
+        now,
+        path,
+        uid: owner.uid,
+        gid: owner.gid,
+    }))
+}
+
+/// `stat`.
+fn stat(alloc: Global, cred: Cred, words: Pieces<'_>) -> Result<Step, LineFault>
+    ensures { (now : ℕ) → Reads (asked_by Command.Stat cred now words.entry) result }
+{
+    let path = path_alone(alloc, words)?;
+    Ok(Step::Question(Query::Stat { cred, path }))
+}
+
+/// `read`.
+fn read(alloc: Global, cred: Cred, words: Pieces<'_>) -> Result<Step, LineFault>
+    ensures { (now : ℕ) → Reads (asked_by Command.Read cred now words.entry) result }
+{
+    let (path, offset, len) = path_and_range(alloc, words)?;
+    Ok(Step::Question(Query::Read {
+        cred,
+        path,
+        offset,
+        len,
+    }))
+}
+
+/// `list`.
+fn list(alloc: Global, cred: Cred, words: Pieces<'_>) -> Result<Step, LineFault>
+    ensures { (now : ℕ) → Reads (asked_by Command.List cred now words.entry) result }
+{
+    let path = path_alone(alloc, words)?;
+    Ok(Step::Question(Query::List { cred, path }))
+}

@@ -1,0 +1,87 @@
+//! Numbers as they are written in scripts.
+ghost use Rattle.std.specs.Prelude.{◌≡◌, ◌≤◌, ◌+◌, ◌*◌, SomeIff};
+ghost use Rattle.vol_scripts.specs.Numbers.{number_in, long_in, short_in, permissions_in, bytes_in};
+ghost use Rattle.vol_scripts.specs.Reading.{Reads};
+
+use crate::lines::LineFault;
+use hex::FromHexError;
+use std::alloc::Global;
+use vol_volume::Bytes;
+
+/// The greatest permissions, which are all twelve bits.
+const ALL_PERMISSIONS: u16 = 0o7777;
+
+/// The decimal number of 32 bits that a word writes.
+pub(crate) fn long_in(word: &[u8]) -> Option<u32>
+    ensures { result ≡ long_in word.now }
+{
+    number_in(10, u32::MAX, word)
+}
+
+/// The decimal number of 16 bits that a word writes.
+pub(crate) fn short_in(word: &[u8]) -> Option<u16>
+    ensures { result ≡ short_in word.now }
+{
+    short_number_in(10, u16::MAX, word)
+}
+
+/// The permissions that a word writes, an octal number.
+pub(crate) fn permissions_in(word: &[u8]) -> Option<u16>
+    ensures { result ≡ permissions_in word.now }
+{
+    short_number_in(8, ALL_PERMISSIONS, word)
+}
+
+/// The number that a word writes in the radix, where it is at most `most`, which has 16 bits.
+fn short_number_in(radix: u32, most: u16, word: &[u8]) -> Option<u16>
+    requires least { 2 ≤ radix }
+    requires greatest { radix ≤ 36 }
+    ensures { result ≡ number_in radix most word.now }
+{
+    let number = number_in(radix, u32::from(most), word)?;
+    Some(number as u16)
+}
+
+/// The number that a word writes in the radix, where it is at most `most`: one or more digits, of which the
+/// first may be zeros, and no sign. Costs the length of the word.
+fn number_in(radix: u32, most: u32, word: &[u8]) -> Option<u32>
+    requires least { 2 ≤ radix }
+    requires greatest { radix ≤ 36 }
+    ensures { result ≡ number_in radix most word.now }
+{
+    if word.is_empty() {
+        return None;
+    }
+    let mut number = 0;
+    'digits: for byte in word {
+        let digit = char::from(*byte).to_digit(radix)?;
+        number = with_digit(radix, most, number, digit)?;
+    }
+    Some(number)
+}
+
+/// The number with one digit more, where it is at most `most`.
+fn with_digit(radix: u32, most: u32, number: u32, digit: u32) -> Option<u32>
+    ensures { SomeIff result (number * radix + digit ≤ most) (number * radix + digit) }
+{
+    let number = number.checked_mul(radix)?.checked_add(digit)?;
+    (number <= most).then_some(number)
+}
+
+/// The bytes that a word writes, two hexadecimal digits of either case for each, or a hyphen for none. Costs
+/// the length of the word.
+pub(crate) fn bytes_in(alloc: Global, word: &[u8]) -> Result<Bytes, LineFault>
+    ensures { Reads (bytes_in word.now) result }
+{
+    if word == b"-".as_slice() {
+        return Ok(Bytes::from_vec(Vec::new(alloc)));
+    }
+    if word.is_empty() {
+        return Err(LineFault::Unreadable);
+    }
+    match hex::decode(alloc, word) {
+        Ok(bytes) => Ok(Bytes::from_vec(bytes)),
+        Err(FromHexError::OutOfMemory) => Err(LineFault::NoMemory),
+        Err(_) => Err(LineFault::Unreadable),
+    }
+}

@@ -1,0 +1,60 @@
+//! The pieces of some bytes between separators: the lines of a script, and the words of a line.
+ghost use Rattle.std.specs.Prelude.{◌≡◌, ◌∷◌, ◌==◌, ◌↔◌, [], IsTrue, MatchOption, position};
+ghost use Rattle.std.specs.List.{slice_split};
+
+use std::marker::Model;
+
+/// The pieces that are left of some bytes, which separators cut. A caller sees the list of them.
+#[derive(Drop)]
+pub(crate) struct Pieces<'a> {
+    separator: u8,
+    rest: Option<&'a [u8]>,
+}
+
+impl<'a> Model for Pieces<'a> {
+    ghost use Rattle.std.specs.Prelude.{List, ℕ};
+    ghost use Rattle.vol_scripts.specs.Pieces.{pieces_left};
+
+    ghost Value = { List (List ℕ) };
+
+    ghost view = { λ pieces. pieces_left pieces.separator pieces.rest };
+}
+
+impl<'a> Pieces<'a> {
+    /// All pieces of some bytes.
+    pub(crate) fn of(separator: u8, bytes: &'a [u8]) -> Pieces<'a>
+        ensures { result ≡ slice_split (λ b. b == separator) bytes.now }
+    {
+        Pieces {
+            separator,
+            rest: Some(bytes),
+        }
+    }
+
+    /// Whether no piece is left.
+    pub(crate) fn is_empty(&self) -> bool
+        ensures { IsTrue result ↔ (self.now ≡ []) }
+    {
+        self.rest.is_none()
+    }
+
+    /// The next piece, which is left no longer. Costs its length.
+    pub(crate) fn take_next(&mut self) -> Option<&'a [u8]>
+        ensures { MatchOption result ((self.old ≡ []) × (self.new ≡ [])) (λ piece. self.old ≡ piece.now ∷ self.new) }
+    {
+        let rest = self.rest?;
+        let Some(end) = first_of(self.separator, rest) else {
+            self.rest = None;
+            return Some(rest);
+        };
+        self.rest = Some(&rest[end + 1..]);
+        Some(&rest[..end])
+    }
+}
+
+/// Where the first separator stands.
+fn first_of(separator: u8, bytes: &[u8]) -> Option<usize>
+    ensures { result ≡ position (λ b. b == separator) bytes.now }
+{
+    bytes.iter().position(|byte| *byte == separator)
+}

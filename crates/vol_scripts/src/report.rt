@@ -1,0 +1,83 @@
+//! What `play` prints.
+ghost use Rattle.std.specs.Prelude.{◌≡◌, ◌++◌, IfOk, OnOk};
+ghost use Rattle.std.specs.String.{string_bytes};
+ghost use Rattle.vol_scripts.specs.Report.{lines_text, line_text, outcome_text, played_text, totals_text};
+
+use crate::played::Played;
+use crate::texts::{done_text, refusal_text, reply_text};
+use std::alloc::{AllocError, Global};
+use std::fmt::Write;
+use vol_dir::Refusal;
+use vol_receipts::Outcome;
+
+/// What came of a step.
+fn played_text(alloc: Global, played: &Played) -> Result<String, AllocError>
+    ensures { IfOk result (λ text. string_bytes text ≡ played_text played.now) }
+{
+    match played {
+        Played::Told(receipt) => outcome_text(alloc, &receipt.outcome),
+        Played::Cut(first) => format!(in alloc; "cut {first}"),
+        Played::NoMemory => String::from_str(alloc, refusal_text(Refusal::NoMemory)),
+    }
+}
+
+/// What came of a call or a query.
+fn outcome_text(alloc: Global, outcome: &Outcome) -> Result<String, AllocError>
+    ensures { IfOk result (λ text. string_bytes text ≡ outcome_text outcome.now) }
+{
+    match outcome {
+        Outcome::Accepted(done) => done_text(alloc, *done),
+        Outcome::Refused(refusal) => String::from_str(alloc, refusal_text(*refusal)),
+        Outcome::Answered(reply) => reply_text(alloc, reply),
+    }
+}
+
+/// Appends the lines of a script's steps; `script` is its number, from 1. Takes memory for the text, and for
+/// what came of one step at a time.
+pub(crate) fn push_lines(
+    alloc: Global,
+    text: &mut String,
+    script: u64,
+    played: &[Played],
+) -> Result<(), AllocError>
+    ensures { OnOk result (string_bytes text.new ≡ string_bytes text.old ++ lines_text script 1 played.now) }
+{
+    let mut line = 1;
+    'steps: for came in played {
+        push_line(alloc, text, script, line, came)?;
+        line += 1;
+    }
+    Ok(())
+}
+
+/// Appends the line of a step.
+fn push_line(
+    alloc: Global,
+    text: &mut String,
+    script: u64,
+    line: u64,
+    played: &Played,
+) -> Result<(), AllocError>
+    ensures { OnOk result (string_bytes text.new ≡ string_bytes text.old ++ line_text script line played.now) }
+{
+    let came = played_text(alloc, played)?;
+    let came = came.as_str();
+    writeln!(text, "{script}.{line} {came}").map_err(|_| AllocError)
+}
+
+/// Appends the last lines: how many records the journal has, how many receipts were confirmed, and, where a
+/// script cuts the journal, how many speak of what was cut.
+pub(crate) fn push_totals(
+    text: &mut String,
+    records: u64,
+    confirmed: u64,
+    gone: Option<u64>,
+) -> Result<(), AllocError>
+    ensures { OnOk result (string_bytes text.new ≡ string_bytes text.old ++ totals_text records confirmed gone) }
+{
+    write!(text, "records {records}\nconfirmed {confirmed}\n").map_err(|_| AllocError)?;
+    match gone {
+        Some(gone) => writeln!(text, "gone {gone}").map_err(|_| AllocError),
+        None => Ok(()),
+    }
+}

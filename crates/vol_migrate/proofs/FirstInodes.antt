@@ -1,0 +1,85 @@
+-- Putting the i-nodes of a volume into an i-list of zeros.
+use Rattle.std.proofs.Common.{◌≡◌, ◌≢◌, ◌∙◌, sym, ap, subst, ℕ, ◌+◌, ◌*◌, ◌<◌, ◌≤◌, List, get_or, inl, inr, arith}
+use Rattle.std.proofs.lemmas.Bool.{cases_eq}
+use Rattle.pdp_words.specs.Words.{SameOutside}
+use Rattle.vol_layout.specs.Edition.{constants}
+use Rattle.vol_layout.specs.Geometry.{Fits}
+use Rattle.vol_layout.specs.Inode.{inode_of, inode_place, raised_inode}
+use Rattle.vol_layout.specs.declared.geometry.Geometry.{Geometry}
+use Rattle.vol_layout.specs.declared.mode.Kind.TheVariants as kinds
+use Rattle.vol_layout.proofs.InodeLaws.{KeepsInode, inode_apart, inode_of_kept, place_from, place_room}
+use Rattle.vol_file.specs.Rules.{kind_at}
+use Rattle.vol_migrate.specs.Stages.{IsUsed, HasInodesBelow}
+
+-- no i-node is put into an i-list of zeros yet
+pub inodes_none : (from to : Geometry) (old image : List ℕ) (now : ℕ) → Fits to image
+    → ((k : ℕ) → 1024 ≤ k → k < 512 * to.zone_start → get_or image k 0 ≡ 0) → HasInodesBelow from to old now image 1
+inodes_none from to old image now fits zeros = record {
+  done = λ j low used. let first = used.first in absurd (omega (arith, low, first));
+  rest = λ k r first last free low.
+      let from_list = place_from to.edition k in
+      let room = place_room to image k fits first last in
+      zeros (inode_place to.edition k + r) (omega (arith, from_list)) (omega (arith, room, low));
+}
+
+-- a free i-node is passed
+pub inodes_pass : (from to : Geometry) (old image : List ℕ) (now i : ℕ) → kind_at from old i ≡ kinds.Free → HasInodesBelow from to old now image i
+    → HasInodesBelow from to old now image (i + 1)
+inodes_pass from to old image now i free has = record {
+  done = λ j low used.
+      elim (cases_eq j i) [
+        | inl is ↦ absurd (used.some (ap (kind_at from old) is ∙ free))
+        | inr other ↦ has.done j (omega (arith, low, other)) used
+      ];
+  rest = λ k r first last which low.
+      elim which [
+        | inl later ↦ has.rest k r first last (inl (omega (arith, later))) low
+        | inr vacant ↦ has.rest k r first last (inr vacant) low
+      ];
+}
+
+-- one i-node more is put
+pub inodes_more : (from to : Geometry) (old image new : List ℕ) (now i : ℕ) → IsUsed from old i
+    → SameOutside image new (inode_place to.edition (i + 1)) (inode_place to.edition (i + 1) + (constants to.edition).inode_bytes)
+    → inode_of to.edition new (i + 1) ≡ raised_inode (inode_of from.edition old i) now
+    → HasInodesBelow from to old now image i → HasInodesBelow from to old now new (i + 1)
+inodes_more from to old image new now i used same put has = record {
+  done = λ j low other.
+      elim (cases_eq j i) [
+        | inl is ↦
+            let P : ℕ → Type 0 = λ k. inode_of to.edition new (k + 1) ≡ raised_inode (inode_of from.edition old k) now in subst P (sym is) put
+        | inr apart ↦
+            let kept : KeepsInode to image new (j + 1) = inode_apart to image new (i + 1) (j + 1) (omega arith) (omega arith) (λ e. apart (omega (arith, e))) same in
+            inode_of_kept to image new (j + 1) kept ∙ has.done j (omega (arith, low, apart)) other
+      ];
+  rest = λ k r first last which low.
+      let apart : k ≢ i + 1 = λ e. elim which [ inl later ↦ omega (arith, later, e) | inr vacant ↦ vacant i e used ] in
+      let kept : KeepsInode to image new k = inode_apart to image new (i + 1) k (omega arith) first apart same in
+      kept.bytes r low
+      ∙ elim which [
+        | inl later ↦ has.rest k r first last (inl (omega (arith, later))) low
+        | inr vacant ↦ has.rest k r first last (inr vacant) low
+      ];
+}
+
+-- a write of one i-node is one of the i-list's bytes
+pub list_write : (to : Geometry) (first image new : List ℕ) (k : ℕ) → Fits to image → 1 ≤ k → k ≤ to.last_inode
+    → SameOutside first image 1024 (512 * to.zone_start)
+    → SameOutside image new (inode_place to.edition k) (inode_place to.edition k + (constants to.edition).inode_bytes)
+    → SameOutside first new 1024 (512 * to.zone_start)
+list_write to first image new k fits low high before same =
+    let begins = place_from to.edition k in
+    let room = place_room to image k fits low high in
+    record {
+      len = same.len ∙ before.len;
+      below = λ x h. same.below x (omega (arith, h, begins)) ∙ before.below x h;
+      above = λ x h. same.above x (omega (arith, h, room)) ∙ before.above x h;
+    }
+
+-- two writes within the same bytes
+pub same_then : {first image new : List ℕ} {from to : ℕ} → SameOutside first image from to → SameOutside image new from to → SameOutside first new from to
+same_then before after = record {
+  len = after.len ∙ before.len;
+  below = λ k h. after.below k h ∙ before.below k h;
+  above = λ k h. after.above k h ∙ before.above k h;
+}

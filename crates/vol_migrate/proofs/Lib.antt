@@ -1,0 +1,16 @@
+pub mod RaisedGraphs
+pub mod RaisedNames
+pub mod CarriedBlocks
+pub mod NewPlaces
+pub mod FileShapes
+pub mod Refused
+pub mod RaisedSlots
+pub mod StageSteps
+pub mod StageLaws
+pub mod CopiedTexts
+pub mod FirstInodes
+pub mod FirstStages
+pub mod LastStages
+pub mod LastReadings
+pub mod LastRules
+pub mod Migrated

@@ -1,0 +1,161 @@
+-- What the tree says against migrating a volume, its i-nodes say.
+use Rattle.std.proofs.Common.{◌≡◌, ◌≢◌, ◌∙◌, sym, ap, refl, ℕ, zero, suc, ◌+◌, ◌-◌, ◌<◌, ◌≤◌, ltb, Bool, true, false, List, inl, inr, arith}
+use Rattle.std.specs.Prelude.{◌||◌, ◌&&◌}
+use Rattle.std.specs.List.{list_any, range_with_len}
+use Rattle.std.specs.Option.{option_map, option_map_or}
+use Rattle.std.proofs.lemmas.Bool.{cases_Bool, cases_lt, lt-ltb, le-ltb, true≢false}
+use Rattle.std.proofs.Math.Bool.{or-false, or_assoc}
+use Rattle.vol_layout.specs.Inode.{inode_of}
+use Rattle.vol_layout.specs.declared.geometry.Geometry.{Geometry}
+use Rattle.vol_layout.specs.declared.mode.Kind.{Kind}
+use Rattle.vol_layout.specs.declared.mode.Kind.TheVariants as kinds
+use Rattle.vol_file.specs.Rules.{kind_at}
+use Rattle.vol_file.proofs.Lasts.{or_true}
+use Rattle.vol_dir.specs.Tree.{Node, Tree, tree, node_of, node_with, content_of}
+use Rattle.vol_change.proofs.FileInodes.{none_passes}
+use Rattle.vol_dir.proofs.WalkLaws.{node_inside}
+use Rattle.vol_volume.specs.Verdict.{is_device}
+use Rattle.vol_migrate.specs.Refusing.{has_device, has_above, is_device_at, is_node_at, is_above_at}
+use Rattle.vol_migrate.specs.Stages.{IsUsed}
+
+-- a range of one number more
+range_more : (a n : ℕ) (f : ℕ → Bool) → list_any f (range_with_len a (suc n)) ≡ (list_any f (range_with_len a n) || f (a + n))
+range_more a zero f = or-false (f a) ∙ ap f (let e : a ≡ a + 0 = omega arith in e)
+range_more a (suc n) f =
+    ap (λ t. f a || t) (range_more (a + 1) n f ∙ ap (λ x. list_any f (range_with_len (a + 1) n) || f x) (let e : a + 1 + n ≡ a + suc n = omega arith in e))
+    ∙ sym (or_assoc (f a) (list_any f (range_with_len (a + 1) n)) (f (a + suc n)))
+
+-- a test that no number up to i passes
+pub none_more : (f : ℕ → Bool) (i : ℕ) → 1 ≤ i → list_any f (range_with_len 1 (i - 1)) ≡ false → f i ≡ false
+    → list_any f (range_with_len 1 (i + 1 - 1)) ≡ false
+none_more f i first none off =
+    let count : i + 1 - 1 ≡ suc (i - 1) = omega (arith, first) in
+    let at : 1 + (i - 1) ≡ i = omega (arith, first) in
+    ap (λ n. list_any f (range_with_len 1 n)) count
+    ∙ (range_more 1 (i - 1) f ∙ (ap (λ t. t || f (1 + (i - 1))) none ∙ (ap f at ∙ off)))
+
+-- a number of a range that passes is found
+any_at : (f : ℕ → Bool) (a n d : ℕ) → d < n → f (a + d) ≡ true → list_any f (range_with_len a n) ≡ true
+any_at f a zero d low on = absurd (omega (arith, low))
+any_at f a (suc n) zero low on = ap (λ t. t || list_any f (range_with_len (a + 1) n)) (ap f (let e : a ≡ a + 0 = omega arith in e) ∙ on)
+any_at f a (suc n) (suc d) low on =
+    ap (λ t. f a || t) (any_at f (a + 1) n d (omega (arith, low)) (ap f (let e : a + 1 + d ≡ a + suc d = omega arith in e) ∙ on)) ∙ or_true (f a)
+
+-- the same of the numbers from 1 on
+pub any_from : (f : ℕ → Bool) (last i : ℕ) → 1 ≤ i → i ≤ last → f i ≡ true → list_any f (range_with_len 1 last) ≡ true
+any_from f last i first within on =
+    any_at f 1 last (i - 1) (omega (arith, first, within)) (ap f (let e : 1 + (i - 1) ≡ i = omega (arith, first) in e) ∙ on)
+
+-- where none is found, none passes
+pub none_from : (f : ℕ → Bool) (last i : ℕ) → list_any f (range_with_len 1 last) ≡ false → 1 ≤ i → i ≤ last → f i ≡ false
+none_from f last i none first within =
+    elim (cases_Bool (f i)) [
+      | inl on ↦ absurd (true≢false (sym (any_from f last i first within on) ∙ none))
+      | inr off ↦ off
+    ]
+
+-- whether a kind is that of special files
+abbrev pub is_special : Kind → Bool
+is_special kinds.Special = true
+is_special kinds.Free = false
+is_special kinds.Regular = false
+is_special kinds.Directory = false
+is_special kinds.Odd = false
+
+-- whether a kind has a node in the tree
+abbrev pub is_node : Kind → Bool
+is_node kinds.Free = false
+is_node kinds.Odd = false
+is_node kinds.Special = true
+is_node kinds.Regular = true
+is_node kinds.Directory = true
+
+-- the node of each kind
+device_by : (geometry : Geometry) (image : List ℕ) (i : ℕ) (kind : Kind)
+    → option_map_or (λ (node : Node). is_device node.content) (option_map (node_with (inode_of geometry.edition image i)) (content_of geometry image i kind)) false
+    ≡ is_special kind
+device_by geometry image i kinds.Free = refl
+device_by geometry image i kinds.Regular = refl
+device_by geometry image i kinds.Directory = refl
+device_by geometry image i kinds.Special = refl
+device_by geometry image i kinds.Odd = refl
+
+node_by : (geometry : Geometry) (image : List ℕ) (i : ℕ) (kind : Kind)
+    → option_map_or (λ (node : Node). true) (option_map (node_with (inode_of geometry.edition image i)) (content_of geometry image i kind)) false ≡ is_node kind
+node_by geometry image i kinds.Free = refl
+node_by geometry image i kinds.Regular = refl
+node_by geometry image i kinds.Directory = refl
+node_by geometry image i kinds.Special = refl
+node_by geometry image i kinds.Odd = refl
+
+-- whether a node of the tree is a special file
+pub device_here : (geometry : Geometry) (image : List ℕ) (i : ℕ) → 1 ≤ i → i ≤ geometry.last_inode
+    → option_map_or (λ (node : Node). is_device node.content) ((tree geometry image).nodes i) false ≡ is_special (kind_at geometry image i)
+unfolding node_of
+device_here geometry image i first last =
+    ap (λ o. option_map_or (λ (node : Node). is_device node.content) o false) (node_inside geometry image i first last)
+    ∙ device_by geometry image i (kind_at geometry image i)
+
+-- whether there is a node
+pub node_here : (geometry : Geometry) (image : List ℕ) (i : ℕ) → 1 ≤ i → i ≤ geometry.last_inode
+    → option_map_or (λ (node : Node). true) ((tree geometry image).nodes i) false ≡ is_node (kind_at geometry image i)
+unfolding node_of
+node_here geometry image i first last =
+    ap (λ o. option_map_or (λ (node : Node). true) o false) (node_inside geometry image i first last) ∙ node_by geometry image i (kind_at geometry image i)
+
+-- a kind that is none of special files
+pub not_special : (kind : Kind) → kind ≢ kinds.Special → is_special kind ≡ false
+not_special kinds.Free other = refl
+not_special kinds.Regular other = refl
+not_special kinds.Directory other = refl
+not_special kinds.Odd other = refl
+not_special kinds.Special other = absurd (other refl)
+
+-- a kind that is one
+pub special_not : (kind : Kind) → is_special kind ≡ false → kind ≢ kinds.Special
+special_not kind none is = true≢false (sym (ap is_special is) ∙ none)
+
+-- a kind that is used and known has a node
+pub used_node : (kind : Kind) → kind ≢ kinds.Free → kind ≢ kinds.Odd → is_node kind ≡ true
+used_node kinds.Free some known = absurd (some refl)
+used_node kinds.Odd some known = absurd (known refl)
+used_node kinds.Regular some known = refl
+used_node kinds.Directory some known = refl
+used_node kinds.Special some known = refl
+
+-- a node with such an i-number
+pub above_is : (tree : Tree) (last i : ℕ) → last ≤ i → is_node_at tree i ≡ true → is_above_at tree last i ≡ true
+above_is tree last i above node = ap (λ t. t && is_node_at tree i) (lt-ltb last (i + 1) (omega (arith, above))) ∙ node
+
+-- a low i-number
+pub above_low : (tree : Tree) (last i : ℕ) → i < last → is_above_at tree last i ≡ false
+above_low tree last i low = ap (λ t. t && is_node_at tree i) (le-ltb last (i + 1) (omega (arith, low)))
+
+-- no node
+pub above_none : (tree : Tree) (last i : ℕ) → is_node_at tree i ≡ false → is_above_at tree last i ≡ false
+above_none tree last i none = ap (λ t. ltb last (i + 1) && t) none ∙ none_passes (ltb last (i + 1))
+
+-- a volume without a special file has none
+pub plain_all : (geometry : Geometry) (image : List ℕ) (i : ℕ) → has_device (tree geometry image) ≡ false → 1 ≤ i → i ≤ geometry.last_inode
+    → kind_at geometry image i ≢ kinds.Special
+unfolding tree
+plain_all geometry image i none first last =
+    special_not (kind_at geometry image i)
+    (sym (device_here geometry image i first last)
+    ∙ none_from (is_device_at (tree geometry image)) geometry.last_inode i none first last)
+
+-- each node of a volume that has room in an i-list has it
+pub number_all : (geometry : Geometry) (image : List ℕ) (last i : ℕ) → has_above (tree geometry image) last ≡ false → IsUsed geometry image i
+    → kind_at geometry image i ≢ kinds.Odd → i + 1 ≤ last
+unfolding tree
+number_all geometry image last i none used known =
+    elim (cases_lt last (i + 1)) [
+      | inl above ↦
+          let off = none_from (is_above_at (tree geometry image) last)
+          geometry.last_inode i none used.first used.last in
+          let on : is_above_at (tree geometry image) last i ≡ true =
+          above_is (tree geometry image) last i (omega (arith, above))
+          (node_here geometry image i used.first used.last ∙ used_node (kind_at geometry image i) used.some known) in
+          absurd (true≢false (sym on ∙ off))
+      | inr within ↦ within
+    ]

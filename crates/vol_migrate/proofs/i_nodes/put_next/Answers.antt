@@ -1,0 +1,46 @@
+-- The i-node is put where it is used.
+use Rattle.std.proofs.Common.{◌∙◌, ap, refl, ◌+◌, arith}
+use Rattle.vol_layout.specs.Inode.{inode_place, raised_inode}
+use Rattle.vol_layout.specs.declared.i_node.Inode.{Inode}
+use Rattle.vol_layout.proofs.InodeLaws.{inode_mode}
+use Rattle.vol_migrate.specs.Stages.{IsUsed}
+use Rattle.vol_migrate.proofs.FirstInodes.{inodes_more, inodes_pass, list_write}
+use Rattle.vol_migrate.proofs.StageLaws.{old_rules}
+use Rattle.vol_migrate.proofs.StageSteps.{used_allocated}
+use Rattle.vol_migrate.proofs.i_nodes.put_next.Goals as goal
+
+pub raised-node-requires : goal.raised-node-requires
+raised-node-requires c =
+    let used : IsUsed c.args.from.now c.args.old.now c.args.i =
+    record { first = c.requires.first; last = c.requires.last; some = c.is_used.ensures.used c.if-is_used.true } in
+    let high = used_allocated c.args.from.now c.args.old.now c.args.i c.requires.may.sixth
+    (old_rules c.args.old.now c.args.from.now c.args.to.now c.requires.may).sound.kinds used in
+    let mode = ap (λ (node : Inode). node.mode.bits) c.inode.ensures.value
+    ∙ inode_mode c.args.from.now.edition c.args.old.now (inode_place c.args.from.now.edition c.args.i) in
+    record { allocated = omega (arith, high, mode) }
+
+pub returns-then-is_used-clause-put : goal.returns-then-is_used-clause-put
+returns-then-is_used-clause-put c = λ has.
+    let from = c.args.from.now in
+    let to = c.args.to.now in
+    let old = c.args.old.now in
+    let i = c.args.i in
+    let used : IsUsed from old i =
+    record { first = c.requires.first; last = c.requires.last; some = c.is_used.ensures.used c.if-is_used.true } in
+    let node = c.raised-node.ensures.value ∙ ap (λ (n : Inode). raised_inode n c.args.now) c.inode.ensures.value in
+    inodes_more from to old c.args.image.now c.put_inode.new.image c.args.now i used c.put_inode.ensures.others (c.put_inode.ensures.put ∙ node) has
+
+pub returns-then-is_used-clause-others : goal.returns-then-is_used-clause-others
+returns-then-is_used-clause-others c =
+    let to = c.args.to.now in
+    let used : IsUsed c.args.from.now c.args.old.now c.args.i =
+    record { first = c.requires.first; last = c.requires.last; some = c.is_used.ensures.used c.if-is_used.true } in
+    list_write to c.args.image.now c.args.image.now c.put_inode.new.image (c.args.i + 1) c.requires.fits (omega arith) (c.requires.may.numbers c.args.i used)
+    (record { len = refl; below = λ k h. refl; above = λ k h. refl }) c.put_inode.ensures.others
+
+pub returns-else-is_used-clause-put : goal.returns-else-is_used-clause-put
+returns-else-is_used-clause-put c = λ has.
+    inodes_pass c.args.from.now c.args.to.now c.args.old.now c.args.image.now c.args.now c.args.i (c.is_used.ensures.free c.if-is_used.false) has
+
+pub returns-else-is_used-clause-others : goal.returns-else-is_used-clause-others
+returns-else-is_used-clause-others c = record { len = refl; below = λ k h. refl; above = λ k h. refl }

@@ -1,0 +1,5 @@
+pub mod Faults
+pub mod Raised
+pub mod Refusing
+pub mod Migrating
+pub mod Stages

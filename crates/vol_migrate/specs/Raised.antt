@@ -1,0 +1,66 @@
+-- What a volume of the sixth edition becomes in the seventh.
+use Rattle.std.specs.Prelude.{ℕ, ◌+◌, ◌-◌, ◌==◌, if◌then◌else◌, Bool, false, List, map, replicate, Option, Some}
+use Rattle.std.specs.List.{filter, range_with_len}
+use Rattle.std.specs.Option.{option_map, option_map_or}
+use Rattle.vol_layout.specs.Places.{last_place}
+use Rattle.vol_layout.specs.Slot.{name_of, padded_name}
+use Rattle.vol_layout.specs.declared.edition.Edition.TheVariants.{V6, V7}
+use Rattle.vol_layout.specs.declared.places.Form.TheVariants.{Deep}
+use Rattle.vol_layout.specs.declared.slot.Slot.{Slot}
+use Rattle.vol_file.specs.Changes.{whole_blocks}
+use Rattle.vol_file.specs.Shape.{is_on_ways}
+use Rattle.vol_dir.specs.Names.{Names}
+use Rattle.vol_dir.specs.Tree.{Body, Directory, Device, Content, Node, Shape, State, form_in}
+use Rattle.vol_volume.specs.Mkfs.{volume_of}
+
+-- the map of a directory, with each i-number one higher: the seventh edition keeps i-number 1 for bad blocks (this project)
+abbrev pub raised_names : Names → Names
+raised_names names = map (λ (entry : List ℕ × ℕ). (entry.0, entry.1 + 1)) names
+
+-- what a node holds: bytes stay, and so does a special file, of which a volume that is migrated has none (this project)
+abbrev pub raised_content : Content → Content
+raised_content (Body bytes) = Body bytes
+raised_content (Directory names) = Directory (raised_names names)
+raised_content (Device type addresses) = Device type addresses
+
+-- a node: its i-node was last changed now, and all else stays (this project)
+abbrev pub raised_node : ℕ → Node → Node
+raised_node now node = record node { content = raised_content node.content; changed = Some now }
+
+-- the size of a node, if there is one (manual section 5, file system)
+abbrev pub size_in : Option Node → ℕ
+size_in node = option_map_or (λ (some : Node). some.size) node 0
+
+-- whether a file of some shape names a block for logical block b in the sixth edition (Lions on bmap)
+abbrev pub names_block : Shape → ℕ → Bool
+names_block shape b = option_map_or shape.names (last_place (form_in V6 shape.large) b) false
+
+-- the first n logical blocks of a file, without its holes (Lions on bmap)
+abbrev pub stored_blocks : Shape → ℕ → List ℕ
+stored_blocks shape n = filter (names_block shape) (range_with_len 0 n)
+
+-- the shape of a file: the places on the ways of those logical blocks within its size that named something name something in the
+-- seventh edition, and no others; the slots keep their names (this project)
+abbrev pub raised_shape : ℕ → Shape → Shape
+raised_shape size shape = record {
+  names = is_on_ways Deep (stored_blocks shape (whole_blocks size));
+  large = false;
+  slots = shape.slots;
+}
+
+-- a tree with its shapes: each node has the next i-number, and i-number 1 is free (this project)
+abbrev pub raised : State → ℕ → ℕ → ℕ → State
+raised state blocks list_blocks now = record {
+  tree = record {
+    geometry = volume_of V7 blocks list_blocks;
+    time = now;
+    nodes = λ i. option_map (raised_node now) (state.tree.nodes (i - 1));
+  };
+  shapes = λ i. raised_shape (size_in (state.tree.nodes (i - 1))) (state.shapes (i - 1));
+}
+
+-- a slot: an empty one has no name, and in any other the i-number is one higher and nothing stands behind the name (this project)
+abbrev pub raised_slot : Slot → Slot
+raised_slot slot =
+    if slot.inode == 0 then record { inode = 0; name = replicate 14 0 }
+    else record { inode = slot.inode + 1; name = padded_name (name_of slot.name) }

@@ -1,0 +1,85 @@
+//! A volume of the seventh edition whose i-nodes are those of one of the sixth, before any has a block.
+ghost use Rattle.std.specs.Prelude.{◌≡◌, ◌≢◌, ℕ, ◌+◌, ◌*◌, ◌<◌, ◌≤◌, true, false, IfOk, length, replicate, slice_index};
+ghost use Rattle.pdp_words.specs.Words.{SameOutside};
+ghost use Rattle.vol_layout.specs.Geometry.{Fits};
+ghost use Rattle.vol_free.specs.Stack.{IsFree};
+ghost use Rattle.vol_free.specs.Rebuilding.{KeepsUsed, unused};
+ghost use Rattle.vol_file.specs.Rules.{kind_at};
+ghost use Rattle.vol_volume.specs.Mkfs.{IsMakeable};
+ghost use Rattle.vol_migrate.specs.Stages.{HasInodes, HasInodesBelow, HasSuper, MayMigrate};
+
+use pdp_words::Image;
+use std::alloc::{AllocError, Global};
+use vol_free::rebuild;
+use vol_layout::i_list::kind;
+use vol_layout::{Edition, Geometry, Kind, Super, inode, put_inode};
+
+/// Puts the sizes of a volume of the seventh edition and its time in the super-block.
+pub(crate) fn put_super(image: &mut Image, to: &Geometry, now: u32)
+    requires seventh { to.now.edition ≡ Edition.V7 }
+    requires makeable { IsMakeable to.now }
+    requires len { length image.old ≡ 512 * to.now.zone_end }
+    ensures put { HasSuper to.now now image.new }
+    ensures others { SameOutside image.old image.new 512 1024 }
+{
+    let super_block = Super {
+        edition: Edition::V7,
+    };
+    super_block.put_list_size(image, to.zone_start as u16);
+    super_block.put_block_count(image, to.zone_end);
+    super_block.put_time(image, now);
+}
+
+/// Puts each i-node that isn't free into an i-list of zeros, with the next i-number.
+pub(crate) fn put_inodes(image: &mut Image, to: &Geometry, old: &Image, from: &Geometry, now: u32)
+    requires may { MayMigrate old.now from.now to.now }
+    requires fits { Fits to.now image.old }
+    requires zeros { (k : ℕ) → 1024 ≤ k → k < 512 * to.now.zone_start → slice_index image.old k ≡ 0 }
+    ensures put { HasInodes from.now to.now old.now now image.new }
+    ensures others { SameOutside image.old image.new 1024 (512 * to.now.zone_start) }
+{
+    for i in 1..=from.last_inode {
+        put_next(image, to, old, from, i, now);
+    }
+}
+
+/// Puts i-node `i`, if it isn't free, with the next i-number.
+fn put_next(image: &mut Image, to: &Geometry, old: &Image, from: &Geometry, i: u16, now: u32)
+    requires may { MayMigrate old.now from.now to.now }
+    requires fits { Fits to.now image.old }
+    requires first { 1 ≤ i }
+    requires last { i ≤ from.now.last_inode }
+    ensures put { HasInodesBelow from.now to.now old.now now image.old i → HasInodesBelow from.now to.now old.now now image.new (i + 1) }
+    ensures others { SameOutside image.old image.new 1024 (512 * to.now.zone_start) }
+{
+    if is_used(old, from, i) {
+        let node = inode(old, from, i).raised(now);
+        put_inode(image, to, i + 1, &node);
+    }
+}
+
+/// Whether i-node `i` isn't free.
+fn is_used(image: &Image, geometry: &Geometry, i: u16) -> bool
+    requires fits { Fits geometry.now image.now }
+    requires first { 1 ≤ i }
+    requires last { i ≤ geometry.now.last_inode }
+    ensures used { result ≡ true → kind_at geometry.now image.now i ≢ Kind.Free }
+    ensures free { result ≡ false → kind_at geometry.now image.now i ≡ Kind.Free }
+{
+    match kind(image, geometry, i) {
+        Kind::Free => false,
+        _ => true,
+    }
+}
+
+/// Puts all data blocks in the free list.
+pub(crate) fn free_all(image: &mut Image, to: &Geometry, alloc: Global) -> Result<(), AllocError>
+    requires { Fits to.now image.old }
+    ensures free { IfOk result (λ done. IsFree to.now image.new (unused to.now (replicate to.now.zone_end false))) }
+    ensures others { IfOk result (λ done. KeepsUsed to.now (replicate to.now.zone_end false) image.old image.new) }
+    ensures fits { IfOk result (λ done. Fits to.now image.new) }
+{
+    let used = vec![in alloc; false; to.zone_end as usize]?;
+    rebuild(image, to, &used);
+    Ok(())
+}

@@ -694,6 +694,84 @@ prints none salvage 6 leads
 has 'a link to a volume that was salvaged' damaged "$(readlink leads)"
 saves 'what a link leads to, salvaged' damaged made
 
+# What `icheck` finds, whatever the number of threads.
+# finds STATUS COMMAND IMAGE LINE..: the checker prints these lines, with 1, 2, 7 and 64 threads, and ends with this status
+finds() {
+    local status=$1 command=$2 volume=$3 workers
+    shift 3
+    if [ $# = 0 ]; then : > lines; else printf '%s\n' "$@" > lines; fi
+    for workers in 1 2 7 64; do
+        runs "$command" "$edition" "$volume" "$workers"
+        wants "$command of $volume by $workers threads" "$status" lines none
+    done
+}
+
+# totals FILES DIRECTORIES SPECIAL ODD USED FREE MISSING: the last lines of icheck
+totals() { printf '%s\n' "files $1" "directories $2" "special $3" "odd $4" "used $5" "free $6" "missing $7"; }
+
+edition=6
+mapfile -t made_lines < <(totals 0 1 0 0 1 15 0)
+finds 0 icheck made "${made_lines[@]}"
+mapfile -t found < <(echo 'dup 5 2 0' && echo 'lost 6' && totals 2 1 0 0 2 13 1)
+finds 1 icheck twice "${found[@]}"
+changed made damaged 516 '65 00' # a free list of 101 blocks
+mapfile -t found < <(seq -f 'lost %g' 5 19 && echo 'free toomany 101' && totals 0 1 0 0 1 0 15)
+finds 1 icheck damaged "${found[@]}"
+changed made damaged 1032 '14' # the root's block is none of the volume's
+mapfile -t found < <(echo 'bad 1 1 20' && echo 'lost 4' && totals 0 1 0 0 0 15 1)
+finds 1 icheck damaged "${found[@]}"
+changed made damaged 1026 '05' # the root says that it has five links, which is no matter of blocks
+finds 0 icheck damaged "${made_lines[@]}"
+changed made damaged 1056 '01 00' # i-node 2 has permissions, and is not allocated
+mapfile -t found < <(totals 0 1 0 1 1 15 0)
+finds 1 icheck damaged "${found[@]}"
+cp made damaged
+printf '\005\000' > itself
+prints none put 6 damaged /a itself 1
+put damaged 2017 '91' # the large flag: block 5 names itself
+mapfile -t found < <(echo 'dup 5 2 0' && totals 1 1 0 0 2 14 0)
+finds 1 icheck damaged "${found[@]}"
+head -c 1023 made > damaged
+finds 1 icheck damaged 'rule 1'
+image damaged 1024
+finds 1 icheck damaged 'rule 2'
+finds 1 icheck none 'rule 1'
+cp made damaged
+stood=$(stat -c '%i %y' damaged)
+runs icheck 6 damaged 2
+has 'an image after icheck' "$stood" "$(stat -c '%i %y' damaged)"
+refuses 3 'unixvol: cannot read missing' icheck 6 missing 1
+refuses 3 'unixvol: cannot read .' icheck 6 . 1
+misread "error: invalid value '8'" icheck 8 made 1
+misread 'error: the following required arguments were not provided' icheck 6 made
+misread 'error: unexpected argument' icheck 6 made 1 2
+for number in 0 65 65536 99999999999999999999 +1 1.0 '' ' 1' one; do
+    misread "error: invalid value '$number' for '<WORKERS>'" icheck 6 made "$number"
+done
+cat made > pipe &
+printf '%s\n' "${made_lines[@]}" > lines
+prints lines icheck 6 pipe 7
+wait
+changed made damaged 516 '65 00'
+for volume in made damaged; do
+    "$program" icheck 6 "$volume" 2 > /dev/full 2> error
+    echo $? > status
+    : > output
+    echo 'unixvol: cannot write -' > line
+    wants "icheck of $volume to a full device" 3 none line
+done
+truncate -s 400M great_image
+put great_image 512 '02 00 FF FF'
+(ulimit -v 300000; runs icheck 6 great_image 1)
+echo 'unixvol: 12 NoMemory' > line
+wants 'icheck in less memory than the image takes' 4 none line
+rm great_image
+edition=7
+mapfile -t found < <(echo 'free repeat 50' && totals 0 1 0 0 1 95 0)
+changed made7 damaged 25602 '00 00 32 00'
+finds 1 icheck damaged "${found[@]}"
+edition=6
+
 # Volumes that aren't sound, and files that can't be read or written.
 cp volumes/a unsound
 put unsound 1026 '05'
@@ -983,7 +1061,7 @@ helps --help
 helps help
 helps cat --help
 helps help cat
-for command in mkfs ls get put rm mkdir rmdir ln chmod chown salvage; do
+for command in mkfs ls get icheck put rm mkdir rmdir ln chmod chown salvage; do
     helps "$command" --help
     helps help "$command"
 done

@@ -9,8 +9,10 @@ use Rattle.command_line.specs.CommandLine.{Asks, IsEditionNamed, IsGiven, comman
 use Rattle.command_line.specs.Laws.{IsListing, IsPlainWord, ReadsListing}
 use Rattle.command_line.specs.Words.{AreEditions, command_in, command_shape, edition_rule, faults_of, named_shape, program, unixvol_app, with_argument, with_command, word_rule}
 use Rattle.command_line.specs.declared.Invocation.{Invocation}
-use Rattle.command_line.specs.declared.Invocation.TheVariants.{Cat, Mkfs, OnVolume}
+use Rattle.command_line.specs.declared.Invocation.TheVariants.{Cat, Mkfs, OnVolume, OnThreads}
 use Rattle.vol_commands.specs.declared.jobs.Job.TheVariants as jobs
+use Rattle.vol_commands.specs.declared.checking.Checker.TheVariants as checkers
+use Rattle.command_line.specs.declared.Work.TheVariants as works
 use Rattle.vol_layout.specs.declared.edition.Edition.{Edition}
 use Rattle.vol_layout.specs.declared.edition.Edition.TheVariants.{V6, V7}
 use Rattle.command_line.proofs.Reading.{same}
@@ -104,6 +106,7 @@ asks_listing given edition image path (OnVolume volume (jobs.Ln from to now)) te
 asks_listing given edition image path (OnVolume volume (jobs.Chmod p perm now)) test e_is i_is p_is is = absurd (true≢false (sym test))
 asks_listing given edition image path (OnVolume volume (jobs.Chown p uid gid now)) test e_is i_is p_is is = absurd (true≢false (sym test))
 asks_listing given edition image path (OnVolume volume jobs.Salvage) test e_is i_is p_is is = absurd (true≢false (sym test))
+asks_listing given edition image path (OnThreads volume (works.Check checkers.Blocks workers)) test e_is i_is p_is is = absurd (true≢false (sym test))
 
 -- what `ls` asks for, by the command that was met and the rows of its words
 listed : (met : Option (List ℕ × List Row)) (edition : Edition) (image path : List ℕ) (invocation : Invocation) → seen met ≡ codes "ls" ∷ word_of edition ∷ image ∷ path ∷ []
@@ -148,6 +151,7 @@ listing_asks (Some met) edition image path (OnVolume volume (jobs.Ln from to now
 listing_asks (Some met) edition image path (OnVolume volume (jobs.Chmod p perm now)) is listed = absurd listed
 listing_asks (Some met) edition image path (OnVolume volume (jobs.Chown p uid gid now)) is listed = absurd listed
 listing_asks (Some met) edition image path (OnVolume volume jobs.Salvage) is listed = absurd listed
+listing_asks (Some met) edition image path (OnThreads v work) is listed = absurd listed
 
 -- the words of `ls` ask for a listing, where they have its edition's word
 abbrev AsksListing : Bor (List (Bor (List ℕ))) → Edition → List ℕ → List ℕ → List ℕ → List ℕ → Type 0

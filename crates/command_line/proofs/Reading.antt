@@ -1,5 +1,5 @@
 -- What is read of the words that the command line takes.
-use Rattle.std.proofs.Common.{◌≡◌, ◌⊎◌, ◌∙◌, true≢false, is_some, Bool, ℕ, true, false, List, ◌∷◌, [], Option, Some, None, Ok, Err, Result, IfErr, IfOk, IsErrAnd, IfSome, refl, sym, ap, subst, inl, inr, codes}
+use Rattle.std.proofs.Common.{◌≡◌, ◌⊎◌, ◌∙◌, true≢false, is_some, Bool, ℕ, ◌≤◌, true, false, List, ◌∷◌, [], Option, Some, None, Ok, Err, Result, IfErr, IfOk, IsErrAnd, IfSome, refl, sym, ap, subst, inl, inr, codes}
 use Rattle.std.specs.Option.{option_map}
 use Rattle.std.specs.Borrow.{Bor}
 use Rattle.clap.proofs.WalkLemmas.{first_value-rows}
@@ -18,13 +18,17 @@ use Rattle.clap.specs.declared.parser.matches.SubCommand.{SubCommand}
 use Rattle.vol_layout.specs.declared.edition.Edition.{Edition}
 use Rattle.vol_layout.specs.declared.edition.Edition.TheVariants.{V6, V7}
 use Rattle.vol_volume.specs.declared.blank.NewVolume.{NewVolume}
-use Rattle.command_line.specs.Decimal.{IsNumberUpTo}
+use Rattle.command_line.specs.Decimal.{IsNumberUpTo, IsThreads}
 use Rattle.command_line.specs.Octal.{IsOctalUpTo}
-use Rattle.command_line.specs.CommandLine.{Asks, AsksFor, AsksNothing, TellsOf, IsChange, IsEditionNamed, IsGiven, IsNewVolumeGiven, IsNoCat, IsNoChange, IsNoChmod, IsNoChown, IsNoCommand, IsNoEdition, IsNoMoment, IsNoNewVolume, IsNoValue, IsRead, IsRefused, command_name, given_by, given_in, word_or_empty}
+use Rattle.command_line.specs.CommandLine.{Asks, AsksFor, AsksNothing, TellsOf, IsChange, IsEditionNamed, IsGiven, IsNewVolumeGiven, IsNoCat, IsNoChange, IsNoCheck, IsNoChmod, IsNoChown, IsNoCommand, IsNoEdition, IsNoMoment, IsNoNewVolume, IsNoValue, IsRead, IsRefused, IsWorkGiven, IsWorkable, command_name, given_by, given_in, word_or_empty}
 use Rattle.command_line.specs.Words.{AreEditions, app, command_in, command_shape, edition_rule, faults_of, named_shape, program, unixvol_app, with_argument, with_command, word_rule}
 use Rattle.command_line.specs.declared.Invocation.{Invocation}
-use Rattle.command_line.specs.declared.Invocation.TheVariants.{Cat, Mkfs, OnVolume}
+use Rattle.command_line.specs.declared.Invocation.TheVariants.{Cat, Mkfs, OnVolume, OnThreads}
 use Rattle.vol_commands.specs.declared.jobs.Job.TheVariants as jobs
+use Rattle.vol_commands.specs.declared.checking.Checker.TheVariants as checkers
+use Rattle.command_line.specs.declared.VolumeFile.{VolumeFile}
+use Rattle.command_line.specs.declared.Work.{Work}
+use Rattle.command_line.specs.declared.Work.TheVariants as works
 
 -- clap's contract gives what a parse of this command line finds
 pub simple : (editions : Bor (List (Bor (List ℕ)))) → is_simple (unixvol_app editions) ≡ true
@@ -72,6 +76,7 @@ edition_given : (given : List ℕ → List ℕ) (invocation : Invocation) → Is
 edition_given given (Cat volume ino) none is = named_edition volume.edition _ none is.0.0
 edition_given given (Mkfs image volume) none is = named_edition volume.edition _ none is.1.0
 edition_given given (OnVolume volume job) none is = named_edition volume.edition _ none is.0.0
+edition_given given (OnThreads volume work) none is = named_edition volume.edition _ none is.0.0
 
 -- texts that are the same pass the test for that
 pub same : (one other : List ℕ) → one ≡ other → bytes_eq one other ≡ true
@@ -92,6 +97,7 @@ number_given given (OnVolume volume (jobs.Ln from to now)) test none is = absurd
 number_given given (OnVolume volume (jobs.Chmod path perm now)) test none is = absurd (true≢false (sym test))
 number_given given (OnVolume volume (jobs.Chown path uid gid now)) test none is = absurd (true≢false (sym test))
 number_given given (OnVolume volume jobs.Salvage) test none is = absurd (true≢false (sym test))
+number_given given (OnThreads volume (works.Check checkers.Blocks workers)) test none is = absurd (true≢false (sym test))
 
 -- a new volume has its sizes, its owner and a moment
 sizes_given : (given : List ℕ → List ℕ) (volume : NewVolume) → IsNoNewVolume given → IsNewVolumeGiven given volume → ⊥
@@ -118,6 +124,7 @@ new_volume_given given (OnVolume volume (jobs.Ln from to now)) test none is = ab
 new_volume_given given (OnVolume volume (jobs.Chmod path perm now)) test none is = absurd (true≢false (sym test))
 new_volume_given given (OnVolume volume (jobs.Chown path uid gid now)) test none is = absurd (true≢false (sym test))
 new_volume_given given (OnVolume volume jobs.Salvage) test none is = absurd (true≢false (sym test))
+new_volume_given given (OnThreads volume (works.Check checkers.Blocks workers)) test none is = absurd (true≢false (sym test))
 
 -- a command that changes a volume, as a test
 abbrev is_change : List ℕ → Bool
@@ -144,6 +151,7 @@ moment_given given (OnVolume volume (jobs.Ln from to now)) test none is = none i
 moment_given given (OnVolume volume (jobs.Chmod path perm now)) test none is = none is.1.2.0
 moment_given given (OnVolume volume (jobs.Chown path uid gid now)) test none is = none is.1.3.0
 moment_given given (OnVolume volume jobs.Salvage) test none is = absurd (true≢false (sym test))
+moment_given given (OnThreads volume (works.Check checkers.Blocks workers)) test none is = absurd (true≢false (sym test))
 
 -- a command that is a change asks for nothing where its edition or its moment is no value
 no_change : (name : List ℕ) (given : List ℕ → List ℕ) (invocation : Invocation) → is_change name ≡ true → IsNoChange given → AsksFor name given invocation → ⊥
@@ -165,6 +173,7 @@ permissions_given given (OnVolume volume (jobs.Ln from to now)) test none is = a
 permissions_given given (OnVolume volume (jobs.Chmod path perm now)) test none is = none is.1.1.0
 permissions_given given (OnVolume volume (jobs.Chown path uid gid now)) test none is = absurd (true≢false (sym test))
 permissions_given given (OnVolume volume jobs.Salvage) test none is = absurd (true≢false (sym test))
+permissions_given given (OnThreads volume (works.Check checkers.Blocks workers)) test none is = absurd (true≢false (sym test))
 
 -- `chown` has a user and a group
 owner_given : (given : List ℕ → List ℕ) (invocation : Invocation) → bytes_eq (codes "chown") (command_name invocation) ≡ true
@@ -182,10 +191,28 @@ owner_given given (OnVolume volume (jobs.Chmod path perm now)) test none is = ab
 owner_given given (OnVolume volume (jobs.Chown path uid gid now)) test (inl none) is = none is.1.1.0
 owner_given given (OnVolume volume (jobs.Chown path uid gid now)) test (inr none) is = none is.1.2.0
 owner_given given (OnVolume volume jobs.Salvage) test none is = absurd (true≢false (sym test))
+owner_given given (OnThreads volume (works.Check checkers.Blocks workers)) test none is = absurd (true≢false (sym test))
+
+-- `icheck` has a number of threads
+workers_given : (given : List ℕ → List ℕ) (invocation : Invocation) → bytes_eq (codes "icheck") (command_name invocation) ≡ true
+    → (IsThreads (given (codes "WORKERS")) → ⊥) → IsGiven given invocation → ⊥
+workers_given given (Cat volume ino) test none is = absurd (true≢false (sym test))
+workers_given given (Mkfs image volume) test none is = absurd (true≢false (sym test))
+workers_given given (OnVolume volume (jobs.Ls path)) test none is = absurd (true≢false (sym test))
+workers_given given (OnVolume volume (jobs.Get path)) test none is = absurd (true≢false (sym test))
+workers_given given (OnVolume volume (jobs.Put path file now)) test none is = absurd (true≢false (sym test))
+workers_given given (OnVolume volume (jobs.Rm path now)) test none is = absurd (true≢false (sym test))
+workers_given given (OnVolume volume (jobs.Rmdir path now)) test none is = absurd (true≢false (sym test))
+workers_given given (OnVolume volume (jobs.Mkdir path now)) test none is = absurd (true≢false (sym test))
+workers_given given (OnVolume volume (jobs.Ln from to now)) test none is = absurd (true≢false (sym test))
+workers_given given (OnVolume volume (jobs.Chmod path perm now)) test none is = absurd (true≢false (sym test))
+workers_given given (OnVolume volume (jobs.Chown path uid gid now)) test none is = absurd (true≢false (sym test))
+workers_given given (OnVolume volume jobs.Salvage) test none is = absurd (true≢false (sym test))
+workers_given given (OnThreads volume (works.Check checker workers)) test none is = none is.1.0
 
 -- where one of the words is no value, nothing is asked for
 no_value : (name : List ℕ) (given : List ℕ → List ℕ) → IsNoValue name given → (invocation : Invocation) → AsksFor name given invocation → ⊥
-unfolding IsNoCat IsNoChmod IsNoChown
+unfolding IsNoCat IsNoChmod IsNoChown IsNoCheck
 no_value name given (inl none) invocation asks = edition_given given invocation none asks.1
 no_value name given (inr (inl (is, inl none))) invocation asks = edition_given given invocation none asks.1
 no_value name given (inr (inl (is, inr none))) invocation asks = number_given given invocation (same _ _ (sym is ∙ asks.0)) none asks.1
@@ -193,23 +220,26 @@ no_value name given (inr (inr (inl (is, none)))) invocation asks = new_volume_gi
 no_value name given (inr (inr (inr (inl (change, none))))) invocation asks = no_change name given invocation (change_test name change) none asks
 no_value name given (inr (inr (inr (inr (inl (is, inl none)))))) invocation asks = no_change name given invocation (rw is refl) none asks
 no_value name given (inr (inr (inr (inr (inl (is, inr none)))))) invocation asks = permissions_given given invocation (same _ _ (sym is ∙ asks.0)) none asks.1
-no_value name given (inr (inr (inr (inr (inr (is, inl none)))))) invocation asks = no_change name given invocation (rw is refl) none asks
-no_value name given (inr (inr (inr (inr (inr (is, inr none)))))) invocation asks = owner_given given invocation (same _ _ (sym is ∙ asks.0)) none asks.1
+no_value name given (inr (inr (inr (inr (inr (inl (is, inl none))))))) invocation asks = no_change name given invocation (rw is refl) none asks
+no_value name given (inr (inr (inr (inr (inr (inl (is, inr none))))))) invocation asks = owner_given given invocation (same _ _ (sym is ∙ asks.0)) none asks.1
+no_value name given (inr (inr (inr (inr (inr (inr (is, inl none))))))) invocation asks = edition_given given invocation none asks.1
+no_value name given (inr (inr (inr (inr (inr (inr (is, inr none))))))) invocation asks = workers_given given invocation (same _ _ (sym is ∙ asks.0)) none asks.1
 
 -- where the name is that of no command, nothing is asked for
 no_command : (name : List ℕ) (given : List ℕ → List ℕ) → IsNoCommand name → (invocation : Invocation) → AsksFor name given invocation → ⊥
 no_command name given none (Cat volume ino) asks = none.0 asks.0
-no_command name given none (Mkfs image volume) asks = none.3 asks.0
+no_command name given none (Mkfs image volume) asks = none.4 asks.0
 no_command name given none (OnVolume volume (jobs.Ls path)) asks = none.1 asks.0
 no_command name given none (OnVolume volume (jobs.Get path)) asks = none.2 asks.0
-no_command name given none (OnVolume volume (jobs.Put path file now)) asks = none.4 asks.0
-no_command name given none (OnVolume volume (jobs.Rm path now)) asks = none.5 asks.0
-no_command name given none (OnVolume volume (jobs.Rmdir path now)) asks = none.6 asks.0
-no_command name given none (OnVolume volume (jobs.Mkdir path now)) asks = none.7 asks.0
-no_command name given none (OnVolume volume (jobs.Ln from to now)) asks = none.8 asks.0
-no_command name given none (OnVolume volume (jobs.Chmod path perm now)) asks = none.9 asks.0
-no_command name given none (OnVolume volume (jobs.Chown path uid gid now)) asks = none.10 asks.0
-no_command name given none (OnVolume volume jobs.Salvage) asks = none.11 asks.0
+no_command name given none (OnVolume volume (jobs.Put path file now)) asks = none.5 asks.0
+no_command name given none (OnVolume volume (jobs.Rm path now)) asks = none.6 asks.0
+no_command name given none (OnVolume volume (jobs.Rmdir path now)) asks = none.7 asks.0
+no_command name given none (OnVolume volume (jobs.Mkdir path now)) asks = none.8 asks.0
+no_command name given none (OnVolume volume (jobs.Ln from to now)) asks = none.9 asks.0
+no_command name given none (OnVolume volume (jobs.Chmod path perm now)) asks = none.10 asks.0
+no_command name given none (OnVolume volume (jobs.Chown path uid gid now)) asks = none.11 asks.0
+no_command name given none (OnVolume volume jobs.Salvage) asks = none.12 asks.0
+no_command name given none (OnThreads volume (works.Check checkers.Blocks workers)) asks = none.3 asks.0
 
 -- what a parse found asks for what its command asks for
 pub asked : {E : Type 0} (matches values : ArgMatches) (name : List ℕ) (result : Result (Option Invocation) E) → Some name ≡ subcommand_name_of matches
@@ -307,3 +337,16 @@ pub memory_ran_out : {T : Type 0} (result : Result T Error) (editions : Bor (Lis
     → IsErrAnd result (λ e. kind_of e ≡ kinds.OutOfMemory) → IfErr result (IsRefused words)
 memory_ran_out (Ok value) editions words are is = tt
 memory_ran_out (Err e) editions words are is = refuses editions words e are (inl is)
+
+-- what several threads are asked for they can do
+work_given : (given : List ℕ → List ℕ) (work : Work) → IsWorkGiven given work → IsWorkable work
+work_given given (works.Check checker workers) is = rw is.1 (is.0.1, is.0.2)
+
+work_asked : (met : Option (List ℕ × List Row)) (volume : VolumeFile) (work : Work) → Asks met (OnThreads volume work) → IsWorkable work
+work_asked None volume work asks = absurd asks
+work_asked (Some met) volume work asks = work_given (given_by met.1) work asks.1.1
+
+-- what the words ask several threads for, they can do
+pub workable : (words : List (List ℕ)) (volume : VolumeFile) (work : Work) → IsRead words (OnThreads volume work) → IsWorkable work
+unfolding IsRead
+workable words volume work read = work_asked (command_in (unixvol_app read.0) words) volume work read.2.1

@@ -1,5 +1,5 @@
 -- What the words of the command line ask for.
-use Rattle.std.specs.Prelude.{◌≡◌, ◌≢◌, ◌⊎◌, ◌∷◌, ℕ, List, [], Option, Some, None, codes}
+use Rattle.std.specs.Prelude.{◌≡◌, ◌≢◌, ◌⊎◌, ◌∷◌, ◌≤◌, ℕ, List, [], Option, Some, None, codes}
 use Rattle.std.specs.Borrow.{Bor}
 use Rattle.clap.specs.Words.{App, HasKind, Row, found_of, first_of, first_value, kind_of}
 use Rattle.clap.specs.declared.error.Error.{Error}
@@ -7,14 +7,18 @@ use Rattle.clap.specs.declared.error.kind.ErrorKind.TheVariants as kinds
 use Rattle.clap.specs.declared.parser.matches.ArgMatches.{ArgMatches}
 use Rattle.vol_layout.specs.declared.edition.Edition.{Edition}
 use Rattle.vol_layout.specs.declared.edition.Edition.TheVariants.{V6, V7}
-use Rattle.command_line.specs.Decimal.{IsNumberUpTo, IsNumberGiven}
+use Rattle.command_line.specs.Decimal.{IsNumberUpTo, IsNumberGiven, IsThreads, IsThreadsGiven}
 use Rattle.command_line.specs.Octal.{IsOctalUpTo, IsOctalGiven}
 use Rattle.command_line.specs.Words.{AreEditions, command_in, faults_of, unixvol_app}
 use Rattle.command_line.specs.declared.Invocation.{Invocation}
-use Rattle.command_line.specs.declared.Invocation.TheVariants.{Cat, Mkfs, OnVolume}
+use Rattle.command_line.specs.declared.Invocation.TheVariants.{Cat, Mkfs, OnVolume, OnThreads}
 use Rattle.vol_commands.specs.declared.jobs.Job.{Job}
 use Rattle.vol_commands.specs.declared.jobs.Job.TheVariants as jobs
 use Rattle.command_line.specs.declared.VolumeFile.{VolumeFile}
+use Rattle.command_line.specs.declared.Work.{Work}
+use Rattle.command_line.specs.declared.Work.TheVariants as works
+use Rattle.vol_commands.specs.declared.checking.Checker.{Checker}
+use Rattle.vol_commands.specs.declared.checking.Checker.TheVariants as checkers
 use Rattle.vol_volume.specs.declared.blank.NewVolume.{NewVolume}
 
 -- the word names this edition (this project)
@@ -29,7 +33,7 @@ IsNoEdition text = (text ≢ codes "6") × (text ≢ codes "7")
 -- the word names no command (this project)
 abbrev pub IsNoCommand : List ℕ → Type 0
 IsNoCommand text =
-    (text ≢ codes "cat") × (text ≢ codes "ls") × (text ≢ codes "get") × (text ≢ codes "mkfs") × (text ≢ codes "put")
+    (text ≢ codes "cat") × (text ≢ codes "ls") × (text ≢ codes "get") × (text ≢ codes "icheck") × (text ≢ codes "mkfs") × (text ≢ codes "put")
     × (text ≢ codes "rm") × (text ≢ codes "rmdir") × (text ≢ codes "mkdir") × (text ≢ codes "ln")
     × (text ≢ codes "chmod") × (text ≢ codes "chown") × (text ≢ codes "salvage")
 
@@ -45,6 +49,14 @@ given_in values argument = word_or_empty (first_value (found_of values) argument
 -- the first word that was given for an argument, or the empty one, by the rows that a parse makes of the words (this project)
 abbrev pub given_by : List Row → List ℕ → List ℕ
 given_by rows argument = word_or_empty (first_of argument rows)
+
+-- the name of a checker's command (this project)
+abbrev pub checker_name : Checker → List ℕ
+checker_name checkers.Blocks = codes "icheck"
+
+-- the name of the command of what several threads do (this project)
+abbrev pub work_name : Work → List ℕ
+work_name (works.Check checker workers) = checker_name checker
 
 -- the name of the job's command (this project)
 abbrev pub job_name : Job → List ℕ
@@ -64,6 +76,7 @@ abbrev pub command_name : Invocation → List ℕ
 command_name (Cat volume ino) = codes "cat"
 command_name (Mkfs image volume) = codes "mkfs"
 command_name (OnVolume volume job) = job_name job
+command_name (OnThreads volume work) = work_name work
 
 -- the words that were given for the arguments name this volume (this project)
 abbrev pub IsVolumeGiven : (List ℕ → List ℕ) → VolumeFile → Type 0
@@ -100,11 +113,16 @@ IsJobGiven given (jobs.Chown path uid gid now) =
     × IsNumberGiven 65535 (given (codes "GID")) gid × IsMomentGiven given now
 IsJobGiven given jobs.Salvage = Unit {0}
 
+-- the words that were given for the arguments of its command describe what several threads do (this project)
+abbrev pub IsWorkGiven : (List ℕ → List ℕ) → Work → Type 0
+IsWorkGiven given (works.Check checker workers) = IsThreadsGiven (given (codes "WORKERS")) workers
+
 -- the words that were given for the arguments of its command describe what is asked for (this project)
 abbrev pub IsGiven : (List ℕ → List ℕ) → Invocation → Type 0
 IsGiven given (Cat volume ino) = IsVolumeGiven given volume × IsNumberGiven 65535 (given (codes "INO")) ino
 IsGiven given (Mkfs image volume) = (image.now ≡ given (codes "IMAGE")) × IsNewVolumeGiven given volume
 IsGiven given (OnVolume volume job) = IsVolumeGiven given volume × IsJobGiven given job
+IsGiven given (OnThreads volume work) = IsVolumeGiven given volume × IsWorkGiven given work
 
 -- the command of this name and the words for its arguments ask for this (this project)
 abbrev pub AsksFor : List ℕ → (List ℕ → List ℕ) → Invocation → Type 0
@@ -136,6 +154,10 @@ IsNoNewVolume given = IsNoEdition (given (codes "EDITION"))
     ⊎ (IsNumberUpTo 4294967295 (given (codes "FSIZE")) → ⊥) ⊎ (IsNumberUpTo 65535 (given (codes "IBLOCKS")) → ⊥)
     ⊎ (IsNumberUpTo 65535 (given (codes "UID")) → ⊥) ⊎ (IsNumberUpTo 65535 (given (codes "GID")) → ⊥) ⊎ IsNoMoment given
 
+-- one of the words of a checker's command is no value of its argument (this project)
+unfoldable pub IsNoCheck : (List ℕ → List ℕ) → Type 0
+IsNoCheck given = IsNoEdition (given (codes "EDITION")) ⊎ (IsThreads (given (codes "WORKERS")) → ⊥)
+
 -- a command of this name changes a volume, and takes no number but the moment (this project)
 abbrev pub IsChange : List ℕ → Type 0
 IsChange name = (name ≡ codes "put") ⊎ (name ≡ codes "rm") ⊎ (name ≡ codes "rmdir") ⊎ (name ≡ codes "mkdir") ⊎ (name ≡ codes "ln")
@@ -145,6 +167,7 @@ abbrev pub IsNoValue : List ℕ → (List ℕ → List ℕ) → Type 0
 IsNoValue name given = IsNoEdition (given (codes "EDITION")) ⊎ ((name ≡ codes "cat") × IsNoCat given)
     ⊎ ((name ≡ codes "mkfs") × IsNoNewVolume given) ⊎ (IsChange name × IsNoChange given)
     ⊎ ((name ≡ codes "chmod") × IsNoChmod given) ⊎ ((name ≡ codes "chown") × IsNoChown given)
+    ⊎ ((name ≡ codes "icheck") × IsNoCheck given)
 
 -- memory ran out, or the error tells of a word that is no value, of which this holds (this project)
 abbrev pub TellsOf : Type 0 → Error → Type 0
@@ -175,3 +198,7 @@ IsRead words invocation = (editions : Bor (List (Bor (List ℕ)))) × AreEdition
 -- memory ran out, or the command line of `unixvol` refuses the words, or they ask for nothing (this project)
 unfoldable pub IsRefused : List (List ℕ) → Error → Type 0
 IsRefused words error = (editions : Bor (List (Bor (List ℕ)))) × AreEditions editions × IsRefusedBy (unixvol_app editions) words error
+
+-- several threads can do this: their number is 1 to 64 (this project)
+abbrev pub IsWorkable : Work → Type 0
+IsWorkable (works.Check checker workers) = (1 ≤ workers) × (workers ≤ 64)

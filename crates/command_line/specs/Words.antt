@@ -46,6 +46,7 @@ abbrev pub verb_name : Verb → List ℕ
 verb_name verbs.Cat = codes "cat"
 verb_name verbs.Ls = codes "ls"
 verb_name verbs.Get = codes "get"
+verb_name verbs.Icheck = codes "icheck"
 verb_name verbs.Mkfs = codes "mkfs"
 verb_name verbs.Put = codes "put"
 verb_name verbs.Rm = codes "rm"
@@ -77,6 +78,7 @@ abbrev pub printing : List (List ℕ × List (List ℕ))
 printing = (codes "cat", codes "IMAGE" ∷ codes "INO" ∷ [])
     ∷ (codes "ls", codes "IMAGE" ∷ codes "PATH" ∷ [])
     ∷ (codes "get", codes "IMAGE" ∷ codes "PATH" ∷ [])
+    ∷ (codes "icheck", codes "IMAGE" ∷ codes "WORKERS" ∷ [])
     ∷ []
 
 -- the commands that make or change a volume, with the words after the edition (this project)

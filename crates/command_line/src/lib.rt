@@ -9,7 +9,7 @@ ghost use Rattle.command_line.specs.Words.{app, changing, printing, unixvol_app,
 use clap::error::ErrorKind;
 use clap::{ArgMatches, Command, Error};
 use std::alloc::{AllocError, Global};
-use vol_commands::Job;
+use vol_commands::{Checker, Job};
 use vol_layout::Edition;
 use vol_volume::NewVolume;
 
@@ -19,6 +19,7 @@ pub mod laws;
 mod mkfs;
 pub mod octal;
 mod texts;
+mod threads;
 mod volumes;
 mod words;
 
@@ -31,6 +32,13 @@ pub struct VolumeFile<'a> {
     pub edition: Edition,
     /// The file.
     pub image: &'a str,
+}
+
+/// What several threads do with a volume.
+#[derive(Clone, Copy, Debug, PartialEq, Eq)]
+pub enum Work {
+    /// Print what a checker finds, by so many threads, 1 to 64.
+    Check { checker: Checker, workers: usize },
 }
 
 /// What the user asks for.
@@ -50,6 +58,11 @@ pub enum Invocation<'a> {
     OnVolume {
         volume: VolumeFile<'a>,
         job: Job<'a>,
+    },
+    /// Do something with the volume in a file, by several threads.
+    OnThreads {
+        volume: VolumeFile<'a>,
+        work: Work,
     },
 }
 
@@ -101,6 +114,7 @@ fn read_command<'a>(
         Verb::Cat => cat::read(alloc, values)?,
         Verb::Ls => volumes::read_ls(alloc, values)?,
         Verb::Get => volumes::read_get(alloc, values)?,
+        Verb::Icheck => threads::read_check(alloc, values, Checker::Blocks)?,
         Verb::Mkfs => mkfs::read(alloc, values)?,
         Verb::Put => volumes::read_put(alloc, values)?,
         Verb::Rm => volumes::read_rm(alloc, values)?,
@@ -138,7 +152,11 @@ fn with_prints<'a>(
 {
     let command = with_one_more(command, cat::command(alloc, editions))?;
     let command = with_one_more(command, volumes::ls_command(alloc, editions))?;
-    with_one_more(command, volumes::get_command(alloc, editions))
+    let command = with_one_more(command, volumes::get_command(alloc, editions))?;
+    with_one_more(
+        command,
+        threads::check_command(alloc, editions, Checker::Blocks),
+    )
 }
 
 /// Adds the commands that make or change a volume to the command line.

@@ -308,6 +308,35 @@ Status:
   3  `unixvol: cannot read IMAGE`, `unixvol: cannot write IMAGE`
   4  `unixvol: 12 NoMemory`";
 
+pub const ICHECK_ABOUT: &str = "Tells whether each block of a volume has one place, of any image.";
+
+pub const ICHECK_MORE: &str = "\
+Example:
+  unixvol icheck 7 disk.img 4
+
+It prints what is wrong with blocks, and then how many there are of what. Nothing of the volume's soundness is
+asked first, and nothing is changed.
+
+  bad INO COUNT LEAST      so many places of this i-node name numbers of no data block; the least such number
+  dup BLOCK PLACES FREE    so many places name the block, which is free too where FREE is 1: more than one in all
+  lost BLOCK               no place names the block, and it isn't met in the free list
+  free FAULT NUMBER        the free list ends at a fault: toomany (a count), outofzone (a number), or repeat (a
+                           block that was met before)
+  files N, directories N, special N, odd N      i-nodes of each kind; of odd ones the mode is none of the edition's
+  used N, free N, missing N                     blocks that places name, that the free list has, that are lost
+
+Status:
+  0  nothing is wrong
+  1  something is: a line stands before `files`, or there are odd i-nodes; or the only line is `rule 1` or
+     `rule 2`: the image is shorter than its super-block says, or the super-block's sizes don't fit one another
+  2  the command line can't be read
+  3  `unixvol: cannot read IMAGE`, or `unixvol: cannot write -`: standard output failed
+  4  `unixvol: 12 NoMemory`";
+
+pub const WORKERS: &str = "How many threads work, from 1 to 64";
+
+pub const THREADS: &str = "not a number from 1 to 64 in decimal digits";
+
 pub const OWNED: &str = "The path of the file or directory in the volume";
 
 pub const PERM: &str = "The permissions, in octal digits, at most 7777";

@@ -4,15 +4,16 @@ ghost use Rattle.clap.specs.Words.{kind_of};
 ghost use Rattle.clap.specs.declared.error.kind.ErrorKind.TheVariants as clap_kinds;
 ghost use Rattle.command_line.specs.CommandLine.{IsEditionNamed, IsNoCommand, IsNoEdition, TellsOf, given_in};
 ghost use Rattle.command_line.specs.Words.{command_shape, verb_name, rule, shape, word_rule, edition_rule};
-ghost use Rattle.command_line.specs.Decimal.{IsNumberUpTo, IsNumberGiven};
+ghost use Rattle.command_line.specs.Decimal.{IsNumberUpTo, IsNumberGiven, IsThreads, IsThreadsGiven};
 ghost use Rattle.command_line.specs.Octal.{IsOctalUpTo, IsOctalGiven};
 
-use super::{cat, mkfs, texts, volumes};
-use crate::decimal::{long_of, word_of};
+use super::{cat, mkfs, texts, threads, volumes};
+use crate::decimal::{long_of, threads_of, word_of};
 use crate::octal::permissions_of;
 use clap::error::ErrorKind;
 use clap::{Arg, ArgMatches, Command, Error};
 use std::alloc::{AllocError, Global};
+use vol_commands::Checker;
 use vol_layout::Edition;
 
 /// Names of the arguments, as the help shows them.
@@ -35,6 +36,7 @@ pub(super) enum Verb {
     Cat,
     Ls,
     Get,
+    Icheck,
     Mkfs,
     Put,
     Rm,
@@ -47,10 +49,11 @@ pub(super) enum Verb {
 }
 
 /// All commands, in the order in which the help lists them.
-static VERBS: [Verb; 12] = [
+static VERBS: [Verb; 13] = [
     Verb::Cat,
     Verb::Ls,
     Verb::Get,
+    Verb::Icheck,
     Verb::Mkfs,
     Verb::Put,
     Verb::Rm,
@@ -71,6 +74,7 @@ impl Verb {
             Verb::Cat => "cat",
             Verb::Ls => "ls",
             Verb::Get => "get",
+            Verb::Icheck => "icheck",
             Verb::Mkfs => "mkfs",
             Verb::Put => "put",
             Verb::Rm => "rm",
@@ -101,6 +105,7 @@ impl Verb {
             Verb::Cat => cat::command(alloc, editions),
             Verb::Ls => volumes::ls_command(alloc, editions),
             Verb::Get => volumes::get_command(alloc, editions),
+            Verb::Icheck => threads::check_command(alloc, editions, Checker::Blocks),
             Verb::Mkfs => mkfs::command(alloc, editions),
             Verb::Put => volumes::put_command(alloc, editions),
             Verb::Rm => volumes::rm_command(alloc, editions),
@@ -229,6 +234,23 @@ pub(super) fn long_in(
     match long_of(text) {
         Some(number) => Ok(number),
         None => Err(wrong_value(alloc, verb, name, text, texts::LONG)?),
+    }
+}
+
+/// The number of threads that was given for an argument.
+pub(super) fn threads_in(
+    alloc: Global,
+    verb: Verb,
+    values: &ArgMatches<'_>,
+    name: &str,
+) -> Result<usize, Error>
+    ensures read { IfOk result (λ number. IsThreadsGiven (given_in values.now name.now) number) }
+    ensures refused { IfErr result (TellsOf (IsThreads (given_in values.now name.now) → ⊥)) }
+{
+    let text = text_in(values, name);
+    match threads_of(text) {
+        Some(number) => Ok(number),
+        None => Err(wrong_value(alloc, verb, name, text, texts::THREADS)?),
     }
 }
 

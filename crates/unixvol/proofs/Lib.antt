@@ -1,1 +1,4 @@
+pub mod Asked
+pub mod Begun
+pub mod Checked
 pub mod MadeVolumes

@@ -9,6 +9,7 @@ use Rattle.vol_volume.specs.Blank.{blank_of, IsMade}
 use Rattle.vol_volume.specs.Mkfs.{is_size}
 use Rattle.vol_volume.specs.Ids.{is_bad_id}
 use Rattle.pdp_words.specs.Devices.{IsReadWhole, LosesFront}
+use Rattle.vol_commands.specs.Checking.{Checks}
 use Rattle.vol_commands.specs.Cat.{PrintsFile, IsNoWriters, cat_status, file_of}
 use Rattle.vol_commands.specs.Faults.{Gets}
 use Rattle.vol_commands.specs.Jobs.{Streams, Does}
@@ -17,9 +18,11 @@ use Rattle.vol_layout.specs.declared.edition.Edition.{Edition}
 use Rattle.vol_commands.specs.declared.answer.Answer.{Answer}
 use Rattle.vol_commands.specs.declared.cat.CatFault.{CatFault}
 use Rattle.vol_commands.specs.declared.cat.CatFault.TheVariants.{Device, NoMemory, Writer}
-use Rattle.command_line.specs.CommandLine.{IsRead, IsRefused}
 use Rattle.command_line.specs.declared.Invocation.{Invocation}
 use Rattle.command_line.specs.declared.Invocation.TheVariants as invocations
+use Rattle.command_line.specs.declared.Work.{Work}
+use Rattle.command_line.specs.declared.Work.TheVariants as works
+use Rattle.vol_commands.specs.declared.checking.Checker.{Checker}
 use Rattle.vol_commands.specs.declared.jobs.Job.{Job}
 use Rattle.vol_commands.specs.declared.jobs.Job.TheVariants as jobs
 use Rattle.vol_commands.specs.declared.making.Made.{Made}
@@ -131,11 +134,26 @@ RunsJob streams files edition (jobs.Ls path) status = RunsQuery streams files ed
 RunsJob streams files edition (jobs.Get path) status = RunsQuery streams files edition (jobs.Get path) status
 RunsJob streams files edition job status = RunsChange streams files edition job status
 
+-- a checker runs: nothing is done; or what it finds in an image that a file gave is printed (this project)
+abbrev pub RunsCheck : Streams → HostFiles → Edition → Checker → ℕ → Type 0
+RunsCheck streams files edition checker status =
+    RunsNothing streams files status ⊎ ((image : List ℕ) × files.given image × Checks checker edition image streams status)
+
+-- what several threads do runs (this project)
+abbrev pub RunsWork : Streams → HostFiles → Edition → Work → ℕ → Type 0
+RunsWork streams files edition (works.Check checker workers) status = RunsCheck streams files edition checker status
+
+-- what is asked for is done by one thread (this project)
+abbrev pub IsForOneThread : Invocation → Type 0
+IsForOneThread (invocations.OnThreads volume work) = ⊥
+IsForOneThread _ = Unit {0}
+
 -- what the user asks for runs: what goes out, what files give and take, and the status (this project)
 abbrev pub Runs : Streams → HostFiles → ℕ → Invocation → Type 0
 Runs streams files status (invocations.Cat volume i) = RunsCat streams files.given volume.edition i status
 Runs streams files status (invocations.Mkfs image volume) = RunsMkfs streams files.taken volume status
 Runs streams files status (invocations.OnVolume volume job) = RunsJob streams files volume.edition job status
+Runs streams files status (invocations.OnThreads volume work) = RunsWork streams files volume.edition work status
 
 -- what an error of the command line comes to: the status by its kind, which is 3 only where standard output failed, and no line of a command (this project)
 pub record Tells (streams : Streams) (kind : ErrorKind) (status : ℕ) : Type 0 where
@@ -145,10 +163,10 @@ pub record Tells (streams : Streams) (kind : ErrorKind) (status : ℕ) : Type 0 
   pub failed : status ≡ 3 → streams.failed ≡ true
   pub quiet : streams.said []
 
--- the words run: what they ask for is carried out, or it is told why they are refused (this project)
-abbrev pub RunsWords : Streams → HostFiles → ℕ → List (List ℕ) → Type 0
-RunsWords streams files status words = ((invocation : Invocation) × IsRead words invocation × Runs streams files status invocation)
-    ⊎ ((error : Error) × IsRefused words error × Tells streams (kind_of error) status)
+-- what was read of the words runs: what they ask for is carried out, or it is told why they are refused (this project)
+abbrev pub RunsRead : Streams → HostFiles → ℕ → Result Invocation Error → Type 0
+RunsRead streams files status (Ok invocation) = Runs streams files status invocation
+RunsRead streams files status (Err error) = Tells streams (kind_of error) status
 
 -- a run ends: the status is at most 4; nothing went out, unless it is 0 or 3; where it is 0, no output failed and no fault was told (this project)
 pub record Ends (streams : Streams) (status : ℕ) : Type 0 where
@@ -156,15 +174,23 @@ pub record Ends (streams : Streams) (status : ℕ) : Type 0 where
   pub silent : status ≢ 0 → status ≢ 3 → Keeps streams.old streams.new
   pub whole : status ≡ 0 → (streams.failed ≡ streams.had_failed) × streams.said []
 
--- the program runs: on some words, or these can't be had, and nothing is told (this project)
-abbrev pub RunsSome : Streams → HostFiles → ℕ → Type 0
-RunsSome streams files status = ((words : List (List ℕ)) × RunsWords streams files status words)
-    ⊎ (((status ≡ 2) ⊎ (status ≡ 4)) × streams.said [])
-
 -- the program runs to its end, from what its two streams hold: there is what they come to hold, whether they fail, and the status of the run, and that is the status at the end, or 3 in place of 0 (this project)
-abbrev pub RunsToEnd : HostFiles → Option (List ℕ) → Option (List ℕ) → ℕ → Type 0
-RunsToEnd files output errors end =
+abbrev pub RunsToEnd : HostFiles → Option (List ℕ) → Option (List ℕ) → Result Invocation Error → ℕ → Type 0
+RunsToEnd files output errors read end =
     (new : Option (List ℕ)) × (failed : Bool) × (told : Option (List ℕ)) × (untold : Bool) × (status : ℕ)
-    × RunsSome (record { old = output; new = new; had_failed = false; failed = failed; said = Gets untold errors told }) files status
+    × RunsRead (record { old = output; new = new; had_failed = false; failed = failed; said = Gets untold errors told }) files status read
     × Ends (record { old = output; new = new; had_failed = false; failed = failed; said = Gets untold errors told }) status
     × ((end ≡ status) ⊎ ((status ≡ 0) × (end ≡ 3)))
+
+-- a run by several threads ends: the status is at most 4; where it is 0, no output failed and no fault was told (this project)
+pub record EndsWork (streams : Streams) (status : ℕ) : Type 0 where
+  pub within : status ≤ 4
+  pub whole : status ≡ 0 → (streams.failed ≡ streams.had_failed) × streams.said []
+
+-- what several threads do runs to its end, from what the program's two streams hold: there is what they come to hold, whether they fail, and the status of the run, and that is the status at the end, or 3 in place of another (this project)
+abbrev pub WorksToEnd : HostFiles → Option (List ℕ) → Option (List ℕ) → Edition → Work → ℕ → Type 0
+WorksToEnd files output errors edition work end =
+    (new : Option (List ℕ)) × (failed : Bool) × (told : Option (List ℕ)) × (untold : Bool) × (status : ℕ)
+    × RunsWork (record { old = output; new = new; had_failed = false; failed = failed; said = Gets untold errors told }) files edition work status
+    × EndsWork (record { old = output; new = new; had_failed = false; failed = failed; said = Gets untold errors told }) status
+    × ((end ≡ status) ⊎ (end ≡ 3))

@@ -1,5 +1,6 @@
 pub mod Cat
 pub mod Changing
+pub mod Checking
 pub mod Faults
 pub mod Jobs
 pub mod Laws

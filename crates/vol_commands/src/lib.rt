@@ -4,6 +4,7 @@
 pub mod answer;
 pub mod cat;
 pub mod changing;
+pub mod checking;
 pub mod faults;
 pub mod jobs;
 pub mod laws;
@@ -15,5 +16,6 @@ pub mod status;
 
 pub use answer::Answer;
 pub use cat::CatFault;
+pub use checking::Checker;
 pub use jobs::{Job, do_job};
 pub use making::{Made, mkfs_command};

@@ -4,7 +4,8 @@ use Rattle.command_line.proofs.with_prints.Goals as goal
 
 pub returns : goal.returns
 returns c =
-    adds_last_made _ _ _ _ _ _ _ c.with_one_more-3.ensures c.get_command.ensures
+    adds_last_made _ _ _ _ _ _ _ c.with_one_more-4.ensures c.check_command.ensures
+    (adds_made _ _ _ _ _ _ _ c.in_ok-command-3.ensures c.get_command.ensures
     (adds_made _ _ _ _ _ _ _ c.in_ok-command-2.ensures c.ls_command.ensures
     (adds_made _ _ _ _ _ _ _ c.in_ok-command.ensures c.command.ensures
-    refl))
+    refl)))

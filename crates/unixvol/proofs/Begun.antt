@@ -1,0 +1,17 @@
+-- What a run of the program comes to, from what its two streams held before.
+use Rattle.std.proofs.Common.{◌≡◌, Bool, false, ℕ, List, Option, subst}
+use Rattle.vol_commands.specs.Faults.{Gets}
+use Rattle.vol_commands.specs.Jobs.{Streams}
+
+-- what the two streams were and are
+abbrev pub streams_of : Option (List ℕ) → Option (List ℕ) → Bool → Bool → Option (List ℕ) → Option (List ℕ) → Bool → Streams
+streams_of old new had_failed failed errors told untold = record { old = old; new = new; had_failed = had_failed; failed = failed; said = Gets untold errors told }
+
+-- what holds of a run from what its writers hold, which have not failed, holds of it from what the streams held
+pub begun : (P : Streams → Type 0) (output errors old was : Option (List ℕ)) (had_failed : Bool) (new told : Option (List ℕ)) (failed untold : Bool)
+    → old ≡ output → was ≡ errors → had_failed ≡ false → P (streams_of old new had_failed failed was told untold)
+    → P (streams_of output new false failed errors told untold)
+begun P output errors old was had_failed new told failed untold held heard fresh holds =
+    subst (λ o. P (streams_of o new false failed errors told untold)) held
+    (subst (λ e. P (streams_of old new false failed e told untold)) heard
+    (subst (λ had. P (streams_of old new had failed was told untold)) fresh holds))

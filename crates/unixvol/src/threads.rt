@@ -1,0 +1,103 @@
+//! The commands of the program that several threads do. What is promised of them is promised if they return.
+ghost use Rattle.std.specs.Prelude.{◌≡◌, ◌⊎◌, ◌≤◌};
+ghost use Rattle.std.specs.Process.{exit_status};
+ghost use Rattle.command_line.specs.CommandLine.{IsWorkable};
+ghost use Rattle.vol_commands.specs.Faults.{Gets};
+ghost use Rattle.unixvol.specs.Running.{EndsWork, RunsCheck, RunsWork, WorksToEnd, host_files};
+
+use crate::explaining::finish_printed;
+use crate::image_file::ImageFiles;
+use crate::reading::read_file;
+use command_line::{VolumeFile, Work};
+use pdp_words::{IntoWrite, Sink};
+use std::fs::Files;
+use std::io::Write;
+use std::process::ExitCode;
+use std::sync::Wait;
+use std::thread::Threads;
+use vol_commands::Checker;
+use vol_commands::checking::check;
+
+/// Does with the volume in a file what several threads are asked for, and answers how the program ends. What it prints goes
+/// to `output`, which is standard output; a fault is one line on standard error. `errors` writes to standard error too.
+pub fn run_to_end<
+    R: ImageFiles + Eprint + AllocGlobal + Threads + Wait + Sync,
+    O: Write + Drop,
+    E: Write + Drop,
+>(rt: &R, output: O, errors: E, volume: VolumeFile<'_>, work: Work) -> ExitCode
+    requires { IsWorkable work }
+    ensures { WorksToEnd (host_files R.File.remaining R.File.contents R.had R.stood) (O.contents output) (E.contents errors)
+        volume.entry.edition work (exit_status result) }
+{
+    let mut output = IntoWrite::new(output);
+    let mut errors = IntoWrite::new(errors);
+    let status = run(rt, &mut output, &mut errors, volume, work);
+    ExitCode::from(finish_printed(rt, output.into_inner(), status))
+}
+
+/// Does with the volume in a file what several threads are asked for, and answers the status to end with, if
+/// [`finish_printed`] goes well.
+fn run<R: ImageFiles + Eprint + AllocGlobal + Threads + Wait + Sync, O: Sink, E: Sink>(
+    rt: &R,
+    output: &mut O,
+    errors: &mut E,
+    volume: VolumeFile<'_>,
+    work: Work,
+) -> u8
+    requires { IsWorkable work }
+    ensures runs { RunsWork (record {
+      old = O.contents output.old;
+      new = O.contents output.new;
+      had_failed = O.failed output.old;
+      failed = O.failed output.new;
+      said = Gets (E.failed errors.new) (E.contents errors.old) (E.contents errors.new);
+    }) (host_files R.File.remaining R.File.contents R.had R.stood) volume.entry.edition work result }
+    ensures ends { EndsWork (record {
+      old = O.contents output.old;
+      new = O.contents output.new;
+      had_failed = O.failed output.old;
+      failed = O.failed output.new;
+      said = Gets (E.failed errors.new) (E.contents errors.old) (E.contents errors.new);
+    }) result }
+{
+    match work {
+        Work::Check { checker, workers } => {
+            run_check(rt, output, errors, volume, checker, workers)
+        }
+    }
+}
+
+/// Prints what a checker finds in the volume in a file, by so many threads, and answers the status to end with.
+fn run_check<R: ImageFiles + Eprint + AllocGlobal + Threads + Wait + Sync, O: Sink, E: Sink>(
+    rt: &R,
+    output: &mut O,
+    errors: &mut E,
+    volume: VolumeFile<'_>,
+    checker: Checker,
+    workers: usize,
+) -> u8
+    requires first { 1 ≤ workers }
+    requires last { workers ≤ 64 }
+    ensures { RunsCheck (record {
+      old = O.contents output.old;
+      new = O.contents output.new;
+      had_failed = O.failed output.old;
+      failed = O.failed output.new;
+      said = Gets (E.failed errors.new) (E.contents errors.old) (E.contents errors.new);
+    }) (host_files R.File.remaining R.File.contents R.had R.stood) volume.entry.edition checker result }
+{
+    let image = match read_file(rt, volume.image) {
+        Ok(image) => image,
+        Err(status) => return status,
+    };
+    check(
+        rt,
+        rt.alloc(),
+        volume.edition,
+        image,
+        checker,
+        workers,
+        output,
+        errors,
+    )
+}

@@ -1,0 +1,124 @@
+//! The checkers: what they find in the volume in some bytes, whether it is sound or not, printed line by line.
+ghost use Rattle.std.specs.Prelude.{◌≡◌, ◌⊎◌, ◌≤◌, ℕ, true, IfErr, IfOk, OnErr, OnOk};
+ghost use Rattle.std.specs.Io.KnownBytes.{Appends, Keeps};
+ghost use Rattle.pdp_words.specs.Devices.{AppendsFront};
+ghost use Rattle.vol_commands.specs.Checking.{Checks, AreFindings, IsUnreported, PrintsReport, report_status};
+ghost use Rattle.vol_reports.specs.Texts.{report_text};
+ghost use Rattle.vol_commands.specs.Faults.{Gets, no_memory};
+
+use crate::answer::explain;
+use crate::faults::Fault;
+use crate::status::{DONE, REFUSED};
+use pdp_words::{Image, Sink, write_all};
+use std::alloc::{AllocError, Global};
+use std::sync::Wait;
+use std::thread::Threads;
+use vol_check::{Open, icheck};
+use vol_layout::Edition;
+use vol_reports::Report;
+
+/// A checker.
+#[derive(Clone, Copy, Debug, PartialEq, Eq)]
+pub enum Checker {
+    /// `icheck`: whether each block has one place.
+    Blocks,
+}
+
+/// Prints what a checker finds, by so many threads, and answers the status: 0, or 1 where the report tells of faults,
+/// 3 where `output` failed, 4 where memory ran out. Nothing goes out before all is known.
+///
+/// Takes memory for what the checker takes, and for the text.
+pub fn check<R: Threads + Wait + Sync, O: Sink, E: Sink>(
+    rt: &R,
+    alloc: Global,
+    edition: Edition,
+    image: Vec<u8>,
+    checker: Checker,
+    workers: usize,
+    output: &mut O,
+    errors: &mut E,
+) -> u8
+    requires first { 1 ≤ workers }
+    requires last { workers ≤ 64 }
+    ensures { Checks checker edition image.items (record {
+      old = O.contents output.old;
+      new = O.contents output.new;
+      had_failed = O.failed output.old;
+      failed = O.failed output.new;
+      said = Gets (E.failed errors.new) (E.contents errors.old) (E.contents errors.new);
+    }) result }
+{
+    let image = Image::from_bytes(image);
+    let report = find(rt, alloc, edition, &image, checker, workers);
+    show(alloc, report, output, errors)
+}
+
+/// What a checker finds in an image.
+fn find<R: Threads + Wait + Sync>(
+    rt: &R,
+    alloc: Global,
+    edition: Edition,
+    image: &Image,
+    checker: Checker,
+    workers: usize,
+) -> Result<Report, AllocError>
+    requires first { 1 ≤ workers }
+    requires last { workers ≤ 64 }
+    ensures { IfOk result (AreFindings checker edition image.now) }
+{
+    match checker {
+        Checker::Blocks => icheck(rt, rt, alloc, edition, image, workers, &Open),
+    }
+}
+
+/// Prints a report, if there was the memory for it, and answers the status.
+fn show<O: Sink, E: Sink>(
+    alloc: Global,
+    report: Result<Report, AllocError>,
+    output: &mut O,
+    errors: &mut E,
+) -> u8
+    ensures printed { IfOk report (λ report. PrintsReport (record {
+      old = O.contents output.old;
+      new = O.contents output.new;
+      had_failed = O.failed output.old;
+      failed = O.failed output.new;
+      said = Gets (E.failed errors.new) (E.contents errors.old) (E.contents errors.new);
+    }) report result) }
+    ensures unprinted { OnErr report (IsUnreported (record {
+      old = O.contents output.old;
+      new = O.contents output.new;
+      had_failed = O.failed output.old;
+      failed = O.failed output.new;
+      said = Gets (E.failed errors.new) (E.contents errors.old) (E.contents errors.new);
+    }) result) }
+{
+    match report {
+        Ok(report) => match print(alloc, &report, output) {
+            Ok(()) => status_of(&report),
+            Err(fault) => explain(fault, errors),
+        },
+        Err(refused) => explain(Fault::from(refused), errors),
+    }
+}
+
+/// Prints a report.
+fn print<O: Sink>(alloc: Global, report: &Report, output: &mut O) -> Result<(), Fault>
+    ensures whole { OnOk result (Appends (O.contents output.old) (O.contents output.new) (report_text report.now)
+        × (O.failed output.new ≡ O.failed output.old)) }
+    ensures fault { IfErr result (λ fault. ((fault ≡ no_memory) × Keeps (O.contents output.old) (O.contents output.new)
+        × (O.failed output.new ≡ O.failed output.old))
+        ⊎ ((fault ≡ Fault.Output) × ((count : ℕ) × AppendsFront (O.contents output.old) (O.contents output.new) (report_text report.now) count)
+        × (O.failed output.new ≡ true))) }
+{
+    let mut text = Vec::new(alloc);
+    report.push_text(&mut text)?;
+    write_all(output, &text).map_err(|_| Fault::Output)
+}
+
+/// The status after a report that was printed.
+fn status_of(report: &Report) -> u8
+    ensures { result ≡ report_status report.now }
+{
+    if report.has_faults() { REFUSED } else { DONE }
+}

@@ -18,7 +18,7 @@ mkdir -p "$bench/out" "${FOLDER:=$bench/out}"
 plain=$bench/out/plain
 rustc -O --edition 2021 "$bench/plain/main.rs" -o "$plain" || exit 1
 cd "$FOLDER" || exit 1
-trap 'rm -f ours theirs output made.img work.img full.img six.img seven.img sparse.img plain.img wide.img big script.*' EXIT
+trap 'rm -f ours theirs output made.img work.img full.img six.img seven.img sparse.img plain.img wide.img big' EXIT
 
 # reset: puts the files back that a command changes; `base` names the image of which it is given a copy, if it is
 base=
@@ -209,44 +209,16 @@ mv theirs full.img
 compare 'rm 100,000,000 bytes' 1.5 $((2 * image)) work.img rm 7 work.img /big 173750600
 mv theirs full.img
 
-# The checkers by one worker, and a free list made anew, on the volume with 10,000 files.
+# The blocks checked by one worker, and a free list made anew, on the volume with 10,000 files.
 base=
 compare 'icheck, 10,000 files' 1.5 0 output icheck 7 full.img 1
-compare 'dcheck, 10,000 files' 1.5 0 output dcheck 7 full.img 1
-compare 'ncheck, 10,000 files' 1.5 0 output ncheck 7 full.img 1
 base=full.img
 compare 'salvage, 10,000 files' 1.5 0 work.img salvage 7 work.img
 base=
 rm -f full.img ours theirs
 
-# Paths through 10,000 directories one below the other, and a directory of 60,000 names.
-"$plain" deep 7 wide.img 20000 2000 10000 || exit 1
-compare 'ncheck, 10,000 directories deep' 1.5 0 output ncheck 7 wide.img 1
-"$plain" names 7 wide.img 20000 200 60000 || exit 1
-compare 'dcheck, 60,000 names' 1.5 0 output dcheck 7 wide.img 1
-compare 'ncheck, 60,000 names' 1.5 0 output ncheck 7 wide.img 1
-
 # Four workers against one, on a volume whose files name 300,000 blocks.
 "$plain" fill 7 wide.img 380000 4500 28000 || exit 1
 side_by_side 'icheck, 300,000 blocks, 4 workers' 0.45 icheck 7 wide.img 4 -- icheck 7 wide.img 1
 rm -f wide.img
-
-# A full volume of the sixth edition becomes one of the seventh.
-"$plain" fill 6 six.img 65535 700 5900 || exit 1
-compare 'migrate, 65,535 blocks' 1.5 0 made.img migrate six.img made.img 70000 1500 173750700
-rm -f six.img ours theirs
-
-# Scripts of calls: one of 100,000, as many in 4 and in 64 scripts, and one with a refusal and an answer for each two calls.
-"$plain" mkfs 7 wide.img 60000 6000 0 0 173750400 || exit 1
-base=wide.img
-"$plain" script all 100000 whole > script.all
-compare 'play, 100,000 calls' 1.5 0 work.img play 7 work.img script.all
-compare 'play, 100,000 calls, its lines' 1.5 0 output play 7 work.img script.all
-for number in $(seq 4); do "$plain" script "four$number" 25000 whole > "script.four$number"; done
-for number in $(seq 64); do "$plain" script "many$number" 1562 whole > "script.many$number"; done
-side_by_side 'play, 4 scripts against one' 1.5 play 7 work.img script.four* -- play 7 work.img script.all
-side_by_side 'play, 64 scripts against one' 1.5 play 7 work.img script.many* -- play 7 work.img script.all
-"$plain" script half 100000 half > script.half
-compare 'play, half of it answers' 3 0 output play 7 work.img script.half
-base=
 echo "load after: $(cut -d ' ' -f 1-3 /proc/loadavg)"

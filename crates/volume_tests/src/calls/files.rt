@@ -1,11 +1,10 @@
 // Files: the blocks that writes take, where they are named, and what is read back.
 use super::Asked::{Create, Fill, Write};
 use super::Step::{self, All, At, Call};
-use super::{check_run, check_steps, make};
+use super::{check_run, check_steps};
 use crate::fixtures::{ROOT, check_read, edited, new_volume, seventh, sixth, stat};
 use vol_dir::Refusal;
-use vol_file::read_range;
-use vol_layout::{Edition, Geometry};
+use vol_layout::Edition;
 use vol_volume::Done::{Made, Wrote};
 
 /// The greatest size of a file of the seventh edition.
@@ -192,29 +191,4 @@ fn a_write_of_no_bytes_is_recorded(rt: HostRuntime) {
         assert_eq!(rt; stat(&rt, alloc, &volume, ROOT, b"/f"), before);
         assert_eq!(rt; volume.journal().len(), 3);
     }
-}
-
-#[test]
-fn the_blocks_of_a_file_are_visited_in_their_order(rt: HostRuntime) {
-    let alloc = rt.alloc();
-    let mut volume = sixth(&rt, alloc);
-    // Block 1 of the file is a hole.
-    for asked in [
-        Create(b"/f", 0o644),
-        Write(b"/f", 0, b"x"),
-        Write(b"/f", 1024, b"z"),
-    ] {
-        assert!(rt; make(&rt, alloc, &mut volume, ROOT, asked).is_ok());
-    }
-    let geometry = Geometry::read(Edition::V6, volume.image()).expect(&rt, "a geometry");
-    assert!(rt; geometry.last_inode >= 32);
-    let mut firsts = [b'?'; 5];
-    let mut met = 0_usize;
-    read_range(volume.image(), &geometry, 32, 0, 4, |block| {
-        if let (Some(slot), [first, rest @ ..]) = (firsts.get_mut(met), block) {
-            *slot = *first;
-            met = met.wrapping_add(rest.len() / 511);
-        }
-    });
-    assert_eq!(rt; (met, firsts), (4, *b"x\0z\0?"));
 }

@@ -5,8 +5,8 @@ use Rattle.count_table.specs.declared.rule.Shape.{Shape}
 use Rattle.count_table.specs.declared.words.Tally.{Tally}
 use Rattle.count_table.proofs.Totals.{below_more}
 use Rattle.vol_reports.specs.declared.links.LinkCount.{LinkCount}
-use Rattle.vol_check.specs.declared.kind.Kind.{Kind}
-use Rattle.vol_check.specs.declared.kind.Kind.TheVariants.{Blocks, Entries, Names}
+use Rattle.vol_check.specs.declared.checker.Checker.{Checker}
+use Rattle.vol_check.specs.declared.checker.Checker.TheVariants.{Blocks, Entries, Names}
 use Rattle.vol_check.specs.declared.parts.Part.{Part}
 use Rattle.vol_check.specs.declared.seats.CheckSeat.{CheckSeat}
 use Rattle.vol_check.specs.Parts.{part_count, parts_before, HasStarts, IsPart}
@@ -19,10 +19,10 @@ use Rattle.vol_check.proofs.PastPieces.{parts_one}
 use Rattle.vol_check.proofs.Adding.{adds_as}
 
 -- a sweep with pieces is for images with a geometry
-pub laid : (kind : Kind) (layout : Layout) (pieces n : ℕ) (starts : List ℕ) (links : List LinkCount) (shape : Shape) → IsShaped kind layout pieces starts links shape
+pub laid : (checker : Checker) (layout : Layout) (pieces n : ℕ) (starts : List ℕ) (links : List LinkCount) (shape : Shape) → IsShaped checker layout pieces starts links shape
     → n < pieces → (g : Geometry) × (layout ≡ Ok g)
-laid kind (Ok g) pieces n starts links shape shaped lt = (g, refl)
-laid kind (Err fault) pieces n starts links shape shaped lt = let z = shaped.none fault refl in absurd (omega arith)
+laid checker (Ok g) pieces n starts links shape shaped lt = (g, refl)
+laid checker (Err fault) pieces n starts links shape shaped lt = let z = shaped.none fault refl in absurd (omega arith)
 
 -- a layout has one geometry
 pub one_geometry : (layout : Layout) (g h : Geometry) → layout ≡ Ok g → layout ≡ Ok h → g ≡ h
@@ -67,9 +67,9 @@ module _ (g : Geometry) (image starts : List ℕ) (n : ℕ) (part : Part) (has :
       ∙ ap (λ i. part_sum g image weight i part.index) back
 
   -- the piece is done
-  pub note_works : (tally : Tally) (kind : Kind) (old new : CheckSeat) → kind ≢ Blocks
-      → Notes tally old new (λ weight. part_sum g image (slot_weight kind g weight) part.inode part.index) (λ weight. part_sum g image (slot_kept kind weight) part.inode part.index)
-      → Works tally kind g image n old new
+  pub note_works : (tally : Tally) (checker : Checker) (old new : CheckSeat) → checker ≢ Blocks
+      → Notes tally old new (λ weight. part_sum g image (slot_weight checker g weight) part.inode part.index) (λ weight. part_sum g image (slot_kept checker weight) part.inode part.index)
+      → Works tally checker g image n old new
   note_works tally Blocks old new other notes = absurd (other refl)
   note_works tally Entries old new other notes = record {
     adds = adds_as tally old.seat new.seat (λ weight. part_sum g image (slot_weight Entries g weight) part.inode part.index)

@@ -8,17 +8,17 @@ use Rattle.count_table.specs.Tallies.{IsSeatAt, shape_of}
 use Rattle.count_table.proofs.Totals.{total_nil, total_push, past_here, past_short}
 use Rattle.vol_reports.specs.Blocks.{one_if}
 use Rattle.vol_reports.specs.FreeWalk.{free_walk}
-use Rattle.vol_check.specs.declared.kind.Kind.{Kind}
-use Rattle.vol_check.specs.declared.kind.Kind.TheVariants.{Blocks, Entries, Names}
+use Rattle.vol_check.specs.declared.checker.Checker.{Checker}
+use Rattle.vol_check.specs.declared.checker.Checker.TheVariants.{Blocks, Entries, Names}
 use Rattle.vol_check.specs.declared.seats.CheckSeat.{CheckSeat}
 use Rattle.vol_check.specs.Shapes.{Layout}
-use Rattle.vol_check.specs.Seats.{IsSeatOf, IsOf, IsFresh, kind_weight, kind_kept, kind_fault, layout_weight, layout_kept, layout_fault}
+use Rattle.vol_check.specs.Seats.{IsSeatOf, IsOf, IsFresh, checker_weight, checker_kept, checker_fault, layout_weight, layout_kept, layout_fault}
 use Rattle.vol_check.specs.Noting.{Stays}
 use Rattle.vol_check.specs.Stepping.{Works}
 use Rattle.vol_check.proofs.PastPieces.{IsPast, kept_next}
 
-module _ (tally : Tally) (kind : Kind) (layout : Layout) (image : List ℕ) (old mid new : CheckSeat) (n : ℕ) (own : IsSeatOf tally old)
-    (knows : IsOf kind layout image old) (early : old.ended ≡ false) (well : old.spoiled ≡ false)
+module _ (tally : Tally) (checker : Checker) (layout : Layout) (image : List ℕ) (old mid new : CheckSeat) (n : ℕ) (own : IsSeatOf tally old)
+    (knows : IsOf checker layout image old) (early : old.ended ≡ false) (well : old.spoiled ≡ false)
     (is : mid.seat.me.0 ≡ view old.seat.me.0.parts (old.seat.me.0.draws ++ n ∷ []) old.seat.me.0.marks) (kept : mid.entries ≡ old.entries) where
   abbrev parts_is : mid.seat.me.0.parts ≡ old.seat.me.0.parts
   parts_is = ap (λ v. v.parts) is
@@ -36,7 +36,7 @@ module _ (tally : Tally) (kind : Kind) (layout : Layout) (image : List ℕ) (old
       let z : ◌≡◌ {A = ℕ} (one_if old.ended) 0 = ap one_if early in omega (arith, p, l, z)
 
   -- a piece was done
-  pub done_own : (g : Geometry) → n < (shape_of tally).pieces → Works tally kind g image n mid new → mid.ended ≡ old.ended → IsSeatOf tally new
+  pub done_own : (g : Geometry) → n < (shape_of tally).pieces → Works tally checker g image n mid new → mid.ended ≡ old.ended → IsSeatOf tally new
   done_own g low works ended = record {
     own = works.adds.own;
     parts = works.adds.parts ∙ (parts_is ∙ own.parts);
@@ -44,27 +44,27 @@ module _ (tally : Tally) (kind : Kind) (layout : Layout) (image : List ℕ) (old
         ∙ sym (ap one_if (works.ended ∙ (ended ∙ early)))));
   }
 
-  pub done_knows : (g : Geometry) → layout ≡ Ok g → Works tally kind g image n mid new → mid.fault ≡ old.fault → IsOf kind layout image new
+  pub done_knows : (g : Geometry) → layout ≡ Ok g → Works tally checker g image n mid new → mid.fault ≡ old.fault → IsOf checker layout image new
   done_knows g ok works fault = record {
     marks = λ fine weight.
         let a = works.adds.marks weight in
         let m = ap (total weight) marks_is in
         let k = knows.marks well weight in
-        let p = total_push (layout_weight kind layout image weight) old.seat.me.0.draws n in
-        let l : ◌≡◌ {A = ℕ} (layout_weight kind layout image weight n) (kind_weight kind g image weight n) = ap (λ (x : Layout). layout_weight kind x image weight n) ok in
-        let d = ap (total (layout_weight kind layout image weight)) (works.adds.draws ∙ draws_is) in
+        let p = total_push (layout_weight checker layout image weight) old.seat.me.0.draws n in
+        let l : ◌≡◌ {A = ℕ} (layout_weight checker layout image weight n) (checker_weight checker g image weight n) = ap (λ (x : Layout). layout_weight checker x image weight n) ok in
+        let d = ap (total (layout_weight checker layout image weight)) (works.adds.draws ∙ draws_is) in
         omega (arith, a, m, k, p, l, d);
     entries = λ fine weight.
         let a = works.entries weight in
         let m = ap (λ xs. total weight xs.items) kept in
         let k = knows.entries well weight in
-        let p = total_push (layout_kept kind layout image weight) old.seat.me.0.draws n in
-        let l : ◌≡◌ {A = ℕ} (layout_kept kind layout image weight n) (kind_kept kind g image weight n) = ap (λ (x : Layout). layout_kept kind x image weight n) ok in
-        let d = ap (total (layout_kept kind layout image weight)) (works.adds.draws ∙ draws_is) in
+        let p = total_push (layout_kept checker layout image weight) old.seat.me.0.draws n in
+        let l : ◌≡◌ {A = ℕ} (layout_kept checker layout image weight n) (checker_kept checker g image weight n) = ap (λ (x : Layout). layout_kept checker x image weight n) ok in
+        let d = ap (total (layout_kept checker layout image weight)) (works.adds.draws ∙ draws_is) in
         omega (arith, a, m, k, p, l, d);
-    fault = λ fine. subst (λ (x : Layout). new.fault ≡ layout_fault kind x image new.seat.me.0.draws) (sym ok)
-        (kept_next kind g image old.seat.me.0.draws n mid.fault new.fault (fault ∙ (knows.fault well ∙ ap (λ (x : Layout). layout_fault kind x image old.seat.me.0.draws) ok)) works.fault
-        ∙ ap (kind_fault kind g image) (sym (works.adds.draws ∙ draws_is)));
+    fault = λ fine. subst (λ (x : Layout). new.fault ≡ layout_fault checker x image new.seat.me.0.draws) (sym ok)
+        (kept_next checker g image old.seat.me.0.draws n mid.fault new.fault (fault ∙ (knows.fault well ∙ ap (λ (x : Layout). layout_fault checker x image old.seat.me.0.draws) ok)) works.fault
+        ∙ ap (checker_fault checker g image) (sym (works.adds.draws ∙ draws_is)));
   }
 
   -- the number was no piece's
@@ -76,27 +76,27 @@ module _ (tally : Tally) (kind : Kind) (layout : Layout) (image : List ℕ) (old
         ∙ (late_is ∙ (past_here (shape_of tally).pieces n high ∙ sym (ap one_if ended))));
   }
 
-  pub end_knows : IsPast kind layout image n → new.seat ≡ mid.seat → new.entries ≡ mid.entries → new.fault ≡ old.fault → IsOf kind layout image new
+  pub end_knows : IsPast checker layout image n → new.seat ≡ mid.seat → new.entries ≡ mid.entries → new.fault ≡ old.fault → IsOf checker layout image new
   end_knows none same entries fault = record {
     marks = λ fine weight.
         let a = ap (λ s. total weight s.me.0.marks) same in
         let m = ap (total weight) marks_is in
         let k = knows.marks well weight in
-        let p = total_push (layout_weight kind layout image weight) old.seat.me.0.draws n in
+        let p = total_push (layout_weight checker layout image weight) old.seat.me.0.draws n in
         let l = none.marks weight in
-        let d = ap (λ s. total (layout_weight kind layout image weight) s.me.0.draws) same in
-        let e = ap (total (layout_weight kind layout image weight)) draws_is in
+        let d = ap (λ s. total (layout_weight checker layout image weight) s.me.0.draws) same in
+        let e = ap (total (layout_weight checker layout image weight)) draws_is in
         omega (arith, a, m, k, p, l, d, e);
     entries = λ fine weight.
         let a = ap (λ xs. total weight xs.items) (entries ∙ kept) in
         let k = knows.entries well weight in
-        let p = total_push (layout_kept kind layout image weight) old.seat.me.0.draws n in
+        let p = total_push (layout_kept checker layout image weight) old.seat.me.0.draws n in
         let l = none.entries weight in
-        let d = ap (λ s. total (layout_kept kind layout image weight) s.me.0.draws) same in
-        let e = ap (total (layout_kept kind layout image weight)) draws_is in
+        let d = ap (λ s. total (layout_kept checker layout image weight) s.me.0.draws) same in
+        let e = ap (total (layout_kept checker layout image weight)) draws_is in
         omega (arith, a, k, p, l, d, e);
     fault = λ fine. fault ∙ (knows.fault well ∙ (sym (none.fault old.seat.me.0.draws)
-        ∙ sym (ap (λ s. layout_fault kind layout image s.me.0.draws) same ∙ ap (layout_fault kind layout image) draws_is)));
+        ∙ sym (ap (λ s. layout_fault checker layout image s.me.0.draws) same ∙ ap (layout_fault checker layout image) draws_is)));
   }
 
   -- a piece wasn't done
@@ -109,8 +109,8 @@ module _ (tally : Tally) (kind : Kind) (layout : Layout) (image : List ℕ) (old
   }
 
 -- a seat that found no memory says nothing
-pub spoiled_knows : (kind : Kind) (layout : Layout) (image : List ℕ) (s : CheckSeat) → s.spoiled ≡ true → IsOf kind layout image s
-spoiled_knows kind layout image s spoiled = record { marks = λ fine. absurd (clash fine); fault = λ fine. absurd (clash fine); entries = λ fine. absurd (clash fine) }
+pub spoiled_knows : (checker : Checker) (layout : Layout) (image : List ℕ) (s : CheckSeat) → s.spoiled ≡ true → IsOf checker layout image s
+spoiled_knows checker layout image s spoiled = record { marks = λ fine. absurd (clash fine); fault = λ fine. absurd (clash fine); entries = λ fine. absurd (clash fine) }
   where
     clash : s.spoiled ≡ false → ⊥
     clash fine = let e : ◌≡◌ {A = ℕ} 1 0 = ap one_if (sym spoiled ∙ fine) in omega (arith, e)
@@ -127,17 +127,17 @@ fresh_own tally s fresh = record {
   late = ap (λ v. late (shape_of tally).pieces v.draws) fresh.nothing ∙ (total_nil (past (shape_of tally).pieces) ∙ sym (ap one_if fresh.ended));
 }
 
-nothing_kept : (kind : Kind) (layout : Layout) (image : List ℕ) → layout_fault kind layout image [] ≡ None
+nothing_kept : (checker : Checker) (layout : Layout) (image : List ℕ) → layout_fault checker layout image [] ≡ None
 nothing_kept Blocks (Ok g) image = ap (λ k. if k == 0 then None else (free_walk g image).fault) (total_nil (λ p. one_if (p == 0)))
 nothing_kept Entries (Ok g) image = refl
 nothing_kept Names (Ok g) image = refl
-nothing_kept kind (Err fault) image = refl
+nothing_kept checker (Err fault) image = refl
 
-pub fresh_knows : (tally : Tally) (kind : Kind) (layout : Layout) (image : List ℕ) (s : CheckSeat) → IsFresh tally s → IsOf kind layout image s
-fresh_knows tally kind layout image s fresh = record {
+pub fresh_knows : (tally : Tally) (checker : Checker) (layout : Layout) (image : List ℕ) (s : CheckSeat) → IsFresh tally s → IsOf checker layout image s
+fresh_knows tally checker layout image s fresh = record {
   marks = λ fine weight. ap (λ v. total weight v.marks) fresh.nothing
-      ∙ (total_nil weight ∙ sym (ap (λ v. total (layout_weight kind layout image weight) v.draws) fresh.nothing ∙ total_nil (layout_weight kind layout image weight)));
+      ∙ (total_nil weight ∙ sym (ap (λ v. total (layout_weight checker layout image weight) v.draws) fresh.nothing ∙ total_nil (layout_weight checker layout image weight)));
   entries = λ fine weight. ap (total weight) fresh.entries
-      ∙ (total_nil weight ∙ sym (ap (λ v. total (layout_kept kind layout image weight) v.draws) fresh.nothing ∙ total_nil (layout_kept kind layout image weight)));
-  fault = λ fine. fresh.fault ∙ sym (ap (λ v. layout_fault kind layout image v.draws) fresh.nothing ∙ nothing_kept kind layout image);
+      ∙ (total_nil weight ∙ sym (ap (λ v. total (layout_kept checker layout image weight) v.draws) fresh.nothing ∙ total_nil (layout_kept checker layout image weight)));
+  fault = λ fine. fresh.fault ∙ sym (ap (λ v. layout_fault checker layout image v.draws) fresh.nothing ∙ nothing_kept checker layout image);
 }

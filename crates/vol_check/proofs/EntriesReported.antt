@@ -19,7 +19,7 @@ use Rattle.count_table.specs.Sums.{total, below, late, sum_at, amount_at}
 use Rattle.count_table.specs.Rule.{IsSummed}
 use Rattle.vol_reports.specs.Words.{HasEntryWords, entry_word}
 use Rattle.vol_reports.specs.Counted.{CountsEntries}
-use Rattle.vol_check.specs.declared.kind.Kind.TheVariants.{Entries}
+use Rattle.vol_check.specs.declared.checker.Checker.TheVariants.{Entries}
 use Rattle.vol_check.specs.Parts.{HasStarts}
 use Rattle.vol_check.specs.Shapes.{CountsParts}
 use Rattle.vol_check.specs.Slots.{slot_weight, entry_weight, in_directory, slots_piece}

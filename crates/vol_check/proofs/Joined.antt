@@ -12,8 +12,8 @@ use Rattle.count_table.specs.Tallies.{IsSeatAt, shape_of}
 use Rattle.count_table.proofs.Totals.{total_append}
 use Rattle.vol_reports.specs.Blocks.{one_if}
 use Rattle.vol_reports.specs.FreeWalk.{free_walk}
-use Rattle.vol_check.specs.declared.kind.Kind.{Kind}
-use Rattle.vol_check.specs.declared.kind.Kind.TheVariants.{Blocks, Entries, Names}
+use Rattle.vol_check.specs.declared.checker.Checker.{Checker}
+use Rattle.vol_check.specs.declared.checker.Checker.TheVariants.{Blocks, Entries, Names}
 use Rattle.vol_check.specs.declared.seats.CheckSeat.{CheckSeat}
 use Rattle.vol_check.specs.Shapes.{Layout}
 use Rattle.vol_check.specs.Seats.{IsSeatOf, IsOf, is_stopped, found_no_memory, layout_weight, layout_kept, layout_fault}
@@ -26,7 +26,7 @@ pub record IsGathering (tally : Tally) (seats rest : List CheckSeat) (all : Chec
   pub spoiled : (list_any found_no_memory rest || all.spoiled) ≡ list_any found_no_memory seats
   pub stopped : 1 ≤ one_if all.spoiled + late (shape_of tally).pieces all.seat.me.0.draws + count_by is_stopped rest
   pub others : All (IsSeatOf tally) rest
-  pub knows : (kind : Kind) (layout : Layout) (image : List ℕ) → All (IsOf kind layout image) seats → IsOf kind layout image all × All (IsOf kind layout image) rest
+  pub knows : (checker : Checker) (layout : Layout) (image : List ℕ) → All (IsOf checker layout image) seats → IsOf checker layout image all × All (IsOf checker layout image) rest
 
 -- of two flags neither is set
 neither : (x y : Bool) → (x || y) ≡ false → (x ≡ false) × (y ≡ false)
@@ -51,39 +51,39 @@ either_kept value a b c sum = elim (cases_eq a 0) [
     absorbed (Some x) t = refl
 
 -- the fault that two seats keep
-fault_joined : (kind : Kind) (layout : Layout) (image xs ys : List ℕ)
-    → first_of (layout_fault kind layout image xs) (layout_fault kind layout image ys) ≡ layout_fault kind layout image (xs ++ ys)
+fault_joined : (checker : Checker) (layout : Layout) (image xs ys : List ℕ)
+    → first_of (layout_fault checker layout image xs) (layout_fault checker layout image ys) ≡ layout_fault checker layout image (xs ++ ys)
 fault_joined Blocks (Ok g) image xs ys =
     either_kept (free_walk g image).fault (total (λ p. one_if (p == 0)) xs) (total (λ p. one_if (p == 0)) ys) (total (λ p. one_if (p == 0)) (xs ++ ys))
     (total_append (λ p. one_if (p == 0)) xs ys)
 fault_joined Entries (Ok g) image xs ys = refl
 fault_joined Names (Ok g) image xs ys = refl
-fault_joined kind (Err fault) image xs ys = refl
+fault_joined checker (Err fault) image xs ys = refl
 
 module _ (tally : Tally) (old other new : CheckSeat) (joins : Joins tally old other new) where
   -- a seat joined of two that are of an image is of it
-  pub joined_knows : (kind : Kind) (layout : Layout) (image : List ℕ) → IsOf kind layout image old → IsOf kind layout image other → IsOf kind layout image new
-  joined_knows kind layout image one two = record {
+  pub joined_knows : (checker : Checker) (layout : Layout) (image : List ℕ) → IsOf checker layout image old → IsOf checker layout image other → IsOf checker layout image new
+  joined_knows checker layout image one two = record {
     marks = λ fine weight.
         let none = neither old.spoiled other.spoiled (sym joins.spoiled ∙ fine) in
         let a = one.marks none.0 weight in
         let b = two.marks none.1 weight in
         let m = ap (λ v. total weight v.marks) joins.joined ∙ total_append weight old.seat.me.0.marks other.seat.me.0.marks in
-        let d = ap (λ v. total (layout_weight kind layout image weight) v.draws) joins.joined
-        ∙ total_append (layout_weight kind layout image weight) old.seat.me.0.draws other.seat.me.0.draws in
+        let d = ap (λ v. total (layout_weight checker layout image weight) v.draws) joins.joined
+        ∙ total_append (layout_weight checker layout image weight) old.seat.me.0.draws other.seat.me.0.draws in
         omega (arith, a, b, m, d);
     entries = λ fine weight.
         let none = neither old.spoiled other.spoiled (sym joins.spoiled ∙ fine) in
         let a = one.entries none.0 weight in
         let b = two.entries none.1 weight in
         let m = ap (total weight) joins.entries ∙ total_append weight old.entries.items other.entries.items in
-        let d = ap (λ v. total (layout_kept kind layout image weight) v.draws) joins.joined
-        ∙ total_append (layout_kept kind layout image weight) old.seat.me.0.draws other.seat.me.0.draws in
+        let d = ap (λ v. total (layout_kept checker layout image weight) v.draws) joins.joined
+        ∙ total_append (layout_kept checker layout image weight) old.seat.me.0.draws other.seat.me.0.draws in
         omega (arith, a, b, m, d);
     fault = λ fine.
         let none = neither old.spoiled other.spoiled (sym joins.spoiled ∙ fine) in
-        joins.fault ∙ (ap (λ f. first_of f other.fault) (one.fault none.0) ∙ (ap (first_of (layout_fault kind layout image old.seat.me.0.draws)) (two.fault none.1)
-        ∙ (fault_joined kind layout image old.seat.me.0.draws other.seat.me.0.draws ∙ sym (ap (λ v. layout_fault kind layout image v.draws) joins.joined))));
+        joins.fault ∙ (ap (λ f. first_of f other.fault) (one.fault none.0) ∙ (ap (first_of (layout_fault checker layout image old.seat.me.0.draws)) (two.fault none.1)
+        ∙ (fault_joined checker layout image old.seat.me.0.draws other.seat.me.0.draws ∙ sym (ap (λ v. layout_fault checker layout image v.draws) joins.joined))));
   }
 
 -- flags that are joined
@@ -126,7 +126,7 @@ module _ (tally : Tally) (seats : List CheckSeat) where
             ∙ ap (λ t. list_any found_no_memory rest || t) (or_none last.spoiled)));
         stopped = omega (arith, count, flags, late, stopped);
         others = parts.0;
-        knows = λ kind layout image all. let p = All-pop (IsOf kind layout image) seats rest (Some last) is all in (p.1, p.0);
+        knows = λ checker layout image all. let p = All-pop (IsOf checker layout image) seats rest (Some last) is all in (p.1, p.0);
       }
 
   -- one seat more
@@ -149,10 +149,10 @@ module _ (tally : Tally) (seats : List CheckSeat) where
             ∙ ap (λ t. list_any found_no_memory fewer || t) (or_none other.spoiled)))) ∙ before.spoiled));
         stopped = omega (arith, count, flags, late_is, spoiled, parts.1.late, before.stopped);
         others = parts.0;
-        knows = λ kind layout image each.
-            let known = before.knows kind layout image each in
-            let p = All-pop (IsOf kind layout image) rest fewer (Some other) is known.1 in
-            (joined_knows tally all other new joins kind layout image known.0 p.1, p.0);
+        knows = λ checker layout image each.
+            let known = before.knows checker layout image each in
+            let p = All-pop (IsOf checker layout image) rest fewer (Some other) is known.1 in
+            (joined_knows tally all other new joins checker layout image known.0 p.1, p.0);
       }
 
   -- all seats
@@ -162,7 +162,7 @@ module _ (tally : Tally) (seats : List CheckSeat) where
     parts = omega (arith, g.parts);
     spoiled = g.spoiled;
     stopped = λ fine. let z = ap one_if fine in omega (arith, g.stopped, z);
-    knows = λ kind layout image each. (g.knows kind layout image each).0;
+    knows = λ checker layout image each. (g.knows checker layout image each).0;
   }
 
 -- where all seats are stopped, one is

@@ -23,7 +23,7 @@ use Rattle.vol_reports.specs.Blocks.{least_of}
 use Rattle.vol_reports.specs.Placed.{Placed, placed}
 use Rattle.vol_reports.specs.Names.{entered, entries_of, entries_in, all_entries, naming_entry}
 use Rattle.vol_reports.specs.Counted.{rank_of, CountsNames}
-use Rattle.vol_check.specs.declared.kind.Kind.TheVariants.{Names}
+use Rattle.vol_check.specs.declared.checker.Checker.TheVariants.{Names}
 use Rattle.vol_check.specs.Parts.{HasStarts}
 use Rattle.vol_check.specs.Shapes.{CountsParts}
 use Rattle.vol_check.specs.Slots.{slot_weight, slot_kept, name_weight, in_directory, slots_piece}

@@ -8,7 +8,7 @@ use Rattle.vol_layout.specs.Slot.{slot_at, name_of}
 use Rattle.vol_layout.specs.declared.geometry.Geometry.{Geometry}
 use Rattle.vol_layout.specs.declared.slot.Slot.{Slot}
 use Rattle.vol_layout.proofs.NameLaws.{zero_out}
-use Rattle.vol_layout.specs.declared.mode.Kind as inode
+use Rattle.vol_layout.specs.declared.mode.Kind.{Kind}
 use Rattle.vol_layout.specs.declared.mode.Kind.TheVariants as kinds
 use Rattle.vol_file.specs.Rules.{kind_at}
 use Rattle.vol_file.specs.Holes.{IsHole}
@@ -20,8 +20,8 @@ use Rattle.count_table.specs.Sums.{total, below}
 use Rattle.count_table.specs.Tallies.{IsSeatAt}
 use Rattle.count_table.proofs.Totals.{total_nil}
 use Rattle.vol_reports.specs.Placed.{Placed}
-use Rattle.vol_check.specs.declared.kind.Kind.{Kind}
-use Rattle.vol_check.specs.declared.kind.Kind.TheVariants.{Blocks, Entries, Names}
+use Rattle.vol_check.specs.declared.checker.Checker.{Checker}
+use Rattle.vol_check.specs.declared.checker.Checker.TheVariants.{Blocks, Entries, Names}
 use Rattle.vol_check.specs.declared.seats.CheckSeat.{CheckSeat}
 use Rattle.vol_check.specs.Pieces.{Adds}
 use Rattle.vol_check.specs.Slots.{SlotWeight, slot_weight, slot_kept, in_directory, part_sum}
@@ -85,22 +85,22 @@ module _ (tally : Tally) where
   }
 
 -- an empty slot marks nothing, and nothing of it is kept
-pub blank_weight : (kind : Kind) (g : Geometry) (weight : Mark → ℕ) (d s : ℕ) → slot_weight kind g weight d s None ≡ 0
+pub blank_weight : (checker : Checker) (g : Geometry) (weight : Mark → ℕ) (d s : ℕ) → slot_weight checker g weight d s None ≡ 0
 blank_weight Blocks g weight d s = refl
 blank_weight Entries g weight d s = refl
 blank_weight Names g weight d s = refl
 
-pub blank_kept : (kind : Kind) (weight : Placed → ℕ) (d s : ℕ) → slot_kept kind weight d s None ≡ 0
+pub blank_kept : (checker : Checker) (weight : Placed → ℕ) (d s : ℕ) → slot_kept checker weight d s None ≡ 0
 blank_kept Blocks weight d s = refl
 blank_kept Entries weight d s = refl
 blank_kept Names weight d s = total_nil weight
 
 -- what so many slots of a directory mark from one on, and what of them is kept
-abbrev pub marked_over : Kind → Geometry → List ℕ → ℕ → ℕ → ℕ → (Mark → ℕ) → ℕ
-marked_over kind g image d from n weight = below (λ t. slot_weight kind g weight d (from + t) (entry_at g image d (from + t))) n
+abbrev pub marked_over : Checker → Geometry → List ℕ → ℕ → ℕ → ℕ → (Mark → ℕ) → ℕ
+marked_over checker g image d from n weight = below (λ t. slot_weight checker g weight d (from + t) (entry_at g image d (from + t))) n
 
-abbrev pub kept_over : Kind → Geometry → List ℕ → ℕ → ℕ → ℕ → (Placed → ℕ) → ℕ
-kept_over kind g image d from n weight = below (λ t. slot_kept kind weight d (from + t) (entry_at g image d (from + t))) n
+abbrev pub kept_over : Checker → Geometry → List ℕ → ℕ → ℕ → ℕ → (Placed → ℕ) → ℕ
+kept_over checker g image d from n weight = below (λ t. slot_kept checker weight d (from + t) (entry_at g image d (from + t))) n
 
 -- the entry in a slot
 pub slot_none : (slot : Slot) → slot.inode ≡ 0 → entry_in slot ≡ None
@@ -178,7 +178,7 @@ pub part_is : (g : Geometry) (image : List ℕ) (weight : SlotWeight) (d k : ℕ
 unfolding part_sum
 part_is g image weight d k is = ap (λ x. in_directory x (below (λ t. weight d (2048 * k + t) (entry_at g image d (2048 * k + t))) 2048)) is
 
-none_in : (kind : inode.Kind) (n : ℕ) → kind ≢ kinds.Directory → in_directory kind n ≡ 0
+none_in : (kind : Kind) (n : ℕ) → kind ≢ kinds.Directory → in_directory kind n ≡ 0
 none_in kinds.Directory n other = absurd (other refl)
 none_in kinds.Free n other = refl
 none_in kinds.Regular n other = refl

@@ -10,13 +10,13 @@ use Rattle.vol_reports.specs.Blocks.{one_if}
 use Rattle.vol_reports.specs.FreeWalk.{free_walk}
 use Rattle.vol_reports.specs.Placed.{Placed}
 use Rattle.vol_reports.specs.declared.links.LinkCount.{LinkCount}
-use Rattle.vol_check.specs.declared.kind.Kind.{Kind}
-use Rattle.vol_check.specs.declared.kind.Kind.TheVariants.{Blocks, Entries, Names}
+use Rattle.vol_check.specs.declared.checker.Checker.{Checker}
+use Rattle.vol_check.specs.declared.checker.Checker.TheVariants.{Blocks, Entries, Names}
 use Rattle.vol_check.specs.Shapes.{Layout, IsReady, IsShaped}
 use Rattle.vol_check.specs.Parts.{part_count, parts_before, HasStarts}
 use Rattle.vol_check.specs.Slots.{SlotWeight, slot_weight, slot_kept, part_sum, slots_piece}
 use Rattle.vol_check.specs.Pieces.{piece_weight, free_weight, inode_weight}
-use Rattle.vol_check.specs.Seats.{kind_weight, kind_kept, kind_fault, layout_weight, layout_kept, layout_fault}
+use Rattle.vol_check.specs.Seats.{checker_weight, checker_kept, checker_fault, layout_weight, layout_kept, layout_fault}
 use Rattle.vol_check.specs.Stepping.{fault_after}
 use Rattle.vol_check.proofs.Sums.{below_same}
 use Rattle.vol_check.proofs.PieceSums.{value_past}
@@ -46,19 +46,19 @@ slots_past g image weight n le =
     value_past (part_count g image) (part_sum g image weight) 1 g.last_inode n (let e = parts_one g image g.last_inode in omega arith)
 
 module _ (g : Geometry) (image : List ℕ) (pieces : ℕ) (starts : List ℕ) (links : List LinkCount) (shape : Shape) (n : ℕ) (high : pieces ≤ n) where
-  parts_past : (kind : Kind) → kind ≢ Blocks → IsReady kind g pieces starts links shape → HasStarts g image starts → parts_before g image g.last_inode ≤ n
-  parts_past kind other ready has = let p = ready.parts other in let a = has.at g.last_inode (omega arith) in omega (arith, p.last, a, high)
+  parts_past : (checker : Checker) → checker ≢ Blocks → IsReady checker g pieces starts links shape → HasStarts g image starts → parts_before g image g.last_inode ≤ n
+  parts_past checker other ready has = let p = ready.parts other in let a = has.at g.last_inode (omega arith) in omega (arith, p.last, a, high)
 
-  kind_past : (kind : Kind) → shape.pieces ≡ pieces → IsReady kind g pieces starts links shape → (kind ≢ Blocks → HasStarts g image starts)
-      → (weight : Mark → ℕ) → kind_weight kind g image weight n ≡ 0
-  kind_past Blocks count ready has weight = past_weight g image weight n (omega (arith, count, (ready.words.of_blocks refl).pieces, high))
-  kind_past Entries count ready has weight = let other : Entries ≢ Blocks = λ e. absurd (cc) in
+  checker_past : (checker : Checker) → shape.pieces ≡ pieces → IsReady checker g pieces starts links shape → (checker ≢ Blocks → HasStarts g image starts)
+      → (weight : Mark → ℕ) → checker_weight checker g image weight n ≡ 0
+  checker_past Blocks count ready has weight = past_weight g image weight n (omega (arith, count, (ready.words.of_blocks refl).pieces, high))
+  checker_past Entries count ready has weight = let other : Entries ≢ Blocks = λ e. absurd (cc) in
       slots_past g image (slot_weight Entries g weight) n (parts_past Entries other ready (has other))
-  kind_past Names count ready has weight = let other : Names ≢ Blocks = λ e. absurd (cc) in
+  checker_past Names count ready has weight = let other : Names ≢ Blocks = λ e. absurd (cc) in
       slots_past g image (slot_weight Names g weight) n (parts_past Names other ready (has other))
 
-  kept_past : (kind : Kind) → IsReady kind g pieces starts links shape → (kind ≢ Blocks → HasStarts g image starts)
-      → (weight : Placed → ℕ) → kind_kept kind g image weight n ≡ 0
+  kept_past : (checker : Checker) → IsReady checker g pieces starts links shape → (checker ≢ Blocks → HasStarts g image starts)
+      → (weight : Placed → ℕ) → checker_kept checker g image weight n ≡ 0
   kept_past Blocks ready has weight = refl
   kept_past Entries ready has weight = let other : Entries ≢ Blocks = λ e. absurd (cc) in
       slots_past g image (slot_kept Entries weight) n (parts_past Entries other ready (has other))
@@ -66,14 +66,14 @@ module _ (g : Geometry) (image : List ℕ) (pieces : ℕ) (starts : List ℕ) (l
       slots_past g image (slot_kept Names weight) n (parts_past Names other ready (has other))
 
 -- the fault kept once piece 0 is drawn, and once another number is
-zero_kept : (g : Geometry) (image : List ℕ) (draws : List ℕ) (n : ℕ) → n ≡ 0 → kind_fault Blocks g image (draws ++ n ∷ []) ≡ (free_walk g image).fault
+zero_kept : (g : Geometry) (image : List ℕ) (draws : List ℕ) (n : ℕ) → n ≡ 0 → checker_fault Blocks g image (draws ++ n ∷ []) ≡ (free_walk g image).fault
 zero_kept g image draws n e =
     let p = total_push (λ p. one_if (p == 0)) draws n in
     let o : ◌≡◌ {A = ℕ} (one_if (n == 0)) 1 = ap one_if (eq-eqb n 0 e) in
     let some : total (λ p. one_if (p == 0)) (draws ++ n ∷ []) ≢ 0 = λ z. omega (arith, p, o, z) in
     ap (λ t. if t then None else (free_walk g image).fault) (ne_eqb (total (λ p. one_if (p == 0)) (draws ++ n ∷ [])) 0 some)
 
-other_kept : (kind : Kind) (g : Geometry) (image : List ℕ) (draws : List ℕ) (n : ℕ) → n ≢ 0 → kind_fault kind g image (draws ++ n ∷ []) ≡ kind_fault kind g image draws
+other_kept : (checker : Checker) (g : Geometry) (image : List ℕ) (draws : List ℕ) (n : ℕ) → n ≢ 0 → checker_fault checker g image (draws ++ n ∷ []) ≡ checker_fault checker g image draws
 other_kept Blocks g image draws n ne =
     let p = total_push (λ p. one_if (p == 0)) draws n in
     let o : ◌≡◌ {A = ℕ} (one_if (n == 0)) 0 = ap one_if (ne_eqb n 0 ne) in
@@ -83,8 +83,8 @@ other_kept Entries g image draws n ne = refl
 other_kept Names g image draws n ne = refl
 
 -- the fault, once piece n was done
-pub kept_next : (kind : Kind) (g : Geometry) (image : List ℕ) (draws : List ℕ) (n : ℕ) (old new : Option _) → old ≡ kind_fault kind g image draws
-    → new ≡ fault_after kind g image n old → new ≡ kind_fault kind g image (draws ++ n ∷ [])
+pub kept_next : (checker : Checker) (g : Geometry) (image : List ℕ) (draws : List ℕ) (n : ℕ) (old new : Option _) → old ≡ checker_fault checker g image draws
+    → new ≡ fault_after checker g image n old → new ≡ checker_fault checker g image (draws ++ n ∷ [])
 kept_next Blocks g image draws n old new before is = elim (cases_eq n 0) [
   | inl e ↦ is ∙ (ap (λ t. if t then (free_walk g image).fault else old) (eq-eqb n 0 e) ∙ sym (zero_kept g image draws n e))
   | inr ne ↦ is ∙ (ap (λ t. if t then (free_walk g image).fault else old) (ne_eqb n 0 ne) ∙ (before ∙ sym (other_kept Blocks g image draws n ne)))
@@ -93,26 +93,26 @@ kept_next Entries g image draws n old new before is = is ∙ before
 kept_next Names g image draws n old new before is = is ∙ before
 
 -- a number past the last piece
-pub record IsPast (kind : Kind) (layout : Layout) (image : List ℕ) (n : ℕ) : Type 0 where
-  pub marks : (weight : Mark → ℕ) → layout_weight kind layout image weight n ≡ 0
-  pub entries : (weight : Placed → ℕ) → layout_kept kind layout image weight n ≡ 0
-  pub fault : (draws : List ℕ) → layout_fault kind layout image (draws ++ n ∷ []) ≡ layout_fault kind layout image draws
+pub record IsPast (checker : Checker) (layout : Layout) (image : List ℕ) (n : ℕ) : Type 0 where
+  pub marks : (weight : Mark → ℕ) → layout_weight checker layout image weight n ≡ 0
+  pub entries : (weight : Placed → ℕ) → layout_kept checker layout image weight n ≡ 0
+  pub fault : (draws : List ℕ) → layout_fault checker layout image (draws ++ n ∷ []) ≡ layout_fault checker layout image draws
 
 -- the last piece of a sweep over the blocks is past piece 0
-some_blocks : (kind : Kind) (g : Geometry) (pieces : ℕ) (starts : List ℕ) (links : List LinkCount) (shape : Shape) (n : ℕ) → shape.pieces ≡ pieces
-    → IsReady kind g pieces starts links shape → pieces ≤ n → (draws : List ℕ) (image : List ℕ)
-    → kind_fault kind g image (draws ++ n ∷ []) ≡ kind_fault kind g image draws
+some_blocks : (checker : Checker) (g : Geometry) (pieces : ℕ) (starts : List ℕ) (links : List LinkCount) (shape : Shape) (n : ℕ) → shape.pieces ≡ pieces
+    → IsReady checker g pieces starts links shape → pieces ≤ n → (draws : List ℕ) (image : List ℕ)
+    → checker_fault checker g image (draws ++ n ∷ []) ≡ checker_fault checker g image draws
 some_blocks Blocks g pieces starts links shape n count ready high draws image = other_kept Blocks g image draws n (λ e. omega (arith, e, count, (ready.words.of_blocks refl).pieces, high))
 some_blocks Entries g pieces starts links shape n count ready high draws image = refl
 some_blocks Names g pieces starts links shape n count ready high draws image = refl
 
-pub is_past : (kind : Kind) (layout : Layout) (image : List ℕ) (pieces : ℕ) (starts : List ℕ) (links : List LinkCount) (shape : Shape) (n : ℕ)
-    → IsShaped kind layout pieces starts links shape → ((g : Geometry) → layout ≡ Ok g → kind ≢ Blocks → HasStarts g image starts) → pieces ≤ n
-    → IsPast kind layout image n
-is_past kind (Ok g) image pieces starts links shape n shaped has high =
+pub is_past : (checker : Checker) (layout : Layout) (image : List ℕ) (pieces : ℕ) (starts : List ℕ) (links : List LinkCount) (shape : Shape) (n : ℕ)
+    → IsShaped checker layout pieces starts links shape → ((g : Geometry) → layout ≡ Ok g → checker ≢ Blocks → HasStarts g image starts) → pieces ≤ n
+    → IsPast checker layout image n
+is_past checker (Ok g) image pieces starts links shape n shaped has high =
     let ready = shaped.ready g refl in record {
-      marks = λ weight. kind_past g image pieces starts links shape n high kind shaped.count ready (has g refl) weight;
-      entries = λ weight. kept_past g image pieces starts links shape n high kind ready (has g refl) weight;
-      fault = λ draws. some_blocks kind g pieces starts links shape n shaped.count ready high draws image;
+      marks = λ weight. checker_past g image pieces starts links shape n high checker shaped.count ready (has g refl) weight;
+      entries = λ weight. kept_past g image pieces starts links shape n high checker ready (has g refl) weight;
+      fault = λ draws. some_blocks checker g pieces starts links shape n shaped.count ready high draws image;
     }
-is_past kind (Err fault) image pieces starts links shape n shaped has high = record { marks = λ weight. refl; entries = λ weight. refl; fault = λ draws. refl }
+is_past checker (Err fault) image pieces starts links shape n shaped has high = record { marks = λ weight. refl; entries = λ weight. refl; fault = λ draws. refl }

@@ -28,8 +28,8 @@ use Rattle.vol_reports.specs.FreeWalk.{Walked, walk_rest, free_walk}
 use Rattle.vol_reports.specs.Blocks.{one_if, is_kind, place_count, met_count, bad_numbers, kind_count}
 use Rattle.vol_reports.specs.Counted.{CountsBlocks}
 use Rattle.vol_check.specs.Pieces.{piece_weight, inode_weight}
-use Rattle.vol_check.specs.declared.kind.Kind.TheVariants.{Blocks}
-use Rattle.vol_check.specs.Seats.{kind_fault}
+use Rattle.vol_check.specs.declared.checker.Checker.TheVariants.{Blocks}
+use Rattle.vol_check.specs.Seats.{checker_fault}
 use Rattle.vol_check.proofs.Sums.{below_front, below_same}
 use Rattle.vol_check.proofs.Drawn.{each_once, over_inodes, below_at_most}
 use Rattle.vol_check.proofs.PastPieces.{past_weight, free_piece, inode_piece}
@@ -122,7 +122,7 @@ module _ (g : Geometry) (image : List ℕ) (fits : Fits g image) where
     }
 
     -- the free list was walked over
-    pub walked : kind_fault Blocks g image v.draws ≡ (free_walk g image).fault
+    pub walked : checker_fault Blocks g image v.draws ≡ (free_walk g image).fault
     walked =
         let once = each_once shape.pieces (slice_index words 0) v.draws (λ p. one_if (p == 0)) summed.drawn stopped
         (λ p le. ap one_if (ne_eqb p 0 (λ e. let s = has.pieces in omega (arith, le, e, s)))) in

@@ -5,7 +5,7 @@ use Rattle.count_table.specs.declared.words.Tally.{Tally}
 use Rattle.count_table.specs.Sums.{late}
 use Rattle.count_table.specs.Views.{view}
 use Rattle.count_table.specs.Tallies.{IsSeatAt, shape_of}
-use Rattle.vol_check.specs.declared.kind.Kind.{Kind}
+use Rattle.vol_check.specs.declared.checker.Checker.{Checker}
 use Rattle.vol_check.specs.declared.seats.CheckSeat.{CheckSeat}
 use Rattle.vol_check.specs.Shapes.{Layout}
 use Rattle.vol_check.specs.Seats.{IsOf, found_no_memory}
@@ -30,4 +30,4 @@ pub record Gathers (tally : Tally) (seats : List CheckSeat) (all : CheckSeat) : 
   pub parts : all.seat.me.0.parts ≡ length seats
   pub spoiled : all.spoiled ≡ list_any found_no_memory seats
   pub stopped : all.spoiled ≡ false → 1 ≤ late (shape_of tally).pieces all.seat.me.0.draws
-  pub knows : (kind : Kind) (layout : Layout) (image : List ℕ) → All (IsOf kind layout image) seats → IsOf kind layout image all
+  pub knows : (checker : Checker) (layout : Layout) (image : List ℕ) → All (IsOf checker layout image) seats → IsOf checker layout image all

@@ -5,7 +5,7 @@ use Rattle.vol_layout.specs.declared.geometry.GeometryFault.{GeometryFault}
 use Rattle.vol_layout.specs.Geometry.{geometry_read}
 use Rattle.vol_layout.specs.declared.geometry.Geometry.{Geometry}
 use Rattle.vol_reports.specs.Counted.{HasLinkCounts}
-use Rattle.vol_check.specs.declared.kind.Kind.TheVariants.{Blocks, Entries}
+use Rattle.vol_check.specs.declared.checker.Checker.TheVariants.{Blocks, Entries}
 use Rattle.vol_check.specs.declared.sweeps.Sweep.{Sweep}
 use Rattle.vol_check.specs.Parts.{HasStarts}
 
@@ -23,5 +23,5 @@ pub record HasSameHead (edition : Edition) (old new : List ℕ) : Type 0 where
 -- the sweep was made for (this project)
 pub record IsFor (sweep : Sweep) (image : List ℕ) : Type 0 where
   pub read : geometry_read sweep.edition image ≡ sweep.layout
-  pub starts : (g : Geometry) → sweep.layout ≡ Ok g → sweep.kind ≢ Blocks → HasStarts g image sweep.starts.items
-  pub links : (g : Geometry) → sweep.layout ≡ Ok g → sweep.kind ≡ Entries → HasLinkCounts g image sweep.links.items
+  pub starts : (g : Geometry) → sweep.layout ≡ Ok g → sweep.checker ≢ Blocks → HasStarts g image sweep.starts.items
+  pub links : (g : Geometry) → sweep.layout ≡ Ok g → sweep.checker ≡ Entries → HasLinkCounts g image sweep.links.items

@@ -10,45 +10,45 @@ use Rattle.vol_reports.specs.Blocks.{one_if}
 use Rattle.vol_reports.specs.FreeWalk.{free_walk}
 use Rattle.vol_reports.specs.Placed.{Placed}
 use Rattle.vol_reports.specs.declared.line.FreeFault.{FreeFault}
-use Rattle.vol_check.specs.declared.kind.Kind.{Kind}
-use Rattle.vol_check.specs.declared.kind.Kind.TheVariants.{Blocks, Entries, Names}
+use Rattle.vol_check.specs.declared.checker.Checker.{Checker}
+use Rattle.vol_check.specs.declared.checker.Checker.TheVariants.{Blocks, Entries, Names}
 use Rattle.vol_check.specs.declared.seats.CheckSeat.{CheckSeat}
 use Rattle.vol_check.specs.Shapes.{Layout}
 use Rattle.vol_check.specs.Pieces.{piece_weight}
 use Rattle.vol_check.specs.Slots.{slot_weight, slot_kept, slots_piece}
 
 -- what piece p of a sweep marks (icheck, dcheck, ncheck)
-abbrev pub kind_weight : Kind → Geometry → List ℕ → (Mark → ℕ) → ℕ → ℕ
-kind_weight Blocks g image weight p = piece_weight g image weight p
-kind_weight Entries g image weight p = slots_piece g image (slot_weight Entries g weight) p
-kind_weight Names g image weight p = slots_piece g image (slot_weight Names g weight) p
+abbrev pub checker_weight : Checker → Geometry → List ℕ → (Mark → ℕ) → ℕ → ℕ
+checker_weight Blocks g image weight p = piece_weight g image weight p
+checker_weight Entries g image weight p = slots_piece g image (slot_weight Entries g weight) p
+checker_weight Names g image weight p = slots_piece g image (slot_weight Names g weight) p
 
 -- the entries that are kept of piece p (ncheck)
-abbrev pub kind_kept : Kind → Geometry → List ℕ → (Placed → ℕ) → ℕ → ℕ
-kind_kept Blocks g image weight p = 0
-kind_kept Entries g image weight p = slots_piece g image (slot_kept Entries weight) p
-kind_kept Names g image weight p = slots_piece g image (slot_kept Names weight) p
+abbrev pub checker_kept : Checker → Geometry → List ℕ → (Placed → ℕ) → ℕ → ℕ
+checker_kept Blocks g image weight p = 0
+checker_kept Entries g image weight p = slots_piece g image (slot_kept Entries weight) p
+checker_kept Names g image weight p = slots_piece g image (slot_kept Names weight) p
 
 -- the fault of the free walk, which is kept by the seat that drew piece 0 of a sweep over the blocks (icheck)
-abbrev pub kind_fault : Kind → Geometry → List ℕ → List ℕ → Option (FreeFault × ℕ)
-kind_fault Blocks g image draws = if total (λ p. one_if (p == 0)) draws == 0 then None else (free_walk g image).fault
-kind_fault Entries g image draws = None
-kind_fault Names g image draws = None
+abbrev pub checker_fault : Checker → Geometry → List ℕ → List ℕ → Option (FreeFault × ℕ)
+checker_fault Blocks g image draws = if total (λ p. one_if (p == 0)) draws == 0 then None else (free_walk g image).fault
+checker_fault Entries g image draws = None
+checker_fault Names g image draws = None
 
 -- what piece p marks of an image with some layout, which has no pieces without geometry (icheck, dcheck, ncheck)
-abbrev pub layout_weight : Kind → Layout → List ℕ → (Mark → ℕ) → ℕ → ℕ
-layout_weight kind (Ok g) image weight p = kind_weight kind g image weight p
-layout_weight kind (Err fault) image weight p = 0
+abbrev pub layout_weight : Checker → Layout → List ℕ → (Mark → ℕ) → ℕ → ℕ
+layout_weight checker (Ok g) image weight p = checker_weight checker g image weight p
+layout_weight checker (Err fault) image weight p = 0
 
 -- the entries that are kept of piece p of an image with some layout (ncheck)
-abbrev pub layout_kept : Kind → Layout → List ℕ → (Placed → ℕ) → ℕ → ℕ
-layout_kept kind (Ok g) image weight p = kind_kept kind g image weight p
-layout_kept kind (Err fault) image weight p = 0
+abbrev pub layout_kept : Checker → Layout → List ℕ → (Placed → ℕ) → ℕ → ℕ
+layout_kept checker (Ok g) image weight p = checker_kept checker g image weight p
+layout_kept checker (Err fault) image weight p = 0
 
 -- the fault that is kept of an image with some layout (icheck)
-abbrev pub layout_fault : Kind → Layout → List ℕ → List ℕ → Option (FreeFault × ℕ)
-layout_fault kind (Ok g) image draws = kind_fault kind g image draws
-layout_fault kind (Err fault) image draws = None
+abbrev pub layout_fault : Checker → Layout → List ℕ → List ℕ → Option (FreeFault × ℕ)
+layout_fault checker (Ok g) image draws = checker_fault checker g image draws
+layout_fault checker (Err fault) image draws = None
 
 -- a seat found no memory (this project)
 abbrev pub found_no_memory : CheckSeat → Bool
@@ -66,10 +66,10 @@ pub record IsSeatOf (tally : Tally) (s : CheckSeat) : Type 0 where
 
 -- the marks that a seat made, the fault and the entries that it keeps, are those of the pieces among its draws, in this image; a
 -- seat that found no memory says nothing (icheck, dcheck, ncheck)
-pub record IsOf (kind : Kind) (layout : Layout) (image : List ℕ) (s : CheckSeat) : Type 0 where
-  pub marks : s.spoiled ≡ false → (weight : Mark → ℕ) → total weight s.seat.me.0.marks ≡ total (layout_weight kind layout image weight) s.seat.me.0.draws
-  pub fault : s.spoiled ≡ false → s.fault ≡ layout_fault kind layout image s.seat.me.0.draws
-  pub entries : s.spoiled ≡ false → (weight : Placed → ℕ) → total weight s.entries.items ≡ total (layout_kept kind layout image weight) s.seat.me.0.draws
+pub record IsOf (checker : Checker) (layout : Layout) (image : List ℕ) (s : CheckSeat) : Type 0 where
+  pub marks : s.spoiled ≡ false → (weight : Mark → ℕ) → total weight s.seat.me.0.marks ≡ total (layout_weight checker layout image weight) s.seat.me.0.draws
+  pub fault : s.spoiled ≡ false → s.fault ≡ layout_fault checker layout image s.seat.me.0.draws
+  pub entries : s.spoiled ≡ false → (weight : Placed → ℕ) → total weight s.entries.items ≡ total (layout_kept checker layout image weight) s.seat.me.0.draws
 
 -- a seat that did nothing yet (this project)
 pub record IsFresh (tally : Tally) (s : CheckSeat) : Type 0 where

@@ -2,7 +2,7 @@
 use Rattle.std.specs.Prelude.{ℕ, ◌+◌, ◌*◌, nat_le, if◌then◌else◌, List, Option, None, Some}
 use Rattle.vol_layout.specs.declared.geometry.Geometry.{Geometry}
 use Rattle.vol_layout.specs.declared.mode.Kind.TheVariants as kinds
-use Rattle.vol_layout.specs.declared.mode.Kind as inode
+use Rattle.vol_layout.specs.declared.mode.Kind.{Kind}
 use Rattle.vol_file.specs.Rules.{kind_at}
 use Rattle.vol_dir.specs.Entries.{entry_at}
 use Rattle.vol_dir.specs.Names.{is_dots}
@@ -13,8 +13,8 @@ use Rattle.count_table.specs.Views.{mark}
 use Rattle.vol_reports.specs.Words.{entry_word, name_word}
 use Rattle.vol_reports.specs.Placed.{Placed}
 use Rattle.vol_reports.specs.Names.{entered}
-use Rattle.vol_check.specs.declared.kind.Kind.{Kind}
-use Rattle.vol_check.specs.declared.kind.Kind.TheVariants.{Blocks, Entries, Names}
+use Rattle.vol_check.specs.declared.checker.Checker.{Checker}
+use Rattle.vol_check.specs.declared.checker.Checker.TheVariants.{Blocks, Entries, Names}
 use Rattle.vol_check.specs.Parts.{part_count, piece_value}
 
 -- a slot and its place: the directory, the number of the slot, and its entry (manual section 5, directories)
@@ -33,20 +33,20 @@ name_weight g weight d s (Some entry) =
     if is_dots entry.0 then 0
     else if nat_le entry.1 g.last_inode then weight (mark (name_word entry.1) (rank d s)) else 0
 
--- what a slot marks in a sweep of some kind (dcheck, ncheck)
-abbrev pub slot_weight : Kind → Geometry → (Mark → ℕ) → SlotWeight
+-- what a slot marks for a checker (dcheck, ncheck)
+abbrev pub slot_weight : Checker → Geometry → (Mark → ℕ) → SlotWeight
 slot_weight Blocks g weight d s slot = 0
 slot_weight Entries g weight d s slot = entry_weight g weight slot
 slot_weight Names g weight d s slot = name_weight g weight d s slot
 
--- what of a slot is kept in a sweep of some kind: its entry, in one for names (ncheck)
-abbrev pub slot_kept : Kind → (Placed → ℕ) → SlotWeight
+-- what of a slot is kept for a checker: its entry, in one for names (ncheck)
+abbrev pub slot_kept : Checker → (Placed → ℕ) → SlotWeight
 slot_kept Blocks weight d s slot = 0
 slot_kept Entries weight d s slot = 0
 slot_kept Names weight d s slot = total weight (entered d s slot)
 
 -- a number for a directory, and 0 for i-numbers of other kinds (manual section 5, file system)
-abbrev pub in_directory : inode.Kind → ℕ → ℕ
+abbrev pub in_directory : Kind → ℕ → ℕ
 in_directory kinds.Directory n = n
 in_directory kinds.Free n = 0
 in_directory kinds.Regular n = 0

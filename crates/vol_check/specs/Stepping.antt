@@ -8,25 +8,25 @@ use Rattle.count_table.specs.Tallies.{shape_of}
 use Rattle.vol_reports.specs.declared.line.FreeFault.{FreeFault}
 use Rattle.vol_reports.specs.FreeWalk.{free_walk}
 use Rattle.vol_reports.specs.Placed.{Placed}
-use Rattle.vol_check.specs.declared.kind.Kind.{Kind}
-use Rattle.vol_check.specs.declared.kind.Kind.TheVariants.{Blocks, Entries, Names}
+use Rattle.vol_check.specs.declared.checker.Checker.{Checker}
+use Rattle.vol_check.specs.declared.checker.Checker.TheVariants.{Blocks, Entries, Names}
 use Rattle.vol_check.specs.declared.seats.CheckSeat.{CheckSeat}
 use Rattle.vol_check.specs.declared.seats.Piece.{Piece}
 use Rattle.vol_check.specs.declared.sweeps.Sweep.{Sweep}
 use Rattle.vol_check.specs.Pieces.{Adds}
-use Rattle.vol_check.specs.Seats.{IsSeatOf, IsOf, is_stopped, kind_weight, kind_kept}
+use Rattle.vol_check.specs.Seats.{IsSeatOf, IsOf, is_stopped, checker_weight, checker_kept}
 
 -- the fault that is kept once piece p was done (icheck)
-abbrev pub fault_after : Kind → Geometry → List ℕ → ℕ → Option (FreeFault × ℕ) → Option (FreeFault × ℕ)
+abbrev pub fault_after : Checker → Geometry → List ℕ → ℕ → Option (FreeFault × ℕ) → Option (FreeFault × ℕ)
 fault_after Blocks g image p before = if p == 0 then (free_walk g image).fault else before
 fault_after Entries g image p before = before
 fault_after Names g image p before = before
 
 -- a piece was done: its marks are made, and its fault and its entries are kept (icheck, dcheck, ncheck)
-pub record Works (tally : Tally) (kind : Kind) (g : Geometry) (image : List ℕ) (p : ℕ) (old new : CheckSeat) : Type 0 where
-  pub adds : Adds tally old.seat new.seat (λ weight. kind_weight kind g image weight p)
-  pub entries : (weight : Placed → ℕ) → total weight new.entries.items ≡ total weight old.entries.items + kind_kept kind g image weight p
-  pub fault : new.fault ≡ fault_after kind g image p old.fault
+pub record Works (tally : Tally) (checker : Checker) (g : Geometry) (image : List ℕ) (p : ℕ) (old new : CheckSeat) : Type 0 where
+  pub adds : Adds tally old.seat new.seat (λ weight. checker_weight checker g image weight p)
+  pub entries : (weight : Placed → ℕ) → total weight new.entries.items ≡ total weight old.entries.items + checker_kept checker g image weight p
+  pub fault : new.fault ≡ fault_after checker g image p old.fault
   pub ended : new.ended ≡ old.ended
   pub spoiled : new.spoiled ≡ old.spoiled
 
@@ -41,7 +41,7 @@ Answers sweep old new (Err failed) = new.spoiled ≡ true
 -- end or had found no memory, which it tells for good (this project)
 pub record Stepped (sweep : Sweep) (image : List ℕ) (old new : CheckSeat) (result : Result (Option Piece) AllocError) : Type 0 where
   pub own : IsSeatOf sweep.tally new
-  pub knows : IsOf sweep.kind sweep.layout image new
+  pub knows : IsOf sweep.checker sweep.layout image new
   pub answers : Answers sweep old new result
   pub drew : (new.seat.me.0.draws ≡ old.seat.me.0.draws) ⊎ ((n : ℕ) × (new.seat.me.0.draws ≡ old.seat.me.0.draws ++ n ∷ []))
   pub for_good : old.spoiled ≡ true → IsErr result
@@ -50,5 +50,5 @@ pub record Stepped (sweep : Sweep) (image : List ℕ) (old new : CheckSeat) (res
 -- a seat that did pieces until none was left or it found no memory (this project)
 pub record Ran (sweep : Sweep) (image : List ℕ) (seat : CheckSeat) : Type 0 where
   pub own : IsSeatOf sweep.tally seat
-  pub knows : IsOf sweep.kind sweep.layout image seat
+  pub knows : IsOf sweep.checker sweep.layout image seat
   pub stopped : is_stopped seat ≡ true

@@ -3,8 +3,8 @@ ghost use Rattle.std.specs.Prelude.{◌≡◌, ◌≤◌, IfOk};
 ghost use Rattle.vol_reports.specs.Reports.{block_report, entry_report, IsNameReport};
 ghost use Rattle.vol_check.specs.Reporting.{IsReport};
 
+use crate::checker::Checker;
 use crate::gate::Gate;
-use crate::kind::Kind;
 use crate::sweeps::Sweep;
 use pdp_words::Image;
 use std::alloc::{AllocError, Global};
@@ -31,7 +31,15 @@ pub fn icheck<R: Threads + Sync, W: Wait, G: Gate>(
     requires last { workers ≤ 64 }
     ensures { IfOk result (λ report. report ≡ block_report edition image.now) }
 {
-    check(threads, alloc, edition, image, Kind::Blocks, workers, gate)
+    check(
+        threads,
+        alloc,
+        edition,
+        image,
+        Checker::Blocks,
+        workers,
+        gate,
+    )
 }
 
 /// The entry report of an image, by so many threads, as [`icheck`] has them.
@@ -51,7 +59,15 @@ pub fn dcheck<R: Threads + Sync, W: Wait, G: Gate>(
     requires last { workers ≤ 64 }
     ensures { IfOk result (λ report. report ≡ entry_report edition image.now) }
 {
-    check(threads, alloc, edition, image, Kind::Entries, workers, gate)
+    check(
+        threads,
+        alloc,
+        edition,
+        image,
+        Checker::Entries,
+        workers,
+        gate,
+    )
 }
 
 /// The name report of an image, by so many threads, as [`icheck`] has them.
@@ -71,7 +87,15 @@ pub fn ncheck<R: Threads + Sync, W: Wait, G: Gate>(
     requires last { workers ≤ 64 }
     ensures { IfOk result (λ report. IsNameReport edition image.now report) }
 {
-    check(threads, alloc, edition, image, Kind::Names, workers, gate)
+    check(
+        threads,
+        alloc,
+        edition,
+        image,
+        Checker::Names,
+        workers,
+        gate,
+    )
 }
 
 /// The report of an image that is asked for, by so many threads.
@@ -80,15 +104,15 @@ fn check<R: Threads + Sync, G: Gate>(
     alloc: Global,
     edition: Edition,
     image: &Image,
-    kind: Kind,
+    checker: Checker,
     workers: usize,
     gate: &G,
 ) -> Result<Report, AllocError>
     requires first { 1 ≤ workers }
     requires last { workers ≤ 64 }
-    ensures { IfOk result (λ report. IsReport kind edition image.now report) }
+    ensures { IfOk result (λ report. IsReport checker edition image.now report) }
 {
-    let (sweep, mut seats) = Sweep::new(alloc, edition, image, kind, workers)?;
+    let (sweep, mut seats) = Sweep::new(alloc, edition, image, checker, workers)?;
     sweep.run_all(threads, alloc, gate, image, &mut seats);
     sweep.finish(alloc, seats)
 }

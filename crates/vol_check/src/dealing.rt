@@ -7,13 +7,13 @@ ghost use Rattle.count_table.specs.declared.rule.Shape.{Shape};
 ghost use Rattle.vol_layout.specs.declared.geometry.Geometry.{Geometry};
 ghost use Rattle.vol_layout.specs.declared.geometry.GeometryFault.{GeometryFault};
 ghost use Rattle.vol_reports.specs.Counted.{HasLinkCounts};
-ghost use Rattle.vol_check.specs.declared.kind.Kind.TheVariants.{Blocks, Entries};
+ghost use Rattle.vol_check.specs.declared.checker.Checker.TheVariants.{Blocks, Entries};
 ghost use Rattle.vol_check.specs.Parts.{HasStarts};
 ghost use Rattle.vol_check.specs.Shapes.{HasWordsOf, IsLaidOut};
 ghost use Rattle.vol_check.specs.Layouts.{IsFor, HasSameHead};
 ghost use Rattle.vol_check.specs.Seats.{IsFresh, IsSeatOf, IsOf};
 
-use crate::kind::Kind;
+use crate::checker::Checker;
 use crate::parts::part_starts;
 use crate::seats::CheckSeat;
 use crate::sweeps::Sweep;
@@ -33,30 +33,30 @@ impl Sweep {
         alloc: Global,
         edition: Edition,
         image: &Image,
-        kind: Kind,
+        checker: Checker,
         seats: usize,
     ) -> Result<(Sweep, Vec<CheckSeat>), AllocError>
         requires first { 1 ≤ seats }
         requires last { seats ≤ 64 }
         ensures edition { IfOk result (λ s. s.0.edition ≡ edition) }
-        ensures kind { IfOk result (λ s. s.0.kind ≡ kind) }
+        ensures checker { IfOk result (λ s. s.0.checker ≡ checker) }
         ensures image { IfOk result (λ s. IsFor s.0 image.now) }
         ensures others { IfOk result (λ s. (other : List ℕ) → HasSameHead edition image.now other → IsFor s.0 other) }
         ensures count { IfOk result (λ s. (vec_len s.1 ≡ seats) × ((shape_of s.0.tally).seats ≡ seats)) }
         ensures own { IfOk result (λ s. All (IsSeatOf s.0.tally) s.1.items) }
-        ensures knows { IfOk result (λ s. (bytes : List ℕ) → All (IsOf s.0.kind s.0.layout bytes) s.1.items) }
+        ensures knows { IfOk result (λ s. (bytes : List ℕ) → All (IsOf s.0.checker s.0.layout bytes) s.1.items) }
     {
         let layout = Geometry::read(edition, image);
-        let starts = starts_for(alloc, kind, image, &layout)?;
-        let links = links_for(alloc, kind, image, &layout)?;
-        let pieces = piece_count(kind, &layout, &starts);
-        let (tally, first) = Tally::new(alloc, shape_for(kind, &layout, pieces, seats as u64))?;
+        let starts = starts_for(alloc, checker, image, &layout)?;
+        let links = links_for(alloc, checker, image, &layout)?;
+        let pieces = piece_count(checker, &layout, &starts);
+        let (tally, first) = Tally::new(alloc, shape_for(checker, &layout, pieces, seats as u64))?;
         let dealt = deal(alloc, &tally, first, seats)?;
         Ok((
             Sweep {
                 tally,
                 edition,
-                kind,
+                checker,
                 layout,
                 pieces,
                 starts,
@@ -70,15 +70,15 @@ impl Sweep {
 /// How many pieces stand before those of each i-number, and in all; none where the pieces are no parts of directories.
 fn starts_for(
     alloc: Global,
-    kind: Kind,
+    checker: Checker,
     image: &Image,
     layout: &Result<Geometry, GeometryFault>,
 ) -> Result<Vec<u32>, AllocError>
     requires fits { IfOk layout.now (λ geometry. Fits geometry image.now) }
-    ensures { IfOk result (λ starts. (geometry : Geometry) → layout.now ≡ Ok geometry → kind ≢ Blocks → HasStarts geometry image.now starts.items) }
+    ensures { IfOk result (λ starts. (geometry : Geometry) → layout.now ≡ Ok geometry → checker ≢ Blocks → HasStarts geometry image.now starts.items) }
 {
     match layout {
-        Ok(geometry) if kind != Kind::Blocks => part_starts(alloc, image, geometry),
+        Ok(geometry) if checker != Checker::Blocks => part_starts(alloc, image, geometry),
         _ => Ok(Vec::new(alloc)),
     }
 }
@@ -86,45 +86,50 @@ fn starts_for(
 /// The link counts, for a report of the entries; else none.
 fn links_for(
     alloc: Global,
-    kind: Kind,
+    checker: Checker,
     image: &Image,
     layout: &Result<Geometry, GeometryFault>,
 ) -> Result<Vec<LinkCount>, AllocError>
     requires fits { IfOk layout.now (λ geometry. Fits geometry image.now) }
-    ensures { IfOk result (λ links. (geometry : Geometry) → layout.now ≡ Ok geometry → kind ≡ Entries → HasLinkCounts geometry image.now links.items) }
+    ensures { IfOk result (λ links. (geometry : Geometry) → layout.now ≡ Ok geometry → checker ≡ Entries → HasLinkCounts geometry image.now links.items) }
 {
     match layout {
-        Ok(geometry) if kind == Kind::Entries => link_counts(alloc, image, geometry),
+        Ok(geometry) if checker == Checker::Entries => link_counts(alloc, image, geometry),
         _ => Ok(Vec::new(alloc)),
     }
 }
 
 /// How many pieces there are: of the blocks the free list and each i-number, else the parts of each i-number.
-fn piece_count(kind: Kind, layout: &Result<Geometry, GeometryFault>, starts: &[u32]) -> u64
-    requires starts { (geometry : Geometry) → layout.now ≡ Ok geometry → kind ≢ Blocks → length starts.now ≡ geometry.last_inode + 1 }
-    ensures blocks { (geometry : Geometry) → layout.now ≡ Ok geometry → kind ≡ Blocks → result ≡ geometry.last_inode + 1 }
-    ensures parts { (geometry : Geometry) → layout.now ≡ Ok geometry → kind ≢ Blocks → result ≡ slice_index starts.now geometry.last_inode }
+fn piece_count(checker: Checker, layout: &Result<Geometry, GeometryFault>, starts: &[u32]) -> u64
+    requires starts { (geometry : Geometry) → layout.now ≡ Ok geometry → checker ≢ Blocks → length starts.now ≡ geometry.last_inode + 1 }
+    ensures blocks { (geometry : Geometry) → layout.now ≡ Ok geometry → checker ≡ Blocks → result ≡ geometry.last_inode + 1 }
+    ensures parts { (geometry : Geometry) → layout.now ≡ Ok geometry → checker ≢ Blocks → result ≡ slice_index starts.now geometry.last_inode }
     ensures none { (fault : GeometryFault) → layout.now ≡ Err fault → result ≡ 0 }
     ensures few { result < 2 ^ 32 }
 {
     match layout {
-        Ok(geometry) if kind == Kind::Blocks => u64::from(geometry.last_inode) + 1,
+        Ok(geometry) if checker == Checker::Blocks => u64::from(geometry.last_inode) + 1,
         Ok(geometry) => u64::from(starts[geometry.last_inode as usize]),
         Err(_) => 0,
     }
 }
 
 /// The words that a sweep wants for images with this layout; none where these have no geometry.
-fn shape_for(kind: Kind, layout: &Result<Geometry, GeometryFault>, pieces: u64, seats: u64) -> Shape
+fn shape_for(
+    checker: Checker,
+    layout: &Result<Geometry, GeometryFault>,
+    pieces: u64,
+    seats: u64,
+) -> Shape
     requires bounds { IfOk layout.now IsLaidOut }
-    requires blocks { (geometry : Geometry) → layout.now ≡ Ok geometry → kind ≡ Blocks → pieces ≡ geometry.last_inode + 1 }
-    ensures words { (geometry : Geometry) → layout.now ≡ Ok geometry → HasWordsOf kind geometry result }
+    requires blocks { (geometry : Geometry) → layout.now ≡ Ok geometry → checker ≡ Blocks → pieces ≡ geometry.last_inode + 1 }
+    ensures words { (geometry : Geometry) → layout.now ≡ Ok geometry → HasWordsOf checker geometry result }
     ensures pieces { result.pieces ≡ pieces }
     ensures seats { result.seats ≡ seats }
     ensures few { result.counts + result.leasts < 2 ^ 48 }
 {
     let (counts, leasts) = match layout {
-        Ok(geometry) => words_for(kind, geometry),
+        Ok(geometry) => words_for(checker, geometry),
         Err(_) => (0, 0),
     };
     Shape {
@@ -136,18 +141,18 @@ fn shape_for(kind: Kind, layout: &Result<Geometry, GeometryFault>, pieces: u64, 
 }
 
 /// How many count words and how many least words a sweep wants.
-fn words_for(kind: Kind, geometry: &Geometry) -> (u64, u64)
+fn words_for(checker: Checker, geometry: &Geometry) -> (u64, u64)
     requires zone { geometry.now.zone_start < geometry.now.zone_end }
-    ensures words { (shape : Shape) → (kind ≡ Blocks → shape.pieces ≡ geometry.now.last_inode + 1) → shape.counts ≡ result.0 → shape.leasts ≡ result.1
-        → HasWordsOf kind geometry.now shape }
+    ensures words { (shape : Shape) → (checker ≡ Blocks → shape.pieces ≡ geometry.now.last_inode + 1) → shape.counts ≡ result.0 → shape.leasts ≡ result.1
+        → HasWordsOf checker geometry.now shape }
     ensures few { result.0 + result.1 < 2 ^ 48 }
 {
     let last = u64::from(geometry.last_inode);
     let zone = u64::from(geometry.zone_end - geometry.zone_start);
-    match kind {
-        Kind::Blocks => (2 * zone + (last + 4), last),
-        Kind::Entries => (last, 0),
-        Kind::Names => (0, last),
+    match checker {
+        Checker::Blocks => (2 * zone + (last + 4), last),
+        Checker::Entries => (last, 0),
+        Checker::Names => (0, last),
     }
 }
 

@@ -6,8 +6,8 @@ ghost use Rattle.vol_check.specs.Seats.{IsSeatOf, IsOf, is_stopped, found_no_mem
 ghost use Rattle.vol_check.specs.Layouts.{IsFor};
 ghost use Rattle.vol_check.specs.Reporting.{IsReport};
 
+use crate::checker::Checker;
 use crate::gathering::gather;
-use crate::kind::Kind;
 use crate::seats::CheckSeat;
 use crate::sweeps::Sweep;
 use std::alloc::{AllocError, Global};
@@ -16,19 +16,19 @@ use vol_reports::{Report, block_report, entry_report, name_report};
 impl Sweep {
     /// The report of the image that the seats swept. Where one of them found no memory it finds none.
     ///
-    /// Costs a few looks at the words of each data block and i-number, and what the report's kind costs. Takes memory for
+    /// Costs a few looks at the words of each data block and i-number, and what the report's checker costs. Takes memory for
     /// the lines, and for the entries that the seats keep.
     pub fn finish(self, alloc: Global, seats: Vec<CheckSeat>) -> Result<Report, AllocError>
         requires count { vec_len seats ≡ (shape_of self.tally).seats }
         requires own { All (IsSeatOf self.tally) seats.items }
         requires stopped { 1 ≤ count_by is_stopped seats.items }
         ensures report { IfOk result (λ report. (image : List ℕ) → IsFor self image
-            → All (IsOf self.kind self.layout image) seats.items → IsReport self.kind self.edition image report) }
+            → All (IsOf self.checker self.layout image) seats.items → IsReport self.checker self.edition image report) }
         ensures err { list_any found_no_memory seats.items ≡ true → IsErr result }
     {
         let Sweep {
             tally,
-            kind,
+            checker,
             layout,
             links,
             ..
@@ -40,10 +40,10 @@ impl Sweep {
         match layout {
             Ok(geometry) => {
                 let words = tally.close(all.seat);
-                match kind {
-                    Kind::Blocks => block_report(alloc, &geometry, &words, all.fault),
-                    Kind::Entries => entry_report(alloc, &geometry, &words, &links),
-                    Kind::Names => name_report(alloc, &geometry, &words, &all.entries),
+                match checker {
+                    Checker::Blocks => block_report(alloc, &geometry, &words, all.fault),
+                    Checker::Entries => entry_report(alloc, &geometry, &words, &links),
+                    Checker::Names => name_report(alloc, &geometry, &words, &all.entries),
                 }
             }
             Err(fault) => Report::of_fault(alloc, fault),

@@ -1,6 +1,7 @@
 //! What the blocks of an image are, whether it is sound or not, found by any number of threads.
 #![tactic(auto)]
 
+mod checker;
 mod checkers;
 mod dealing;
 mod finishing;
@@ -8,7 +9,6 @@ mod free_walk;
 mod gate;
 mod gathering;
 mod inode_marks;
-mod kind;
 mod parts;
 mod rest;
 mod running;
@@ -19,9 +19,9 @@ mod sweeps;
 #[cfg(test)]
 mod tests;
 
+pub use checker::Checker;
 pub use checkers::{dcheck, icheck, ncheck};
 pub use gate::{Gate, Open};
-pub use kind::Kind;
 pub use seats::{CheckSeat, Piece};
 pub use sweeps::Sweep;
 pub use vol_reports::FreeFault;

@@ -17,7 +17,7 @@ impl Sweep {
     fn run<G: Gate>(&self, alloc: Global, gate: &G, image: &Image, seat: &mut CheckSeat)
         requires own { IsSeatOf self.now.tally seat.old }
         requires layout { IsFor self.now image.now }
-        requires image { IsOf self.now.kind self.now.layout image.now seat.old }
+        requires image { IsOf self.now.checker self.now.layout image.now seat.old }
         ensures { Ran self.now image.now seat.new }
     {
         while let Ok(Some(_piece)) = self.step_at(alloc, gate, image, seat) {}
@@ -35,13 +35,13 @@ impl Sweep {
         requires some { 0 < length seats.old }
         requires own { All (IsSeatOf self.now.tally) seats.old }
         requires layout { IsFor self.now image.now }
-        requires image { All (IsOf self.now.kind self.now.layout image.now) seats.old }
+        requires image { All (IsOf self.now.checker self.now.layout image.now) seats.old }
         ensures len { length seats.new ≡ length seats.old }
         ensures ran { All (Ran self.now image.now) seats.new }
     {
         let count = seats.len();
         let run = |_: usize, seat: &mut CheckSeat|
-            requires { IsSeatOf self.now.tally seat.old × IsFor self.now image.now × IsOf self.now.kind self.now.layout image.now seat.old }
+            requires { IsSeatOf self.now.tally seat.old × IsFor self.now image.now × IsOf self.now.checker self.now.layout image.now seat.old }
             ensures { Ran self.entry.now image.entry.now seat.new }
         { self.run(alloc, gate, image, seat) };
         thread::for_each_mut(threads, seats, count, &run);

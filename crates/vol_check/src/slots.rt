@@ -14,7 +14,7 @@ ghost use Rattle.vol_check.specs.Slots.{slot_weight, slot_kept, name_weight, par
 ghost use Rattle.vol_check.specs.Shapes.{HasWordsOf};
 ghost use Rattle.vol_check.specs.Noting.{Notes, Stays};
 
-use crate::kind::Kind;
+use crate::checker::Checker;
 use crate::parts::{PART_BLOCKS, Part};
 use crate::seats::CheckSeat;
 use crate::sweeps::Sweep;
@@ -25,7 +25,7 @@ use vol_dir::is_dots;
 use vol_file::{block_at, next_block};
 use vol_layout::i_list::{kind, size};
 use vol_layout::slot::SLOT;
-use vol_layout::{Geometry, Kind as InodeKind, Slot};
+use vol_layout::{Geometry, Kind, Slot};
 use vol_reports::Entered;
 use vol_reports::words::{entry_word, name_word, rank};
 
@@ -53,19 +53,19 @@ impl Sweep {
         part: Part,
     ) -> Result<(), AllocError>
         requires fits { Fits geometry.now image.now }
-        requires words { HasWordsOf self.now.kind geometry.now (shape_of self.now.tally) }
+        requires words { HasWordsOf self.now.checker geometry.now (shape_of self.now.tally) }
         requires own { IsSeatAt self.now.tally seat.old.seat }
         requires parts { 1 ≤ seat.old.seat.me.0.parts }
         requires first { 1 ≤ part.inode }
         requires last { part.inode ≤ geometry.now.last_inode }
         requires within { part.index < part_count geometry.now image.now part.inode }
         ensures ok { IfOk result (λ _. Notes self.now.tally seat.old seat.new
-            (λ weight. part_sum geometry.now image.now (slot_weight self.now.kind geometry.now weight) part.inode part.index)
-            (λ weight. part_sum geometry.now image.now (slot_kept self.now.kind weight) part.inode part.index)) }
+            (λ weight. part_sum geometry.now image.now (slot_weight self.now.checker geometry.now weight) part.inode part.index)
+            (λ weight. part_sum geometry.now image.now (slot_kept self.now.checker weight) part.inode part.index)) }
         ensures err { IfErr result (λ _. Stays self.now.tally seat.old seat.new) }
     {
         match kind(image, geometry, part.inode) {
-            InodeKind::Directory => {
+            Kind::Directory => {
                 let from = PART_BLOCKS * part.index;
                 let blocks = slot_count(image, geometry, part.inode).div_ceil(SLOTS);
                 let end = blocks.min(from + PART_BLOCKS);
@@ -86,7 +86,7 @@ impl Sweep {
         end: u32,
     ) -> Result<(), AllocError>
         requires fits { Fits geometry.now image.now }
-        requires words { HasWordsOf self.now.kind geometry.now (shape_of self.now.tally) }
+        requires words { HasWordsOf self.now.checker geometry.now (shape_of self.now.tally) }
         requires own { IsSeatAt self.now.tally seat.old.seat }
         requires parts { 1 ≤ seat.old.seat.me.0.parts }
         requires first { 1 ≤ d }
@@ -94,8 +94,8 @@ impl Sweep {
         requires order { from ≤ end }
         requires few { end ≤ 2113674 }
         ensures ok { IfOk result (λ _. Notes self.now.tally seat.old seat.new
-            (λ weight. below (λ t. slot_weight self.now.kind geometry.now weight d (32 * from + t) (entry_at geometry.now image.now d (32 * from + t))) (32 * (end - from)))
-            (λ weight. below (λ t. slot_kept self.now.kind weight d (32 * from + t) (entry_at geometry.now image.now d (32 * from + t))) (32 * (end - from)))) }
+            (λ weight. below (λ t. slot_weight self.now.checker geometry.now weight d (32 * from + t) (entry_at geometry.now image.now d (32 * from + t))) (32 * (end - from)))
+            (λ weight. below (λ t. slot_kept self.now.checker weight d (32 * from + t) (entry_at geometry.now image.now d (32 * from + t))) (32 * (end - from)))) }
         ensures err { IfErr result (λ _. Stays self.now.tally seat.old seat.new) }
     {
         let mut b = next_block(image, geometry, d, from, end);
@@ -116,15 +116,15 @@ impl Sweep {
         b: u32,
     ) -> Result<(), AllocError>
         requires fits { Fits geometry.now image.now }
-        requires words { HasWordsOf self.now.kind geometry.now (shape_of self.now.tally) }
+        requires words { HasWordsOf self.now.checker geometry.now (shape_of self.now.tally) }
         requires own { IsSeatAt self.now.tally seat.old.seat }
         requires parts { 1 ≤ seat.old.seat.me.0.parts }
         requires first { 1 ≤ d }
         requires last { d ≤ geometry.now.last_inode }
         requires few { b < 2113674 }
         ensures ok { IfOk result (λ _. Notes self.now.tally seat.old seat.new
-            (λ weight. below (λ t. slot_weight self.now.kind geometry.now weight d (32 * b + t) (entry_at geometry.now image.now d (32 * b + t))) 32)
-            (λ weight. below (λ t. slot_kept self.now.kind weight d (32 * b + t) (entry_at geometry.now image.now d (32 * b + t))) 32)) }
+            (λ weight. below (λ t. slot_weight self.now.checker geometry.now weight d (32 * b + t) (entry_at geometry.now image.now d (32 * b + t))) 32)
+            (λ weight. below (λ t. slot_kept self.now.checker weight d (32 * b + t) (entry_at geometry.now image.now d (32 * b + t))) 32)) }
         ensures err { IfErr result (λ _. Stays self.now.tally seat.old seat.new) }
     {
         match block_at(image, geometry, d, b) {
@@ -150,23 +150,23 @@ impl Sweep {
         s: u32,
         slot: Slot,
     ) -> Result<(), AllocError>
-        requires words { HasWordsOf self.now.kind geometry.now (shape_of self.now.tally) }
+        requires words { HasWordsOf self.now.checker geometry.now (shape_of self.now.tally) }
         requires own { IsSeatAt self.now.tally seat.old.seat }
         requires parts { 1 ≤ seat.old.seat.me.0.parts }
         ensures ok { IfOk result (λ _. Notes self.now.tally seat.old seat.new
-            (λ weight. slot_weight self.now.kind geometry.now weight d s (entry_in slot)) (λ weight. slot_kept self.now.kind weight d s (entry_in slot))) }
+            (λ weight. slot_weight self.now.checker geometry.now weight d s (entry_in slot)) (λ weight. slot_kept self.now.checker weight d s (entry_in slot))) }
         ensures err { IfErr result (λ _. Stays self.now.tally seat.old seat.new) }
     {
         if slot.inode == 0 {
             return Ok(());
         }
-        match self.kind {
-            Kind::Blocks => Ok(()),
-            Kind::Entries => {
+        match self.checker {
+            Checker::Blocks => Ok(()),
+            Checker::Entries => {
                 count_entry(&self.tally, &mut seat.seat, geometry, slot.inode);
                 Ok(())
             }
-            Kind::Names => keep_entry(&self.tally, seat, geometry, Entered::new(d, s, slot)),
+            Checker::Names => keep_entry(&self.tally, seat, geometry, Entered::new(d, s, slot)),
         }
     }
 }

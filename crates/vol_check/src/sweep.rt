@@ -4,16 +4,16 @@ ghost use Rattle.count_table.specs.Tallies.{IsSeatAt, shape_of};
 ghost use Rattle.vol_layout.specs.Geometry.{Fits};
 ghost use Rattle.vol_layout.specs.declared.geometry.Geometry.{Geometry};
 ghost use Rattle.vol_reports.specs.Words.{HasWords};
-ghost use Rattle.vol_check.specs.declared.kind.Kind.TheVariants.{Blocks};
+ghost use Rattle.vol_check.specs.declared.checker.Checker.TheVariants.{Blocks};
 ghost use Rattle.vol_check.specs.Seats.{IsSeatOf, IsOf};
 ghost use Rattle.vol_check.specs.Layouts.{IsFor};
 ghost use Rattle.vol_check.specs.Noting.{Stays};
 ghost use Rattle.vol_check.specs.Stepping.{Stepped, Works};
 
+use crate::checker::Checker;
 use crate::free_walk::mark_free;
 use crate::gate::{Gate, Open};
 use crate::inode_marks::mark_inode;
-use crate::kind::Kind;
 use crate::parts::part_at;
 use crate::seats::{CheckSeat, Piece};
 use crate::sweeps::Sweep;
@@ -34,7 +34,7 @@ impl Sweep {
     ) -> Result<Option<Piece>, AllocError>
         requires own { IsSeatOf self.now.tally seat.old }
         requires layout { IsFor self.now image.now }
-        requires image { IsOf self.now.kind self.now.layout image.now seat.old }
+        requires image { IsOf self.now.checker self.now.layout image.now seat.old }
         ensures { Stepped self.now image.now seat.old seat.new result }
     {
         self.step_at(alloc, &Open, image, seat)
@@ -50,7 +50,7 @@ impl Sweep {
     ) -> Result<Option<Piece>, AllocError>
         requires own { IsSeatOf self.now.tally seat.old }
         requires layout { IsFor self.now image.now }
-        requires image { IsOf self.now.kind self.now.layout image.now seat.old }
+        requires image { IsOf self.now.checker self.now.layout image.now seat.old }
         ensures { Stepped self.now image.now seat.old seat.new result }
     {
         if seat.spoiled {
@@ -89,14 +89,14 @@ impl Sweep {
         requires parts { 1 ≤ seat.old.seat.me.0.parts }
         requires piece { number < self.now.pieces }
         ensures ok { IfOk result (λ _. (geometry : Geometry) → self.now.layout ≡ Ok geometry
-            → Works self.now.tally self.now.kind geometry image.now number seat.old seat.new) }
+            → Works self.now.tally self.now.checker geometry image.now number seat.old seat.new) }
         ensures err { IfErr result (λ _. Stays self.now.tally seat.old seat.new) }
     {
         let Ok(geometry) = self.layout else {
             unreachable!()
         };
-        match self.kind {
-            Kind::Blocks => self.check_blocks(alloc, image, &geometry, seat, number),
+        match self.checker {
+            Checker::Blocks => self.check_blocks(alloc, image, &geometry, seat, number),
             _ => self.note_piece(image, &geometry, seat, number),
         }
     }
@@ -109,13 +109,13 @@ impl Sweep {
         seat: &mut CheckSeat,
         number: u64,
     ) -> Result<(), AllocError>
-        requires kind { self.now.kind ≢ Blocks }
+        requires checker { self.now.checker ≢ Blocks }
         requires layout { self.now.layout ≡ Ok geometry.now }
         requires image { IsFor self.now image.now }
         requires own { IsSeatAt self.now.tally seat.old.seat }
         requires parts { 1 ≤ seat.old.seat.me.0.parts }
         requires piece { number < self.now.pieces }
-        ensures ok { IfOk result (λ _. Works self.now.tally self.now.kind geometry.now image.now number seat.old seat.new) }
+        ensures ok { IfOk result (λ _. Works self.now.tally self.now.checker geometry.now image.now number seat.old seat.new) }
         ensures err { IfErr result (λ _. Stays self.now.tally seat.old seat.new) }
     {
         let _last = geometry.last_inode;

@@ -1,7 +1,7 @@
 //! A sweep over an image.
 ghost use Rattle.vol_check.specs.Shapes.{IsShaped};
 
-use crate::kind::Kind;
+use crate::checker::Checker;
 use count_table::Tally;
 use vol_layout::{Edition, Geometry, GeometryFault};
 use vol_reports::LinkCount;
@@ -11,7 +11,7 @@ use vol_reports::LinkCount;
 pub struct Sweep {
     pub(crate) tally: Tally,
     pub(crate) edition: Edition,
-    pub(crate) kind: Kind,
+    pub(crate) checker: Checker,
     /// The geometry of the image that it was made for, or why there is none.
     pub(crate) layout: Result<Geometry, GeometryFault>,
     /// How many pieces there are.
@@ -20,5 +20,5 @@ pub struct Sweep {
     pub(crate) starts: Vec<u32>,
     /// The link counts, for a report of the entries.
     pub(crate) links: Vec<LinkCount>,
-    ghost shaped: { IsShaped kind layout pieces starts.items links.items tally.table.shared.key },
+    ghost shaped: { IsShaped checker layout pieces starts.items links.items tally.table.shared.key },
 }

@@ -1,7 +1,7 @@
 ghost use Rattle.vol_check.specs.Seats.{IsSeatOf, IsOf};
 ghost use Rattle.vol_check.specs.Layouts.{IsFor};
 
-use crate::{CheckSeat, Kind, Sweep};
+use crate::{CheckSeat, Checker, Sweep};
 use pdp_words::Image;
 use std::alloc::Global;
 use std::test::Fail;
@@ -11,7 +11,7 @@ use vol_layout::Edition;
 fn pieces_in_order(sweep: &Sweep, alloc: Global, image: &Image, seat: &mut CheckSeat) -> u64
     requires own { IsSeatOf sweep.now.tally seat.old }
     requires layout { IsFor sweep.now image.now }
-    requires image { IsOf sweep.now.kind sweep.now.layout image.now seat.old }
+    requires image { IsOf sweep.now.checker sweep.now.layout image.now seat.old }
 {
     let mut count = 0;
     for _k in 0..40u64 {
@@ -35,7 +35,7 @@ fn small_volume(alloc: Global) -> Result<Image, Fail> {
 #[test]
 fn one_seat_draws_the_free_list_and_each_inode(rt: HostRuntime) -> Result<(), Fail> {
     let image = small_volume(rt.alloc())?;
-    let (sweep, mut seats) = Sweep::new(rt.alloc(), Edition::V6, &image, Kind::Blocks, 1)?;
+    let (sweep, mut seats) = Sweep::new(rt.alloc(), Edition::V6, &image, Checker::Blocks, 1)?;
     let Some(mut seat) = seats.pop() else {
         return Err(Fail::from("no seat"));
     };

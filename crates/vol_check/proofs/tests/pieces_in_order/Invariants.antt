@@ -6,6 +6,6 @@ use Rattle.vol_check.proofs.tests.pieces_in_order.Given as goal
 abbrev pub invariant-loop-k : goal.invariant-loop-k
 invariant-loop-k l = record {
   own : IsSeatOf l.sweep.tally l.seat;
-  knows : IsOf l.sweep.kind l.sweep.layout l.image l.seat;
+  knows : IsOf l.sweep.checker l.sweep.layout l.image l.seat;
   few : l.count ≤ 40;
 }

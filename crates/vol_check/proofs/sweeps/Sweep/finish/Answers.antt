@@ -6,8 +6,8 @@ use Rattle.vol_reports.specs.Blocks.{block_lines}
 use Rattle.vol_reports.specs.Entries.{entry_lines}
 use Rattle.vol_reports.specs.Names.{IsNameLines}
 use Rattle.vol_reports.specs.Counted.{CountsBlocks, CountsEntries, CountsNames, HasLinkCounts}
-use Rattle.vol_check.specs.declared.kind.Kind.{Kind}
-use Rattle.vol_check.specs.declared.kind.Kind.TheVariants.{Blocks, Entries, Names}
+use Rattle.vol_check.specs.declared.checker.Checker.{Checker}
+use Rattle.vol_check.specs.declared.checker.Checker.TheVariants.{Blocks, Entries, Names}
 use Rattle.vol_check.specs.Shapes.{Layout}
 use Rattle.vol_check.specs.Seats.{IsOf}
 use Rattle.vol_check.specs.Layouts.{IsFor}
@@ -37,16 +37,16 @@ returns-in-Blocks-clause-report c =
     let words = items_of c.close-words.result in
     let well = c.if-all.false in
     IfOk-weaker c.block_report.result (λ report. (image : List ℕ) → CountsBlocks g image words all.fault → report ≡ block_lines g image)
-    (λ report. (image : List ℕ) → IsFor sweep image → All (IsOf sweep.kind sweep.layout image) c.args.seats.items → IsReport sweep.kind sweep.edition image report)
+    (λ report. (image : List ℕ) → IsFor sweep image → All (IsOf sweep.checker sweep.layout image) c.args.seats.items → IsReport sweep.checker sweep.edition image report)
     (λ report is image layout seats.
     let read = layout.read ∙ c.in-Ok.is in
-    let knows = gathers.knows sweep.kind sweep.layout image seats in
-    let known = subst (λ (x : Layout). IsOf Blocks x image all) c.in-Ok.is (subst (λ (k : Kind). IsOf k sweep.layout image all) c.in-Blocks.is knows) in
+    let knows = gathers.knows sweep.checker sweep.layout image seats in
+    let known = subst (λ (x : Layout). IsOf Blocks x image all) c.in-Ok.is (subst (λ (k : Checker). IsOf k sweep.layout image all) c.in-Blocks.is knows) in
     let fits = read_fits sweep.edition image g read ready.bounds in
     let stopped = gathers.stopped well in
     let fault = known.fault well ∙ walked g image fits (shape_of sweep.tally) all.seat.me.0 words has c.close-words.ensures stopped (known.marks well) in
     let counts = counts_blocks g image fits (shape_of sweep.tally) all.seat.me.0 words has c.close-words.ensures stopped (known.marks well) all.fault fault in
-    subst (λ (k : Kind). IsReport k sweep.edition image report) (sym c.in-Blocks.is)
+    subst (λ (k : Checker). IsReport k sweep.edition image report) (sym c.in-Blocks.is)
     (is image counts ∙ sym (ap (λ (x : Layout). block_report_of x image) read)))
     c.block_report.ensures
 
@@ -70,20 +70,20 @@ returns-in-Entries-clause-report c =
     let has = ready.words.of_entries c.in-Entries.is in
     let words = items_of c.close-words.result in
     let well = c.if-all.false in
-    let other : sweep.kind ≡ Blocks → ⊥ = λ e. absurd (let q : Entries ≡ Blocks = sym c.in-Entries.is ∙ e in cc) in
+    let other : sweep.checker ≡ Blocks → ⊥ = λ e. absurd (let q : Entries ≡ Blocks = sym c.in-Entries.is ∙ e in cc) in
     IfOk-weaker c.entry_report.result
     (λ report. (image : List ℕ) → CountsEntries g image words → HasLinkCounts g image c.deref.result.now → report ≡ entry_lines g image)
-    (λ report. (image : List ℕ) → IsFor sweep image → All (IsOf sweep.kind sweep.layout image) c.args.seats.items → IsReport sweep.kind sweep.edition image report)
+    (λ report. (image : List ℕ) → IsFor sweep image → All (IsOf sweep.checker sweep.layout image) c.args.seats.items → IsReport sweep.checker sweep.edition image report)
     (λ report is image layout seats.
     let read = layout.read ∙ c.in-Ok.is in
-    let knows = gathers.knows sweep.kind sweep.layout image seats in
-    let known = subst (λ (x : Layout). IsOf Entries x image all) c.in-Ok.is (subst (λ (k : Kind). IsOf k sweep.layout image all) c.in-Entries.is knows) in
+    let knows = gathers.knows sweep.checker sweep.layout image seats in
+    let known = subst (λ (x : Layout). IsOf Entries x image all) c.in-Ok.is (subst (λ (k : Checker). IsOf k sweep.layout image all) c.in-Entries.is knows) in
     let fits = read_fits sweep.edition image g read ready.bounds in
     let stopped = gathers.stopped well in
     let counts = counts_entries g image fits (shape_of sweep.tally) all.seat.me.0 words sweep.pieces sweep.starts.items has c.close-words.ensures
     sweep.shaped.count stopped (ready.parts other) (layout.starts g c.in-Ok.is other) (known.marks well) in
     let links = subst (HasLinkCounts g image) (sym c.deref.ensures.value) (layout.links g c.in-Ok.is c.in-Entries.is) in
-    subst (λ (k : Kind). IsReport k sweep.edition image report) (sym c.in-Entries.is)
+    subst (λ (k : Checker). IsReport k sweep.edition image report) (sym c.in-Entries.is)
     (is image counts links ∙ sym (ap (λ (x : Layout). entry_report_of x image) read)))
     c.entry_report.ensures
 
@@ -102,19 +102,19 @@ returns-in-Ok-clause-report c =
     let has = ready.words.of_names c.in-Names.is in
     let words = items_of c.close-words.result in
     let well = c.if-all.false in
-    let other : sweep.kind ≡ Blocks → ⊥ = λ e. absurd (let q : Names ≡ Blocks = sym c.in-Names.is ∙ e in cc) in
+    let other : sweep.checker ≡ Blocks → ⊥ = λ e. absurd (let q : Names ≡ Blocks = sym c.in-Names.is ∙ e in cc) in
     IfOk-weaker c.name_report.result
     (λ report. (image : List ℕ) → CountsNames g image words c.deref-in-Names.result.now → IsNameLines g image report)
-    (λ report. (image : List ℕ) → IsFor sweep image → All (IsOf sweep.kind sweep.layout image) c.args.seats.items → IsReport sweep.kind sweep.edition image report)
+    (λ report. (image : List ℕ) → IsFor sweep image → All (IsOf sweep.checker sweep.layout image) c.args.seats.items → IsReport sweep.checker sweep.edition image report)
     (λ report is image layout seats.
     let read = layout.read ∙ c.in-Ok.is in
-    let knows = gathers.knows sweep.kind sweep.layout image seats in
-    let known = subst (λ (x : Layout). IsOf Names x image all) c.in-Ok.is (subst (λ (k : Kind). IsOf k sweep.layout image all) c.in-Names.is knows) in
+    let knows = gathers.knows sweep.checker sweep.layout image seats in
+    let known = subst (λ (x : Layout). IsOf Names x image all) c.in-Ok.is (subst (λ (k : Checker). IsOf k sweep.layout image all) c.in-Names.is knows) in
     let fits = read_fits sweep.edition image g read ready.bounds in
     let stopped = gathers.stopped well in
     let counts = counts_names g image fits (shape_of sweep.tally) all.seat.me.0 words sweep.pieces sweep.starts.items has c.close-words.ensures
     sweep.shaped.count stopped (ready.parts other) (layout.starts g c.in-Ok.is other) (known.marks well) all.entries.items (known.entries well) in
-    subst (λ (k : Kind). IsReport k sweep.edition image report) (sym c.in-Names.is)
+    subst (λ (k : Checker). IsReport k sweep.edition image report) (sym c.in-Names.is)
     (subst (λ (x : Layout). IsNameReportOf x image report) (sym read)
     (is image (subst (CountsNames g image words) (sym c.deref-in-Names.ensures.value) counts))))
     c.name_report.ensures

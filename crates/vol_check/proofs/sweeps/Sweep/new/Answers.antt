@@ -20,7 +20,7 @@ invariant_of-result c =
         count = ap (λ (s : Shape). s.pieces) key ∙ c.shape_for.ensures.pieces;
         ready = λ g is. record {
           bounds = laid_out g image (IfOk-at_ok (λ g. Fits g image) is c.read-layout.ensures.fits);
-          words = subst (HasWordsOf c.args.kind g) (sym key) (c.shape_for.ensures.words g is);
+          words = subst (HasWordsOf c.args.checker g) (sym key) (c.shape_for.ensures.words g is);
           parts = λ other.
               let starts = c.in_ok-starts.ensures g is other in
               let value = c.deref.ensures.value in record {
@@ -39,7 +39,7 @@ returns-clause-own c = λ k d lt. fresh_own c.in_ok-tally.tally (slice_index_or 
 
 pub returns-clause-knows : goal.returns-clause-knows
 returns-clause-knows c = λ bytes k d lt.
-    fresh_knows c.in_ok-tally.tally c.args.kind c.read-layout.result bytes (slice_index_or c.in_ok-dealt.dealt.items k d) (c.in_ok-dealt.ensures.fresh k d lt)
+    fresh_knows c.in_ok-tally.tally c.args.checker c.read-layout.result bytes (slice_index_or c.in_ok-dealt.dealt.items k d) (c.in_ok-dealt.ensures.fresh k d lt)
 
 pub returns-clause-others : goal.returns-clause-others
 returns-clause-others c = λ other same.
@@ -49,10 +49,10 @@ returns-clause-others c = λ other same.
     λ g is. IfOk-at_ok (λ g. Fits g image) (exact ∙ is) c.read-layout.ensures.fits in
     record {
       read = read_same c.args.edition image other same fits ∙ sym exact;
-      starts = λ g is kind.
+      starts = λ g is checker.
           let read = sym exact ∙ is in
-          starts_same c.args.edition image other same g read (fits g read) c.in_ok-starts.starts.items (c.in_ok-starts.ensures g is kind);
-      links = λ g is kind.
+          starts_same c.args.edition image other same g read (fits g read) c.in_ok-starts.starts.items (c.in_ok-starts.ensures g is checker);
+      links = λ g is checker.
           let read = sym exact ∙ is in
-          links_same c.args.edition image other same g read (fits g read) c.in_ok-links.links.items (c.in_ok-links.ensures g is kind);
+          links_same c.args.edition image other same g read (fits g read) c.in_ok-links.links.items (c.in_ok-links.ensures g is checker);
     }

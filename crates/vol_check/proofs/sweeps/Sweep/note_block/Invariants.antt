@@ -6,4 +6,4 @@ use Rattle.vol_check.proofs.sweeps.Sweep.note_block.Given as goal
 -- the slots before s are noted
 abbrev pub invariant-loop-s : goal.invariant-loop-s
 invariant-loop-s l = Notes l.self.tally l.fn.seat l.seat
-    (marked_over l.self.kind l.geometry l.image l.d (32 * l.b) l.s) (kept_over l.self.kind l.geometry l.image l.d (32 * l.b) l.s)
+    (marked_over l.self.checker l.geometry l.image l.d (32 * l.b) l.s) (kept_over l.self.checker l.geometry l.image l.d (32 * l.b) l.s)

@@ -5,7 +5,7 @@ use Rattle.vol_check.proofs.sweeps.Sweep.note_blocks.Goals as goal
 
 pub loop-b-init : goal.loop-b-init
 loop-b-init c =
-    let kind = c.args.self.now.kind in
+    let checker = c.args.self.now.checker in
     let g = c.args.geometry.now in
     let image = c.args.image.now in
     let d = c.args.d in
@@ -16,17 +16,17 @@ loop-b-init c =
     record {
       low = low;
       high = next.within;
-      notes = notes_none c.args.self.now.tally c.args.seat.now (marked_over kind g image d (32 * from) (32 * (b - from))) (kept_over kind g image d (32 * from) (32 * (b - from)))
+      notes = notes_none c.args.self.now.tally c.args.seat.now (marked_over checker g image d (32 * from) (32 * (b - from))) (kept_over checker g image d (32 * from) (32 * (b - from)))
           c.requires.own
-          (λ weight. over_blank g image d (slot_weight kind g weight) (blank_weight kind g weight d) (32 * from) (32 * (b - from))
+          (λ weight. over_blank g image d (slot_weight checker g weight) (blank_weight checker g weight d) (32 * from) (32 * (b - from))
           (λ s at before. entry_hole g image d from b s c.requires.fits next.hole at (omega (arith, before, low))))
-          (λ weight. over_blank g image d (slot_kept kind weight) (blank_kept kind weight d) (32 * from) (32 * (b - from))
+          (λ weight. over_blank g image d (slot_kept checker weight) (blank_kept checker weight d) (32 * from) (32 * (b - from))
           (λ s at before. entry_hole g image d from b s c.requires.fits next.hole at (omega (arith, before, low))));
     }
 
 pub loop-b-preserved : goal.loop-b-preserved
 loop-b-preserved c =
-    let kind = c.args.self.now.kind in
+    let checker = c.args.self.now.checker in
     let g = c.args.geometry.now in
     let image = c.args.image.now in
     let d = c.args.d in
@@ -39,9 +39,9 @@ loop-b-preserved c =
       low = omega (arith, inv.low, next.reached);
       high = next.within;
       notes = notes_then c.args.self.now.tally c.args.seat.now c.loop-b.seat c.note_block.new.seat
-          (marked_over kind g image d (32 * from) (32 * (b - from))) (marked_over kind g image d (32 * b) 32) (marked_over kind g image d (32 * from) (32 * (after - from)))
-          (kept_over kind g image d (32 * from) (32 * (b - from))) (kept_over kind g image d (32 * b) 32) (kept_over kind g image d (32 * from) (32 * (after - from)))
+          (marked_over checker g image d (32 * from) (32 * (b - from))) (marked_over checker g image d (32 * b) 32) (marked_over checker g image d (32 * from) (32 * (after - from)))
+          (kept_over checker g image d (32 * from) (32 * (b - from))) (kept_over checker g image d (32 * b) 32) (kept_over checker g image d (32 * from) (32 * (after - from)))
           inv.notes c.in_ok-note_block.ensures.ok
-          (λ weight. over_next g image d (slot_weight kind g weight) (blank_weight kind g weight d) from b after c.requires.fits inv.low next.reached next.hole)
-          (λ weight. over_next g image d (slot_kept kind weight) (blank_kept kind weight d) from b after c.requires.fits inv.low next.reached next.hole);
+          (λ weight. over_next g image d (slot_weight checker g weight) (blank_weight checker g weight d) from b after c.requires.fits inv.low next.reached next.hole)
+          (λ weight. over_next g image d (slot_kept checker weight) (blank_kept checker weight d) from b after c.requires.fits inv.low next.reached next.hole);
     }

@@ -9,8 +9,8 @@ invariant-loop-b l = record {
   low : l.from ≤ l.b;
   high : l.b ≤ l.end;
   notes : Notes l.self.tally l.fn.seat l.seat
-      (marked_over l.self.kind l.geometry l.image l.d (32 * l.from) (32 * (l.b - l.from)))
-      (kept_over l.self.kind l.geometry l.image l.d (32 * l.from) (32 * (l.b - l.from)));
+      (marked_over l.self.checker l.geometry l.image l.d (32 * l.from) (32 * (l.b - l.from)))
+      (kept_over l.self.checker l.geometry l.image l.d (32 * l.from) (32 * (l.b - l.from)));
 }
 
 abbrev pub decreases-loop-b : goal.decreases-loop-b

@@ -20,7 +20,7 @@ note_blocks-requires-clause-order c =
 
 pub returns-in-Directory-clause-ok : goal.returns-in-Directory-clause-ok
 returns-in-Directory-clause-ok c =
-    let kind = c.args.self.now.kind in
+    let checker = c.args.self.now.checker in
     let g = c.args.geometry.now in
     let image = c.args.image.now in
     let d = c.args.part.inode in
@@ -34,26 +34,26 @@ returns-in-Directory-clause-ok c =
     let short : 32 * (end - from) < 2048 → slot_count g image d ≤ 32 * from + 32 * (end - from) =
     λ lt. omega (arith, lt, parts, c.requires.within, c.slot_count.ensures.exact, c.div_ceil-blocks.ensures, c.min-end.ensures) in
     IfOk-weaker c.note_blocks.result
-    (λ x. Notes tally c.args.seat.now c.note_blocks.new.seat (marked_over kind g image d (32 * from) (32 * (end - from))) (kept_over kind g image d (32 * from) (32 * (end - from))))
-    (λ x. Notes tally c.args.seat.now c.note_blocks.new.seat (λ weight. part_sum g image (slot_weight kind g weight) d k) (λ weight. part_sum g image (slot_kept kind weight) d k))
+    (λ x. Notes tally c.args.seat.now c.note_blocks.new.seat (marked_over checker g image d (32 * from) (32 * (end - from))) (kept_over checker g image d (32 * from) (32 * (end - from))))
+    (λ x. Notes tally c.args.seat.now c.note_blocks.new.seat (λ weight. part_sum g image (slot_weight checker g weight) d k) (λ weight. part_sum g image (slot_kept checker weight) d k))
     (λ x notes. notes_as tally c.args.seat.now c.note_blocks.new.seat
-    (marked_over kind g image d (32 * from) (32 * (end - from))) (λ weight. part_sum g image (slot_weight kind g weight) d k)
-    (kept_over kind g image d (32 * from) (32 * (end - from))) (λ weight. part_sum g image (slot_kept kind weight) d k) notes
-    (λ weight. part_over g image (slot_weight kind g weight) d k from (32 * (end - from)) (blank_weight kind g weight d) (sym c.in-Directory.ensures) at few short)
-    (λ weight. part_over g image (slot_kept kind weight) d k from (32 * (end - from)) (blank_kept kind weight d) (sym c.in-Directory.ensures) at few short))
+    (marked_over checker g image d (32 * from) (32 * (end - from))) (λ weight. part_sum g image (slot_weight checker g weight) d k)
+    (kept_over checker g image d (32 * from) (32 * (end - from))) (λ weight. part_sum g image (slot_kept checker weight) d k) notes
+    (λ weight. part_over g image (slot_weight checker g weight) d k from (32 * (end - from)) (blank_weight checker g weight d) (sym c.in-Directory.ensures) at few short)
+    (λ weight. part_over g image (slot_kept checker weight) d k from (32 * (end - from)) (blank_kept checker weight d) (sym c.in-Directory.ensures) at few short))
     c.note_blocks.ensures.ok
 
 pub returns-in_default : goal.returns-in_default
 returns-in_default c =
-    let kind = c.args.self.now.kind in
+    let checker = c.args.self.now.checker in
     let g = c.args.geometry.now in
     let image = c.args.image.now in
     let d = c.args.part.inode in
     let k = c.args.part.index in
     record {
-      ok = notes_none c.args.self.now.tally c.args.seat.now (λ weight. part_sum g image (slot_weight kind g weight) d k) (λ weight. part_sum g image (slot_kept kind weight) d k)
+      ok = notes_none c.args.self.now.tally c.args.seat.now (λ weight. part_sum g image (slot_weight checker g weight) d k) (λ weight. part_sum g image (slot_kept checker weight) d k)
           c.requires.own
-          (λ weight. part_none g image (slot_weight kind g weight) d k (λ e. c.in_default.not-Directory (c.kind.ensures ∙ e)))
-          (λ weight. part_none g image (slot_kept kind weight) d k (λ e. c.in_default.not-Directory (c.kind.ensures ∙ e)));
+          (λ weight. part_none g image (slot_weight checker g weight) d k (λ e. c.in_default.not-Directory (c.kind.ensures ∙ e)))
+          (λ weight. part_none g image (slot_kept checker weight) d k (λ e. c.in_default.not-Directory (c.kind.ensures ∙ e)));
       err = tt;
     }

@@ -10,7 +10,7 @@ use Rattle.vol_check.proofs.sweeps.Sweep.note_piece.Goals as goal
 
 pub part_at-part-requires-clause-first : goal.part_at-part-requires-clause-first
 part_at-part-requires-clause-first c =
-    let parts = (c.args.self.now.shaped.ready c.args.geometry.now c.requires.layout).parts c.requires.kind in
+    let parts = (c.args.self.now.shaped.ready c.args.geometry.now c.requires.layout).parts c.requires.checker in
     let value = ap (λ xs. slice_index xs 0) c.deref.ensures.value in omega (arith, parts.first, value)
 
 pub note_part-requires-clause-fits : goal.note_part-requires-clause-fits
@@ -22,21 +22,21 @@ pub note_part-requires-clause-within : goal.note_part-requires-clause-within
 note_part-requires-clause-within c =
     let g = c.args.geometry.now in
     let starts = c.args.self.now.starts.items in
-    part_within g c.args.image.now starts c.args.number c.part_at-part.result (c.requires.image.starts g c.requires.layout c.requires.kind)
+    part_within g c.args.image.now starts c.args.number c.part_at-part.result (c.requires.image.starts g c.requires.layout c.requires.checker)
     (subst (λ (xs : List ℕ). IsPart xs c.args.number c.part_at-part.result) c.deref.ensures.value c.part_at-part.ensures)
 
 pub returns-clause-ok : goal.returns-clause-ok
 returns-clause-ok c =
     let g = c.args.geometry.now in
     let image = c.args.image.now in
-    let kind = c.args.self.now.kind in
+    let checker = c.args.self.now.checker in
     let tally = c.args.self.now.tally in
     let part = c.part_at-part.result in
     let starts = c.args.self.now.starts.items in
     IfOk-weaker c.note_part.result
-    (λ x. Notes tally c.args.seat.now c.note_part.new.seat (λ weight. part_sum g image (slot_weight kind g weight) part.inode part.index)
-    (λ weight. part_sum g image (slot_kept kind weight) part.inode part.index))
-    (λ x. Works tally kind g image c.args.number c.args.seat.now c.note_part.new.seat)
-    (λ x notes. note_works g image starts c.args.number part (c.requires.image.starts g c.requires.layout c.requires.kind)
-    (subst (λ (xs : List ℕ). IsPart xs c.args.number part) c.deref.ensures.value c.part_at-part.ensures) tally kind c.args.seat.now c.note_part.new.seat c.requires.kind notes)
+    (λ x. Notes tally c.args.seat.now c.note_part.new.seat (λ weight. part_sum g image (slot_weight checker g weight) part.inode part.index)
+    (λ weight. part_sum g image (slot_kept checker weight) part.inode part.index))
+    (λ x. Works tally checker g image c.args.number c.args.seat.now c.note_part.new.seat)
+    (λ x notes. note_works g image starts c.args.number part (c.requires.image.starts g c.requires.layout c.requires.checker)
+    (subst (λ (xs : List ℕ). IsPart xs c.args.number part) c.deref.ensures.value c.part_at-part.ensures) tally checker c.args.seat.now c.note_part.new.seat c.requires.checker notes)
     c.note_part.ensures.ok

@@ -7,7 +7,7 @@ use Rattle.vol_check.proofs.sweeps.Sweep.run.Given as goal
 abbrev pub invariant-loop-piece : goal.invariant-loop-piece
 invariant-loop-piece g l = record {
   own : IsSeatOf l.self.tally l.seat;
-  knows : IsOf l.self.kind l.self.layout l.image l.seat;
+  knows : IsOf l.self.checker l.self.layout l.image l.seat;
 }
 
 -- each piece is one draw more, and a seat draws at most as many numbers as there are pieces before it ends

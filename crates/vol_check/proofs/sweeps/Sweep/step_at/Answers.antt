@@ -17,13 +17,13 @@ returns-in-Ok g c =
     let early = c.if-seat-2.false in
     let new = c.work-done.new.seat in
     let low : n < (shape_of sweep.tally).pieces = omega (arith, c.if-number-self.false, sweep.shaped.count) in
-    let there = laid sweep.kind sweep.layout sweep.pieces n sweep.starts.items sweep.links.items (shape_of sweep.tally) sweep.shaped (omega (arith, c.if-number-self.false)) in
+    let there = laid sweep.checker sweep.layout sweep.pieces n sweep.starts.items sweep.links.items (shape_of sweep.tally) sweep.shaped (omega (arith, c.if-number-self.false)) in
     let geo = there.0 in
     let works = c.in-Ok.ensures.ok geo there.1 in
     let drawn = works.adds.draws ∙ ap (λ v. v.draws) c.claim-number.ensures.drew in
     record {
-      own = done_own sweep.tally sweep.kind sweep.layout image old mid new n c.requires.own c.requires.image early well c.claim-number.ensures.drew refl geo low works refl;
-      knows = done_knows sweep.tally sweep.kind sweep.layout image old mid new n c.requires.own c.requires.image early well c.claim-number.ensures.drew refl geo there.1 works refl;
+      own = done_own sweep.tally sweep.checker sweep.layout image old mid new n c.requires.own c.requires.image early well c.claim-number.ensures.drew refl geo low works refl;
+      knows = done_knows sweep.tally sweep.checker sweep.layout image old mid new n c.requires.own c.requires.image early well c.claim-number.ensures.drew refl geo there.1 works refl;
       answers = (drawn, low, c.claim-number.ensures.more, works.spoiled ∙ well);
       drew = inr (n, drawn);
       for_good = λ s. clash old.spoiled s well;
@@ -45,9 +45,9 @@ returns-in-Err g c =
     let stays = c.in-Err.ensures.err in
     let drawn = stays.draws ∙ ap (λ v. v.draws) c.claim-number.ensures.drew in
     record {
-      own = fail_own sweep.tally sweep.kind sweep.layout image old mid new n c.requires.own c.requires.image early well c.claim-number.ensures.drew refl low
+      own = fail_own sweep.tally sweep.checker sweep.layout image old mid new n c.requires.own c.requires.image early well c.claim-number.ensures.drew refl low
           (record { own = stays.own; parts = stays.parts; draws = stays.draws; ended = stays.ended }) refl;
-      knows = spoiled_knows sweep.kind sweep.layout image new refl;
+      knows = spoiled_knows sweep.checker sweep.layout image new refl;
       answers = refl;
       drew = inr (n, drawn);
       for_good = λ s. clash old.spoiled s well;
@@ -64,12 +64,12 @@ returns-then-number-self g c =
     let new : CheckSeat = record { seat = c.claim-number.new.seat; fault = old.fault; entries = old.entries; ended = true; spoiled = old.spoiled } in
     let well = c.if-seat.false in
     let early = c.if-seat-2.false in
-    let past = is_past sweep.kind sweep.layout image sweep.pieces sweep.starts.items sweep.links.items (shape_of sweep.tally) n sweep.shaped
+    let past = is_past sweep.checker sweep.layout image sweep.pieces sweep.starts.items sweep.links.items (shape_of sweep.tally) n sweep.shaped
     c.requires.layout.starts c.if-number-self.true in
     record {
-      own = end_own sweep.tally sweep.kind sweep.layout image old mid new n c.requires.own c.requires.image early well c.claim-number.ensures.drew refl
+      own = end_own sweep.tally sweep.checker sweep.layout image old mid new n c.requires.own c.requires.image early well c.claim-number.ensures.drew refl
           (omega (arith, c.if-number-self.true, sweep.shaped.count)) c.claim-number.ensures.own refl refl;
-      knows = end_knows sweep.tally sweep.kind sweep.layout image old mid new n c.requires.own c.requires.image early well c.claim-number.ensures.drew refl past refl refl refl;
+      knows = end_knows sweep.tally sweep.checker sweep.layout image old mid new n c.requires.own c.requires.image early well c.claim-number.ensures.drew refl past refl refl refl;
       answers = (refl, well);
       drew = inr (n, ap (λ v. v.draws) c.claim-number.ensures.drew);
       for_good = λ s. clash old.spoiled s well;

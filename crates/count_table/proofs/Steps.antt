@@ -7,11 +7,11 @@ use lib.ListN.{get_elem?}
 use Rattle.atomic_table.specs.Table.{State, keeps, stepped, opening}
 use Rattle.atomic_table.proofs.Lists.{at_set, set_else, at_snoc}
 use Rattle.count_table.specs.declared.rule.Mark.{Mark}
-use Rattle.count_table.specs.declared.rule.View.{View}
-use Rattle.count_table.specs.declared.rule.Shape.{Shape}
+use Rattle.count_table.specs.declared.rule.SeatView.{SeatView}
+use Rattle.count_table.specs.declared.rule.TableShape.{TableShape}
 use Rattle.count_table.specs.Sums.{total, below, past, late, amount_at, sum_at, least_at}
 use Rattle.count_table.specs.Views.{view, mark, blank, first_view, drew, marked_view, kept_half, given_half, joined}
-use Rattle.count_table.specs.Rule.{Fits, Kept, IsStart, IsSummed}
+use Rattle.count_table.specs.Rule.{IsWithinParts, Kept, IsStart, IsSummed}
 use Rattle.count_table.proofs.Totals.{total_nil, total_cons, total_append, total_push, total_set, total_part, total_none, total_ones, total_le_at, below_more, below_none, below_ones, past_one, word_bound, amount_here, amount_else, least_nil, least_same, least_here, least_else}
 
 -- a mark on another word adds nothing
@@ -19,41 +19,41 @@ sum_else : (w i k : ℕ) (log : List Mark) → w ≢ i → sum_at w (mark i k �
 sum_else w i k log ne = let a = total_cons (amount_at w) (mark i k) log in let n = amount_else i w k ne in omega arith
 
 -- a blank seat fits
-blank_fits : (pieces : ℕ) → Fits pieces blank
+blank_fits : (pieces : ℕ) → IsWithinParts pieces blank
 blank_fits pieces = record { empty = λ e. refl; bounded = let n = total_nil (past pieces) in omega arith }
 
 -- a seat that did nothing fits
-fresh_fits : (pieces parts : ℕ) → Fits pieces (view parts [] [])
+fresh_fits : (pieces parts : ℕ) → IsWithinParts pieces (view parts [] [])
 fresh_fits pieces parts = record { empty = λ e. ap (λ n. view n [] []) e; bounded = let n = total_nil (past pieces) in omega arith }
 
 -- at the start
-pub opens : (shape : Shape) (words : List ℕ) → shape.pieces + shape.seats < 2 ^ 63 → IsStart shape words → Kept shape (opening words [] (first_view shape))
+pub opens : (shape : TableShape) (words : List ℕ) → shape.pieces + shape.seats < 2 ^ 63 → IsStart shape words → Kept shape (opening words [] (first_view shape))
 opens shape words small start = record {
   log = [];
   wide = start.wide;
   small = small;
-  whole = let a = total_cons (λ (v : View). v.parts) (first_view shape) [] in let b = total_nil (λ (v : View). v.parts) in omega arith;
-  drawn = λ weight. let a = total_cons (λ (v : View). total weight v.draws) (first_view shape) [] in let b = total_nil (λ (v : View). total weight v.draws) in
+  whole = let a = total_cons (λ (v : SeatView). v.parts) (first_view shape) [] in let b = total_nil (λ (v : SeatView). v.parts) in omega arith;
+  drawn = λ weight. let a = total_cons (λ (v : SeatView). total weight v.draws) (first_view shape) [] in let b = total_nil (λ (v : SeatView). total weight v.draws) in
       let n = total_nil weight in let z = ap (below weight) start.zero ∙ below_none weight in omega arith;
-  marked = λ weight. let a = total_cons (λ (v : View). total weight v.marks) (first_view shape) [] in let b = total_nil (λ (v : View). total weight v.marks) in
+  marked = λ weight. let a = total_cons (λ (v : SeatView). total weight v.marks) (first_view shape) [] in let b = total_nil (λ (v : SeatView). total weight v.marks) in
       let n = total_nil weight in omega arith;
   counted = λ w low high. let z = start.counts w high in let n = total_nil (amount_at w) in z ∙ sym (ap (λ k. k % 2 ^ 64) n);
   lowest = λ w low high. start.leasts w low high ∙ least_nil w;
   each = only;
 }
   where
-    only : (id : ℕ) (v : View) → get_elem? (first_view shape ∷ []) id ≡ some v → Fits shape.pieces v
-    only zero v e = subst (Fits shape.pieces) (some-injective (first_view shape) v e) (fresh_fits shape.pieces shape.seats)
+    only : (id : ℕ) (v : SeatView) → get_elem? (first_view shape ∷ []) id ≡ some v → IsWithinParts shape.pieces v
+    only zero v e = subst (IsWithinParts shape.pieces) (some-injective (first_view shape) v e) (fresh_fits shape.pieces shape.seats)
     only (suc id) v e = absurd (some-ne-none v (sym e))
 
-module _ (shape : Shape) (s : State (Unit {0}) View) (kept : Kept shape s) (id : ℕ) (v : View) (at : get_elem? s.views id ≡ some v) where
+module _ (shape : TableShape) (s : State (Unit {0}) SeatView) (kept : Kept shape s) (id : ℕ) (v : SeatView) (at : get_elem? s.views id ≡ some v) where
   -- the weights of all seats once this one's view is w
-  shifts : (g : View → ℕ) (w : View) → total g (set s.views id w) + g v ≡ total g s.views + g w
+  shifts : (g : SeatView → ℕ) (w : SeatView) → total g (set s.views id w) + g v ≡ total g s.views + g w
   shifts g w = total_set g s.views id v w at
 
   -- each seat still fits
-  fit : (w : View) → Fits shape.pieces w → (j : ℕ) (x : View) → get_elem? (set s.views id w) j ≡ some x → Fits shape.pieces x
-  fit w fits j x e = ⊎_elim (λ (t : (j ≡ id) × (w ≡ x)). subst (Fits shape.pieces) t.1 fits)
+  fit : (w : SeatView) → IsWithinParts shape.pieces w → (j : ℕ) (x : SeatView) → get_elem? (set s.views id w) j ≡ some x → IsWithinParts shape.pieces x
+  fit w fits j x e = ⊎_elim (λ (t : (j ≡ id) × (w ≡ x)). subst (IsWithinParts shape.pieces) t.1 fits)
       (λ (t : (j ≢ id) × (get_elem? s.views j ≡ some x)). kept.each j x t.1) (at_set s.views id j w x e)
 
   -- word 0 is at most the pieces and the seats
@@ -61,7 +61,7 @@ module _ (shape : Shape) (s : State (Unit {0}) View) (kept : Kept shape s) (id :
   drawn_few =
       let n = slice_index s.words 0 in
       let d = kept.drawn (past shape.pieces) in
-      let m = total_le_at (λ (x : View). late shape.pieces x.draws) (λ (x : View). x.parts) s.views (λ j x e. (kept.each j x e).bounded) in
+      let m = total_le_at (λ (x : SeatView). late shape.pieces x.draws) (λ (x : SeatView). x.parts) s.views (λ j x e. (kept.each j x e).bounded) in
       let a = kept.whole in
       let b : below (past shape.pieces) n ≤ shape.seats = omega arith in
       word_bound shape.pieces n shape.seats b
@@ -71,7 +71,7 @@ module _ (shape : Shape) (s : State (Unit {0}) View) (kept : Kept shape s) (id :
   draws_few =
       let d = kept.drawn (λ k. 1) in
       let o = below_ones (slice_index s.words 0) in
-      let p = total_part (λ (x : View). total (λ k. 1) x.draws) s.views id v at in
+      let p = total_part (λ (x : SeatView). total (λ k. 1) x.draws) s.views id v at in
       let l = total_ones v.draws in omega arith
 
   -- a number is drawn
@@ -100,7 +100,7 @@ module _ (shape : Shape) (s : State (Unit {0}) View) (kept : Kept shape s) (id :
       }
 
   -- a view with one mark more fits
-  marked_fits : (m : Mark) → 1 ≤ v.parts → Fits shape.pieces (marked_view v m)
+  marked_fits : (m : Mark) → 1 ≤ v.parts → IsWithinParts shape.pieces (marked_view v m)
   marked_fits m some-parts = record { empty = λ e. absurd (omega arith); bounded = (kept.each id v at).bounded }
 
   -- the weights once a mark is made
@@ -171,64 +171,64 @@ module _ (shape : Shape) (s : State (Unit {0}) View) (kept : Kept shape s) (id :
     log = kept.log;
     wide = kept.wide;
     small = kept.small;
-    whole = let h = shifts (λ x. x.parts) (kept_half v) in let k = kept.whole in let p = total_push (λ (x : View). x.parts) (set s.views id (kept_half v)) (given_half v) in omega arith;
+    whole = let h = shifts (λ x. x.parts) (kept_half v) in let k = kept.whole in let p = total_push (λ (x : SeatView). x.parts) (set s.views id (kept_half v)) (given_half v) in omega arith;
     drawn = λ weight. let h = shifts (λ x. total weight x.draws) (kept_half v) in let k = kept.drawn weight in
-        let p = total_push (λ (x : View). total weight x.draws) (set s.views id (kept_half v)) (given_half v) in let n = total_nil weight in omega arith;
+        let p = total_push (λ (x : SeatView). total weight x.draws) (set s.views id (kept_half v)) (given_half v) in let n = total_nil weight in omega arith;
     marked = λ weight. let h = shifts (λ x. total weight x.marks) (kept_half v) in let k = kept.marked weight in
-        let p = total_push (λ (x : View). total weight x.marks) (set s.views id (kept_half v)) (given_half v) in let n = total_nil weight in omega arith;
+        let p = total_push (λ (x : SeatView). total weight x.marks) (set s.views id (kept_half v)) (given_half v) in let n = total_nil weight in omega arith;
     counted = kept.counted;
     lowest = kept.lowest;
     each = λ j x e. ⊎_elim (λ (t : get_elem? (set s.views id (kept_half v)) j ≡ some x). fit (kept_half v) half j x t)
-        (λ (t : given_half v ≡ x). subst (Fits shape.pieces) t (fresh_fits shape.pieces 1)) (at_snoc (set s.views id (kept_half v)) (given_half v) x j e);
+        (λ (t : given_half v ≡ x). subst (IsWithinParts shape.pieces) t (fresh_fits shape.pieces 1)) (at_snoc (set s.views id (kept_half v)) (given_half v) x j e);
   }
     where
-      half : Fits shape.pieces (kept_half v)
-      half = subst (λ (t : List ℕ × List Mark). Fits shape.pieces (view (v.parts - 1) t.0 t.1)) (λ i. (sym no-draws i, sym no-marks i)) (fresh_fits shape.pieces (v.parts - 1))
+      half : IsWithinParts shape.pieces (kept_half v)
+      half = subst (λ (t : List ℕ × List Mark). IsWithinParts shape.pieces (view (v.parts - 1) t.0 t.1)) (λ i. (sym no-draws i, sym no-marks i)) (fresh_fits shape.pieces (v.parts - 1))
 
   -- two seats become one
-  pub joins : (other : ℕ) (w : View) → (other ≡ id → ⊥) → get_elem? (set s.views id (joined v w)) other ≡ some w
+  pub joins : (other : ℕ) (w : SeatView) → (other ≡ id → ⊥) → get_elem? (set s.views id (joined v w)) other ≡ some w
       → Kept shape record { words = s.words; homes = s.homes; views = set (set s.views id (joined v w)) other blank }
   joins other w apart there = record {
     log = kept.log;
     wide = kept.wide;
     small = kept.small;
-    whole = let h = shifts (λ x. x.parts) (joined v w) in let k = kept.whole in let p = total_set (λ (x : View). x.parts) both other w blank there in omega arith;
+    whole = let h = shifts (λ x. x.parts) (joined v w) in let k = kept.whole in let p = total_set (λ (x : SeatView). x.parts) both other w blank there in omega arith;
     drawn = λ weight. let h = shifts (λ x. total weight x.draws) (joined v w) in let k = kept.drawn weight in
-        let p = total_set (λ (x : View). total weight x.draws) both other w blank there in let n = total_nil weight in
+        let p = total_set (λ (x : SeatView). total weight x.draws) both other w blank there in let n = total_nil weight in
         let a = total_append weight v.draws w.draws in omega arith;
     marked = λ weight. let h = shifts (λ x. total weight x.marks) (joined v w) in let k = kept.marked weight in
-        let p = total_set (λ (x : View). total weight x.marks) both other w blank there in let n = total_nil weight in
+        let p = total_set (λ (x : SeatView). total weight x.marks) both other w blank there in let n = total_nil weight in
         let a = total_append weight v.marks w.marks in omega arith;
     counted = kept.counted;
     lowest = kept.lowest;
-    each = λ j x e. ⊎_elim (λ (t : (j ≡ other) × (blank ≡ x)). subst (Fits shape.pieces) t.1 (blank_fits shape.pieces))
+    each = λ j x e. ⊎_elim (λ (t : (j ≡ other) × (blank ≡ x)). subst (IsWithinParts shape.pieces) t.1 (blank_fits shape.pieces))
         (λ (t : (j ≢ other) × (get_elem? both j ≡ some x)). fit (joined v w) fits j x t.1) (at_set both other j blank x e);
   }
     where
-      both : List View
+      both : List SeatView
       both = set s.views id (joined v w)
 
-      first : Fits shape.pieces v
+      first : IsWithinParts shape.pieces v
       first = kept.each id v at
 
-      second : Fits shape.pieces w
+      second : IsWithinParts shape.pieces w
       second = kept.each other w (sym (set_else s.views id other (joined v w) apart) ∙ there)
 
-      fits : Fits shape.pieces (joined v w)
+      fits : IsWithinParts shape.pieces (joined v w)
       fits = record {
         empty = λ e. let a : v ≡ blank = first.empty (omega arith) in let b : w ≡ blank = second.empty (omega arith) in λ i. joined (a i) (b i);
         bounded = let a = first.bounded in let b = second.bounded in let t = total_append (past shape.pieces) v.draws w.draws in omega arith;
       }
 
   -- the other seats weigh nothing where this one stands for all
-  alone : v.parts ≡ shape.seats → (g : View → ℕ) → g blank ≡ 0 → total g s.views ≡ g v
+  alone : v.parts ≡ shape.seats → (g : SeatView → ℕ) → g blank ≡ 0 → total g s.views ≡ g v
   alone all g none =
       let rest = set s.views id blank in
       let p = shifts (λ x. x.parts) blank in
       let k = kept.whole in
-      let zero-parts : total (λ (x : View). x.parts) rest ≡ 0 = omega arith in
+      let zero-parts : total (λ (x : SeatView). x.parts) rest ≡ 0 = omega arith in
       let nothing : total g rest ≡ 0 = total_none g rest (λ j x e.
-      let le = total_part (λ (x : View). x.parts) rest j x e in
+      let le = total_part (λ (x : SeatView). x.parts) rest j x e in
       let is : x ≡ blank = (fit blank (blank_fits shape.pieces) j x e).empty (omega arith) in ap g is ∙ none) in
       let q = shifts g blank in omega arith
 

@@ -4,20 +4,20 @@ use mathlib.Core.Option.{some}
 use lib.ListN.{get_elem?}
 use Rattle.atomic_table.specs.Table.{State}
 use Rattle.count_table.specs.declared.rule.Mark.{Mark}
-use Rattle.count_table.specs.declared.rule.View.{View}
-use Rattle.count_table.specs.declared.rule.Shape.{Shape}
+use Rattle.count_table.specs.declared.rule.SeatView.{SeatView}
+use Rattle.count_table.specs.declared.rule.TableShape.{TableShape}
 use Rattle.count_table.specs.Sums.{total, below, late, sum_at, least_at}
 use Rattle.count_table.specs.Views.{blank}
 
 -- a seat that stands for nothing is blank; one has at most as many draws past the pieces as it stands for (this project)
-pub record Fits (pieces : ℕ) (v : View) : Type 0 where
+pub record IsWithinParts (pieces : ℕ) (v : SeatView) : Type 0 where
   pub empty : v.parts ≡ 0 → v ≡ blank
   pub bounded : late pieces v.draws ≤ v.parts
 
 -- the draws of all seats are the numbers below word 0, each once; each count word is the sum of its marks in all views, modulo
 -- 2^64, and each least word the least of 2^64 - 1 and its marks; the log has the marks of all seats in the order of the steps
 -- (this project)
-pub record Kept (shape : Shape) (s : State (Unit {0}) View) : Type 0 where
+pub record Kept (shape : TableShape) (s : State (Unit {0}) SeatView) : Type 0 where
   pub log : List Mark
   pub wide : length s.words ≡ 1 + (shape.counts + shape.leasts)
   pub small : shape.pieces + shape.seats < 2 ^ 63
@@ -26,17 +26,17 @@ pub record Kept (shape : Shape) (s : State (Unit {0}) View) : Type 0 where
   pub marked : (weight : Mark → ℕ) → total (λ v. total weight v.marks) s.views ≡ total weight log
   pub counted : (w : ℕ) → 1 ≤ w → w < 1 + shape.counts → slice_index s.words w ≡ sum_at w log % 2 ^ 64
   pub lowest : (w : ℕ) → 1 + shape.counts ≤ w → w < 1 + (shape.counts + shape.leasts) → slice_index s.words w ≡ least_at w log
-  pub each : (id : ℕ) (v : View) → get_elem? s.views id ≡ some v → Fits shape.pieces v
+  pub each : (id : ℕ) (v : SeatView) → get_elem? s.views id ≡ some v → IsWithinParts shape.pieces v
 
 -- the words once one seat has the draws and marks of all (this project)
-pub record IsSummed (shape : Shape) (v : View) (words : List ℕ) : Type 0 where
+pub record IsSummed (shape : TableShape) (v : SeatView) (words : List ℕ) : Type 0 where
   pub wide : length words ≡ 1 + (shape.counts + shape.leasts)
   pub drawn : (weight : ℕ → ℕ) → total weight v.draws ≡ below weight (slice_index words 0)
   pub counted : (w : ℕ) → 1 ≤ w → w < 1 + shape.counts → slice_index words w ≡ sum_at w v.marks % 2 ^ 64
   pub lowest : (w : ℕ) → 1 + shape.counts ≤ w → w < 1 + (shape.counts + shape.leasts) → slice_index words w ≡ least_at w v.marks
 
 -- the words at the start (this project)
-pub record IsStart (shape : Shape) (words : List ℕ) : Type 0 where
+pub record IsStart (shape : TableShape) (words : List ℕ) : Type 0 where
   pub wide : length words ≡ 1 + (shape.counts + shape.leasts)
   pub zero : slice_index words 0 ≡ 0
   pub counts : (w : ℕ) → w < 1 + shape.counts → slice_index words w ≡ 0

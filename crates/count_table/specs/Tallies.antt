@@ -2,17 +2,17 @@
 use Rattle.std.specs.Prelude.{◌≡◌, ℕ, List, []}
 use Rattle.std.specs.Slots.{slots_items}
 use Rattle.atomic_table.specs.declared.shared.Seat.{Seat}
-use Rattle.count_table.specs.declared.rule.View.{View}
-use Rattle.count_table.specs.declared.rule.Shape.{Shape}
+use Rattle.count_table.specs.declared.rule.SeatView.{SeatView}
+use Rattle.count_table.specs.declared.rule.TableShape.{TableShape}
 use Rattle.count_table.specs.declared.words.Tally.{Tally}
 use Rattle.count_table.specs.declared.words.Summed.{Summed}
 
 -- the shape that a table was made with (this project)
-abbrev pub shape_of : Tally → Shape
-shape_of t = t.table.shared.key
+abbrev pub table_shape : Tally → TableShape
+table_shape t = t.table.shared.key
 
 -- the seat is of this table, and holds no slot (this project)
-abbrev pub IsSeatAt : Tally → Seat (Unit {0}) View → Type 0
+abbrev pub IsSeatAt : Tally → Seat (Unit {0}) SeatView → Type 0
 IsSeatAt t seat = (seat.table_id ≡ t.table.shared.table_id) × (seat.me.1 ≡ [])
 
 -- the words at the end (this project)

@@ -2,46 +2,46 @@
 use Rattle.std.specs.Prelude.{◌≡◌, ℕ, ◌+◌, ◌-◌, ◌≤◌, List, [], ◌∷◌, ◌++◌, length}
 use Rattle.atomic_table.specs.Table.{Me, Step}
 use Rattle.count_table.specs.declared.rule.Mark.{Mark}
-use Rattle.count_table.specs.declared.rule.View.{View}
-use Rattle.count_table.specs.declared.rule.Shape.{Shape}
+use Rattle.count_table.specs.declared.rule.SeatView.{SeatView}
+use Rattle.count_table.specs.declared.rule.TableShape.{TableShape}
 
-abbrev pub view : ℕ → List ℕ → List Mark → View
+abbrev pub view : ℕ → List ℕ → List Mark → SeatView
 view parts draws marks = record { parts = parts; draws = draws; marks = marks }
 
 abbrev pub mark : ℕ → ℕ → Mark
 mark word amount = record { word = word; amount = amount }
 
 -- a seat that stands for nothing, drew nothing and marked nothing (this project)
-abbrev pub blank : View
+abbrev pub blank : SeatView
 blank = view 0 [] []
 
 -- the first seat stands for all (this project)
-abbrev pub first_view : Shape → View
+abbrev pub first_view : TableShape → SeatView
 first_view shape = view shape.seats [] []
 
 -- a seat once it drew a number (this project)
-abbrev pub drew : View → ℕ → View
+abbrev pub drew : SeatView → ℕ → SeatView
 drew v number = view v.parts (v.draws ++ number ∷ []) v.marks
 
 -- a seat once it made a mark (this project)
-abbrev pub marked_view : View → Mark → View
+abbrev pub marked_view : SeatView → Mark → SeatView
 marked_view v m = view v.parts v.draws (v.marks ++ m ∷ [])
 
 -- what is left of a seat that gives one part away, and what the other gets (this project)
-abbrev pub kept_half : View → View
+abbrev pub kept_half : SeatView → SeatView
 kept_half v = view (v.parts - 1) v.draws v.marks
 
-abbrev pub given_half : View → View
+abbrev pub given_half : SeatView → SeatView
 given_half v = view 1 [] []
 
 -- two seats as one (this project)
-abbrev pub joined : View → View → View
+abbrev pub joined : SeatView → SeatView → SeatView
 joined v w = view (v.parts + w.parts) (v.draws ++ w.draws) (v.marks ++ w.marks)
 
 -- the number found is drawn, and is at least as great as the number of this seat's draws before (this project)
-abbrev pub Drew : Step (Unit {0}) → Me (Unit {0}) View → ℕ → Me (Unit {0}) View → Type 0
+abbrev pub Drew : Step (Unit {0}) → Me (Unit {0}) SeatView → ℕ → Me (Unit {0}) SeatView → Type 0
 Drew st before found after = (after ≡ (drew before.0 found, before.1)) × (length before.0.draws ≤ found)
 
 -- the step's word and operand are marked (this project)
-abbrev pub Marked : Step (Unit {0}) → Me (Unit {0}) View → ℕ → Me (Unit {0}) View → Type 0
+abbrev pub Marked : Step (Unit {0}) → Me (Unit {0}) SeatView → ℕ → Me (Unit {0}) SeatView → Type 0
 Marked st before found after = after ≡ (marked_view before.0 (mark st.word st.first), before.1)

@@ -11,5 +11,5 @@ mod tally;
 mod tests;
 mod words;
 
-pub use rule::{AllCounted, Mark, Shape, TallySeat, View};
+pub use rule::{AllCounted, Mark, SeatView, TableShape, TallySeat};
 pub use words::{Summed, Tally};

@@ -13,7 +13,7 @@ pub struct Mark {
 }
 
 /// What a seat knows. No value of it is made.
-pub struct View {
+pub struct SeatView {
     /// How many of the first seats it stands for.
     pub parts: u64,
     /// The numbers that it drew, in order.
@@ -24,7 +24,7 @@ pub struct View {
 
 /// How many pieces there are, words of each kind, and seats.
 #[derive(Clone, Copy, Debug, PartialEq, Eq)]
-pub struct Shape {
+pub struct TableShape {
     pub pieces: u64,
     pub counts: u64,
     pub leasts: u64,
@@ -32,12 +32,12 @@ pub struct Shape {
 }
 
 /// A thread's place at the table.
-pub type TallySeat = Seat<(), View>;
+pub type TallySeat = Seat<(), SeatView>;
 
 /// The rule of the table.
 pub struct AllCounted;
 
-impl TableRule<(), View, Shape> for AllCounted {
+impl TableRule<(), SeatView, TableShape> for AllCounted {
     ghost holds = { Kept };
 
     ghost first = { first_view };
@@ -46,21 +46,21 @@ impl TableRule<(), View, Shape> for AllCounted {
 /// A piece was drawn.
 pub(crate) struct Claim;
 
-impl Play<(), View> for Claim {
+impl Play<(), SeatView> for Claim {
     ghost then = { Drew };
 }
 
 /// A mark was made.
 pub(crate) struct MarkMade;
 
-impl Play<(), View> for MarkMade {
+impl Play<(), SeatView> for MarkMade {
     ghost then = { Marked };
 }
 
 /// One part of a seat that did nothing yet is cut off.
 pub(crate) struct Give;
 
-impl Split<View> for Give {
+impl Split<SeatView> for Give {
     ghost left = { kept_half };
 
     ghost right = { given_half };
@@ -69,7 +69,7 @@ impl Split<View> for Give {
 /// Two seats become one.
 pub(crate) struct Gather;
 
-impl Join<View> for Gather {
+impl Join<SeatView> for Gather {
     ghost both = { joined };
 
     ghost spent = { blank };

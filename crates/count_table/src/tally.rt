@@ -2,10 +2,10 @@
 ghost use Rattle.std.specs.Prelude.{◌≡◌, ℕ, ◌+◌, ◌-◌, ◌^◌, ◌<◌, ◌≤◌, [], ◌∷◌, ◌++◌, length, IfOk};
 ghost use Rattle.count_table.specs.Sums.{late};
 ghost use Rattle.count_table.specs.Views.{view, mark, first_view};
-ghost use Rattle.count_table.specs.Tallies.{IsSeatAt, shape_of, items_of};
+ghost use Rattle.count_table.specs.Tallies.{IsSeatAt, table_shape, items_of};
 ghost use Rattle.count_table.specs.Rule.{IsStart, IsSummed};
 
-use crate::rule::{Claim, Gather, Give, MarkMade, Shape, TallySeat};
+use crate::rule::{Claim, Gather, Give, MarkMade, TableShape, TallySeat};
 use crate::words::{Summed, Tally};
 use atomic_table::Table;
 use std::alloc::{AllocError, Global};
@@ -14,10 +14,10 @@ impl Tally {
     /// A table of this shape, all of whose counts are 0 and whose leasts are 2^64 - 1, with one seat for all.
     ///
     /// Takes eight bytes for each word.
-    pub fn new(alloc: Global, shape: Shape) -> Result<(Tally, TallySeat), AllocError>
+    pub fn new(alloc: Global, shape: TableShape) -> Result<(Tally, TallySeat), AllocError>
         requires pieces { shape.pieces + shape.seats < 2 ^ 63 }
         requires words { shape.counts + shape.leasts < 2 ^ 48 }
-        ensures shape { IfOk result (λ t. shape_of t.0 ≡ shape) }
+        ensures shape { IfOk result (λ t. table_shape t.0 ≡ shape) }
         ensures own { IfOk result (λ t. IsSeatAt t.0 t.1) }
         ensures first { IfOk result (λ t. t.1.me.0 ≡ view shape.seats [] []) }
     {
@@ -51,7 +51,7 @@ impl Tally {
     /// Draws the next number.
     pub fn claim(&self, seat: &mut TallySeat) -> u64
         requires own { IsSeatAt self.now seat.old }
-        requires early { late (shape_of self.now).pieces seat.old.me.0.draws < seat.old.me.0.parts }
+        requires early { late (table_shape self.now).pieces seat.old.me.0.draws < seat.old.me.0.parts }
         ensures own { IsSeatAt self.now seat.new }
         ensures drew { seat.new.me.0 ≡ view seat.old.me.0.parts (seat.old.me.0.draws ++ result ∷ []) seat.old.me.0.marks }
         ensures more { length seat.old.me.0.draws ≤ result }
@@ -64,7 +64,7 @@ impl Tally {
         requires own { IsSeatAt self.now seat.old }
         requires parts { 1 ≤ seat.old.me.0.parts }
         requires first { 1 ≤ word }
-        requires last { word < 1 + (shape_of self.now).counts }
+        requires last { word < 1 + (table_shape self.now).counts }
         ensures own { IsSeatAt self.now seat.new }
         ensures marked { seat.new.me.0 ≡ view seat.old.me.0.parts seat.old.me.0.draws (seat.old.me.0.marks ++ mark word amount ∷ []) }
     {
@@ -75,8 +75,8 @@ impl Tally {
     pub fn lower(&self, seat: &mut TallySeat, word: usize, value: u64)
         requires own { IsSeatAt self.now seat.old }
         requires parts { 1 ≤ seat.old.me.0.parts }
-        requires first { 1 + (shape_of self.now).counts ≤ word }
-        requires last { word < 1 + ((shape_of self.now).counts + (shape_of self.now).leasts) }
+        requires first { 1 + (table_shape self.now).counts ≤ word }
+        requires last { word < 1 + ((table_shape self.now).counts + (table_shape self.now).leasts) }
         ensures own { IsSeatAt self.now seat.new }
         ensures marked { seat.new.me.0 ≡ view seat.old.me.0.parts seat.old.me.0.draws (seat.old.me.0.marks ++ mark word value ∷ []) }
     {
@@ -86,8 +86,8 @@ impl Tally {
     /// The words at the end, where this seat stands for all.
     pub fn close(self, seat: TallySeat) -> Summed
         requires own { IsSeatAt self seat }
-        requires whole { seat.me.0.parts ≡ (shape_of self).seats }
-        ensures { IsSummed (shape_of self) seat.me.0 (items_of result) }
+        requires whole { seat.me.0.parts ≡ (table_shape self).seats }
+        ensures { IsSummed (table_shape self) seat.me.0 (items_of result) }
     {
         let Tally { table } = self;
         Summed {
@@ -97,7 +97,7 @@ impl Tally {
 }
 
 /// Word 0 and the counts are 0, the leasts are 2^64 - 1.
-fn first_words(alloc: Global, shape: Shape) -> Result<Vec<u64>, AllocError>
+fn first_words(alloc: Global, shape: TableShape) -> Result<Vec<u64>, AllocError>
     requires words { shape.counts + shape.leasts < 2 ^ 48 }
     ensures { IfOk result (λ words. IsStart shape words.items) }
 {

@@ -1,9 +1,9 @@
-use crate::{Shape, Tally};
+use crate::{TableShape, Tally};
 use std::test::Fail;
 
 #[test]
 fn counts_and_least_values_of_two_seats(rt: HostRuntime) -> Result<(), Fail> {
-    let shape = Shape {
+    let shape = TableShape {
         pieces: 2,
         counts: 2,
         leasts: 1,

@@ -2,14 +2,14 @@
 ghost use Rattle.std.specs.Prelude.{◌≡◌, ◌+◌};
 ghost use Rattle.std.specs.Slots.{slots_len, IsFull};
 
-use crate::rule::{AllCounted, Shape, View};
+use crate::rule::{AllCounted, SeatView, TableShape};
 use atomic_table::{Closed, Table};
 use std::alloc::Global;
 
 /// A table of counts. Its steps take no lock.
 #[derive(Drop)]
 pub struct Tally {
-    pub(crate) table: Table<(), View, Shape, AllCounted, Global>,
+    pub(crate) table: Table<(), SeatView, TableShape, AllCounted, Global>,
     ghost wide: { table.shared.table_id.words ≡ 1 + (table.shared.key.counts + table.shared.key.leasts) },
     ghost bare: { table.shared.table_id.slots ≡ 0 },
 }

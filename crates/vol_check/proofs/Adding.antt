@@ -2,7 +2,7 @@
 use Rattle.std.proofs.Common.{◌≡◌, ℕ, ◌+◌, [], ◌∷◌, ◌++◌, refl, ap, ◌∙◌, arith}
 use Rattle.atomic_table.specs.declared.shared.Seat.{Seat}
 use Rattle.count_table.specs.declared.rule.Mark.{Mark}
-use Rattle.count_table.specs.declared.rule.View.{View}
+use Rattle.count_table.specs.declared.rule.SeatView.{SeatView}
 use Rattle.count_table.specs.declared.words.Tally.{Tally}
 use Rattle.count_table.specs.Sums.{total}
 use Rattle.count_table.specs.Views.{view, mark}
@@ -12,7 +12,7 @@ use Rattle.vol_check.specs.Pieces.{Adds}
 
 module _ (tally : Tally) where
   -- one mark
-  pub added : (old new : Seat (Unit {0}) View) (w a : ℕ) (amount : (Mark → ℕ) → ℕ) → IsSeatAt tally new
+  pub added : (old new : Seat (Unit {0}) SeatView) (w a : ℕ) (amount : (Mark → ℕ) → ℕ) → IsSeatAt tally new
       → new.me.0 ≡ view old.me.0.parts old.me.0.draws (old.me.0.marks ++ mark w a ∷ [])
       → ((weight : Mark → ℕ) → weight (mark w a) ≡ amount weight) → Adds tally old new amount
   added old new w a amount own is same = record {
@@ -23,12 +23,12 @@ module _ (tally : Tally) where
   }
 
   -- none
-  pub adds_none : (old : Seat (Unit {0}) View) (amount : (Mark → ℕ) → ℕ) → IsSeatAt tally old → ((weight : Mark → ℕ) → amount weight ≡ 0)
+  pub adds_none : (old : Seat (Unit {0}) SeatView) (amount : (Mark → ℕ) → ℕ) → IsSeatAt tally old → ((weight : Mark → ℕ) → amount weight ≡ 0)
       → Adds tally old old amount
   adds_none old amount own none = record { own = own; parts = refl; draws = refl; marks = λ weight. let z = none weight in omega arith }
 
   -- some, and then others
-  pub adds_then : (a b c : Seat (Unit {0}) View) (f g h : (Mark → ℕ) → ℕ) → Adds tally a b f → Adds tally b c g
+  pub adds_then : (a b c : Seat (Unit {0}) SeatView) (f g h : (Mark → ℕ) → ℕ) → Adds tally a b f → Adds tally b c g
       → ((weight : Mark → ℕ) → h weight ≡ f weight + g weight) → Adds tally a c h
   adds_then a b c f g h first second same = record {
     own = second.own;
@@ -38,7 +38,7 @@ module _ (tally : Tally) where
   }
 
   -- the same marks, counted otherwise
-  pub adds_as : (a b : Seat (Unit {0}) View) (f h : (Mark → ℕ) → ℕ) → Adds tally a b f → ((weight : Mark → ℕ) → h weight ≡ f weight) → Adds tally a b h
+  pub adds_as : (a b : Seat (Unit {0}) SeatView) (f h : (Mark → ℕ) → ℕ) → Adds tally a b f → ((weight : Mark → ℕ) → h weight ≡ f weight) → Adds tally a b h
   adds_as a b f h first same = record {
     own = first.own;
     parts = first.parts;

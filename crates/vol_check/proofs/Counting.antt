@@ -28,7 +28,7 @@ use Rattle.count_table.proofs.Totals.{total_cons, total_nil, total_ones}
 use Rattle.vol_reports.specs.Words.{zone_len, place_word, free_word, bad_word, kind_word, least_word}
 use Rattle.vol_reports.specs.FreeWalk.{Walked, walk_rest, free_walk}
 use Rattle.vol_check.specs.Pieces.{place_weight, kind_weight, inode_weight, free_weight}
-use Rattle.vol_reports.specs.Blocks.{least_of, is_kind, place_count, met_count, bad_numbers, kind_count}
+use Rattle.vol_reports.specs.Blocks.{least_of, is_kind, use_count, met_count, bad_numbers, kind_count}
 use Rattle.vol_check.proofs.Sums.{below_same, below_zero}
 use Rattle.vol_check.proofs.Weights.{weigh_file, weigh_zero, weigh_leaf, weigh_block, entry_weight}
 use Rattle.vol_check.proofs.Drawn.{total_by, total_same, over_inodes, below_at_most, below_alone}
@@ -187,8 +187,8 @@ module _ (g : Geometry) where
 module _ (g : Geometry) (image : List ℕ) (marks : List Mark) (m : AllMarked g image marks) where
   -- the places that name data block b
   pub places_summed : (b : ℕ) → in_zone g b ≡ true
-      → sum_at (place_word g b) marks ≡ place_count g image b
-  unfolding place_count
+      → sum_at (place_word g b) marks ≡ use_count g image b
+  unfolding use_count
   places_summed b zone = let low = zone_bounds g b zone in
       let w = place_word g b in
       let f = free_else g (λ m. m.amount) w (free_walk g image).met (λ k at e. omega (arith, low, e)) (free_zone g image) in

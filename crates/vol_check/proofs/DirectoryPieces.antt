@@ -1,7 +1,7 @@
 -- The pieces of a sweep over directories.
 use Rattle.std.proofs.Common.{◌≡◌, ◌≢◌, ℕ, ◌+◌, ◌-◌, ◌<◌, ◌∙◌, ap, List, Ok, Err, refl, arith}
 use Rattle.vol_layout.specs.declared.geometry.Geometry.{Geometry}
-use Rattle.count_table.specs.declared.rule.Shape.{Shape}
+use Rattle.count_table.specs.declared.rule.TableShape.{TableShape}
 use Rattle.count_table.specs.declared.words.Tally.{Tally}
 use Rattle.count_table.proofs.Totals.{below_more}
 use Rattle.vol_reports.specs.declared.links.LinkCount.{LinkCount}
@@ -19,7 +19,7 @@ use Rattle.vol_check.proofs.PastPieces.{parts_one}
 use Rattle.vol_check.proofs.Adding.{adds_as}
 
 -- a sweep with pieces is for images with a geometry
-pub laid : (checker : Checker) (layout : Layout) (pieces n : ℕ) (starts : List ℕ) (links : List LinkCount) (shape : Shape) → IsShaped checker layout pieces starts links shape
+pub laid : (checker : Checker) (layout : Layout) (pieces n : ℕ) (starts : List ℕ) (links : List LinkCount) (shape : TableShape) → IsShaped checker layout pieces starts links shape
     → n < pieces → (g : Geometry) × (layout ≡ Ok g)
 laid checker (Ok g) pieces n starts links shape shaped lt = (g, refl)
 laid checker (Err fault) pieces n starts links shape shaped lt = let z = shaped.none fault refl in absurd (omega arith)

@@ -4,7 +4,7 @@ use Rattle.vol_layout.specs.declared.geometry.Geometry.{Geometry}
 use Rattle.count_table.specs.declared.words.Tally.{Tally}
 use Rattle.count_table.specs.Sums.{total, late, past}
 use Rattle.count_table.specs.Views.{view}
-use Rattle.count_table.specs.Tallies.{IsSeatAt, shape_of}
+use Rattle.count_table.specs.Tallies.{IsSeatAt, table_shape}
 use Rattle.count_table.proofs.Totals.{total_nil, total_push, past_here, past_short}
 use Rattle.vol_reports.specs.Blocks.{one_if}
 use Rattle.vol_reports.specs.FreeWalk.{free_walk}
@@ -29,18 +29,18 @@ module _ (tally : Tally) (checker : Checker) (layout : Layout) (image : List ℕ
   abbrev marks_is : mid.seat.me.0.marks ≡ old.seat.me.0.marks
   marks_is = ap (λ v. v.marks) is
 
-  late_is : late (shape_of tally).pieces (old.seat.me.0.draws ++ n ∷ []) ≡ past (shape_of tally).pieces n
+  late_is : late (table_shape tally).pieces (old.seat.me.0.draws ++ n ∷ []) ≡ past (table_shape tally).pieces n
   late_is =
-      let p = total_push (past (shape_of tally).pieces) old.seat.me.0.draws n in
+      let p = total_push (past (table_shape tally).pieces) old.seat.me.0.draws n in
       let l = own.late in
       let z : ◌≡◌ {A = ℕ} (one_if old.ended) 0 = ap one_if early in omega (arith, p, l, z)
 
   -- a piece was done
-  pub done_own : (g : Geometry) → n < (shape_of tally).pieces → Works tally checker g image n mid new → mid.ended ≡ old.ended → IsSeatOf tally new
+  pub done_own : (g : Geometry) → n < (table_shape tally).pieces → Works tally checker g image n mid new → mid.ended ≡ old.ended → IsSeatOf tally new
   done_own g low works ended = record {
     own = works.adds.own;
     parts = works.adds.parts ∙ (parts_is ∙ own.parts);
-    late = ap (late (shape_of tally).pieces) (works.adds.draws ∙ draws_is) ∙ (late_is ∙ (past_short (shape_of tally).pieces n low
+    late = ap (late (table_shape tally).pieces) (works.adds.draws ∙ draws_is) ∙ (late_is ∙ (past_short (table_shape tally).pieces n low
         ∙ sym (ap one_if (works.ended ∙ (ended ∙ early)))));
   }
 
@@ -68,12 +68,12 @@ module _ (tally : Tally) (checker : Checker) (layout : Layout) (image : List ℕ
   }
 
   -- the number was no piece's
-  pub end_own : (shape_of tally).pieces ≤ n → IsSeatAt tally mid.seat → new.seat ≡ mid.seat → new.ended ≡ true → IsSeatOf tally new
+  pub end_own : (table_shape tally).pieces ≤ n → IsSeatAt tally mid.seat → new.seat ≡ mid.seat → new.ended ≡ true → IsSeatOf tally new
   end_own high at same ended = record {
     own = subst (IsSeatAt tally) (sym same) at;
     parts = ap (λ s. s.me.0.parts) same ∙ (parts_is ∙ own.parts);
-    late = ap (λ s. late (shape_of tally).pieces s.me.0.draws) same ∙ (ap (late (shape_of tally).pieces) draws_is
-        ∙ (late_is ∙ (past_here (shape_of tally).pieces n high ∙ sym (ap one_if ended))));
+    late = ap (λ s. late (table_shape tally).pieces s.me.0.draws) same ∙ (ap (late (table_shape tally).pieces) draws_is
+        ∙ (late_is ∙ (past_here (table_shape tally).pieces n high ∙ sym (ap one_if ended))));
   }
 
   pub end_knows : IsPast checker layout image n → new.seat ≡ mid.seat → new.entries ≡ mid.entries → new.fault ≡ old.fault → IsOf checker layout image new
@@ -100,12 +100,12 @@ module _ (tally : Tally) (checker : Checker) (layout : Layout) (image : List ℕ
   }
 
   -- a piece wasn't done
-  pub fail_own : n < (shape_of tally).pieces → Stays tally mid new → mid.ended ≡ old.ended → IsSeatOf tally new
+  pub fail_own : n < (table_shape tally).pieces → Stays tally mid new → mid.ended ≡ old.ended → IsSeatOf tally new
   fail_own low stays ended = record {
     own = stays.own;
     parts = stays.parts ∙ (parts_is ∙ own.parts);
-    late = ap (late (shape_of tally).pieces) (stays.draws ∙ draws_is)
-        ∙ (late_is ∙ (past_short (shape_of tally).pieces n low ∙ sym (ap one_if (stays.ended ∙ (ended ∙ early)))));
+    late = ap (late (table_shape tally).pieces) (stays.draws ∙ draws_is)
+        ∙ (late_is ∙ (past_short (table_shape tally).pieces n low ∙ sym (ap one_if (stays.ended ∙ (ended ∙ early)))));
   }
 
 -- a seat that found no memory says nothing
@@ -124,7 +124,7 @@ pub fresh_own : (tally : Tally) (s : CheckSeat) → IsFresh tally s → IsSeatOf
 fresh_own tally s fresh = record {
   own = fresh.own;
   parts = ap (λ v. v.parts) fresh.nothing;
-  late = ap (λ v. late (shape_of tally).pieces v.draws) fresh.nothing ∙ (total_nil (past (shape_of tally).pieces) ∙ sym (ap one_if fresh.ended));
+  late = ap (λ v. late (table_shape tally).pieces v.draws) fresh.nothing ∙ (total_nil (past (table_shape tally).pieces) ∙ sym (ap one_if fresh.ended));
 }
 
 nothing_kept : (checker : Checker) (layout : Layout) (image : List ℕ) → layout_fault checker layout image [] ≡ None

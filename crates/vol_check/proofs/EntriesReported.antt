@@ -13,8 +13,8 @@ use Rattle.vol_dir.proofs.Finding.{slots_low}
 use Rattle.vol_dir.proofs.SlotReading.{length-slots}
 use Rattle.vol_judge.specs.Directories.{is_for, count_in, entry_count}
 use Rattle.count_table.specs.declared.rule.Mark.{Mark}
-use Rattle.count_table.specs.declared.rule.View.{View}
-use Rattle.count_table.specs.declared.rule.Shape.{Shape}
+use Rattle.count_table.specs.declared.rule.SeatView.{SeatView}
+use Rattle.count_table.specs.declared.rule.TableShape.{TableShape}
 use Rattle.count_table.specs.Sums.{total, below, late, sum_at, amount_at}
 use Rattle.count_table.specs.Rule.{IsSummed}
 use Rattle.vol_reports.specs.Words.{HasEntryWords, entry_word}
@@ -84,7 +84,7 @@ module _ (g : Geometry) (image : List ℕ) (fits : Fits g image) where
       let m = below_at_most (λ k. f (k + 1)) 268435456 g.last_inode (λ k lt. few_in g image i (k + 1) (kind_at g image (k + 1))) in
       let l = few_inodes g image fits in omega (arith, o, m, l)
 
-  module _ (shape : Shape) (v : View) (words : List ℕ) (pieces : ℕ) (starts : List ℕ) (has : HasEntryWords g shape) (summed : IsSummed shape v words)
+  module _ (shape : TableShape) (v : SeatView) (words : List ℕ) (pieces : ℕ) (starts : List ℕ) (has : HasEntryWords g shape) (summed : IsSummed shape v words)
       (count : shape.pieces ≡ pieces) (stopped : 1 ≤ late shape.pieces v.draws) (parts : CountsParts g pieces starts) (at : HasStarts g image starts)
       (marks : (weight : Mark → ℕ) → total weight v.marks ≡ total (slots_piece g image (slot_weight Entries g weight)) v.draws) where
     entries_summed : (i : ℕ) → i ≤ g.last_inode → sum_at (entry_word i) v.marks ≡ entry_count g image i

@@ -5,10 +5,10 @@ use Rattle.std.proofs.lemmas.List.Elements.{All-pop, All-head}
 use Rattle.std.proofs.lemmas.List.Sums.{sum_by_push, sum_by-cons}
 use Rattle.std.proofs.lemmas.List.Folds.{list_any-append}
 use Rattle.std.specs.List.{count_by, list_any}
-use Rattle.std.specs.Option.{option_to_list}
+use Rattle.std.specs.Option.{option_or, option_to_list}
 use Rattle.count_table.specs.declared.words.Tally.{Tally}
 use Rattle.count_table.specs.Sums.{total, late, past}
-use Rattle.count_table.specs.Tallies.{IsSeatAt, shape_of}
+use Rattle.count_table.specs.Tallies.{IsSeatAt, table_shape}
 use Rattle.count_table.proofs.Totals.{total_append}
 use Rattle.vol_reports.specs.Blocks.{one_if}
 use Rattle.vol_reports.specs.FreeWalk.{free_walk}
@@ -17,14 +17,14 @@ use Rattle.vol_check.specs.declared.checker.Checker.TheVariants.{Blocks, Entries
 use Rattle.vol_check.specs.declared.seats.CheckSeat.{CheckSeat}
 use Rattle.vol_check.specs.Shapes.{Layout}
 use Rattle.vol_check.specs.Seats.{IsSeatOf, IsOf, is_stopped, found_no_memory, layout_weight, layout_kept, layout_fault}
-use Rattle.vol_check.specs.Gathering.{first_of, Joins, Gathers}
+use Rattle.vol_check.specs.Gathering.{Joins, Gathers}
 
 -- one seat stands for some; the rest are not joined yet
 pub record IsGathering (tally : Tally) (seats rest : List CheckSeat) (all : CheckSeat) : Type 0 where
   pub own : IsSeatAt tally all.seat
   pub parts : all.seat.me.0.parts + length rest ≡ length seats
   pub spoiled : (list_any found_no_memory rest || all.spoiled) ≡ list_any found_no_memory seats
-  pub stopped : 1 ≤ one_if all.spoiled + late (shape_of tally).pieces all.seat.me.0.draws + count_by is_stopped rest
+  pub stopped : 1 ≤ one_if all.spoiled + late (table_shape tally).pieces all.seat.me.0.draws + count_by is_stopped rest
   pub others : All (IsSeatOf tally) rest
   pub knows : (checker : Checker) (layout : Layout) (image : List ℕ) → All (IsOf checker layout image) seats → IsOf checker layout image all × All (IsOf checker layout image) rest
 
@@ -35,24 +35,24 @@ neither true y none = absurd (let e : ◌≡◌ {A = ℕ} 1 0 = ap one_if none i
 
 -- a value that is kept by one of two seats at least is kept by both
 either_kept : {A : Type 0} (value : Option A) (a b c : ℕ) → c ≡ a + b
-    → first_of (if a == 0 then None else value) (if b == 0 then None else value) ≡ (if c == 0 then None else value)
+    → option_or (if a == 0 then None else value) (if b == 0 then None else value) ≡ (if c == 0 then None else value)
 either_kept value a b c sum = elim (cases_eq a 0) [
   | inl none ↦
       let same : c ≡ b = omega arith in
-      ap (λ t. first_of (if t then None else value) (if b == 0 then None else value)) (eq-eqb a 0 none) ∙ ap (λ n. if n == 0 then None else value) (sym same)
+      ap (λ t. option_or (if t then None else value) (if b == 0 then None else value)) (eq-eqb a 0 none) ∙ ap (λ n. if n == 0 then None else value) (sym same)
   | inr some ↦
-      ap (λ t. first_of (if t then None else value) (if b == 0 then None else value)) (ne_eqb a 0 some)
+      ap (λ t. option_or (if t then None else value) (if b == 0 then None else value)) (ne_eqb a 0 some)
       ∙ (absorbed value (b == 0) ∙ sym (ap (λ t. if t then None else value) (ne_eqb c 0 (λ e. some (omega arith)))))
 ]
   where
-    absorbed : {A : Type 0} (value : Option A) (t : Bool) → first_of value (if t then None else value) ≡ value
+    absorbed : {A : Type 0} (value : Option A) (t : Bool) → option_or value (if t then None else value) ≡ value
     absorbed None true = refl
     absorbed None false = refl
     absorbed (Some x) t = refl
 
 -- the fault that two seats keep
 fault_joined : (checker : Checker) (layout : Layout) (image xs ys : List ℕ)
-    → first_of (layout_fault checker layout image xs) (layout_fault checker layout image ys) ≡ layout_fault checker layout image (xs ++ ys)
+    → option_or (layout_fault checker layout image xs) (layout_fault checker layout image ys) ≡ layout_fault checker layout image (xs ++ ys)
 fault_joined Blocks (Ok g) image xs ys =
     either_kept (free_walk g image).fault (total (λ p. one_if (p == 0)) xs) (total (λ p. one_if (p == 0)) ys) (total (λ p. one_if (p == 0)) (xs ++ ys))
     (total_append (λ p. one_if (p == 0)) xs ys)
@@ -82,7 +82,7 @@ module _ (tally : Tally) (old other new : CheckSeat) (joins : Joins tally old ot
         omega (arith, a, b, m, d);
     fault = λ fine.
         let none = neither old.spoiled other.spoiled (sym joins.spoiled ∙ fine) in
-        joins.fault ∙ (ap (λ f. first_of f other.fault) (one.fault none.0) ∙ (ap (first_of (layout_fault checker layout image old.seat.me.0.draws)) (two.fault none.1)
+        joins.fault ∙ (ap (λ f. option_or f other.fault) (one.fault none.0) ∙ (ap (option_or (layout_fault checker layout image old.seat.me.0.draws)) (two.fault none.1)
         ∙ (fault_joined checker layout image old.seat.me.0.draws other.seat.me.0.draws ∙ sym (ap (λ v. layout_fault checker layout image v.draws) joins.joined))));
   }
 
@@ -137,8 +137,8 @@ module _ (tally : Tally) (seats : List CheckSeat) where
       let len = ap length is ∙ length-append fewer (other ∷ []) in
       let count = ap (count_by is_stopped) is ∙ sum_by_push (λ s. cond (is_stopped s) 1 0) fewer other in
       let flags = flags_joined all.spoiled other.spoiled other.ended in
-      let late_is = ap (λ v. late (shape_of tally).pieces v.draws) joins.joined
-      ∙ total_append (past (shape_of tally).pieces) all.seat.me.0.draws other.seat.me.0.draws in
+      let late_is = ap (λ v. late (table_shape tally).pieces v.draws) joins.joined
+      ∙ total_append (past (table_shape tally).pieces) all.seat.me.0.draws other.seat.me.0.draws in
       let spoiled = ap one_if joins.spoiled in
       record {
         own = joins.own;

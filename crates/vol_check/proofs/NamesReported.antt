@@ -12,8 +12,8 @@ use Rattle.vol_dir.specs.Names.{is_dots}
 use Rattle.vol_dir.proofs.Finding.{slots_low}
 use Rattle.vol_judge.specs.Stepping.{rank}
 use Rattle.count_table.specs.declared.rule.Mark.{Mark}
-use Rattle.count_table.specs.declared.rule.View.{View}
-use Rattle.count_table.specs.declared.rule.Shape.{Shape}
+use Rattle.count_table.specs.declared.rule.SeatView.{SeatView}
+use Rattle.count_table.specs.declared.rule.TableShape.{TableShape}
 use Rattle.count_table.specs.Sums.{total, below, late}
 use Rattle.count_table.specs.Views.{mark}
 use Rattle.count_table.specs.Rule.{IsSummed}
@@ -231,7 +231,7 @@ least_naming i low high (e ∷ es) small asc up = elim (cases_eq e.inode i) [
       f ∙ (h ∙ sym n)
 ]
 
-module _ (g : Geometry) (image : List ℕ) (fits : Fits g image) (shape : Shape) (v : View) (words : List ℕ) (pieces : ℕ) (starts : List ℕ)
+module _ (g : Geometry) (image : List ℕ) (fits : Fits g image) (shape : TableShape) (v : SeatView) (words : List ℕ) (pieces : ℕ) (starts : List ℕ)
     (has : HasNameWords g shape) (summed : IsSummed shape v words) (count : shape.pieces ≡ pieces) (stopped : 1 ≤ late shape.pieces v.draws)
     (parts : CountsParts g pieces starts) (at : HasStarts g image starts)
     (marks : (weight : Mark → ℕ) → total weight v.marks ≡ total (slots_piece g image (slot_weight Names g weight)) v.draws)

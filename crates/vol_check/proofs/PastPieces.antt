@@ -3,7 +3,7 @@ use Rattle.std.proofs.Common.{◌≡◌, ◌≢◌, ℕ, ◌+◌, ◌<◌, ◌�
 use Rattle.std.proofs.lemmas.Bool.{cases_eq, eq-eqb, ne_eqb}
 use Rattle.vol_layout.specs.declared.geometry.Geometry.{Geometry}
 use Rattle.count_table.specs.declared.rule.Mark.{Mark}
-use Rattle.count_table.specs.declared.rule.Shape.{Shape}
+use Rattle.count_table.specs.declared.rule.TableShape.{TableShape}
 use Rattle.count_table.specs.Sums.{total, below}
 use Rattle.count_table.proofs.Totals.{total_push}
 use Rattle.vol_reports.specs.Blocks.{one_if}
@@ -45,7 +45,7 @@ unfolding slots_piece
 slots_past g image weight n le =
     value_past (part_count g image) (part_sum g image weight) 1 g.last_inode n (let e = parts_one g image g.last_inode in omega arith)
 
-module _ (g : Geometry) (image : List ℕ) (pieces : ℕ) (starts : List ℕ) (links : List LinkCount) (shape : Shape) (n : ℕ) (high : pieces ≤ n) where
+module _ (g : Geometry) (image : List ℕ) (pieces : ℕ) (starts : List ℕ) (links : List LinkCount) (shape : TableShape) (n : ℕ) (high : pieces ≤ n) where
   parts_past : (checker : Checker) → checker ≢ Blocks → IsReady checker g pieces starts links shape → HasStarts g image starts → parts_before g image g.last_inode ≤ n
   parts_past checker other ready has = let p = ready.parts other in let a = has.at g.last_inode (omega arith) in omega (arith, p.last, a, high)
 
@@ -99,14 +99,14 @@ pub record IsPast (checker : Checker) (layout : Layout) (image : List ℕ) (n : 
   pub fault : (draws : List ℕ) → layout_fault checker layout image (draws ++ n ∷ []) ≡ layout_fault checker layout image draws
 
 -- the last piece of a sweep over the blocks is past piece 0
-some_blocks : (checker : Checker) (g : Geometry) (pieces : ℕ) (starts : List ℕ) (links : List LinkCount) (shape : Shape) (n : ℕ) → shape.pieces ≡ pieces
+some_blocks : (checker : Checker) (g : Geometry) (pieces : ℕ) (starts : List ℕ) (links : List LinkCount) (shape : TableShape) (n : ℕ) → shape.pieces ≡ pieces
     → IsReady checker g pieces starts links shape → pieces ≤ n → (draws : List ℕ) (image : List ℕ)
     → checker_fault checker g image (draws ++ n ∷ []) ≡ checker_fault checker g image draws
 some_blocks Blocks g pieces starts links shape n count ready high draws image = other_kept Blocks g image draws n (λ e. omega (arith, e, count, (ready.words.of_blocks refl).pieces, high))
 some_blocks Entries g pieces starts links shape n count ready high draws image = refl
 some_blocks Names g pieces starts links shape n count ready high draws image = refl
 
-pub is_past : (checker : Checker) (layout : Layout) (image : List ℕ) (pieces : ℕ) (starts : List ℕ) (links : List LinkCount) (shape : Shape) (n : ℕ)
+pub is_past : (checker : Checker) (layout : Layout) (image : List ℕ) (pieces : ℕ) (starts : List ℕ) (links : List LinkCount) (shape : TableShape) (n : ℕ)
     → IsShaped checker layout pieces starts links shape → ((g : Geometry) → layout ≡ Ok g → checker ≢ Blocks → HasStarts g image starts) → pieces ≤ n
     → IsPast checker layout image n
 is_past checker (Ok g) image pieces starts links shape n shaped has high =

@@ -18,14 +18,14 @@ use Rattle.vol_layout.proofs.BodyLaws.{zone_bounds}
 use Rattle.vol_file.specs.Rules.{kind_at}
 use Rattle.vol_file.specs.Changes.{blocks_of}
 use Rattle.count_table.specs.declared.rule.Mark.{Mark}
-use Rattle.count_table.specs.declared.rule.View.{View}
-use Rattle.count_table.specs.declared.rule.Shape.{Shape}
+use Rattle.count_table.specs.declared.rule.SeatView.{SeatView}
+use Rattle.count_table.specs.declared.rule.TableShape.{TableShape}
 use Rattle.count_table.specs.Sums.{total, below, late, sum_at}
 use Rattle.count_table.specs.Rule.{IsSummed}
 use Rattle.vol_reports.specs.declared.line.FreeFault.{FreeFault}
 use Rattle.vol_reports.specs.Words.{zone_len, HasWords, place_word, free_word, bad_word, kind_word, least_word}
 use Rattle.vol_reports.specs.FreeWalk.{Walked, walk_rest, free_walk}
-use Rattle.vol_reports.specs.Blocks.{one_if, is_kind, place_count, met_count, bad_numbers, kind_count}
+use Rattle.vol_reports.specs.Blocks.{one_if, is_kind, use_count, met_count, bad_numbers, kind_count}
 use Rattle.vol_reports.specs.Counted.{CountsBlocks}
 use Rattle.vol_check.specs.Pieces.{piece_weight, inode_weight}
 use Rattle.vol_check.specs.declared.checker.Checker.TheVariants.{Blocks}
@@ -74,8 +74,8 @@ module _ (g : Geometry) (image : List ℕ) (fits : Fits g image) where
       let m : 32 * g.last_inode ≤ (constants g.edition).inode_bytes * g.last_inode = mul-le-mul_right g.last_inode b in
       omega (arith, m, n, fits.i_list, fits.zone, fits.limit)
 
-  few_places : (b : ℕ) → place_count g image b < 2 ^ 64
-  unfolding place_count
+  few_places : (b : ℕ) → use_count g image b < 2 ^ 64
+  unfolding use_count
   few_places b =
       let f : ℕ → ℕ = λ i. count_by (λ k. k == b) (blocks_of g image i) in
       let o = over_inodes f g.last_inode in
@@ -104,7 +104,7 @@ module _ (g : Geometry) (image : List ℕ) (fits : Fits g image) where
       let r = length-range_with_len 1 g.last_inode in
       let l = few_inodes in omega (arith, c, r, l)
 
-  module _ (shape : Shape) (v : View) (words : List ℕ) (has : HasWords g shape) (summed : IsSummed shape v words) (stopped : 1 ≤ late shape.pieces v.draws)
+  module _ (shape : TableShape) (v : SeatView) (words : List ℕ) (has : HasWords g shape) (summed : IsSummed shape v words) (stopped : 1 ≤ late shape.pieces v.draws)
       (marks : (weight : Mark → ℕ) → total weight v.marks ≡ total (piece_weight g image weight) v.draws) where
     -- the marks are those of the free list and of each i-node
     all_marked : AllMarked g image v.marks
@@ -140,7 +140,7 @@ module _ (g : Geometry) (image : List ℕ) (fits : Fits g image) where
     counts_blocks fault is = record {
       wide = let e = summed.wide in let c = has.counts in let l = has.leasts in omega arith;
       places = λ b zone. let low = zone_bounds g b zone in
-          counted (place_word g b) (place_count g image b) (omega arith) (omega arith) (places_summed g image v.marks all_marked b zone) (few_places b);
+          counted (place_word g b) (use_count g image b) (omega arith) (omega arith) (places_summed g image v.marks all_marked b zone) (few_places b);
       frees = λ b zone. let low = zone_bounds g b zone in
           counted (free_word g b) (met_count g image b) (omega arith) (omega arith) (frees_summed g image v.marks all_marked b zone) (few_met b);
       bads = λ i first last.

@@ -10,7 +10,7 @@ use Rattle.vol_layout.specs.Super.{free_head}
 use Rattle.vol_layout.specs.declared.geometry.Geometry.{Geometry}
 use Rattle.vol_layout.proofs.BodyLaws.{zone_bounds}
 use Rattle.vol_free.proofs.Stacks.{head_end, zone_behind}
-use Rattle.count_table.specs.declared.rule.View.{View}
+use Rattle.count_table.specs.declared.rule.SeatView.{SeatView}
 use Rattle.count_table.specs.declared.words.Tally.{Tally}
 use Rattle.count_table.specs.Sums.{total}
 use Rattle.count_table.specs.Views.{mark}
@@ -40,7 +40,7 @@ unset_less flags k lt clear =
     let s = total_set (λ (m : Bool). if m then 0 else 1) flags k false true (at_index flags k false lt (sym clear)) in omega arith
 
 -- what was met is marked, and the walk goes on from what is left
-pub record IsWalking (g : Geometry) (image : List ℕ) (tally : Tally) (old now : Seat (Unit {0}) View) (flags : List Bool) (rest : Rest) : Type 0 where
+pub record IsWalking (g : Geometry) (image : List ℕ) (tally : Tally) (old now : Seat (Unit {0}) SeatView) (flags : List Bool) (rest : Rest) : Type 0 where
   pub met : List ℕ
   pub len : length flags ≡ zone_len g
   pub flagged : FlagsMet g flags met
@@ -49,7 +49,7 @@ pub record IsWalking (g : Geometry) (image : List ℕ) (tally : Tally) (old now 
   pub adds : Adds tally old now (λ weight. total (λ b. weight (mark (free_word g b) 1)) met)
 
 -- at the start
-pub starts : (g : Geometry) (image : List ℕ) (tally : Tally) (seat : Seat (Unit {0}) View) (flags : List Bool) (rest : Rest)
+pub starts : (g : Geometry) (image : List ℕ) (tally : Tally) (seat : Seat (Unit {0}) SeatView) (flags : List Bool) (rest : Rest)
     → Fits g image → IsSeatAt tally seat → length flags ≡ zone_len g → ((k : ℕ) → slice_index_or flags k false ≡ false)
     → rest.head ≡ free_head g.edition → rest.count ≡ word image (free_head g.edition) → IsWalking g image tally seat seat flags rest
 starts g image tally seat flags rest fits own len clear head count = record {
@@ -61,10 +61,10 @@ starts g image tally seat flags rest fits own len clear head count = record {
   adds = adds_none tally seat (λ weight. total (λ b. weight (mark (free_word g b) 1)) []) own (λ weight. total_nil (λ b. weight (mark (free_word g b) 1)));
 }
 
-module _ (g : Geometry) (image : List ℕ) (tally : Tally) (old now : Seat (Unit {0}) View) (flags : List Bool) (rest : Rest)
+module _ (g : Geometry) (image : List ℕ) (tally : Tally) (old now : Seat (Unit {0}) SeatView) (flags : List Bool) (rest : Rest)
     (w : IsWalking g image tally old now flags rest) where
   -- one block more
-  pub walks_on : (new : Seat (Unit {0}) View) (b : ℕ) (next : Rest) → Meets g image flags rest b next
+  pub walks_on : (new : Seat (Unit {0}) SeatView) (b : ℕ) (next : Rest) → Meets g image flags rest b next
       → Adds tally now new (λ weight. weight (mark (free_word g b) 1)) → IsWalking g image tally old new (set flags (b - g.zone_start) true) next
   walks_on new b next meets adds =
       let low = zone_bounds g b meets.zone in

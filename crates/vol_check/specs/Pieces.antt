@@ -8,7 +8,7 @@ use Rattle.vol_layout.specs.declared.mode.Kind.TheVariants as kinds
 use Rattle.vol_file.specs.Rules.{kind_at}
 use Rattle.vol_file.specs.Changes.{blocks_of}
 use Rattle.count_table.specs.declared.rule.Mark.{Mark}
-use Rattle.count_table.specs.declared.rule.View.{View}
+use Rattle.count_table.specs.declared.rule.SeatView.{SeatView}
 use Rattle.count_table.specs.declared.words.Tally.{Tally}
 use Rattle.count_table.specs.Sums.{total}
 use Rattle.count_table.specs.Views.{mark}
@@ -44,7 +44,7 @@ piece_weight g image weight p =
     if p == 0 then free_weight g image weight else if nat_le p g.last_inode then inode_weight g image weight p else 0
 
 -- a seat made marks of this weight, and nothing else changed of what it knows (this project)
-pub record Adds (tally : Tally) (old new : Seat (Unit {0}) View) (amount : (Mark → ℕ) → ℕ) : Type 0 where
+pub record Adds (tally : Tally) (old new : Seat (Unit {0}) SeatView) (amount : (Mark → ℕ) → ℕ) : Type 0 where
   pub own : IsSeatAt tally new
   pub parts : new.me.0.parts ≡ old.me.0.parts
   pub draws : new.me.0.draws ≡ old.me.0.draws

@@ -5,7 +5,7 @@ use Rattle.count_table.specs.declared.rule.Mark.{Mark}
 use Rattle.count_table.specs.declared.words.Tally.{Tally}
 use Rattle.count_table.specs.Sums.{total, late}
 use Rattle.count_table.specs.Views.{view}
-use Rattle.count_table.specs.Tallies.{IsSeatAt, shape_of}
+use Rattle.count_table.specs.Tallies.{IsSeatAt, table_shape}
 use Rattle.vol_reports.specs.Blocks.{one_if}
 use Rattle.vol_reports.specs.FreeWalk.{free_walk}
 use Rattle.vol_reports.specs.Placed.{Placed}
@@ -62,7 +62,7 @@ is_stopped s = s.ended || s.spoiled
 pub record IsSeatOf (tally : Tally) (s : CheckSeat) : Type 0 where
   pub own : IsSeatAt tally s.seat
   pub parts : s.seat.me.0.parts ≡ 1
-  pub late : late (shape_of tally).pieces s.seat.me.0.draws ≡ one_if s.ended
+  pub late : late (table_shape tally).pieces s.seat.me.0.draws ≡ one_if s.ended
 
 -- the marks that a seat made, the fault and the entries that it keeps, are those of the pieces among its draws, in this image; a
 -- seat that found no memory says nothing (icheck, dcheck, ncheck)

@@ -3,7 +3,7 @@ use Rattle.std.specs.Prelude.{◌≡◌, ◌≢◌, ℕ, ◌+◌, ◌*◌, ◌<�
 use Rattle.vol_layout.specs.Edition.{constants}
 use Rattle.vol_layout.specs.declared.geometry.Geometry.{Geometry}
 use Rattle.vol_layout.specs.declared.geometry.GeometryFault.{GeometryFault}
-use Rattle.count_table.specs.declared.rule.Shape.{Shape}
+use Rattle.count_table.specs.declared.rule.TableShape.{TableShape}
 use Rattle.vol_reports.specs.declared.links.LinkCount.{LinkCount}
 use Rattle.vol_reports.specs.Words.{HasWords, HasEntryWords, HasNameWords}
 use Rattle.vol_check.specs.declared.checker.Checker.{Checker}
@@ -21,7 +21,7 @@ pub record IsLaidOut (g : Geometry) : Type 0 where
   pub limit : g.zone_end ≤ (constants g.edition).number_limit
 
 -- a table has the words that the pieces of a sweep mark (this project)
-pub record HasWordsOf (checker : Checker) (g : Geometry) (shape : Shape) : Type 0 where
+pub record HasWordsOf (checker : Checker) (g : Geometry) (shape : TableShape) : Type 0 where
   pub of_blocks : checker ≡ Blocks → HasWords g shape
   pub of_entries : checker ≡ Entries → HasEntryWords g shape
   pub of_names : checker ≡ Names → HasNameWords g shape
@@ -33,14 +33,14 @@ pub record CountsParts (g : Geometry) (pieces : ℕ) (starts : List ℕ) : Type 
   pub last : slice_index starts g.last_inode ≡ pieces
 
 -- what a sweep has for images with a geometry: the words, the pieces, and for the entries the link counts (this project)
-pub record IsReady (checker : Checker) (g : Geometry) (pieces : ℕ) (starts : List ℕ) (links : List LinkCount) (shape : Shape) : Type 0 where
+pub record IsReady (checker : Checker) (g : Geometry) (pieces : ℕ) (starts : List ℕ) (links : List LinkCount) (shape : TableShape) : Type 0 where
   pub bounds : IsLaidOut g
   pub words : HasWordsOf checker g shape
   pub parts : checker ≢ Blocks → CountsParts g pieces starts
   pub counts : checker ≡ Entries → length links ≡ g.last_inode
 
 -- what a sweep has for images with some layout; those without geometry have no pieces (this project)
-pub record IsShaped (checker : Checker) (layout : Layout) (pieces : ℕ) (starts : List ℕ) (links : List LinkCount) (shape : Shape) : Type 0 where
+pub record IsShaped (checker : Checker) (layout : Layout) (pieces : ℕ) (starts : List ℕ) (links : List LinkCount) (shape : TableShape) : Type 0 where
   pub count : shape.pieces ≡ pieces
   pub ready : (g : Geometry) → layout ≡ Ok g → IsReady checker g pieces starts links shape
   pub none : (fault : GeometryFault) → layout ≡ Err fault → pieces ≡ 0

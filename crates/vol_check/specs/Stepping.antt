@@ -4,7 +4,7 @@ use Rattle.std.specs.declared.alloc.AllocError.{AllocError}
 use Rattle.vol_layout.specs.declared.geometry.Geometry.{Geometry}
 use Rattle.count_table.specs.declared.words.Tally.{Tally}
 use Rattle.count_table.specs.Sums.{total}
-use Rattle.count_table.specs.Tallies.{shape_of}
+use Rattle.count_table.specs.Tallies.{table_shape}
 use Rattle.vol_reports.specs.declared.line.FreeFault.{FreeFault}
 use Rattle.vol_reports.specs.FreeWalk.{free_walk}
 use Rattle.vol_reports.specs.Placed.{Placed}
@@ -31,18 +31,18 @@ pub record Works (tally : Tally) (checker : Checker) (g : Geometry) (image : Lis
   pub spoiled : new.spoiled ≡ old.spoiled
 
 -- what a step answers: the piece that it drew, or that the number drawn last is no piece's, or that there was no memory (this project)
-abbrev pub Answers : Sweep → CheckSeat → CheckSeat → Result (Option Piece) AllocError → Type 0
-Answers sweep old new (Ok (Some p)) = (new.seat.me.0.draws ≡ old.seat.me.0.draws ++ p.number ∷ [])
-    × (p.number < (shape_of sweep.tally).pieces) × (length old.seat.me.0.draws ≤ p.number) × (new.spoiled ≡ false)
-Answers sweep old new (Ok None) = (new.ended ≡ true) × (new.spoiled ≡ false)
-Answers sweep old new (Err failed) = new.spoiled ≡ true
+abbrev pub StepAnswers : Sweep → CheckSeat → CheckSeat → Result (Option Piece) AllocError → Type 0
+StepAnswers sweep old new (Ok (Some p)) = (new.seat.me.0.draws ≡ old.seat.me.0.draws ++ p.number ∷ [])
+    × (p.number < (table_shape sweep.tally).pieces) × (length old.seat.me.0.draws ≤ p.number) × (new.spoiled ≡ false)
+StepAnswers sweep old new (Ok None) = (new.ended ≡ true) × (new.spoiled ≡ false)
+StepAnswers sweep old new (Err failed) = new.spoiled ≡ true
 
 -- a step: the seat is one of the sweep's and of the image, as before; it drew at most one number, and none where it was at its
 -- end or had found no memory, which it tells for good (this project)
 pub record Stepped (sweep : Sweep) (image : List ℕ) (old new : CheckSeat) (result : Result (Option Piece) AllocError) : Type 0 where
   pub own : IsSeatOf sweep.tally new
   pub knows : IsOf sweep.checker sweep.layout image new
-  pub answers : Answers sweep old new result
+  pub answers : StepAnswers sweep old new result
   pub drew : (new.seat.me.0.draws ≡ old.seat.me.0.draws) ⊎ ((n : ℕ) × (new.seat.me.0.draws ≡ old.seat.me.0.draws ++ n ∷ []))
   pub for_good : old.spoiled ≡ true → IsErr result
   pub no_more : old.ended ≡ true → new.seat.me.0.draws ≡ old.seat.me.0.draws

@@ -21,9 +21,9 @@ pub record Meets (g : Geometry) (image : List ℕ) (flags : List Bool) (rest : R
       → walk_rest g image (suc fuel) rest.head rest.count met ≡ walk_rest g image fuel next.head next.count (b ∷ met)
 
 -- what one step of the walk finds (icheck)
-abbrev pub Steps : Geometry → List ℕ → List Bool → Rest → Outcome → Type 0
-Steps g image flags rest (Met b next) = Meets g image flags rest b next
-Steps g image flags rest End = (fuel : ℕ) (met : List ℕ) → FlagsMet g flags met
+abbrev pub WalkFinds : Geometry → List ℕ → List Bool → Rest → Outcome → Type 0
+WalkFinds g image flags rest (Met b next) = Meets g image flags rest b next
+WalkFinds g image flags rest End = (fuel : ℕ) (met : List ℕ) → FlagsMet g flags met
     → walk_rest g image (suc fuel) rest.head rest.count met ≡ record { met = met; fault = None }
-Steps g image flags rest (Fault fault n) = (fuel : ℕ) (met : List ℕ) → FlagsMet g flags met
+WalkFinds g image flags rest (Fault fault n) = (fuel : ℕ) (met : List ℕ) → FlagsMet g flags met
     → walk_rest g image (suc fuel) rest.head rest.count met ≡ record { met = met; fault = Some (fault, n) }

@@ -1,9 +1,9 @@
 //! Making a sweep, and a seat for each of its threads.
 ghost use Rattle.std.specs.Prelude.{◌≡◌, ◌≢◌, ℕ, ◌+◌, ◌^◌, ◌≤◌, ◌<◌, List, [], All, Ok, Err, IfOk, length, slice_index, vec_len};
-ghost use Rattle.count_table.specs.Tallies.{IsSeatAt, shape_of};
+ghost use Rattle.count_table.specs.Tallies.{IsSeatAt, table_shape};
 ghost use Rattle.count_table.specs.Views.{view};
 ghost use Rattle.vol_layout.specs.Geometry.{Fits};
-ghost use Rattle.count_table.specs.declared.rule.Shape.{Shape};
+ghost use Rattle.count_table.specs.declared.rule.TableShape.{TableShape};
 ghost use Rattle.vol_layout.specs.declared.geometry.Geometry.{Geometry};
 ghost use Rattle.vol_layout.specs.declared.geometry.GeometryFault.{GeometryFault};
 ghost use Rattle.vol_reports.specs.Counted.{HasLinkCounts};
@@ -17,7 +17,7 @@ use crate::checker::Checker;
 use crate::parts::part_starts;
 use crate::seats::CheckSeat;
 use crate::sweeps::Sweep;
-use count_table::{Shape, Tally, TallySeat};
+use count_table::{TableShape, Tally, TallySeat};
 use pdp_words::Image;
 use std::alloc::{AllocError, Global};
 use vol_layout::{Edition, Geometry, GeometryFault};
@@ -42,7 +42,7 @@ impl Sweep {
         ensures checker { IfOk result (λ s. s.0.checker ≡ checker) }
         ensures image { IfOk result (λ s. IsFor s.0 image.now) }
         ensures others { IfOk result (λ s. (other : List ℕ) → HasSameHead edition image.now other → IsFor s.0 other) }
-        ensures count { IfOk result (λ s. (vec_len s.1 ≡ seats) × ((shape_of s.0.tally).seats ≡ seats)) }
+        ensures count { IfOk result (λ s. (vec_len s.1 ≡ seats) × ((table_shape s.0.tally).seats ≡ seats)) }
         ensures own { IfOk result (λ s. All (IsSeatOf s.0.tally) s.1.items) }
         ensures knows { IfOk result (λ s. (bytes : List ℕ) → All (IsOf s.0.checker s.0.layout bytes) s.1.items) }
     {
@@ -120,7 +120,7 @@ fn shape_for(
     layout: &Result<Geometry, GeometryFault>,
     pieces: u64,
     seats: u64,
-) -> Shape
+) -> TableShape
     requires bounds { IfOk layout.now IsLaidOut }
     requires blocks { (geometry : Geometry) → layout.now ≡ Ok geometry → checker ≡ Blocks → pieces ≡ geometry.last_inode + 1 }
     ensures words { (geometry : Geometry) → layout.now ≡ Ok geometry → HasWordsOf checker geometry result }
@@ -132,7 +132,7 @@ fn shape_for(
         Ok(geometry) => words_for(checker, geometry),
         Err(_) => (0, 0),
     };
-    Shape {
+    TableShape {
         pieces,
         counts,
         leasts,
@@ -143,7 +143,7 @@ fn shape_for(
 /// How many count words and how many least words a sweep wants.
 fn words_for(checker: Checker, geometry: &Geometry) -> (u64, u64)
     requires zone { geometry.now.zone_start < geometry.now.zone_end }
-    ensures words { (shape : Shape) → (checker ≡ Blocks → shape.pieces ≡ geometry.now.last_inode + 1) → shape.counts ≡ result.0 → shape.leasts ≡ result.1
+    ensures words { (shape : TableShape) → (checker ≡ Blocks → shape.pieces ≡ geometry.now.last_inode + 1) → shape.counts ≡ result.0 → shape.leasts ≡ result.1
         → HasWordsOf checker geometry.now shape }
     ensures few { result.0 + result.1 < 2 ^ 48 }
 {

@@ -1,7 +1,7 @@
 //! The report of what the seats of a sweep did.
 ghost use Rattle.std.specs.Prelude.{◌≡◌, ◌≤◌, ℕ, true, List, All, IfOk, IsErr, vec_len};
 ghost use Rattle.std.specs.List.{count_by, list_any};
-ghost use Rattle.count_table.specs.Tallies.{shape_of};
+ghost use Rattle.count_table.specs.Tallies.{table_shape};
 ghost use Rattle.vol_check.specs.Seats.{IsSeatOf, IsOf, is_stopped, found_no_memory};
 ghost use Rattle.vol_check.specs.Layouts.{IsFor};
 ghost use Rattle.vol_check.specs.Reporting.{IsReport};
@@ -19,7 +19,7 @@ impl Sweep {
     /// Costs a few looks at the words of each data block and i-number, and what the report's checker costs. Takes memory for
     /// the lines, and for the entries that the seats keep.
     pub fn finish(self, alloc: Global, seats: Vec<CheckSeat>) -> Result<Report, AllocError>
-        requires count { vec_len seats ≡ (shape_of self.tally).seats }
+        requires count { vec_len seats ≡ (table_shape self.tally).seats }
         requires own { All (IsSeatOf self.tally) seats.items }
         requires stopped { 1 ≤ count_by is_stopped seats.items }
         ensures report { IfOk result (λ report. (image : List ℕ) → IsFor self image

@@ -2,9 +2,9 @@
 ghost use Rattle.std.specs.Prelude.{◌≡◌, ℕ, ◌+◌, ◌-◌, ◌*◌, ◌≤◌, false, length, slice_index_or, IfOk, IfErr};
 ghost use Rattle.pdp_words.specs.Words.{word};
 ghost use Rattle.vol_layout.specs.Geometry.{Fits};
-ghost use Rattle.count_table.specs.Tallies.{IsSeatAt, shape_of};
+ghost use Rattle.count_table.specs.Tallies.{IsSeatAt, table_shape};
 ghost use Rattle.vol_reports.specs.FreeWalk.{free_walk};
-ghost use Rattle.vol_check.specs.Walking.{Steps};
+ghost use Rattle.vol_check.specs.Walking.{WalkFinds};
 ghost use Rattle.vol_reports.specs.Words.{HasWords, zone_len};
 ghost use Rattle.vol_check.specs.Pieces.{Adds, free_weight};
 
@@ -26,7 +26,7 @@ pub(crate) fn mark_free(
     geometry: &Geometry,
 ) -> Result<Option<(FreeFault, u32)>, AllocError>
     requires fits { Fits geometry.now image.now }
-    requires words { HasWords geometry.now (shape_of tally.now) }
+    requires words { HasWords geometry.now (table_shape tally.now) }
     requires own { IsSeatAt tally.now seat.old }
     requires parts { 1 ≤ seat.old.me.0.parts }
     ensures marks { IfOk result (λ _. Adds tally.now seat.old seat.new (free_weight geometry.now image.now)) }
@@ -46,7 +46,7 @@ fn walk(
     flags: &mut [bool],
 ) -> Option<(FreeFault, u32)>
     requires fits { Fits geometry.now image.now }
-    requires words { HasWords geometry.now (shape_of tally.now) }
+    requires words { HasWords geometry.now (table_shape tally.now) }
     requires own { IsSeatAt tally.now seat.old }
     requires parts { 1 ≤ seat.old.me.0.parts }
     requires len { length flags.old ≡ zone_len geometry.now }
@@ -79,7 +79,7 @@ fn step(image: &Image, geometry: &Geometry, flags: &[bool], rest: Rest) -> Outco
     requires fits { Fits geometry.now image.now }
     requires len { length flags.now ≡ zone_len geometry.now }
     requires room { rest.head + 202 ≤ length image.now }
-    ensures { Steps geometry.now image.now flags.now rest result }
+    ensures { WalkFinds geometry.now image.now flags.now rest result }
 {
     image.fits_in_memory();
     if rest.count == 0 {

@@ -5,7 +5,7 @@ ghost use Rattle.vol_file.specs.Changes.{blocks_of};
 ghost use Rattle.vol_file.specs.Rules.{kind_at};
 ghost use Rattle.vol_judge.specs.Marks.{blocks_from};
 ghost use Rattle.count_table.specs.Sums.{total};
-ghost use Rattle.count_table.specs.Tallies.{IsSeatAt, shape_of};
+ghost use Rattle.count_table.specs.Tallies.{IsSeatAt, table_shape};
 ghost use Rattle.vol_reports.specs.Words.{HasWords};
 ghost use Rattle.vol_check.specs.Pieces.{Adds, place_weight, kind_weight, inode_weight};
 
@@ -26,7 +26,7 @@ pub(crate) fn mark_inode(
     requires fits { Fits geometry.now image.now }
     requires first { 1 ≤ i }
     requires last { i ≤ geometry.now.last_inode }
-    requires words { HasWords geometry.now (shape_of tally.now) }
+    requires words { HasWords geometry.now (table_shape tally.now) }
     requires own { IsSeatAt tally.now seat.old }
     requires parts { 1 ≤ seat.old.me.0.parts }
     ensures { Adds tally.now seat.old seat.new (λ weight. inode_weight geometry.now image.now weight i) }
@@ -38,7 +38,7 @@ pub(crate) fn mark_inode(
 /// Marks an i-node's kind, unless it is free.
 fn mark_kind(tally: &Tally, seat: &mut TallySeat, geometry: &Geometry, kind: Kind)
     requires zone { geometry.now.zone_start < geometry.now.zone_end }
-    requires words { HasWords geometry.now (shape_of tally.now) }
+    requires words { HasWords geometry.now (table_shape tally.now) }
     requires own { IsSeatAt tally.now seat.old }
     requires parts { 1 ≤ seat.old.me.0.parts }
     ensures { Adds tally.now seat.old seat.new (λ weight. kind_weight geometry.now weight kind) }
@@ -57,7 +57,7 @@ fn mark_places(tally: &Tally, seat: &mut TallySeat, image: &Image, geometry: &Ge
     requires fits { Fits geometry.now image.now }
     requires first { 1 ≤ i }
     requires last { i ≤ geometry.now.last_inode }
-    requires words { HasWords geometry.now (shape_of tally.now) }
+    requires words { HasWords geometry.now (table_shape tally.now) }
     requires own { IsSeatAt tally.now seat.old }
     requires parts { 1 ≤ seat.old.me.0.parts }
     ensures { Adds tally.now seat.old seat.new (λ weight. total (place_weight geometry.now weight i) (blocks_of geometry.now image.now i)) }
@@ -82,7 +82,7 @@ fn mark_from(
     requires fits { Fits geometry.now image.now }
     requires first { 1 ≤ i }
     requires last { i ≤ geometry.now.last_inode }
-    requires words { HasWords geometry.now (shape_of tally.now) }
+    requires words { HasWords geometry.now (table_shape tally.now) }
     requires own { IsSeatAt tally.now seat.old }
     requires parts { 1 ≤ seat.old.me.0.parts }
     ensures { Adds tally.now seat.old seat.new (λ weight. total (place_weight geometry.now weight i) (blocks_from geometry.now image.now level b)) }
@@ -108,7 +108,7 @@ fn mark_number(tally: &Tally, seat: &mut TallySeat, geometry: &Geometry, i: u16,
     requires zone { geometry.now.zone_start < geometry.now.zone_end }
     requires first { 1 ≤ i }
     requires last { i ≤ geometry.now.last_inode }
-    requires words { HasWords geometry.now (shape_of tally.now) }
+    requires words { HasWords geometry.now (table_shape tally.now) }
     requires own { IsSeatAt tally.now seat.old }
     requires parts { 1 ≤ seat.old.me.0.parts }
     ensures { Adds tally.now seat.old seat.new (λ weight. place_weight geometry.now weight i b) }

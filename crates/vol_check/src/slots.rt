@@ -4,7 +4,7 @@ ghost use Rattle.vol_layout.specs.Geometry.{Fits};
 ghost use Rattle.vol_dir.specs.Entries.{entry_in, entry_at, slot_count};
 ghost use Rattle.count_table.specs.Sums.{total, below};
 ghost use Rattle.count_table.specs.Views.{mark};
-ghost use Rattle.count_table.specs.Tallies.{IsSeatAt, shape_of};
+ghost use Rattle.count_table.specs.Tallies.{IsSeatAt, table_shape};
 ghost use Rattle.vol_reports.specs.Words.{HasEntryWords, HasNameWords, entry_word, name_word};
 ghost use Rattle.vol_reports.specs.Names.{entered};
 ghost use Rattle.vol_judge.specs.Stepping.{rank};
@@ -53,7 +53,7 @@ impl Sweep {
         part: Part,
     ) -> Result<(), AllocError>
         requires fits { Fits geometry.now image.now }
-        requires words { HasWordsOf self.now.checker geometry.now (shape_of self.now.tally) }
+        requires words { HasWordsOf self.now.checker geometry.now (table_shape self.now.tally) }
         requires own { IsSeatAt self.now.tally seat.old.seat }
         requires parts { 1 ≤ seat.old.seat.me.0.parts }
         requires first { 1 ≤ part.inode }
@@ -86,7 +86,7 @@ impl Sweep {
         end: u32,
     ) -> Result<(), AllocError>
         requires fits { Fits geometry.now image.now }
-        requires words { HasWordsOf self.now.checker geometry.now (shape_of self.now.tally) }
+        requires words { HasWordsOf self.now.checker geometry.now (table_shape self.now.tally) }
         requires own { IsSeatAt self.now.tally seat.old.seat }
         requires parts { 1 ≤ seat.old.seat.me.0.parts }
         requires first { 1 ≤ d }
@@ -116,7 +116,7 @@ impl Sweep {
         b: u32,
     ) -> Result<(), AllocError>
         requires fits { Fits geometry.now image.now }
-        requires words { HasWordsOf self.now.checker geometry.now (shape_of self.now.tally) }
+        requires words { HasWordsOf self.now.checker geometry.now (table_shape self.now.tally) }
         requires own { IsSeatAt self.now.tally seat.old.seat }
         requires parts { 1 ≤ seat.old.seat.me.0.parts }
         requires first { 1 ≤ d }
@@ -150,7 +150,7 @@ impl Sweep {
         s: u32,
         slot: Slot,
     ) -> Result<(), AllocError>
-        requires words { HasWordsOf self.now.checker geometry.now (shape_of self.now.tally) }
+        requires words { HasWordsOf self.now.checker geometry.now (table_shape self.now.tally) }
         requires own { IsSeatAt self.now.tally seat.old.seat }
         requires parts { 1 ≤ seat.old.seat.me.0.parts }
         ensures ok { IfOk result (λ _. Notes self.now.tally seat.old seat.new
@@ -173,7 +173,7 @@ impl Sweep {
 
 /// Counts an entry for i-number `i`, unless that is past the last.
 fn count_entry(tally: &Tally, seat: &mut TallySeat, geometry: &Geometry, i: u16)
-    requires words { HasEntryWords geometry.now (shape_of tally.now) }
+    requires words { HasEntryWords geometry.now (table_shape tally.now) }
     requires own { IsSeatAt tally.now seat.old }
     requires parts { 1 ≤ seat.old.me.0.parts }
     requires first { 1 ≤ i }
@@ -191,7 +191,7 @@ fn keep_entry(
     geometry: &Geometry,
     entry: Entered,
 ) -> Result<(), AllocError>
-    requires words { HasNameWords geometry.now (shape_of tally.now) }
+    requires words { HasNameWords geometry.now (table_shape tally.now) }
     requires own { IsSeatAt tally.now seat.old.seat }
     requires parts { 1 ≤ seat.old.seat.me.0.parts }
     requires first { 1 ≤ entry.inode }
@@ -210,7 +210,7 @@ fn keep_entry(
 
 /// Gives an entry's rank to its i-number, unless that is past the last.
 fn give_rank(tally: &Tally, seat: &mut TallySeat, geometry: &Geometry, entry: &Entered)
-    requires words { HasNameWords geometry.now (shape_of tally.now) }
+    requires words { HasNameWords geometry.now (table_shape tally.now) }
     requires own { IsSeatAt tally.now seat.old }
     requires parts { 1 ≤ seat.old.me.0.parts }
     requires first { 1 ≤ entry.now.inode }

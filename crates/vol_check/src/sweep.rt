@@ -1,6 +1,6 @@
 //! A sweep over an image by any number of seats, each of which draws one piece after another.
 ghost use Rattle.std.specs.Prelude.{◌≡◌, ◌≢◌, ◌<◌, ◌≤◌, Ok, IfOk, IfErr};
-ghost use Rattle.count_table.specs.Tallies.{IsSeatAt, shape_of};
+ghost use Rattle.count_table.specs.Tallies.{IsSeatAt, table_shape};
 ghost use Rattle.vol_layout.specs.Geometry.{Fits};
 ghost use Rattle.vol_layout.specs.declared.geometry.Geometry.{Geometry};
 ghost use Rattle.vol_reports.specs.Words.{HasWords};
@@ -133,7 +133,7 @@ impl Sweep {
         number: u64,
     ) -> Result<(), AllocError>
         requires fits { Fits geometry.now image.now }
-        requires words { HasWords geometry.now (shape_of self.now.tally) }
+        requires words { HasWords geometry.now (table_shape self.now.tally) }
         requires own { IsSeatAt self.now.tally seat.old.seat }
         requires parts { 1 ≤ seat.old.seat.me.0.parts }
         requires piece { number ≤ geometry.now.last_inode }

@@ -5,7 +5,7 @@ use Rattle.vol_layout.specs.Geometry.{in_zone}
 use Rattle.vol_layout.specs.declared.geometry.Geometry.{Geometry}
 use Rattle.vol_reports.specs.Words.{zone_len, least_word}
 use Rattle.vol_reports.specs.FreeWalk.{free_walk}
-use Rattle.vol_reports.specs.Blocks.{place_count, bad_numbers, is_used, is_met, is_lost, is_lost_of, bad_line, dup_line, lost_line, bad_line_of, dup_line_of, lost_line_of, bad_lines, dup_lines, lost_lines, total_lines, block_lines, fault_line, zone_count}
+use Rattle.vol_reports.specs.Blocks.{use_count, bad_numbers, is_used, is_met, is_lost, is_lost_of, bad_line, dup_line, lost_line, bad_line_of, dup_line_of, lost_line_of, bad_lines, dup_lines, lost_lines, total_lines, block_lines, free_list_line, zone_count}
 use Rattle.vol_reports.specs.Counted.{CountsBlocks}
 use Rattle.vol_reports.specs.FromWords.{is_used_in, is_met_in, is_lost_in, bad_line_in, dup_line_in, lost_line_in, inode_lines, zone_lines, total_lines_in, Appended}
 use Rattle.vol_reports.specs.declared.line.Line.{Line}
@@ -31,7 +31,7 @@ met_same counts b inside = ap (λ n. not (eqb n 0)) (counts.frees b inside)
 lost_same : {g : Geometry} {image words : List ℕ} {fault : Option (FreeFault × ℕ)} → CountsBlocks g image words fault → (b : ℕ) → in_zone g b ≡ true
     → is_lost_in g words b ≡ is_lost g image b
 lost_same {g} {image} {words} counts b inside =
-    ap (λ n. is_lost_of n (is_met_in g words b)) (counts.places b inside) ∙ ap (λ m. is_lost_of (place_count g image b) m) (met_same counts b inside)
+    ap (λ n. is_lost_of n (is_met_in g words b)) (counts.places b inside) ∙ ap (λ m. is_lost_of (use_count g image b) m) (met_same counts b inside)
 
 -- the lines of bad places by the words are those of the report
 bad_same : {g : Geometry} {image words : List ℕ} {fault : Option (FreeFault × ℕ)} → CountsBlocks g image words fault
@@ -49,7 +49,7 @@ unfolding dup_lines
 dup_same {g} {image} {words} counts =
     flat_same (dup_line_in g words) (dup_line g image) g.zone_start (zone_len g) (λ b low high.
     let inside = in_zone_from g b low high in
-    ap (λ n. dup_line_of b n (is_met_in g words b)) (counts.places b inside) ∙ ap (λ m. dup_line_of b (place_count g image b) m) (met_same counts b inside))
+    ap (λ n. dup_line_of b n (is_met_in g words b)) (counts.places b inside) ∙ ap (λ m. dup_line_of b (use_count g image b) m) (met_same counts b inside))
 
 -- those of lost blocks
 lost_lines_same : {g : Geometry} {image words : List ℕ} {fault : Option (FreeFault × ℕ)} → CountsBlocks g image words fault
@@ -83,9 +83,9 @@ joined n v w x y z a b c d e first p q r s t =
 -- the lines appended one after another are the report
 pub blocks_from : {g : Geometry} {image words : List ℕ} {fault : Option (FreeFault × ℕ)} (n v w x y z : List Line) → n ≡ []
     → Appended n v (inode_lines g (bad_line_in g words)) → Appended v w (zone_lines g (dup_line_in g words))
-    → Appended w x (zone_lines g (lost_line_in g words)) → Appended x y (fault_line fault) → Appended y z (total_lines_in g words)
+    → Appended w x (zone_lines g (lost_line_in g words)) → Appended x y (free_list_line fault) → Appended y z (total_lines_in g words)
     → CountsBlocks g image words fault → z ≡ block_lines g image
 blocks_from {g} {image} {words} {fault} n v w x y z first p q r s t counts =
-    joined n v w x y z (bad_lines g image) (dup_lines g image) (lost_lines g image) (fault_line (free_walk g image).fault) (total_lines g image) first
+    joined n v w x y z (bad_lines g image) (dup_lines g image) (lost_lines g image) (free_list_line (free_walk g image).fault) (total_lines g image) first
     (p ∙ ap (λ xs. n ++ xs) (bad_same counts)) (q ∙ ap (λ xs. v ++ xs) (dup_same counts)) (r ∙ ap (λ xs. w ++ xs) (lost_lines_same counts))
-    (s ∙ ap (λ o. x ++ fault_line o) counts.ended) (t ∙ ap (λ xs. y ++ xs) (total_same counts))
+    (s ∙ ap (λ o. x ++ free_list_line o) counts.ended) (t ∙ ap (λ xs. y ++ xs) (total_same counts))

@@ -19,8 +19,8 @@ abbrev pub one_if : Bool → ℕ
 one_if b = if b then 1 else 0
 
 -- how many places name block b (icheck)
-unfoldable pub place_count : Geometry → List ℕ → ℕ → ℕ
-place_count g image b = sum_by (λ i. count_by (λ k. k == b) (blocks_of g image i)) (range_with_len 1 g.last_inode)
+unfoldable pub use_count : Geometry → List ℕ → ℕ → ℕ
+use_count g image b = sum_by (λ i. count_by (λ k. k == b) (blocks_of g image i)) (range_with_len 1 g.last_inode)
 
 -- how often the walk over the free list met block b (icheck)
 unfoldable pub met_count : Geometry → List ℕ → ℕ → ℕ
@@ -65,9 +65,9 @@ abbrev pub lost_line_of : ℕ → Bool → List Line
 lost_line_of b lost = if lost then lines.Lost b ∷ [] else []
 
 -- the line of the fault that ended the walk over the free list (icheck)
-abbrev pub fault_line : Option (FreeFault × ℕ) → List Line
-fault_line None = []
-fault_line (Some fault) = lines.FreeList fault.0 fault.1 ∷ []
+abbrev pub free_list_line : Option (FreeFault × ℕ) → List Line
+free_list_line None = []
+free_list_line (Some fault) = lines.FreeList fault.0 fault.1 ∷ []
 
 -- whether the walk over the free list met block b (icheck)
 abbrev pub is_met : Geometry → List ℕ → ℕ → Bool
@@ -75,11 +75,11 @@ is_met g image b = not (met_count g image b == 0)
 
 -- whether some place names block b (icheck)
 abbrev pub is_used : Geometry → List ℕ → ℕ → Bool
-is_used g image b = not (place_count g image b == 0)
+is_used g image b = not (use_count g image b == 0)
 
 -- whether block b is neither used nor free (icheck)
 abbrev pub is_lost : Geometry → List ℕ → ℕ → Bool
-is_lost g image b = is_lost_of (place_count g image b) (is_met g image b)
+is_lost g image b = is_lost_of (use_count g image b) (is_met g image b)
 
 -- the line of i-node i, if places of it name numbers of no data block (icheck)
 abbrev pub bad_line : Geometry → List ℕ → ℕ → List Line
@@ -87,7 +87,7 @@ bad_line g image i = bad_line_of i (length (bad_numbers g image i)) (least_of (b
 
 -- the line of block b, if it is claimed more than once (icheck)
 abbrev pub dup_line : Geometry → List ℕ → ℕ → List Line
-dup_line g image b = dup_line_of b (place_count g image b) (is_met g image b)
+dup_line g image b = dup_line_of b (use_count g image b) (is_met g image b)
 
 -- the line of block b, if it is lost (icheck)
 abbrev pub lost_line : Geometry → List ℕ → ℕ → List Line
@@ -124,4 +124,4 @@ lost_lines g image = flat_map (lost_line g image) (range_with_len g.zone_start (
 -- the block report of an image with a geometry (icheck)
 abbrev pub block_lines : Geometry → List ℕ → List Line
 block_lines g image =
-    bad_lines g image ++ (dup_lines g image ++ (lost_lines g image ++ (fault_line (free_walk g image).fault ++ total_lines g image)))
+    bad_lines g image ++ (dup_lines g image ++ (lost_lines g image ++ (free_list_line (free_walk g image).fault ++ total_lines g image)))

@@ -9,7 +9,7 @@ use Rattle.vol_judge.specs.Stepping.{rank}
 use Rattle.vol_reports.specs.Words.{zone_len, place_word, free_word, bad_word, kind_word, least_word, entry_word, name_word}
 use Rattle.vol_reports.specs.FreeWalk.{free_walk}
 use Rattle.vol_reports.specs.Placed.{Placed}
-use Rattle.vol_reports.specs.Blocks.{place_count, met_count, bad_numbers, least_of, kind_count}
+use Rattle.vol_reports.specs.Blocks.{use_count, met_count, bad_numbers, least_of, kind_count}
 use Rattle.vol_reports.specs.Entries.{link_count, wants_entry}
 use Rattle.vol_reports.specs.Names.{all_entries, naming_entry}
 use Rattle.vol_reports.specs.declared.line.FreeFault.{FreeFault}
@@ -22,7 +22,7 @@ HasBlockWidth g words = length words ≡ 1 + (2 * zone_len g + (g.last_inode + 4
 -- the words are those of the blocks of an image, and this is the fault that ended the walk over its free list (icheck)
 pub record CountsBlocks (g : Geometry) (image words : List ℕ) (fault : Option (FreeFault × ℕ)) : Type 0 where
   pub wide : HasBlockWidth g words
-  pub places : (b : ℕ) → in_zone g b ≡ true → slice_index words (place_word g b) ≡ place_count g image b
+  pub places : (b : ℕ) → in_zone g b ≡ true → slice_index words (place_word g b) ≡ use_count g image b
   pub frees : (b : ℕ) → in_zone g b ≡ true → slice_index words (free_word g b) ≡ met_count g image b
   pub bads : (i : ℕ) → 1 ≤ i → i ≤ g.last_inode → slice_index words (bad_word g i) ≡ length (bad_numbers g image i)
   pub leasts : (i : ℕ) → 1 ≤ i → i ≤ g.last_inode → slice_index words (least_word g i) ≡ least_of (bad_numbers g image i)

@@ -1,7 +1,7 @@
 -- Which word of the table of counts stands for what.
 use Rattle.std.specs.Prelude.{◌≡◌, ℕ, ◌+◌, ◌-◌, ◌*◌}
 use Rattle.vol_layout.specs.declared.geometry.Geometry.{Geometry}
-use Rattle.count_table.specs.declared.rule.Shape.{Shape}
+use Rattle.count_table.specs.declared.rule.TableShape.{TableShape}
 
 -- how many data blocks a volume has (filsys.h)
 abbrev pub zone_len : Geometry → ℕ
@@ -28,7 +28,7 @@ abbrev pub least_word : Geometry → ℕ → ℕ
 least_word g i = 1 + (2 * zone_len g + (g.last_inode + 4)) + (i - 1)
 
 -- a table of counts has the words of the blocks, and a piece for the free list and one for each i-number (this project)
-pub record HasWords (g : Geometry) (shape : Shape) : Type 0 where
+pub record HasWords (g : Geometry) (shape : TableShape) : Type 0 where
   pub pieces : shape.pieces ≡ g.last_inode + 1
   pub counts : shape.counts ≡ 2 * zone_len g + (g.last_inode + 4)
   pub leasts : shape.leasts ≡ g.last_inode
@@ -38,7 +38,7 @@ abbrev pub entry_word : ℕ → ℕ
 entry_word i = i
 
 -- a table of counts has a word for the entries for each i-number (this project)
-pub record HasEntryWords (g : Geometry) (shape : Shape) : Type 0 where
+pub record HasEntryWords (g : Geometry) (shape : TableShape) : Type 0 where
   pub counts : shape.counts ≡ g.last_inode
   pub leasts : shape.leasts ≡ 0
 
@@ -47,6 +47,6 @@ abbrev pub name_word : ℕ → ℕ
 name_word i = i
 
 -- a table of counts has a least word for each i-number (this project)
-pub record HasNameWords (g : Geometry) (shape : Shape) : Type 0 where
+pub record HasNameWords (g : Geometry) (shape : TableShape) : Type 0 where
   pub counts : shape.counts ≡ 0
   pub leasts : shape.leasts ≡ g.last_inode

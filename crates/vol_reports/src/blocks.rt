@@ -2,7 +2,7 @@
 ghost use Rattle.std.specs.Prelude.{◌≡◌, ℕ, ◌<◌, ◌≤◌, true, List, IfOk};
 ghost use Rattle.count_table.specs.Tallies.{items_of};
 ghost use Rattle.vol_layout.specs.Geometry.{in_zone};
-ghost use Rattle.vol_reports.specs.Blocks.{block_lines, bad_line_of, dup_line_of, lost_line_of, fault_line, zone_count};
+ghost use Rattle.vol_reports.specs.Blocks.{block_lines, bad_line_of, dup_line_of, lost_line_of, free_list_line, zone_count};
 ghost use Rattle.vol_reports.specs.Counted.{CountsBlocks, HasBlockWidth};
 ghost use Rattle.vol_reports.specs.FromWords.{bad_line_in, dup_line_in, lost_line_in, total_line, total_lines_in, is_used_in, is_met_in, is_lost_in, inode_lines, zone_lines, Appended};
 
@@ -178,7 +178,7 @@ fn push_lost(
 
 /// Appends the line of the fault that ended the walk over the free list, if there is one.
 fn push_fault(lines: &mut Vec<Line>, fault: Option<(FreeFault, u32)>) -> Result<(), AllocError>
-    ensures { IfOk result (λ _. Appended lines.old.items lines.new.items (fault_line fault)) }
+    ensures { IfOk result (λ _. Appended lines.old.items lines.new.items (free_list_line fault)) }
 {
     if let Some((fault, number)) = fault {
         lines.push(Line::FreeList(fault, number))?;

@@ -5,7 +5,7 @@ use crate::words::{
     bad_word, entry_word, free_word, kind_word, least_word, name_word, place_word, rank,
 };
 use crate::{Entered, FreeFault, LinkCount, Report, block_report, entry_report, name_report};
-use count_table::{Shape, Summed, Tally};
+use count_table::{Summed, TableShape, Tally};
 use std::alloc::{AllocError, Global};
 use std::test::Fail;
 use vol_layout::{Edition, Geometry, GeometryFault, Slot};
@@ -45,7 +45,7 @@ fn block_words(alloc: Global, geometry: &Geometry) -> Result<Summed, AllocError>
     requires last { geometry.now.last_inode ≡ 32 }
     ensures { IfOk result (λ words. length (items_of words) ≡ 77) }
 {
-    let shape = Shape {
+    let shape = TableShape {
         pieces: 0,
         counts: 44,
         leasts: 32,
@@ -81,7 +81,7 @@ fn lines_of_blocks(rt: HostRuntime) -> Result<(), Fail> {
 fn entry_words(alloc: Global) -> Result<Summed, AllocError>
     ensures { IfOk result (λ words. length (items_of words) ≡ 33) }
 {
-    let shape = Shape {
+    let shape = TableShape {
         pieces: 0,
         counts: 32,
         leasts: 0,
@@ -121,7 +121,7 @@ fn lines_of_entries(rt: HostRuntime) -> Result<(), Fail> {
 fn name_words(alloc: Global) -> Result<Summed, AllocError>
     ensures { IfOk result (λ words. length (items_of words) ≡ 33) }
 {
-    let shape = Shape {
+    let shape = TableShape {
         pieces: 0,
         counts: 0,
         leasts: 32,

@@ -1,6 +1,6 @@
 use Rattle.std.proofs.Common.{◌≡◌, ◌∙◌, sym, ap, subst, ℕ, List, All, length, arith}
 use Rattle.std.proofs.lemmas.Result.{IfOk-weaker}
-use Rattle.count_table.specs.Tallies.{shape_of, items_of}
+use Rattle.count_table.specs.Tallies.{table_shape, items_of}
 use Rattle.vol_reports.specs.Reports.{block_report_of, entry_report_of, IsNameReportOf}
 use Rattle.vol_reports.specs.Blocks.{block_lines}
 use Rattle.vol_reports.specs.Entries.{entry_lines}
@@ -44,8 +44,8 @@ returns-in-Blocks-clause-report c =
     let known = subst (λ (x : Layout). IsOf Blocks x image all) c.in-Ok.is (subst (λ (k : Checker). IsOf k sweep.layout image all) c.in-Blocks.is knows) in
     let fits = read_fits sweep.edition image g read ready.bounds in
     let stopped = gathers.stopped well in
-    let fault = known.fault well ∙ walked g image fits (shape_of sweep.tally) all.seat.me.0 words has c.close-words.ensures stopped (known.marks well) in
-    let counts = counts_blocks g image fits (shape_of sweep.tally) all.seat.me.0 words has c.close-words.ensures stopped (known.marks well) all.fault fault in
+    let fault = known.fault well ∙ walked g image fits (table_shape sweep.tally) all.seat.me.0 words has c.close-words.ensures stopped (known.marks well) in
+    let counts = counts_blocks g image fits (table_shape sweep.tally) all.seat.me.0 words has c.close-words.ensures stopped (known.marks well) all.fault fault in
     subst (λ (k : Checker). IsReport k sweep.edition image report) (sym c.in-Blocks.is)
     (is image counts ∙ sym (ap (λ (x : Layout). block_report_of x image) read)))
     c.block_report.ensures
@@ -80,7 +80,7 @@ returns-in-Entries-clause-report c =
     let known = subst (λ (x : Layout). IsOf Entries x image all) c.in-Ok.is (subst (λ (k : Checker). IsOf k sweep.layout image all) c.in-Entries.is knows) in
     let fits = read_fits sweep.edition image g read ready.bounds in
     let stopped = gathers.stopped well in
-    let counts = counts_entries g image fits (shape_of sweep.tally) all.seat.me.0 words sweep.pieces sweep.starts.items has c.close-words.ensures
+    let counts = counts_entries g image fits (table_shape sweep.tally) all.seat.me.0 words sweep.pieces sweep.starts.items has c.close-words.ensures
     sweep.shaped.count stopped (ready.parts other) (layout.starts g c.in-Ok.is other) (known.marks well) in
     let links = subst (HasLinkCounts g image) (sym c.deref.ensures.value) (layout.links g c.in-Ok.is c.in-Entries.is) in
     subst (λ (k : Checker). IsReport k sweep.edition image report) (sym c.in-Entries.is)
@@ -112,7 +112,7 @@ returns-in-Ok-clause-report c =
     let known = subst (λ (x : Layout). IsOf Names x image all) c.in-Ok.is (subst (λ (k : Checker). IsOf k sweep.layout image all) c.in-Names.is knows) in
     let fits = read_fits sweep.edition image g read ready.bounds in
     let stopped = gathers.stopped well in
-    let counts = counts_names g image fits (shape_of sweep.tally) all.seat.me.0 words sweep.pieces sweep.starts.items has c.close-words.ensures
+    let counts = counts_names g image fits (table_shape sweep.tally) all.seat.me.0 words sweep.pieces sweep.starts.items has c.close-words.ensures
     sweep.shaped.count stopped (ready.parts other) (layout.starts g c.in-Ok.is other) (known.marks well) all.entries.items (known.entries well) in
     subst (λ (k : Checker). IsReport k sweep.edition image report) (sym c.in-Names.is)
     (subst (λ (x : Layout). IsNameReportOf x image report) (sym read)

@@ -2,7 +2,7 @@ use Rattle.std.proofs.Common.{◌≡◌, ◌+◌, ◌∙◌, slice_index, sym, a
 use Rattle.std.proofs.lemmas.Result.{IfOk-at_ok}
 use Rattle.vol_layout.specs.Geometry.{Fits, geometry_read}
 use Rattle.vol_layout.specs.declared.geometry.Geometry.{Geometry}
-use Rattle.count_table.specs.declared.rule.Shape.{Shape}
+use Rattle.count_table.specs.declared.rule.TableShape.{TableShape}
 use Rattle.count_table.proofs.Totals.{below_none}
 use Rattle.vol_check.specs.Parts.{part_count}
 use Rattle.vol_check.specs.Shapes.{HasWordsOf}
@@ -17,7 +17,7 @@ invariant_of-result c =
     let image = c.args.image.now in
     record {
       shaped = record {
-        count = ap (λ (s : Shape). s.pieces) key ∙ c.shape_for.ensures.pieces;
+        count = ap (λ (s : TableShape). s.pieces) key ∙ c.shape_for.ensures.pieces;
         ready = λ g is. record {
           bounds = laid_out g image (IfOk-at_ok (λ g. Fits g image) is c.read-layout.ensures.fits);
           words = subst (HasWordsOf c.args.checker g) (sym key) (c.shape_for.ensures.words g is);

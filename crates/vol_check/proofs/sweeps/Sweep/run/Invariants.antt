@@ -1,5 +1,5 @@
 use Rattle.std.proofs.Common.{◌-◌, length}
-use Rattle.count_table.specs.Tallies.{shape_of}
+use Rattle.count_table.specs.Tallies.{table_shape}
 use Rattle.vol_check.specs.Seats.{IsSeatOf, IsOf}
 use Rattle.vol_check.proofs.sweeps.Sweep.run.Given as goal
 
@@ -12,4 +12,4 @@ invariant-loop-piece g l = record {
 
 -- each piece is one draw more, and a seat draws at most as many numbers as there are pieces before it ends
 abbrev pub decreases-loop-piece : goal.decreases-loop-piece
-decreases-loop-piece g l = (shape_of l.self.tally).pieces - length l.seat.seat.me.0.draws
+decreases-loop-piece g l = (table_shape l.self.tally).pieces - length l.seat.seat.me.0.draws

@@ -1,5 +1,5 @@
 use Rattle.std.proofs.Common.{◌<◌, ap, ◌∙◌, refl, inr, arith, true}
-use Rattle.count_table.specs.Tallies.{shape_of}
+use Rattle.count_table.specs.Tallies.{table_shape}
 use Rattle.vol_check.specs.declared.seats.CheckSeat.{CheckSeat}
 use Rattle.vol_check.proofs.PastPieces.{is_past}
 use Rattle.vol_check.proofs.DirectoryPieces.{laid}
@@ -16,8 +16,8 @@ returns-in-Ok g c =
     let well = c.if-seat.false in
     let early = c.if-seat-2.false in
     let new = c.work-done.new.seat in
-    let low : n < (shape_of sweep.tally).pieces = omega (arith, c.if-number-self.false, sweep.shaped.count) in
-    let there = laid sweep.checker sweep.layout sweep.pieces n sweep.starts.items sweep.links.items (shape_of sweep.tally) sweep.shaped (omega (arith, c.if-number-self.false)) in
+    let low : n < (table_shape sweep.tally).pieces = omega (arith, c.if-number-self.false, sweep.shaped.count) in
+    let there = laid sweep.checker sweep.layout sweep.pieces n sweep.starts.items sweep.links.items (table_shape sweep.tally) sweep.shaped (omega (arith, c.if-number-self.false)) in
     let geo = there.0 in
     let works = c.in-Ok.ensures.ok geo there.1 in
     let drawn = works.adds.draws ∙ ap (λ v. v.draws) c.claim-number.ensures.drew in
@@ -41,7 +41,7 @@ returns-in-Err g c =
     let early = c.if-seat-2.false in
     let left = c.work-done.new.seat in
     let new : CheckSeat = record { seat = left.seat; fault = left.fault; entries = left.entries; ended = left.ended; spoiled = true } in
-    let low : n < (shape_of sweep.tally).pieces = omega (arith, c.if-number-self.false, sweep.shaped.count) in
+    let low : n < (table_shape sweep.tally).pieces = omega (arith, c.if-number-self.false, sweep.shaped.count) in
     let stays = c.in-Err.ensures.err in
     let drawn = stays.draws ∙ ap (λ v. v.draws) c.claim-number.ensures.drew in
     record {
@@ -64,7 +64,7 @@ returns-then-number-self g c =
     let new : CheckSeat = record { seat = c.claim-number.new.seat; fault = old.fault; entries = old.entries; ended = true; spoiled = old.spoiled } in
     let well = c.if-seat.false in
     let early = c.if-seat-2.false in
-    let past = is_past sweep.checker sweep.layout image sweep.pieces sweep.starts.items sweep.links.items (shape_of sweep.tally) n sweep.shaped
+    let past = is_past sweep.checker sweep.layout image sweep.pieces sweep.starts.items sweep.links.items (table_shape sweep.tally) n sweep.shaped
     c.requires.layout.starts c.if-number-self.true in
     record {
       own = end_own sweep.tally sweep.checker sweep.layout image old mid new n c.requires.own c.requires.image early well c.claim-number.ensures.drew refl

@@ -1,5 +1,5 @@
 -- What a seat knows once it drew a number.
-use Rattle.std.proofs.Common.{◌≡◌, ℕ, ◌<◌, ◌≤◌, ◌∙◌, ◌==◌, sym, ap, subst, if◌then◌else◌, Bool, true, false, List, [], ◌∷◌, ◌++◌, None, Ok, Err, refl, arith}
+use Rattle.std.proofs.Common.{◌≡◌, ℕ, ◌<◌, ◌≤◌, ◌∙◌, ◌==◌, ◌||◌, sym, ap, subst, if◌then◌else◌, Bool, true, false, List, [], ◌∷◌, ◌++◌, None, Ok, Err, refl, arith}
 use Rattle.vol_layout.specs.declared.geometry.Geometry.{Geometry}
 use Rattle.count_table.specs.declared.words.Tally.{Tally}
 use Rattle.count_table.specs.Sums.{total, late, past}
@@ -12,7 +12,7 @@ use Rattle.vol_check.specs.declared.checker.Checker.{Checker}
 use Rattle.vol_check.specs.declared.checker.Checker.TheVariants.{Blocks, Entries, Names}
 use Rattle.vol_check.specs.declared.seats.CheckSeat.{CheckSeat}
 use Rattle.vol_check.specs.Shapes.{Layout}
-use Rattle.vol_check.specs.Seats.{IsSeatOf, IsOf, IsFresh, checker_weight, checker_kept, checker_fault, layout_weight, layout_kept, layout_fault}
+use Rattle.vol_check.specs.Seats.{IsSeatOf, IsOf, IsFresh, is_stopped, checker_weight, checker_kept, checker_fault, layout_weight, layout_kept, layout_fault}
 use Rattle.vol_check.specs.Noting.{Stays}
 use Rattle.vol_check.specs.Stepping.{Works}
 use Rattle.vol_check.proofs.PastPieces.{IsPast, kept_next}
@@ -118,6 +118,10 @@ spoiled_knows checker layout image s spoiled = record { marks = λ fine. absurd 
 -- a flag isn't both
 pub clash : {A : Type 0} (b : Bool) → b ≡ true → b ≡ false → A
 clash b up down = let e : ◌≡◌ {A = ℕ} 1 0 = ap one_if (sym up ∙ down) in absurd (omega (arith, e))
+
+-- a seat that is neither at its end nor without memory isn't stopped
+pub goes_on : (s : CheckSeat) → s.ended ≡ false → s.spoiled ≡ false → is_stopped s ≡ false
+goes_on s early well = ap (λ ended. ended || s.spoiled) early ∙ well
 
 -- a seat that did nothing is one of the table's, and of every image
 pub fresh_own : (tally : Tally) (s : CheckSeat) → IsFresh tally s → IsSeatOf tally s

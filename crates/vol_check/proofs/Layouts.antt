@@ -1,12 +1,17 @@
 -- Images with the layout that a sweep was made for.
-use Rattle.std.proofs.Common.{◌≡◌, ◌*◌, ap, Bool, true, false, if◌then◌else◌, List, ℕ, nat_le, length, refl, Ok, Err, arith}
+use Rattle.std.proofs.Common.{◌≡◌, ◌≢◌, ◌+◌, ◌*◌, ap, Bool, true, false, if◌then◌else◌, List, ℕ, nat_le, length, refl, Ok, Err, arith}
 use Rattle.std.proofs.lemmas.Bool.{and_parts, leb-true}
 use Rattle.vol_layout.specs.Geometry.{geometry_read, geometry_of, is_whole, is_bounded, block_count, Fits}
 use Rattle.vol_layout.specs.declared.edition.Edition.{Edition}
 use Rattle.vol_layout.specs.declared.geometry.Geometry.{Geometry}
+use Rattle.vol_layout.specs.declared.geometry.GeometryFault.{GeometryFault}
 use Rattle.vol_layout.specs.declared.geometry.GeometryFault.TheVariants.{Short, Bounds}
 use Rattle.vol_judge.proofs.Numbering.{read_sizes}
-use Rattle.vol_check.specs.Shapes.{IsLaidOut}
+use Rattle.vol_check.specs.declared.checker.Checker.{Checker}
+use Rattle.vol_check.specs.declared.checker.Checker.TheVariants.{Blocks, Entries, Names}
+use Rattle.vol_check.specs.Shapes.{IsLaidOut, Layout}
+use Rattle.vol_check.specs.Parts.{parts_before}
+use Rattle.vol_check.specs.Layouts.{pieces_in}
 
 -- a geometry that fits an image is within its bounds
 pub laid_out : (g : Geometry) (image : List ℕ) → Fits g image → IsLaidOut g
@@ -31,3 +36,12 @@ read_fits edition image g read bounds =
       root = bounds.root;
       limit = bounds.limit;
     }
+
+-- the number of pieces, by whether there is a geometry, and whether it is the blocks that are checked
+pub counted_in : (checker : Checker) (layout : Layout) (image : List ℕ) (pieces : ℕ) → ((g : Geometry) → layout ≡ Ok g → checker ≡ Blocks → pieces ≡ g.last_inode + 1)
+    → ((g : Geometry) → layout ≡ Ok g → checker ≢ Blocks → pieces ≡ parts_before g image g.last_inode)
+    → ((fault : GeometryFault) → layout ≡ Err fault → pieces ≡ 0) → pieces ≡ pieces_in checker layout image
+counted_in Blocks (Ok g) image pieces blocks parts none = blocks g refl refl
+counted_in Entries (Ok g) image pieces blocks parts none = parts g refl (λ e. absurd (let q : Entries ≡ Blocks = e in cc))
+counted_in Names (Ok g) image pieces blocks parts none = parts g refl (λ e. absurd (let q : Names ≡ Blocks = e in cc))
+counted_in checker (Err fault) image pieces blocks parts none = none fault refl

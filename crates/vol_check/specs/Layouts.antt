@@ -1,13 +1,18 @@
--- The images that a sweep is for.
-use Rattle.std.specs.Prelude.{◌≡◌, ◌≢◌, ℕ, ◌*◌, ◌<◌, List, length, slice_index, Result, Ok, Err}
+-- The images that a sweep is for, and its seats and pieces.
+use Rattle.std.specs.Prelude.{◌≡◌, ◌≢◌, ℕ, ◌+◌, ◌*◌, ◌<◌, List, length, slice_index, Result, Ok, Err}
 use Rattle.vol_layout.specs.declared.edition.Edition.{Edition}
 use Rattle.vol_layout.specs.declared.geometry.GeometryFault.{GeometryFault}
 use Rattle.vol_layout.specs.Geometry.{geometry_read}
 use Rattle.vol_layout.specs.declared.geometry.Geometry.{Geometry}
 use Rattle.vol_reports.specs.Counted.{HasLinkCounts}
-use Rattle.vol_check.specs.declared.checker.Checker.TheVariants.{Blocks, Entries}
+use Rattle.count_table.specs.Tallies.{table_shape}
+use Rattle.vol_check.specs.declared.checker.Checker.{Checker}
+use Rattle.vol_check.specs.declared.checker.Checker.TheVariants.{Blocks, Entries, Names}
+use Rattle.vol_check.specs.declared.seats.CheckSeat.{CheckSeat}
 use Rattle.vol_check.specs.declared.sweeps.Sweep.{Sweep}
-use Rattle.vol_check.specs.Parts.{HasStarts}
+use Rattle.vol_check.specs.Shapes.{Layout}
+use Rattle.vol_check.specs.Parts.{HasStarts, parts_before}
+use Rattle.vol_check.specs.Seats.{IsSeatOf, IsOf}
 
 -- where the data zone of an image with some layout begins, in bytes; its end where it has no geometry (filsys.h)
 abbrev pub head_end : Result Geometry GeometryFault → ℕ → ℕ
@@ -25,3 +30,27 @@ pub record IsFor (sweep : Sweep) (image : List ℕ) : Type 0 where
   pub read : geometry_read sweep.edition image ≡ sweep.layout
   pub starts : (g : Geometry) → sweep.layout ≡ Ok g → sweep.checker ≢ Blocks → HasStarts g image sweep.starts.items
   pub links : (g : Geometry) → sweep.layout ≡ Ok g → sweep.checker ≡ Entries → HasLinkCounts g image sweep.links.items
+
+-- a seat is one of a sweep's (this project)
+abbrev pub IsSeatIn : Sweep → CheckSeat → Type 0
+IsSeatIn sweep = IsSeatOf sweep.tally
+
+-- what a seat of a sweep marked and keeps is what the pieces that it drew are in this image (icheck, dcheck, ncheck)
+abbrev pub HasSwept : Sweep → List ℕ → CheckSeat → Type 0
+HasSwept sweep image = IsOf sweep.checker sweep.layout image
+
+-- how many seats a sweep has (this project)
+abbrev pub seat_count : Sweep → ℕ
+seat_count sweep = (table_shape sweep.tally).seats
+
+-- how many pieces a sweep has (this project)
+abbrev pub pieces_of : Sweep → ℕ
+pieces_of sweep = (table_shape sweep.tally).pieces
+
+-- how many pieces an image with some layout has for a checker: of the blocks the free list and each i-number, else the parts of each
+-- i-number; none without geometry (this project)
+abbrev pub pieces_in : Checker → Layout → List ℕ → ℕ
+pieces_in Blocks (Ok g) image = g.last_inode + 1
+pieces_in Entries (Ok g) image = parts_before g image g.last_inode
+pieces_in Names (Ok g) image = parts_before g image g.last_inode
+pieces_in checker (Err fault) image = 0

@@ -45,7 +45,7 @@ pub record Stepped (sweep : Sweep) (image : List ℕ) (old new : CheckSeat) (res
   pub answers : StepAnswers sweep old new result
   pub drew : (new.seat.me.0.draws ≡ old.seat.me.0.draws) ⊎ ((n : ℕ) × (new.seat.me.0.draws ≡ old.seat.me.0.draws ++ n ∷ []))
   pub for_good : old.spoiled ≡ true → IsErr result
-  pub no_more : old.ended ≡ true → new.seat.me.0.draws ≡ old.seat.me.0.draws
+  pub no_more : is_stopped old ≡ true → new.seat.me.0.draws ≡ old.seat.me.0.draws
 
 -- a seat that did pieces until none was left or it found no memory (this project)
 pub record Ran (sweep : Sweep) (image : List ℕ) (seat : CheckSeat) : Type 0 where

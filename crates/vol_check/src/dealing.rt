@@ -1,8 +1,8 @@
 //! Making a sweep, and a seat for each of its threads.
 ghost use Rattle.std.specs.Prelude.{◌≡◌, ◌≢◌, ℕ, ◌+◌, ◌^◌, ◌≤◌, ◌<◌, List, [], All, Ok, Err, IfOk, length, slice_index, vec_len};
-ghost use Rattle.count_table.specs.Tallies.{IsSeatAt, table_shape};
+ghost use Rattle.count_table.specs.Tallies.{IsSeatAt};
 ghost use Rattle.count_table.specs.Views.{view};
-ghost use Rattle.vol_layout.specs.Geometry.{Fits};
+ghost use Rattle.vol_layout.specs.Geometry.{Fits, geometry_read};
 ghost use Rattle.count_table.specs.declared.rule.TableShape.{TableShape};
 ghost use Rattle.vol_layout.specs.declared.geometry.Geometry.{Geometry};
 ghost use Rattle.vol_layout.specs.declared.geometry.GeometryFault.{GeometryFault};
@@ -10,8 +10,8 @@ ghost use Rattle.vol_reports.specs.Counted.{HasLinkCounts};
 ghost use Rattle.vol_check.specs.declared.checker.Checker.TheVariants.{Blocks, Entries};
 ghost use Rattle.vol_check.specs.Parts.{HasStarts};
 ghost use Rattle.vol_check.specs.Shapes.{HasWordsOf, IsLaidOut};
-ghost use Rattle.vol_check.specs.Layouts.{IsFor, HasSameHead};
-ghost use Rattle.vol_check.specs.Seats.{IsFresh, IsSeatOf, IsOf};
+ghost use Rattle.vol_check.specs.Layouts.{IsFor, HasSameHead, IsSeatIn, HasSwept, seat_count, pieces_of, pieces_in};
+ghost use Rattle.vol_check.specs.Seats.{IsFresh};
 
 use crate::checker::Checker;
 use crate::parts::part_starts;
@@ -42,9 +42,10 @@ impl Sweep {
         ensures checker { IfOk result (λ s. s.0.checker ≡ checker) }
         ensures image { IfOk result (λ s. IsFor s.0 image.now) }
         ensures others { IfOk result (λ s. (other : List ℕ) → HasSameHead edition image.now other → IsFor s.0 other) }
-        ensures count { IfOk result (λ s. (vec_len s.1 ≡ seats) × ((table_shape s.0.tally).seats ≡ seats)) }
-        ensures own { IfOk result (λ s. All (IsSeatOf s.0.tally) s.1.items) }
-        ensures knows { IfOk result (λ s. (bytes : List ℕ) → All (IsOf s.0.checker s.0.layout bytes) s.1.items) }
+        ensures pieces { IfOk result (λ s. pieces_of s.0 ≡ pieces_in checker (geometry_read edition image.now) image.now) }
+        ensures count { IfOk result (λ s. (vec_len s.1 ≡ seats) × (seat_count s.0 ≡ seats)) }
+        ensures own { IfOk result (λ s. All (IsSeatIn s.0) s.1.items) }
+        ensures knows { IfOk result (λ s. (bytes : List ℕ) → All (HasSwept s.0 bytes) s.1.items) }
     {
         let layout = Geometry::read(edition, image);
         let starts = starts_for(alloc, checker, image, &layout)?;

@@ -1,9 +1,8 @@
 //! The report of what the seats of a sweep did.
 ghost use Rattle.std.specs.Prelude.{◌≡◌, ◌≤◌, ℕ, true, List, All, IfOk, IsErr, vec_len};
 ghost use Rattle.std.specs.List.{count_by, list_any};
-ghost use Rattle.count_table.specs.Tallies.{table_shape};
-ghost use Rattle.vol_check.specs.Seats.{IsSeatOf, IsOf, is_stopped, found_no_memory};
-ghost use Rattle.vol_check.specs.Layouts.{IsFor};
+ghost use Rattle.vol_check.specs.Seats.{is_stopped, found_no_memory};
+ghost use Rattle.vol_check.specs.Layouts.{IsFor, IsSeatIn, HasSwept, seat_count};
 ghost use Rattle.vol_check.specs.Reporting.{IsReport};
 
 use crate::checker::Checker;
@@ -19,11 +18,11 @@ impl Sweep {
     /// Costs a few looks at the words of each data block and i-number, and what the report's checker costs. Takes memory for
     /// the lines, and for the entries that the seats keep.
     pub fn finish(self, alloc: Global, seats: Vec<CheckSeat>) -> Result<Report, AllocError>
-        requires count { vec_len seats ≡ (table_shape self.tally).seats }
-        requires own { All (IsSeatOf self.tally) seats.items }
+        requires count { vec_len seats ≡ seat_count self }
+        requires own { All (IsSeatIn self) seats.items }
         requires stopped { 1 ≤ count_by is_stopped seats.items }
         ensures report { IfOk result (λ report. (image : List ℕ) → IsFor self image
-            → All (IsOf self.checker self.layout image) seats.items → IsReport self.checker self.edition image report) }
+            → All (HasSwept self image) seats.items → IsReport self.checker self.edition image report) }
         ensures err { list_any found_no_memory seats.items ≡ true → IsErr result }
     {
         let Sweep {

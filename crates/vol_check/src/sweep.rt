@@ -6,7 +6,7 @@ ghost use Rattle.vol_layout.specs.declared.geometry.Geometry.{Geometry};
 ghost use Rattle.vol_reports.specs.Words.{HasWords};
 ghost use Rattle.vol_check.specs.declared.checker.Checker.TheVariants.{Blocks};
 ghost use Rattle.vol_check.specs.Seats.{IsSeatOf, IsOf};
-ghost use Rattle.vol_check.specs.Layouts.{IsFor};
+ghost use Rattle.vol_check.specs.Layouts.{IsFor, IsSeatIn, HasSwept};
 ghost use Rattle.vol_check.specs.Noting.{Stays};
 ghost use Rattle.vol_check.specs.Stepping.{Stepped, Works};
 
@@ -32,9 +32,9 @@ impl Sweep {
         image: &Image,
         seat: &mut CheckSeat,
     ) -> Result<Option<Piece>, AllocError>
-        requires own { IsSeatOf self.now.tally seat.old }
+        requires own { IsSeatIn self.now seat.old }
         requires layout { IsFor self.now image.now }
-        requires image { IsOf self.now.checker self.now.layout image.now seat.old }
+        requires image { HasSwept self.now image.now seat.old }
         ensures { Stepped self.now image.now seat.old seat.new result }
     {
         self.step_at(alloc, &Open, image, seat)

@@ -5,8 +5,9 @@ use Rattle.vol_layout.specs.declared.geometry.Geometry.{Geometry}
 use Rattle.count_table.specs.declared.rule.TableShape.{TableShape}
 use Rattle.count_table.proofs.Totals.{below_none}
 use Rattle.vol_check.specs.Parts.{part_count}
-use Rattle.vol_check.specs.Shapes.{HasWordsOf}
-use Rattle.vol_check.proofs.Layouts.{laid_out}
+use Rattle.vol_check.specs.Shapes.{HasWordsOf, Layout}
+use Rattle.vol_check.specs.Layouts.{pieces_in}
+use Rattle.vol_check.proofs.Layouts.{laid_out, counted_in}
 use Rattle.vol_check.proofs.SameHeads.{read_same, starts_same, links_same}
 use Rattle.vol_check.proofs.Drawing.{fresh_own, fresh_knows}
 use Rattle.vol_check.proofs.sweeps.Sweep.new.Goals as goal
@@ -56,3 +57,14 @@ returns-clause-others c = λ other same.
           let read = sym exact ∙ is in
           links_same c.args.edition image other same g read (fits g read) c.in_ok-links.links.items (c.in_ok-links.ensures g is checker);
     }
+
+pub returns-clause-pieces : goal.returns-clause-pieces
+returns-clause-pieces c =
+    let image = c.args.image.now in
+    ap (λ (s : TableShape). s.pieces) c.in_ok-tally.ensures.shape
+    ∙ (c.shape_for.ensures.pieces
+    ∙ (counted_in c.args.checker c.read-layout.result image c.piece_count-pieces.result c.piece_count-pieces.ensures.blocks
+    (λ g is other. c.piece_count-pieces.ensures.parts g is other
+    ∙ (ap (λ xs. slice_index xs g.last_inode) c.deref.ensures.value ∙ (c.in_ok-starts.ensures g is other).at g.last_inode (omega arith)))
+    c.piece_count-pieces.ensures.none
+    ∙ ap (λ (x : Layout). pieces_in c.args.checker x image) c.read-layout.ensures.exact))

@@ -1,9 +1,10 @@
 use Rattle.std.proofs.Common.{◌<◌, ap, ◌∙◌, refl, inr, arith, true}
 use Rattle.count_table.specs.Tallies.{table_shape}
 use Rattle.vol_check.specs.declared.seats.CheckSeat.{CheckSeat}
+use Rattle.vol_check.specs.Seats.{is_stopped}
 use Rattle.vol_check.proofs.PastPieces.{is_past}
 use Rattle.vol_check.proofs.DirectoryPieces.{laid}
-use Rattle.vol_check.proofs.Drawing.{done_own, done_knows, end_own, end_knows, fail_own, spoiled_knows, clash}
+use Rattle.vol_check.proofs.Drawing.{done_own, done_knows, end_own, end_knows, fail_own, spoiled_knows, clash, goes_on}
 use Rattle.vol_check.proofs.sweeps.Sweep.step_at.Goals as goal
 
 pub returns-in-Ok : goal.returns-in-Ok
@@ -27,7 +28,7 @@ returns-in-Ok g c =
       answers = (drawn, low, c.claim-number.ensures.more, works.spoiled ∙ well);
       drew = inr (n, drawn);
       for_good = λ s. clash old.spoiled s well;
-      no_more = λ e. clash old.ended e early;
+      no_more = λ e. clash (is_stopped old) e (goes_on old early well);
     }
 
 pub returns-in-Err : goal.returns-in-Err
@@ -51,7 +52,7 @@ returns-in-Err g c =
       answers = refl;
       drew = inr (n, drawn);
       for_good = λ s. clash old.spoiled s well;
-      no_more = λ e. clash old.ended e early;
+      no_more = λ e. clash (is_stopped old) e (goes_on old early well);
     }
 
 pub returns-then-number-self : goal.returns-then-number-self
@@ -73,5 +74,5 @@ returns-then-number-self g c =
       answers = (refl, well);
       drew = inr (n, ap (λ v. v.draws) c.claim-number.ensures.drew);
       for_good = λ s. clash old.spoiled s well;
-      no_more = λ e. clash old.ended e early;
+      no_more = λ e. clash (is_stopped old) e (goes_on old early well);
     }

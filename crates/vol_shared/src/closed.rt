@@ -49,6 +49,17 @@ impl Closed {
         &self.volume
     }
 
+    /// The same volume, for the caller to keep. Takes no memory.
+    pub fn into_volume(self) -> Volume
+        ensures { result ≡ self }
+    {
+        let Closed {
+            volume,
+            accepted: _,
+        } = self;
+        volume
+    }
+
     /// How many records the journal had when the volume was opened and how many calls the sessions counted as accepted
     /// since, added up; those that were cut count too.
     pub fn accepted(&self) -> u64

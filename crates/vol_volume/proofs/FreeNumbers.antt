@@ -128,3 +128,11 @@ module _ (geometry : Geometry) (image : List ℕ) (files : Rules3To7 geometry im
       → IfSome recorded (λ i. IsFreeNumber geometry image i)
   recorded_free None passes = passes
   recorded_free (Some i) passes = free_of i passes
+
+  -- a free number is one that can be taken
+  pub number_has : (i : ℕ) → IsFreeNumber geometry image i → has_free_number (tree geometry image) ≡ true
+  number_has i free = sym (any_free true ((λ e. (i, free)), (λ found. refl)))
+
+  -- where no i-node is free, none can
+  pub none_has : ((i : ℕ) → IsFreeNumber geometry image i → ⊥) → has_free_number (tree geometry image) ≡ false
+  none_has none = sym (any_free false ((λ e. absurd cc), (λ found. absurd (none found.0 found.1))))

@@ -26,11 +26,11 @@ use vol_layout::i_list::{kind, size};
 use vol_layout::{Geometry, inode};
 
 /// The answer to a query of a sound image with this geometry: that of the tree that it reads as, and
-/// NoMemory where the reply to Read or List finds no room.
+/// NoMemory where the reply to Read or List finds no room. [`Volume::ask`](crate::Volume::ask) lists the refusals.
 ///
-/// Costs the walk of the path, and then: for Read as much as [`vol_file::read`], for List a look at each
+/// Stat takes no memory. Costs the walk of the path, and then: for Read as much as [`vol_file::read`], for List a look at each
 /// slot and as much as sorting the names.
-pub(crate) fn answer(
+pub fn ask_image(
     alloc: Global,
     image: &Image,
     geometry: &Geometry,

@@ -5,7 +5,7 @@ ghost use Rattle.vol_volume.specs.Answer.{Answers};
 ghost use Rattle.vol_volume.specs.Faults.{IsFaultOf};
 ghost use Rattle.vol_volume.specs.Volume.{reads_as};
 
-use crate::answering::answer;
+use crate::answering::ask_image;
 use crate::queries::{Query, Reply};
 use crate::volume::MountFault;
 use pdp_words::Image;
@@ -29,7 +29,7 @@ pub fn ask(
     ensures fault { IfErr result (λ fault. IsFaultOf edition image.now fault) }
 {
     match examine(alloc, edition, image, true) {
-        Ok(Ok(examined)) => Ok(answer(alloc, image, &examined.geometry, query)),
+        Ok(Ok(examined)) => Ok(ask_image(alloc, image, &examined.geometry, query)),
         Ok(Err(rule)) => Err(MountFault::Unsound(rule)),
         Err(_) => Err(MountFault::NoMemory),
     }

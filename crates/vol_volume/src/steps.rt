@@ -1,6 +1,6 @@
 //! Calls, each in a module of its own: what speaks against it, and the change that it makes. The check of a call
 //! walks its paths and searches the last directory once, and the change takes what was found.
-ghost use Rattle.std.specs.Prelude.{◌≡◌, IfSome, IfOk, OnErr};
+ghost use Rattle.std.specs.Prelude.{◌≡◌, ◌↔◌, IsTrue, IfSome, IfOk, OnErr};
 ghost use Rattle.std.specs.Result.{result_err};
 ghost use Rattle.vol_layout.specs.Geometry.{geometry_of};
 ghost use Rattle.vol_dir.specs.Tree.{state};
@@ -24,6 +24,7 @@ mod unlink;
 mod write;
 
 use crate::calls::{Call, Done};
+use crate::steps::asked::is_free_number;
 use pdp_words::Image;
 use vol_change::NewNode;
 use vol_dir::{Cred, Refusal};
@@ -48,8 +49,8 @@ pub(crate) struct Caller {
     pub moment: u32,
 }
 
-/// Ok where nothing speaks against a call; else its refusal, of those beside want of memory the first that
-/// applies, in the order of the definition. `free` is the number of free blocks.
+/// What a call answers where nothing speaks against it; else its refusal, of those beside want of memory the
+/// first that applies, in the order of the definition. `free` is the number of free blocks.
 ///
 /// Costs the walks of the call's paths, and one search of the last directory. A new node costs a search for a
 /// free i-number, a directory that goes a look at its slots, and a write one way for each logical block that it
@@ -60,17 +61,20 @@ pub(crate) fn check(
     geometry: &Geometry,
     free: u32,
     call: &Call,
-) -> Result<(), Refusal>
+) -> Result<Done, Refusal>
     requires stands { Rules3To7And9 geometry.now image.now }
     requires count { free ≡ free_in (state geometry.now image.now) }
-    ensures { result_err result ≡ verdict (state geometry.now image.now) call.now }
+    ensures refusal { result_err result ≡ verdict (state geometry.now image.now) call.now }
+    ensures answered { IfOk result (λ done. MayAnswer (state geometry.now image.now) call.now done) }
 {
     match call {
         Call::Create { cred, path, .. } => {
-            create::check(image, geometry, free, *cred, path.as_slice())?;
+            let (_, number) = create::check(image, geometry, free, *cred, path.as_slice())?;
+            return Ok(Done::Made(number));
         }
         Call::Mkdir { cred, path, .. } => {
-            mkdir::check(image, geometry, free, *cred, path.as_slice())?;
+            let (_, number) = mkdir::check(image, geometry, free, *cred, path.as_slice())?;
+            return Ok(Done::Made(number));
         }
         Call::Link {
             cred,
@@ -96,6 +100,7 @@ pub(crate) fn check(
         } => {
             let len = bytes.as_slice().len();
             write::check(image, geometry, free, *cred, path.as_slice(), *offset, len)?;
+            return Ok(Done::Wrote(len as u32));
         }
         Call::Truncate {
             cred,
@@ -119,7 +124,7 @@ pub(crate) fn check(
             chown::check(image, geometry, *cred, path.as_slice(), owner)?;
         }
     }
-    Ok(())
+    Ok(Done::Plain)
 }
 
 /// Makes a call, where nothing speaks against it; else the refusal of [`check`], and nothing changes. `free` is
@@ -178,6 +183,29 @@ pub(crate) fn make(
             let owner = new_owner(*uid, *gid);
             chown::make(image, geometry, free, caller, path.as_slice(), owner)
         }
+    }
+}
+
+/// Whether a call that nothing speaks against may answer so.
+pub(crate) fn may_answer(image: &Image, geometry: &Geometry, call: &Call, done: Done) -> bool
+    requires { Rules3To7And9 geometry.now image.now }
+    ensures { IsTrue result ↔ MayAnswer (state geometry.now image.now) call.now done }
+{
+    match (call, done) {
+        (Call::Create { .. } | Call::Mkdir { .. }, Done::Made(i)) => {
+            is_free_number(image, geometry, i)
+        }
+        (Call::Write { bytes, .. }, Done::Wrote(n)) => n as usize == bytes.as_slice().len(),
+        (
+            Call::Link { .. }
+            | Call::Unlink { .. }
+            | Call::Rmdir { .. }
+            | Call::Truncate { .. }
+            | Call::Chmod { .. }
+            | Call::Chown { .. },
+            Done::Plain,
+        ) => true,
+        _ => false,
     }
 }
 

@@ -1,5 +1,6 @@
 //! Mounted volumes.
 ghost use Rattle.std.specs.Prelude.{◌≡◌, ◌<◌, IfOk, IfErr, IfSome, OnOk, OnErr, ◌≤◌, ◌+◌, ◌^◌, [], ◌∷◌, ◌++◌, length, vec_len, vec_capacity, None, Some, unwrap_or};
+ghost use Rattle.std.specs.Result.{result_err};
 ghost use Rattle.vol_layout.specs.Geometry.{geometry_of};
 ghost use Rattle.vol_dir.specs.Tree.{state, free_count, shapes};
 ghost use Rattle.vol_judge.specs.Sound.{IsSound};
@@ -10,7 +11,7 @@ ghost use Rattle.vol_volume.specs.Performing.{IsPerformed};
 ghost use Rattle.vol_volume.specs.Verdict.{verdict};
 ghost use Rattle.vol_volume.specs.Volume.{IsConsistent, Accepts, mounted, after_cut, reads_as};
 
-use crate::answering::answer;
+use crate::answering::ask_image;
 use crate::calls::{Call, Done, Record};
 use crate::queries::{Query, Reply};
 use crate::steps::{check, make, stands};
@@ -43,12 +44,12 @@ pub struct TooManyRecords;
 /// mounted or last cut.
 #[derive(Debug, Drop)]
 pub struct Volume {
-    geometry: Geometry,
-    current: Image,
-    free: u32,
-    base: Vec<u8>,
-    records: Vec<Record>,
-    first: u64,
+    pub(crate) geometry: Geometry,
+    pub(crate) current: Image,
+    pub(crate) free: u32,
+    pub(crate) base: Vec<u8>,
+    pub(crate) records: Vec<Record>,
+    pub(crate) first: u64,
 }
 
 impl Model for Volume {
@@ -123,6 +124,20 @@ impl Volume {
         self.geometry.edition
     }
 
+    /// The volume's geometry.
+    pub fn geometry(&self) -> &Geometry
+        ensures { result.now ≡ geometry_of self.now.edition self.now.image }
+    {
+        &self.geometry
+    }
+
+    /// How many blocks are free. It is kept beside the image, and nothing is counted.
+    pub fn free_blocks(&self) -> u32
+        ensures { result ≡ free_count (geometry_of self.now.edition self.now.image) (shapes (geometry_of self.now.edition self.now.image) self.now.image) }
+    {
+        self.free
+    }
+
     /// The bytes that were mounted or left by the last cut.
     pub fn base(&self) -> &[u8]
         ensures { result.now ≡ self.now.base }
@@ -163,7 +178,7 @@ impl Volume {
     pub fn ask(&self, alloc: Global, query: &Query) -> Result<Reply, Refusal>
         ensures { Answers (reads_as self.now.edition self.now.image).tree query.now result }
     {
-        answer(alloc, &self.current, &self.geometry, query)
+        ask_image(alloc, &self.current, &self.geometry, query)
     }
 
     /// What speaks against a call as the volume stands: the refusal that [`Volume::call`] would meet first, of
@@ -175,6 +190,17 @@ impl Volume {
         ensures { result ≡ verdict (reads_as self.now.edition self.now.image) call.now }
     {
         refusal_of(&self.current, &self.geometry, self.free, call)
+    }
+
+    /// What a call would answer as the volume stands: the answer with which it would be recorded, or what speaks
+    /// against it. Nothing changes. The i-number of a new node is the one that [`Volume::call`] would take.
+    ///
+    /// Takes no memory, and costs what [`Volume::refusal`] does.
+    pub fn foresee(&self, call: &Call) -> Result<Done, Refusal>
+        ensures foreseen { IfOk result (λ done. MayFollow (reads_as self.now.edition self.now.image) (record { call = call.now; done = done })) }
+        ensures refused { IfErr result (λ refusal. verdict (reads_as self.now.edition self.now.image) call.now ≡ Some refusal) }
+    {
+        foresee(&self.current, &self.geometry, self.free, call)
     }
 
     /// Makes a call, where nothing speaks against it, and appends it to the journal; the answer says what
@@ -285,7 +311,7 @@ impl Volume {
 
 /// Makes a call, where nothing speaks against it, and appends its record, for which there is room; else the call
 /// comes back, and nothing changes. Where an answer is recorded, it is that one.
-fn accept(
+pub(crate) fn accept(
     image: &mut Image,
     geometry: &Geometry,
     free: &mut u32,
@@ -347,6 +373,18 @@ fn refusal_of(image: &Image, geometry: &Geometry, free: u32, call: &Call) -> Opt
     requires count { free ≡ free_count geometry.now (shapes geometry.now image.now) }
     ensures { result ≡ verdict (state geometry.now image.now) call.now }
 {
+    foresee(image, geometry, free, call).err()
+}
+
+/// What a call would answer where nothing speaks against it; else what does, of what is asked beside want of memory
+/// the first.
+fn foresee(image: &Image, geometry: &Geometry, free: u32, call: &Call) -> Result<Done, Refusal>
+    requires sound { IsSound geometry.now.edition image.now }
+    requires sizes { geometry.now ≡ geometry_of geometry.now.edition image.now }
+    requires count { free ≡ free_count geometry.now (shapes geometry.now image.now) }
+    ensures refusal { result_err result ≡ verdict (state geometry.now image.now) call.now }
+    ensures answered { IfOk result (λ done. MayAnswer (state geometry.now image.now) call.now done) }
+{
     stands(image, geometry);
-    check(image, geometry, free, call).err()
+    check(image, geometry, free, call)
 }

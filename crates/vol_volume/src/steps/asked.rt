@@ -1,5 +1,5 @@
 //! What is asked of calls one by one: facts of i-nodes, names and free blocks.
-ghost use Rattle.std.specs.Prelude.{◌≡◌, ◌≢◌, ℕ, ◌*◌, ◌≤◌, if◌then◌else◌, Bool, true, false, List, None, Some, Ok, OnOk, IfOk, IfErr, MatchResult};
+ghost use Rattle.std.specs.Prelude.{◌≡◌, ◌≢◌, ℕ, ◌*◌, ◌≤◌, if◌then◌else◌, Bool, true, false, List, None, Some, Ok, OnOk, IfOk, IfErr, IsTrue, ◌↔◌, MatchResult};
 ghost use Rattle.std.specs.Result.{result_err};
 ghost use Rattle.vol_layout.specs.Geometry.{Fits};
 ghost use Rattle.vol_file.specs.Rules.{kind_at};
@@ -12,14 +12,14 @@ ghost use Rattle.vol_dir.specs.Walk.{IsComponent, has_zero, is_directory, walk_p
 ghost use Rattle.vol_change.specs.Nodes.{node_at, names_at, size_with_entry};
 ghost use Rattle.vol_volume.specs.Ids.{is_bad_id};
 ghost use Rattle.vol_volume.specs.Standing.{Rules3To7And9};
-ghost use Rattle.vol_volume.specs.Verdict.{first_of, has_name, has_others, is_device, has_free_number, is_too_great, is_full, is_owner, of_parent, body_tests};
+ghost use Rattle.vol_volume.specs.Verdict.{first_of, has_name, has_others, is_device, has_free_number, is_free_number, is_too_great, is_full, is_owner, of_parent, body_tests};
 ghost use Rattle.vol_change.specs.Ready.{entry_need};
 
+use crate::numbers::{is_free, next_number};
 use crate::sizes::is_bad_id;
 use pdp_words::Image;
 use vol_dir::{Access, Cred, Entry, Refusal, grants, is_empty_dir, lookup, walk_parent};
 use vol_file::need;
-use vol_free::any_inode;
 use vol_layout::i_list::{kind, size};
 use vol_layout::slot::SLOT;
 use vol_layout::{Geometry, Kind, inode};
@@ -138,12 +138,28 @@ pub(crate) fn has_others(image: &Image, geometry: &Geometry, dir: u16) -> bool
     !is_empty_dir(image, geometry, dir)
 }
 
-/// Whether an i-number can be taken.
-pub(crate) fn has_free_number(image: &Image, geometry: &Geometry) -> bool
+/// The i-number that the next new node gets; NoInode where none can be taken.
+#[tactic(auto, using(crate::proofs::FreeNumbers::number_has, crate::proofs::FreeNumbers::number_free, crate::proofs::FreeNumbers::none_has))]
+pub(crate) fn free_number(image: &Image, geometry: &Geometry) -> Result<u16, Refusal>
     requires { Rules3To7And9 geometry.now image.now }
-    ensures { result ≡ has_free_number (tree geometry.now image.now) }
+    ensures some { OnOk result (has_free_number (tree geometry.now image.now) ≡ true) }
+    ensures free { IfOk result (λ i. is_free_number (tree geometry.now image.now) i ≡ true) }
+    ensures none { IfErr result (λ refusal. (has_free_number (tree geometry.now image.now) ≡ false)
+        × (refusal ≡ Refusal.NoInode)) }
 {
-    any_inode(image, geometry)
+    match next_number(image, geometry) {
+        Some(i) => Ok(i),
+        None => Err(Refusal::NoInode),
+    }
+}
+
+/// Whether i-number `i`, which may be any, can be taken.
+#[tactic(auto, using(crate::proofs::FreeNumbers::number_free, crate::proofs::FreeNumbers::free_of))]
+pub(crate) fn is_free_number(image: &Image, geometry: &Geometry, i: u16) -> bool
+    requires { Rules3To7And9 geometry.now image.now }
+    ensures { IsTrue result ↔ (is_free_number (tree geometry.now image.now) i ≡ true) }
+{
+    is_free(image, geometry, i)
 }
 
 /// Whether directory `dir`, whose next entry goes to `slot`, would be greater than the greatest file with that

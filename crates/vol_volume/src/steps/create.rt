@@ -11,8 +11,8 @@ ghost use Rattle.vol_volume.specs.Verdict.{first_of, then_others, of_parent, cre
 
 use crate::calls::{Call, Done};
 use crate::steps::asked::{
-    entry_need, first_tests, has_free_number, is_granted, is_too_great_with_entry, parent,
-    refuse_if, vacant,
+    entry_need, first_tests, free_number, is_granted, is_too_great_with_entry, parent, refuse_if,
+    vacant,
 };
 use crate::steps::found::{NewEntry, Place};
 use crate::steps::{Performed, ready_stands};
@@ -21,7 +21,7 @@ use vol_change::NewNode;
 use vol_dir::{Access, Cred, Refusal};
 use vol_layout::Geometry;
 
-/// What speaks against a new file by its parent and name; else where its entry goes.
+/// What speaks against a new file by its parent and name; else where its entry goes, and its i-number.
 #[tactic(auto, using(crate::proofs::NeedReadings::slots_are))]
 fn create_tests(
     image: &Image,
@@ -30,12 +30,13 @@ fn create_tests(
     cred: Cred,
     dir: u16,
     name: &[u8],
-) -> Result<Place, Refusal>
+) -> Result<(Place, u16), Refusal>
     requires stands { Rules3To7And9 geometry.now image.now }
     requires count { free ≡ free_in (state geometry.now image.now) }
     requires directory { IsDirectory geometry.now image.now dir }
     ensures refusal { result_err result ≡ first_of (create_tests (state geometry.now image.now) cred dir name.now) }
-    ensures place { IfOk result (λ place. IsEntryPlace geometry.now image.now dir place) }
+    ensures place { IfOk result (λ found. IsEntryPlace geometry.now image.now dir found.0) }
+    ensures number { IfOk result (λ found. is_free_number (tree geometry.now image.now) found.1 ≡ true) }
 {
     let slot = vacant(image, geometry, dir, name)?;
     refuse_if(
@@ -46,13 +47,13 @@ fn create_tests(
         is_too_great_with_entry(image, geometry, dir, slot),
         Refusal::TooBig,
     )?;
-    refuse_if(!has_free_number(image, geometry), Refusal::NoInode)?;
+    let number = free_number(image, geometry)?;
     let needed = entry_need(image, geometry, dir, slot);
     refuse_if(free < needed, Refusal::NoSpace)?;
-    Ok(Place { slot, needed })
+    Ok((Place { slot, needed }, number))
 }
 
-/// What speaks against a call for a new file; else where its entry goes.
+/// What speaks against a call for a new file; else where its entry goes, and the i-number that it would take.
 #[tactic(auto, using(crate::proofs::NodeReadings::tree_geometry))]
 pub(crate) fn check<'a>(
     image: &Image,
@@ -60,18 +61,19 @@ pub(crate) fn check<'a>(
     free: u32,
     cred: Cred,
     path: &'a [u8],
-) -> Result<NewEntry<'a>, Refusal>
+) -> Result<(NewEntry<'a>, u16), Refusal>
     requires stands { Rules3To7And9 geometry.now image.now }
     requires count { free ≡ free_in (state geometry.now image.now) }
     ensures refusal { result_err result ≡ then_others (tree geometry.now image.now) cred (path.now ∷ [])
         (of_parent (walk_parent (tree geometry.now image.now) cred path.now) Refusal.Exists (create_tests (state geometry.now image.now) cred)) }
-    ensures leads { IfOk result (λ found. LeadsToParent geometry.now image.now cred path.now found.dir found.name.now) }
-    ensures place { IfOk result (λ found. IsEntryPlace geometry.now image.now found.dir found.place) }
+    ensures leads { IfOk result (λ found. LeadsToParent geometry.now image.now cred path.now found.0.dir found.0.name.now) }
+    ensures place { IfOk result (λ found. IsEntryPlace geometry.now image.now found.0.dir found.0.place) }
+    ensures number { IfOk result (λ found. is_free_number (tree geometry.now image.now) found.1 ≡ true) }
 {
     first_tests(geometry, cred, path)?;
     let (dir, name) = parent(image, geometry, cred, path, Refusal::Exists)?;
-    let place = create_tests(image, geometry, free, cred, dir, name)?;
-    Ok(NewEntry { dir, name, place })
+    let (place, number) = create_tests(image, geometry, free, cred, dir, name)?;
+    Ok((NewEntry { dir, name, place }, number))
 }
 
 /// Makes a new file, where nothing speaks against the call. Where its i-number is recorded, it is that one.
@@ -94,7 +96,7 @@ pub(crate) fn make(
     ensures recorded { IfSome recorded (λ i. IfOk result (λ performed. performed.done ≡ Done.Made i)) }
 {
     ready_stands(image, geometry);
-    let found = check(image, geometry, free, new.owner, path)?;
+    let (found, _) = check(image, geometry, free, new.owner, path)?;
     let NewEntry { dir, name, place } = found;
     let made = vol_change::create(image, geometry, new, dir, place.slot, name, recorded);
     Ok(Performed {

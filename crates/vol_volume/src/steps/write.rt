@@ -1,5 +1,5 @@
 //! A call that writes bytes.
-ghost use Rattle.std.specs.Prelude.{◌≡◌, ◌+◌, ◌≤◌, nat_lt, [], ◌∷◌, length, IfOk, OnErr};
+ghost use Rattle.std.specs.Prelude.{◌≡◌, ◌+◌, ◌<◌, ◌≤◌, ◌^◌, nat_lt, [], ◌∷◌, length, IfOk, OnErr, OnOk};
 ghost use Rattle.std.specs.Result.{result_err};
 ghost use Rattle.vol_layout.specs.Edition.{constants};
 ghost use Rattle.vol_file.specs.Rules.{kind_at};
@@ -48,6 +48,7 @@ fn room_tests(
         ∷ (is_above_free (state geometry.now image.now) (write_need (state geometry.now image.now) i offset len), Refusal.NoSpace)
         ∷ []) }
     ensures needed { IfOk result (λ needed. needed ≡ write_need (state geometry.now image.now) i offset len) }
+    ensures short { OnOk result (len < 2 ^ 32) }
 {
     refuse_if(is_too_great(geometry, offset, len), Refusal::TooBig)?;
     let needed = need(image, geometry, i, offset, len as u32);
@@ -71,6 +72,7 @@ fn write_tests(
     requires used { IsInUse geometry.now image.now i }
     ensures refusal { result_err result ≡ first_of (write_tests (state geometry.now image.now) cred offset len i) }
     ensures needed { IfOk result (λ needed. needed ≡ write_need (state geometry.now image.now) i offset len) }
+    ensures short { OnOk result (len < 2 ^ 32) }
 {
     body_tests(image, geometry, Access::Write, cred, i)?;
     room_tests(image, geometry, free, i, offset, len)
@@ -94,6 +96,7 @@ pub(crate) fn check(
         (of_node (walk (tree geometry.now image.now) cred path.now) (λ i. first_of (write_tests (state geometry.now image.now) cred offset len i))) }
     ensures node { IfOk result (λ target. LeadsToNode geometry.now image.now cred path.now target.inode) }
     ensures needed { IfOk result (λ target. target.needed ≡ write_need (state geometry.now image.now) target.inode offset len) }
+    ensures short { OnOk result (len < 2 ^ 32) }
 {
     first_tests(geometry, cred, path)?;
     let inode = walk(image, geometry, cred, path)?;

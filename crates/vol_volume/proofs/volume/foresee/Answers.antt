@@ -1,6 +1,6 @@
 use Rattle.std.proofs.Common.{◌∙◌, sym}
 use Rattle.vol_volume.proofs.AcceptedCalls.{counted}
-use Rattle.vol_volume.proofs.volume.refusal_of.Goals as goal
+use Rattle.vol_volume.proofs.volume.foresee.Goals as goal
 
 pub check-requires-clause-count : goal.check-requires-clause-count
 check-requires-clause-count c = c.requires.count ∙ sym (counted c.args.geometry.now c.args.image.now)

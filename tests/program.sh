@@ -740,13 +740,15 @@ cp made damaged
 stood=$(stat -c '%i %y' damaged)
 runs icheck 6 damaged 2
 has 'an image after icheck' "$stood" "$(stat -c '%i %y' damaged)"
-refuses 3 'unixvol: cannot read missing' icheck 6 missing 1
-refuses 3 'unixvol: cannot read .' icheck 6 . 1
-misread "error: invalid value '8'" icheck 8 made 1
-misread 'error: the following required arguments were not provided' icheck 6 made
-misread 'error: unexpected argument' icheck 6 made 1 2
-for number in 0 65 65536 99999999999999999999 +1 1.0 '' ' 1' one; do
-    misread "error: invalid value '$number' for '<WORKERS>'" icheck 6 made "$number"
+for command in icheck dcheck ncheck; do
+    refuses 3 'unixvol: cannot read missing' "$command" 6 missing 1
+    refuses 3 'unixvol: cannot read .' "$command" 6 . 1
+    misread "error: invalid value '8'" "$command" 8 made 1
+    misread 'error: the following required arguments were not provided' "$command" 6 made
+    misread 'error: unexpected argument' "$command" 6 made 1 2
+    for number in 0 65 65536 99999999999999999999 +1 1.0 '' ' 1' one; do
+        misread "error: invalid value '$number' for '<WORKERS>'" "$command" 6 made "$number"
+    done
 done
 cat made > pipe &
 printf '%s\n' "${made_lines[@]}" > lines
@@ -771,6 +773,55 @@ mapfile -t found < <(echo 'free repeat 50' && totals 0 1 0 0 1 95 0)
 changed made7 damaged 25602 '00 00 32 00'
 finds 1 icheck damaged "${found[@]}"
 edition=6
+
+# What `dcheck` and `ncheck` find, whatever the number of threads. Names are printed byte for byte.
+finds 0 dcheck made
+finds 0 ncheck made
+finds 0 dcheck twice
+finds 0 ncheck twice '31 /b' '32 /a'
+changed made damaged 1026 '05' # the root says that it has five links
+finds 1 dcheck damaged '1 2 5'
+finds 0 ncheck damaged
+changed made damaged 1032 '14' # the root's block is none of the volume's
+finds 1 dcheck damaged '1 0 2'
+finds 0 ncheck damaged
+head -c 1023 made > damaged
+finds 1 dcheck damaged 'rule 1'
+finds 1 ncheck damaged 'rule 1'
+image damaged 1024
+finds 1 dcheck damaged 'rule 2'
+finds 1 ncheck damaged 'rule 2'
+cp made tree
+prints none mkdir 6 tree /d 1
+prints none put 6 tree /d/f hello 2
+prints none ln 6 tree /d/f /g 3
+finds 0 dcheck tree
+finds 0 ncheck tree '31 /d/f' '31 /g' '32 /d'
+put tree $((4 * 512 + 48)) '1F 00 FF 0A 67' # the entry `/g` now has a name of other bytes
+finds 0 ncheck tree '31 /d/f' $'31 /\xff\ng' '32 /d'
+put tree $((4 * 512 + 32)) '00 00' # the root's entry for `/d` is gone
+finds 1 dcheck tree '32 1 2'
+finds 1 ncheck tree '31 .../f' $'31 /\xff\ng'
+# Two directories that hold each other, and that no way leads to: 31 has `x` for 32, and 32 has `y` for 31.
+changed made ring 1984 "FF C1 02 00 00 00 30 00 05 00"
+put ring 2016 "FF C1 02 00 00 00 30 00 06 00"
+put ring $((5 * 512)) "1F 00 2E $(repeated 13 00) 20 00 2E 2E $(repeated 12 00) 20 00 78"
+put ring $((6 * 512)) "20 00 2E $(repeated 13 00) 1F 00 2E 2E $(repeated 12 00) 1F 00 79"
+finds 1 ncheck ring '31 .../y/x/y' '32 .../x/y/x'
+cat tree > pipe &
+echo '32 1 2' > lines
+runs dcheck 6 pipe 7
+wants 'dcheck of a pipe' 1 lines none
+wait
+for command in dcheck ncheck; do
+    stood=$(stat -c '%i %y' tree)
+    "$program" "$command" 6 tree 2 > /dev/full 2> error
+    echo $? > status
+    : > output
+    echo 'unixvol: cannot write -' > line
+    wants "$command to a full device" 3 none line
+    has "an image after $command" "$stood" "$(stat -c '%i %y' tree)"
+done
 
 # Volumes that aren't sound, and files that can't be read or written.
 cp volumes/a unsound
@@ -1061,7 +1112,7 @@ helps --help
 helps help
 helps cat --help
 helps help cat
-for command in mkfs ls get icheck put rm mkdir rmdir ln chmod chown salvage; do
+for command in mkfs ls get icheck dcheck ncheck put rm mkdir rmdir ln chmod chown salvage; do
     helps "$command" --help
     helps help "$command"
 done

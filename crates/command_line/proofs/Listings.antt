@@ -11,7 +11,7 @@ use Rattle.command_line.specs.Words.{AreEditions, command_in, command_shape, edi
 use Rattle.command_line.specs.declared.Invocation.{Invocation}
 use Rattle.command_line.specs.declared.Invocation.TheVariants.{Cat, Mkfs, OnVolume, OnThreads}
 use Rattle.vol_commands.specs.declared.jobs.Job.TheVariants as jobs
-use Rattle.vol_commands.specs.declared.checking.Checker.TheVariants as checkers
+use Rattle.vol_check.specs.declared.checker.Checker.TheVariants as checkers
 use Rattle.command_line.specs.declared.Work.TheVariants as works
 use Rattle.vol_layout.specs.declared.edition.Edition.{Edition}
 use Rattle.vol_layout.specs.declared.edition.Edition.TheVariants.{V6, V7}
@@ -107,6 +107,8 @@ asks_listing given edition image path (OnVolume volume (jobs.Chmod p perm now)) 
 asks_listing given edition image path (OnVolume volume (jobs.Chown p uid gid now)) test e_is i_is p_is is = absurd (true≢false (sym test))
 asks_listing given edition image path (OnVolume volume jobs.Salvage) test e_is i_is p_is is = absurd (true≢false (sym test))
 asks_listing given edition image path (OnThreads volume (works.Check checkers.Blocks workers)) test e_is i_is p_is is = absurd (true≢false (sym test))
+asks_listing given edition image path (OnThreads volume (works.Check checkers.Entries workers)) test e_is i_is p_is is = absurd (true≢false (sym test))
+asks_listing given edition image path (OnThreads volume (works.Check checkers.Names workers)) test e_is i_is p_is is = absurd (true≢false (sym test))
 
 -- what `ls` asks for, by the command that was met and the rows of its words
 listed : (met : Option (List ℕ × List Row)) (edition : Edition) (image path : List ℕ) (invocation : Invocation) → seen met ≡ codes "ls" ∷ word_of edition ∷ image ∷ path ∷ []

@@ -20,12 +20,12 @@ use Rattle.vol_layout.specs.declared.edition.Edition.TheVariants.{V6, V7}
 use Rattle.vol_volume.specs.declared.blank.NewVolume.{NewVolume}
 use Rattle.command_line.specs.Decimal.{IsNumberUpTo, IsThreads}
 use Rattle.command_line.specs.Octal.{IsOctalUpTo}
-use Rattle.command_line.specs.CommandLine.{Asks, AsksFor, AsksNothing, TellsOf, IsChange, IsEditionNamed, IsGiven, IsNewVolumeGiven, IsNoCat, IsNoChange, IsNoCheck, IsNoChmod, IsNoChown, IsNoCommand, IsNoEdition, IsNoMoment, IsNoNewVolume, IsNoValue, IsRead, IsRefused, IsWorkGiven, IsWorkable, command_name, given_by, given_in, word_or_empty}
+use Rattle.command_line.specs.CommandLine.{Asks, AsksFor, AsksNothing, TellsOf, IsChange, IsCheck, IsEditionNamed, IsGiven, IsNewVolumeGiven, IsNoCat, IsNoChange, IsNoCheck, IsNoChmod, IsNoChown, IsNoCommand, IsNoEdition, IsNoMoment, IsNoNewVolume, IsNoValue, IsRead, IsRefused, IsWorkGiven, IsWorkable, command_name, given_by, given_in, word_or_empty}
 use Rattle.command_line.specs.Words.{AreEditions, app, command_in, command_shape, edition_rule, faults_of, named_shape, program, unixvol_app, with_argument, with_command, word_rule}
 use Rattle.command_line.specs.declared.Invocation.{Invocation}
 use Rattle.command_line.specs.declared.Invocation.TheVariants.{Cat, Mkfs, OnVolume, OnThreads}
 use Rattle.vol_commands.specs.declared.jobs.Job.TheVariants as jobs
-use Rattle.vol_commands.specs.declared.checking.Checker.TheVariants as checkers
+use Rattle.vol_check.specs.declared.checker.Checker.TheVariants as checkers
 use Rattle.command_line.specs.declared.VolumeFile.{VolumeFile}
 use Rattle.command_line.specs.declared.Work.{Work}
 use Rattle.command_line.specs.declared.Work.TheVariants as works
@@ -98,6 +98,8 @@ number_given given (OnVolume volume (jobs.Chmod path perm now)) test none is = a
 number_given given (OnVolume volume (jobs.Chown path uid gid now)) test none is = absurd (true≢false (sym test))
 number_given given (OnVolume volume jobs.Salvage) test none is = absurd (true≢false (sym test))
 number_given given (OnThreads volume (works.Check checkers.Blocks workers)) test none is = absurd (true≢false (sym test))
+number_given given (OnThreads volume (works.Check checkers.Entries workers)) test none is = absurd (true≢false (sym test))
+number_given given (OnThreads volume (works.Check checkers.Names workers)) test none is = absurd (true≢false (sym test))
 
 -- a new volume has its sizes, its owner and a moment
 sizes_given : (given : List ℕ → List ℕ) (volume : NewVolume) → IsNoNewVolume given → IsNewVolumeGiven given volume → ⊥
@@ -125,6 +127,8 @@ new_volume_given given (OnVolume volume (jobs.Chmod path perm now)) test none is
 new_volume_given given (OnVolume volume (jobs.Chown path uid gid now)) test none is = absurd (true≢false (sym test))
 new_volume_given given (OnVolume volume jobs.Salvage) test none is = absurd (true≢false (sym test))
 new_volume_given given (OnThreads volume (works.Check checkers.Blocks workers)) test none is = absurd (true≢false (sym test))
+new_volume_given given (OnThreads volume (works.Check checkers.Entries workers)) test none is = absurd (true≢false (sym test))
+new_volume_given given (OnThreads volume (works.Check checkers.Names workers)) test none is = absurd (true≢false (sym test))
 
 -- a command that changes a volume, as a test
 abbrev is_change : List ℕ → Bool
@@ -152,6 +156,8 @@ moment_given given (OnVolume volume (jobs.Chmod path perm now)) test none is = n
 moment_given given (OnVolume volume (jobs.Chown path uid gid now)) test none is = none is.1.3.0
 moment_given given (OnVolume volume jobs.Salvage) test none is = absurd (true≢false (sym test))
 moment_given given (OnThreads volume (works.Check checkers.Blocks workers)) test none is = absurd (true≢false (sym test))
+moment_given given (OnThreads volume (works.Check checkers.Entries workers)) test none is = absurd (true≢false (sym test))
+moment_given given (OnThreads volume (works.Check checkers.Names workers)) test none is = absurd (true≢false (sym test))
 
 -- a command that is a change asks for nothing where its edition or its moment is no value
 no_change : (name : List ℕ) (given : List ℕ → List ℕ) (invocation : Invocation) → is_change name ≡ true → IsNoChange given → AsksFor name given invocation → ⊥
@@ -174,6 +180,8 @@ permissions_given given (OnVolume volume (jobs.Chmod path perm now)) test none i
 permissions_given given (OnVolume volume (jobs.Chown path uid gid now)) test none is = absurd (true≢false (sym test))
 permissions_given given (OnVolume volume jobs.Salvage) test none is = absurd (true≢false (sym test))
 permissions_given given (OnThreads volume (works.Check checkers.Blocks workers)) test none is = absurd (true≢false (sym test))
+permissions_given given (OnThreads volume (works.Check checkers.Entries workers)) test none is = absurd (true≢false (sym test))
+permissions_given given (OnThreads volume (works.Check checkers.Names workers)) test none is = absurd (true≢false (sym test))
 
 -- `chown` has a user and a group
 owner_given : (given : List ℕ → List ℕ) (invocation : Invocation) → bytes_eq (codes "chown") (command_name invocation) ≡ true
@@ -192,9 +200,20 @@ owner_given given (OnVolume volume (jobs.Chown path uid gid now)) test (inl none
 owner_given given (OnVolume volume (jobs.Chown path uid gid now)) test (inr none) is = none is.1.2.0
 owner_given given (OnVolume volume jobs.Salvage) test none is = absurd (true≢false (sym test))
 owner_given given (OnThreads volume (works.Check checkers.Blocks workers)) test none is = absurd (true≢false (sym test))
+owner_given given (OnThreads volume (works.Check checkers.Entries workers)) test none is = absurd (true≢false (sym test))
+owner_given given (OnThreads volume (works.Check checkers.Names workers)) test none is = absurd (true≢false (sym test))
 
--- `icheck` has a number of threads
-workers_given : (given : List ℕ → List ℕ) (invocation : Invocation) → bytes_eq (codes "icheck") (command_name invocation) ≡ true
+-- a command of a checker, as a test
+abbrev is_check : List ℕ → Bool
+is_check name = list_any (bytes_eq name) (codes "icheck" ∷ codes "dcheck" ∷ codes "ncheck" ∷ [])
+
+check_test : (name : List ℕ) → IsCheck name → is_check name ≡ true
+check_test name (inl is) = rw is refl
+check_test name (inr (inl is)) = rw is refl
+check_test name (inr (inr is)) = rw is refl
+
+-- a checker has a number of threads
+workers_given : (given : List ℕ → List ℕ) (invocation : Invocation) → is_check (command_name invocation) ≡ true
     → (IsThreads (given (codes "WORKERS")) → ⊥) → IsGiven given invocation → ⊥
 workers_given given (Cat volume ino) test none is = absurd (true≢false (sym test))
 workers_given given (Mkfs image volume) test none is = absurd (true≢false (sym test))
@@ -222,24 +241,27 @@ no_value name given (inr (inr (inr (inr (inl (is, inl none)))))) invocation asks
 no_value name given (inr (inr (inr (inr (inl (is, inr none)))))) invocation asks = permissions_given given invocation (same _ _ (sym is ∙ asks.0)) none asks.1
 no_value name given (inr (inr (inr (inr (inr (inl (is, inl none))))))) invocation asks = no_change name given invocation (rw is refl) none asks
 no_value name given (inr (inr (inr (inr (inr (inl (is, inr none))))))) invocation asks = owner_given given invocation (same _ _ (sym is ∙ asks.0)) none asks.1
-no_value name given (inr (inr (inr (inr (inr (inr (is, inl none))))))) invocation asks = edition_given given invocation none asks.1
-no_value name given (inr (inr (inr (inr (inr (inr (is, inr none))))))) invocation asks = workers_given given invocation (same _ _ (sym is ∙ asks.0)) none asks.1
+no_value name given (inr (inr (inr (inr (inr (inr (check, inl none))))))) invocation asks = edition_given given invocation none asks.1
+no_value name given (inr (inr (inr (inr (inr (inr (check, inr none))))))) invocation asks =
+    workers_given given invocation (subst (λ n. is_check n ≡ true) asks.0 (check_test name check)) none asks.1
 
 -- where the name is that of no command, nothing is asked for
 no_command : (name : List ℕ) (given : List ℕ → List ℕ) → IsNoCommand name → (invocation : Invocation) → AsksFor name given invocation → ⊥
 no_command name given none (Cat volume ino) asks = none.0 asks.0
-no_command name given none (Mkfs image volume) asks = none.4 asks.0
+no_command name given none (Mkfs image volume) asks = none.6 asks.0
 no_command name given none (OnVolume volume (jobs.Ls path)) asks = none.1 asks.0
 no_command name given none (OnVolume volume (jobs.Get path)) asks = none.2 asks.0
-no_command name given none (OnVolume volume (jobs.Put path file now)) asks = none.5 asks.0
-no_command name given none (OnVolume volume (jobs.Rm path now)) asks = none.6 asks.0
-no_command name given none (OnVolume volume (jobs.Rmdir path now)) asks = none.7 asks.0
-no_command name given none (OnVolume volume (jobs.Mkdir path now)) asks = none.8 asks.0
-no_command name given none (OnVolume volume (jobs.Ln from to now)) asks = none.9 asks.0
-no_command name given none (OnVolume volume (jobs.Chmod path perm now)) asks = none.10 asks.0
-no_command name given none (OnVolume volume (jobs.Chown path uid gid now)) asks = none.11 asks.0
-no_command name given none (OnVolume volume jobs.Salvage) asks = none.12 asks.0
+no_command name given none (OnVolume volume (jobs.Put path file now)) asks = none.7 asks.0
+no_command name given none (OnVolume volume (jobs.Rm path now)) asks = none.8 asks.0
+no_command name given none (OnVolume volume (jobs.Rmdir path now)) asks = none.9 asks.0
+no_command name given none (OnVolume volume (jobs.Mkdir path now)) asks = none.10 asks.0
+no_command name given none (OnVolume volume (jobs.Ln from to now)) asks = none.11 asks.0
+no_command name given none (OnVolume volume (jobs.Chmod path perm now)) asks = none.12 asks.0
+no_command name given none (OnVolume volume (jobs.Chown path uid gid now)) asks = none.13 asks.0
+no_command name given none (OnVolume volume jobs.Salvage) asks = none.14 asks.0
 no_command name given none (OnThreads volume (works.Check checkers.Blocks workers)) asks = none.3 asks.0
+no_command name given none (OnThreads volume (works.Check checkers.Entries workers)) asks = none.4 asks.0
+no_command name given none (OnThreads volume (works.Check checkers.Names workers)) asks = none.5 asks.0
 
 -- what a parse found asks for what its command asks for
 pub asked : {E : Type 0} (matches values : ArgMatches) (name : List ℕ) (result : Result (Option Invocation) E) → Some name ≡ subcommand_name_of matches

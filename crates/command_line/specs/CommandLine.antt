@@ -17,8 +17,8 @@ use Rattle.vol_commands.specs.declared.jobs.Job.TheVariants as jobs
 use Rattle.command_line.specs.declared.VolumeFile.{VolumeFile}
 use Rattle.command_line.specs.declared.Work.{Work}
 use Rattle.command_line.specs.declared.Work.TheVariants as works
-use Rattle.vol_commands.specs.declared.checking.Checker.{Checker}
-use Rattle.vol_commands.specs.declared.checking.Checker.TheVariants as checkers
+use Rattle.vol_check.specs.declared.checker.Checker.{Checker}
+use Rattle.vol_check.specs.declared.checker.Checker.TheVariants as checkers
 use Rattle.vol_volume.specs.declared.blank.NewVolume.{NewVolume}
 
 -- the word names this edition (this project)
@@ -33,8 +33,8 @@ IsNoEdition text = (text ≢ codes "6") × (text ≢ codes "7")
 -- the word names no command (this project)
 abbrev pub IsNoCommand : List ℕ → Type 0
 IsNoCommand text =
-    (text ≢ codes "cat") × (text ≢ codes "ls") × (text ≢ codes "get") × (text ≢ codes "icheck") × (text ≢ codes "mkfs") × (text ≢ codes "put")
-    × (text ≢ codes "rm") × (text ≢ codes "rmdir") × (text ≢ codes "mkdir") × (text ≢ codes "ln")
+    (text ≢ codes "cat") × (text ≢ codes "ls") × (text ≢ codes "get") × (text ≢ codes "icheck") × (text ≢ codes "dcheck") × (text ≢ codes "ncheck")
+    × (text ≢ codes "mkfs") × (text ≢ codes "put") × (text ≢ codes "rm") × (text ≢ codes "rmdir") × (text ≢ codes "mkdir") × (text ≢ codes "ln")
     × (text ≢ codes "chmod") × (text ≢ codes "chown") × (text ≢ codes "salvage")
 
 -- a word, or the empty one where there is none (this project)
@@ -53,6 +53,8 @@ given_by rows argument = word_or_empty (first_of argument rows)
 -- the name of a checker's command (this project)
 abbrev pub checker_name : Checker → List ℕ
 checker_name checkers.Blocks = codes "icheck"
+checker_name checkers.Entries = codes "dcheck"
+checker_name checkers.Names = codes "ncheck"
 
 -- the name of the command of what several threads do (this project)
 abbrev pub work_name : Work → List ℕ
@@ -162,12 +164,16 @@ IsNoCheck given = IsNoEdition (given (codes "EDITION")) ⊎ (IsThreads (given (c
 abbrev pub IsChange : List ℕ → Type 0
 IsChange name = (name ≡ codes "put") ⊎ (name ≡ codes "rm") ⊎ (name ≡ codes "rmdir") ⊎ (name ≡ codes "mkdir") ⊎ (name ≡ codes "ln")
 
+-- a command of this name is a checker's (this project)
+abbrev pub IsCheck : List ℕ → Type 0
+IsCheck name = (name ≡ codes "icheck") ⊎ (name ≡ codes "dcheck") ⊎ (name ≡ codes "ncheck")
+
 -- one of the words of the command of this name is no value of its argument (this project)
 abbrev pub IsNoValue : List ℕ → (List ℕ → List ℕ) → Type 0
 IsNoValue name given = IsNoEdition (given (codes "EDITION")) ⊎ ((name ≡ codes "cat") × IsNoCat given)
     ⊎ ((name ≡ codes "mkfs") × IsNoNewVolume given) ⊎ (IsChange name × IsNoChange given)
     ⊎ ((name ≡ codes "chmod") × IsNoChmod given) ⊎ ((name ≡ codes "chown") × IsNoChown given)
-    ⊎ ((name ≡ codes "icheck") × IsNoCheck given)
+    ⊎ (IsCheck name × IsNoCheck given)
 
 -- memory ran out, or the error tells of a word that is no value, of which this holds (this project)
 abbrev pub TellsOf : Type 0 → Error → Type 0

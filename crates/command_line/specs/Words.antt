@@ -47,6 +47,8 @@ verb_name verbs.Cat = codes "cat"
 verb_name verbs.Ls = codes "ls"
 verb_name verbs.Get = codes "get"
 verb_name verbs.Icheck = codes "icheck"
+verb_name verbs.Dcheck = codes "dcheck"
+verb_name verbs.Ncheck = codes "ncheck"
 verb_name verbs.Mkfs = codes "mkfs"
 verb_name verbs.Put = codes "put"
 verb_name verbs.Rm = codes "rm"
@@ -79,6 +81,8 @@ printing = (codes "cat", codes "IMAGE" ∷ codes "INO" ∷ [])
     ∷ (codes "ls", codes "IMAGE" ∷ codes "PATH" ∷ [])
     ∷ (codes "get", codes "IMAGE" ∷ codes "PATH" ∷ [])
     ∷ (codes "icheck", codes "IMAGE" ∷ codes "WORKERS" ∷ [])
+    ∷ (codes "dcheck", codes "IMAGE" ∷ codes "WORKERS" ∷ [])
+    ∷ (codes "ncheck", codes "IMAGE" ∷ codes "WORKERS" ∷ [])
     ∷ []
 
 -- the commands that make or change a volume, with the words after the edition (this project)

@@ -9,7 +9,8 @@ ghost use Rattle.command_line.specs.Words.{app, changing, printing, unixvol_app,
 use clap::error::ErrorKind;
 use clap::{ArgMatches, Command, Error};
 use std::alloc::{AllocError, Global};
-use vol_commands::{Checker, Job};
+use vol_check::Checker;
+use vol_commands::Job;
 use vol_layout::Edition;
 use vol_volume::NewVolume;
 
@@ -115,6 +116,8 @@ fn read_command<'a>(
         Verb::Ls => volumes::read_ls(alloc, values)?,
         Verb::Get => volumes::read_get(alloc, values)?,
         Verb::Icheck => threads::read_check(alloc, values, Checker::Blocks)?,
+        Verb::Dcheck => threads::read_check(alloc, values, Checker::Entries)?,
+        Verb::Ncheck => threads::read_check(alloc, values, Checker::Names)?,
         Verb::Mkfs => mkfs::read(alloc, values)?,
         Verb::Put => volumes::read_put(alloc, values)?,
         Verb::Rm => volumes::read_rm(alloc, values)?,
@@ -153,10 +156,12 @@ fn with_prints<'a>(
     let command = with_one_more(command, cat::command(alloc, editions))?;
     let command = with_one_more(command, volumes::ls_command(alloc, editions))?;
     let command = with_one_more(command, volumes::get_command(alloc, editions))?;
-    with_one_more(
-        command,
-        threads::check_command(alloc, editions, Checker::Blocks),
-    )
+    let icheck = threads::check_command(alloc, editions, Checker::Blocks);
+    let command = with_one_more(command, icheck)?;
+    let dcheck = threads::check_command(alloc, editions, Checker::Entries);
+    let command = with_one_more(command, dcheck)?;
+    let ncheck = threads::check_command(alloc, editions, Checker::Names);
+    with_one_more(command, ncheck)
 }
 
 /// Adds the commands that make or change a volume to the command line.

@@ -333,6 +333,49 @@ Status:
   3  `unixvol: cannot read IMAGE`, or `unixvol: cannot write -`: standard output failed
   4  `unixvol: 12 NoMemory`";
 
+pub const DCHECK_ABOUT: &str =
+    "Tells whether each i-node of a volume has as many links as entries, of any image.";
+
+pub const DCHECK_MORE: &str = "\
+Example:
+  unixvol dcheck 7 disk.img 4
+
+It prints a line for each i-number that is wrong, by ascending number, and nothing where none is. Nothing of the
+volume's soundness is asked first, and nothing is changed.
+
+  INO ENTRIES LINKS    so many entries of directories, `.` and `..` among them, name the i-number, and so many
+                       links its i-node counts, none where it is free; or both are 0 and it isn't free
+
+Status:
+  0  nothing is wrong
+  1  something is: there is a line; it may be `rule 1` or `rule 2`: the image is shorter than its super-block says,
+     or the super-block's sizes don't fit one another
+  2  the command line can't be read
+  3  `unixvol: cannot read IMAGE`, or `unixvol: cannot write -`: standard output failed
+  4  `unixvol: 12 NoMemory`";
+
+pub const NCHECK_ABOUT: &str =
+    "Prints the paths of all files of a volume by i-number, of any image.";
+
+pub const NCHECK_MORE: &str = "\
+Example:
+  unixvol ncheck 7 disk.img 4
+
+It prints a line for each entry of each directory but `.` and `..`, by ascending i-number, and then by path. Nothing
+of the volume's soundness is asked first, and nothing is changed.
+
+  INO PATH       the entry's i-number, and its path from the root
+  INO ...PATH    no way leads down from the root to the entry's directory: the path begins where the way up ends,
+                 at a directory that no entry names, or that was met before
+
+Status:
+  0  each path begins at the root
+  1  some don't; or the only line is `rule 1` or `rule 2`: the image is shorter than its super-block says, or the
+     super-block's sizes don't fit one another
+  2  the command line can't be read
+  3  `unixvol: cannot read IMAGE`, or `unixvol: cannot write -`: standard output failed
+  4  `unixvol: 12 NoMemory`";
+
 pub const WORKERS: &str = "How many threads work, from 1 to 64";
 
 pub const THREADS: &str = "not a number from 1 to 64 in decimal digits";

@@ -8,7 +8,7 @@ use super::words::{Verb, on_volume, required, threads_in};
 use super::{Invocation, Work, texts};
 use clap::{ArgMatches, Command, Error};
 use std::alloc::{AllocError, Global};
-use vol_commands::Checker;
+use vol_check::Checker;
 
 /// Name of an argument, as the help shows it.
 const WORKERS: &str = "WORKERS";
@@ -23,6 +23,8 @@ pub(super) fn check_command<'a>(
 {
     let (about, more) = match checker {
         Checker::Blocks => (texts::ICHECK_ABOUT, texts::ICHECK_MORE),
+        Checker::Entries => (texts::DCHECK_ABOUT, texts::DCHECK_MORE),
+        Checker::Names => (texts::NCHECK_ABOUT, texts::NCHECK_MORE),
     };
     on_volume(alloc, editions, verb_of(checker), about, more)?.arg(required(
         alloc,
@@ -37,6 +39,8 @@ fn verb_of(checker: Checker) -> Verb
 {
     match checker {
         Checker::Blocks => Verb::Icheck,
+        Checker::Entries => Verb::Dcheck,
+        Checker::Names => Verb::Ncheck,
     }
 }
 

@@ -13,7 +13,7 @@ use crate::octal::permissions_of;
 use clap::error::ErrorKind;
 use clap::{Arg, ArgMatches, Command, Error};
 use std::alloc::{AllocError, Global};
-use vol_commands::Checker;
+use vol_check::Checker;
 use vol_layout::Edition;
 
 /// Names of the arguments, as the help shows them.
@@ -37,6 +37,8 @@ pub(super) enum Verb {
     Ls,
     Get,
     Icheck,
+    Dcheck,
+    Ncheck,
     Mkfs,
     Put,
     Rm,
@@ -49,11 +51,13 @@ pub(super) enum Verb {
 }
 
 /// All commands, in the order in which the help lists them.
-static VERBS: [Verb; 13] = [
+static VERBS: [Verb; 15] = [
     Verb::Cat,
     Verb::Ls,
     Verb::Get,
     Verb::Icheck,
+    Verb::Dcheck,
+    Verb::Ncheck,
     Verb::Mkfs,
     Verb::Put,
     Verb::Rm,
@@ -75,6 +79,8 @@ impl Verb {
             Verb::Ls => "ls",
             Verb::Get => "get",
             Verb::Icheck => "icheck",
+            Verb::Dcheck => "dcheck",
+            Verb::Ncheck => "ncheck",
             Verb::Mkfs => "mkfs",
             Verb::Put => "put",
             Verb::Rm => "rm",
@@ -106,6 +112,8 @@ impl Verb {
             Verb::Ls => volumes::ls_command(alloc, editions),
             Verb::Get => volumes::get_command(alloc, editions),
             Verb::Icheck => threads::check_command(alloc, editions, Checker::Blocks),
+            Verb::Dcheck => threads::check_command(alloc, editions, Checker::Entries),
+            Verb::Ncheck => threads::check_command(alloc, editions, Checker::Names),
             Verb::Mkfs => mkfs::command(alloc, editions),
             Verb::Put => volumes::put_command(alloc, editions),
             Verb::Rm => volumes::rm_command(alloc, editions),

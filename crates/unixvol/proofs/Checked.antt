@@ -2,7 +2,7 @@
 use Rattle.std.proofs.Common.{◌≡◌, ◌⊎◌, ◌∙◌, ℕ, ◌≤◌, Bool, true, false, if◌then◌else◌, List, Option, inl, inr, sym, subst, arith}
 use Rattle.vol_commands.specs.Checking.{Checks, IsUnreported, PrintsReport, report_status}
 use Rattle.vol_commands.specs.Jobs.{Streams}
-use Rattle.vol_commands.specs.declared.checking.Checker.{Checker}
+use Rattle.vol_check.specs.declared.checker.Checker.{Checker}
 use Rattle.vol_layout.specs.declared.edition.Edition.{Edition}
 use Rattle.vol_reports.specs.Reports.{has_faults}
 use Rattle.vol_reports.specs.declared.line.Line.{Line}

@@ -22,7 +22,7 @@ use Rattle.command_line.specs.declared.Invocation.{Invocation}
 use Rattle.command_line.specs.declared.Invocation.TheVariants as invocations
 use Rattle.command_line.specs.declared.Work.{Work}
 use Rattle.command_line.specs.declared.Work.TheVariants as works
-use Rattle.vol_commands.specs.declared.checking.Checker.{Checker}
+use Rattle.vol_check.specs.declared.checker.Checker.{Checker}
 use Rattle.vol_commands.specs.declared.jobs.Job.{Job}
 use Rattle.vol_commands.specs.declared.jobs.Job.TheVariants as jobs
 use Rattle.vol_commands.specs.declared.making.Made.{Made}

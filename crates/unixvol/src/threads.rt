@@ -15,7 +15,7 @@ use std::io::Write;
 use std::process::ExitCode;
 use std::sync::Wait;
 use std::thread::Threads;
-use vol_commands::Checker;
+use vol_check::Checker;
 use vol_commands::checking::check;
 
 /// Does with the volume in a file what several threads are asked for, and answers how the program ends. What it prints goes

@@ -2,19 +2,15 @@
 use Rattle.std.specs.Prelude.{◌≡◌, ◌⊎◌, ℕ, true, if◌then◌else◌, List, []}
 use Rattle.std.specs.Io.KnownBytes.{Appends, Keeps}
 use Rattle.pdp_words.specs.Devices.{AppendsFront}
-use Rattle.vol_reports.specs.Reports.{block_report, has_faults}
+use Rattle.vol_check.specs.Reporting.{IsReport}
+use Rattle.vol_reports.specs.Reports.{has_faults}
 use Rattle.vol_reports.specs.Texts.{report_text}
 use Rattle.vol_commands.specs.Faults.{fault_line, no_memory}
 use Rattle.vol_commands.specs.Jobs.{Streams}
 use Rattle.vol_layout.specs.declared.edition.Edition.{Edition}
 use Rattle.vol_reports.specs.declared.line.Line.{Line}
-use Rattle.vol_commands.specs.declared.checking.Checker.{Checker}
-use Rattle.vol_commands.specs.declared.checking.Checker.TheVariants as checkers
+use Rattle.vol_check.specs.declared.checker.Checker.{Checker}
 use Rattle.vol_commands.specs.declared.faults.Fault.TheVariants as faults
-
--- these lines are what a checker finds in an image (icheck, dcheck, ncheck)
-abbrev pub AreFindings : Checker → Edition → List ℕ → List Line → Type 0
-AreFindings checkers.Blocks edition image report = report ≡ block_report edition image
 
 -- the status after a report that was printed: 1 where it tells of faults (this project)
 abbrev pub report_status : List Line → ℕ
@@ -37,4 +33,4 @@ PrintsReport streams report status =
 -- a checker runs: what it finds in the image is printed, or memory ran out and nothing is printed (this project)
 abbrev pub Checks : Checker → Edition → List ℕ → Streams → ℕ → Type 0
 Checks checker edition image streams status =
-    ((report : List Line) × AreFindings checker edition image report × PrintsReport streams report status) ⊎ IsUnreported streams status
+    ((report : List Line) × IsReport checker edition image report × PrintsReport streams report status) ⊎ IsUnreported streams status

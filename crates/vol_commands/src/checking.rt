@@ -2,8 +2,9 @@
 ghost use Rattle.std.specs.Prelude.{◌≡◌, ◌⊎◌, ◌≤◌, ℕ, true, IfErr, IfOk, OnErr, OnOk};
 ghost use Rattle.std.specs.Io.KnownBytes.{Appends, Keeps};
 ghost use Rattle.pdp_words.specs.Devices.{AppendsFront};
-ghost use Rattle.vol_commands.specs.Checking.{Checks, AreFindings, IsUnreported, PrintsReport, report_status};
+ghost use Rattle.vol_check.specs.Reporting.{IsReport};
 ghost use Rattle.vol_reports.specs.Texts.{report_text};
+ghost use Rattle.vol_commands.specs.Checking.{Checks, IsUnreported, PrintsReport, report_status};
 ghost use Rattle.vol_commands.specs.Faults.{Gets, no_memory};
 
 use crate::answer::explain;
@@ -13,16 +14,9 @@ use pdp_words::{Image, Sink, write_all};
 use std::alloc::{AllocError, Global};
 use std::sync::Wait;
 use std::thread::Threads;
-use vol_check::{Open, icheck};
+use vol_check::{Checker, Open, dcheck, icheck, ncheck};
 use vol_layout::Edition;
 use vol_reports::Report;
-
-/// A checker.
-#[derive(Clone, Copy, Debug, PartialEq, Eq)]
-pub enum Checker {
-    /// `icheck`: whether each block has one place.
-    Blocks,
-}
 
 /// Prints what a checker finds, by so many threads, and answers the status: 0, or 1 where the report tells of faults,
 /// 3 where `output` failed, 4 where memory ran out. Nothing goes out before all is known.
@@ -64,10 +58,12 @@ fn find<R: Threads + Wait + Sync>(
 ) -> Result<Report, AllocError>
     requires first { 1 ≤ workers }
     requires last { workers ≤ 64 }
-    ensures { IfOk result (AreFindings checker edition image.now) }
+    ensures { IfOk result (IsReport checker edition image.now) }
 {
     match checker {
         Checker::Blocks => icheck(rt, rt, alloc, edition, image, workers, &Open),
+        Checker::Entries => dcheck(rt, rt, alloc, edition, image, workers, &Open),
+        Checker::Names => ncheck(rt, rt, alloc, edition, image, workers, &Open),
     }
 }
 

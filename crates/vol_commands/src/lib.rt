@@ -16,6 +16,5 @@ pub mod status;
 
 pub use answer::Answer;
 pub use cat::CatFault;
-pub use checking::Checker;
 pub use jobs::{Job, do_job};
 pub use making::{Made, mkfs_command};

@@ -1,7 +1,8 @@
 // The words of the command line.
-use command_line::{Invocation, VolumeFile, read};
+use command_line::{Invocation, VolumeFile, Work, read};
 use std::alloc::{AllocError, Global};
 use std::process::Abort;
+use vol_check::Checker;
 use vol_commands::Job;
 use vol_layout::Edition;
 use vol_volume::NewVolume;
@@ -16,7 +17,7 @@ const VOLUME: VolumeFile<'static> = VolumeFile {
 type Row = (&'static [&'static str], Job<'static>);
 
 /// One row for each command.
-static ROWS: [Row; 9] = [
+static ROWS: [Row; 10] = [
     (&["ls", "7", "disk", "/d"], Job::Ls { path: "/d" }),
     (&["get", "7", "disk", "/d/f"], Job::Get { path: "/d/f" }),
     (
@@ -67,7 +68,18 @@ static ROWS: [Row; 9] = [
             now: 5,
         },
     ),
+    (&["salvage", "7", "disk"], Job::Salvage),
 ];
+
+/// The commands of the checkers.
+static CHECKERS: [(&str, Checker); 3] = [
+    ("icheck", Checker::Blocks),
+    ("dcheck", Checker::Entries),
+    ("ncheck", Checker::Names),
+];
+
+/// Numbers of threads, as words and as they are read.
+static WORKERS: [(&str, usize); 3] = [("1", 1), ("064", 64), ("7", 7)];
 
 static MKFS: [&str; 8] = ["mkfs", "7", "disk", "65536", "65535", "1", "02", "3"];
 
@@ -98,6 +110,19 @@ fn commands_on_volumes_are_read(rt: HostRuntime) {
             job: *job,
         };
         check(&rt, rt.alloc(), rest, wanted);
+    }
+}
+
+#[test]
+fn words_of_checkers_are_read(rt: HostRuntime) {
+    for &(command, checker) in &CHECKERS {
+        for &(word, workers) in &WORKERS {
+            let wanted = Invocation::OnThreads {
+                volume: VOLUME,
+                work: Work::Check { checker, workers },
+            };
+            check(&rt, rt.alloc(), &[command, "7", "disk", word], wanted);
+        }
     }
 }
 

@@ -5,13 +5,13 @@ use Rattle.std.specs.Global.{Global}
 use Rattle.vol_commands.specs.Faults.{IsRuled, fault_line, fault_status}
 use Rattle.vol_commands.specs.declared.faults.Fault.{Fault}
 use Rattle.vol_commands.specs.declared.faults.Fault.TheVariants as faults
-use Rattle.vol_scripts.specs.Ending.{Prints}
+use Rattle.vol_scripts.specs.Ending.{PrintsPlay}
 use Rattle.vol_scripts.specs.declared.played.Played.{Played}
 use Rattle.vol_volume.specs.Volume.{Mounted}
 
 -- a fault of printing names no rule
 pub names_no_rule : (volume : Mounted) (cuts : Bool) (scripts : List (Vec Played Global)) (old new : Option (List ℕ)) (had_failed failed : Bool)
-    (printed : Result ℕ Fault) → Prints volume cuts scripts old new had_failed failed printed → IfErr printed IsRuled
+    (printed : Result ℕ Fault) → PrintsPlay volume cuts scripts old new had_failed failed printed → IfErr printed IsRuled
 names_no_rule volume cuts scripts old new had_failed failed (Ok status) prints = tt
 names_no_rule volume cuts scripts old new had_failed failed (Err (faults.Unsound rule)) prints = absurd (let e = prints.0 in cc)
 names_no_rule volume cuts scripts old new had_failed failed (Err (faults.Refused refusal)) prints = tt

@@ -60,8 +60,8 @@ abbrev pub gone_of : Mounted → Bool → List Receipt → Option ℕ
 gone_of volume cuts receipts = if cuts then Some (count_by (λ receipt. nat_lt receipt.at volume.first) receipts) else None
 
 -- all that is printed, by how many receipts agree with the journal (this project)
-abbrev pub report_text : Mounted → Bool → List (Vec Played Global) → ℕ → List ℕ
-report_text volume cuts scripts agree =
+abbrev pub play_text : Mounted → Bool → List (Vec Played Global) → ℕ → List ℕ
+play_text volume cuts scripts agree =
     scripts_text 1 scripts ++ totals_text (length volume.journal) agree (gone_of volume cuts (all_receipts scripts))
 
 -- so many of the receipts agree with the journal; where memory ran out, none count (this project)
@@ -77,15 +77,15 @@ printed_status scripts None = 4
 -- the report goes out in a form that this holds of, with the status that goes with it (this project)
 abbrev pub Reports : Mounted → Bool → List (Vec Played Global) → (List ℕ → Option Confirmed → Type 0) → Type 0
 Reports volume cuts scripts goes_out = (confirmed : Option Confirmed) × (agree : ℕ) × AreConfirmed volume (all_receipts scripts) confirmed agree
-    × goes_out (report_text volume cuts scripts agree) confirmed
+    × goes_out (play_text volume cuts scripts agree) confirmed
 
 -- what standard output gets: the report; or, where it failed, the front of it; or nothing, where memory ran out (this project)
-abbrev pub Prints : Mounted → Bool → List (Vec Played Global) → Option (List ℕ) → Option (List ℕ) → Bool → Bool → Result ℕ Fault → Type 0
-Prints volume cuts scripts old new had_failed failed (Ok status) = (failed ≡ had_failed)
+abbrev pub PrintsPlay : Mounted → Bool → List (Vec Played Global) → Option (List ℕ) → Option (List ℕ) → Bool → Bool → Result ℕ Fault → Type 0
+PrintsPlay volume cuts scripts old new had_failed failed (Ok status) = (failed ≡ had_failed)
     × Reports volume cuts scripts (λ text confirmed. Appends old new text × (status ≡ printed_status scripts confirmed))
-Prints volume cuts scripts old new had_failed failed (Err faults.Output) =
+PrintsPlay volume cuts scripts old new had_failed failed (Err faults.Output) =
     (failed ≡ true) × Reports volume cuts scripts (λ text confirmed. (count : ℕ) × AppendsFront old new text count)
-Prints volume cuts scripts old new had_failed failed (Err fault) =
+PrintsPlay volume cuts scripts old new had_failed failed (Err fault) =
     (fault ≡ no_memory) × (failed ≡ had_failed) × Keeps old new
 
 -- what a play comes to: the bytes of the volume are to be saved; the report is printed, and there is no line, or there is a fault, with its status and its line (this project)

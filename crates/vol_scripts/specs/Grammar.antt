@@ -13,20 +13,20 @@ use Rattle.vol_scripts.specs.declared.steps.Step.{Step}
 use Rattle.vol_scripts.specs.declared.steps.Step.TheVariants as steps
 
 -- the word of a command (this project)
-abbrev pub command_name : Command → List ℕ
-command_name commands.Create = codes "create"
-command_name commands.Mkdir = codes "mkdir"
-command_name commands.Link = codes "link"
-command_name commands.Unlink = codes "unlink"
-command_name commands.Rmdir = codes "rmdir"
-command_name commands.Write = codes "write"
-command_name commands.Truncate = codes "truncate"
-command_name commands.Chmod = codes "chmod"
-command_name commands.Chown = codes "chown"
-command_name commands.Stat = codes "stat"
-command_name commands.Read = codes "read"
-command_name commands.List = codes "list"
-command_name commands.Cut = codes "cut"
+abbrev pub command_word : Command → List ℕ
+command_word commands.Create = codes "create"
+command_word commands.Mkdir = codes "mkdir"
+command_word commands.Link = codes "link"
+command_word commands.Unlink = codes "unlink"
+command_word commands.Rmdir = codes "rmdir"
+command_word commands.Write = codes "write"
+command_word commands.Truncate = codes "truncate"
+command_word commands.Chmod = codes "chmod"
+command_word commands.Chown = codes "chown"
+command_word commands.Stat = codes "stat"
+command_word commands.Read = codes "read"
+command_word commands.List = codes "list"
+command_word commands.Cut = codes "cut"
 
 -- all commands (this project)
 abbrev pub all_commands : List Command
@@ -35,7 +35,7 @@ all_commands = commands.Create ∷ commands.Mkdir ∷ commands.Link ∷ commands
 
 -- the command of a word (this project)
 abbrev pub command_named : List ℕ → Option Command
-command_named word = find (λ command. bytes_eq (command_name command) word) all_commands
+command_named word = find (λ command. bytes_eq (command_word command) word) all_commands
 
 -- what follows where there is something (Option::and_then)
 infixl 10 ◌>>=◌

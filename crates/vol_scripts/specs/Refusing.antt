@@ -10,7 +10,7 @@ abbrev pub unread_text : ℕ → ℕ → List ℕ
 unread_text script line = codes "unixvol: script " ++ decimal script ++ codes " line " ++ decimal line ++ codes "\n"
 
 -- nothing is to be saved, and there are this status and this line (this project)
-pub record IsRefused (answer : Answer) (status : ℕ) (said : Type 0) : Type 0 where
+pub record SavesNothing (answer : Answer) (status : ℕ) (said : Type 0) : Type 0 where
   pub unsaved : answer.image ≡ None
   pub ends : answer.status ≡ status
   pub line : said
@@ -18,5 +18,5 @@ pub record IsRefused (answer : Answer) (status : ℕ) (said : Type 0) : Type 0 w
 -- what is answered to a fault: the line that can't be read, with status 2; or want of memory, with status 4, also for that line (this project)
 abbrev pub AnswersFault : ScriptsFault → (List ℕ → Type 0) → Answer → Type 0
 AnswersFault (faults.Line script line) said answer =
-    IsRefused answer 2 (said (unread_text script line)) ⊎ IsRefused answer 4 (said (fault_line no_memory))
-AnswersFault faults.NoMemory said answer = IsRefused answer 4 (said (fault_line no_memory))
+    SavesNothing answer 2 (said (unread_text script line)) ⊎ SavesNothing answer 4 (said (fault_line no_memory))
+AnswersFault faults.NoMemory said answer = SavesNothing answer 4 (said (fault_line no_memory))

@@ -20,13 +20,13 @@ played_text (played.Cut first) = codes "cut " ++ decimal first
 played_text played.NoMemory = refusal_text refusals.NoMemory
 
 -- the line of a step: its script, its line, and what came of it (this project)
-abbrev pub line_text : ℕ → ℕ → Played → List ℕ
-line_text script line came = decimal script ++ codes "." ++ decimal line ++ codes " " ++ played_text came ++ codes "\n"
+abbrev pub step_line_text : ℕ → ℕ → Played → List ℕ
+step_line_text script line came = decimal script ++ codes "." ++ decimal line ++ codes " " ++ played_text came ++ codes "\n"
 
 -- the lines of steps of a script, of which the first has this number (this project)
 abbrev pub lines_text : ℕ → ℕ → List Played → List ℕ
 lines_text script line [] = []
-lines_text script line (first ∷ others) = line_text script line first ++ lines_text script (line + 1) others
+lines_text script line (first ∷ others) = step_line_text script line first ++ lines_text script (line + 1) others
 
 -- the last line where a script cuts the journal: how many receipts speak of what was cut (this project)
 abbrev pub gone_text : Option ℕ → List ℕ

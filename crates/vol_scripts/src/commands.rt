@@ -1,6 +1,6 @@
 //! The words that say what a line asks for.
 ghost use Rattle.std.specs.Prelude.{◌≡◌};
-ghost use Rattle.vol_scripts.specs.Grammar.{command_name, command_named};
+ghost use Rattle.vol_scripts.specs.Grammar.{command_word, command_named};
 
 /// What a line asks for, as its fourth word names it.
 #[derive(Clone, Copy, Debug, PartialEq, Eq)]
@@ -40,7 +40,7 @@ static COMMANDS: [Command; 13] = [
 impl Command {
     /// The word of the command.
     fn name(self) -> &'static str
-        ensures { result.now ≡ command_name self }
+        ensures { result.now ≡ command_word self }
     {
         match self {
             Command::Create => "create",

@@ -3,7 +3,7 @@
 ghost use Rattle.std.specs.Prelude.{◌≡◌, ◌++◌, [], IfOk, IfErr, OnOk, count_by, nat_lt};
 ghost use Rattle.std.specs.String.{string_bytes};
 ghost use Rattle.vol_commands.specs.Faults.{Gets, IsRuled, fault_line, fault_status};
-ghost use Rattle.vol_scripts.specs.Ending.{AreConfirmed, Finishes, Prints, Reports, all_receipts, receipts_in, script_status, scripts_status, scripts_text, step_status};
+ghost use Rattle.vol_scripts.specs.Ending.{AreConfirmed, Finishes, PrintsPlay, Reports, all_receipts, receipts_in, script_status, scripts_status, scripts_text, step_status};
 
 use crate::played::Played;
 use crate::report::{push_lines, push_totals};
@@ -35,7 +35,7 @@ pub fn finish<O: Sink, E: Sink>(
     errors: &mut E,
 ) -> Answer
     ensures { Finishes volume cuts scripts.items
-        (Prints volume cuts scripts.items (O.contents output.old) (O.contents output.new) (O.failed output.old) (O.failed output.new))
+        (PrintsPlay volume cuts scripts.items (O.contents output.old) (O.contents output.new) (O.failed output.old) (O.failed output.new))
         (Gets (E.failed errors.new) (E.contents errors.old) (E.contents errors.new)) result }
 {
     let printed = print_report(alloc, &volume, cuts, scripts, output);
@@ -68,7 +68,7 @@ fn print_report<O: Sink>(
     scripts: Vec<Vec<Played>>,
     output: &mut O,
 ) -> Result<u8, Fault>
-    ensures { Prints volume.now cuts scripts.items (O.contents output.old) (O.contents output.new)
+    ensures { PrintsPlay volume.now cuts scripts.items (O.contents output.old) (O.contents output.new)
         (O.failed output.old) (O.failed output.new) result }
 {
     let worst = scripts_status(&scripts);

@@ -2,7 +2,7 @@
 ghost use Rattle.std.specs.Prelude.{◌≡◌, IfOk};
 ghost use Rattle.std.specs.String.{string_bytes};
 ghost use Rattle.vol_commands.specs.Faults.{Gets, fault_line, no_memory};
-ghost use Rattle.vol_scripts.specs.Refusing.{AnswersFault, IsRefused, unread_text};
+ghost use Rattle.vol_scripts.specs.Refusing.{AnswersFault, SavesNothing, unread_text};
 
 use crate::reading::ScriptsFault;
 use pdp_words::{Sink, write_all};
@@ -29,7 +29,7 @@ pub fn refuse<E: Sink>(alloc: Global, fault: ScriptsFault, errors: &mut E) -> An
 
 /// The answer where a line can't be read, whose line is `text`.
 fn answer_unread<E: Sink>(text: &str, errors: &mut E) -> Answer
-    ensures { IsRefused result 2 (Gets (E.failed errors.new) (E.contents errors.old) (E.contents errors.new) text.now) }
+    ensures { SavesNothing result 2 (Gets (E.failed errors.new) (E.contents errors.old) (E.contents errors.new) text.now) }
 {
     let _ = write_all(errors, text.as_bytes());
     Answer {
@@ -40,7 +40,7 @@ fn answer_unread<E: Sink>(text: &str, errors: &mut E) -> Answer
 
 /// The answer where memory ran out.
 fn answer_no_memory<E: Sink>(errors: &mut E) -> Answer
-    ensures { IsRefused result 4 (Gets (E.failed errors.new) (E.contents errors.old) (E.contents errors.new) (fault_line no_memory)) }
+    ensures { SavesNothing result 4 (Gets (E.failed errors.new) (E.contents errors.old) (E.contents errors.new) (fault_line no_memory)) }
 {
     report(Err(Fault::Refused(Refusal::NoMemory)), errors)
 }

@@ -1,7 +1,7 @@
 //! What `play` prints.
 ghost use Rattle.std.specs.Prelude.{◌≡◌, ◌++◌, IfOk, OnOk};
 ghost use Rattle.std.specs.String.{string_bytes};
-ghost use Rattle.vol_scripts.specs.Report.{lines_text, line_text, outcome_text, played_text, totals_text};
+ghost use Rattle.vol_scripts.specs.Report.{lines_text, step_line_text, outcome_text, played_text, totals_text};
 
 use crate::played::Played;
 use crate::texts::{done_text, refusal_text, reply_text};
@@ -58,7 +58,7 @@ fn push_line(
     line: u64,
     played: &Played,
 ) -> Result<(), AllocError>
-    ensures { OnOk result (string_bytes text.new ≡ string_bytes text.old ++ line_text script line played.now) }
+    ensures { OnOk result (string_bytes text.new ≡ string_bytes text.old ++ step_line_text script line played.now) }
 {
     let came = played_text(alloc, played)?;
     let came = came.as_str();

@@ -1,0 +1,29 @@
+-- Beginnings of one list.
+use Rattle.std.proofs.Common.{◌≡◌, ◌≤◌, ◌⊎◌, inl, inr, ⊎_elim, List, [], ◌∷◌, ◌++◌, length, refl, ap, sym, ◌∙◌, arith, append_assoc, length-append}
+use mathlib.Core.List.{IsPrefix}
+
+-- what begins a beginning begins the whole
+pub prefix_trans : {A : Type 0} (xs ys zs : List A) → IsPrefix xs ys → IsPrefix ys zs → IsPrefix xs zs
+prefix_trans xs ys zs p q = (p.0 ++ q.0, sym (append_assoc xs p.0 q.0) ∙ (ap (λ w. w ++ q.0) p.1 ∙ q.1))
+
+-- of two beginnings of one list, one begins the other
+pub prefix_either : {A : Type 0} (xs ys zs : List A) → IsPrefix xs zs → IsPrefix ys zs → IsPrefix xs ys ⊎ IsPrefix ys xs
+prefix_either [] ys zs p q = inl (ys, refl)
+prefix_either (x ∷ xs) [] zs p q = inr (x ∷ xs, refl)
+prefix_either (x ∷ xs) (y ∷ ys) [] p q = absurd (cc (p.1))
+prefix_either (x ∷ xs) (y ∷ ys) (z ∷ zs) p q =
+    let heads : x ≡ y = cc (p.1, q.1) in
+    ⊎_elim (λ (r : IsPrefix xs ys). inl (r.0, cc (heads, r.1))) (λ (r : IsPrefix ys xs). inr (r.0, cc (heads, r.1)))
+    (prefix_either xs ys zs (p.0, cc (p.1)) (q.0, cc (q.1)))
+
+-- a beginning as long as the whole is the whole
+pub prefix_whole : {A : Type 0} (xs ys : List A) → IsPrefix xs ys → length ys ≤ length xs → xs ≡ ys
+prefix_whole [] [] p le = refl
+prefix_whole [] (y ∷ ys) p le = absurd (omega arith)
+prefix_whole (x ∷ xs) [] p le = absurd (cc (p.1))
+prefix_whole (x ∷ xs) (y ∷ ys) p le =
+    let rest = prefix_whole xs ys (p.0, cc (p.1)) (omega arith) in cc (p.1, rest)
+
+-- a beginning is no longer than the whole
+pub prefix_length : {A : Type 0} (xs ys : List A) → IsPrefix xs ys → length xs ≤ length ys
+prefix_length xs ys p = omega (arith, sym (ap length p.1) ∙ length-append xs p.0)

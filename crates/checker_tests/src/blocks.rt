@@ -3,7 +3,7 @@ use crate::fixtures::{Asked, Made, SEVENTH, SIXTH, WORKERS, check_report, image_
 use vol_check::{Open, icheck};
 
 /// Images, their block reports, and whether these tell of faults.
-static ROWS: [(Made, &[u8], bool); 8] = [
+pub(crate) static ROWS: [(Made, &[u8], bool); 8] = [
     // A new volume of either edition.
     (
         Made { ..SIXTH },

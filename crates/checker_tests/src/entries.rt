@@ -3,7 +3,7 @@ use crate::fixtures::{Made, SEVENTH, SIXTH, WORKERS, check_report, image_of};
 use vol_check::{Open, dcheck};
 
 /// Images, their entry reports, and whether these tell of faults.
-static ROWS: [(Made, &[u8], bool); 6] = [
+pub(crate) static ROWS: [(Made, &[u8], bool); 6] = [
     // A new volume.
     (Made { ..SIXTH }, b"", false),
     // The root has five links, and two entries.

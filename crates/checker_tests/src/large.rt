@@ -7,10 +7,10 @@ use vol_check::{Open, dcheck, ncheck};
 use vol_layout::Edition;
 
 /// Names besides `f` of the file in the root.
-const NAMES: u32 = 2100;
+pub(crate) const NAMES: u32 = 2100;
 
 /// The text of the name report, where the last name is that of `/d`.
-fn names_text(rt: &impl Abort, alloc: Global) -> Vec<u8> {
+pub(crate) fn names_text(rt: &impl Abort, alloc: Global) -> Vec<u8> {
     let mut text = Vec::new(alloc);
     push(rt, &mut text, b"14 /d/e\n15 /d\n15 /n2100\n16 /f\n");
     for number in 1..NAMES {

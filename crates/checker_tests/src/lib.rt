@@ -1,4 +1,5 @@
-//! Tests of the checkers by their public functions: worked reports, by any number of workers, and workers that run at
+//! Tests of the checkers by their public functions: worked reports, by any number of workers; sweeps stepped by hand, on the
+//! image that they were made for and on another; gates, and workers that run at
 //! the same time.
 #![tactic(auto)]
 
@@ -14,3 +15,5 @@ mod gates;
 mod large;
 #[cfg(test)]
 mod names;
+#[cfg(test)]
+mod sweeps;

@@ -3,7 +3,7 @@ use crate::fixtures::{Asked, Made, SIXTH, WORKERS, check_report, image_of};
 use vol_check::{Open, ncheck};
 
 /// Images, their name reports, and whether these tell of faults.
-static ROWS: [(Made, &[u8], bool); 4] = [
+pub(crate) static ROWS: [(Made, &[u8], bool); 4] = [
     // A new volume, whose root has `.` and `..` alone.
     (Made { ..SIXTH }, b"", false),
     // A file in a directory.

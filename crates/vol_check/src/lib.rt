@@ -16,8 +16,6 @@ mod seats;
 mod slots;
 mod sweep;
 mod sweeps;
-#[cfg(test)]
-mod tests;
 
 pub use checker::Checker;
 pub use checkers::{dcheck, icheck, ncheck};

@@ -1,0 +1,5 @@
+pub mod StepLaws
+pub mod ListLaws
+pub mod PlayerLaws
+pub mod EndLaws
+pub mod ReadLaws

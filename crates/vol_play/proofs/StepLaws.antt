@@ -1,0 +1,77 @@
+-- What comes of the steps of a script, and what its session is then.
+use Rattle.std.proofs.Common.{◌≡◌, ℕ, ◌∙◌, List, [], ◌∷◌, ◌++◌, refl, sym, ap, subst, append-nil, append_assoc, length, arith}
+use Rattle.vol_receipts.specs.declared.receipts.Receipt.{Receipt}
+use Rattle.vol_scripts.specs.Ending.{receipts_in}
+use Rattle.vol_scripts.specs.declared.played.Played.{Played}
+use Rattle.vol_scripts.specs.declared.played.Played.TheVariants as played
+use Rattle.vol_scripts.specs.declared.steps.Step.{Step}
+use Rattle.vol_shared.specs.Sessions.{Known, Got, HasCut}
+use Rattle.vol_play.specs.Steps.{CameOf, CameOfAll, next_after, known_after, known_after_all, places_in, cuts_in}
+
+-- a session that got a receipt
+pub got_known : (old new : Known) (receipt : Receipt) → new.of ≡ old.of → Got old new receipt → new ≡ known_after old (played.Told receipt)
+got_known old new receipt same got = rw (sym same, sym got.next, sym got.places, sym got.cuts, sym got.receipts) refl
+
+-- a session that cut the journal
+pub cut_known : (old new : Known) (first : ℕ) → new.of ≡ old.of → HasCut old new first → new ≡ known_after old (played.Cut first)
+cut_known old new first same cut = rw (sym same, sym cut.cuts, sym cut.next, sym cut.places, sym cut.receipts) refl
+
+-- a step leaves a session its volume
+pub known_of : (known : Known) (came : Played) → (known_after known came).of ≡ known.of
+known_of known (played.Told receipt) = refl
+known_of known (played.Cut first) = refl
+known_of known played.NoMemory = refl
+
+-- so do all steps
+pub known_all_of : (known : Known) (all : List Played) → (known_after_all known all).of ≡ known.of
+known_all_of known [] = refl
+known_all_of known (came ∷ others) = known_all_of (known_after known came) others ∙ known_of known came
+
+-- the least number that a session's next receipt may have
+pub known_next : (known : Known) (came : Played) → (known_after known came).next ≡ next_after known.next came
+known_next known (played.Told receipt) = refl
+known_next known (played.Cut first) = refl
+known_next known played.NoMemory = refl
+
+-- one step more
+pub known_push : (known : Known) (all : List Played) (came : Played) → known_after_all known (all ++ came ∷ []) ≡ known_after (known_after_all known all) came
+known_push known [] came = refl
+known_push known (first ∷ all) came = known_push (known_after known first) all came
+
+-- what came of a step goes before what comes of those after it
+pub came_more : (whole rest : List Step) (step : Step) (start next later : ℕ) (front now : List Played) (came : Played)
+    → later ≡ next_after next came → now ≡ front ++ came ∷ [] → CameOf step next came
+    → ((others : List Played) → CameOfAll (step ∷ rest) next others → CameOfAll whole start (front ++ others))
+    → (others : List Played) → CameOfAll rest later others → CameOfAll whole start (now ++ others)
+came_more whole rest step start next later front now came later_is now_is one given others all =
+    let joined : now ++ others ≡ front ++ came ∷ others = ap (λ (ps : List Played). ps ++ others) now_is ∙ append_assoc front (came ∷ []) others in
+    subst (λ (ps : List Played). CameOfAll whole start ps) (sym joined)
+    (given (came ∷ others) (one, subst (λ (n : ℕ). CameOfAll rest n others) later_is all))
+
+-- a session's places are those of its steps
+pub known_places : (known : Known) (all : List Played) → (known_after_all known all).places ≡ known.places ++ places_in all
+known_places known [] = sym (append-nil known.places)
+known_places known (played.Told receipt ∷ others) = known_places (known_after known (played.Told receipt)) others ∙ append_assoc known.places _ (places_in others)
+known_places known (played.Cut first ∷ others) = known_places (known_after known (played.Cut first)) others
+known_places known (played.NoMemory ∷ others) = known_places known others
+
+-- so are the numbers that its cuts answered
+pub known_cuts : (known : Known) (all : List Played) → (known_after_all known all).cuts ≡ known.cuts ++ cuts_in all
+known_cuts known [] = sym (append-nil known.cuts)
+known_cuts known (played.Told receipt ∷ others) = known_cuts (known_after known (played.Told receipt)) others
+known_cuts known (played.Cut first ∷ others) = known_cuts (known_after known (played.Cut first)) others ∙ append_assoc known.cuts (first ∷ []) (cuts_in others)
+known_cuts known (played.NoMemory ∷ others) = known_cuts known others
+
+-- and its receipts
+pub known_receipts : (known : Known) (all : List Played) → (known_after_all known all).receipts ≡ known.receipts ++ receipts_in all
+known_receipts known [] = sym (append-nil known.receipts)
+known_receipts known (played.Told receipt ∷ others) =
+    known_receipts (known_after known (played.Told receipt)) others ∙ append_assoc known.receipts (receipt ∷ []) (receipts_in others)
+known_receipts known (played.Cut first ∷ others) = known_receipts (known_after known (played.Cut first)) others
+known_receipts known (played.NoMemory ∷ others) = known_receipts known others
+
+-- once no step is left, that is what came of all
+pub came_end : (whole rest : List Step) (start next : ℕ) (front : List Played) → length rest ≡ 0
+    → ((others : List Played) → CameOfAll rest next others → CameOfAll whole start (front ++ others)) → CameOfAll whole start front
+came_end whole [] start next front none given = subst (λ (ps : List Played). CameOfAll whole start ps) (append-nil front) (given [] tt)
+came_end whole (step ∷ rest) start next front none given = absurd (omega arith)

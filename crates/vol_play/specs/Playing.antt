@@ -1,0 +1,85 @@
+-- What a play comes to.
+use Rattle.std.specs.Prelude.{◌≡◌, ◌⊎◌, ℕ, ◌+◌, ◌≤◌, Bool, true, false, List, [], max, All, Err, Ok, Vec}
+use Rattle.std.specs.Global.{Global}
+use Rattle.std.specs.Io.KnownBytes.{Keeps}
+use Rattle.std.specs.List.{list_any}
+use Rattle.count_table.specs.Sums.{total, below}
+use Rattle.vol_judge.specs.Sound.{IsSound}
+use Rattle.vol_volume.specs.Volume.{Mounted, IsConsistent, mounted}
+use Rattle.vol_receipts.specs.Agrees.{origin_of, Agrees}
+use Rattle.vol_shared.specs.Lists.{BeginsWith, greatest, greatest_of}
+use Rattle.vol_shared.specs.Stored.{Stored, stored_of, next_number, Continues}
+use Rattle.vol_commands.specs.Faults.{IsCause, fault_line, fault_status}
+use Rattle.vol_commands.specs.Jobs.{Streams}
+use Rattle.vol_scripts.specs.Ending.{Finishes, PrintsPlay, receipts_in}
+use Rattle.vol_scripts.specs.Reading.{ReadsScripts, scripts_from}
+use Rattle.vol_scripts.specs.Refusing.{AnswersFault, SavesNothing}
+use Rattle.vol_play.specs.Players.{InPairs}
+use Rattle.vol_play.specs.Steps.{CameOfAll, places_in, cuts_in}
+use Rattle.vol_layout.specs.declared.edition.Edition.{Edition}
+use Rattle.vol_commands.specs.declared.answer.Answer.{Answer}
+use Rattle.vol_commands.specs.declared.faults.Fault.{Fault}
+use Rattle.vol_scripts.specs.declared.played.Played.{Played}
+use Rattle.vol_scripts.specs.declared.reading.ScriptsFault.{ScriptsFault}
+use Rattle.vol_scripts.specs.declared.steps.Step.{Step}
+use Rattle.vol_scripts.specs.declared.steps.Step.TheVariants as steps
+
+-- a step cuts the journal (this project)
+abbrev pub is_cut : Step → Bool
+is_cut (steps.Change call) = false
+is_cut (steps.Question query) = false
+is_cut steps.Cut = true
+
+-- a script cuts the journal (this project)
+abbrev pub has_cut : List Step → Bool
+has_cut script = list_any is_cut script
+
+-- one of some scripts cuts the journal (this project)
+abbrev pub any_cut : List (List Step) → Bool
+any_cut scripts = list_any has_cut scripts
+
+-- scripts were played on a volume: something came of each step of each script, in order; the volume goes on from what it was, and
+-- where no script cut the journal, that goes on from the one that there was; the journal's first number is the greatest that a cut
+-- answered, or that of the start; the accepted calls of all scripts have the numbers of the records made since, each once; and each
+-- receipt agrees with the journal, but for those with lesser numbers than its first (this project)
+pub record ArePlayed (opened : Stored) (scripts : List (List Step)) (last : Mounted) (played : List (Vec Played Global)) : Type 0 where
+  pub came : InPairs (λ script came. CameOfAll script (next_number opened) came.items) scripts played
+  pub goes_on : Continues opened (stored_of last)
+  pub uncut : All (λ came. cuts_in came.items ≡ []) played → (origin_of last ≡ opened.origin) × BeginsWith last.journal opened.journal
+  pub first : last.first ≡ max opened.origin.first (greatest (λ came. greatest_of (cuts_in came.items)) played)
+  pub places : (weight : ℕ → ℕ) → total (λ came. total weight (places_in came.items)) played + below weight (next_number opened)
+      ≡ below weight (next_number (stored_of last))
+  pub agree : All (λ came. All (λ receipt. last.first ≤ receipt.at → Agrees (origin_of last) last.journal receipt) (receipts_in came.items)) played
+
+-- scripts were played on the sound volume in some bytes, and it reads as its journal says (this project)
+pub record IsPlayed (edition : Edition) (image : List ℕ) (scripts : List (List Step)) (last : Mounted) (played : List (Vec Played Global)) : Type 0 where
+  pub sound : IsSound edition image
+  pub whole : ArePlayed (stored_of (mounted edition image)) scripts last played
+  pub consistent : IsConsistent last
+
+-- a reason to play no step: the least rule that the image breaks, or want of memory (this project)
+abbrev pub IsUnplayed : Edition → List ℕ → Fault → Type 0
+IsUnplayed edition image fault = IsCause edition image (λ refusal. ⊥) fault
+
+-- standard output is as it was (this project)
+abbrev pub IsSilent : Streams → Type 0
+IsSilent streams = Keeps streams.old streams.new × (streams.failed ≡ streams.had_failed)
+
+-- a line of a script can't be read, or memory ran out for the scripts (this project)
+abbrev pub StopsUnread : List (Vec ℕ Global) → Streams → Answer → Type 0
+StopsUnread scripts streams answer = IsSilent streams × ((fault : ScriptsFault) × ReadsScripts scripts (Err fault) × AnswersFault fault streams.said answer)
+
+-- no step is played, and the reason has its status and its line (this project)
+abbrev pub StopsUnplayed : Edition → List ℕ → Streams → Answer → Type 0
+StopsUnplayed edition image streams answer =
+    IsSilent streams × ((fault : Fault) × IsUnplayed edition image fault × SavesNothing answer (fault_status fault) (streams.said (fault_line fault)))
+
+-- scripts are played, and what came of their steps is printed (this project)
+abbrev pub PlaysAll : Edition → List ℕ → List (List Step) → Streams → Answer → Type 0
+PlaysAll edition image scripts streams answer = (last : Mounted) × (played : List (Vec Played Global)) × IsPlayed edition image scripts last played
+    × Finishes last (any_cut scripts) played (PrintsPlay last (any_cut scripts) played streams.old streams.new streams.had_failed streams.failed) streams.said answer
+
+-- what `play` comes to: a line of a script can't be read; or all can, and no step is played; or all scripts are played (this project)
+abbrev pub Plays : Edition → List ℕ → List (Vec ℕ Global) → Streams → Answer → Type 0
+Plays edition image scripts streams answer = StopsUnread scripts streams answer
+    ⊎ ((read : List (List Step)) × (scripts_from 1 scripts ≡ Ok read) × (StopsUnplayed edition image streams answer ⊎ PlaysAll edition image read streams answer))

@@ -1,0 +1,104 @@
+//! The command `play`: from the bytes of an image and of scripts to what is printed, the status and the bytes to be saved.
+ghost use Rattle.std.specs.Prelude.{◌≡◌, ◌≤◌, IfOk, IfErr, length};
+ghost use Rattle.vol_commands.specs.Faults.{Gets};
+ghost use Rattle.vol_play.specs.Playing.{Plays, IsPlayed, IsUnplayed, any_cut, has_cut, is_cut};
+
+use crate::performing::play_on;
+use pdp_words::Sink;
+use std::alloc::Global;
+use std::sync::Wait;
+use std::thread::Threads;
+use vol_check::Gate;
+use vol_commands::Answer;
+use vol_commands::answer::report;
+use vol_commands::faults::Fault;
+use vol_layout::Edition;
+use vol_scripts::{Played, Script, Step, finish, read_scripts, refuse};
+use vol_volume::Volume;
+
+/// Plays 1 to 64 scripts on the volume in some bytes, each by one session in one thread; a script whose thread can't be
+/// started is played by the calling thread. The gate is called round each script, with its number from 0.
+///
+/// All scripts are read before the first call. Where a line can't be read, the volume isn't mounted or memory runs out
+/// before the first call, nothing is to be saved, and `errors` gets the line of the fault; the status is 2 for a line, 1
+/// for an image that isn't sound, 4 for memory. Else the scripts are played, and all ends as [`finish`] says: a line for
+/// each step on `output`, and the bytes of the volume to be saved, whatever the status.
+///
+/// Takes memory for the scripts, what [`Volume::mount`] takes, for each step and call, and what [`finish`] takes.
+pub fn play<R: Threads + Wait + Sync, G: Gate, O: Sink, E: Sink>(
+    rt: &R,
+    alloc: Global,
+    edition: Edition,
+    image: Vec<u8>,
+    scripts: &[Vec<u8>],
+    gate: &G,
+    output: &mut O,
+    errors: &mut E,
+) -> Answer
+    requires first { 1 ≤ length scripts.now }
+    requires last { length scripts.now ≤ 64 }
+    ensures { Plays edition image.items scripts.now (record {
+      old = O.contents output.old;
+      new = O.contents output.new;
+      had_failed = O.failed output.old;
+      failed = O.failed output.new;
+      said = Gets (E.failed errors.new) (E.contents errors.old) (E.contents errors.new);
+    }) result }
+{
+    let scripts = match read_scripts(alloc, scripts) {
+        Ok(scripts) => scripts,
+        Err(fault) => return refuse(alloc, fault, errors),
+    };
+    let cuts = any_cut(&scripts);
+    match play_image(rt, alloc, edition, image, scripts, gate) {
+        Ok((volume, played)) => finish(alloc, volume, cuts, played, output, errors),
+        Err(fault) => report(Err(fault), errors),
+    }
+}
+
+/// Mounts the volume in some bytes, and plays scripts on it.
+fn play_image<R: Threads + Wait + Sync, G: Gate>(
+    rt: &R,
+    alloc: Global,
+    edition: Edition,
+    image: Vec<u8>,
+    scripts: Vec<Script>,
+    gate: &G,
+) -> Result<(Volume, Vec<Vec<Played>>), Fault>
+    requires first { 1 ≤ length scripts.items }
+    requires last { length scripts.items ≤ 64 }
+    ensures played { IfOk result (λ made. IsPlayed edition image.items scripts.items made.0 made.1.items) }
+    ensures fault { IfErr result (IsUnplayed edition image.items) }
+{
+    let volume = match Volume::mount(alloc, edition, image) {
+        Ok(volume) => volume,
+        Err((fault, _)) => return Err(Fault::from(fault)),
+    };
+    let (volume, played) = play_on(rt, alloc, volume, scripts, gate)?;
+    volume.check();
+    Ok((volume, played))
+}
+
+/// Whether one of some scripts cuts the journal.
+fn any_cut(scripts: &[Script]) -> bool
+    ensures { result ≡ any_cut scripts.now }
+{
+    scripts.iter().any(|script| has_cut(script.as_slice()))
+}
+
+/// Whether a script cuts the journal.
+fn has_cut(script: &[Step]) -> bool
+    ensures { result ≡ has_cut script.now }
+{
+    script.iter().any(|step| is_cut(step))
+}
+
+/// Whether a step cuts the journal.
+fn is_cut(step: &Step) -> bool
+    ensures { result ≡ is_cut step.now }
+{
+    match step {
+        Step::Cut => true,
+        Step::Change(_) | Step::Question(_) => false,
+    }
+}

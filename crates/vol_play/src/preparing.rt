@@ -1,0 +1,73 @@
+//! What a play takes of memory before its volume is shared, so that nothing can fail while it is, but calls and queries.
+ghost use Rattle.std.specs.Prelude.{◌≡◌, ◌∷◌, ◌++◌, [], map, All, IfOk, OnOk, length, vec_len, vec_capacity, ◌≤◌};
+ghost use Rattle.vol_play.specs.Players.{IsReady};
+
+use std::alloc::{AllocError, Global};
+use vol_scripts::{Played, Script};
+use vol_shared::Session;
+
+/// A script that is to be played, with room for what comes of its steps.
+#[derive(Drop)]
+pub(crate) struct Prepared {
+    pub(crate) script: Script,
+    pub(crate) played: Vec<Played>,
+}
+
+/// A session that plays a script, and what came of the steps.
+#[derive(Drop)]
+pub(crate) struct Player {
+    pub(crate) session: Session,
+    pub(crate) script: Script,
+    pub(crate) played: Vec<Played>,
+}
+
+/// The scripts, and room for their players and for what comes of all steps.
+#[derive(Drop)]
+pub(crate) struct Stage {
+    pub(crate) prepared: Vec<Prepared>,
+    pub(crate) players: Vec<Player>,
+    pub(crate) played: Vec<Vec<Played>>,
+}
+
+impl Stage {
+    /// A stage for these scripts.
+    pub(crate) fn new(alloc: Global, scripts: Vec<Script>) -> Result<Stage, AllocError>
+        ensures scripts { IfOk result (λ stage. map (λ p. p.script) stage.prepared.items ≡ scripts.items) }
+        ensures ready { IfOk result (λ stage. All IsReady stage.prepared.items) }
+        ensures empty { IfOk result (λ stage. (stage.players.items ≡ []) × (stage.played.items ≡ [])) }
+        ensures room { IfOk result (λ stage. (vec_len stage.prepared ≤ vec_capacity stage.players) × (vec_len stage.prepared ≤ vec_capacity stage.played)) }
+    {
+        let count = scripts.len();
+        let players = Vec::with_capacity(alloc, count)?;
+        let played = Vec::with_capacity(alloc, count)?;
+        let prepared = prepare(alloc, scripts)?;
+        Ok(Stage {
+            prepared,
+            players,
+            played,
+        })
+    }
+}
+
+/// The scripts, each with room for what comes of its steps.
+fn prepare(alloc: Global, scripts: Vec<Script>) -> Result<Vec<Prepared>, AllocError>
+    ensures scripts { IfOk result (λ prepared. map (λ p. p.script) prepared.items ≡ scripts.items) }
+    ensures ready { IfOk result (λ prepared. All IsReady prepared.items) }
+{
+    let mut prepared = Vec::new(alloc);
+    'scripts: for script in scripts {
+        let played = Vec::with_capacity(alloc, script.as_slice().len())?;
+        push_prepared(&mut prepared, Prepared { script, played })?;
+    }
+    Ok(prepared)
+}
+
+/// Appends a script.
+fn push_prepared(all: &mut Vec<Prepared>, prepared: Prepared) -> Result<(), AllocError>
+    requires ready { IsReady prepared }
+    requires all { All IsReady all.old.items }
+    ensures pushed { OnOk result (all.new.items ≡ all.old.items ++ prepared ∷ []) }
+    ensures ready { OnOk result (All IsReady all.new.items) }
+{
+    Ok(all.push(prepared)?)
+}

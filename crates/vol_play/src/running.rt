@@ -1,0 +1,58 @@
+//! The players at work, each in a thread of its own.
+ghost use Rattle.std.specs.Prelude.{◌≡◌, ◌<◌, All, length};
+ghost use Rattle.vol_play.specs.Players.{InPairs, CanPlay, HasPlayed};
+
+use crate::preparing::Player;
+use crate::steps::play_script;
+use std::alloc::Global;
+use std::mem::replace;
+use std::sync::Wait;
+use std::thread;
+use std::thread::Threads;
+use vol_check::Gate;
+use vol_scripts::Script;
+use vol_shared::Shared;
+
+impl Player {
+    /// Plays the script, of which no step is left then.
+    fn play<R: Wait>(&mut self, rt: &R, alloc: Global, shared: &Shared)
+        requires { CanPlay shared.now.of self.old }
+        ensures { HasPlayed self.old self.new }
+    {
+        let script = replace(&mut self.script, Script::from_vec(Vec::new(alloc)));
+        play_script(
+            rt,
+            alloc,
+            shared,
+            &mut self.session,
+            script,
+            &mut self.played,
+        );
+    }
+}
+
+/// Has each player play its script in a thread of its own; where no thread can be made, this one plays it. The gate is
+/// called round each script.
+pub(crate) fn run_all<R: Threads + Wait + Sync, G: Gate>(
+    rt: &R,
+    alloc: Global,
+    gate: &G,
+    shared: &Shared,
+    players: &mut [Player],
+)
+    requires some { 0 < length players.old }
+    requires can { All (CanPlay shared.now.of) players.old }
+    ensures { InPairs HasPlayed players.old players.new }
+{
+    let count = players.len();
+    let run = |number: usize, player: &mut Player|
+        requires { CanPlay shared.now.of player.old }
+        ensures { HasPlayed player.old player.new }
+    {
+        let number = number as u64;
+        gate.before(number);
+        player.play(rt, alloc, shared);
+        gate.after(number);
+    };
+    thread::for_each_mut(rt, players, count, &run);
+}

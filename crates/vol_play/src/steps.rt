@@ -1,0 +1,54 @@
+//! The steps of one script, by one session.
+ghost use Rattle.std.specs.Prelude.{◌≡◌, ◌+◌, ◌≤◌, [], length, vec_len, vec_capacity};
+ghost use Rattle.vol_play.specs.Steps.{CameOf, CameOfAll, known_after, known_after_all};
+
+use std::alloc::Global;
+use std::sync::Wait;
+use vol_scripts::{Played, Script, Step};
+use vol_shared::{Session, Shared};
+
+/// Does the steps of a script, one after another, and puts what came of each on the list.
+pub(crate) fn play_script<R: Wait>(
+    rt: &R,
+    alloc: Global,
+    shared: &Shared,
+    session: &mut Session,
+    script: Script,
+    played: &mut Vec<Played>,
+)
+    requires own { session.old.of ≡ shared.now.of }
+    requires empty { played.old.items ≡ [] }
+    requires room { length script ≤ vec_capacity played.old }
+    ensures came { CameOfAll script session.old.next played.new.items }
+    ensures known { session.new ≡ known_after_all session.old played.new.items }
+{
+    'steps: for step in script.into_vec() {
+        let came = play_step(rt, alloc, shared, session, step);
+        played.push_reserved(came);
+    }
+}
+
+/// Does one step.
+fn play_step<R: Wait>(
+    rt: &R,
+    alloc: Global,
+    shared: &Shared,
+    session: &mut Session,
+    step: Step,
+) -> Played
+    requires own { session.old.of ≡ shared.now.of }
+    ensures came { CameOf step session.old.next result }
+    ensures known { session.new ≡ known_after session.old result }
+{
+    match step {
+        Step::Change(call) => match shared.call(rt, alloc, session, call) {
+            Ok(receipt) => Played::Told(receipt),
+            Err(_) => Played::NoMemory,
+        },
+        Step::Question(query) => match shared.ask(rt, alloc, session, query) {
+            Ok(receipt) => Played::Told(receipt),
+            Err(_) => Played::NoMemory,
+        },
+        Step::Cut => Played::Cut(shared.cut(rt, session)),
+    }
+}

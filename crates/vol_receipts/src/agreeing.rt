@@ -1,10 +1,10 @@
 //! Whether a receipt agrees with a journal, by its records and by a volume that has the first of them.
-ghost use Rattle.std.specs.Prelude.{◌≡◌, ◌≤◌, ◌↔◌, length, IsTrue, IfOk, Some, Ok, Err};
+ghost use Rattle.std.specs.Prelude.{◌≡◌, ◌≤◌, ◌↔◌, [], length, IsTrue, IfOk, OnErr, Some, Ok, Err};
 ghost use Rattle.std.specs.List.{slice_get};
 ghost use Rattle.vol_volume.specs.Answer.{answer};
 ghost use Rattle.vol_volume.specs.Verdict.{verdict};
 ghost use Rattle.vol_volume.specs.Volume.{reads_as};
-ghost use Rattle.vol_receipts.specs.Agrees.{origin_of, IsAnswer, AgreesAfter};
+ghost use Rattle.vol_receipts.specs.Agrees.{origin_of, IsAnswer, AgreesAfter, record_of};
 ghost use Rattle.vol_receipts.specs.Replay.{HasFirst, HasAtMost};
 
 use crate::receipts::{Asked, Outcome, Receipt};
@@ -26,6 +26,7 @@ pub(crate) fn agrees_after(
     requires within { count ≤ length volume.now.journal }
     ensures behind { HasAtMost volume.now again.new count }
     ensures agrees { IfOk result (λ agrees. IsTrue agrees ↔ AgreesAfter (origin_of volume.now) volume.now.journal count receipt.now.asked receipt.now.outcome) }
+    ensures memory { OnErr result (record_of receipt.now.asked receipt.now.outcome ≡ []) }
 {
     if let (Asked::Change(call), Outcome::Accepted(done)) = (&receipt.asked, &receipt.outcome) {
         return Ok(is_record(volume.journal(), count, call, *done));

@@ -1,6 +1,8 @@
 //! Calls and queries that leave receipts.
-ghost use Rattle.std.specs.Prelude.{◌≡◌, ◌+◌, ◌-◌, ◌<◌, ◌≤◌, ◌^◌, ◌++◌, ◌∷◌, [], length, IfOk, IfErr, IfSome, Some};
+ghost use Rattle.std.specs.Prelude.{◌≡◌, ◌+◌, ◌-◌, ◌<◌, ◌≤◌, ◌^◌, ◌++◌, ◌∷◌, ◌⊎◌, [], length, true, IfOk, IfErr, OnErr, IfSome, Some, None};
 ghost use Rattle.std.specs.List.{slice_get};
+ghost use Rattle.vol_volume.specs.Answer.{takes_memory};
+ghost use Rattle.vol_volume.specs.Verdict.{verdict};
 ghost use Rattle.vol_volume.specs.Volume.{reads_as};
 ghost use Rattle.vol_receipts.specs.Agrees.{origin_of, IsAnswer, Agrees, record_of};
 
@@ -12,8 +14,8 @@ use vol_volume::{Call, Done, Query, Volume};
 /// Makes a call, and tells what came of it; the receipt has the copy. An accepted call is the journal's next
 /// record, and a refused one changes nothing.
 ///
-/// Where the journal has no room for a record, the call comes back and nothing changes. Room ends with the
-/// memory, and with the numbers below 2^64. Costs what [`Volume::call`] does.
+/// Where nothing else speaks against the call and the journal has no room for a record, the call comes back and nothing
+/// changes. Room ends with the memory, and with the numbers below 2^64. Costs what [`Volume::call`] does.
 pub fn change(
     volume: &mut Volume,
     alloc: Global,
@@ -27,7 +29,10 @@ pub fn change(
     ensures numbered { IfOk result (λ receipt. receipt.at + 1 < 2 ^ 64) }
     ensures asked { IfOk result (λ receipt. receipt.asked ≡ Asked.Change call) }
     ensures agrees { IfOk result (λ receipt. Agrees (origin_of volume.new) volume.new.journal receipt) }
-    ensures unchanged { IfErr result (λ (error, same). volume.new.journal ≡ volume.old.journal) }
+    ensures refused { IfOk result (λ receipt. record_of receipt.asked receipt.outcome ≡ [] → volume.new ≡ volume.old) }
+    ensures unchanged { IfErr result (λ (error, same). volume.new ≡ volume.old) }
+    ensures memory { OnErr result ((verdict (reads_as volume.old.edition volume.old.image) call ≡ None)
+        ⊎ (2 ^ 64 ≤ volume.old.first + length volume.old.journal + 1)) }
     ensures handed_back { IfErr result (λ (error, same). same ≡ call) }
 {
     let Some(at) = next_number(volume) else {
@@ -51,6 +56,7 @@ pub fn reply(volume: &Volume, alloc: Global, query: Query) -> Result<Receipt, (A
     ensures numbered { IfOk result (λ receipt. receipt.at + 1 < 2 ^ 64) }
     ensures asked { IfOk result (λ receipt. receipt.asked ≡ Asked.Question query) }
     ensures agrees { IfOk result (λ receipt. Agrees (origin_of volume.now) volume.now.journal receipt) }
+    ensures memory { OnErr result ((takes_memory query ≡ true) ⊎ (2 ^ 64 ≤ volume.now.first + length volume.now.journal + 1)) }
     ensures handed_back { IfErr result (λ (error, same). same ≡ query) }
 {
     let Some(at) = next_number(volume) else {
@@ -66,7 +72,8 @@ pub fn reply(volume: &Volume, alloc: Global, query: Query) -> Result<Receipt, (A
 
 /// The number of the journal's next record, where the one after it has a number too.
 fn next_number(volume: &Volume) -> Option<u64>
-    ensures { IfSome result (λ at. (at ≡ volume.now.first + length volume.now.journal) × (at + 1 < 2 ^ 64)) }
+    ensures number { IfSome result (λ at. (at ≡ volume.now.first + length volume.now.journal) × (at + 1 < 2 ^ 64)) }
+    ensures none { result ≡ None → 2 ^ 64 ≤ volume.now.first + length volume.now.journal + 1 }
 {
     let at = volume.first().checked_add(volume.journal().len() as u64)?;
     if at == u64::MAX { None } else { Some(at) }

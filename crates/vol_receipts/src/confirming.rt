@@ -1,6 +1,6 @@
 //! Whether a receipt agrees with a volume's journal.
-ghost use Rattle.std.specs.Prelude.{◌≡◌, ◌<◌, ◌↔◌, IsTrue, IfOk, Err};
-ghost use Rattle.vol_receipts.specs.Agrees.{origin_of, Agrees};
+ghost use Rattle.std.specs.Prelude.{◌≡◌, ◌<◌, ◌↔◌, [], IsTrue, IfOk, Err};
+ghost use Rattle.vol_receipts.specs.Agrees.{origin_of, Agrees, record_of};
 
 use crate::finding::{Finding, find};
 use crate::receipts::Receipt;
@@ -28,6 +28,7 @@ pub enum ConfirmFault {
 pub fn confirm(volume: &Volume, alloc: Global, receipt: &Receipt) -> Result<bool, ConfirmFault>
     ensures agrees { IfOk result (λ agrees. IsTrue agrees ↔ Agrees (origin_of volume.now) volume.now.journal receipt.now) }
     ensures cut { result ≡ Err ConfirmFault.Cut ↔ receipt.now.at < volume.now.first }
+    ensures memory { result ≡ Err ConfirmFault.NoMemory → record_of receipt.now.asked receipt.now.outcome ≡ [] }
 {
     match find(volume, &mut None, alloc, receipt) {
         Ok(Finding::Agrees) => Ok(true),

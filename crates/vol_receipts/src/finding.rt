@@ -1,6 +1,6 @@
 //! Many receipts confirmed, in one pass over the journal.
-ghost use Rattle.std.specs.Prelude.{◌≤◌, ◌-◌, IfOk, OnErr};
-ghost use Rattle.vol_receipts.specs.Agrees.{origin_of};
+ghost use Rattle.std.specs.Prelude.{◌≡◌, ◌≤◌, ◌-◌, [], IfOk, OnErr};
+ghost use Rattle.vol_receipts.specs.Agrees.{origin_of, record_of};
 ghost use Rattle.vol_receipts.specs.Findings.{IsFound, AreFound, AreCounted, IsInOrder};
 ghost use Rattle.vol_receipts.specs.Replay.{HasAtMost};
 
@@ -115,6 +115,7 @@ pub(crate) fn find(
     ensures behind { HasAtMost volume.now again.new (receipt.now.at - volume.now.first) }
     ensures found { IfOk result (λ finding. IsFound (origin_of volume.now) volume.now.journal receipt.now finding) }
     ensures error { OnErr result (volume.now.first ≤ receipt.now.at) }
+    ensures memory { OnErr result (record_of receipt.now.asked receipt.now.outcome ≡ []) }
 {
     let Some(count) = receipt.at.checked_sub(volume.first()) else {
         return Ok(Finding::Gone);

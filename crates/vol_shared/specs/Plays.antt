@@ -89,11 +89,12 @@ abbrev pub Tries : Step (Option Stored) → Me (Option Stored) Knowledge → ℕ
 Tries st before found after =
     (found ≡ 0 → (stored : Stored) × Took before after stored (Some stored)) × (found ≢ 0 → after ≡ before)
 
--- a call or query was answered on a volume: the receipt agrees with its journal, which has the record of an accepted call more, and
--- is the same else (this project)
+-- a call or query was answered on a volume: the receipt agrees with its journal, which has the record of an accepted call more; where
+-- there is none, the journal and the image stay (this project)
 pub record IsAnswered (found given : Stored) (r : Receipt) : Type 0 where
   pub origin : given.origin ≡ found.origin
   pub journal : given.journal ≡ found.journal ++ record_of r.asked r.outcome
+  pub image : record_of r.asked r.outcome ≡ [] → given.image ≡ found.image
   pub at : r.at ≡ next_number found
   pub agrees : Agrees given.origin given.journal r
 

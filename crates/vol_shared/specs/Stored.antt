@@ -37,14 +37,18 @@ pub record Follows (opened : Stored) (gone : List Record) (last : Stored) : Type
 abbrev pub Continues : Stored → Stored → Type 0
 Continues opened last = (gone : List Record) × Follows opened gone last
 
--- a volume has the same journal, from the same start (this project)
+-- a volume has the same journal, from the same start, and the same image (this project)
 pub record IsUnchanged (old new : Stored) : Type 0 where
   pub origin : new.origin ≡ old.origin
   pub journal : new.journal ≡ old.journal
+  pub image : new.image ≡ old.image
 
--- a volume's journal is cut: all its records go, and it starts from what they made (this project)
+-- a volume's journal is cut: all its records go, and it starts from the bytes of its image, which are what they made; the image
+-- stays (this project)
 pub record IsCut (old new : Stored) : Type 0 where
   pub edition : new.origin.edition ≡ old.origin.edition
+  pub bytes : new.origin.bytes ≡ old.image
   pub first : new.origin.first ≡ next_number old
   pub starts : start new.origin ≡ after (start old.origin) old.journal
   pub journal : new.journal ≡ []
+  pub image : new.image ≡ old.image

@@ -1,6 +1,6 @@
 //! Tests of the checkers by their public functions: worked reports, by any number of workers; sweeps stepped by hand, on the
-//! image that they were made for and on another; gates, and workers that run at
-//! the same time.
+//! image that they were made for and on another; gates, and workers that run at the same time; and of the visit of a
+//! file's blocks.
 #![tactic(auto)]
 
 #[cfg(test)]
@@ -17,3 +17,5 @@ mod large;
 mod names;
 #[cfg(test)]
 mod sweeps;
+#[cfg(test)]
+mod visits;

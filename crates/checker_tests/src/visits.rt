@@ -1,0 +1,41 @@
+// The visit of a file's blocks.
+ghost use Rattle.std.specs.Prelude.{◌<◌, ◌^◌};
+
+use crate::fixtures::{Asked, Made, SIXTH, image_of};
+use vol_file::read_range;
+use vol_layout::Geometry;
+
+/// A file, i-number 32, of one block; in its size of four blocks the others are holes, but the third, which its i-node names.
+const WITH_HOLES: Made = Made {
+    calls: &[
+        Asked::Create(b"/f"),
+        Asked::Write(b"/f", b"x"),
+        Asked::Create(b"/g"),
+        Asked::Write(b"/g", b"z"),
+    ],
+    // The size, and address 2.
+    pieces: &[(2021, &[0, 0, 8]), (2028, &[6, 0])],
+    ..SIXTH
+};
+
+#[test]
+fn the_blocks_of_a_file_are_visited_in_their_order(rt: HostRuntime) {
+    let image = image_of(&rt, rt.alloc(), &WITH_HOLES);
+    let Ok(geometry) = Geometry::read(WITH_HOLES.edition, &image) else {
+        panic!(rt; "an image without geometry");
+    };
+    assert!(rt; geometry.last_inode >= 32);
+    // The first bytes of the blocks met, each behind those before, and how many bytes all blocks have.
+    let mut firsts = 0_u32;
+    let mut bytes = 0_usize;
+    let visit = |block: &[u8]|
+        ensures { firsts.exit < 2 ^ 32 }
+    {
+        let first = block.first().copied().unwrap_or(b'?');
+        firsts = firsts.wrapping_mul(256).wrapping_add(u32::from(first));
+        bytes = bytes.wrapping_add(block.len());
+    };
+    read_range(&image, &geometry, 32, 0, 4, visit);
+    // `x`, a hole, `z`, a hole.
+    assert_eq!(rt; (firsts, bytes), (0x7800_7A00, 2048));
+}

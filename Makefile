@@ -29,7 +29,8 @@ test:
 
 bench: build
 	cd crates/many_calls && $(RT) run -- 0 0 create
-	bench/run.sh ./unixvol crates/many_calls/out/many_calls
+	cd crates/many_checks && $(RT) run -- 6 icheck 1 1 < stdin
+	bench/run.sh ./unixvol crates/many_calls/out/many_calls crates/many_checks/out/many_checks
 
 install: build
 	install -d $(DESTDIR)$(PREFIX)/bin

@@ -1,14 +1,17 @@
 #!/usr/bin/env bash
 # Times the program against bench/plain, which does the same jobs in plain Rust, and compares what both write, byte by byte.
-# Usage: bench/run.sh PROGRAM CALLS, the second being the built crates/many_calls. It needs rustc, some 900 MB of disk, and a machine that does nothing else.
+# Usage: bench/run.sh PROGRAM CALLS CHECKS, the second being the built crates/many_calls, the third crates/many_checks.
+# It needs rustc, some 900 MB of disk, and a machine that does nothing else.
 # Times are the best of five runs of the whole command, by turns; memory is the greatest that was resident in a run.
 # For jobs that mount a volume, the last column is that memory by two copies of the image and one of the file that is put.
 # A row ends with what it is above, where it is above what is wanted.
 # FOLDER names another place for the files than bench/out: one in memory shows the programs without the disk.
 set -uo pipefail
 export LC_ALL=C
-program=$(realpath "${1:?usage: bench/run.sh PROGRAM CALLS}")
-calls=$(realpath "${2:?usage: bench/run.sh PROGRAM CALLS}")
+usage='usage: bench/run.sh PROGRAM CALLS CHECKS'
+program=$(realpath "${1:?$usage}")
+calls=$(realpath "${2:?$usage}")
+checks=$(realpath "${3:?$usage}")
 bench=$(dirname "$(realpath "$0")")
 if ! command -v rustc > /dev/null; then
     echo 'bench: rustc is not there, which builds the plain program' >&2
@@ -18,7 +21,7 @@ mkdir -p "$bench/out" "${FOLDER:=$bench/out}"
 plain=$bench/out/plain
 rustc -O --edition 2021 "$bench/plain/main.rs" -o "$plain" || exit 1
 cd "$FOLDER" || exit 1
-trap 'rm -f ours theirs output made.img work.img full.img six.img seven.img sparse.img plain.img wide.img big' EXIT
+trap 'rm -f ours theirs output made.img work.img full.img six.img seven.img sparse.img plain.img wide.img big script.*' EXIT
 
 # reset: puts the files back that a command changes; `base` names the image of which it is given a copy, if it is
 base=
@@ -85,24 +88,17 @@ compare() {
         printf "\n" }'
 }
 
-# against LABEL TIMES IMAGE ORDINARY EDITION PATH: the program lists a directory of two images of as many bytes; a row of the table,
-# which has the second's time in place of plain Rust's. The first is to take at most so many TIMES that of the second.
-against() {
-    local label=$1 times=$2 image=$3 ordinary=$4 edition=$5 path=$6 first=999999999 second=999999999
-    for _ in 1 2 3 4 5; do
-        microseconds output "$program" ls "$edition" "$image" "$path"
-        [ "$taken" -lt "$first" ] && first=$taken
-        microseconds output "$program" ls "$edition" "$ordinary" "$path"
-        [ "$taken" -lt "$second" ] && second=$taken
-    done
-    awk -v label="$label" -v times="$times" -v first="$first" -v second="$second" 'BEGIN {
+# row LABEL TIMES FIRST SECOND: a row of the table, for two times in microseconds, of which the second has the place of plain
+# Rust's. The first is to be at most so many TIMES the second.
+row() {
+    awk -v label="$1" -v times="$2" -v first="$3" -v second="$4" 'BEGIN {
         printf "%-34s %9.1f %9.1f %6.2f", label, first / 1000, second / 1000, first / second
         if (first > times * second) printf "  time above %s", times
         printf "\n" }'
 }
 
-# side_by_side LABEL TIMES WORD.. -- WORD..: the program's own jobs: one is to take at most so many TIMES the time of the
-# other; a row of the table, which has the second's time in place of plain Rust's. A job that changes `work.img` gets it anew.
+# side_by_side LABEL TIMES WORD.. -- WORD..: two of the program's own jobs; a row of the table. A job that changes `work.img`
+# gets it anew.
 side_by_side() {
     local label=$1 times=$2 first=999999999 second=999999999 one=()
     shift 2
@@ -119,10 +115,7 @@ side_by_side() {
         microseconds output "$program" "$@"
         [ "$taken" -lt "$second" ] && second=$taken
     done
-    awk -v label="$label" -v times="$times" -v first="$first" -v second="$second" 'BEGIN {
-        printf "%-34s %9.1f %9.1f %6.2f", label, first / 1000, second / 1000, first / second
-        if (first > times * second) printf "  time above %s", times
-        printf "\n" }'
+    row "$label" "$times" "$first" "$second"
 }
 
 # quickest WORD..: runs a command five times, and leaves the microseconds of the quickest run in `best`
@@ -134,12 +127,13 @@ quickest() {
     done
 }
 
-# difference LABEL TIMES OURS_WITHOUT OURS THEIRS_WITHOUT THEIRS: a row of the table, for what takes the time between two runs
-difference() {
-    awk -v label="$1" -v times="$2" -v ours="$(($4 - $3))" -v theirs="$(($6 - $5))" 'BEGIN {
-        printf "%-34s %9.1f %9.1f %6.2f", label, ours / 1000, theirs / 1000, ours / theirs
-        if (ours > times * theirs) printf "  time above %s", times
-        printf "\n" }'
+# checking CHECKER WORKERS IMAGE: the microseconds of ten checks of an image in memory, by so many workers, in `best`
+checking() {
+    local once
+    quickest "$checks" 7 "$1" "$2" 1 < "$3"
+    once=$best
+    quickest "$checks" 7 "$1" "$2" 11 < "$3"
+    best=$((best - once))
 }
 
 # many DIRECTORIES NAMES: so many directories are made with so many files each, and then a byte is written into each file;
@@ -164,8 +158,8 @@ many() {
     written=$best
     quickest "$plain" calls "$directories" "$names" write
     theirs_written=$best
-    difference "10,000 Creates, $names names each" 1.3 "$none" "$created" "$theirs_none" "$theirs_created"
-    difference "10,000 Writes, $names names each" 1.3 "$created" "$written" "$theirs_created" "$theirs_written"
+    row "10,000 Creates, $names names each" 1.3 $((created - none)) $((theirs_created - theirs_none))
+    row "10,000 Writes, $names names each" 1.3 $((written - created)) $((theirs_written - theirs_created))
 }
 
 echo "load before: $(cut -d ' ' -f 1-3 /proc/loadavg)"
@@ -189,7 +183,7 @@ sparse() {
     local label=$1 edition=$2 blocks=$3 list_blocks=$4 directories=$5 files=$6
     "$plain" sparse "$edition" sparse.img "$blocks" "$list_blocks" "$directories" || exit 1
     "$plain" fill "$edition" plain.img "$blocks" "$list_blocks" "$files" || exit 1
-    against "$label" 5 sparse.img plain.img "$edition" /
+    side_by_side "$label" 5 ls "$edition" sparse.img / -- ls "$edition" plain.img /
 }
 sparse 'ls /, 1 GB of holes in 62 KB' 7 124 10 20 0
 sparse 'ls /, 340 GB of holes in 722 KB' 7 1444 50 340 100
@@ -209,16 +203,47 @@ mv theirs full.img
 compare 'rm 100,000,000 bytes' 1.5 $((2 * image)) work.img rm 7 work.img /big 173750600
 mv theirs full.img
 
-# The blocks checked by one worker, and a free list made anew, on the volume with 10,000 files.
+# The checkers by one worker, and a free list made anew, on the volume with 10,000 files.
 base=
 compare 'icheck, 10,000 files' 1.5 0 output icheck 7 full.img 1
+compare 'dcheck, 10,000 files' 1.5 0 output dcheck 7 full.img 1
+compare 'ncheck, 10,000 files' 1.5 0 output ncheck 7 full.img 1
 base=full.img
 compare 'salvage, 10,000 files' 1.5 0 work.img salvage 7 work.img
 base=
 rm -f full.img ours theirs
 
-# Four workers against one, on a volume whose files name 300,000 blocks.
+# Paths through 10,000 directories one below the other, and a directory of 60,000 names.
+"$plain" deep 7 wide.img 20000 2000 10000 || exit 1
+compare 'ncheck, 10,000 directories deep' 1.5 0 output ncheck 7 wide.img 1
+"$plain" names 7 wide.img 20000 200 60000 || exit 1
+compare 'dcheck, 60,000 names' 1.5 0 output dcheck 7 wide.img 1
+compare 'ncheck, 60,000 names' 1.5 0 output ncheck 7 wide.img 1
+
+# Four workers against one, on a volume whose files name 300,000 blocks: the whole command, and ten checks in memory.
 "$plain" fill 7 wide.img 380000 4500 28000 || exit 1
-side_by_side 'icheck, 300,000 blocks, 4 workers' 0.45 icheck 7 wide.img 4 -- icheck 7 wide.img 1
-rm -f wide.img
+side_by_side 'icheck, 300,000 blocks, 4 workers' 1 icheck 7 wide.img 4 -- icheck 7 wide.img 1
+checking icheck 1 wide.img
+one=$best
+checking icheck 4 wide.img
+row 'the same 10 times, without loading' 0.45 "$best" "$one"
+
+# A full volume of the sixth edition becomes one of the seventh.
+"$plain" fill 6 six.img 65535 700 5900 || exit 1
+compare 'migrate, 65,535 blocks' 1.5 0 made.img migrate six.img made.img 70000 1500 173750700
+rm -f six.img ours theirs
+
+# Scripts of calls: one of 100,000, as many in 4 and in 64 scripts, and one with a refusal and an answer for each two calls.
+"$plain" mkfs 7 wide.img 60000 6000 0 0 173750400 || exit 1
+base=wide.img
+"$plain" script all 100000 whole > script.all
+compare 'play, 100,000 calls' 1.5 0 work.img play 7 work.img script.all
+compare 'play, 100,000 calls, its lines' 1.5 0 output play 7 work.img script.all
+for number in $(seq 4); do "$plain" script "four$number" 25000 whole > "script.four$number"; done
+for number in $(seq 64); do "$plain" script "many$number" 1562 whole > "script.many$number"; done
+side_by_side 'play, 4 scripts against one' 1.5 play 7 work.img script.four* -- play 7 work.img script.all
+side_by_side 'play, 64 scripts against one' 1.5 play 7 work.img script.many* -- play 7 work.img script.all
+"$plain" script half 100000 half > script.half
+compare 'play, half of it answers' 3 0 output play 7 work.img script.half
+base=
 echo "load after: $(cut -d ' ' -f 1-3 /proc/loadavg)"

@@ -12,7 +12,7 @@ use Rattle.vol_shared.specs.Lists.{BeginsWith, greatest, greatest_of}
 use Rattle.vol_shared.specs.Sessions.{Identity, Known, new_session}
 use Rattle.vol_shared.specs.Stored.{Stored, next_number}
 use Rattle.vol_volume.specs.Volume.{Mounted}
-use Rattle.vol_play.specs.Steps.{CameOfAll, known_after_all, places_in, cuts_in}
+use Rattle.vol_play.specs.Steps.{CameOfAll, known_after_all, places_made, cuts_made}
 use Rattle.vol_play.proofs.StepLaws.{known_places, known_cuts, known_receipts, known_all_of}
 use Rattle.vol_play.specs.Players.{InPairs, HasPlayed, dealt}
 use Rattle.vol_play.specs.declared.preparing.Player.{Player}
@@ -51,31 +51,31 @@ module _ (of : Identity) (next : ℕ) where
 
   pub ended_places : (opened last : Stored) (sessions : List Known) (played : List (Vec Played Global)) → sessions ≡ map ended played
       → ((weight : ℕ → ℕ) → total (λ s. total weight s.places) sessions + below weight (next_number opened) ≡ below weight (next_number last))
-      → (weight : ℕ → ℕ) → total (λ came. total weight (places_in came.items)) played + below weight (next_number opened) ≡ below weight (next_number last)
+      → (weight : ℕ → ℕ) → total (λ came. total weight (places_made came.items)) played + below weight (next_number opened) ≡ below weight (next_number last)
   ended_places opened last sessions played is each weight =
       let h = each weight in
-      let e : total (λ s. total weight s.places) sessions ≡ total (λ came. total weight (places_in came.items)) played =
+      let e : total (λ s. total weight s.places) sessions ≡ total (λ came. total weight (places_made came.items)) played =
       ap (total (λ s. total weight s.places)) is
-      ∙ total_made ended (λ s. total weight s.places) (λ came. total weight (places_in came.items)) (λ came. ap (total weight) (known_places (new_session of next) came.items)) played
+      ∙ total_made ended (λ s. total weight s.places) (λ came. total weight (places_made came.items)) (λ came. ap (total weight) (known_places (new_session of next) came.items)) played
       in
       omega arith
 
   pub ended_first : (first : ℕ) (last : Mounted) (sessions : List Known) (played : List (Vec Played Global)) → sessions ≡ map ended played
       → last.first ≡ max first (greatest (λ s. greatest_of s.cuts) sessions)
-      → last.first ≡ max first (greatest (λ came. greatest_of (cuts_in came.items)) played)
+      → last.first ≡ max first (greatest (λ came. greatest_of (cuts_made came.items)) played)
   ended_first first last sessions played is known =
       known ∙ ap (λ n. max first n)
       (ap (greatest (λ s. greatest_of s.cuts)) is
-      ∙ greatest_made ended (λ s. greatest_of s.cuts) (λ came. greatest_of (cuts_in came.items)) (λ came. ap greatest_of (known_cuts (new_session of next) came.items)) played)
+      ∙ greatest_made ended (λ s. greatest_of s.cuts) (λ came. greatest_of (cuts_made came.items)) (λ came. ap greatest_of (known_cuts (new_session of next) came.items)) played)
 
   pub ended_uncut : (opened : Stored) (last : Mounted) (sessions : List Known) (played : List (Vec Played Global)) → sessions ≡ map ended played
       → (All (λ s. s.cuts ≡ []) sessions → (origin_of last ≡ opened.origin) × BeginsWith last.journal opened.journal)
-      → All (λ came. cuts_in came.items ≡ []) played → (origin_of last ≡ opened.origin) × BeginsWith last.journal opened.journal
+      → All (λ came. cuts_made came.items ≡ []) played → (origin_of last ≡ opened.origin) × BeginsWith last.journal opened.journal
   ended_uncut opened last sessions played is known none =
       known
       (All-same (λ (s : Known). s.cuts ≡ []) sessions (map ended played) is
       (All-map (λ (s : Known). s.cuts ≡ []) ended played
-      (All-weaker (λ (came : Vec Played Global). cuts_in came.items ≡ []) (λ (came : Vec Played Global). (ended came).cuts ≡ [])
+      (All-weaker (λ (came : Vec Played Global). cuts_made came.items ≡ []) (λ (came : Vec Played Global). (ended came).cuts ≡ [])
       (λ came no. known_cuts (new_session of next) came.items ∙ no) played none)))
 
   pub ended_agree : (last : Mounted) (sessions : List Known) (played : List (Vec Played Global)) → sessions ≡ map ended played

@@ -6,7 +6,7 @@ use Rattle.std.specs.Global.{Global}
 use Rattle.std.proofs.lemmas.List.Elements.{All-cons, All-head, All-nil, All-tail}
 use Rattle.vol_shared.specs.Sessions.{Identity, Known}
 use Rattle.vol_scripts.specs.declared.played.Played.{Played}
-use Rattle.vol_play.specs.Players.{InPairs, IsReady, CanPlay, HasPlayed, dealt}
+use Rattle.vol_play.specs.Players.{InPairs, IsPrepared, CanPlay, HasPlayed, dealt}
 use Rattle.vol_play.specs.Steps.{CameOfAll, known_after_all}
 use Rattle.vol_scripts.specs.declared.steps.Step.{Step}
 use Rattle.vol_play.specs.declared.preparing.Prepared.{Prepared}
@@ -14,12 +14,12 @@ use Rattle.vol_play.specs.declared.preparing.Player.{Player}
 
 module _ (fresh : Known) where
   -- scripts that are ready can be played by sessions of a volume
-  pub dealt_can : (of : Identity) → fresh.of ≡ of → (prepared : List Prepared) → All IsReady prepared → All (CanPlay of) (map (dealt fresh) prepared)
+  pub dealt_can : (of : Identity) → fresh.of ≡ of → (prepared : List Prepared) → All IsPrepared prepared → All (CanPlay of) (map (dealt fresh) prepared)
   dealt_can of own [] all = All-nil (CanPlay of)
   dealt_can of own (p ∷ ps) all =
-      let ready = All-head IsReady p ps all in
+      let ready = All-head IsPrepared p ps all in
       All-cons (CanPlay of) (dealt fresh p) (map (dealt fresh) ps) (record { own = own; empty = ready.empty; room = ready.room })
-      (dealt_can of own ps (All-tail IsReady p ps all))
+      (dealt_can of own ps (All-tail IsPrepared p ps all))
 
   -- something came of each step of each script
   pub came_of_players : (prepared : List Prepared) (players : List Player) → InPairs HasPlayed (map (dealt fresh) prepared) players

@@ -6,7 +6,7 @@ use Rattle.vol_scripts.specs.declared.played.Played.{Played}
 use Rattle.vol_scripts.specs.declared.played.Played.TheVariants as played
 use Rattle.vol_scripts.specs.declared.steps.Step.{Step}
 use Rattle.vol_shared.specs.Sessions.{Known, Got, HasCut}
-use Rattle.vol_play.specs.Steps.{CameOf, CameOfAll, next_after, known_after, known_after_all, places_in, cuts_in}
+use Rattle.vol_play.specs.Steps.{CameOf, CameOfAll, next_after, known_after, known_after_all, places_made, cuts_made}
 
 -- a session that got a receipt
 pub got_known : (old new : Known) (receipt : Receipt) → new.of ≡ old.of → Got old new receipt → new ≡ known_after old (played.Told receipt)
@@ -49,17 +49,17 @@ came_more whole rest step start next later front now came later_is now_is one gi
     (given (came ∷ others) (one, subst (λ (n : ℕ). CameOfAll rest n others) later_is all))
 
 -- a session's places are those of its steps
-pub known_places : (known : Known) (all : List Played) → (known_after_all known all).places ≡ known.places ++ places_in all
+pub known_places : (known : Known) (all : List Played) → (known_after_all known all).places ≡ known.places ++ places_made all
 known_places known [] = sym (append-nil known.places)
-known_places known (played.Told receipt ∷ others) = known_places (known_after known (played.Told receipt)) others ∙ append_assoc known.places _ (places_in others)
+known_places known (played.Told receipt ∷ others) = known_places (known_after known (played.Told receipt)) others ∙ append_assoc known.places _ (places_made others)
 known_places known (played.Cut first ∷ others) = known_places (known_after known (played.Cut first)) others
 known_places known (played.NoMemory ∷ others) = known_places known others
 
 -- so are the numbers that its cuts answered
-pub known_cuts : (known : Known) (all : List Played) → (known_after_all known all).cuts ≡ known.cuts ++ cuts_in all
+pub known_cuts : (known : Known) (all : List Played) → (known_after_all known all).cuts ≡ known.cuts ++ cuts_made all
 known_cuts known [] = sym (append-nil known.cuts)
 known_cuts known (played.Told receipt ∷ others) = known_cuts (known_after known (played.Told receipt)) others
-known_cuts known (played.Cut first ∷ others) = known_cuts (known_after known (played.Cut first)) others ∙ append_assoc known.cuts (first ∷ []) (cuts_in others)
+known_cuts known (played.Cut first ∷ others) = known_cuts (known_after known (played.Cut first)) others ∙ append_assoc known.cuts (first ∷ []) (cuts_made others)
 known_cuts known (played.NoMemory ∷ others) = known_cuts known others
 
 -- and its receipts

@@ -13,7 +13,7 @@ InPairs related (x ∷ xs) [] = ⊥
 InPairs related (x ∷ xs) (y ∷ ys) = related x y × InPairs related xs ys
 
 -- nothing came of a script yet, and there is room for what comes of each step (this project)
-pub record IsReady (prepared : Prepared) : Type 0 where
+pub record IsPrepared (prepared : Prepared) : Type 0 where
   pub empty : prepared.played.items ≡ []
   pub room : length prepared.script ≤ vec_capacity prepared.played
 

@@ -15,7 +15,7 @@ use Rattle.vol_scripts.specs.Ending.{Finishes, PrintsPlay, receipts_in}
 use Rattle.vol_scripts.specs.Reading.{ReadsScripts, scripts_from}
 use Rattle.vol_scripts.specs.Refusing.{AnswersFault, SavesNothing}
 use Rattle.vol_play.specs.Players.{InPairs}
-use Rattle.vol_play.specs.Steps.{CameOfAll, places_in, cuts_in}
+use Rattle.vol_play.specs.Steps.{CameOfAll, places_made, cuts_made}
 use Rattle.vol_layout.specs.declared.edition.Edition.{Edition}
 use Rattle.vol_commands.specs.declared.answer.Answer.{Answer}
 use Rattle.vol_commands.specs.declared.faults.Fault.{Fault}
@@ -31,12 +31,12 @@ is_cut (steps.Question query) = false
 is_cut steps.Cut = true
 
 -- a script cuts the journal (this project)
-abbrev pub has_cut : List Step → Bool
-has_cut script = list_any is_cut script
+abbrev pub script_cuts : List Step → Bool
+script_cuts script = list_any is_cut script
 
 -- one of some scripts cuts the journal (this project)
 abbrev pub any_cut : List (List Step) → Bool
-any_cut scripts = list_any has_cut scripts
+any_cut scripts = list_any script_cuts scripts
 
 -- scripts were played on a volume: something came of each step of each script, in order; the volume goes on from what it was, and
 -- where no script cut the journal, that goes on from the one that there was; the journal's first number is the greatest that a cut
@@ -45,9 +45,9 @@ any_cut scripts = list_any has_cut scripts
 pub record ArePlayed (opened : Stored) (scripts : List (List Step)) (last : Mounted) (played : List (Vec Played Global)) : Type 0 where
   pub came : InPairs (λ script came. CameOfAll script (next_number opened) came.items) scripts played
   pub goes_on : Continues opened (stored_of last)
-  pub uncut : All (λ came. cuts_in came.items ≡ []) played → (origin_of last ≡ opened.origin) × BeginsWith last.journal opened.journal
-  pub first : last.first ≡ max opened.origin.first (greatest (λ came. greatest_of (cuts_in came.items)) played)
-  pub places : (weight : ℕ → ℕ) → total (λ came. total weight (places_in came.items)) played + below weight (next_number opened)
+  pub uncut : All (λ came. cuts_made came.items ≡ []) played → (origin_of last ≡ opened.origin) × BeginsWith last.journal opened.journal
+  pub first : last.first ≡ max opened.origin.first (greatest (λ came. greatest_of (cuts_made came.items)) played)
+  pub places : (weight : ℕ → ℕ) → total (λ came. total weight (places_made came.items)) played + below weight (next_number opened)
       ≡ below weight (next_number (stored_of last))
   pub agree : All (λ came. All (λ receipt. last.first ≤ receipt.at → Agrees (origin_of last) last.journal receipt) (receipts_in came.items)) played
 
@@ -80,6 +80,6 @@ PlaysAll edition image scripts streams answer = (last : Mounted) × (played : Li
     × Finishes last (any_cut scripts) played (PrintsPlay last (any_cut scripts) played streams.old streams.new streams.had_failed streams.failed) streams.said answer
 
 -- what `play` comes to: a line of a script can't be read; or all can, and no step is played; or all scripts are played (this project)
-abbrev pub Plays : Edition → List ℕ → List (Vec ℕ Global) → Streams → Answer → Type 0
-Plays edition image scripts streams answer = StopsUnread scripts streams answer
+abbrev pub PlaysVolume : Edition → List ℕ → List (Vec ℕ Global) → Streams → Answer → Type 0
+PlaysVolume edition image scripts streams answer = StopsUnread scripts streams answer
     ⊎ ((read : List (List Step)) × (scripts_from 1 scripts ≡ Ok read) × (StopsUnplayed edition image streams answer ⊎ PlaysAll edition image read streams answer))

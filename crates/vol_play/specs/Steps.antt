@@ -34,18 +34,18 @@ CameOfAll (step ∷ steps) next [] = ⊥
 CameOfAll (step ∷ steps) next (came ∷ others) = CameOf step next came × CameOfAll steps (next_after next came) others
 
 -- the numbers of the records that the calls of a script made, in order (this project)
-abbrev pub places_in : List Played → List ℕ
-places_in [] = []
-places_in (played.Told receipt ∷ others) = place_of receipt.at receipt.outcome ++ places_in others
-places_in (played.Cut first ∷ others) = places_in others
-places_in (played.NoMemory ∷ others) = places_in others
+abbrev pub places_made : List Played → List ℕ
+places_made [] = []
+places_made (played.Told receipt ∷ others) = place_of receipt.at receipt.outcome ++ places_made others
+places_made (played.Cut first ∷ others) = places_made others
+places_made (played.NoMemory ∷ others) = places_made others
 
 -- the numbers that the cuts of a script answered, in order (this project)
-abbrev pub cuts_in : List Played → List ℕ
-cuts_in [] = []
-cuts_in (played.Told receipt ∷ others) = cuts_in others
-cuts_in (played.Cut first ∷ others) = first ∷ cuts_in others
-cuts_in (played.NoMemory ∷ others) = cuts_in others
+abbrev pub cuts_made : List Played → List ℕ
+cuts_made [] = []
+cuts_made (played.Told receipt ∷ others) = cuts_made others
+cuts_made (played.Cut first ∷ others) = first ∷ cuts_made others
+cuts_made (played.NoMemory ∷ others) = cuts_made others
 
 -- a session after a step (this project)
 abbrev pub known_after : Known → Played → Known

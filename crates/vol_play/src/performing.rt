@@ -3,7 +3,7 @@ ghost use Rattle.std.specs.Prelude.{◌≡◌, ◌≤◌, [], map, All, IfOk, le
 ghost use Rattle.vol_shared.specs.Sessions.{new_session};
 ghost use Rattle.vol_shared.specs.Stored.{stored_of, next_number};
 ghost use Rattle.vol_play.specs.Playing.{ArePlayed};
-ghost use Rattle.vol_play.specs.Players.{IsReady};
+ghost use Rattle.vol_play.specs.Players.{IsPrepared};
 
 use crate::dealing::deal;
 use crate::gathering::gather;
@@ -33,13 +33,13 @@ pub(crate) fn play_on<R: Threads + Wait + Sync, G: Gate>(
     let count = scripts.len();
     let stage = Stage::new(alloc, scripts)?;
     match Shared::open(alloc, volume, count) {
-        Ok((shared, sessions)) => Ok(perform(rt, alloc, shared, sessions, stage, gate)),
+        Ok((shared, sessions)) => Ok(play_opened(rt, alloc, shared, sessions, stage, gate)),
         Err((error, _)) => Err(error),
     }
 }
 
 /// Plays all scripts of a stage on a volume that was just opened, and ends it.
-fn perform<R: Threads + Wait + Sync, G: Gate>(
+fn play_opened<R: Threads + Wait + Sync, G: Gate>(
     rt: &R,
     alloc: Global,
     shared: Shared,
@@ -51,7 +51,7 @@ fn perform<R: Threads + Wait + Sync, G: Gate>(
     requires sessions { shared.sessions ≡ vec_len stage.prepared }
     requires count { vec_len sessions ≡ vec_len stage.prepared }
     requires fresh { All (λ s. s ≡ new_session shared.of (next_number shared.stored)) sessions.items }
-    requires ready { All IsReady stage.prepared.items }
+    requires ready { All IsPrepared stage.prepared.items }
     requires empty { (stage.players.items ≡ []) × (stage.played.items ≡ []) }
     requires room { (vec_len stage.prepared ≤ vec_capacity stage.players) × (vec_len stage.prepared ≤ vec_capacity stage.played) }
     ensures { ArePlayed shared.stored (map (λ p. p.script) stage.prepared.items) result.0 result.1.items }

@@ -1,7 +1,7 @@
 //! The command `play`: from the bytes of an image and of scripts to what is printed, the status and the bytes to be saved.
 ghost use Rattle.std.specs.Prelude.{◌≡◌, ◌≤◌, IfOk, IfErr, length};
 ghost use Rattle.vol_commands.specs.Faults.{Gets};
-ghost use Rattle.vol_play.specs.Playing.{Plays, IsPlayed, IsUnplayed, any_cut, has_cut, is_cut};
+ghost use Rattle.vol_play.specs.Playing.{PlaysVolume, IsPlayed, IsUnplayed, any_cut, script_cuts, is_cut};
 
 use crate::performing::play_on;
 use pdp_words::Sink;
@@ -37,7 +37,7 @@ pub fn play<R: Threads + Wait + Sync, G: Gate, O: Sink, E: Sink>(
 ) -> Answer
     requires first { 1 ≤ length scripts.now }
     requires last { length scripts.now ≤ 64 }
-    ensures { Plays edition image.items scripts.now (record {
+    ensures { PlaysVolume edition image.items scripts.now (record {
       old = O.contents output.old;
       new = O.contents output.new;
       had_failed = O.failed output.old;
@@ -83,12 +83,12 @@ fn play_image<R: Threads + Wait + Sync, G: Gate>(
 fn any_cut(scripts: &[Script]) -> bool
     ensures { result ≡ any_cut scripts.now }
 {
-    scripts.iter().any(|script| has_cut(script.as_slice()))
+    scripts.iter().any(|script| script_cuts(script.as_slice()))
 }
 
 /// Whether a script cuts the journal.
-fn has_cut(script: &[Step]) -> bool
-    ensures { result ≡ has_cut script.now }
+fn script_cuts(script: &[Step]) -> bool
+    ensures { result ≡ script_cuts script.now }
 {
     script.iter().any(|step| is_cut(step))
 }

@@ -1,6 +1,6 @@
 //! What a play takes of memory before its volume is shared, so that nothing can fail while it is, but calls and queries.
 ghost use Rattle.std.specs.Prelude.{◌≡◌, ◌∷◌, ◌++◌, [], map, All, IfOk, OnOk, length, vec_len, vec_capacity, ◌≤◌};
-ghost use Rattle.vol_play.specs.Players.{IsReady};
+ghost use Rattle.vol_play.specs.Players.{IsPrepared};
 
 use std::alloc::{AllocError, Global};
 use vol_scripts::{Played, Script};
@@ -33,7 +33,7 @@ impl Stage {
     /// A stage for these scripts.
     pub(crate) fn new(alloc: Global, scripts: Vec<Script>) -> Result<Stage, AllocError>
         ensures scripts { IfOk result (λ stage. map (λ p. p.script) stage.prepared.items ≡ scripts.items) }
-        ensures ready { IfOk result (λ stage. All IsReady stage.prepared.items) }
+        ensures ready { IfOk result (λ stage. All IsPrepared stage.prepared.items) }
         ensures empty { IfOk result (λ stage. (stage.players.items ≡ []) × (stage.played.items ≡ [])) }
         ensures room { IfOk result (λ stage. (vec_len stage.prepared ≤ vec_capacity stage.players) × (vec_len stage.prepared ≤ vec_capacity stage.played)) }
     {
@@ -52,7 +52,7 @@ impl Stage {
 /// The scripts, each with room for what comes of its steps.
 fn prepare(alloc: Global, scripts: Vec<Script>) -> Result<Vec<Prepared>, AllocError>
     ensures scripts { IfOk result (λ prepared. map (λ p. p.script) prepared.items ≡ scripts.items) }
-    ensures ready { IfOk result (λ prepared. All IsReady prepared.items) }
+    ensures ready { IfOk result (λ prepared. All IsPrepared prepared.items) }
 {
     let mut prepared = Vec::new(alloc);
     'scripts: for script in scripts {
@@ -64,10 +64,10 @@ fn prepare(alloc: Global, scripts: Vec<Script>) -> Result<Vec<Prepared>, AllocEr
 
 /// Appends a script.
 fn push_prepared(all: &mut Vec<Prepared>, prepared: Prepared) -> Result<(), AllocError>
-    requires ready { IsReady prepared }
-    requires all { All IsReady all.old.items }
+    requires ready { IsPrepared prepared }
+    requires all { All IsPrepared all.old.items }
     ensures pushed { OnOk result (all.new.items ≡ all.old.items ++ prepared ∷ []) }
-    ensures ready { OnOk result (All IsReady all.new.items) }
+    ensures ready { OnOk result (All IsPrepared all.new.items) }
 {
     Ok(all.push(prepared)?)
 }

@@ -11,7 +11,7 @@ use Rattle.vol_play.proofs.EndLaws.{own_sessions, sessions_ended, steps_came, en
 use Rattle.vol_play.proofs.ListLaws.{written_over}
 use Rattle.vol_play.proofs.PlayerLaws.{as_many, dealt_can, dealt_many}
 use Rattle.vol_play.specs.declared.preparing.Prepared.{Prepared}
-use Rattle.vol_play.proofs.performing.perform.Goals as goal
+use Rattle.vol_play.proofs.performing.play_opened.Goals as goal
 
 pub deal-requires-clause-alike : goal.deal-requires-clause-alike
 deal-requires-clause-alike g c = (new_session c.args.shared.of (next_number c.args.shared.stored), c.requires.fresh)

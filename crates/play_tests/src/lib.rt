@@ -6,4 +6,6 @@ mod endings;
 #[cfg(test)]
 mod fixtures;
 #[cfg(test)]
+mod playing;
+#[cfg(test)]
 mod reading;

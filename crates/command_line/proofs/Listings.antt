@@ -7,9 +7,9 @@ use Rattle.clap.proofs.OnLiterals.{clap_on_literals}
 use Rattle.clap.specs.Words.{Row}
 use Rattle.command_line.specs.CommandLine.{Asks, IsEditionNamed, IsGiven, command_name, given_by}
 use Rattle.command_line.specs.Laws.{IsListing, IsPlainWord, ReadsListing}
-use Rattle.command_line.specs.Words.{AreEditions, command_in, command_shape, edition_rule, faults_of, named_shape, program, unixvol_app, with_argument, with_command, word_rule}
+use Rattle.command_line.specs.Words.{AreEditions, command_in, command_shape, edition_rule, faults_of, migrate_shape, named_shape, program, unixvol_app, with_argument, with_command, word_rule}
 use Rattle.command_line.specs.declared.Invocation.{Invocation}
-use Rattle.command_line.specs.declared.Invocation.TheVariants.{Cat, Mkfs, OnVolume, OnThreads}
+use Rattle.command_line.specs.declared.Invocation.TheVariants.{Cat, Mkfs, Migrate, OnVolume, OnThreads}
 use Rattle.vol_commands.specs.declared.jobs.Job.TheVariants as jobs
 use Rattle.vol_check.specs.declared.checker.Checker.TheVariants as checkers
 use Rattle.command_line.specs.declared.Work.TheVariants as works
@@ -54,7 +54,7 @@ IsTaken editions edition program image path =
 
 -- the command line takes the words of `ls` where the file and the path begin with no hyphen
 taken : (p q r : ℕ × ℕ) (edition : Edition) (name image path : List ℕ) → IsPlainWord image → IsPlainWord path → IsTaken (names_at p q r) edition name image path
-unfolding clap_on_literals faults_of command_in unixvol_app program with_command command_shape with_argument named_shape word_rule edition_rule
+unfolding clap_on_literals faults_of command_in unixvol_app program with_command command_shape migrate_shape with_argument named_shape word_rule edition_rule
 taken p q r V6 name [] [] image path = (refl, refl)
 taken p q r V6 name (x ∷ xs) [] image path =
     let e : (x == 45) ≡ false = ne_eqb _ _ image in
@@ -95,6 +95,7 @@ asks_listing : (given : List ℕ → List ℕ) (edition : Edition) (image path :
     → given (codes "EDITION") ≡ word_of edition → given (codes "IMAGE") ≡ image → given (codes "PATH") ≡ path → IsGiven given invocation → IsListing edition image path invocation
 asks_listing given edition image path (Cat volume ino) test e_is i_is p_is is = absurd (true≢false (sym test))
 asks_listing given edition image path (Mkfs i volume) test e_is i_is p_is is = absurd (true≢false (sym test))
+asks_listing given edition image path (Migrate old new migration) test e_is i_is p_is is = absurd (true≢false (sym test))
 asks_listing given edition image path (OnVolume volume (jobs.Ls directory)) test e_is i_is p_is is =
     (edition_is volume.edition edition (subst (IsEditionNamed volume.edition) e_is is.0.0), is.0.1 ∙ i_is, is.1 ∙ p_is)
 asks_listing given edition image path (OnVolume volume (jobs.Get p)) test e_is i_is p_is is = absurd (true≢false (sym test))
@@ -130,6 +131,7 @@ listing_asks : (met : Option (List ℕ × List Row)) (edition : Edition) (image 
 listing_asks None edition image path invocation is listed = absurd (cc)
 listing_asks (Some met) edition image path (Cat volume ino) is listed = absurd listed
 listing_asks (Some met) edition image path (Mkfs i volume) is listed = absurd listed
+listing_asks (Some met) edition image path (Migrate old new migration) is listed = absurd listed
 listing_asks (Some met) edition image path (OnVolume volume (jobs.Ls directory)) is listed =
     let name : met.0 ≡ codes "ls" = ap (λ (l : List (List ℕ)). slice_index_or l 0 []) is in
     let word : given_by met.1 (codes "EDITION") ≡ word_of edition = ap (λ (l : List (List ℕ)). slice_index_or l 1 []) is in

@@ -20,10 +20,10 @@ use Rattle.vol_layout.specs.declared.edition.Edition.TheVariants.{V6, V7}
 use Rattle.vol_volume.specs.declared.blank.NewVolume.{NewVolume}
 use Rattle.command_line.specs.Decimal.{IsNumberUpTo, IsThreads}
 use Rattle.command_line.specs.Octal.{IsOctalUpTo}
-use Rattle.command_line.specs.CommandLine.{Asks, AsksFor, AsksNothing, TellsOf, IsChange, IsCheck, IsEditionNamed, IsGiven, IsNewVolumeGiven, IsNoCat, IsNoChange, IsNoCheck, IsNoChmod, IsNoChown, IsNoCommand, IsNoEdition, IsNoMoment, IsNoNewVolume, IsNoValue, IsRead, IsRefused, IsWorkGiven, IsWorkable, command_name, given_by, given_in, word_or_empty}
-use Rattle.command_line.specs.Words.{AreEditions, app, command_in, command_shape, edition_rule, faults_of, named_shape, program, unixvol_app, with_argument, with_command, word_rule}
+use Rattle.command_line.specs.CommandLine.{Asks, AsksFor, AsksNothing, TellsOf, IsChange, IsCheck, IsEditionNamed, IsGiven, IsNewVolumeGiven, IsNoCat, IsNoChange, IsNoCheck, IsNoChmod, IsNoChown, IsNoCommand, IsNoEdition, IsNoMigration, IsNoMoment, IsNoNewVolume, IsNoValue, IsNumberless, IsRead, IsRefused, IsWorkGiven, IsWorkable, command_name, given_by, given_in, word_or_empty}
+use Rattle.command_line.specs.Words.{AreEditions, app, command_in, command_shape, edition_rule, faults_of, migrate_shape, named_shape, program, unixvol_app, with_argument, with_command, word_rule}
 use Rattle.command_line.specs.declared.Invocation.{Invocation}
-use Rattle.command_line.specs.declared.Invocation.TheVariants.{Cat, Mkfs, OnVolume, OnThreads}
+use Rattle.command_line.specs.declared.Invocation.TheVariants.{Cat, Mkfs, Migrate, OnVolume, OnThreads}
 use Rattle.vol_commands.specs.declared.jobs.Job.TheVariants as jobs
 use Rattle.vol_check.specs.declared.checker.Checker.TheVariants as checkers
 use Rattle.command_line.specs.declared.VolumeFile.{VolumeFile}
@@ -32,12 +32,12 @@ use Rattle.command_line.specs.declared.Work.TheVariants as works
 
 -- clap's contract gives what a parse of this command line finds
 pub simple : (editions : Bor (List (Bor (List ℕ)))) → is_simple (unixvol_app editions) ≡ true
-unfolding unixvol_app program with_command command_shape with_argument named_shape word_rule edition_rule
+unfolding unixvol_app program with_command command_shape migrate_shape with_argument named_shape word_rule edition_rule
 simple editions = refl
 
 -- clap's contract gives what a parse of this command line refuses
 pub simple_and_free : (editions : Bor (List (Bor (List ℕ)))) → is_simple_and_free (unixvol_app editions) ≡ true
-unfolding unixvol_app program with_command command_shape with_argument named_shape word_rule edition_rule
+unfolding unixvol_app program with_command command_shape migrate_shape with_argument named_shape word_rule edition_rule
 simple_and_free editions = refl
 
 -- the words for the arguments are those of the rows that a parse makes
@@ -71,12 +71,23 @@ named_edition : (edition : Edition) (text : List ℕ) → IsNoEdition text → I
 named_edition V6 text none is = none.0 is
 named_edition V7 text none is = none.1 is
 
--- each command has an edition
-edition_given : (given : List ℕ → List ℕ) (invocation : Invocation) → IsNoEdition (given (codes "EDITION")) → IsGiven given invocation → ⊥
-edition_given given (Cat volume ino) none is = named_edition volume.edition _ none is.0.0
-edition_given given (Mkfs image volume) none is = named_edition volume.edition _ none is.1.0
-edition_given given (OnVolume volume job) none is = named_edition volume.edition _ none is.0.0
-edition_given given (OnThreads volume work) none is = named_edition volume.edition _ none is.0.0
+-- each command has an edition whose name passes a test that `migrate` fails
+edition_given : (has_edition : List ℕ → Bool) (given : List ℕ → List ℕ) (invocation : Invocation) → has_edition (codes "migrate") ≡ false
+    → has_edition (command_name invocation) ≡ true → IsNoEdition (given (codes "EDITION")) → IsGiven given invocation → ⊥
+edition_given has_edition given (Cat volume ino) fails test none is = named_edition volume.edition _ none is.0.0
+edition_given has_edition given (Mkfs image volume) fails test none is = named_edition volume.edition _ none is.1.0
+edition_given has_edition given (Migrate old new migration) fails test none is = absurd (true≢false (sym test ∙ fails))
+edition_given has_edition given (OnVolume volume job) fails test none is = named_edition volume.edition _ none is.0.0
+edition_given has_edition given (OnThreads volume work) fails test none is = named_edition volume.edition _ none is.0.0
+
+-- a command that takes an edition and no number, as a test
+abbrev is_numberless : List ℕ → Bool
+is_numberless name = list_any (bytes_eq name) (codes "ls" ∷ codes "get" ∷ codes "salvage" ∷ [])
+
+numberless_test : (name : List ℕ) → IsNumberless name → is_numberless name ≡ true
+numberless_test name (inl is) = rw is refl
+numberless_test name (inr (inl is)) = rw is refl
+numberless_test name (inr (inr is)) = rw is refl
 
 -- texts that are the same pass the test for that
 pub same : (one other : List ℕ) → one ≡ other → bytes_eq one other ≡ true
@@ -87,6 +98,7 @@ number_given : (given : List ℕ → List ℕ) (invocation : Invocation) → byt
     → (IsNumberUpTo 65535 (given (codes "INO")) → ⊥) → IsGiven given invocation → ⊥
 number_given given (Cat volume ino) test none is = none is.1.0
 number_given given (Mkfs image volume) test none is = absurd (true≢false (sym test))
+number_given given (Migrate old new migration) test none is = absurd (true≢false (sym test))
 number_given given (OnVolume volume (jobs.Ls path)) test none is = absurd (true≢false (sym test))
 number_given given (OnVolume volume (jobs.Get path)) test none is = absurd (true≢false (sym test))
 number_given given (OnVolume volume (jobs.Put path file now)) test none is = absurd (true≢false (sym test))
@@ -116,6 +128,7 @@ new_volume_given : (given : List ℕ → List ℕ) (invocation : Invocation) →
     → IsGiven given invocation → ⊥
 new_volume_given given (Cat volume ino) test none is = absurd (true≢false (sym test))
 new_volume_given given (Mkfs image volume) test none is = sizes_given given volume none is.1
+new_volume_given given (Migrate old new migration) test none is = absurd (true≢false (sym test))
 new_volume_given given (OnVolume volume (jobs.Ls path)) test none is = absurd (true≢false (sym test))
 new_volume_given given (OnVolume volume (jobs.Get path)) test none is = absurd (true≢false (sym test))
 new_volume_given given (OnVolume volume (jobs.Put path file now)) test none is = absurd (true≢false (sym test))
@@ -145,6 +158,7 @@ change_test name (inr (inr (inr (inr is)))) = rw is refl
 moment_given : (given : List ℕ → List ℕ) (invocation : Invocation) → is_change (command_name invocation) ≡ true → IsNoMoment given → IsGiven given invocation → ⊥
 moment_given given (Cat volume ino) test none is = absurd (true≢false (sym test))
 moment_given given (Mkfs image volume) test none is = none is.1.5.0
+moment_given given (Migrate old new migration) test none is = absurd (true≢false (sym test))
 moment_given given (OnVolume volume (jobs.Ls path)) test none is = absurd (true≢false (sym test))
 moment_given given (OnVolume volume (jobs.Get path)) test none is = absurd (true≢false (sym test))
 moment_given given (OnVolume volume (jobs.Put path file now)) test none is = none is.1.2.0
@@ -161,7 +175,7 @@ moment_given given (OnThreads volume (works.Check checkers.Names workers)) test 
 
 -- a command that is a change asks for nothing where its edition or its moment is no value
 no_change : (name : List ℕ) (given : List ℕ → List ℕ) (invocation : Invocation) → is_change name ≡ true → IsNoChange given → AsksFor name given invocation → ⊥
-no_change name given invocation test (inl none) asks = edition_given given invocation none asks.1
+no_change name given invocation test (inl none) asks = edition_given is_change given invocation refl (subst (λ n. is_change n ≡ true) asks.0 test) none asks.1
 no_change name given invocation test (inr none) asks = moment_given given invocation (subst (λ n. is_change n ≡ true) asks.0 test) none asks.1
 
 -- `chmod` has permissions
@@ -169,6 +183,7 @@ permissions_given : (given : List ℕ → List ℕ) (invocation : Invocation) �
     → (IsOctalUpTo 4095 (given (codes "PERM")) → ⊥) → IsGiven given invocation → ⊥
 permissions_given given (Cat volume ino) test none is = absurd (true≢false (sym test))
 permissions_given given (Mkfs image volume) test none is = absurd (true≢false (sym test))
+permissions_given given (Migrate old new migration) test none is = absurd (true≢false (sym test))
 permissions_given given (OnVolume volume (jobs.Ls path)) test none is = absurd (true≢false (sym test))
 permissions_given given (OnVolume volume (jobs.Get path)) test none is = absurd (true≢false (sym test))
 permissions_given given (OnVolume volume (jobs.Put path file now)) test none is = absurd (true≢false (sym test))
@@ -188,6 +203,7 @@ owner_given : (given : List ℕ → List ℕ) (invocation : Invocation) → byte
     → (IsNumberUpTo 65535 (given (codes "UID")) → ⊥) ⊎ (IsNumberUpTo 65535 (given (codes "GID")) → ⊥) → IsGiven given invocation → ⊥
 owner_given given (Cat volume ino) test none is = absurd (true≢false (sym test))
 owner_given given (Mkfs image volume) test none is = absurd (true≢false (sym test))
+owner_given given (Migrate old new migration) test none is = absurd (true≢false (sym test))
 owner_given given (OnVolume volume (jobs.Ls path)) test none is = absurd (true≢false (sym test))
 owner_given given (OnVolume volume (jobs.Get path)) test none is = absurd (true≢false (sym test))
 owner_given given (OnVolume volume (jobs.Put path file now)) test none is = absurd (true≢false (sym test))
@@ -217,6 +233,7 @@ workers_given : (given : List ℕ → List ℕ) (invocation : Invocation) → is
     → (IsThreads (given (codes "WORKERS")) → ⊥) → IsGiven given invocation → ⊥
 workers_given given (Cat volume ino) test none is = absurd (true≢false (sym test))
 workers_given given (Mkfs image volume) test none is = absurd (true≢false (sym test))
+workers_given given (Migrate old new migration) test none is = absurd (true≢false (sym test))
 workers_given given (OnVolume volume (jobs.Ls path)) test none is = absurd (true≢false (sym test))
 workers_given given (OnVolume volume (jobs.Get path)) test none is = absurd (true≢false (sym test))
 workers_given given (OnVolume volume (jobs.Put path file now)) test none is = absurd (true≢false (sym test))
@@ -229,11 +246,36 @@ workers_given given (OnVolume volume (jobs.Chown path uid gid now)) test none is
 workers_given given (OnVolume volume jobs.Salvage) test none is = absurd (true≢false (sym test))
 workers_given given (OnThreads volume (works.Check checker workers)) test none is = none is.1.0
 
+-- `migrate` has its sizes and a moment
+migration_given : (given : List ℕ → List ℕ) (invocation : Invocation) → bytes_eq (codes "migrate") (command_name invocation) ≡ true → IsNoMigration given
+    → IsGiven given invocation → ⊥
+unfolding IsNoMigration
+migration_given given (Cat volume ino) test none is = absurd (true≢false (sym test))
+migration_given given (Mkfs image volume) test none is = absurd (true≢false (sym test))
+migration_given given (Migrate old new migration) test (inl none) is = none is.2.0.0
+migration_given given (Migrate old new migration) test (inr (inl none)) is = none is.2.1.0
+migration_given given (Migrate old new migration) test (inr (inr none)) is = none is.2.2.0
+migration_given given (OnVolume volume (jobs.Ls path)) test none is = absurd (true≢false (sym test))
+migration_given given (OnVolume volume (jobs.Get path)) test none is = absurd (true≢false (sym test))
+migration_given given (OnVolume volume (jobs.Put path file now)) test none is = absurd (true≢false (sym test))
+migration_given given (OnVolume volume (jobs.Rm path now)) test none is = absurd (true≢false (sym test))
+migration_given given (OnVolume volume (jobs.Rmdir path now)) test none is = absurd (true≢false (sym test))
+migration_given given (OnVolume volume (jobs.Mkdir path now)) test none is = absurd (true≢false (sym test))
+migration_given given (OnVolume volume (jobs.Ln from to now)) test none is = absurd (true≢false (sym test))
+migration_given given (OnVolume volume (jobs.Chmod path perm now)) test none is = absurd (true≢false (sym test))
+migration_given given (OnVolume volume (jobs.Chown path uid gid now)) test none is = absurd (true≢false (sym test))
+migration_given given (OnVolume volume jobs.Salvage) test none is = absurd (true≢false (sym test))
+migration_given given (OnThreads volume (works.Check checkers.Blocks workers)) test none is = absurd (true≢false (sym test))
+migration_given given (OnThreads volume (works.Check checkers.Entries workers)) test none is = absurd (true≢false (sym test))
+migration_given given (OnThreads volume (works.Check checkers.Names workers)) test none is = absurd (true≢false (sym test))
+
 -- where one of the words is no value, nothing is asked for
 no_value : (name : List ℕ) (given : List ℕ → List ℕ) → IsNoValue name given → (invocation : Invocation) → AsksFor name given invocation → ⊥
 unfolding IsNoCat IsNoChmod IsNoChown IsNoCheck
-no_value name given (inl none) invocation asks = edition_given given invocation none asks.1
-no_value name given (inr (inl (is, inl none))) invocation asks = edition_given given invocation none asks.1
+no_value name given (inl (numberless, none)) invocation asks =
+    edition_given is_numberless given invocation refl (subst (λ n. is_numberless n ≡ true) asks.0 (numberless_test name numberless)) none asks.1
+no_value name given (inr (inl (is, inl none))) invocation asks =
+    edition_given (bytes_eq (codes "cat")) given invocation refl (same _ _ (sym is ∙ asks.0)) none asks.1
 no_value name given (inr (inl (is, inr none))) invocation asks = number_given given invocation (same _ _ (sym is ∙ asks.0)) none asks.1
 no_value name given (inr (inr (inl (is, none)))) invocation asks = new_volume_given given invocation (same _ _ (sym is ∙ asks.0)) none asks.1
 no_value name given (inr (inr (inr (inl (change, none))))) invocation asks = no_change name given invocation (change_test name change) none asks
@@ -241,14 +283,17 @@ no_value name given (inr (inr (inr (inr (inl (is, inl none)))))) invocation asks
 no_value name given (inr (inr (inr (inr (inl (is, inr none)))))) invocation asks = permissions_given given invocation (same _ _ (sym is ∙ asks.0)) none asks.1
 no_value name given (inr (inr (inr (inr (inr (inl (is, inl none))))))) invocation asks = no_change name given invocation (rw is refl) none asks
 no_value name given (inr (inr (inr (inr (inr (inl (is, inr none))))))) invocation asks = owner_given given invocation (same _ _ (sym is ∙ asks.0)) none asks.1
-no_value name given (inr (inr (inr (inr (inr (inr (check, inl none))))))) invocation asks = edition_given given invocation none asks.1
-no_value name given (inr (inr (inr (inr (inr (inr (check, inr none))))))) invocation asks =
+no_value name given (inr (inr (inr (inr (inr (inr (inl (check, inl none)))))))) invocation asks =
+    edition_given is_check given invocation refl (subst (λ n. is_check n ≡ true) asks.0 (check_test name check)) none asks.1
+no_value name given (inr (inr (inr (inr (inr (inr (inl (check, inr none)))))))) invocation asks =
     workers_given given invocation (subst (λ n. is_check n ≡ true) asks.0 (check_test name check)) none asks.1
+no_value name given (inr (inr (inr (inr (inr (inr (inr (is, none)))))))) invocation asks = migration_given given invocation (same _ _ (sym is ∙ asks.0)) none asks.1
 
 -- where the name is that of no command, nothing is asked for
 no_command : (name : List ℕ) (given : List ℕ → List ℕ) → IsNoCommand name → (invocation : Invocation) → AsksFor name given invocation → ⊥
 no_command name given none (Cat volume ino) asks = none.0 asks.0
 no_command name given none (Mkfs image volume) asks = none.6 asks.0
+no_command name given none (Migrate old new migration) asks = none.15 asks.0
 no_command name given none (OnVolume volume (jobs.Ls path)) asks = none.1 asks.0
 no_command name given none (OnVolume volume (jobs.Get path)) asks = none.2 asks.0
 no_command name given none (OnVolume volume (jobs.Put path file now)) asks = none.7 asks.0

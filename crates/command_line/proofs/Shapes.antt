@@ -10,7 +10,7 @@ use Rattle.clap.specs.declared.builder.command.Command.TheViews.{out-Command}
 use Rattle.clap.specs.declared.builder.command.Command.TheOpen.{Command-F}
 use Rattle.clap.proofs.WalkLemmas.{both}
 use Rattle.clap.proofs.SimpleLemmas.{is_false, plain_fields}
-use Rattle.command_line.specs.Words.{app, changing, command_shape, named_shape, printing, program, rule, shape, unixvol_app, with_command, with_commands, word_rule, edition_rule, with_argument}
+use Rattle.command_line.specs.Words.{app, changing, command_shape, migrate_shape, named_shape, printing, program, rule, shape, unixvol_app, with_command, with_commands, word_rule, edition_rule, with_argument}
 
 -- the last of ten tests that pass passes
 last : (a b c d e f g h i j : Bool) → (a && (b && (c && (d && (e && (f && (g && (h && (i && j))))))))) ≡ true → j ≡ true
@@ -86,19 +86,23 @@ command_plain : (editions : Bor (List (Bor (List ℕ)))) (name : List ℕ) (argu
 unfolding command_shape with_argument named_shape
 command_plain editions name arguments = words_plain (with_argument (named_shape name) (edition_rule editions)) arguments refl
 
+migrate_plain : migrate_shape.is_plain ≡ true
+unfolding migrate_shape with_argument named_shape
+migrate_plain = words_plain (named_shape (codes "migrate")) (codes "OLD" ∷ codes "NEW" ∷ codes "FSIZE" ∷ codes "IBLOCKS" ∷ codes "NOW" ∷ []) refl
+
 -- one more command
-pub adds_command : (old command new : Command) (before : App) (editions : Bor (List (Bor (List ℕ)))) (name : List ℕ) (arguments : List (List ℕ))
-    → AddsSubcommand old command new → shape command ≡ command_shape editions name arguments → app old ≡ before
-    → app new ≡ with_command before (command_shape editions name arguments)
+adds_command : (old command new : Command) (before : App) (known : Shape) → AddsSubcommand old command new → shape command ≡ known → known.is_plain ≡ true
+    → app old ≡ before → app new ≡ with_command before known
 unfolding shape app with_command
-adds_command old command new before editions name arguments added is was =
-    added.shape (no_globals command (ap (λ (s : Shape). s.is_plain) is ∙ command_plain editions name arguments)) ∙ ap₂ with_subcommand was is
+adds_command old command new before known added is plain was =
+    added.shape (no_globals command (ap (λ (s : Shape). s.is_plain) is ∙ plain)) ∙ ap₂ with_subcommand was is
 
 -- one more command, which was made with the memory for it
 pub adds_made : {E : Type 0} (old new : Command) (one : Result Command E) (before : App) (editions : Bor (List (Bor (List ℕ)))) (name : List ℕ)
     (arguments : List (List ℕ)) → IsOkAnd one (λ made. AddsSubcommand old made new) → IfOk one (λ made. shape made ≡ command_shape editions name arguments)
     → app old ≡ before → app new ≡ with_command before (command_shape editions name arguments)
-adds_made old new (Ok made) before editions name arguments added is was = adds_command old made new before editions name arguments added is was
+adds_made old new (Ok made) before editions name arguments added is was =
+    adds_command old made new before (command_shape editions name arguments) added is (command_plain editions name arguments) was
 adds_made old new (Err e) before editions name arguments added is was = absurd added
 
 -- one more command, where the memory for making it and for adding it was there
@@ -126,9 +130,11 @@ starts_program new versioned about more asking whole version about_text after_he
     ∙ (ap (λ (f : Command-F Command). app_of_fields (record f { subcommand_required = true; arg_required_else_help = true })) version_is
     ∙ ap (λ (a : App). record a { top = record a.top { has_version = true; subcommand_required = true; arg_required_else_help = true } }) is))))
 
--- a program has its other commands after the first, where the memory for them was there
-pub continues : {E : Type 0} (result : Result Command E) (old : Command) (editions : Bor (List (Bor (List ℕ)))) → app old ≡ with_commands editions program printing
-    → IfOk result (λ new. app new ≡ with_commands editions (app old) changing) → IfOk result (λ new. app new ≡ unixvol_app editions)
+-- a program with its other commands has `migrate` after them, where the memory for it was there
+pub ends_migrating : {E : Type 0} (result : Result Command E) (old : Command) (one : Result Command E) (editions : Bor (List (Bor (List ℕ))))
+    → IfOk result (λ new. IsOkAnd one (λ made. AddsSubcommand old made new)) → IfOk one (λ made. shape made ≡ migrate_shape)
+    → app old ≡ with_commands editions (with_commands editions program printing) changing → IfOk result (λ new. app new ≡ unixvol_app editions)
 unfolding unixvol_app
-continues (Ok new) old editions was added = added ∙ ap (λ (before : App). with_commands editions before changing) was
-continues (Err e) old editions was added = tt
+ends_migrating (Ok new) old (Ok made) editions added is was = adds_command old made new _ migrate_shape added is migrate_plain was
+ends_migrating (Ok new) old (Err e) editions added is was = absurd added
+ends_migrating (Err e) old one editions added is was = tt

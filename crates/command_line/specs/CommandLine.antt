@@ -11,7 +11,8 @@ use Rattle.command_line.specs.Decimal.{IsNumberUpTo, IsNumberGiven, IsThreads, I
 use Rattle.command_line.specs.Octal.{IsOctalUpTo, IsOctalGiven}
 use Rattle.command_line.specs.Words.{AreEditions, command_in, faults_of, unixvol_app}
 use Rattle.command_line.specs.declared.Invocation.{Invocation}
-use Rattle.command_line.specs.declared.Invocation.TheVariants.{Cat, Mkfs, OnVolume, OnThreads}
+use Rattle.command_line.specs.declared.Invocation.TheVariants.{Cat, Mkfs, Migrate, OnVolume, OnThreads}
+use Rattle.vol_commands.specs.declared.migrating.Migration.{Migration}
 use Rattle.vol_commands.specs.declared.jobs.Job.{Job}
 use Rattle.vol_commands.specs.declared.jobs.Job.TheVariants as jobs
 use Rattle.command_line.specs.declared.VolumeFile.{VolumeFile}
@@ -35,7 +36,7 @@ abbrev pub IsNoCommand : List ℕ → Type 0
 IsNoCommand text =
     (text ≢ codes "cat") × (text ≢ codes "ls") × (text ≢ codes "get") × (text ≢ codes "icheck") × (text ≢ codes "dcheck") × (text ≢ codes "ncheck")
     × (text ≢ codes "mkfs") × (text ≢ codes "put") × (text ≢ codes "rm") × (text ≢ codes "rmdir") × (text ≢ codes "mkdir") × (text ≢ codes "ln")
-    × (text ≢ codes "chmod") × (text ≢ codes "chown") × (text ≢ codes "salvage")
+    × (text ≢ codes "chmod") × (text ≢ codes "chown") × (text ≢ codes "salvage") × (text ≢ codes "migrate")
 
 -- a word, or the empty one where there is none (this project)
 abbrev pub word_or_empty : Option (List ℕ) → List ℕ
@@ -77,6 +78,7 @@ job_name jobs.Salvage = codes "salvage"
 abbrev pub command_name : Invocation → List ℕ
 command_name (Cat volume ino) = codes "cat"
 command_name (Mkfs image volume) = codes "mkfs"
+command_name (Migrate old new migration) = codes "migrate"
 command_name (OnVolume volume job) = job_name job
 command_name (OnThreads volume work) = work_name work
 
@@ -96,6 +98,11 @@ IsNewVolumeGiven given volume = IsEditionNamed volume.edition (given (codes "EDI
 -- the moment that was given is this one (this project)
 abbrev pub IsMomentGiven : (List ℕ → List ℕ) → ℕ → Type 0
 IsMomentGiven given now = IsNumberGiven 4294967295 (given (codes "NOW")) now
+
+-- the words that were given for the arguments describe this migration (this project)
+abbrev pub IsMigrationGiven : (List ℕ → List ℕ) → Migration → Type 0
+IsMigrationGiven given migration = IsNumberGiven 4294967295 (given (codes "FSIZE")) migration.blocks
+    × IsNumberGiven 65535 (given (codes "IBLOCKS")) migration.list_blocks × IsMomentGiven given migration.now
 
 -- the words that were given for the arguments of the job's command describe the job (this project)
 abbrev pub IsJobGiven : (List ℕ → List ℕ) → Job → Type 0
@@ -123,6 +130,8 @@ IsWorkGiven given (works.Check checker workers) = IsThreadsGiven (given (codes "
 abbrev pub IsGiven : (List ℕ → List ℕ) → Invocation → Type 0
 IsGiven given (Cat volume ino) = IsVolumeGiven given volume × IsNumberGiven 65535 (given (codes "INO")) ino
 IsGiven given (Mkfs image volume) = (image.now ≡ given (codes "IMAGE")) × IsNewVolumeGiven given volume
+IsGiven given (Migrate old new migration) =
+    (old.now ≡ given (codes "OLD")) × (new.now ≡ given (codes "NEW")) × IsMigrationGiven given migration
 IsGiven given (OnVolume volume job) = IsVolumeGiven given volume × IsJobGiven given job
 IsGiven given (OnThreads volume work) = IsVolumeGiven given volume × IsWorkGiven given work
 
@@ -156,9 +165,18 @@ IsNoNewVolume given = IsNoEdition (given (codes "EDITION"))
     ⊎ (IsNumberUpTo 4294967295 (given (codes "FSIZE")) → ⊥) ⊎ (IsNumberUpTo 65535 (given (codes "IBLOCKS")) → ⊥)
     ⊎ (IsNumberUpTo 65535 (given (codes "UID")) → ⊥) ⊎ (IsNumberUpTo 65535 (given (codes "GID")) → ⊥) ⊎ IsNoMoment given
 
+-- one of the words of `migrate` is no value of its argument (this project)
+unfoldable pub IsNoMigration : (List ℕ → List ℕ) → Type 0
+IsNoMigration given =
+    (IsNumberUpTo 4294967295 (given (codes "FSIZE")) → ⊥) ⊎ (IsNumberUpTo 65535 (given (codes "IBLOCKS")) → ⊥) ⊎ IsNoMoment given
+
 -- one of the words of a checker's command is no value of its argument (this project)
 unfoldable pub IsNoCheck : (List ℕ → List ℕ) → Type 0
 IsNoCheck given = IsNoEdition (given (codes "EDITION")) ⊎ (IsThreads (given (codes "WORKERS")) → ⊥)
+
+-- a command of this name takes an edition, and no number (this project)
+abbrev pub IsNumberless : List ℕ → Type 0
+IsNumberless name = (name ≡ codes "ls") ⊎ (name ≡ codes "get") ⊎ (name ≡ codes "salvage")
 
 -- a command of this name changes a volume, and takes no number but the moment (this project)
 abbrev pub IsChange : List ℕ → Type 0
@@ -170,10 +188,10 @@ IsCheck name = (name ≡ codes "icheck") ⊎ (name ≡ codes "dcheck") ⊎ (name
 
 -- one of the words of the command of this name is no value of its argument (this project)
 abbrev pub IsNoValue : List ℕ → (List ℕ → List ℕ) → Type 0
-IsNoValue name given = IsNoEdition (given (codes "EDITION")) ⊎ ((name ≡ codes "cat") × IsNoCat given)
+IsNoValue name given = (IsNumberless name × IsNoEdition (given (codes "EDITION"))) ⊎ ((name ≡ codes "cat") × IsNoCat given)
     ⊎ ((name ≡ codes "mkfs") × IsNoNewVolume given) ⊎ (IsChange name × IsNoChange given)
     ⊎ ((name ≡ codes "chmod") × IsNoChmod given) ⊎ ((name ≡ codes "chown") × IsNoChown given)
-    ⊎ (IsCheck name × IsNoCheck given)
+    ⊎ (IsCheck name × IsNoCheck given) ⊎ ((name ≡ codes "migrate") × IsNoMigration given)
 
 -- memory ran out, or the error tells of a word that is no value, of which this holds (this project)
 abbrev pub TellsOf : Type 0 → Error → Type 0

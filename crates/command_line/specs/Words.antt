@@ -58,11 +58,18 @@ verb_name verbs.Ln = codes "ln"
 verb_name verbs.Chmod = codes "chmod"
 verb_name verbs.Chown = codes "chown"
 verb_name verbs.Salvage = codes "salvage"
+verb_name verbs.Migrate = codes "migrate"
 
 -- a command of this name, which takes an edition and then a word for each of these arguments (this project)
 unfoldable pub command_shape : Bor (List (Bor (List ℕ))) → List ℕ → List (List ℕ) → Shape
 command_shape editions name arguments =
     fold (λ command argument. with_argument command (word_rule argument)) (with_argument (named_shape name) (edition_rule editions)) arguments
+
+-- the command `migrate`, which takes a word for each of its arguments, and no edition (this project)
+unfoldable pub migrate_shape : Shape
+migrate_shape =
+    fold (λ command argument. with_argument command (word_rule argument)) (named_shape (codes "migrate"))
+    (codes "OLD" ∷ codes "NEW" ∷ codes "FSIZE" ∷ codes "IBLOCKS" ∷ codes "NOW" ∷ [])
 
 -- the program without its commands: it has a version and asks for a command (this project)
 unfoldable pub program : App
@@ -104,7 +111,7 @@ with_commands editions = fold (λ old command. with_command old (command_shape e
 
 -- the command line of `unixvol` (this project)
 unfoldable pub unixvol_app : Bor (List (Bor (List ℕ))) → App
-unixvol_app editions = with_commands editions (with_commands editions program printing) changing
+unixvol_app editions = with_command (with_commands editions (with_commands editions program printing) changing) migrate_shape
 
 -- what clap tells of the words, nothing where it takes them (clap's contract)
 unfoldable pub faults_of : App → List (List ℕ) → Kinds

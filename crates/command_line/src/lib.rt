@@ -10,13 +10,14 @@ use clap::error::ErrorKind;
 use clap::{ArgMatches, Command, Error};
 use std::alloc::{AllocError, Global};
 use vol_check::Checker;
-use vol_commands::Job;
+use vol_commands::{Job, Migration};
 use vol_layout::Edition;
 use vol_volume::NewVolume;
 
 mod cat;
 pub mod decimal;
 pub mod laws;
+mod migrate;
 mod mkfs;
 pub mod octal;
 mod texts;
@@ -54,6 +55,12 @@ pub enum Invocation<'a> {
     Mkfs {
         image: &'a str,
         volume: NewVolume,
+    },
+    /// Make a volume of the seventh edition in the file `new`, out of the one of the sixth in the file `old`.
+    Migrate {
+        old: &'a str,
+        new: &'a str,
+        migration: Migration,
     },
     /// Do something with the volume in a file.
     OnVolume {
@@ -127,6 +134,7 @@ fn read_command<'a>(
         Verb::Chmod => volumes::read_chmod(alloc, values)?,
         Verb::Chown => volumes::read_chown(alloc, values)?,
         Verb::Salvage => volumes::read_salvage(alloc, values)?,
+        Verb::Migrate => migrate::read(alloc, values)?,
     };
     Ok(Some(invocation))
 }
@@ -142,7 +150,8 @@ fn command_line<'a>(alloc: Global, editions: &'a [&'a str]) -> Result<Command<'a
         .subcommand_required(true)
         .arg_required_else_help(true);
     let command = with_prints(alloc, editions, command)?;
-    with_changes(alloc, editions, command)
+    let command = with_changes(alloc, editions, command)?;
+    with_one_more(command, migrate::command(alloc))
 }
 
 /// Adds the commands that print something of a volume to the command line.

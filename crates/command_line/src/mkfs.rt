@@ -4,17 +4,13 @@ ghost use Rattle.command_line.specs.Words.{shape, command_shape};
 ghost use Rattle.command_line.specs.CommandLine.{AsksFor, IsNoNewVolume, TellsOf, given_in};
 
 use super::words::{
-    GID, IMAGE, NOW, UID, Verb, edition_in, long_in, of_edition, required, text_in, word_in,
+    BLOCKS, GID, IMAGE, LIST_BLOCKS, NOW, UID, Verb, edition_in, long_in, of_edition, required,
+    text_in, word_in,
 };
 use super::{Invocation, texts};
 use clap::{ArgMatches, Command, Error};
 use std::alloc::{AllocError, Global};
 use vol_volume::NewVolume;
-
-/// Names of the arguments, as the help shows them.
-const BLOCKS: &str = "FSIZE";
-
-const LIST_BLOCKS: &str = "IBLOCKS";
 
 /// The command `mkfs`.
 pub(super) fn command<'a>(alloc: Global, editions: &'a [&'a str]) -> Result<Command<'a>, AllocError>

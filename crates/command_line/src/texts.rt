@@ -308,6 +308,36 @@ Status:
   3  `unixvol: cannot read IMAGE`, `unixvol: cannot write IMAGE`
   4  `unixvol: 12 NoMemory`";
 
+pub const MIGRATE_ABOUT: &str = "Makes a volume of the seventh edition out of one of the sixth.";
+
+pub const MIGRATE_MORE: &str = "\
+Example:
+  unixvol migrate old.img new.img 8000 250 173750400
+
+The new volume has the files of the old one. Each i-number is one higher than it was, since number 1 is free there.
+Kinds, permissions, owners, links, sizes, bytes, and the times of access and modification stay; the times of change
+are NOW. A block that was missing within a file still is. All other data blocks are free.
+
+OLD must be sound, and is not changed. NEW is made, or replaced, only where the volume was made: a new file is
+written beside it and then takes its place. NEW must be another file than OLD.
+
+Status:
+  0  the volume was made and saved
+  1  `unixvol: unsound, rule N`: the volume in OLD breaks this rule, and none before it
+     `unixvol: bounds`: no volume of the seventh edition has these sizes: IBLOCKS is 1 to 8191, and FSIZE at least
+     IBLOCKS + 3 and at most 16777216
+     `unixvol: 105 HasDevice`: there is a special file
+     `unixvol: 103 NoInode`: the highest i-number, one higher, is above 8 times IBLOCKS
+     `unixvol: 28 NoSpace`: the files need more blocks than there are data blocks
+  2  the command line can't be read
+  3  `unixvol: cannot read OLD`, `unixvol: cannot write NEW`
+  4  `unixvol: 12 NoMemory`";
+
+pub const OLD: &str = "The file that holds the old volume's bytes";
+
+pub const MIGRATED: &str =
+    "The time of the volume and of its i-nodes' last change, in seconds since 1970";
+
 pub const ICHECK_ABOUT: &str = "Tells whether each block of a volume has one place, of any image.";
 
 pub const ICHECK_MORE: &str = "\

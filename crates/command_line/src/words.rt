@@ -3,11 +3,11 @@ ghost use Rattle.std.specs.Prelude.{◌≡◌, ◌∷◌, [], None, IfOk, IfErr,
 ghost use Rattle.clap.specs.Words.{kind_of};
 ghost use Rattle.clap.specs.declared.error.kind.ErrorKind.TheVariants as clap_kinds;
 ghost use Rattle.command_line.specs.CommandLine.{IsEditionNamed, IsNoCommand, IsNoEdition, TellsOf, given_in};
-ghost use Rattle.command_line.specs.Words.{command_shape, verb_name, rule, shape, word_rule, edition_rule};
+ghost use Rattle.command_line.specs.Words.{command_shape, named_shape, verb_name, rule, shape, word_rule, edition_rule};
 ghost use Rattle.command_line.specs.Decimal.{IsNumberUpTo, IsNumberGiven, IsThreads, IsThreadsGiven};
 ghost use Rattle.command_line.specs.Octal.{IsOctalUpTo, IsOctalGiven};
 
-use super::{cat, mkfs, texts, threads, volumes};
+use super::{cat, migrate, mkfs, texts, threads, volumes};
 use crate::decimal::{long_of, threads_of, word_of};
 use crate::octal::permissions_of;
 use clap::error::ErrorKind;
@@ -22,6 +22,10 @@ pub(super) const EDITION: &str = "EDITION";
 pub(super) const IMAGE: &str = "IMAGE";
 
 pub(super) const NOW: &str = "NOW";
+
+pub(super) const BLOCKS: &str = "FSIZE";
+
+pub(super) const LIST_BLOCKS: &str = "IBLOCKS";
 
 pub(super) const UID: &str = "UID";
 
@@ -48,10 +52,11 @@ pub(super) enum Verb {
     Chmod,
     Chown,
     Salvage,
+    Migrate,
 }
 
 /// All commands, in the order in which the help lists them.
-static VERBS: [Verb; 15] = [
+static VERBS: [Verb; 16] = [
     Verb::Cat,
     Verb::Ls,
     Verb::Get,
@@ -67,6 +72,7 @@ static VERBS: [Verb; 15] = [
     Verb::Chmod,
     Verb::Chown,
     Verb::Salvage,
+    Verb::Migrate,
 ];
 
 impl Verb {
@@ -90,6 +96,7 @@ impl Verb {
             Verb::Chmod => "chmod",
             Verb::Chown => "chown",
             Verb::Salvage => "salvage",
+            Verb::Migrate => "migrate",
         }
     }
 
@@ -123,6 +130,7 @@ impl Verb {
             Verb::Chmod => volumes::chmod_command(alloc, editions),
             Verb::Chown => volumes::chown_command(alloc, editions),
             Verb::Salvage => volumes::salvage_command(alloc, editions),
+            Verb::Migrate => migrate::command(alloc),
         }
     }
 }
@@ -150,11 +158,15 @@ pub(super) fn of_edition<'a>(
 ) -> Result<Command<'a>, AllocError>
     ensures { IfOk result (λ command. shape command ≡ command_shape editions.entry (verb_name verb) []) }
 {
+    named(alloc, verb, about, more).arg(edition_argument(alloc, editions))
+}
+
+/// A command with its texts, which takes no words yet.
+pub(super) fn named<'a>(alloc: Global, verb: Verb, about: &'a str, more: &'a str) -> Command<'a>
+    ensures { shape result ≡ named_shape (verb_name verb) }
+{
     let name: &'a str = verb.name();
-    Command::new(alloc, name)
-        .about(about)
-        .after_help(more)
-        .arg(edition_argument(alloc, editions))
+    Command::new(alloc, name).about(about).after_help(more)
 }
 
 /// The argument for the word that names the edition of the volume.

@@ -14,6 +14,7 @@ use Rattle.vol_commands.specs.Cat.{PrintsFile, IsNoWriters, cat_status, file_of}
 use Rattle.vol_commands.specs.Faults.{Gets}
 use Rattle.vol_commands.specs.Jobs.{Streams, Does}
 use Rattle.vol_commands.specs.Making.{mkfs_line_at}
+use Rattle.vol_commands.specs.Migrating.{MigratesVolume}
 use Rattle.vol_layout.specs.declared.edition.Edition.{Edition}
 use Rattle.vol_commands.specs.declared.answer.Answer.{Answer}
 use Rattle.vol_commands.specs.declared.cat.CatFault.{CatFault}
@@ -26,6 +27,7 @@ use Rattle.vol_check.specs.declared.checker.Checker.{Checker}
 use Rattle.vol_commands.specs.declared.jobs.Job.{Job}
 use Rattle.vol_commands.specs.declared.jobs.Job.TheVariants as jobs
 use Rattle.vol_commands.specs.declared.making.Made.{Made}
+use Rattle.vol_commands.specs.declared.migrating.Migration.{Migration}
 use Rattle.vol_volume.specs.declared.blank.NewVolume.{NewVolume}
 use Rattle.unixvol.specs.Opening.{IsOpened}
 use Rattle.unixvol.specs.Saving.{IsTaken}
@@ -115,6 +117,13 @@ abbrev pub RunsNothing : Streams → HostFiles → ℕ → Type 0
 RunsNothing streams files status =
     files.unread status × Keeps streams.old streams.new × (streams.failed ≡ streams.had_failed) × streams.said []
 
+-- `migrate` runs: nothing is done; or the volume in an image that a file gave is migrated, nothing goes out, and what is made is saved (this project)
+abbrev pub RunsMigrate : Streams → HostFiles → Migration → ℕ → Type 0
+RunsMigrate streams files migration status =
+    RunsNothing streams files status
+    ⊎ ((image : List ℕ) × (answer : Answer) × files.given image × MigratesVolume image migration streams.said answer
+    × Keeps streams.old streams.new × (streams.failed ≡ streams.had_failed) × EndsSaved files.taken answer status)
+
 -- a job that shows something runs: nothing is done; or it is done with an image that a file gave (this project)
 abbrev pub RunsQuery : Streams → HostFiles → Edition → Job → ℕ → Type 0
 RunsQuery streams files edition job status =
@@ -152,6 +161,7 @@ IsForOneThread _ = Unit {0}
 abbrev pub Runs : Streams → HostFiles → ℕ → Invocation → Type 0
 Runs streams files status (invocations.Cat volume i) = RunsCat streams files.given volume.edition i status
 Runs streams files status (invocations.Mkfs image volume) = RunsMkfs streams files.taken volume status
+Runs streams files status (invocations.Migrate old new migration) = RunsMigrate streams files migration status
 Runs streams files status (invocations.OnVolume volume job) = RunsJob streams files volume.edition job status
 Runs streams files status (invocations.OnThreads volume work) = RunsWork streams files volume.edition work status
 

@@ -5,14 +5,14 @@ ghost use Rattle.std.specs.Process.{exit_status};
 ghost use Rattle.vol_commands.specs.Cat.{IsNoWriters};
 ghost use Rattle.vol_commands.specs.Faults.{Gets};
 ghost use Rattle.vol_commands.specs.declared.cat.CatFault.TheVariants as faults;
-ghost use Rattle.unixvol.specs.Running.{IsForOneThread, IsGiven, IsGivenFor, IsStatusOfFileOrMemory, IsUnread, CatsGiven, EndsSaved, MadeSaved, PrintsBody, RunsChange, RunsJob, RunsMkfs, RunsQuery, Runs, RunsRead, RunsToEnd, Ends, host_files};
+ghost use Rattle.unixvol.specs.Running.{IsForOneThread, IsGiven, IsGivenFor, IsStatusOfFileOrMemory, IsUnread, CatsGiven, EndsSaved, MadeSaved, PrintsBody, RunsChange, RunsJob, RunsMigrate, RunsMkfs, RunsQuery, Runs, RunsRead, RunsToEnd, Ends, host_files};
 ghost use Rattle.unixvol.specs.Saving.{IsTaken, Saves};
 
 use crate::explaining::{
     explain_cat, explain_command_line, explain_no_memory, explain_unwritten, finish,
 };
 use crate::image_file::{ImageFiles, Kind, OpenFault, Stamp, open_image};
-use crate::reading::{ReadFile, read_file, read_image};
+use crate::reading::{ReadFile, read_file, read_image, read_stamped};
 use crate::saving_file::{Content, save_file};
 use clap::Error;
 use command_line::{Invocation, VolumeFile};
@@ -23,7 +23,7 @@ use std::process::ExitCode;
 use std::rt::Clock;
 use vol_commands::cat::cat;
 use vol_commands::status::DONE;
-use vol_commands::{Answer, CatFault, Job, Made, do_job, mkfs_command};
+use vol_commands::{Answer, CatFault, Job, Made, Migration, do_job, migrate_command, mkfs_command};
 use vol_layout::Edition;
 use vol_volume::NewVolume;
 
@@ -100,6 +100,11 @@ fn carry_out<R: ImageFiles + Clock + Eprint + AllocGlobal, O: Sink, E: Sink>(
     match invocation {
         Invocation::Cat { volume, ino } => run_cat(rt, output, volume, ino),
         Invocation::Mkfs { image, volume } => run_mkfs(rt, output, errors, image, volume),
+        Invocation::Migrate {
+            old,
+            new,
+            migration,
+        } => run_migrate(rt, output, errors, old, new, migration),
         Invocation::OnVolume { volume, job } => run_job(rt, output, errors, volume, job),
         Invocation::OnThreads { .. } => unreachable!(),
     }
@@ -142,6 +147,39 @@ fn run_mkfs<R: ImageFiles + Clock + Eprint + AllocGlobal, O: Sink, E: Sink>(
 {
     let made = mkfs_command(rt.alloc(), volume, output, errors);
     save_made(rt, image, &made)
+}
+
+/// Makes a volume of the seventh edition out of the one in the file `old`, saves it in the file `new`, and answers the
+/// status to end with.
+fn run_migrate<R: ImageFiles + Clock + Eprint + AllocGlobal, O: Sink, E: Sink>(
+    rt: &R,
+    output: &mut O,
+    errors: &mut E,
+    old: &str,
+    new: &str,
+    migration: Migration,
+) -> u8
+    ensures runs { RunsMigrate (record {
+      old = O.contents output.old;
+      new = O.contents output.new;
+      had_failed = O.failed output.old;
+      failed = O.failed output.new;
+      said = Gets (E.failed errors.new) (E.contents errors.old) (E.contents errors.new);
+    }) (host_files R.File.remaining R.File.contents R.had R.stood) migration result }
+    ensures ends { Ends (record {
+      old = O.contents output.old;
+      new = O.contents output.new;
+      had_failed = O.failed output.old;
+      failed = O.failed output.new;
+      said = Gets (E.failed errors.new) (E.contents errors.old) (E.contents errors.new);
+    }) result }
+{
+    let (image, stamp) = match read_stamped(rt, old) {
+        Ok(read) => read,
+        Err(status) => return status,
+    };
+    let answer = migrate_command(rt.alloc(), image, migration, output, errors);
+    save_migrated(rt, new, stamp, &answer)
 }
 
 /// Does a job with the volume in a file, and saves the volume where it was changed.
@@ -313,12 +351,55 @@ fn save_made<R: ImageFiles + Clock + Eprint + AllocGlobal>(rt: &R, image: &str, 
     let Some(volume) = &made.volume else {
         return made.status;
     };
-    let _locked = match open_image(rt, image) {
-        Ok((file, stamp)) if stamp.kind == Kind::Regular => Some(file),
-        Err(OpenFault::Locked) => return explain_unwritten(rt, image),
-        _ => None,
+    let _locked = match lock_replaced(rt, image) {
+        Ok(locked) => locked,
+        Err(status) => return status,
     };
     save(rt, image, None, Content::Volume(volume), made.status)
+}
+
+/// Saves what `migrate` made in the file `path`, if it made anything, and answers the status to end with. The file with
+/// the stamp `old`, out of which it was made, isn't replaced, whatever its path. A regular file that is there is locked
+/// meanwhile, if it can be opened.
+fn save_migrated<R: ImageFiles + Clock + Eprint + AllocGlobal>(
+    rt: &R,
+    path: &str,
+    old: Stamp,
+    answer: &Answer,
+) -> u8
+    ensures { EndsSaved (IsTaken R.File.contents) answer.now result }
+{
+    let Some(bytes) = &answer.image else {
+        return answer.status;
+    };
+    if stands_at(rt, path, old) {
+        return explain_unwritten(rt, path);
+    }
+    let _locked = match lock_replaced(rt, path) {
+        Ok(locked) => locked,
+        Err(status) => return status,
+    };
+    save(rt, path, None, Content::Bytes(bytes), answer.status)
+}
+
+/// Whether the file of a stamp stands at `path`, or at the end of the links that begin there.
+fn stands_at<R: ImageFiles>(rt: &R, path: &str, stamp: Stamp) -> bool {
+    match rt.stamp_at(path) {
+        Ok(there) => there.is_of(stamp),
+        Err(_) => false,
+    }
+}
+
+/// Locks the regular file that is to be replaced, if there is one that can be opened. Where another program has it
+/// locked for half a minute, prints that it can't be written, and answers the status.
+fn lock_replaced<R: ImageFiles + Clock + Eprint>(rt: &R, path: &str) -> Result<Option<R::File>, u8>
+    ensures { IfErr result IsStatusOfFileOrMemory }
+{
+    match open_image(rt, path) {
+        Ok((file, stamp)) if stamp.kind == Kind::Regular => Ok(Some(file)),
+        Err(OpenFault::Locked) => Err(explain_unwritten(rt, path)),
+        _ => Ok(None),
+    }
 }
 
 /// Saves a content in the file `path`, if that still has the stamp `read`, where one is given, and answers the status

@@ -1,5 +1,5 @@
 //! The file of an image that a command changes: of which kind it is, whether it is still as it was read, and its lock.
-ghost use Rattle.std.specs.Prelude.{◌≡◌, ◌≢◌, ◌↔◌, IfOk};
+ghost use Rattle.std.specs.Prelude.{◌≡◌, ◌≢◌, ◌↔◌, ◌==◌, ◌&&◌, IfOk};
 ghost use Rattle.std.specs.Fs.{IsDir, IsFile, file_type, metadata_len};
 ghost use Rattle.unixvol.specs.declared.image_file.Stamp.{Stamp};
 ghost use Rattle.unixvol.specs.Opening.{IsOpenTo, OpensTo};
@@ -82,6 +82,13 @@ impl Stamp {
             seconds: metadata.mtime(),
             nanoseconds: metadata.mtime_nsec(),
         }
+    }
+
+    /// Whether it is a stamp of the same file, whatever has changed of the file.
+    pub fn is_of(self, other: Stamp) -> bool
+        ensures { result ≡ (self.device == other.device && self.ino == other.ino) }
+    {
+        self.device == other.device && self.ino == other.ino
     }
 }
 

@@ -31,6 +31,23 @@ pub fn read_file<R: Files + Eprint + AllocGlobal>(rt: &R, path: &str) -> Result<
     }
 }
 
+/// The bytes of a file, and its stamp. Where it can't be read, prints so, and answers the status.
+pub fn read_stamped<R: ImageFiles + Eprint + AllocGlobal>(
+    rt: &R,
+    path: &str,
+) -> Result<(Vec<u8>, Stamp), u8>
+    ensures given { IfOk result (λ read. IsGiven R.File.remaining read.0.items) }
+    ensures fault { IfErr result (IsUnread R.File.remaining) }
+{
+    let Ok(file) = fs::open(rt, path) else {
+        return Err(explain_unread(rt, path));
+    };
+    let Ok(stamp) = rt.stamp_of(&file) else {
+        return Err(explain_unread(rt, path));
+    };
+    Ok((read_open(rt, path, file)?.bytes, stamp))
+}
+
 /// The image that a command is to change, and its stamp. Where it can't be read, or isn't to be changed, prints so,
 /// and answers the status.
 pub fn read_image<R: ImageFiles + Clock + Eprint + AllocGlobal>(

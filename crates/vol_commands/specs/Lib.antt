@@ -5,5 +5,6 @@ pub mod Faults
 pub mod Jobs
 pub mod Laws
 pub mod Making
+pub mod Migrating
 pub mod Salvaging
 pub mod Showing

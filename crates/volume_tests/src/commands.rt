@@ -2,5 +2,6 @@
 mod cat;
 mod changing;
 mod making;
+mod migrating;
 mod showing;
 mod worked;

@@ -3,7 +3,7 @@ use command_line::{Invocation, VolumeFile, Work, read};
 use std::alloc::{AllocError, Global};
 use std::process::Abort;
 use vol_check::Checker;
-use vol_commands::Job;
+use vol_commands::{Job, Migration};
 use vol_layout::Edition;
 use vol_volume::NewVolume;
 
@@ -81,6 +81,8 @@ static CHECKERS: [(&str, Checker); 3] = [
 /// Numbers of threads, as words and as they are read.
 static WORKERS: [(&str, usize); 3] = [("1", 1), ("064", 64), ("7", 7)];
 
+static MIGRATE: [&str; 6] = ["migrate", "6", "disk", "4294967295", "65535", "07"];
+
 static MKFS: [&str; 8] = ["mkfs", "7", "disk", "65536", "65535", "1", "02", "3"];
 
 /// The words of a command line.
@@ -133,6 +135,21 @@ fn words_of_cat_are_read(rt: HostRuntime) {
         ino: 17,
     };
     check(&rt, rt.alloc(), &["cat", "7", "disk", "017"], wanted);
+}
+
+#[test]
+fn words_of_migrate_are_read(rt: HostRuntime) {
+    let migration = Migration {
+        blocks: 4_294_967_295,
+        list_blocks: 65_535,
+        now: 7,
+    };
+    let wanted = Invocation::Migrate {
+        old: "6",
+        new: "disk",
+        migration,
+    };
+    check(&rt, rt.alloc(), &MIGRATE, wanted);
 }
 
 #[test]

@@ -1,0 +1,274 @@
+#!/usr/bin/env bash
+# Runs the built program where memory, the stack, the disk or a descriptor fails it, and where a signal ends it, and looks at what it left.
+# Usage: tests/faults.sh PROGRAM [RUNS]. Each kind of fault is tried RUNS times, 1,000 without the word, over all commands by turns.
+# After each run its status is one of 0 to 4 or, where a signal ended it, that signal's own; the image is the old one or the new one,
+# whole, and the new one where the status is 0; standard output has the front of what it is to have, and all where the status is 0;
+# standard error has one line where the status is one of 1 to 4, and else none; no file `.unixvol-N` is left but by a signal.
+# It prints a line for each run that breaks this, one for each kind of fault, and ends with 'N passed, N failed'.
+set -uo pipefail
+export LC_ALL=C
+program=$(realpath "${1:?usage: tests/faults.sh PROGRAM [RUNS]}")
+runs=${2:-1000}
+samples=$(realpath "$(dirname "$0")/../samples")
+folder=$(mktemp -d)
+passed=0
+failed=0
+mounted=
+# A shell that a signal ends before it becomes the program runs this too, and is to leave the files alone.
+clear_up() {
+    [ "$BASHPID" = "$$" ] || return
+    cd /
+    [ -n "$mounted" ] && umount "$mounted"
+    rm -rf "$folder"
+}
+trap clear_up EXIT
+cd "$folder" || exit 1
+mkdir wanted work
+
+# The image that all commands begin with: a volume of 4 MB with some directories and files, and an unsound one that can be mended.
+"$program" mkfs 7 wanted/old 8000 100 0 0 1 || exit 1
+head -c 300000 /dev/urandom > body
+for number in 1 2 3 4 5 6 7 8; do
+    "$program" mkdir 7 wanted/old "/d$number" 2 || exit 1
+    "$program" put 7 wanted/old "/d$number/file" body 3 || exit 1
+done
+"$program" mkfs 6 wanted/old_six 8000 100 0 0 1 || exit 1
+"$program" put 6 wanted/old_six /file body 2 || exit 1
+cp wanted/old damaged
+printf '\0\0' | dd of=damaged bs=1 seek=518 conv=notrunc status=none
+printf '5 0 0 create /a 644\n5 0 0 write /a 0 616263\n5 0 0 stat /a\n' > script
+
+# commands: the words of each command, of which `image` is a copy of the volume that its label names before the colon
+commands=(
+    'old: ls 7 image /d1'
+    'old: get 7 image /d1/file'
+    'old: cat 7 image 2'
+    'old: icheck 7 image 2'
+    'old: put 7 image /d1/more body 5'
+    'old: put 7 image /d2/file script 5'
+    'old: rm 7 image /d3/file 5'
+    'old: mkdir 7 image /d1/d 5'
+    'old: ln 7 image /d1/file /d2/other 5'
+    'old: chmod 7 image /d1/file 600 5'
+    'old: mkfs 7 image 6000 50 0 0 5'
+    'damaged: salvage 7 image'
+)
+for optional in 'old: dcheck 7 image 2' 'old: ncheck 7 image 2' 'old: play 7 image script' 'old_six: migrate six image 9000 200 5'; do
+    read -r _ name _ <<< "$optional"
+    if "$program" "$name" --help > /dev/null 2>&1; then
+        commands+=("$optional")
+    fi
+done
+cp damaged wanted/damaged
+cp wanted/old_six six
+
+# What each command leaves where nothing fails it: wanted/N.image and wanted/N.output.
+for number in "${!commands[@]}"; do
+    read -r label words <<< "${commands[number]}"
+    cp "wanted/${label%:}" image
+    # shellcheck disable=SC2086
+    "$program" $words > "wanted/$number.output" 2> error
+    status=$?
+    if [ "$status" != 0 ]; then
+        echo "faults: $words ends with $status where nothing fails it: $(head -c 200 error)" >&2
+        exit 1
+    fi
+    cp image "wanted/$number.image"
+done
+
+# is_front: whether the file `output` is a front of that which is wanted, and the whole where the status is 0
+is_front() {
+    local length
+    if [ "$2" = 0 ]; then
+        cmp -s output "wanted/$1.output"
+    else
+        length=$(stat -c %s output)
+        [ "$length" -le "$(stat -c %s "wanted/$1.output")" ] && cmp -s -n "$length" output "wanted/$1.output"
+    fi
+}
+
+# judge LABEL NUMBER STATUS SIGNAL SAYS: looks at what the run of a command left in the folder `place`; SIGNAL is the status of the
+# signal that may have ended it (0 for none), and SAYS how many lines standard error is to have where the status is one of 1 to 4
+judge() {
+    local label=$1 number=$2 status=$3 signal=$4 says=$5 fault= before words
+    read -r before words <<< "${commands[number]}"
+    before=wanted/${before%:}
+    if [ "$status" -gt 4 ] && [ "$status" != "$signal" ]; then fault="status $status"; fi
+    if [ "$status" = 0 ]; then
+        cmp -s "$place/image" "wanted/$number.image" || fault='the image is not the new one'
+        says=0
+    else
+        cmp -s "$place/image" "$before" || cmp -s "$place/image" "wanted/$number.image" || fault='the image is neither the old nor the new one'
+    fi
+    if [ "$status" -gt 4 ]; then
+        says=0
+        rm -f "$place"/.unixvol-*
+    fi
+    [ "$(wc -l < error)" = "$says" ] || fault="standard error has $(wc -l < error) lines"
+    is_front "$number" "$status" || fault='standard output has something else'
+    [ -z "$(find "$place" -name '.unixvol-*')" ] || fault='a file is left'
+    rm -f "$place"/.unixvol-*
+    if [ -z "$fault" ]; then
+        passed=$((passed + 1))
+    else
+        failed=$((failed + 1))
+        echo "failed: $label: $words: status $status: $fault; standard error: $(head -c 200 error)"
+    fi
+}
+
+# lay NUMBER: puts the image of a command, and the files that it reads, into the folder `place`, and leaves its words in `words`
+lay() {
+    local before rest
+    read -r before rest <<< "${commands[$1]}"
+    cp "wanted/${before%:}" "$place/image"
+    read -r -a words <<< "$rest"
+    true > output
+    true > error
+}
+
+# limited LABEL FLAG LEAST MOST SIGNAL FIRST: the commands by turns under `ulimit FLAG`, with limits from LEAST to MOST KB, after
+# the shell's command FIRST. The program may also end with the status SIGNAL. A limit under which it can't tell its version is too little
+# to begin.
+limited() {
+    local label=$1 flag=$2 limit=$3 step signal=$5 first=$6 run=0 number status too_little=0 ended=0
+    step=$((($4 - $3) * ${#commands[@]} / runs + 1))
+    place=work
+    while [ "$run" -lt "$runs" ]; do
+        if ! bash -c "ulimit $flag $limit; exec \"\$@\"" limited "$program" --version > /dev/null 2>&1; then
+            too_little=$((too_little + 1))
+            limit=$((limit + step))
+            [ "$too_little" -gt 10000 ] && break
+            continue
+        fi
+        for number in "${!commands[@]}"; do
+            lay "$number"
+            (cd work && exec bash -c "$first; ulimit $flag $limit; exec \"\$@\"" limited "$program" "${words[@]}") > output 2> error < /dev/null
+            status=$?
+            [ "$status" -gt 4 ] && ended=$((ended + 1))
+            judge "$label $limit KB" "$number" "$status" "$signal" 1
+            run=$((run + 1))
+        done
+        limit=$((limit + step))
+    done
+    echo "$label: $run runs, up to $limit KB; $too_little limits too little to begin; $ended ended by a signal"
+}
+
+# signalled NAME STATUS: the commands by turns, each ended by a signal after some of its time
+signalled() {
+    local name=$1 signal=$2 run=0 number status child
+    place=work
+    while [ "$run" -lt "$runs" ]; do
+        number=$((run % ${#commands[@]}))
+        lay "$number"
+        (cd work && exec "$program" "${words[@]}") > output 2> error < /dev/null &
+        child=$!
+        sleep "0.0$(printf '%03d' $((RANDOM % 300)))"
+        kill -s "$name" "$child" 2> /dev/null
+        wait "$child" 2> /dev/null
+        status=$?
+        judge "signal $name" "$number" "$status" "$signal" 1
+        run=$((run + 1))
+    done
+    echo "signal $name: $run runs"
+}
+
+# closed: the commands by turns with closed descriptors
+closed() {
+    local run=0 number status
+    place=work
+    while [ "$run" -lt "$runs" ]; do
+        number=$((run % ${#commands[@]}))
+        lay "$number"
+        case $((run / ${#commands[@]} % 4)) in
+            0) (cd work && exec "$program" "${words[@]}" > ../output 2> ../error <&-) ;;
+            1) (cd work && exec "$program" "${words[@]}" >&- 2> ../error < /dev/null) ;;
+            2) (cd work && exec "$program" "${words[@]}" > ../output 2>&- < /dev/null) ;;
+            3) (cd work && exec "$program" "${words[@]}" >&- 2>&- <&-) ;;
+        esac
+        status=$?
+        case $((run / ${#commands[@]} % 4)) in
+            0) judge 'standard input closed' "$number" "$status" 0 1 ;;
+            1) [ "$status" = 0 ] && cp "wanted/$number.output" output
+                judge 'standard output closed' "$number" "$status" 0 1 ;;
+            2) judge 'standard error closed' "$number" "$status" 0 0 ;;
+            3) [ "$status" = 0 ] && cp "wanted/$number.output" output
+                judge 'all closed' "$number" "$status" 0 0 ;;
+        esac
+        run=$((run + 1))
+    done
+    echo "closed descriptors: $run runs"
+}
+
+# full: the commands by turns on a disk with room for less and less
+full() {
+    local run=0 number status spare
+    mkdir full
+    if ! mount -t tmpfs -o size=20m none full 2> /dev/null; then
+        echo 'full disk: not tried, since no disk can be mounted here'
+        return
+    fi
+    mounted=$folder/full
+    place=full
+    cp body script six full
+    while [ "$run" -lt "$runs" ]; do
+        number=$((run % ${#commands[@]}))
+        lay "$number"
+        spare=$((run * 5 * 1024 * 1024 / runs / 4096 * 4096))
+        rm -f full/ballast
+        head -c "$((20 * 1024 * 1024))" /dev/zero > full/ballast 2> /dev/null
+        truncate -s "$(($(stat -c %s full/ballast) - spare))" full/ballast
+        (cd full && exec "$program" "${words[@]}") > output 2> error < /dev/null
+        status=$?
+        rm -f full/ballast
+        judge "a disk with $spare bytes left" "$number" "$status" 0 1
+        run=$((run + 1))
+    done
+    umount full && mounted=
+    echo "full disk: $run runs"
+}
+
+# shut: the commands by turns, by a user who may not write into the folder
+shut() {
+    local run=0 number status by=()
+    if [ "$(id -u)" = 0 ]; then
+        by=(setpriv --reuid 65534 --regid 65534 --clear-groups)
+        if ! "${by[@]}" true 2> /dev/null; then
+            echo 'a folder that can not be written: not tried, since there is no other user here'
+            return
+        fi
+        chmod 755 "$folder"
+        if ! "${by[@]}" "$program" --version > /dev/null 2>&1; then
+            echo 'a folder that can not be written: not tried, since another user can not run the program here'
+            return
+        fi
+    fi
+    place=work
+    while [ "$run" -lt "$runs" ]; do
+        number=$((run % ${#commands[@]}))
+        chmod 755 work
+        lay "$number"
+        chmod 644 work/*
+        chmod 555 work
+        (cd work && exec "${by[@]}" "$program" "${words[@]}") > output 2> error < /dev/null
+        status=$?
+        judge 'a folder that can not be written' "$number" "$status" 0 1
+        run=$((run + 1))
+    done
+    chmod 755 work
+    echo "a folder that can not be written: $run runs"
+}
+
+cp body script six work
+# Where the stack can't grow the system ends the program by SIGSEGV, and where a file can't by SIGXFSZ, but for one that ignores it.
+limited memory -v 2500 40000 139 true 2> /dev/null
+limited stack -s 256 8192 0 true 2> /dev/null
+limited 'greatest file' -f 1 4500 0 "trap '' XFSZ" 2> /dev/null
+limited 'greatest file, and a signal' -f 1 4500 153 true 2> /dev/null
+closed
+full
+shut
+signalled TERM 143
+signalled INT 130
+signalled KILL 137
+echo "$passed passed, $failed failed"
+[ "$failed" = 0 ]

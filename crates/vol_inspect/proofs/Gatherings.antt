@@ -1,0 +1,152 @@
+-- How blocks are noted one after another.
+use Rattle.std.proofs.Common.{◌≡◌, ℕ, zero, suc, ◌+◌, ◌-◌, ◌*◌, ◌^◌, ◌<◌, ◌≤◌, ◌∙◌, sym, ap, List, [], ◌∷◌, ◌++◌, refl, arith, append_assoc, Option, None, Some, true, false, ◌≢◌, cond, eq-eqb}
+use Rattle.std.proofs.lemmas.Bool.{ne_eqb}
+use Rattle.std.proofs.lemmas.List.{append-nil}
+use Rattle.std.specs.List.{flat_map, range_with_len}
+use Rattle.vol_layout.specs.Edition.{constants, number}
+use Rattle.vol_layout.specs.Geometry.{in_zone}
+use Rattle.vol_layout.specs.Names.{pointer_in, form_at}
+use Rattle.vol_layout.specs.Places.{first_count}
+use Rattle.vol_layout.specs.declared.geometry.Geometry.{Geometry}
+use Rattle.vol_inspect.specs.declared.extent.Extent.{Extent}
+use Rattle.vol_inspect.specs.declared.gathering.Gathering.{Gathering}
+use Rattle.vol_inspect.specs.Extents.{single, joins, longer, gathered, gathering_with, Notes, holdings_from, address_holdings, holdings}
+
+-- nothing was noted
+pub notes_none : (s : Gathering) → Notes s s []
+notes_none s = λ later. refl
+
+-- one list was noted, and then another
+pub notes_then : (old mid new : Gathering) (xs ys : List Extent) → Notes old mid xs → Notes mid new ys → Notes old new (xs ++ ys)
+notes_then old mid new xs ys first next = λ later.
+    next later ∙ (first (ys ++ later) ∙ ap (λ zs. gathering_with old zs) (sym (append_assoc xs ys later)))
+
+-- what was noted is this list
+pub notes_as : (old new : Gathering) (xs ys : List Extent) → Notes old new xs → xs ≡ ys → Notes old new ys
+notes_as old new xs ys done same = λ later. done later ∙ ap (λ zs. gathering_with old (zs ++ later)) same
+
+-- lists of a range of numbers, and of one more
+flat_suc : (f : ℕ → List Extent) (a n : ℕ) → flat_map f (range_with_len a (suc n)) ≡ flat_map f (range_with_len a n) ++ f (a + n)
+flat_suc f a zero = let same : a ≡ a + 0 = omega arith in append-nil (f a) ∙ ap f same
+flat_suc f a (suc n) =
+    let same : a + 1 + n ≡ a + suc n = omega arith in
+    ap (λ xs. f a ++ xs) (flat_suc f (a + 1) n ∙ ap (λ x. flat_map f (range_with_len (a + 1) n) ++ f x) same)
+    ∙ sym (append_assoc (f a) (flat_map f (range_with_len (a + 1) n)) (f (a + suc n)))
+
+-- lists of a range from 0 on, and of one more
+pub flat_more : (f : ℕ → List Extent) (n m : ℕ) → n + 1 ≡ m → flat_map f (range_with_len 0 m) ≡ flat_map f (range_with_len 0 n) ++ f n
+flat_more f n m next =
+    let size : m ≡ suc n = omega arith in
+    let at : 0 + n ≡ n = omega arith in
+    ap (λ x. flat_map f (range_with_len 0 x)) size ∙ (flat_suc f 0 n ∙ ap (λ x. flat_map f (range_with_len 0 n) ++ f x) at)
+
+-- empty lists of a range of numbers
+flat_none : (f : ℕ → List Extent) (a n : ℕ) → ((j : ℕ) → f j ≡ []) → flat_map f (range_with_len a n) ≡ []
+flat_none f a zero none = refl
+flat_none f a (suc n) none = ap (λ xs. xs ++ flat_map f (range_with_len (a + 1) n)) (none a) ∙ flat_none f (a + 1) n none
+
+-- what is found from the entries before j of block b on, in d levels
+unfoldable pub entries_before : Geometry → List ℕ → ℕ → ℕ → ℕ → ℕ → List Extent
+entries_before g image d logical b j =
+    flat_map (λ j. holdings_from g image d (logical + j * (constants g.edition).pointers ^ d) (pointer_in g image b j)) (range_with_len 0 j)
+
+-- before the first entry nothing is found
+pub entries_none : (g : Geometry) (image : List ℕ) (d logical b : ℕ) → entries_before g image d logical b 0 ≡ []
+unfolding entries_before
+entries_none g image d logical b = refl
+
+-- one entry more
+pub entries_more : (g : Geometry) (image : List ℕ) (d logical b j at n : ℕ) → pointer_in g image b j ≡ n
+    → logical + j * (constants g.edition).pointers ^ d ≡ at
+    → entries_before g image d logical b (j + 1) ≡ entries_before g image d logical b j ++ holdings_from g image d at n
+unfolding entries_before
+entries_more g image d logical b j at n is there =
+    flat_more (λ j. holdings_from g image d (logical + j * (constants g.edition).pointers ^ d) (pointer_in g image b j)) j (j + 1) refl
+    ∙ ap (λ xs. entries_before g image d logical b j ++ xs) (λ i. holdings_from g image d (there i) (is i))
+
+-- nothing is found from 0 on
+pub hold_zero : (g : Geometry) (image : List ℕ) (d logical b : ℕ) → b ≡ 0 → holdings_from g image d logical b ≡ []
+unfolding holdings_from
+hold_zero g image zero logical b none = ap (λ t. cond t [] (single g 0 logical b ∷ [])) (eq-eqb b 0 none)
+hold_zero g image (suc d) logical b none = ap (holdings_from g image (suc d) logical) none
+
+-- with no levels below it a block is found alone
+pub hold_leaf : (g : Geometry) (image : List ℕ) (d logical b : ℕ) → b ≢ 0 → d ≡ 0 → holdings_from g image d logical b ≡ single g d logical b ∷ []
+unfolding holdings_from
+hold_leaf g image d logical b some leaf =
+    ap (λ x. holdings_from g image x logical b) leaf
+    ∙ (ap (λ t. cond t [] (single g 0 logical b ∷ [])) (ne_eqb b 0 some) ∙ ap (λ x. single g x logical b ∷ []) (sym leaf))
+
+-- with one level more a block is found before its entries
+hold_suc : (g : Geometry) (image : List ℕ) (d logical b : ℕ) → b ≢ 0
+    → holdings_from g image (suc d) logical b ≡ single g (suc d) logical b ∷ entries_before g image d logical b (constants g.edition).pointers
+unfolding holdings_from entries_before
+hold_suc g image d logical b some =
+    ap (λ t. cond t [] (single g (suc d) logical b
+    ∷ flat_map (λ j. holdings_from g image d (logical + j * (constants g.edition).pointers ^ d) (pointer_in g image b j)) (range_with_len 0 (constants g.edition).pointers)))
+    (ne_eqb b 0 some)
+
+-- the same with a difference
+pub hold_entries : (g : Geometry) (image : List ℕ) (d logical b : ℕ) → b ≢ 0 → 1 ≤ d
+    → holdings_from g image d logical b ≡ single g d logical b ∷ entries_before g image (d - 1) logical b (constants g.edition).pointers
+hold_entries g image d logical b some one =
+    let size : d ≡ suc (d - 1) = omega arith in
+    ap (λ x. holdings_from g image x logical b) size
+    ∙ (hold_suc g image (d - 1) logical b some
+    ∙ ap (λ x. single g x logical b ∷ entries_before g image (d - 1) logical b (constants g.edition).pointers) (sym size))
+
+-- below a number that is no data block's nothing is found
+pub hold_outside : (g : Geometry) (image : List ℕ) (d logical b : ℕ) → b ≢ 0 → 1 ≤ d → in_zone g b ≡ false
+    → holdings_from g image d logical b ≡ single g d logical b ∷ []
+unfolding entries_before pointer_in
+hold_outside g image d logical b some one out =
+    hold_entries g image d logical b some one
+    ∙ ap (λ xs. single g d logical b ∷ xs)
+    (flat_none (λ j. holdings_from g image (d - 1) (logical + j * (constants g.edition).pointers ^ (d - 1)) (pointer_in g image b j)) 0 (constants g.edition).pointers
+    (λ j. hold_zero g image (d - 1) (logical + j * (constants g.edition).pointers ^ (d - 1)) (pointer_in g image b j)
+    (ap (λ t. cond t (number g.edition image (512 * b) j) 0) out)))
+
+-- what is found from the addresses before k on
+unfoldable pub addresses_before : Geometry → List ℕ → ℕ → ℕ → List Extent
+addresses_before g image i k = flat_map (address_holdings g image i) (range_with_len 0 k)
+
+-- before the first address nothing is found
+pub addresses_none : (g : Geometry) (image : List ℕ) (i : ℕ) → addresses_before g image i 0 ≡ []
+unfolding addresses_before
+addresses_none g image i = refl
+
+-- one address more
+pub addresses_more : (g : Geometry) (image : List ℕ) (i k : ℕ) → addresses_before g image i (k + 1) ≡ addresses_before g image i k ++ address_holdings g image i k
+unfolding addresses_before
+addresses_more g image i k = flat_more (address_holdings g image i) k (k + 1) refl
+
+-- all addresses
+pub addresses_all : (g : Geometry) (image : List ℕ) (i : ℕ) → addresses_before g image i (first_count (form_at g image i)) ≡ holdings g image i
+unfolding addresses_before holdings
+addresses_all g image i = refl
+
+-- what was noted, once nothing comes later
+pub notes_end : (old new : Gathering) (xs : List Extent) → Notes old new xs → new.done.items ++ gathered new.last [] ≡ old.done.items ++ gathered old.last xs
+notes_end old new xs done = done [] ∙ ap (λ zs. old.done.items ++ gathered old.last zs) (append-nil xs)
+
+-- one block was noted as an extent of its own
+pub notes_fresh : (old new : Gathering) (next : Extent) → old.last ≡ None → new.done.items ≡ old.done.items → new.last ≡ Some next → Notes old new (next ∷ [])
+notes_fresh old new next none done last = λ later.
+    (λ i. done i ++ gathered (last i) later) ∙ ap (λ o. old.done.items ++ gathered o (next ∷ later)) (sym none)
+
+-- one block was joined to the last extent
+pub notes_joined : (old new : Gathering) (e next : Extent) → old.last ≡ Some e → joins e next ≡ true → new.done.items ≡ old.done.items
+    → new.last ≡ Some (longer e) → Notes old new (next ∷ [])
+notes_joined old new e next was join done last = λ later.
+    (λ i. done i ++ gathered (last i) later)
+    ∙ (ap (λ t. old.done.items ++ cond t (gathered (Some (longer e)) later) (e ∷ gathered (Some next) later)) (sym join)
+    ∙ ap (λ o. old.done.items ++ gathered o (next ∷ later)) (sym was))
+
+-- one block was noted behind the last extent
+pub notes_apart : (old new : Gathering) (e next : Extent) → old.last ≡ Some e → joins e next ≡ false → new.done.items ≡ old.done.items ++ e ∷ []
+    → new.last ≡ Some next → Notes old new (next ∷ [])
+notes_apart old new e next was apart done last = λ later.
+    (λ i. done i ++ gathered (last i) later)
+    ∙ (append_assoc old.done.items (e ∷ []) (gathered (Some next) later)
+    ∙ (ap (λ t. old.done.items ++ cond t (gathered (Some (longer e)) later) (e ∷ gathered (Some next) later)) (sym apart)
+    ∙ ap (λ o. old.done.items ++ gathered o (next ∷ later)) (sym was)))

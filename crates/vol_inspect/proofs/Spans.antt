@@ -1,0 +1,12 @@
+-- Logical blocks below an entry.
+use Rattle.std.proofs.Common.{◌≡◌, ℕ, suc, ◌+◌, ◌-◌, ◌*◌, ◌^◌, ◌<◌, ◌≤◌, arith, ap, sym, ◌∙◌}
+use Rattle.std.proofs.Math.Nat.{mul-le-mul_left, pow-suc}
+
+-- those below entry j of p lie below the block itself
+pub entry_room : (p d logical j s : ℕ) → 1 ≤ d → j < p → s ≡ p ^ (d - 1) → logical + p ^ d < 2147483648 → logical + j * s + s < 2147483648
+entry_room p d logical j s deep within size room =
+    let d' : d ≡ suc (d - 1) = omega arith in
+    let all : p ^ d ≡ p ^ suc (d - 1) = ap (λ x. p ^ x) d' in
+    let below : p ^ suc (d - 1) ≡ s * p = pow-suc p (d - 1) ∙ ap (λ x. x * p) (sym size) in
+    let more : s * (j + 1) ≤ s * p = mul-le-mul_left s (omega arith) in
+    omega (arith, all, below, more)

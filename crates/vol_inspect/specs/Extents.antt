@@ -1,0 +1,75 @@
+-- The blocks that an i-node names, and how they are joined to extents.
+use Rattle.std.specs.Prelude.{◌≡◌, ℕ, zero, suc, ◌+◌, ◌*◌, ◌^◌, ◌==◌, ◌&&◌, nat_lt, Bool, true, false, not, if◌then◌else◌, List, [], ◌∷◌, ◌++◌, Option, None, Some}
+use Rattle.std.specs.List.{flat_map, range_with_len}
+use Rattle.vol_layout.specs.Edition.{constants}
+use Rattle.vol_layout.specs.Geometry.{in_zone}
+use Rattle.vol_layout.specs.Inode.{inode_place, address_at}
+use Rattle.vol_layout.specs.Places.{first_count, levels}
+use Rattle.vol_layout.specs.Names.{form_at, pointer_in}
+use Rattle.vol_layout.specs.declared.geometry.Geometry.{Geometry}
+use Rattle.vol_layout.specs.declared.places.Form.{Form}
+use Rattle.vol_layout.specs.declared.places.Form.TheVariants.{Small, Large, Deep, Bare}
+use Rattle.vol_inspect.specs.declared.extent.Extent.{Extent}
+use Rattle.vol_inspect.specs.declared.gathering.Gathering.{Gathering}
+
+-- one block, with so many levels of blocks below it, and the first logical block that it holds or leads to (Lions on bmap)
+abbrev pub single : Geometry → ℕ → ℕ → ℕ → Extent
+single g level logical b = record { level = level; logical = logical; block = b; count = 1; inside = in_zone g b }
+
+-- whether two truth values are the same (this project)
+abbrev pub same_bool : Bool → Bool → Bool
+same_bool true b = b
+same_bool false b = not b
+
+-- whether a single block of data goes on where an extent of data ends (this project)
+abbrev pub joins : Extent → Extent → Bool
+joins e next =
+    (e.level == 0) && ((next.level == 0) && (same_bool e.inside next.inside
+    && ((e.logical + e.count == next.logical) && (e.block + e.count == next.block))))
+
+-- an extent and one block more (this project)
+abbrev pub longer : Extent → Extent
+longer e = record e { count = e.count + 1 }
+
+-- single blocks joined to extents, the first of them to the one before (this project)
+abbrev pub gathered : Option Extent → List Extent → List Extent
+gathered None [] = []
+gathered (Some e) [] = e ∷ []
+gathered None (next ∷ later) = gathered (Some next) later
+gathered (Some e) (next ∷ later) = if joins e next then gathered (Some (longer e)) later else e ∷ gathered (Some next) later
+
+-- the extents once further single blocks are joined to those found so far (this project)
+abbrev pub gathering_with : Gathering → List Extent → List Extent
+gathering_with s later = s.done.items ++ gathered s.last later
+
+-- single blocks were joined to those found so far, whatever comes later (this project)
+abbrev pub Notes : Gathering → Gathering → List Extent → Type 0
+Notes old new found = (later : List Extent) → gathering_with new later ≡ gathering_with old (found ++ later)
+
+-- the first logical block below address k (Lions on bmap; ino.h)
+abbrev pub first_logical : Form → ℕ → ℕ
+first_logical Small k = k
+first_logical Large k = 256 * k
+first_logical Deep k = if nat_lt k 11 then k else if k == 11 then 138 else 16522
+first_logical Bare k = 0
+
+-- number b and those found below it in d levels, in the order of the places, without those that are 0 (Lions on bmap)
+unfoldable pub holdings_from : Geometry → List ℕ → ℕ → ℕ → ℕ → List Extent
+holdings_from g image zero logical b = if b == 0 then [] else single g 0 logical b ∷ []
+holdings_from g image (suc d) logical b = if b == 0 then [] else
+    single g (suc d) logical b
+    ∷ flat_map (λ j. holdings_from g image d (logical + j * (constants g.edition).pointers ^ d) (pointer_in g image b j))
+    (range_with_len 0 (constants g.edition).pointers)
+
+-- what address k of i-node i leads to (Lions on bmap; ino.h)
+abbrev pub address_holdings : Geometry → List ℕ → ℕ → ℕ → List Extent
+address_holdings g image i k =
+    holdings_from g image (levels (form_at g image i) k) (first_logical (form_at g image i) k) (address_at g.edition image (inode_place g.edition i) k)
+
+-- the blocks that i-node i names, one by one, in the order of its places (Lions on bmap; ino.h)
+unfoldable pub holdings : Geometry → List ℕ → ℕ → List Extent
+holdings g image i = flat_map (address_holdings g image i) (range_with_len 0 (first_count (form_at g image i)))
+
+-- the extents of i-node i (this project)
+unfoldable pub extents_of : Geometry → List ℕ → ℕ → List Extent
+extents_of g image i = gathered None (holdings g image i)

@@ -1,0 +1,157 @@
+//! Going over the blocks that an i-node names, which are joined to extents.
+ghost use Rattle.std.specs.Prelude.{◌≡◌, ◌+◌, ◌-◌, ◌<◌, ◌≤◌, ◌^◌, [], ◌∷◌, OnOk, IfOk};
+ghost use Rattle.vol_layout.specs.Edition.{constants};
+ghost use Rattle.vol_layout.specs.Geometry.{Fits};
+ghost use Rattle.vol_inspect.specs.Extents.{Notes, first_logical, holdings_from, holdings, extents_of};
+
+use crate::extent::Extent;
+use pdp_words::{BLOCK, Image};
+use std::alloc::{AllocError, Global};
+use vol_layout::i_list::{address, mode};
+use vol_layout::{Form, Geometry, number};
+
+/// The extents that were found so far.
+#[derive(Drop)]
+pub(crate) struct Gathering {
+    /// Those to which nothing can be joined any more.
+    pub done: Vec<Extent>,
+    /// The last one.
+    pub last: Option<Extent>,
+}
+
+/// The extents of i-node `i`, from 1 to the last, in the order of its places.
+///
+/// Takes memory for the extents. Costs the numbers that the i-node's addresses lead to.
+pub(crate) fn extents(
+    alloc: Global,
+    image: &Image,
+    geometry: &Geometry,
+    i: u16,
+) -> Result<Vec<Extent>, AllocError>
+    requires fits { Fits geometry.now image.now }
+    requires first { 1 ≤ i }
+    requires last { i ≤ geometry.now.last_inode }
+    ensures { IfOk result (λ extents. extents.items ≡ extents_of geometry.now image.now i) }
+{
+    let mut gathering = Gathering {
+        done: Vec::new(alloc),
+        last: None,
+    };
+    note_inode(&mut gathering, image, geometry, i)?;
+    let Gathering { mut done, last } = gathering;
+    if let Some(last) = last {
+        done.push(last)?;
+    }
+    Ok(done)
+}
+
+/// Notes what the addresses of i-node `i` lead to.
+fn note_inode(
+    gathering: &mut Gathering,
+    image: &Image,
+    geometry: &Geometry,
+    i: u16,
+) -> Result<(), AllocError>
+    requires fits { Fits geometry.now image.now }
+    requires first { 1 ≤ i }
+    requires last { i ≤ geometry.now.last_inode }
+    ensures { OnOk result (Notes gathering.old gathering.new (holdings geometry.now image.now i)) }
+{
+    let form = Form::of(geometry.edition, mode(image, geometry, i));
+    for k in 0..form.address_count() {
+        let b = address(image, geometry, i, k);
+        let logical = first_logical(form, k);
+        note_from(gathering, image, geometry, form.levels(k), logical, b)?;
+    }
+    Ok(())
+}
+
+/// The first logical block below address `k`.
+fn first_logical(form: Form, k: usize) -> u32
+    requires { k ≤ 12 }
+    ensures value { result ≡ first_logical form k }
+    ensures bound { result ≤ 16522 }
+{
+    match form {
+        Form::Small => k as u32,
+        Form::Large => 256 * k as u32,
+        Form::Deep if k < 11 => k as u32,
+        Form::Deep if k == 11 => 138,
+        Form::Deep => 16_522,
+        Form::Bare => 0,
+    }
+}
+
+/// Notes number `b` and those found below it in `level` levels, if `b` isn't 0. The first logical block below it is
+/// `logical`.
+fn note_from(
+    gathering: &mut Gathering,
+    image: &Image,
+    geometry: &Geometry,
+    level: u8,
+    logical: u32,
+    b: u32,
+) -> Result<(), AllocError>
+    requires fits { Fits geometry.now image.now }
+    requires level { level ≤ 3 }
+    requires room { logical + (constants geometry.now.edition).pointers ^ level < 2 ^ 31 }
+    ensures { OnOk result (Notes gathering.old gathering.new (holdings_from geometry.now image.now level logical b)) }
+{
+    if b == 0 {
+        return Ok(());
+    }
+    gathering.note(Extent::single(geometry, level, logical, b))?;
+    if level == 0 {
+        return Ok(());
+    }
+    if !geometry.in_zone(b) {
+        return Ok(());
+    }
+    let pointers = geometry.edition.constants().pointers;
+    let span = span(geometry, level - 1);
+    for j in 0..pointers {
+        let entry = number(image, geometry.edition, BLOCK * b as usize, j as usize);
+        note_from(
+            gathering,
+            image,
+            geometry,
+            level - 1,
+            logical + j * span,
+            entry,
+        )?;
+    }
+    Ok(())
+}
+
+/// How many logical blocks lie below a number with so many levels of indirect blocks below it.
+fn span(geometry: &Geometry, level: u8) -> u32
+    requires { level ≤ 2 }
+    ensures { result ≡ (constants geometry.now.edition).pointers ^ level }
+{
+    let pointers = geometry.edition.constants().pointers;
+    match level {
+        0 => 1,
+        1 => pointers,
+        _ => pointers * pointers,
+    }
+}
+
+impl Gathering {
+    /// Notes one block.
+    fn note(&mut self, single: Extent) -> Result<(), AllocError>
+        requires { single.logical < 2 ^ 32 - 1 }
+        ensures { OnOk result (Notes self.old self.new (single ∷ [])) }
+    {
+        let Some(last) = self.last else {
+            self.last = Some(single);
+            return Ok(());
+        };
+        if last.joins(&single) {
+            self.last = Some(last.longer());
+            return Ok(());
+        }
+        self.done.push(last)?;
+        self.last = Some(single);
+        Ok(())
+    }
+}

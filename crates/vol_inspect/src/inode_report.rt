@@ -1,0 +1,63 @@
+//! An i-node, with the blocks that it names.
+ghost use Rattle.std.specs.Prelude.{◌≡◌, ◌≤◌, OnOk, IfOk, IfErr};
+ghost use Rattle.vol_layout.specs.Geometry.{Fits};
+ghost use Rattle.vol_inspect.specs.Inspecting.{InspectsInode, node_in, IsOfImage};
+
+use crate::extent::Extent;
+use crate::fault::InspectFault;
+use crate::gathering::extents;
+use pdp_words::Image;
+use std::alloc::Global;
+use vol_layout::{Edition, Geometry, Inode, inode};
+
+/// An i-node, with the blocks that it names.
+#[derive(Debug, Drop)]
+pub struct InodeReport {
+    /// The edition whose layout the volume has.
+    pub edition: Edition,
+    /// The i-number.
+    pub number: u16,
+    /// The fields.
+    pub node: Inode,
+    /// The blocks that its places name, in the order of the places, each indirect block before what it leads to. None for
+    /// an i-node that is no regular file or directory.
+    pub extents: Vec<Extent>,
+}
+
+/// I-node `number` of an image in which rules 1 and 2 hold, which may be any bytes otherwise. A free i-node is shown too.
+///
+/// Costs the numbers that the i-node's addresses lead to, whatever its size says. Takes memory for the extents.
+pub fn inspect_inode(
+    alloc: Global,
+    edition: Edition,
+    image: &Image,
+    number: u16,
+) -> Result<InodeReport, InspectFault>
+    ensures { InspectsInode edition image.now number result }
+{
+    let geometry = open(edition, image, number)?;
+    let node = inode(image, &geometry, number);
+    let extents = extents(alloc, image, &geometry, number)?;
+    Ok(InodeReport {
+        edition: geometry.edition,
+        number,
+        node,
+        extents,
+    })
+}
+
+/// The geometry of an image in which i-node `number` can be shown.
+#[tactic(auto, unfolding(crate::specs::Inspecting::node_in))]
+fn open(edition: Edition, image: &Image, number: u16) -> Result<Geometry, InspectFault>
+    ensures exact { result ≡ node_in edition image.now number }
+    ensures cause { IfErr result IsOfImage }
+    ensures fits { IfOk result (λ geometry. Fits geometry image.now) }
+    ensures first { OnOk result (1 ≤ number) }
+    ensures last { IfOk result (λ geometry. number ≤ geometry.last_inode) }
+{
+    let geometry = Geometry::read(edition, image).map_err(InspectFault::Unsound)?;
+    if number == 0 || number > geometry.last_inode {
+        return Err(InspectFault::NoEntry);
+    }
+    Ok(geometry)
+}

@@ -5,6 +5,7 @@ mod extent;
 mod fault;
 mod gathering;
 mod inode_report;
+mod texts;
 
 pub use extent::Extent;
 pub use fault::InspectFault;

@@ -1,0 +1,77 @@
+-- The text of what is shown.
+use Rattle.std.specs.Prelude.{ℕ, ◌+◌, ◌-◌, ◌==◌, nat_lt, Bool, true, false, if◌then◌else◌, List, [], ◌∷◌, ◌++◌, codes, decimal, take, Option, None, Some}
+use Rattle.std.specs.List.{flat_map}
+use Rattle.std.specs.Fmt.{digits}
+use Rattle.vol_layout.specs.Inode.{kind_of, permissions_of, is_large, address_count}
+use Rattle.vol_layout.specs.declared.edition.Edition.{Edition}
+use Rattle.vol_layout.specs.declared.i_node.Inode.{Inode}
+use Rattle.vol_layout.specs.declared.mode.Kind.{Kind}
+use Rattle.vol_layout.specs.declared.mode.Kind.TheVariants as kinds
+use Rattle.vol_inspect.specs.declared.extent.Extent.{Extent}
+use Rattle.vol_inspect.specs.declared.inode_report.InodeReport.{InodeReport}
+
+-- a number in octal digits, with a zero before them (this project)
+abbrev pub octal : ℕ → List ℕ
+octal n = 48 ∷ digits 8 false n
+
+-- numbers with a space before each (this project)
+unfoldable pub all_spaced : List ℕ → List ℕ
+all_spaced numbers = flat_map (λ n. 32 ∷ decimal n) numbers
+
+-- the word of a kind of i-node (this project)
+abbrev pub kind_word : Kind → List ℕ
+kind_word kinds.Free = codes "free"
+kind_word kinds.Regular = codes "file"
+kind_word kinds.Directory = codes "directory"
+kind_word kinds.Special = codes "special"
+kind_word kinds.Odd = codes "odd"
+
+-- the first and the last of so many numbers, or the only one (this project)
+abbrev pub range_text : ℕ → ℕ → List ℕ
+range_text first count = if nat_lt count 2 then decimal first else decimal first ++ (codes "-" ++ decimal (first + (count - 1)))
+
+-- what is said of numbers that are no data blocks' (this project)
+abbrev pub inside_text : Bool → List ℕ
+inside_text true = []
+inside_text false = codes ", no data block"
+
+-- what an indirect block with so many levels of blocks below it leads to (this project)
+abbrev pub below_text : ℕ → ℕ → List ℕ
+below_text level logical = codes "pointers, level " ++ (decimal level ++ (codes ", from logical " ++ decimal logical))
+
+-- the blocks of an extent, and the logical blocks that they hold or lead to (this project)
+abbrev pub extent_text : Extent → List ℕ
+extent_text e =
+    if e.level == 0 then
+    codes "block " ++ (range_text e.block e.count ++ (codes ": logical " ++ (range_text e.logical e.count ++ inside_text e.inside)))
+    else
+    codes "block " ++ (decimal e.block ++ (codes ": " ++ (below_text e.level e.logical ++ inside_text e.inside)))
+
+-- extents, each on a line (this project)
+unfoldable pub extents_text : List Extent → List ℕ
+extents_text extents = flat_map (λ e. extent_text e ++ codes "\n") extents
+
+-- the lines of the fields before the addresses (this project)
+abbrev pub head_text : InodeReport → List ℕ
+head_text report =
+    codes "i-node " ++ (decimal report.number
+    ++ (codes "\nmode " ++ (octal report.node.mode.bits ++ (codes " " ++ (kind_word (kind_of report.edition report.node.mode.bits)
+    ++ (codes " " ++ (octal (permissions_of report.node.mode.bits)
+    ++ (codes "\nnlink " ++ (decimal report.node.links
+    ++ (codes "\nuid " ++ (decimal report.node.uid
+    ++ (codes "\ngid " ++ (decimal report.node.gid
+    ++ (codes "\nsize " ++ (decimal report.node.size
+    ++ codes "\naddr")))))))))))))))
+
+-- the lines of the times, of which the sixth edition has two (this project)
+abbrev pub times_text : ℕ → ℕ → Option ℕ → List ℕ
+times_text accessed modified None =
+    codes "\natime " ++ (decimal accessed ++ (codes "\nmtime " ++ (decimal modified ++ codes "\n")))
+times_text accessed modified (Some changed) =
+    codes "\natime " ++ (decimal accessed ++ (codes "\nmtime " ++ (decimal modified ++ (codes "\nctime " ++ (decimal changed ++ codes "\n")))))
+
+-- an i-node: its fields by their names in the manual, and its extents (this project)
+abbrev pub inode_text : InodeReport → List ℕ
+inode_text report =
+    head_text report ++ (all_spaced (take (address_count report.edition) report.node.addresses)
+    ++ (times_text report.node.accessed report.node.modified report.node.changed ++ extents_text report.extents.items))

@@ -1,0 +1,187 @@
+//! The text of what is shown.
+ghost use Rattle.std.specs.Prelude.{◌≡◌, ◌++◌, OnOk, Some};
+ghost use Rattle.std.specs.String.{string_bytes};
+ghost use Rattle.vol_inspect.specs.Texts.{octal, all_spaced, kind_word, range_text, extent_text, extents_text, head_text, times_text, inode_text, inside_text, below_text};
+
+use crate::extent::Extent;
+use crate::inode_report::InodeReport;
+use std::alloc::AllocError;
+use std::fmt;
+use vol_layout::{Edition, Kind};
+
+impl InodeReport {
+    /// Appends the report's text: a line for each field by its name in the manual, the mode in octal digits with the kind and
+    /// the permissions behind it; then a line for each extent.
+    ///
+    /// Costs as much as the text is long.
+    pub fn push_text(&self, text: &mut String) -> Result<(), AllocError>
+        ensures { OnOk result (string_bytes text.new ≡ string_bytes text.old ++ inode_text self.now) }
+    {
+        self.push_head(text)?;
+        let count = match self.edition {
+            Edition::V6 => 8,
+            Edition::V7 => 13,
+        };
+        push_spaced(text, &self.node.addresses[..count])?;
+        push_times(
+            text,
+            self.node.accessed,
+            self.node.modified,
+            self.node.changed,
+        )?;
+        push_extents(text, &self.extents)
+    }
+
+    /// Appends the lines of the fields before the addresses.
+    fn push_head(&self, text: &mut String) -> Result<(), AllocError>
+        ensures { OnOk result (string_bytes text.new ≡ string_bytes text.old ++ head_text self.now) }
+    {
+        let number = self.number;
+        let mode = Octal(self.node.mode.bits);
+        let kind = word(self.node.mode.kind(self.edition));
+        let permissions = Octal(self.node.mode.permissions());
+        let links = self.node.links;
+        let uid = self.node.uid;
+        let gid = self.node.gid;
+        let size = self.node.size;
+        write!(
+            text,
+            "i-node {number}\nmode {mode} {kind} {permissions}\nnlink {links}\nuid {uid}\ngid {gid}\nsize {size}\naddr"
+        )
+    }
+}
+
+/// A number in octal digits.
+#[derive(Drop)]
+struct Octal(u16);
+
+impl fmt::Display for Octal {
+    ghost output = { λ n. Some (octal n.0) };
+
+    fn fmt<W: fmt::Write>(&self, f: &mut fmt::Formatter<W>) -> fmt::Result {
+        let bits = self.0;
+        write!(f, "0{bits:o}")
+    }
+}
+
+/// So many numbers from one on.
+#[derive(Drop)]
+struct Range {
+    first: u32,
+    count: u32,
+}
+
+impl fmt::Display for Range {
+    ghost output = { λ r. Some (range_text r.first r.count) };
+
+    fn fmt<W: fmt::Write>(&self, f: &mut fmt::Formatter<W>) -> fmt::Result {
+        let first = self.first;
+        if self.count < 2 {
+            return write!(f, "{first}");
+        }
+        let last = u64::from(first) + u64::from(self.count - 1);
+        write!(f, "{first}-{last}")
+    }
+}
+
+/// What an indirect block leads to: with so many levels of blocks below it, from a logical block on.
+#[derive(Drop)]
+struct Below {
+    level: u8,
+    logical: u32,
+}
+
+impl fmt::Display for Below {
+    ghost output = { λ b. Some (below_text b.level b.logical) };
+
+    fn fmt<W: fmt::Write>(&self, f: &mut fmt::Formatter<W>) -> fmt::Result {
+        let level = self.level;
+        let logical = self.logical;
+        write!(f, "pointers, level {level}, from logical {logical}")
+    }
+}
+
+impl fmt::Display for Extent {
+    ghost output = { λ e. Some (extent_text e) };
+
+    fn fmt<W: fmt::Write>(&self, f: &mut fmt::Formatter<W>) -> fmt::Result {
+        let inside = inside_text(self.inside);
+        if self.level == 0 {
+            let blocks = Range {
+                first: self.block,
+                count: self.count,
+            };
+            let logical = Range {
+                first: self.logical,
+                count: self.count,
+            };
+            return write!(f, "block {blocks}: logical {logical}{inside}");
+        }
+        let block = self.block;
+        let below = Below {
+            level: self.level,
+            logical: self.logical,
+        };
+        write!(f, "block {block}: {below}{inside}")
+    }
+}
+
+/// What is said of numbers that are no data blocks'.
+fn inside_text(inside: bool) -> &'static str
+    ensures { result.now ≡ inside_text inside }
+{
+    if inside { "" } else { ", no data block" }
+}
+
+/// The word of a kind of i-node.
+fn word(kind: Kind) -> &'static str
+    ensures { result.now ≡ kind_word kind }
+{
+    match kind {
+        Kind::Free => "free",
+        Kind::Regular => "file",
+        Kind::Directory => "directory",
+        Kind::Special => "special",
+        Kind::Odd => "odd",
+    }
+}
+
+/// Appends numbers with a space before each.
+fn push_spaced(text: &mut String, numbers: &[u32]) -> Result<(), AllocError>
+    ensures { OnOk result (string_bytes text.new ≡ string_bytes text.old ++ all_spaced numbers.now) }
+{
+    for number in numbers {
+        write!(text, " {number}")?;
+    }
+    Ok(())
+}
+
+/// Appends the lines of the times.
+fn push_times(
+    text: &mut String,
+    accessed: u32,
+    modified: u32,
+    changed: Option<u32>,
+) -> Result<(), AllocError>
+    ensures { OnOk result (string_bytes text.new ≡ string_bytes text.old ++ times_text accessed modified changed) }
+{
+    match changed {
+        None => write!(text, "\natime {accessed}\nmtime {modified}\n"),
+        Some(changed) => {
+            write!(
+                text,
+                "\natime {accessed}\nmtime {modified}\nctime {changed}\n"
+            )
+        }
+    }
+}
+
+/// Appends extents, each on a line.
+fn push_extents(text: &mut String, extents: &[Extent]) -> Result<(), AllocError>
+    ensures { OnOk result (string_bytes text.new ≡ string_bytes text.old ++ extents_text extents.now) }
+{
+    for extent in extents {
+        write!(text, "{extent}\n")?;
+    }
+    Ok(())
+}

@@ -1,2 +1,4 @@
 pub mod Spans
+pub mod WalkLaws
+pub mod Walks
 pub mod Gatherings

@@ -1,3 +1,4 @@
 pub mod Extents
 pub mod Inspecting
 pub mod Texts
+pub mod Walking

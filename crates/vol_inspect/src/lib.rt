@@ -6,7 +6,9 @@ mod fault;
 mod gathering;
 mod inode_report;
 mod texts;
+mod walking;
 
 pub use extent::Extent;
 pub use fault::InspectFault;
 pub use inode_report::{InodeReport, inspect_inode};
+pub use walking::{FreeBlocks, walk_free};

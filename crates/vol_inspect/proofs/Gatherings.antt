@@ -8,6 +8,7 @@ use Rattle.vol_layout.specs.Geometry.{in_zone}
 use Rattle.vol_layout.specs.Names.{pointer_in, form_at}
 use Rattle.vol_layout.specs.Places.{first_count}
 use Rattle.vol_layout.specs.declared.geometry.Geometry.{Geometry}
+use Rattle.vol_reports.proofs.Ranges.{flat_more}
 use Rattle.vol_inspect.specs.declared.extent.Extent.{Extent}
 use Rattle.vol_inspect.specs.declared.gathering.Gathering.{Gathering}
 use Rattle.vol_inspect.specs.Extents.{single, joins, longer, gathered, gathering_with, Notes, holdings_from, address_holdings, holdings}
@@ -24,21 +25,6 @@ notes_then old mid new xs ys first next = λ later.
 -- what was noted is this list
 pub notes_as : (old new : Gathering) (xs ys : List Extent) → Notes old new xs → xs ≡ ys → Notes old new ys
 notes_as old new xs ys done same = λ later. done later ∙ ap (λ zs. gathering_with old (zs ++ later)) same
-
--- lists of a range of numbers, and of one more
-flat_suc : (f : ℕ → List Extent) (a n : ℕ) → flat_map f (range_with_len a (suc n)) ≡ flat_map f (range_with_len a n) ++ f (a + n)
-flat_suc f a zero = let same : a ≡ a + 0 = omega arith in append-nil (f a) ∙ ap f same
-flat_suc f a (suc n) =
-    let same : a + 1 + n ≡ a + suc n = omega arith in
-    ap (λ xs. f a ++ xs) (flat_suc f (a + 1) n ∙ ap (λ x. flat_map f (range_with_len (a + 1) n) ++ f x) same)
-    ∙ sym (append_assoc (f a) (flat_map f (range_with_len (a + 1) n)) (f (a + suc n)))
-
--- lists of a range from 0 on, and of one more
-pub flat_more : (f : ℕ → List Extent) (n m : ℕ) → n + 1 ≡ m → flat_map f (range_with_len 0 m) ≡ flat_map f (range_with_len 0 n) ++ f n
-flat_more f n m next =
-    let size : m ≡ suc n = omega arith in
-    let at : 0 + n ≡ n = omega arith in
-    ap (λ x. flat_map f (range_with_len 0 x)) size ∙ (flat_suc f 0 n ∙ ap (λ x. flat_map f (range_with_len 0 n) ++ f x) at)
 
 -- empty lists of a range of numbers
 flat_none : (f : ℕ → List Extent) (a n : ℕ) → ((j : ℕ) → f j ≡ []) → flat_map f (range_with_len a n) ≡ []
@@ -61,7 +47,7 @@ pub entries_more : (g : Geometry) (image : List ℕ) (d logical b j at n : ℕ) 
     → entries_before g image d logical b (j + 1) ≡ entries_before g image d logical b j ++ holdings_from g image d at n
 unfolding entries_before
 entries_more g image d logical b j at n is there =
-    flat_more (λ j. holdings_from g image d (logical + j * (constants g.edition).pointers ^ d) (pointer_in g image b j)) j (j + 1) refl
+    flat_more (λ j. holdings_from g image d (logical + j * (constants g.edition).pointers ^ d) (pointer_in g image b j)) 0 j (j + 1) j refl (omega arith)
     ∙ ap (λ xs. entries_before g image d logical b j ++ xs) (λ i. holdings_from g image d (there i) (is i))
 
 -- nothing is found from 0 on
@@ -118,7 +104,7 @@ addresses_none g image i = refl
 -- one address more
 pub addresses_more : (g : Geometry) (image : List ℕ) (i k : ℕ) → addresses_before g image i (k + 1) ≡ addresses_before g image i k ++ address_holdings g image i k
 unfolding addresses_before
-addresses_more g image i k = flat_more (address_holdings g image i) k (k + 1) refl
+addresses_more g image i k = flat_more (address_holdings g image i) 0 k (k + 1) k refl (omega arith)
 
 -- all addresses
 pub addresses_all : (g : Geometry) (image : List ℕ) (i : ℕ) → addresses_before g image i (first_count (form_at g image i)) ≡ holdings g image i

@@ -1,13 +1,22 @@
 -- What is shown of an image.
-use Rattle.std.specs.Prelude.{◌≡◌, ℕ, ◌==◌, ◌||◌, nat_lt, List, Result, Ok, Err, IsOk, if◌then◌else◌}
-use Rattle.vol_layout.specs.Geometry.{geometry_read}
+use Rattle.std.specs.Prelude.{◌≡◌, ℕ, ◌==◌, ◌||◌, nat_lt, List, Result, Ok, Err, IsOk, if◌then◌else◌, ◌+◌, ◌-◌, ◌*◌, [], ◌∷◌, length, map, reverse, slice_index, take}
+use Rattle.std.specs.List.{range_with_len}
+use Rattle.pdp_words.specs.Words.{word, long}
+use Rattle.vol_layout.specs.Geometry.{geometry_read, list_size, block_count}
 use Rattle.vol_layout.specs.Inode.{inode_of}
+use Rattle.vol_layout.specs.Super.{free_head, cache_head, flag_place, time_place}
 use Rattle.vol_layout.specs.declared.edition.Edition.{Edition}
+use Rattle.vol_layout.specs.declared.mode.Kind.TheVariants as kinds
+use Rattle.vol_layout.specs.declared.super_block.Flag.TheVariants as flags
+use Rattle.vol_free.specs.Numbers.{cache_len}
+use Rattle.vol_reports.specs.Blocks.{kind_count}
+use Rattle.vol_reports.specs.FreeWalk.{free_walk}
 use Rattle.vol_layout.specs.declared.geometry.Geometry.{Geometry}
 use Rattle.vol_layout.specs.declared.geometry.GeometryFault.{GeometryFault}
 use Rattle.vol_inspect.specs.declared.fault.InspectFault.{InspectFault}
 use Rattle.vol_inspect.specs.declared.fault.InspectFault.TheVariants.{Unsound, NoEntry, NoMemory}
 use Rattle.vol_inspect.specs.declared.inode_report.InodeReport.{InodeReport}
+use Rattle.vol_inspect.specs.declared.super_report.SuperReport.{SuperReport}
 use Rattle.vol_inspect.specs.Extents.{extents_of}
 
 -- a report on i-node i of an image with a geometry (manual section 5, file system)
@@ -38,3 +47,36 @@ InspectsInode edition image i (Ok report) = (g : Geometry) × (node_in edition i
 InspectsInode edition image i (Err NoMemory) = IsOk (node_in edition image i)
 InspectsInode edition image i (Err NoEntry) = node_in edition image i ≡ Err NoEntry
 InspectsInode edition image i (Err (Unsound fault)) = node_in edition image i ≡ Err (Unsound fault)
+
+-- the i-numbers of the cache, the last of the array first (filsys.h)
+unfoldable pub cached_numbers : Edition → List ℕ → List ℕ
+cached_numbers edition image =
+    map (λ k. word image (cache_head edition + 2 + 2 * (cache_len edition image - 1 - k))) (range_with_len 0 (cache_len edition image))
+
+-- flock, ilock, fmod and ronly (filsys.h)
+abbrev pub flag_bytes : Edition → List ℕ → List ℕ
+flag_bytes edition image =
+    slice_index image (flag_place edition flags.FreeLock) ∷ slice_index image (flag_place edition flags.InodeLock)
+    ∷ slice_index image (flag_place edition flags.Modified) ∷ slice_index image (flag_place edition flags.ReadOnly) ∷ []
+
+-- a report on the super-block of an image with a geometry; the front of the free list is as much of its array as the walk met (filsys.h)
+pub record IsSuperReport (g : Geometry) (image : List ℕ) (report : SuperReport) : Type 0 where
+  pub geometry : report.geometry ≡ g
+  pub list_size : report.list_size ≡ list_size image
+  pub block_count : report.block_count ≡ block_count g.edition image
+  pub free_count : report.free_count ≡ word image (free_head g.edition)
+  pub front : report.front.items ≡ take (word image (free_head g.edition)) (reverse (free_walk g image).met)
+  pub free_blocks : report.free_blocks ≡ length (free_walk g image).met
+  pub fault : report.fault ≡ (free_walk g image).fault
+  pub cache_count : report.cache_count ≡ word image (cache_head g.edition)
+  pub cache : report.cache.items ≡ cached_numbers g.edition image
+  pub free_inodes : report.free_inodes ≡ kind_count g image kinds.Free
+  pub flags : report.flags ≡ flag_bytes g.edition image
+  pub time : report.time ≡ long image (time_place g.edition)
+
+-- what is shown of the super-block, or why nothing is (this project)
+abbrev pub InspectsSuper : Edition → List ℕ → Result SuperReport InspectFault → Type 0
+InspectsSuper edition image (Ok report) = (g : Geometry) × (geometry_read edition image ≡ Ok g) × IsSuperReport g image report
+InspectsSuper edition image (Err (Unsound fault)) = geometry_read edition image ≡ Err fault
+InspectsSuper edition image (Err NoMemory) = IsOk (geometry_read edition image)
+InspectsSuper edition image (Err NoEntry) = ⊥

@@ -5,10 +5,12 @@ mod extent;
 mod fault;
 mod gathering;
 mod inode_report;
+mod super_report;
 mod texts;
 mod walking;
 
 pub use extent::Extent;
 pub use fault::InspectFault;
 pub use inode_report::{InodeReport, inspect_inode};
+pub use super_report::{SuperReport, inspect_super};
 pub use walking::{FreeBlocks, walk_free};

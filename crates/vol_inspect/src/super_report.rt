@@ -1,0 +1,159 @@
+//! The super-block, with what it says of the volume.
+ghost use Rattle.std.specs.Prelude.{◌≡◌, ◌≤◌, length, take, IfOk};
+ghost use Rattle.vol_layout.specs.Geometry.{Fits};
+ghost use Rattle.vol_layout.specs.declared.mode.Kind.TheVariants as kinds;
+ghost use Rattle.vol_file.specs.Rules.{kind_at};
+ghost use Rattle.vol_free.specs.Numbers.{cache_len};
+ghost use Rattle.vol_reports.specs.Blocks.{is_kind, kind_count};
+ghost use Rattle.vol_inspect.specs.Inspecting.{InspectsSuper, IsSuperReport, cached_numbers, flag_bytes};
+
+use crate::fault::InspectFault;
+use crate::walking::walk_free;
+use pdp_words::Image;
+use std::alloc::{AllocError, Global};
+use vol_layout::i_list::kind;
+use vol_layout::{Edition, Flag, Geometry, Kind, Super};
+use vol_reports::FreeFault;
+
+/// The super-block, with what it says of the volume.
+#[derive(Debug, Drop)]
+pub struct SuperReport {
+    /// The sizes of the volume.
+    pub geometry: Geometry,
+    /// `s_isize`: in the sixth edition how many blocks the i-list has, in the seventh the first block after it.
+    pub list_size: u16,
+    /// `s_fsize`: how many blocks the volume has.
+    pub block_count: u32,
+    /// `s_nfree`: how many numbers of the free array are in use, as it is stored.
+    pub free_count: u16,
+    /// The free blocks of that array, the next to be taken first, up to the first fault.
+    pub front: Vec<u32>,
+    /// How many blocks the free list has, up to its first fault.
+    pub free_blocks: usize,
+    /// Why the walk over the free list ended before its end, with the count or number at fault.
+    pub fault: Option<(FreeFault, u32)>,
+    /// `s_ninode`: how many i-numbers of the cache are in use, as it is stored.
+    pub cache_count: u16,
+    /// The i-numbers of the cache, the next to be taken first; none where the count is above 100.
+    pub cache: Vec<u16>,
+    /// How many i-nodes are free.
+    pub free_inodes: u16,
+    /// `s_flock`, `s_ilock`, `s_fmod` and `s_ronly`, as they are stored.
+    pub flags: [u8; 4],
+    /// `s_time`: when the volume was last changed, in seconds.
+    pub time: u32,
+}
+
+/// The super-block of an image in which rules 1 and 2 hold, which may be any bytes otherwise.
+///
+/// Reads the i-list, and the free list up to its first fault. Takes a byte for each data block, and four for each free one.
+pub fn inspect_super(
+    alloc: Global,
+    edition: Edition,
+    image: &Image,
+) -> Result<SuperReport, InspectFault>
+    ensures { InspectsSuper edition image.now result }
+{
+    let geometry = Geometry::read(edition, image).map_err(InspectFault::Unsound)?;
+    Ok(super_report(alloc, image, &geometry)?)
+}
+
+/// The super-block of an image with a geometry.
+fn super_report(
+    alloc: Global,
+    image: &Image,
+    geometry: &Geometry,
+) -> Result<SuperReport, AllocError>
+    requires { Fits geometry.now image.now }
+    ensures { IfOk result (λ report. IsSuperReport geometry.now image.now report) }
+{
+    let block = Super {
+        edition: geometry.edition,
+    };
+    let free_count = block.free_count(image);
+    let walk = walk_free(alloc, image, geometry)?;
+    let front = Vec::from_slice(alloc, first(&walk.met, free_count))?;
+    let cache = cached_numbers(alloc, image, geometry.edition)?;
+    Ok(SuperReport {
+        geometry: *geometry,
+        list_size: block.list_size(image),
+        block_count: block.block_count(image),
+        free_count,
+        front,
+        free_blocks: walk.met.len(),
+        fault: walk.fault,
+        cache_count: block.cache_count(image),
+        cache,
+        free_inodes: free_inodes(image, geometry),
+        flags: flags(image, geometry.edition),
+        time: block.time(image),
+    })
+}
+
+/// The first so many of some numbers, or all of them.
+fn first(numbers: &[u32], count: u16) -> &[u32]
+    ensures { result.now ≡ take count numbers.now }
+{
+    let end = numbers.len().min(count as usize);
+    &numbers[..end]
+}
+
+/// The i-numbers of the cache, the next to be taken first.
+fn cached_numbers(alloc: Global, image: &Image, edition: Edition) -> Result<Vec<u16>, AllocError>
+    requires { 1024 ≤ length image.now }
+    ensures { IfOk result (λ numbers. numbers.items ≡ cached_numbers edition image.now) }
+{
+    let block = Super { edition };
+    let count = cache_len(image, edition);
+    let mut numbers = Vec::new(alloc);
+    for k in 0..count {
+        numbers.push(block.cached(image, (count - 1 - k) as usize))?;
+    }
+    Ok(numbers)
+}
+
+/// How many i-numbers the cache holds; a count above 100 is as 0.
+fn cache_len(image: &Image, edition: Edition) -> u16
+    requires { 1024 ≤ length image.now }
+    ensures value { result ≡ cache_len edition image.now }
+    ensures bound { result ≤ 100 }
+{
+    let count = Super { edition }.cache_count(image);
+    if count > 100 { 0 } else { count }
+}
+
+/// How many i-nodes are free.
+fn free_inodes(image: &Image, geometry: &Geometry) -> u16
+    requires { Fits geometry.now image.now }
+    ensures { result ≡ kind_count geometry.now image.now kinds.Free }
+{
+    let mut count = 0;
+    for before in 0..geometry.last_inode {
+        count += u16::from(is_free(image, geometry, before + 1));
+    }
+    count
+}
+
+/// Whether i-node `i` is free.
+fn is_free(image: &Image, geometry: &Geometry, i: u16) -> bool
+    requires fits { Fits geometry.now image.now }
+    requires first { 1 ≤ i }
+    requires last { i ≤ geometry.now.last_inode }
+    ensures { result ≡ is_kind kinds.Free (kind_at geometry.now image.now i) }
+{
+    matches!(kind(image, geometry, i), Kind::Free)
+}
+
+/// The flag bytes.
+fn flags(image: &Image, edition: Edition) -> [u8; 4]
+    requires { 1024 ≤ length image.now }
+    ensures { result ≡ flag_bytes edition image.now }
+{
+    let block = Super { edition };
+    [
+        block.flag(image, Flag::FreeLock),
+        block.flag(image, Flag::InodeLock),
+        block.flag(image, Flag::Modified),
+        block.flag(image, Flag::ReadOnly),
+    ]
+}

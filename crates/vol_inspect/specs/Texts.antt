@@ -1,5 +1,5 @@
 -- The text of what is shown.
-use Rattle.std.specs.Prelude.{ℕ, ◌+◌, ◌-◌, ◌==◌, nat_lt, Bool, true, false, if◌then◌else◌, List, [], ◌∷◌, ◌++◌, codes, decimal, take, Option, None, Some}
+use Rattle.std.specs.Prelude.{ℕ, ◌+◌, ◌-◌, ◌==◌, nat_lt, Bool, true, false, if◌then◌else◌, List, [], ◌∷◌, ◌++◌, codes, decimal, take, Option, None, Some, slice_index}
 use Rattle.std.specs.List.{flat_map}
 use Rattle.std.specs.Fmt.{digits}
 use Rattle.vol_layout.specs.Inode.{kind_of, permissions_of, is_large, address_count}
@@ -8,6 +8,9 @@ use Rattle.vol_layout.specs.declared.i_node.Inode.{Inode}
 use Rattle.vol_layout.specs.declared.mode.Kind.{Kind}
 use Rattle.vol_layout.specs.declared.mode.Kind.TheVariants as kinds
 use Rattle.vol_inspect.specs.declared.extent.Extent.{Extent}
+use Rattle.vol_reports.specs.Texts.{fault_word}
+use Rattle.vol_reports.specs.declared.line.FreeFault.{FreeFault}
+use Rattle.vol_inspect.specs.declared.super_report.SuperReport.{SuperReport}
 use Rattle.vol_inspect.specs.declared.inode_report.InodeReport.{InodeReport}
 
 -- a number in octal digits, with a zero before them (this project)
@@ -75,3 +78,51 @@ abbrev pub inode_text : InodeReport → List ℕ
 inode_text report =
     head_text report ++ (all_spaced (take (address_count report.edition) report.node.addresses)
     ++ (times_text report.node.accessed report.node.modified report.node.changed ++ extents_text report.extents.items))
+
+-- the line of the fault that ended the walk over the free list, with its count or number (icheck)
+abbrev pub fault_line : Option (FreeFault × ℕ) → List ℕ
+fault_line None = []
+fault_line (Some fault) = fault_word fault.0 ++ (codes " " ++ (decimal fault.1 ++ codes "\n"))
+
+-- the lines of the counts, up to the numbers of the free list (this project)
+abbrev pub sizes_text : SuperReport → List ℕ
+sizes_text report =
+    codes "isize " ++ (decimal report.list_size
+    ++ (codes "\nfsize " ++ (decimal report.block_count
+    ++ (codes "\nnfree " ++ (decimal report.free_count
+    ++ codes "\nfree")))))
+
+-- the lines of the flags and of the time, behind the i-number cache (this project)
+abbrev pub guards_text : SuperReport → List ℕ
+guards_text report =
+    codes "\nflock " ++ (decimal (slice_index report.flags 0)
+    ++ (codes "\nilock " ++ (decimal (slice_index report.flags 1)
+    ++ (codes "\nfmod " ++ (decimal (slice_index report.flags 2)
+    ++ (codes "\nronly " ++ (decimal (slice_index report.flags 3)
+    ++ (codes "\ntime " ++ (decimal report.time
+    ++ codes "\n")))))))))
+
+-- the lines of what is counted: data blocks and i-nodes, and how many are free (this project)
+abbrev pub counts_text : SuperReport → List ℕ
+counts_text report =
+    codes "data blocks " ++ (decimal (report.geometry.zone_end - report.geometry.zone_start)
+    ++ (codes ", free " ++ (decimal report.free_blocks
+    ++ (codes "\ni-nodes " ++ (decimal report.geometry.last_inode
+    ++ (codes ", free " ++ (decimal report.free_inodes
+    ++ codes "\n")))))))
+
+-- the lines of the counts, and the front of the free list (this project)
+abbrev pub free_text : SuperReport → List ℕ
+free_text report = sizes_text report ++ all_spaced report.front.items
+
+-- the lines of the i-number cache (this project)
+abbrev pub cache_text : SuperReport → List ℕ
+cache_text report = codes "\nninode " ++ (decimal report.cache_count ++ codes "\ninode") ++ all_spaced report.cache.items
+
+-- the lines of what is counted, and of the fault (this project)
+abbrev pub found_text : SuperReport → List ℕ
+found_text report = counts_text report ++ fault_line report.fault
+
+-- the super-block: its fields by their names in filsys.h, and what is counted (this project)
+abbrev pub super_text : SuperReport → List ℕ
+super_text report = free_text report ++ (cache_text report ++ (guards_text report ++ found_text report))

@@ -1,13 +1,36 @@
 //! The text of what is shown.
-ghost use Rattle.std.specs.Prelude.{◌≡◌, ◌++◌, OnOk, Some};
+ghost use Rattle.std.specs.Prelude.{◌≡◌, ◌≤◌, ◌++◌, OnOk, Some};
 ghost use Rattle.std.specs.String.{string_bytes};
-ghost use Rattle.vol_inspect.specs.Texts.{octal, all_spaced, kind_word, range_text, extent_text, extents_text, head_text, times_text, inode_text, inside_text, below_text};
+ghost use Rattle.vol_reports.specs.Texts.{fault_word};
+ghost use Rattle.vol_inspect.specs.Texts.{
+  octal,
+  all_spaced,
+  kind_word,
+  range_text,
+  below_text,
+  inside_text,
+  extent_text,
+  extents_text,
+  head_text,
+  times_text,
+  inode_text,
+  fault_line,
+  sizes_text,
+  guards_text,
+  counts_text,
+  free_text,
+  cache_text,
+  found_text,
+  super_text,
+};
 
 use crate::extent::Extent;
 use crate::inode_report::InodeReport;
+use crate::super_report::SuperReport;
 use std::alloc::AllocError;
 use std::fmt;
 use vol_layout::{Edition, Kind};
+use vol_reports::FreeFault;
 
 impl InodeReport {
     /// Appends the report's text: a line for each field by its name in the manual, the mode in octal digits with the kind and
@@ -48,6 +71,114 @@ impl InodeReport {
             text,
             "i-node {number}\nmode {mode} {kind} {permissions}\nnlink {links}\nuid {uid}\ngid {gid}\nsize {size}\naddr"
         )
+    }
+}
+
+impl SuperReport {
+    /// Appends the report's text: a line for each field by its name in `filsys.h`, the free blocks and the i-numbers behind
+    /// their counts; then how many data blocks and i-nodes there are, and how many are free; and a line for the fault of the
+    /// free list, if it has one, as the checkers print it.
+    ///
+    /// Costs as much as the text is long.
+    pub fn push_text(&self, text: &mut String) -> Result<(), AllocError>
+        requires { self.now.geometry.zone_start ≤ self.now.geometry.zone_end }
+        ensures { OnOk result (string_bytes text.new ≡ string_bytes text.old ++ super_text self.now) }
+    {
+        self.push_free(text)?;
+        self.push_cache(text)?;
+        self.push_guards(text)?;
+        self.push_found(text)
+    }
+
+    /// Appends the lines of the counts, and the front of the free list.
+    fn push_free(&self, text: &mut String) -> Result<(), AllocError>
+        ensures { OnOk result (string_bytes text.new ≡ string_bytes text.old ++ free_text self.now) }
+    {
+        self.push_sizes(text)?;
+        push_spaced(text, &self.front)
+    }
+
+    /// Appends the lines of the i-number cache.
+    fn push_cache(&self, text: &mut String) -> Result<(), AllocError>
+        ensures { OnOk result (string_bytes text.new ≡ string_bytes text.old ++ cache_text self.now) }
+    {
+        let count = self.cache_count;
+        write!(text, "\nninode {count}\ninode")?;
+        push_spaced_words(text, &self.cache)
+    }
+
+    /// Appends the lines of what is counted, and of the fault.
+    fn push_found(&self, text: &mut String) -> Result<(), AllocError>
+        requires { self.now.geometry.zone_start ≤ self.now.geometry.zone_end }
+        ensures { OnOk result (string_bytes text.new ≡ string_bytes text.old ++ found_text self.now) }
+    {
+        self.push_counts(text)?;
+        push_fault(text, self.fault)
+    }
+
+    /// Appends the lines of the counts, up to the numbers of the free list.
+    fn push_sizes(&self, text: &mut String) -> Result<(), AllocError>
+        ensures { OnOk result (string_bytes text.new ≡ string_bytes text.old ++ sizes_text self.now) }
+    {
+        let list_size = self.list_size;
+        let block_count = self.block_count;
+        let free_count = self.free_count;
+        write!(
+            text,
+            "isize {list_size}\nfsize {block_count}\nnfree {free_count}\nfree"
+        )
+    }
+
+    /// Appends the lines of the flags and of the time.
+    fn push_guards(&self, text: &mut String) -> Result<(), AllocError>
+        ensures { OnOk result (string_bytes text.new ≡ string_bytes text.old ++ guards_text self.now) }
+    {
+        let free_lock = self.flags[0];
+        let inode_lock = self.flags[1];
+        let modified = self.flags[2];
+        let read_only = self.flags[3];
+        let time = self.time;
+        write!(
+            text,
+            "\nflock {free_lock}\nilock {inode_lock}\nfmod {modified}\nronly {read_only}\ntime {time}\n"
+        )
+    }
+
+    /// Appends the lines of what is counted.
+    fn push_counts(&self, text: &mut String) -> Result<(), AllocError>
+        requires { self.now.geometry.zone_start ≤ self.now.geometry.zone_end }
+        ensures { OnOk result (string_bytes text.new ≡ string_bytes text.old ++ counts_text self.now) }
+    {
+        let blocks = self.geometry.zone_end - self.geometry.zone_start;
+        let free_blocks = self.free_blocks;
+        let inodes = self.geometry.last_inode;
+        let free_inodes = self.free_inodes;
+        write!(
+            text,
+            "data blocks {blocks}, free {free_blocks}\ni-nodes {inodes}, free {free_inodes}\n"
+        )
+    }
+}
+
+/// Appends the line of the fault that ended the walk over the free list.
+fn push_fault(text: &mut String, fault: Option<(FreeFault, u32)>) -> Result<(), AllocError>
+    ensures { OnOk result (string_bytes text.new ≡ string_bytes text.old ++ fault_line fault) }
+{
+    let Some((fault, number)) = fault else {
+        return Ok(());
+    };
+    let word = fault_word(fault);
+    write!(text, "{word} {number}\n")
+}
+
+/// The words of a fault of the free list.
+fn fault_word(fault: FreeFault) -> &'static str
+    ensures { result.now ≡ fault_word fault }
+{
+    match fault {
+        FreeFault::TooMany => "free toomany",
+        FreeFault::OutOfZone => "free outofzone",
+        FreeFault::Repeat => "free repeat",
     }
 }
 
@@ -148,6 +279,16 @@ fn word(kind: Kind) -> &'static str
 
 /// Appends numbers with a space before each.
 fn push_spaced(text: &mut String, numbers: &[u32]) -> Result<(), AllocError>
+    ensures { OnOk result (string_bytes text.new ≡ string_bytes text.old ++ all_spaced numbers.now) }
+{
+    for number in numbers {
+        write!(text, " {number}")?;
+    }
+    Ok(())
+}
+
+/// Appends numbers with a space before each.
+fn push_spaced_words(text: &mut String, numbers: &[u16]) -> Result<(), AllocError>
     ensures { OnOk result (string_bytes text.new ≡ string_bytes text.old ++ all_spaced numbers.now) }
 {
     for number in numbers {

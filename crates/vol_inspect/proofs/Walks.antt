@@ -1,5 +1,5 @@
 -- The walk over the free list, block after block.
-use Rattle.std.proofs.Common.{◌≡◌, ℕ, zero, suc, ◌+◌, ◌-◌, ◌<◌, ◌≤◌, ◌∙◌, sym, ap, Bool, true, false, ◌||◌, ◌==◌, if◌then◌else◌, List, [], ◌∷◌, ◌++◌, length, get_or, set, reverse, slice_index_or, Option, refl, arith, inl, inr, length-set, get_or-set_same, get_or-set_other}
+use Rattle.std.proofs.Common.{◌≡◌, ℕ, zero, suc, ◌+◌, ◌-◌, ◌<◌, ◌≤◌, ◌∙◌, sym, ap, Bool, true, false, ◌||◌, ◌==◌, if◌then◌else◌, List, [], ◌∷◌, ◌++◌, length, get_or, set, reverse, slice_index_or, Option, refl, arith, inl, inr, length-set, length-append, get_or-set_same, get_or-set_other}
 use Rattle.std.proofs.lemmas.Bool.{cases_eq, eq-eqb, ne_eqb}
 use Rattle.std.proofs.lemmas.List.{reverse-append}
 use Rattle.std.specs.List.{list_any}
@@ -13,7 +13,9 @@ use Rattle.vol_reports.specs.declared.line.FreeFault.{FreeFault}
 use Rattle.vol_reports.specs.Words.{zone_len}
 use Rattle.vol_reports.specs.FreeWalk.{Walked, walk_rest, free_walk}
 use Rattle.vol_inspect.specs.declared.walking.Rest.{Rest}
-use Rattle.vol_inspect.specs.Walking.{FlagsMet, Meets}
+use Rattle.vol_inspect.specs.Walking.{AreZoned, FlagsMet, Meets}
+use Rattle.vol_layout.specs.Geometry.{in_zone}
+use Rattle.vol_reports.proofs.Ranges.{pushed_more}
 
 -- how many flags aren't set
 abbrev pub unset : List Bool → ℕ
@@ -35,6 +37,7 @@ unset_less (m ∷ flags) (suc k) lt clear = let h = unset_less flags k (omega ar
 -- these blocks were met, and the walk goes on from what is left
 pub record IsWalking (g : Geometry) (image met : List ℕ) (flags : List Bool) (rest : Rest) : Type 0 where
   pub len : length flags ≡ zone_len g
+  pub zoned : AreZoned g met
   pub flagged : FlagsMet g flags (reverse met)
   pub room : rest.head + 202 ≤ length image
   pub walk : walk_rest g image (unset flags + 1) rest.head rest.count (reverse met) ≡ free_walk g image
@@ -45,6 +48,7 @@ pub starts : (g : Geometry) (image met : List ℕ) (flags : List Bool) (rest : R
     → rest.head ≡ free_head g.edition → rest.count ≡ word image (free_head g.edition) → IsWalking g image met flags rest
 starts g image met flags rest fits none len clear head count = record {
   len = len;
+  zoned = λ k d low. absurd (omega (arith, ap length none, low));
   flagged = λ b zone. clear (b - g.zone_start) ∙ ap (λ xs. list_any (λ k. k == b) (reverse xs)) (sym none);
   room = omega (arith, head, head_end g.edition, zone_behind fits, fits.blocks, fits.zone);
   walk = λ i. walk_rest g image (ap (λ n. n + 1) (all_unset flags clear ∙ len) i) (head i) (count i) (reverse (none i));
@@ -63,6 +67,8 @@ module _ (g : Geometry) (image met : List ℕ) (flags : List Bool) (rest : Rest)
       let turned : reverse later ≡ b ∷ reverse met = ap reverse pushed ∙ reverse-append met (b ∷ []) in
       record {
         len = length-set flags (b - g.zone_start) true ∙ w.len;
+        zoned = λ k d low. pushed_more (λ k x. in_zone g x ≡ true) met later b (length met) pushed refl w.zoned meets.zone k d
+            (omega (arith, ap length pushed, length-append {A = ℕ} met (b ∷ []), low));
         flagged = λ k zone. let at = zone_bounds g k zone in elim (cases_eq b k) [
           | inl same ↦ ap (λ x. get_or (set flags (b - g.zone_start) true) (x - g.zone_start) false) (sym same)
               ∙ (get_or-set_same flags (b - g.zone_start) true false near

@@ -1,5 +1,5 @@
 -- One step of the walk over the free list, with a flag for each data block.
-use Rattle.std.specs.Prelude.{◌≡◌, ℕ, suc, ◌+◌, ◌-◌, ◌≤◌, Bool, true, false, ◌==◌, List, ◌∷◌, length, slice_index_or, None, Some}
+use Rattle.std.specs.Prelude.{◌≡◌, ℕ, suc, ◌+◌, ◌-◌, ◌<◌, ◌≤◌, Bool, true, false, ◌==◌, List, ◌∷◌, length, slice_index_or, None, Some}
 use Rattle.std.specs.List.{list_any}
 use Rattle.vol_layout.specs.Geometry.{in_zone}
 use Rattle.vol_layout.specs.declared.geometry.Geometry.{Geometry}
@@ -19,6 +19,10 @@ pub record Meets (g : Geometry) (image : List ℕ) (flags : List Bool) (rest : R
   pub room : next.head + 202 ≤ length image
   pub on : (fuel : ℕ) (met : List ℕ) → FlagsMet g flags met
       → walk_rest g image (suc fuel) rest.head rest.count met ≡ walk_rest g image fuel next.head next.count (b ∷ met)
+
+-- each of the numbers is that of a data block (icheck)
+abbrev pub AreZoned : Geometry → List ℕ → Type 0
+AreZoned g numbers = (k d : ℕ) → k < length numbers → in_zone g (slice_index_or numbers k d) ≡ true
 
 -- what one step of the walk finds (icheck)
 abbrev pub WalkFinds : Geometry → List ℕ → List Bool → Rest → Outcome → Type 0

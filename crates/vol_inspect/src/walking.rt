@@ -4,7 +4,7 @@ ghost use Rattle.pdp_words.specs.Words.{word};
 ghost use Rattle.vol_layout.specs.Geometry.{Fits};
 ghost use Rattle.vol_reports.specs.FreeWalk.{free_walk};
 ghost use Rattle.vol_reports.specs.Words.{zone_len};
-ghost use Rattle.vol_inspect.specs.Walking.{WalkFinds};
+ghost use Rattle.vol_inspect.specs.Walking.{AreZoned, WalkFinds};
 
 use pdp_words::{BLOCK, Image};
 use std::alloc::{AllocError, Global};
@@ -49,6 +49,7 @@ pub fn walk_free(
 ) -> Result<FreeBlocks, AllocError>
     requires { Fits geometry.now image.now }
     ensures met { IfOk result (λ walk. reverse walk.met.items ≡ (free_walk geometry.now image.now).met) }
+    ensures zoned { IfOk result (λ walk. AreZoned geometry.now walk.met.items) }
     ensures fault { IfOk result (λ walk. walk.fault ≡ (free_walk geometry.now image.now).fault) }
 {
     let mut flags = vec![in alloc; false; zone_len(geometry)]?;
@@ -69,6 +70,7 @@ fn walk(
     requires clear { (k : ℕ) → slice_index_or flags.old k false ≡ false }
     requires none { met.old.items ≡ [] }
     ensures met { OnOk result (reverse met.new.items ≡ (free_walk geometry.now image.now).met) }
+    ensures zoned { OnOk result (AreZoned geometry.now met.new.items) }
     ensures fault { IfOk result (λ fault. fault ≡ (free_walk geometry.now image.now).fault) }
 {
     let super_block = Super {

@@ -43,3 +43,9 @@ returns-in-Fault-clause-fault c =
     let w = c.walk.invariant in
     sym (ap (λ (k : Walked). k.fault) (walk_is c.args.geometry.now c.args.image.now c.walk.met.items c.walk.flags c.walk.rest w
     (Some (c.in-Fault.fault, c.in-Fault.n)) (c.in-Fault.ensures (unset c.walk.flags) _ w.flagged)))
+
+pub returns-in-End-clause-zoned : goal.returns-in-End-clause-zoned
+returns-in-End-clause-zoned c = c.walk.invariant.zoned
+
+pub returns-in-Fault-clause-zoned : goal.returns-in-Fault-clause-zoned
+returns-in-Fault-clause-zoned c = c.walk.invariant.zoned

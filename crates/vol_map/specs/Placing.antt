@@ -1,0 +1,67 @@
+-- How many places name each block, counted up to two.
+use Rattle.std.specs.Prelude.{◌≡◌, ℕ, zero, suc, ◌+◌, ◌*◌, ◌<◌, ◌≤◌, ◌==◌, ◌&&◌, Bool, true, min, if◌then◌else◌, List, length, slice_index}
+use Rattle.std.specs.List.{sum_by, range_with_len}
+use Rattle.vol_layout.specs.Edition.{constants}
+use Rattle.vol_layout.specs.Geometry.{in_zone}
+use Rattle.vol_layout.specs.Inode.{inode_place, address_at}
+use Rattle.vol_layout.specs.Places.{first_count, levels}
+use Rattle.vol_layout.specs.Names.{form_at, pointer_in}
+use Rattle.vol_layout.specs.declared.geometry.Geometry.{Geometry}
+use Rattle.vol_layout.specs.declared.mode.Kind.{Kind}
+use Rattle.vol_file.specs.Rules.{kind_at}
+use Rattle.vol_reports.specs.Blocks.{one_if, is_kind}
+
+-- how many of these places name block c with e levels of blocks below it: that which names number b with d levels below it, and
+-- those below that (icheck; Lions on bmap)
+unfoldable pub found_at : Geometry → List ℕ → ℕ → ℕ → ℕ → ℕ → ℕ
+found_at g image zero b c e = if in_zone g b then one_if ((b == c) && (e == 0)) else 0
+found_at g image (suc d) b c e =
+    if in_zone g b then
+    one_if ((b == c) && (e == suc d)) + sum_by (λ j. found_at g image d (pointer_in g image b j) c e) (range_with_len 0 (constants g.edition).pointers)
+    else 0
+
+-- how many places of i-node i name block c with e levels of blocks below it (icheck)
+unfoldable pub node_count : Geometry → List ℕ → ℕ → ℕ → ℕ → ℕ
+node_count g image i c e =
+    sum_by (λ k. found_at g image (levels (form_at g image i) k) (address_at g.edition image (inode_place g.edition i) k) c e)
+    (range_with_len 0 (first_count (form_at g image i)))
+
+-- the same of an i-node of a kind, and none of another (icheck)
+abbrev pub wanted_count : Geometry → List ℕ → Kind → ℕ → ℕ → ℕ → ℕ
+wanted_count g image kind i c e = if is_kind kind (kind_at g image i) then node_count g image i c e else 0
+
+-- how many places of the i-nodes of a kind name block c with e levels of blocks below it (icheck)
+unfoldable pub place_count : Geometry → List ℕ → Kind → ℕ → ℕ → ℕ
+place_count g image kind c e =
+    sum_by (λ i. wanted_count g image kind i c e) (range_with_len 1 g.last_inode)
+
+-- each count of places of a block, by the levels of blocks below it, grew by a number, up to two in all (this project)
+abbrev pub Counts : Geometry → (ℕ → ℕ → ℕ) → List ℕ → List ℕ → Type 0
+Counts g more old new = (c e : ℕ) → in_zone g c ≡ true → e ≤ 3 → slice_index new (4 * c + e) ≡ min 2 (slice_index old (4 * c + e) + more c e)
+
+-- the place that names number b was counted, and those below it (this project)
+abbrev pub CountsFrom : Geometry → List ℕ → ℕ → ℕ → List ℕ → List ℕ → Type 0
+CountsFrom g image d b old new = Counts g (found_at g image d b) old new
+
+-- the places of i-node i were counted (this project)
+abbrev pub CountsNode : Geometry → List ℕ → ℕ → List ℕ → List ℕ → Type 0
+CountsNode g image i old new = Counts g (node_count g image i) old new
+
+-- the places of i-node i were counted, if it is of a kind (this project)
+abbrev pub CountsWanted : Geometry → List ℕ → Kind → ℕ → List ℕ → List ℕ → Type 0
+CountsWanted g image kind i old new = Counts g (wanted_count g image kind i) old new
+
+-- the counts are those of the places of the i-nodes of a kind, up to two (icheck)
+abbrev pub CountsKind : Geometry → List ℕ → Kind → List ℕ → Type 0
+CountsKind g image kind counts = (c e : ℕ) → in_zone g c ≡ true → e ≤ 3 → slice_index counts (4 * c + e) ≡ min 2 (place_count g image kind c e)
+
+-- nothing was counted (this project)
+abbrev pub IsClear : List ℕ → Type 0
+IsClear counts = (k : ℕ) → slice_index counts k ≡ 0
+
+-- no count is above two, and what lies below a block, which has up to d levels below it, was counted as often as the block (this project)
+pub record IsTally (g : Geometry) (image : List ℕ) (d : ℕ) (counts : List ℕ) : Type 0 where
+  pub len : length counts ≡ 4 * g.zone_end
+  pub low : (c e : ℕ) → in_zone g c ≡ true → e ≤ 3 → slice_index counts (4 * c + e) ≤ 2
+  pub closed : (b k c e : ℕ) → k ≤ d → in_zone g b ≡ true → in_zone g c ≡ true → e ≤ 3 → 1 ≤ found_at g image k b c e
+      → slice_index counts (4 * b + k) ≤ slice_index counts (4 * c + e)

@@ -2,3 +2,4 @@ pub mod Placing
 pub mod Listing
 pub mod Uses
 pub mod Drawing
+pub mod Picturing

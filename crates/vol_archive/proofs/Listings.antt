@@ -1,0 +1,203 @@
+-- Collecting the names of a directory, slot after slot, where a name may come twice.
+use Rattle.std.proofs.Common.{◌≡◌, ℕ, zero, suc, ◌+◌, ◌-◌, ◌<◌, ◌≤◌, Bool, true, false, cond, List, [], ◌∷◌, ◌++◌, map, None, Some, refl, ap, sym, ◌∙◌, arith}
+use Rattle.std.specs.Prelude.{Option, T}
+use Rattle.std.specs.BTreeMap.{insert_entry}
+use Rattle.std.specs.Map.{lookup}
+use Rattle.std.specs.Cmp.Lexicographic.{slice_cmp}
+use Rattle.std.specs.FinMap.Entries.{by_order, put, find-put, is_sorted, is_sorted-put, same_entries}
+use Rattle.std.specs.Global.{Vec}
+use Rattle.std.specs.List.{range_with_len}
+use Rattle.std.specs.Option.{is_some}
+use Rattle.std.specs.Ordering.{nat_cmp, match_ordering, is_eq}
+use Rattle.std.specs.declared.cmp.Ordering.TheVariants.{Less, Equal, Greater}
+use Rattle.std.specs.Str.{bytes_eq}
+use Rattle.std.proofs.lemmas.Cmp.{nat_list_cmp_total}
+use Rattle.std.proofs.lemmas.List.{map-append}
+use Rattle.std.proofs.lemmas.Map.Lookups.{exact_bytes}
+use Rattle.std.proofs.lemmas.Map.Text.{is_eq-slice_cmp}
+use Rattle.vol_layout.specs.Slot.{name_of}
+use Rattle.vol_layout.specs.declared.geometry.Geometry.{Geometry}
+use Rattle.vol_layout.specs.declared.slot.Slot.{Slot}
+use Rattle.vol_file.proofs.PlaceLists.{same_bytes}
+use Rattle.vol_dir.specs.Entries.{entry_at, slot_count, slots}
+use Rattle.vol_dir.specs.Names.{Names, get, insert, names_of}
+use Rattle.vol_dir.specs.Scanning.{IsNextEntry}
+use Rattle.vol_dir.proofs.NameMaps.{sorted}
+use Rattle.vol_judge.proofs.NextEntries.{entry_next}
+use Rattle.vol_archive.specs.Listing.{listed, put_first}
+
+-- the entries in the slots of directory d below slot n
+unfoldable pub slots_below : Geometry → List ℕ → ℕ → ℕ → List (Option (List ℕ × ℕ))
+slots_below geometry image d n = map (entry_at geometry image d) (range_with_len 0 n)
+
+-- the names in the slots of directory d below slot n were collected
+pub record HasCollected (geometry : Geometry) (image : List ℕ) (d n : ℕ) (entries : List (Vec ℕ × ℕ)) : Type 0 where
+  pub within : n ≤ slot_count geometry image d
+  pub names : listed entries ≡ names_of (slots_below geometry image d n)
+
+-- one number more
+range_more : (a n j : ℕ) → a + n ≡ j → range_with_len a (suc n) ≡ range_with_len a n ++ j ∷ []
+range_more a zero j e = let same : a ≡ j = omega arith in ap (λ k. k ∷ []) same
+range_more a (suc n) j e = ap (λ ks. a ∷ ks) (range_more (a + 1) n j (omega arith))
+
+-- one slot more
+slots_more : (geometry : Geometry) (image : List ℕ) (d n : ℕ)
+    → slots_below geometry image d (suc n) ≡ slots_below geometry image d n ++ entry_at geometry image d n ∷ []
+unfolding slots_below
+slots_more geometry image d n =
+    ap (map (entry_at geometry image d)) (range_more 0 n n (omega arith)) ∙ map-append (entry_at geometry image d) (range_with_len 0 n) (n ∷ [])
+
+-- an empty slot behind others has no name
+names_empty : (slots : List (Option (List ℕ × ℕ))) → names_of (slots ++ None ∷ []) ≡ names_of slots
+names_empty [] = refl
+names_empty (None ∷ slots) = names_empty slots
+names_empty (Some entry ∷ slots) = ap (λ names. insert names entry.0 entry.1) (names_empty slots)
+
+-- empty slots have no names
+names_kept : (geometry : Geometry) (image : List ℕ) (d n k : ℕ) → ((t : ℕ) → n ≤ t → t < k + n → entry_at geometry image d t ≡ None)
+    → names_of (slots_below geometry image d (k + n)) ≡ names_of (slots_below geometry image d n)
+names_kept geometry image d n zero none = let same : 0 + n ≡ n = omega arith in ap (λ m. names_of (slots_below geometry image d m)) same
+names_kept geometry image d n (suc k) none =
+    let more : suc k + n ≡ suc (k + n) = omega arith in
+    let empty : entry_at geometry image d (k + n) ≡ None = none (k + n) (omega arith) (omega arith) in
+    ap (λ m. names_of (slots_below geometry image d m)) more
+    ∙ (ap names_of (slots_more geometry image d (k + n) ∙ ap (λ entry. slots_below geometry image d (k + n) ++ entry ∷ []) empty)
+    ∙ (names_empty (slots_below geometry image d (k + n))
+    ∙ names_kept geometry image d n k (λ t low high. none t low (omega arith))))
+
+-- the same, up to a later slot
+names_until : (geometry : Geometry) (image : List ℕ) (d n m : ℕ) → n ≤ m → ((t : ℕ) → n ≤ t → t < m → entry_at geometry image d t ≡ None)
+    → names_of (slots_below geometry image d m) ≡ names_of (slots_below geometry image d n)
+names_until geometry image d n m h none =
+    let m_is : (m - n) + n ≡ m = omega arith in
+    ap (λ k. names_of (slots_below geometry image d k)) (sym m_is)
+    ∙ names_kept geometry image d n (m - n) (λ t low high. none t low (omega arith))
+
+-- a name that is put in a map is found there, and every other name as before
+get_insert : (names : Names) (name q : List ℕ) (i : ℕ) → get (insert names name i) q ≡ cond (bytes_eq q name) (Some i) (get names q)
+get_insert names name q i =
+    find-put (slice_cmp nat_cmp) nat_list_cmp_total q name i names ∙ ap (λ b. cond b (Some i) (get names q)) (is_eq-slice_cmp q name)
+
+-- the first of two, where there is one
+abbrev pub or_else : Option ℕ → Option ℕ → Option ℕ
+or_else None second = second
+or_else (Some first) second = Some first
+
+-- what a choice gives first
+cond_else : (b : Bool) (x second : Option ℕ) (i : ℕ) → cond b (Some i) (or_else x second) ≡ or_else (cond b (Some i) x) second
+cond_else true x second i = refl
+cond_else false x second i = refl
+
+-- a name behind others is found where none of them has it
+get_behind : (slots : List (Option (List ℕ × ℕ))) (name q : List ℕ) (i : ℕ)
+    → get (names_of (slots ++ Some (name, i) ∷ [])) q ≡ or_else (get (names_of slots) q) (cond (bytes_eq q name) (Some i) None)
+get_behind [] name q i = get_insert [] name q i
+get_behind (None ∷ slots) name q i = get_behind slots name q i
+get_behind (Some entry ∷ slots) name q i =
+    get_insert (names_of (slots ++ Some (name, i) ∷ [])) entry.0 q entry.1
+    ∙ (ap (cond (bytes_eq q entry.0) (Some entry.1)) (get_behind slots name q i)
+    ∙ (cond_else (bytes_eq q entry.0) (get (names_of slots) q) (cond (bytes_eq q name) (Some i) None) entry.1
+    ∙ ap (λ first. or_else first (cond (bytes_eq q name) (Some i) None)) (sym (get_insert (names_of slots) entry.0 q entry.1))))
+
+-- what a map answers once a name is put first
+get_put_first : (names : Names) (name q : List ℕ) (i : ℕ)
+    → get (put_first names name i) q ≡ or_else (get names q) (cond (bytes_eq q name) (Some i) None)
+unfolding put_first
+get_put_first names name q i =
+    elim (get names name) as (λ found. get names name ≡ found
+    → get (cond (is_some found) names (insert names name i)) q ≡ or_else (get names q) (cond (bytes_eq q name) (Some i) None)) [
+      | None ↦ λ e. get_insert names name q i ∙ absent (bytes_eq q name) (get names q)
+          (λ same. ap (get names) (same_bytes q name same) ∙ e)
+      | Some j ↦ λ e. sym (present (bytes_eq q name) (get names q) j (λ same. ap (get names) (same_bytes q name same) ∙ e))
+    ] refl
+  where
+    absent : (b : Bool) (found : Option ℕ) → (b ≡ true → found ≡ None) → cond b (Some i) found ≡ or_else found (cond b (Some i) None)
+    absent true found none = sym (ap (λ f. or_else f (Some i)) (none refl))
+    absent false None none = refl
+    absent false (Some j) none = refl
+
+    present : (b : Bool) (found : Option ℕ) (j : ℕ) → (b ≡ true → found ≡ Some j) → or_else found (cond b (Some i) None) ≡ found
+    present true found j here = ap (λ f. or_else f (Some i)) (here refl) ∙ sym (here refl)
+    present false None j here = refl
+    present false (Some k) j here = refl
+
+-- the names of slots with one behind them
+names_behind : (slots : List (Option (List ℕ × ℕ))) (name : List ℕ) (i : ℕ)
+    → names_of (slots ++ Some (name, i) ∷ []) ≡ put_first (names_of slots) name i
+unfolding put_first
+names_behind slots name i =
+    same_entries (slice_cmp nat_cmp) nat_list_cmp_total exact_bytes (names_of (slots ++ Some (name, i) ∷ [])) (put_first (names_of slots) name i)
+    (sorted (slots ++ Some (name, i) ∷ [])) (still_sorted (is_some (get (names_of slots) name)))
+    (λ q. get_behind slots name q i ∙ sym (get_put_first (names_of slots) name q i))
+  where
+    still_sorted : (b : Bool) → T (is_sorted (slice_cmp nat_cmp) (cond b (names_of slots) (insert (names_of slots) name i)))
+    still_sorted true = sorted slots
+    still_sorted false = is_sorted-put (slice_cmp nat_cmp) nat_list_cmp_total name i (names_of slots) (sorted slots)
+
+-- a name put among entries is put in their map
+pub named_insert : (entries : List (Vec ℕ × ℕ)) (key : Vec ℕ) (i : ℕ)
+    → listed (insert_entry (λ x y. slice_cmp nat_cmp x.items y.items) entries key i) ≡ insert (listed entries) key.items i
+named_insert [] key i = refl
+named_insert (e ∷ es) key i =
+    elim (slice_cmp nat_cmp key.items e.0.items) as (λ o. listed (match_ordering o ((key, i) ∷ e ∷ es) ((e.0, i) ∷ es) (e ∷ insert_entry (λ x y. slice_cmp nat_cmp x.items y.items) es key i))
+    ≡ by_order o ((key.items, i) ∷ listed (e ∷ es)) ((e.0.items, i) ∷ listed es) ((e.0.items, e.1) ∷ put (slice_cmp nat_cmp) key.items i (listed es))) [
+      | Less ↦ refl
+      | Equal ↦ refl
+      | Greater ↦ ap (λ rest. (e.0.items, e.1) ∷ rest) (named_insert es key i)
+    ]
+
+-- before the first slot there are no names
+pub collected_none : (geometry : Geometry) (image : List ℕ) (d : ℕ) (entries : List (Vec ℕ × ℕ)) → entries ≡ []
+    → HasCollected geometry image d 0 entries
+unfolding slots_below
+collected_none geometry image d entries empty = record { within = omega arith; names = ap listed empty }
+
+-- the name of the next entry, put first among those before, gives those up to it
+pub collected_next : (geometry : Geometry) (image : List ℕ) (d from s : ℕ) (slot : Slot) (name : List ℕ) (old new : List (Vec ℕ × ℕ))
+    → HasCollected geometry image d from old
+    → IsNextEntry (entry_at geometry image d) from (slot_count geometry image d) s slot → name ≡ name_of slot.name
+    → listed new ≡ put_first (listed old) name slot.inode → HasCollected geometry image d (s + 1) new
+collected_next geometry image d from s slot name old new collected next is put =
+    let here : entry_at geometry image d s ≡ Some (name_of slot.name, slot.inode) = entry_next next in
+    let more : s + 1 ≡ suc s = omega arith in
+    record {
+      within = let within = next.within in omega arith;
+      names = put
+          ∙ (ap (λ names. put_first names name slot.inode) (collected.names ∙ sym (names_until geometry image d from s next.reached next.none))
+          ∙ (ap (λ n. put_first (names_of (slots_below geometry image d s)) n slot.inode) is
+          ∙ (sym (names_behind (slots_below geometry image d s) (name_of slot.name) slot.inode)
+          ∙ (ap (λ entry. names_of (slots_below geometry image d s ++ entry ∷ [])) (sym here)
+          ∙ (ap names_of (sym (slots_more geometry image d s))
+          ∙ ap (λ n. names_of (slots_below geometry image d n)) (sym more))))));
+    }
+
+-- where no further slot has an entry, all names of the directory are collected
+pub collected_all : (geometry : Geometry) (image : List ℕ) (d from : ℕ) (entries : List (Vec ℕ × ℕ)) → HasCollected geometry image d from entries
+    → ((t : ℕ) → from ≤ t → t < slot_count geometry image d → entry_at geometry image d t ≡ None)
+    → listed entries ≡ names_of (slots geometry image d)
+unfolding slots slots_below
+collected_all geometry image d from entries collected none =
+    collected.names ∙ sym (names_until geometry image d from (slot_count geometry image d) collected.within none)
+
+-- what is looked up among entries is what their map has
+lookup_listed : (name : List ℕ) (entries : List (Vec ℕ × ℕ)) → lookup (λ k. is_eq (slice_cmp nat_cmp name k.items)) entries ≡ get (listed entries) name
+lookup_listed name [] = refl
+lookup_listed name (e ∷ es) = ap (cond (is_eq (slice_cmp nat_cmp name e.0.items)) (Some e.1)) (lookup_listed name es)
+
+-- a name that isn't there is put among entries
+pub listed_put : (entries new : List (Vec ℕ × ℕ)) (key : Vec ℕ) (name : List ℕ) (i : ℕ)
+    → is_some (lookup (λ k. is_eq (slice_cmp nat_cmp name k.items)) entries) ≡ false
+    → new ≡ insert_entry (λ x y. slice_cmp nat_cmp x.items y.items) entries key i → key.items ≡ name → listed new ≡ put_first (listed entries) name i
+unfolding put_first
+listed_put entries new key name i missing put is =
+    ap listed put ∙ (named_insert entries key i ∙ (ap (λ n. insert (listed entries) n i) is
+    ∙ sym (ap (λ found. cond (is_some found) (listed entries) (insert (listed entries) name i)) (sym (lookup_listed name entries))
+    ∙ ap (λ b. cond b (listed entries) (insert (listed entries) name i)) missing)))
+
+-- with a name that is there they stay
+pub listed_kept : (entries : List (Vec ℕ × ℕ)) (name : List ℕ) (i : ℕ)
+    → is_some (lookup (λ k. is_eq (slice_cmp nat_cmp name k.items)) entries) ≡ true → listed entries ≡ put_first (listed entries) name i
+unfolding put_first
+listed_kept entries name i there =
+    sym (ap (λ found. cond (is_some found) (listed entries) (insert (listed entries) name i)) (sym (lookup_listed name entries))
+    ∙ ap (λ b. cond b (listed entries) (insert (listed entries) name i)) there)

@@ -1,0 +1,5 @@
+pub mod Listing
+pub mod Marks
+pub mod Members
+pub mod Walking
+pub mod Writing

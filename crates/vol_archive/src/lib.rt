@@ -1,0 +1,14 @@
+//! The tree of a volume as an archive in POSIX's ustar format.
+#![tactic(auto)]
+
+pub mod found;
+pub mod member_path;
+mod members;
+mod names;
+mod pending;
+pub mod walking;
+pub mod writing;
+
+pub use found::{Found, Reason, Role};
+pub use member_path::MemberPath;
+pub use writing::WriteFault;

@@ -1,0 +1,150 @@
+//! The names of a directory, in ascending order.
+ghost use Rattle.std.specs.Prelude.{◌≡◌, ◌++◌, ◌∷◌, [], IfOk, OnOk};
+ghost use Rattle.vol_layout.specs.Geometry.{Fits};
+ghost use Rattle.vol_dir.specs.Entries.{slots, IsDirectory};
+ghost use Rattle.vol_dir.specs.Names.{names_of};
+ghost use Rattle.vol_archive.specs.Listing.{listed, put_first};
+ghost use Rattle.vol_archive.specs.Walking.{is_plain, path_below, entry_below, entries_of, entries_below};
+
+use crate::member_path::MemberPath;
+use crate::pending::Pending;
+use pdp_words::Image;
+use std::alloc::{AllocError, Global};
+use std::collections::BTreeMap;
+use vol_dir::{is_dots, next_entry};
+use vol_layout::Geometry;
+
+/// The entries of the directory `dir` at a path, but for `.` and `..`, in ascending order of their names. Of entries with one name
+/// the first counts.
+///
+/// Costs as much as going over the slots and sorting the names.
+pub(crate) fn entries_below(
+    alloc: Global,
+    image: &Image,
+    geometry: &Geometry,
+    path: &[u8],
+    dir: u16,
+) -> Result<Vec<Pending>, AllocError>
+    requires fits { Fits geometry.now image.now }
+    requires directory { IsDirectory geometry.now image.now dir }
+    ensures { IfOk result (λ entries. entries.items ≡ entries_below geometry.now image.now path.now dir) }
+{
+    let names = list(alloc, image, geometry, dir)?;
+    entries_of(alloc, path, &names)
+}
+
+/// The entries with these names in the directory at a path, but for `.` and `..`.
+fn entries_of(
+    alloc: Global,
+    path: &[u8],
+    names: &[(MemberPath, u16)],
+) -> Result<Vec<Pending>, AllocError>
+    ensures { IfOk result (λ entries. entries.items ≡ entries_of path.now names.now) }
+{
+    let mut entries = Vec::new(alloc);
+    'names: for (name, inode) in names {
+        push_entry(alloc, &mut entries, path, name.as_slice(), *inode)?;
+    }
+    Ok(entries)
+}
+
+/// Appends the entry with a name in the directory at a path; `.` and `..` not.
+fn push_entry(
+    alloc: Global,
+    entries: &mut Vec<Pending>,
+    path: &[u8],
+    name: &[u8],
+    inode: u16,
+) -> Result<(), AllocError>
+    ensures { OnOk result (entries.new.items ≡ entries.old.items ++ entry_below path.now (name.now, inode)) }
+{
+    if !is_dots(name) {
+        entries.push(Pending {
+            path: path_below(alloc, path, name)?,
+            inode,
+            is_plain: is_plain(name),
+        })?;
+    }
+    Ok(())
+}
+
+/// The path of a name in the directory at a path.
+fn path_below(alloc: Global, path: &[u8], name: &[u8]) -> Result<MemberPath, AllocError>
+    ensures { IfOk result (λ joined. joined ≡ path_below path.now name.now) }
+{
+    let mut bytes = Vec::from_slice(alloc, path)?;
+    if !path.is_empty() {
+        bytes.push(b'/')?;
+    }
+    bytes.extend_from_slice(name)?;
+    Ok(MemberPath::from_vec(bytes))
+}
+
+/// The path of a directory as its member has it, with a slash at its end.
+pub(crate) fn slashed(alloc: Global, path: &[u8]) -> Result<Vec<u8>, AllocError>
+    ensures { IfOk result (λ slashed. slashed.items ≡ path.now ++ 47 ∷ []) }
+{
+    let mut slashed = Vec::from_slice(alloc, path)?;
+    slashed.push(b'/')?;
+    Ok(slashed)
+}
+
+/// Whether a name has bytes, none of them a slash.
+fn is_plain(name: &[u8]) -> bool
+    ensures { result ≡ is_plain name.now }
+{
+    !name.is_empty() && !name.contains(&b'/')
+}
+
+/// The names of directory `dir`, in ascending order of their bytes, with their i-numbers.
+fn list(
+    alloc: Global,
+    image: &Image,
+    geometry: &Geometry,
+    dir: u16,
+) -> Result<Vec<(MemberPath, u16)>, AllocError>
+    requires fits { Fits geometry.now image.now }
+    requires directory { IsDirectory geometry.now image.now dir }
+    ensures { IfOk result (λ names. names.items ≡ names_of (slots geometry.now image.now dir)) }
+{
+    let names = collect_names(alloc, image, geometry, dir)?;
+    names
+        .into_iter()
+        .map(|(name, i)| (MemberPath::from_vec(name), i))
+        .collect(alloc)
+}
+
+/// The names of directory `dir`, with the i-numbers that their first entries have.
+fn collect_names(
+    alloc: Global,
+    image: &Image,
+    geometry: &Geometry,
+    dir: u16,
+) -> Result<BTreeMap<Vec<u8>, u16>, AllocError>
+    requires fits { Fits geometry.now image.now }
+    requires directory { IsDirectory geometry.now image.now dir }
+    ensures { IfOk result (λ names. listed names.entries ≡ names_of (slots geometry.now image.now dir)) }
+{
+    let mut names = BTreeMap::new(alloc);
+    let mut from = 0;
+    while let Some((s, slot)) = next_entry(image, geometry, dir, from) {
+        put_first(alloc, &mut names, slot.name(), slot.inode)?;
+        from = s + 1;
+    }
+    Ok(names)
+}
+
+/// Puts a name among others, unless it is there.
+fn put_first(
+    alloc: Global,
+    names: &mut BTreeMap<Vec<u8>, u16>,
+    name: &[u8],
+    inode: u16,
+) -> Result<(), AllocError>
+    ensures { OnOk result (listed names.new.entries ≡ put_first (listed names.old.entries) name.now inode) }
+{
+    if !names.contains_key(name) {
+        names.insert(Vec::from_slice(alloc, name)?, inode)?;
+    }
+    Ok(())
+}

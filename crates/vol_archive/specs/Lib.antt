@@ -1,3 +1,4 @@
+pub mod Exporting
 pub mod Listing
 pub mod Marks
 pub mod Members

@@ -1,6 +1,7 @@
 //! The tree of a volume as an archive in POSIX's ustar format.
 #![tactic(auto)]
 
+pub mod exporting;
 pub mod found;
 pub mod member_path;
 mod members;
@@ -9,6 +10,7 @@ mod pending;
 pub mod walking;
 pub mod writing;
 
+pub use exporting::{Start, StartFault, export, start_of};
 pub use found::{Found, Reason, Role};
 pub use member_path::MemberPath;
 pub use writing::WriteFault;

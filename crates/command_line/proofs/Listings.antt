@@ -7,7 +7,7 @@ use Rattle.clap.proofs.OnLiterals.{clap_on_literals}
 use Rattle.clap.specs.Words.{Row}
 use Rattle.command_line.specs.CommandLine.{Asks, IsEditionNamed, IsGiven, command_name, given_by}
 use Rattle.command_line.specs.Laws.{IsListing, IsPlainWord, ReadsListing}
-use Rattle.command_line.specs.Words.{AreEditions, command_in, command_shape, edition_rule, faults_of, migrate_shape, named_shape, program, unixvol_app, with_argument, with_command, word_rule}
+use Rattle.command_line.specs.Words.{AreEditions, command_in, command_shape, edition_rule, faults_of, migrate_shape, named_shape, play_shape, program, unixvol_app, with_argument, with_command, word_rule, words_rule}
 use Rattle.command_line.specs.declared.Invocation.{Invocation}
 use Rattle.command_line.specs.declared.Invocation.TheVariants.{Cat, Mkfs, Migrate, OnVolume, OnThreads}
 use Rattle.vol_commands.specs.declared.jobs.Job.TheVariants as jobs
@@ -54,7 +54,7 @@ IsTaken editions edition program image path =
 
 -- the command line takes the words of `ls` where the file and the path begin with no hyphen
 taken : (p q r : ℕ × ℕ) (edition : Edition) (name image path : List ℕ) → IsPlainWord image → IsPlainWord path → IsTaken (names_at p q r) edition name image path
-unfolding clap_on_literals faults_of command_in unixvol_app program with_command command_shape migrate_shape with_argument named_shape word_rule edition_rule
+unfolding clap_on_literals faults_of command_in unixvol_app program with_command command_shape play_shape migrate_shape with_argument named_shape word_rule words_rule edition_rule
 taken p q r V6 name [] [] image path = (refl, refl)
 taken p q r V6 name (x ∷ xs) [] image path =
     let e : (x == 45) ≡ false = ne_eqb _ _ image in
@@ -110,6 +110,7 @@ asks_listing given edition image path (OnVolume volume jobs.Salvage) test e_is i
 asks_listing given edition image path (OnThreads volume (works.Check checkers.Blocks workers)) test e_is i_is p_is is = absurd (true≢false (sym test))
 asks_listing given edition image path (OnThreads volume (works.Check checkers.Entries workers)) test e_is i_is p_is is = absurd (true≢false (sym test))
 asks_listing given edition image path (OnThreads volume (works.Check checkers.Names workers)) test e_is i_is p_is is = absurd (true≢false (sym test))
+asks_listing given edition image path (OnThreads volume (works.Play scripts)) test e_is i_is p_is is = absurd (true≢false (sym test))
 
 -- what `ls` asks for, by the command that was met and the rows of its words
 listed : (met : Option (List ℕ × List Row)) (edition : Edition) (image path : List ℕ) (invocation : Invocation) → seen met ≡ codes "ls" ∷ word_of edition ∷ image ∷ path ∷ []
@@ -145,6 +146,7 @@ listing_asks (Some met) edition image path (OnVolume volume (jobs.Ls directory))
         ),
         listed.2 ∙ sym end,
       ),
+      tt,
     )
 listing_asks (Some met) edition image path (OnVolume volume (jobs.Get p)) is listed = absurd listed
 listing_asks (Some met) edition image path (OnVolume volume (jobs.Put p file now)) is listed = absurd listed

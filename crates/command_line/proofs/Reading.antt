@@ -1,8 +1,9 @@
 -- What is read of the words that the command line takes.
-use Rattle.std.proofs.Common.{◌≡◌, ◌⊎◌, ◌∙◌, true≢false, is_some, Bool, ℕ, ◌≤◌, true, false, List, ◌∷◌, [], Option, Some, None, Ok, Err, Result, IfErr, IfOk, IsErrAnd, IfSome, refl, sym, ap, subst, inl, inr, codes}
+use Rattle.std.proofs.Common.{◌≡◌, ◌⊎◌, ◌∙◌, true≢false, is_some, Bool, ℕ, ◌<◌, ◌≤◌, true, false, List, length, map, unwrap_or, ◌∷◌, [], Option, Some, None, Ok, Err, Result, IfErr, IfOk, IsErrAnd, IfSome, refl, sym, ap, subst, inl, inr, arith, codes}
 use Rattle.std.specs.Option.{option_map}
 use Rattle.std.specs.Borrow.{Bor}
-use Rattle.clap.proofs.WalkLemmas.{first_value-rows}
+use Rattle.std.proofs.lemmas.List.{length-map}
+use Rattle.clap.proofs.WalkLemmas.{first_value-rows, raw_values-rows}
 use Rattle.std.specs.Prelude.{Box}
 use Rattle.std.specs.List.{list_any}
 use Rattle.std.specs.Str.{bytes_eq}
@@ -20,8 +21,8 @@ use Rattle.vol_layout.specs.declared.edition.Edition.TheVariants.{V6, V7}
 use Rattle.vol_volume.specs.declared.blank.NewVolume.{NewVolume}
 use Rattle.command_line.specs.Decimal.{IsNumberUpTo, IsThreads}
 use Rattle.command_line.specs.Octal.{IsOctalUpTo}
-use Rattle.command_line.specs.CommandLine.{Asks, AsksFor, AsksNothing, TellsOf, IsChange, IsCheck, IsEditionNamed, IsGiven, IsNewVolumeGiven, IsNoCat, IsNoChange, IsNoCheck, IsNoChmod, IsNoChown, IsNoCommand, IsNoEdition, IsNoMigration, IsNoMoment, IsNoNewVolume, IsNoValue, IsNumberless, IsRead, IsRefused, IsWorkGiven, IsWorkable, command_name, given_by, given_in, word_or_empty}
-use Rattle.command_line.specs.Words.{AreEditions, app, command_in, command_shape, edition_rule, faults_of, migrate_shape, named_shape, program, unixvol_app, with_argument, with_command, word_rule}
+use Rattle.command_line.specs.CommandLine.{Asks, AsksFor, AsksNothing, HasScripts, TellsOf, IsChange, IsCheck, IsEditionNamed, IsGiven, IsNewVolumeGiven, IsNoCat, IsNoChange, IsNoCheck, IsNoChmod, IsNoChown, IsNoCommand, IsNoEdition, IsNoMigration, IsNoMoment, IsNoNewVolume, IsNoPlay, IsNoValue, IsNumberless, IsRead, IsRefused, IsWorkGiven, IsWorkable, command_name, given_by, given_in, scripts_by, scripts_in, word_or_empty}
+use Rattle.command_line.specs.Words.{AreEditions, app, command_in, command_shape, edition_rule, faults_of, migrate_shape, named_shape, play_shape, program, unixvol_app, with_argument, with_command, word_rule, words_rule}
 use Rattle.command_line.specs.declared.Invocation.{Invocation}
 use Rattle.command_line.specs.declared.Invocation.TheVariants.{Cat, Mkfs, Migrate, OnVolume, OnThreads}
 use Rattle.vol_commands.specs.declared.jobs.Job.TheVariants as jobs
@@ -32,17 +33,21 @@ use Rattle.command_line.specs.declared.Work.TheVariants as works
 
 -- clap's contract gives what a parse of this command line finds
 pub simple : (editions : Bor (List (Bor (List ℕ)))) → is_simple (unixvol_app editions) ≡ true
-unfolding unixvol_app program with_command command_shape migrate_shape with_argument named_shape word_rule edition_rule
+unfolding unixvol_app program with_command command_shape play_shape migrate_shape with_argument named_shape word_rule words_rule edition_rule
 simple editions = refl
 
 -- clap's contract gives what a parse of this command line refuses
 pub simple_and_free : (editions : Bor (List (Bor (List ℕ)))) → is_simple_and_free (unixvol_app editions) ≡ true
-unfolding unixvol_app program with_command command_shape migrate_shape with_argument named_shape word_rule edition_rule
+unfolding unixvol_app program with_command command_shape play_shape migrate_shape with_argument named_shape word_rule words_rule edition_rule
 simple_and_free editions = refl
 
 -- the words for the arguments are those of the rows that a parse makes
 given_same : (values : ArgMatches) → given_in values ≡ given_by (rows_of (found_of values))
 given_same values i argument = word_or_empty (first_value-rows (found_of values) argument i)
+
+-- the words for the scripts are those of the rows too
+scripts_same : (values : ArgMatches) → scripts_in values ≡ scripts_by (rows_of (found_of values))
+scripts_same values = ap (λ (found : Option (List (List ℕ))). unwrap_or found []) (raw_values-rows (found_of values) (codes "SCRIPT"))
 
 -- a command that was met, by its name and the rows of its words
 met : {Z : Type 0} (found : Option (Box SubCommand Z)) (name : List ℕ) (rows : List Row)
@@ -54,17 +59,19 @@ met (Some b) name rows named rows_are = cc
 -- what the command asks for, it asks for by its rows
 pub asks_by_rows : (matches values : ArgMatches) (name : List ℕ) (invocation : Invocation) → subcommand_name_of matches ≡ Some name
     → option_map (λ p. p.1) (subcommand_rows_of matches) ≡ Some (rows_of (found_of values))
-    → AsksFor name (given_in values) invocation → Asks (subcommand_rows_of matches) invocation
+    → AsksFor name (given_in values) (scripts_in values) invocation → Asks (subcommand_rows_of matches) invocation
 asks_by_rows matches values name invocation named rows_are asks =
     rw (met (out-ArgMatches matches).subcommand name (rows_of (found_of values)) named rows_are)
-    (subst (λ (given : List ℕ → List ℕ). AsksFor name given invocation) (given_same values) asks)
+    (subst (λ (scripts : List (List ℕ)). AsksFor name (given_by (rows_of (found_of values))) scripts invocation) (scripts_same values)
+    (subst (λ (given : List ℕ → List ℕ). AsksFor name given (scripts_in values) invocation) (given_same values) asks))
 
 pub asked_by_rows : (matches values : ArgMatches) (name : List ℕ) (invocation : Invocation) → subcommand_name_of matches ≡ Some name
     → option_map (λ p. p.1) (subcommand_rows_of matches) ≡ Some (rows_of (found_of values))
-    → Asks (subcommand_rows_of matches) invocation → AsksFor name (given_in values) invocation
+    → Asks (subcommand_rows_of matches) invocation → AsksFor name (given_in values) (scripts_in values) invocation
 asked_by_rows matches values name invocation named rows_are asks =
-    subst (λ (given : List ℕ → List ℕ). AsksFor name given invocation) (sym (given_same values))
-    (rw (met (out-ArgMatches matches).subcommand name (rows_of (found_of values)) named rows_are) at asks)
+    subst (λ (scripts : List (List ℕ)). AsksFor name (given_in values) scripts invocation) (sym (scripts_same values))
+    (subst (λ (given : List ℕ → List ℕ). AsksFor name given (scripts_by (rows_of (found_of values))) invocation) (sym (given_same values))
+    (rw (met (out-ArgMatches matches).subcommand name (rows_of (found_of values)) named rows_are) at asks))
 
 -- a word that names an edition is none that names none
 named_edition : (edition : Edition) (text : List ℕ) → IsNoEdition text → IsEditionNamed edition text → ⊥
@@ -112,6 +119,7 @@ number_given given (OnVolume volume jobs.Salvage) test none is = absurd (true≢
 number_given given (OnThreads volume (works.Check checkers.Blocks workers)) test none is = absurd (true≢false (sym test))
 number_given given (OnThreads volume (works.Check checkers.Entries workers)) test none is = absurd (true≢false (sym test))
 number_given given (OnThreads volume (works.Check checkers.Names workers)) test none is = absurd (true≢false (sym test))
+number_given given (OnThreads volume (works.Play scripts)) test none is = absurd (true≢false (sym test))
 
 -- a new volume has its sizes, its owner and a moment
 sizes_given : (given : List ℕ → List ℕ) (volume : NewVolume) → IsNoNewVolume given → IsNewVolumeGiven given volume → ⊥
@@ -142,6 +150,7 @@ new_volume_given given (OnVolume volume jobs.Salvage) test none is = absurd (tru
 new_volume_given given (OnThreads volume (works.Check checkers.Blocks workers)) test none is = absurd (true≢false (sym test))
 new_volume_given given (OnThreads volume (works.Check checkers.Entries workers)) test none is = absurd (true≢false (sym test))
 new_volume_given given (OnThreads volume (works.Check checkers.Names workers)) test none is = absurd (true≢false (sym test))
+new_volume_given given (OnThreads volume (works.Play scripts)) test none is = absurd (true≢false (sym test))
 
 -- a command that changes a volume, as a test
 abbrev is_change : List ℕ → Bool
@@ -172,11 +181,13 @@ moment_given given (OnVolume volume jobs.Salvage) test none is = absurd (true≢
 moment_given given (OnThreads volume (works.Check checkers.Blocks workers)) test none is = absurd (true≢false (sym test))
 moment_given given (OnThreads volume (works.Check checkers.Entries workers)) test none is = absurd (true≢false (sym test))
 moment_given given (OnThreads volume (works.Check checkers.Names workers)) test none is = absurd (true≢false (sym test))
+moment_given given (OnThreads volume (works.Play scripts)) test none is = absurd (true≢false (sym test))
 
 -- a command that is a change asks for nothing where its edition or its moment is no value
-no_change : (name : List ℕ) (given : List ℕ → List ℕ) (invocation : Invocation) → is_change name ≡ true → IsNoChange given → AsksFor name given invocation → ⊥
-no_change name given invocation test (inl none) asks = edition_given is_change given invocation refl (subst (λ n. is_change n ≡ true) asks.0 test) none asks.1
-no_change name given invocation test (inr none) asks = moment_given given invocation (subst (λ n. is_change n ≡ true) asks.0 test) none asks.1
+no_change : (name : List ℕ) (given : List ℕ → List ℕ) (scripts : List (List ℕ)) (invocation : Invocation) → is_change name ≡ true → IsNoChange given
+    → AsksFor name given scripts invocation → ⊥
+no_change name given scripts invocation test (inl none) asks = edition_given is_change given invocation refl (subst (λ n. is_change n ≡ true) asks.0 test) none asks.1
+no_change name given scripts invocation test (inr none) asks = moment_given given invocation (subst (λ n. is_change n ≡ true) asks.0 test) none asks.1
 
 -- `chmod` has permissions
 permissions_given : (given : List ℕ → List ℕ) (invocation : Invocation) → bytes_eq (codes "chmod") (command_name invocation) ≡ true
@@ -197,6 +208,7 @@ permissions_given given (OnVolume volume jobs.Salvage) test none is = absurd (tr
 permissions_given given (OnThreads volume (works.Check checkers.Blocks workers)) test none is = absurd (true≢false (sym test))
 permissions_given given (OnThreads volume (works.Check checkers.Entries workers)) test none is = absurd (true≢false (sym test))
 permissions_given given (OnThreads volume (works.Check checkers.Names workers)) test none is = absurd (true≢false (sym test))
+permissions_given given (OnThreads volume (works.Play scripts)) test none is = absurd (true≢false (sym test))
 
 -- `chown` has a user and a group
 owner_given : (given : List ℕ → List ℕ) (invocation : Invocation) → bytes_eq (codes "chown") (command_name invocation) ≡ true
@@ -218,6 +230,7 @@ owner_given given (OnVolume volume jobs.Salvage) test none is = absurd (true≢f
 owner_given given (OnThreads volume (works.Check checkers.Blocks workers)) test none is = absurd (true≢false (sym test))
 owner_given given (OnThreads volume (works.Check checkers.Entries workers)) test none is = absurd (true≢false (sym test))
 owner_given given (OnThreads volume (works.Check checkers.Names workers)) test none is = absurd (true≢false (sym test))
+owner_given given (OnThreads volume (works.Play scripts)) test none is = absurd (true≢false (sym test))
 
 -- a command of a checker, as a test
 abbrev is_check : List ℕ → Bool
@@ -245,6 +258,7 @@ workers_given given (OnVolume volume (jobs.Chmod path perm now)) test none is = 
 workers_given given (OnVolume volume (jobs.Chown path uid gid now)) test none is = absurd (true≢false (sym test))
 workers_given given (OnVolume volume jobs.Salvage) test none is = absurd (true≢false (sym test))
 workers_given given (OnThreads volume (works.Check checker workers)) test none is = none is.1.0
+workers_given given (OnThreads volume (works.Play scripts)) test none is = absurd (true≢false (sym test))
 
 -- `migrate` has its sizes and a moment
 migration_given : (given : List ℕ → List ℕ) (invocation : Invocation) → bytes_eq (codes "migrate") (command_name invocation) ≡ true → IsNoMigration given
@@ -268,50 +282,87 @@ migration_given given (OnVolume volume jobs.Salvage) test none is = absurd (true
 migration_given given (OnThreads volume (works.Check checkers.Blocks workers)) test none is = absurd (true≢false (sym test))
 migration_given given (OnThreads volume (works.Check checkers.Entries workers)) test none is = absurd (true≢false (sym test))
 migration_given given (OnThreads volume (works.Check checkers.Names workers)) test none is = absurd (true≢false (sym test))
+migration_given given (OnThreads volume (works.Play scripts)) test none is = absurd (true≢false (sym test))
+
+-- the scripts are 1 to 64
+few_scripts : (items : List (Bor (List ℕ))) (words : List (List ℕ)) → map (λ script. script.now) items ≡ words → (1 ≤ length items) × (length items ≤ 64)
+    → (length words < 1) ⊎ (64 < length words) → ⊥
+few_scripts items words are few wrong =
+    let same_length : length words ≡ length items = sym (ap length are) ∙ length-map items (λ (script : Bor (List ℕ)). script.now) in
+    elim wrong [ inl none ↦ omega (arith, same_length, few, none) | inr many ↦ omega (arith, same_length, few, many) ]
+
+-- `play` has 1 to 64 scripts
+scripts_given : (given : List ℕ → List ℕ) (words : List (List ℕ)) (invocation : Invocation) → bytes_eq (codes "play") (command_name invocation) ≡ true
+    → (length words < 1) ⊎ (64 < length words) → IsGiven given invocation → HasScripts words invocation → ⊥
+scripts_given given words (Cat volume ino) test wrong is has = absurd (true≢false (sym test))
+scripts_given given words (Mkfs image volume) test wrong is has = absurd (true≢false (sym test))
+scripts_given given words (Migrate old new migration) test wrong is has = absurd (true≢false (sym test))
+scripts_given given words (OnVolume volume (jobs.Ls path)) test wrong is has = absurd (true≢false (sym test))
+scripts_given given words (OnVolume volume (jobs.Get path)) test wrong is has = absurd (true≢false (sym test))
+scripts_given given words (OnVolume volume (jobs.Put path file now)) test wrong is has = absurd (true≢false (sym test))
+scripts_given given words (OnVolume volume (jobs.Rm path now)) test wrong is has = absurd (true≢false (sym test))
+scripts_given given words (OnVolume volume (jobs.Rmdir path now)) test wrong is has = absurd (true≢false (sym test))
+scripts_given given words (OnVolume volume (jobs.Mkdir path now)) test wrong is has = absurd (true≢false (sym test))
+scripts_given given words (OnVolume volume (jobs.Ln from to now)) test wrong is has = absurd (true≢false (sym test))
+scripts_given given words (OnVolume volume (jobs.Chmod path perm now)) test wrong is has = absurd (true≢false (sym test))
+scripts_given given words (OnVolume volume (jobs.Chown path uid gid now)) test wrong is has = absurd (true≢false (sym test))
+scripts_given given words (OnVolume volume jobs.Salvage) test wrong is has = absurd (true≢false (sym test))
+scripts_given given words (OnThreads volume (works.Check checkers.Blocks workers)) test wrong is has = absurd (true≢false (sym test))
+scripts_given given words (OnThreads volume (works.Check checkers.Entries workers)) test wrong is has = absurd (true≢false (sym test))
+scripts_given given words (OnThreads volume (works.Check checkers.Names workers)) test wrong is has = absurd (true≢false (sym test))
+scripts_given given words (OnThreads volume (works.Play scripts)) test wrong is has = few_scripts scripts.items words has is.1 wrong
 
 -- where one of the words is no value, nothing is asked for
-no_value : (name : List ℕ) (given : List ℕ → List ℕ) → IsNoValue name given → (invocation : Invocation) → AsksFor name given invocation → ⊥
-unfolding IsNoCat IsNoChmod IsNoChown IsNoCheck
-no_value name given (inl (numberless, none)) invocation asks =
+no_value : (name : List ℕ) (given : List ℕ → List ℕ) (scripts : List (List ℕ)) → IsNoValue name given scripts → (invocation : Invocation)
+    → AsksFor name given scripts invocation → ⊥
+unfolding IsNoCat IsNoChmod IsNoChown IsNoCheck IsNoPlay
+no_value name given scripts (inl (numberless, none)) invocation asks =
     edition_given is_numberless given invocation refl (subst (λ n. is_numberless n ≡ true) asks.0 (numberless_test name numberless)) none asks.1
-no_value name given (inr (inl (is, inl none))) invocation asks =
+no_value name given scripts (inr (inl (is, inl none))) invocation asks =
     edition_given (bytes_eq (codes "cat")) given invocation refl (same _ _ (sym is ∙ asks.0)) none asks.1
-no_value name given (inr (inl (is, inr none))) invocation asks = number_given given invocation (same _ _ (sym is ∙ asks.0)) none asks.1
-no_value name given (inr (inr (inl (is, none)))) invocation asks = new_volume_given given invocation (same _ _ (sym is ∙ asks.0)) none asks.1
-no_value name given (inr (inr (inr (inl (change, none))))) invocation asks = no_change name given invocation (change_test name change) none asks
-no_value name given (inr (inr (inr (inr (inl (is, inl none)))))) invocation asks = no_change name given invocation (rw is refl) none asks
-no_value name given (inr (inr (inr (inr (inl (is, inr none)))))) invocation asks = permissions_given given invocation (same _ _ (sym is ∙ asks.0)) none asks.1
-no_value name given (inr (inr (inr (inr (inr (inl (is, inl none))))))) invocation asks = no_change name given invocation (rw is refl) none asks
-no_value name given (inr (inr (inr (inr (inr (inl (is, inr none))))))) invocation asks = owner_given given invocation (same _ _ (sym is ∙ asks.0)) none asks.1
-no_value name given (inr (inr (inr (inr (inr (inr (inl (check, inl none)))))))) invocation asks =
+no_value name given scripts (inr (inl (is, inr none))) invocation asks = number_given given invocation (same _ _ (sym is ∙ asks.0)) none asks.1
+no_value name given scripts (inr (inr (inl (is, none)))) invocation asks = new_volume_given given invocation (same _ _ (sym is ∙ asks.0)) none asks.1
+no_value name given scripts (inr (inr (inr (inl (change, none))))) invocation asks = no_change name given scripts invocation (change_test name change) none asks
+no_value name given scripts (inr (inr (inr (inr (inl (is, inl none)))))) invocation asks = no_change name given scripts invocation (rw is refl) none asks
+no_value name given scripts (inr (inr (inr (inr (inl (is, inr none)))))) invocation asks = permissions_given given invocation (same _ _ (sym is ∙ asks.0)) none asks.1
+no_value name given scripts (inr (inr (inr (inr (inr (inl (is, inl none))))))) invocation asks = no_change name given scripts invocation (rw is refl) none asks
+no_value name given scripts (inr (inr (inr (inr (inr (inl (is, inr none))))))) invocation asks = owner_given given invocation (same _ _ (sym is ∙ asks.0)) none asks.1
+no_value name given scripts (inr (inr (inr (inr (inr (inr (inl (check, inl none)))))))) invocation asks =
     edition_given is_check given invocation refl (subst (λ n. is_check n ≡ true) asks.0 (check_test name check)) none asks.1
-no_value name given (inr (inr (inr (inr (inr (inr (inl (check, inr none)))))))) invocation asks =
+no_value name given scripts (inr (inr (inr (inr (inr (inr (inl (check, inr none)))))))) invocation asks =
     workers_given given invocation (subst (λ n. is_check n ≡ true) asks.0 (check_test name check)) none asks.1
-no_value name given (inr (inr (inr (inr (inr (inr (inr (is, none)))))))) invocation asks = migration_given given invocation (same _ _ (sym is ∙ asks.0)) none asks.1
+no_value name given scripts (inr (inr (inr (inr (inr (inr (inr (inl (is, none))))))))) invocation asks =
+    migration_given given invocation (same _ _ (sym is ∙ asks.0)) none asks.1
+no_value name given scripts (inr (inr (inr (inr (inr (inr (inr (inr (is, inl none))))))))) invocation asks =
+    edition_given (bytes_eq (codes "play")) given invocation refl (same _ _ (sym is ∙ asks.0)) none asks.1
+no_value name given scripts (inr (inr (inr (inr (inr (inr (inr (inr (is, inr wrong))))))))) invocation asks =
+    scripts_given given scripts invocation (same _ _ (sym is ∙ asks.0)) wrong asks.1 asks.2
 
 -- where the name is that of no command, nothing is asked for
-no_command : (name : List ℕ) (given : List ℕ → List ℕ) → IsNoCommand name → (invocation : Invocation) → AsksFor name given invocation → ⊥
-no_command name given none (Cat volume ino) asks = none.0 asks.0
-no_command name given none (Mkfs image volume) asks = none.6 asks.0
-no_command name given none (Migrate old new migration) asks = none.15 asks.0
-no_command name given none (OnVolume volume (jobs.Ls path)) asks = none.1 asks.0
-no_command name given none (OnVolume volume (jobs.Get path)) asks = none.2 asks.0
-no_command name given none (OnVolume volume (jobs.Put path file now)) asks = none.7 asks.0
-no_command name given none (OnVolume volume (jobs.Rm path now)) asks = none.8 asks.0
-no_command name given none (OnVolume volume (jobs.Rmdir path now)) asks = none.9 asks.0
-no_command name given none (OnVolume volume (jobs.Mkdir path now)) asks = none.10 asks.0
-no_command name given none (OnVolume volume (jobs.Ln from to now)) asks = none.11 asks.0
-no_command name given none (OnVolume volume (jobs.Chmod path perm now)) asks = none.12 asks.0
-no_command name given none (OnVolume volume (jobs.Chown path uid gid now)) asks = none.13 asks.0
-no_command name given none (OnVolume volume jobs.Salvage) asks = none.14 asks.0
-no_command name given none (OnThreads volume (works.Check checkers.Blocks workers)) asks = none.3 asks.0
-no_command name given none (OnThreads volume (works.Check checkers.Entries workers)) asks = none.4 asks.0
-no_command name given none (OnThreads volume (works.Check checkers.Names workers)) asks = none.5 asks.0
+no_command : (name : List ℕ) (given : List ℕ → List ℕ) (scripts : List (List ℕ)) → IsNoCommand name → (invocation : Invocation)
+    → AsksFor name given scripts invocation → ⊥
+no_command name given scripts none (Cat volume ino) asks = none.0 asks.0
+no_command name given scripts none (Mkfs image volume) asks = none.6 asks.0
+no_command name given scripts none (Migrate old new migration) asks = none.16 asks.0
+no_command name given scripts none (OnVolume volume (jobs.Ls path)) asks = none.1 asks.0
+no_command name given scripts none (OnVolume volume (jobs.Get path)) asks = none.2 asks.0
+no_command name given scripts none (OnVolume volume (jobs.Put path file now)) asks = none.7 asks.0
+no_command name given scripts none (OnVolume volume (jobs.Rm path now)) asks = none.8 asks.0
+no_command name given scripts none (OnVolume volume (jobs.Rmdir path now)) asks = none.9 asks.0
+no_command name given scripts none (OnVolume volume (jobs.Mkdir path now)) asks = none.10 asks.0
+no_command name given scripts none (OnVolume volume (jobs.Ln from to now)) asks = none.11 asks.0
+no_command name given scripts none (OnVolume volume (jobs.Chmod path perm now)) asks = none.12 asks.0
+no_command name given scripts none (OnVolume volume (jobs.Chown path uid gid now)) asks = none.13 asks.0
+no_command name given scripts none (OnVolume volume jobs.Salvage) asks = none.14 asks.0
+no_command name given scripts none (OnThreads volume (works.Check checkers.Blocks workers)) asks = none.3 asks.0
+no_command name given scripts none (OnThreads volume (works.Check checkers.Entries workers)) asks = none.4 asks.0
+no_command name given scripts none (OnThreads volume (works.Check checkers.Names workers)) asks = none.5 asks.0
+no_command name given scripts none (OnThreads volume (works.Play played)) asks = none.15 asks.0
 
 -- what a parse found asks for what its command asks for
 pub asked : {E : Type 0} (matches values : ArgMatches) (name : List ℕ) (result : Result (Option Invocation) E) → Some name ≡ subcommand_name_of matches
     → Some (rows_of (found_of values)) ≡ option_map (λ p. p.1) (subcommand_rows_of matches)
-    → IfOk result (λ found. IfSome found (AsksFor name (given_in values))) → IfOk result (λ found. IfSome found (Asks (subcommand_rows_of matches)))
+    → IfOk result (λ found. IfSome found (AsksFor name (given_in values) (scripts_in values))) → IfOk result (λ found. IfSome found (Asks (subcommand_rows_of matches)))
 asked matches values name (Ok (Some invocation)) named rows_are asks = asks_by_rows matches values name invocation (sym named) (sym rows_are) asks
 asked matches values name (Ok None) named rows_are asks = tt
 asked matches values name (Err e) named rows_are asks = tt
@@ -322,20 +373,20 @@ pub missed : {E : Type 0} (matches values : ArgMatches) (name : List ℕ) (resul
     → IfOk result (λ found. found ≡ None → IsNoCommand name) → IfOk result (λ found. found ≡ None → AsksNothing (subcommand_rows_of matches))
 unfolding AsksNothing
 missed matches values name (Ok found) named rows_are none = λ is invocation asks.
-    no_command name (given_in values) (none is) invocation (asked_by_rows matches values name invocation (sym named) (sym rows_are) asks)
+    no_command name (given_in values) (scripts_in values) (none is) invocation (asked_by_rows matches values name invocation (sym named) (sym rows_are) asks)
 missed matches values name (Err e) named rows_are none = tt
 
 -- what a parse found asks for nothing where one of the words is no value
 pub refused : {T : Type 0} (matches values : ArgMatches) (name : List ℕ) (result : Result T Error) → Some name ≡ subcommand_name_of matches
     → Some (rows_of (found_of values)) ≡ option_map (λ p. p.1) (subcommand_rows_of matches)
-    → IfErr result (TellsOf (IsNoValue name (given_in values))) → IfErr result (TellsOf (AsksNothing (subcommand_rows_of matches)))
+    → IfErr result (TellsOf (IsNoValue name (given_in values) (scripts_in values))) → IfErr result (TellsOf (AsksNothing (subcommand_rows_of matches)))
 unfolding AsksNothing
 refused matches values name (Ok found) named rows_are tells = tt
 refused matches values name (Err e) named rows_are (inl memory) = inl memory
 refused matches values name (Err e) named rows_are (inr (kind, none)) = inr (
   kind,
   λ invocation asks.
-      no_value name (given_in values) none invocation (asked_by_rows matches values name invocation (sym named) (sym rows_are) asks),
+      no_value name (given_in values) (scripts_in values) none invocation (asked_by_rows matches values name invocation (sym named) (sym rows_are) asks),
 )
 
 -- a parse that met no command asks for nothing
@@ -408,6 +459,7 @@ memory_ran_out (Err e) editions words are is = refuses editions words e are (inl
 -- what several threads are asked for they can do
 work_given : (given : List ℕ → List ℕ) (work : Work) → IsWorkGiven given work → IsWorkable work
 work_given given (works.Check checker workers) is = rw is.1 (is.0.1, is.0.2)
+work_given given (works.Play scripts) is = is
 
 work_asked : (met : Option (List ℕ × List Row)) (volume : VolumeFile) (work : Work) → Asks met (OnThreads volume work) → IsWorkable work
 work_asked None volume work asks = absurd asks

@@ -1,6 +1,8 @@
 -- What the steps add by which the command line is built.
-use Rattle.std.proofs.Common.{Bool, codes, fold, Some, IsOkAnd, ◌&&◌, not, is_some, IfOk, Result, Ok, Err, ◌≡◌, ◌∙◌, ℕ, true, false, List, ◌∷◌, ◌++◌, [], refl, ap, ap₂}
+use Rattle.std.proofs.Common.{Bool, codes, fold, Option, Some, None, IsOkAnd, IsSomeAnd, ◌&&◌, not, is_some, IfOk, Result, Ok, Err, ◌≡◌, ◌∙◌, ℕ, true, false, List, ◌∷◌, ◌++◌, [], refl, ap, ap₂}
 use Rattle.std.specs.Borrow.{Bor}
+use Rattle.clap.specs.Lexer.{usize_max}
+use Rattle.clap.specs.declared.builder.range.ValueRange.{ValueRange}
 use Rattle.clap.specs.Walk.{Rule, is_empty, is_simple_arg}
 use Rattle.clap.specs.Simple.{App, Shape, app_of_fields, shape_of_fields}
 use Rattle.clap.specs.Words.{AddsArg, AddsSubcommand, app_of, new_app, rule_of, shape_of, with_subcommand}
@@ -10,7 +12,7 @@ use Rattle.clap.specs.declared.builder.command.Command.TheViews.{out-Command}
 use Rattle.clap.specs.declared.builder.command.Command.TheOpen.{Command-F}
 use Rattle.clap.proofs.WalkLemmas.{both}
 use Rattle.clap.proofs.SimpleLemmas.{is_false, plain_fields}
-use Rattle.command_line.specs.Words.{app, changing, command_shape, migrate_shape, named_shape, printing, program, rule, shape, unixvol_app, with_command, with_commands, word_rule, edition_rule, with_argument}
+use Rattle.command_line.specs.Words.{app, changing, command_shape, migrate_shape, named_shape, play_shape, printing, program, rule, shape, unixvol_app, with_command, with_commands, word_rule, words_rule, edition_rule, with_argument}
 
 -- the last of ten tests that pass passes
 last : (a b c d e f g h i j : Bool) → (a && (b && (c && (d && (e && (f && (g && (h && (i && j))))))))) ≡ true → j ≡ true
@@ -36,6 +38,19 @@ unfolding shape with_argument
 adds_rule old new argument known added is simple =
     let simple_argument : is_simple_arg argument ≡ true = ap (λ (r : Rule). r.is_simple) is ∙ simple in
     ap (λ (a : App). a.top) (added.shape (local argument simple_argument)) ∙ ap (λ (r : Rule). record (shape old) { rules = (shape old).rules ++ r ∷ [] }) is
+
+-- an argument for a word that has to be given, once it may have so many values
+ranged : (old : Arg) (range : Option ValueRange) (name : List ℕ) → rule old ≡ word_rule name
+    → IsSomeAnd range (λ r. r ≡ record { start_inclusive = 1; end_inclusive = usize_max }) → rule (record old { num_vals = range }) ≡ words_rule name
+unfolding rule word_rule words_rule
+ranged old None name before is = absurd is
+ranged old (Some range) name before is =
+    ap (λ (r : Rule). record r { range = Some range }) before ∙ ap (λ (r : ValueRange). record (word_rule name) { range = Some r }) is
+
+-- an argument for one word or more, out of one for a word that has to be given
+pub takes_words : (old new : Arg) (name : List ℕ) → rule old ≡ word_rule name → new ≡ record old { num_vals = new.num_vals }
+    → IsSomeAnd new.num_vals (λ r. r ≡ record { start_inclusive = 1; end_inclusive = usize_max }) → rule new ≡ words_rule name
+takes_words old new name before same is = ap rule same ∙ ranged old new.num_vals name before is
 
 -- one more word that has to be given
 pub adds_word : (old new : Command) (argument : Arg) (name : List ℕ) (before : Shape) → AddsArg old argument new → rule argument ≡ word_rule name
@@ -86,6 +101,10 @@ command_plain : (editions : Bor (List (Bor (List ℕ)))) (name : List ℕ) (argu
 unfolding command_shape with_argument named_shape
 command_plain editions name arguments = words_plain (with_argument (named_shape name) (edition_rule editions)) arguments refl
 
+play_plain : (editions : Bor (List (Bor (List ℕ)))) → (play_shape editions).is_plain ≡ true
+unfolding play_shape with_argument
+play_plain editions = command_plain editions (codes "play") (codes "IMAGE" ∷ [])
+
 migrate_plain : migrate_shape.is_plain ≡ true
 unfolding migrate_shape with_argument named_shape
 migrate_plain = words_plain (named_shape (codes "migrate")) (codes "OLD" ∷ codes "NEW" ∷ codes "FSIZE" ∷ codes "IBLOCKS" ∷ codes "NOW" ∷ []) refl
@@ -130,10 +149,27 @@ starts_program new versioned about more asking whole version about_text after_he
     ∙ (ap (λ (f : Command-F Command). app_of_fields (record f { subcommand_required = true; arg_required_else_help = true })) version_is
     ∙ ap (λ (a : App). record a { top = record a.top { has_version = true; subcommand_required = true; arg_required_else_help = true } }) is))))
 
+-- the scripts of `play` as its last words, where the memory was there
+pub adds_scripts : {E : Type 0} (result : Result Command E) (old : Command) (argument : Arg) (editions : Bor (List (Bor (List ℕ)))) → IfOk result (AddsArg old argument)
+    → rule argument ≡ words_rule (codes "SCRIPT") → shape old ≡ command_shape editions (codes "play") (codes "IMAGE" ∷ [])
+    → IfOk result (λ new. shape new ≡ play_shape editions)
+unfolding rule words_rule play_shape
+adds_scripts (Ok new) old argument editions added is known =
+    adds_rule old new argument (words_rule (codes "SCRIPT")) added is refl ∙ ap (λ (s : Shape). with_argument s (words_rule (codes "SCRIPT"))) known
+adds_scripts (Err e) old argument editions added is known = tt
+
+-- `play` as one more command, which was made with the memory for it
+pub adds_play : {E : Type 0} (old new : Command) (one : Result Command E) (before : App) (editions : Bor (List (Bor (List ℕ))))
+    → IsOkAnd one (λ made. AddsSubcommand old made new) → IfOk one (λ made. shape made ≡ play_shape editions) → app old ≡ before
+    → app new ≡ with_command before (play_shape editions)
+adds_play old new (Ok made) before editions added is was = adds_command old made new before (play_shape editions) added is (play_plain editions) was
+adds_play old new (Err e) before editions added is was = absurd added
+
 -- a program with its other commands has `migrate` after them, where the memory for it was there
 pub ends_migrating : {E : Type 0} (result : Result Command E) (old : Command) (one : Result Command E) (editions : Bor (List (Bor (List ℕ))))
     → IfOk result (λ new. IsOkAnd one (λ made. AddsSubcommand old made new)) → IfOk one (λ made. shape made ≡ migrate_shape)
-    → app old ≡ with_commands editions (with_commands editions program printing) changing → IfOk result (λ new. app new ≡ unixvol_app editions)
+    → app old ≡ with_command (with_commands editions (with_commands editions program printing) changing) (play_shape editions)
+    → IfOk result (λ new. app new ≡ unixvol_app editions)
 unfolding unixvol_app
 ends_migrating (Ok new) old (Ok made) editions added is was = adds_command old made new _ migrate_shape added is migrate_plain was
 ends_migrating (Ok new) old (Err e) editions added is was = absurd added

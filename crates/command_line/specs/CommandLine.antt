@@ -1,7 +1,7 @@
 -- What the words of the command line ask for.
-use Rattle.std.specs.Prelude.{◌≡◌, ◌≢◌, ◌⊎◌, ◌∷◌, ◌≤◌, ℕ, List, [], Option, Some, None, codes}
+use Rattle.std.specs.Prelude.{◌≡◌, ◌≢◌, ◌⊎◌, ◌∷◌, ◌<◌, ◌≤◌, ℕ, List, [], length, map, Option, Some, None, option_map, unwrap_or, codes}
 use Rattle.std.specs.Borrow.{Bor}
-use Rattle.clap.specs.Words.{App, HasKind, Row, found_of, first_of, first_value, kind_of}
+use Rattle.clap.specs.Words.{App, HasKind, Row, all_of, found_of, first_of, first_value, kind_of, matched_of, raw_values}
 use Rattle.clap.specs.declared.error.Error.{Error}
 use Rattle.clap.specs.declared.error.kind.ErrorKind.TheVariants as kinds
 use Rattle.clap.specs.declared.parser.matches.ArgMatches.{ArgMatches}
@@ -36,7 +36,8 @@ abbrev pub IsNoCommand : List ℕ → Type 0
 IsNoCommand text =
     (text ≢ codes "cat") × (text ≢ codes "ls") × (text ≢ codes "get") × (text ≢ codes "icheck") × (text ≢ codes "dcheck") × (text ≢ codes "ncheck")
     × (text ≢ codes "mkfs") × (text ≢ codes "put") × (text ≢ codes "rm") × (text ≢ codes "rmdir") × (text ≢ codes "mkdir") × (text ≢ codes "ln")
-    × (text ≢ codes "chmod") × (text ≢ codes "chown") × (text ≢ codes "salvage") × (text ≢ codes "migrate")
+    × (text ≢ codes "chmod") × (text ≢ codes "chown") × (text ≢ codes "salvage") × (text ≢ codes "play")
+    × (text ≢ codes "migrate")
 
 -- a word, or the empty one where there is none (this project)
 abbrev pub word_or_empty : Option (List ℕ) → List ℕ
@@ -51,6 +52,14 @@ given_in values argument = word_or_empty (first_value (found_of values) argument
 abbrev pub given_by : List Row → List ℕ → List ℕ
 given_by rows argument = word_or_empty (first_of argument rows)
 
+-- all words that were given for the scripts (this project)
+abbrev pub scripts_in : ArgMatches → List (List ℕ)
+scripts_in values = unwrap_or (option_map raw_values (matched_of (found_of values) (codes "SCRIPT"))) []
+
+-- all words that were given for the scripts, by the rows that a parse makes of the words (this project)
+abbrev pub scripts_by : List Row → List (List ℕ)
+scripts_by rows = unwrap_or (all_of (codes "SCRIPT") rows) []
+
 -- the name of a checker's command (this project)
 abbrev pub checker_name : Checker → List ℕ
 checker_name checkers.Blocks = codes "icheck"
@@ -60,6 +69,7 @@ checker_name checkers.Names = codes "ncheck"
 -- the name of the command of what several threads do (this project)
 abbrev pub work_name : Work → List ℕ
 work_name (works.Check checker workers) = checker_name checker
+work_name (works.Play scripts) = codes "play"
 
 -- the name of the job's command (this project)
 abbrev pub job_name : Job → List ℕ
@@ -125,6 +135,7 @@ IsJobGiven given jobs.Salvage = Unit {0}
 -- the words that were given for the arguments of its command describe what several threads do (this project)
 abbrev pub IsWorkGiven : (List ℕ → List ℕ) → Work → Type 0
 IsWorkGiven given (works.Check checker workers) = IsThreadsGiven (given (codes "WORKERS")) workers
+IsWorkGiven given (works.Play scripts) = (1 ≤ length scripts.items) × (length scripts.items ≤ 64)
 
 -- the words that were given for the arguments of its command describe what is asked for (this project)
 abbrev pub IsGiven : (List ℕ → List ℕ) → Invocation → Type 0
@@ -135,9 +146,14 @@ IsGiven given (Migrate old new migration) =
 IsGiven given (OnVolume volume job) = IsVolumeGiven given volume × IsJobGiven given job
 IsGiven given (OnThreads volume work) = IsVolumeGiven given volume × IsWorkGiven given work
 
--- the command of this name and the words for its arguments ask for this (this project)
-abbrev pub AsksFor : List ℕ → (List ℕ → List ℕ) → Invocation → Type 0
-AsksFor name given invocation = (name ≡ command_name invocation) × IsGiven given invocation
+-- the words that were given for the scripts are those that are to be played, if any are (this project)
+abbrev pub HasScripts : List (List ℕ) → Invocation → Type 0
+HasScripts words (OnThreads volume (works.Play scripts)) = map (λ script. script.now) scripts.items ≡ words
+HasScripts words _ = Unit {0}
+
+-- the command of this name, the words for its arguments and those for the scripts ask for this (this project)
+abbrev pub AsksFor : List ℕ → (List ℕ → List ℕ) → List (List ℕ) → Invocation → Type 0
+AsksFor name given scripts invocation = (name ≡ command_name invocation) × IsGiven given invocation × HasScripts scripts invocation
 
 -- the moment is no number of 32 bits (this project)
 abbrev pub IsNoMoment : (List ℕ → List ℕ) → Type 0
@@ -174,6 +190,10 @@ IsNoMigration given =
 unfoldable pub IsNoCheck : (List ℕ → List ℕ) → Type 0
 IsNoCheck given = IsNoEdition (given (codes "EDITION")) ⊎ (IsThreads (given (codes "WORKERS")) → ⊥)
 
+-- one of the words of `play` is no value of its argument, or there is no script, or there are more than 64 (this project)
+unfoldable pub IsNoPlay : (List ℕ → List ℕ) → List (List ℕ) → Type 0
+IsNoPlay given scripts = IsNoEdition (given (codes "EDITION")) ⊎ (length scripts < 1) ⊎ (64 < length scripts)
+
 -- a command of this name takes an edition, and no number (this project)
 abbrev pub IsNumberless : List ℕ → Type 0
 IsNumberless name = (name ≡ codes "ls") ⊎ (name ≡ codes "get") ⊎ (name ≡ codes "salvage")
@@ -187,11 +207,12 @@ abbrev pub IsCheck : List ℕ → Type 0
 IsCheck name = (name ≡ codes "icheck") ⊎ (name ≡ codes "dcheck") ⊎ (name ≡ codes "ncheck")
 
 -- one of the words of the command of this name is no value of its argument (this project)
-abbrev pub IsNoValue : List ℕ → (List ℕ → List ℕ) → Type 0
-IsNoValue name given = (IsNumberless name × IsNoEdition (given (codes "EDITION"))) ⊎ ((name ≡ codes "cat") × IsNoCat given)
+abbrev pub IsNoValue : List ℕ → (List ℕ → List ℕ) → List (List ℕ) → Type 0
+IsNoValue name given scripts = (IsNumberless name × IsNoEdition (given (codes "EDITION"))) ⊎ ((name ≡ codes "cat") × IsNoCat given)
     ⊎ ((name ≡ codes "mkfs") × IsNoNewVolume given) ⊎ (IsChange name × IsNoChange given)
     ⊎ ((name ≡ codes "chmod") × IsNoChmod given) ⊎ ((name ≡ codes "chown") × IsNoChown given)
     ⊎ (IsCheck name × IsNoCheck given) ⊎ ((name ≡ codes "migrate") × IsNoMigration given)
+    ⊎ ((name ≡ codes "play") × IsNoPlay given scripts)
 
 -- memory ran out, or the error tells of a word that is no value, of which this holds (this project)
 abbrev pub TellsOf : Type 0 → Error → Type 0
@@ -200,7 +221,7 @@ TellsOf wrong error = (kind_of error ≡ kinds.OutOfMemory) ⊎ ((kind_of error 
 -- the command that was met, with the rows of its words, asks for this (this project)
 abbrev pub Asks : Option (List ℕ × List Row) → Invocation → Type 0
 Asks None invocation = ⊥
-Asks (Some met) invocation = AsksFor met.0 (given_by met.1) invocation
+Asks (Some met) invocation = AsksFor met.0 (given_by met.1) (scripts_by met.1) invocation
 
 -- the command that was met, if any, asks for nothing (this project)
 unfoldable pub AsksNothing : Option (List ℕ × List Row) → Type 0
@@ -223,6 +244,7 @@ IsRead words invocation = (editions : Bor (List (Bor (List ℕ)))) × AreEdition
 unfoldable pub IsRefused : List (List ℕ) → Error → Type 0
 IsRefused words error = (editions : Bor (List (Bor (List ℕ)))) × AreEditions editions × IsRefusedBy (unixvol_app editions) words error
 
--- several threads can do this: their number is 1 to 64 (this project)
+-- several threads can do this: their number, or that of the scripts, is 1 to 64 (this project)
 abbrev pub IsWorkable : Work → Type 0
 IsWorkable (works.Check checker workers) = (1 ≤ workers) × (workers ≤ 64)
+IsWorkable (works.Play scripts) = (1 ≤ length scripts.items) × (length scripts.items ≤ 64)

@@ -1,6 +1,7 @@
 -- The command line: its commands, and the words that each takes.
 use Rattle.std.specs.Prelude.{◌≡◌, ◌∷◌, ◌++◌, ℕ, List, [], Option, Some, true, codes, fold, map}
 use Rattle.std.specs.Borrow.{Bor}
+use Rattle.clap.specs.Lexer.{usize_max}
 use Rattle.clap.specs.Simple.{new_shape}
 use Rattle.clap.specs.Words.{App, Kinds, Row, Rule, Shape, app_of, fault_of, new_rule, rule_of, shape_of, subcommand_of, with_subcommand}
 use Rattle.clap.specs.declared.builder.arg.Arg.{Arg}
@@ -28,6 +29,10 @@ AreEditions editions = map (λ name. name.now) editions.now ≡ codes "6" ∷ co
 -- an argument of this name that has to be given (this project)
 unfoldable pub word_rule : List ℕ → Rule
 word_rule name = record (new_rule name) { required = true }
+
+-- an argument of this name that has to be given, and takes one word or more (this project)
+unfoldable pub words_rule : List ℕ → Rule
+words_rule name = record (new_rule name) { required = true; range = Some (record { start_inclusive = 1; end_inclusive = usize_max }) }
 
 -- the argument `EDITION`, which has to be given and is one of these texts (this project)
 unfoldable pub edition_rule : Bor (List (Bor (List ℕ))) → Rule
@@ -58,12 +63,17 @@ verb_name verbs.Ln = codes "ln"
 verb_name verbs.Chmod = codes "chmod"
 verb_name verbs.Chown = codes "chown"
 verb_name verbs.Salvage = codes "salvage"
+verb_name verbs.Play = codes "play"
 verb_name verbs.Migrate = codes "migrate"
 
 -- a command of this name, which takes an edition and then a word for each of these arguments (this project)
 unfoldable pub command_shape : Bor (List (Bor (List ℕ))) → List ℕ → List (List ℕ) → Shape
 command_shape editions name arguments =
     fold (λ command argument. with_argument command (word_rule argument)) (with_argument (named_shape name) (edition_rule editions)) arguments
+
+-- the command `play`, which takes an edition, an image, and one script or more (this project)
+unfoldable pub play_shape : Bor (List (Bor (List ℕ))) → Shape
+play_shape editions = with_argument (command_shape editions (codes "play") (codes "IMAGE" ∷ [])) (words_rule (codes "SCRIPT"))
 
 -- the command `migrate`, which takes a word for each of its arguments, and no edition (this project)
 unfoldable pub migrate_shape : Shape
@@ -111,7 +121,8 @@ with_commands editions = fold (λ old command. with_command old (command_shape e
 
 -- the command line of `unixvol` (this project)
 unfoldable pub unixvol_app : Bor (List (Bor (List ℕ))) → App
-unixvol_app editions = with_command (with_commands editions (with_commands editions program printing) changing) migrate_shape
+unixvol_app editions =
+    with_command (with_command (with_commands editions (with_commands editions program printing) changing) (play_shape editions)) migrate_shape
 
 -- what clap tells of the words, nothing where it takes them (clap's contract)
 unfoldable pub faults_of : App → List (List ℕ) → Kinds

@@ -1,7 +1,7 @@
 //! The words of `cat`.
 ghost use Rattle.std.specs.Prelude.{◌≡◌, ◌∷◌, [], IfOk, IfErr, codes};
 ghost use Rattle.command_line.specs.Words.{shape, command_shape};
-ghost use Rattle.command_line.specs.CommandLine.{AsksFor, IsNoCat, TellsOf, given_in};
+ghost use Rattle.command_line.specs.CommandLine.{AsksFor, IsNoCat, TellsOf, given_in, scripts_in};
 
 use super::volumes::volume_in;
 use super::words::{Verb, on_volume, required, word_in};
@@ -29,7 +29,7 @@ pub(super) fn command<'a>(alloc: Global, editions: &'a [&'a str]) -> Result<Comm
 /// Reads the words of `cat`.
 #[tactic(auto, unfolding(crate::specs::CommandLine::IsNoCat))]
 pub(super) fn read<'a>(alloc: Global, values: &ArgMatches<'a>) -> Result<Invocation<'a>, Error>
-    ensures read { IfOk result (AsksFor (codes "cat") (given_in values.now)) }
+    ensures read { IfOk result (AsksFor (codes "cat") (given_in values.now) (scripts_in values.now)) }
     ensures refused { IfErr result (TellsOf (IsNoCat (given_in values.now))) }
 {
     let volume = volume_in(alloc, Verb::Cat, values)?;

@@ -3,7 +3,7 @@
 
 ghost use Rattle.std.specs.Prelude.{◌≡◌, None, IfOk, IfErr, IfSome, IsOkAnd, map, string_bytes};
 ghost use Rattle.clap.specs.Words.{AddsSubcommand, subcommand_rows_of};
-ghost use Rattle.command_line.specs.CommandLine.{Asks, AsksFor, AsksNothing, IsNoCommand, IsNoValue, IsRead, IsRefused, TellsOf, given_in};
+ghost use Rattle.command_line.specs.CommandLine.{Asks, AsksFor, AsksNothing, IsNoCommand, IsNoValue, IsRead, IsRefused, TellsOf, given_in, scripts_in};
 ghost use Rattle.command_line.specs.Words.{app, changing, printing, unixvol_app, with_commands};
 
 use clap::error::ErrorKind;
@@ -37,14 +37,16 @@ pub struct VolumeFile<'a> {
 }
 
 /// What several threads do with a volume.
-#[derive(Clone, Copy, Debug, PartialEq, Eq)]
-pub enum Work {
+#[derive(Debug, PartialEq, Eq, Drop)]
+pub enum Work<'a> {
     /// Print what a checker finds, by so many threads, 1 to 64.
     Check { checker: Checker, workers: usize },
+    /// Play the scripts in these files, 1 to 64, each by a thread of its own.
+    Play { scripts: Vec<&'a str> },
 }
 
 /// What the user asks for.
-#[derive(Clone, Copy, Debug, PartialEq, Eq)]
+#[derive(Debug, PartialEq, Eq, Drop)]
 pub enum Invocation<'a> {
     /// Print the body of i-node `ino` of the volume in a file.
     Cat {
@@ -70,7 +72,7 @@ pub enum Invocation<'a> {
     /// Do something with the volume in a file, by several threads.
     OnThreads {
         volume: VolumeFile<'a>,
-        work: Work,
+        work: Work<'a>,
     },
 }
 
@@ -111,8 +113,8 @@ fn read_command<'a>(
     name: &str,
     values: &ArgMatches<'a>,
 ) -> Result<Option<Invocation<'a>>, Error>
-    ensures read { IfOk result (λ found. IfSome found (AsksFor name.now (given_in values.now))) }
-    ensures refused { IfErr result (TellsOf (IsNoValue name.now (given_in values.now))) }
+    ensures read { IfOk result (λ found. IfSome found (AsksFor name.now (given_in values.now) (scripts_in values.now))) }
+    ensures refused { IfErr result (TellsOf (IsNoValue name.now (given_in values.now) (scripts_in values.now))) }
     ensures missing { IfOk result (λ found. found ≡ None → IsNoCommand name.now) }
 {
     let Some(verb) = Verb::of(name) else {
@@ -134,6 +136,7 @@ fn read_command<'a>(
         Verb::Chmod => volumes::read_chmod(alloc, values)?,
         Verb::Chown => volumes::read_chown(alloc, values)?,
         Verb::Salvage => volumes::read_salvage(alloc, values)?,
+        Verb::Play => threads::read_play(alloc, values)?,
         Verb::Migrate => migrate::read(alloc, values)?,
     };
     Ok(Some(invocation))
@@ -151,6 +154,7 @@ fn command_line<'a>(alloc: Global, editions: &'a [&'a str]) -> Result<Command<'a
         .arg_required_else_help(true);
     let command = with_prints(alloc, editions, command)?;
     let command = with_changes(alloc, editions, command)?;
+    let command = with_one_more(command, threads::play_command(alloc, editions))?;
     with_one_more(command, migrate::command(alloc))
 }
 

@@ -1,7 +1,7 @@
 //! The words of `migrate`.
 ghost use Rattle.std.specs.Prelude.{◌≡◌, IfOk, IfErr, codes};
 ghost use Rattle.command_line.specs.Words.{shape, migrate_shape};
-ghost use Rattle.command_line.specs.CommandLine.{AsksFor, IsNoMigration, TellsOf, given_in};
+ghost use Rattle.command_line.specs.CommandLine.{AsksFor, IsNoMigration, TellsOf, given_in, scripts_in};
 
 use super::words::{BLOCKS, LIST_BLOCKS, NOW, Verb, long_in, named, required, text_in, word_in};
 use super::{Invocation, texts};
@@ -34,7 +34,7 @@ pub(super) fn command<'a>(alloc: Global) -> Result<Command<'a>, AllocError>
 /// Reads the words of `migrate`.
 #[tactic(auto, unfolding(crate::specs::CommandLine::IsNoMigration))]
 pub(super) fn read<'a>(alloc: Global, values: &ArgMatches<'a>) -> Result<Invocation<'a>, Error>
-    ensures read { IfOk result (AsksFor (codes "migrate") (given_in values.now)) }
+    ensures read { IfOk result (AsksFor (codes "migrate") (given_in values.now) (scripts_in values.now)) }
     ensures refused { IfErr result (TellsOf (IsNoMigration (given_in values.now))) }
 {
     let old = text_in(values, OLD);

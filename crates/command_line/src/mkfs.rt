@@ -1,7 +1,7 @@
 //! The words of `mkfs`.
 ghost use Rattle.std.specs.Prelude.{◌≡◌, ◌∷◌, [], IfOk, IfErr, codes};
 ghost use Rattle.command_line.specs.Words.{shape, command_shape};
-ghost use Rattle.command_line.specs.CommandLine.{AsksFor, IsNoNewVolume, TellsOf, given_in};
+ghost use Rattle.command_line.specs.CommandLine.{AsksFor, IsNoNewVolume, TellsOf, given_in, scripts_in};
 
 use super::words::{
     BLOCKS, GID, IMAGE, LIST_BLOCKS, NOW, UID, Verb, edition_in, long_in, of_edition, required,
@@ -43,7 +43,7 @@ fn with_sizes<'a>(alloc: Global, editions: &'a [&'a str]) -> Result<Command<'a>,
 /// Reads the words of `mkfs`.
 #[tactic(auto, unfolding(crate::specs::CommandLine::IsNoNewVolume))]
 pub(super) fn read<'a>(alloc: Global, values: &ArgMatches<'a>) -> Result<Invocation<'a>, Error>
-    ensures read { IfOk result (AsksFor (codes "mkfs") (given_in values.now)) }
+    ensures read { IfOk result (AsksFor (codes "mkfs") (given_in values.now) (scripts_in values.now)) }
     ensures refused { IfErr result (TellsOf (IsNoNewVolume (given_in values.now))) }
 {
     let image = text_in(values, IMAGE);

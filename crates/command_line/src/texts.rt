@@ -308,6 +308,36 @@ Status:
   3  `unixvol: cannot read IMAGE`, `unixvol: cannot write IMAGE`
   4  `unixvol: 12 NoMemory`";
 
+pub const PLAY_ABOUT: &str = "Plays scripts of calls on a volume, each by a thread of its own.";
+
+pub const PLAY_MORE: &str = "\
+Example:
+  unixvol play 7 disk.img first.txt second.txt
+
+Each line of a script is NOW UID GID, and then one of these, with single spaces between all words:
+  create PATH PERM        mkdir PATH PERM        link FROM TO          unlink PATH        rmdir PATH
+  write PATH OFFSET HEX   truncate PATH LENGTH   chmod PATH PERM       chown PATH UID GID
+  stat PATH               read PATH OFFSET LEN   list PATH             cut
+PERM is octal; HEX has two hexadecimal digits for each byte, or is `-` for none.
+
+The scripts share the volume: which of two lines of different scripts comes first is left open, but each call is made
+whole. All scripts are read before the first call. Then a line is printed for each of theirs, by script and line:
+`S.L ok N` (the i-number made, the bytes written, or 0), `S.L NUMBER NAME` for a refusal, `S.L stat INO KIND PERM LINKS
+UID GID SIZE`, `S.L read HEX`, `S.L list COUNT` or `S.L cut N`; and last `records N`, how many calls the journal has,
+`confirmed N`, how many receipts agree with it, and after cuts `gone N`, how many are older. The volume is saved
+whatever was refused: a new file is written beside IMAGE and then takes its place.
+
+Status:
+  0  all was played, and the volume saved
+  1  a line was refused; or `unixvol: unsound, rule N`: the volume breaks this rule, and none before it
+  2  `unixvol: script S line L`: this line can't be read, and nothing was played; or the command line can't be
+  3  `unixvol: cannot read FILE`, `unixvol: cannot write IMAGE`, or `unixvol: cannot write -`: standard output failed
+  4  `unixvol: 12 NoMemory`, or memory ran out for a line";
+
+pub const SCRIPT: &str = "The files that hold the scripts, 1 to 64";
+
+pub const SCRIPTS: &str = "there may be 1 to 64 scripts, and this is how many there are";
+
 pub const MIGRATE_ABOUT: &str = "Makes a volume of the seventh edition out of one of the sixth.";
 
 pub const MIGRATE_MORE: &str = "\

@@ -1,7 +1,7 @@
 //! The words of the commands on a volume in a file.
 ghost use Rattle.std.specs.Prelude.{◌≡◌, ◌∷◌, [], IfOk, IfErr, codes};
 ghost use Rattle.command_line.specs.Words.{shape, command_shape};
-ghost use Rattle.command_line.specs.CommandLine.{AsksFor, IsMomentGiven, IsNoChange, IsNoChmod, IsNoChown, IsNoEdition, IsVolumeGiven, TellsOf, given_in};
+ghost use Rattle.command_line.specs.CommandLine.{AsksFor, IsMomentGiven, IsNoChange, IsNoChmod, IsNoChown, IsNoEdition, IsVolumeGiven, TellsOf, given_in, scripts_in};
 
 use super::words::{
     GID, IMAGE, NOW, UID, Verb, edition_in, long_in, on_volume, permissions_in, required, text_in,
@@ -191,7 +191,7 @@ pub(super) fn salvage_command<'a>(
 
 /// Reads the words of `ls`.
 pub(super) fn read_ls<'a>(alloc: Global, values: &ArgMatches<'a>) -> Result<Invocation<'a>, Error>
-    ensures read { IfOk result (AsksFor (codes "ls") (given_in values.now)) }
+    ensures read { IfOk result (AsksFor (codes "ls") (given_in values.now) (scripts_in values.now)) }
     ensures refused { IfErr result (TellsOf (IsNoEdition (given_in values.now (codes "EDITION")))) }
 {
     let volume = volume_in(alloc, Verb::Ls, values)?;
@@ -202,7 +202,7 @@ pub(super) fn read_ls<'a>(alloc: Global, values: &ArgMatches<'a>) -> Result<Invo
 
 /// Reads the words of `get`.
 pub(super) fn read_get<'a>(alloc: Global, values: &ArgMatches<'a>) -> Result<Invocation<'a>, Error>
-    ensures read { IfOk result (AsksFor (codes "get") (given_in values.now)) }
+    ensures read { IfOk result (AsksFor (codes "get") (given_in values.now) (scripts_in values.now)) }
     ensures refused { IfErr result (TellsOf (IsNoEdition (given_in values.now (codes "EDITION")))) }
 {
     let volume = volume_in(alloc, Verb::Get, values)?;
@@ -213,7 +213,7 @@ pub(super) fn read_get<'a>(alloc: Global, values: &ArgMatches<'a>) -> Result<Inv
 
 /// Reads the words of `put`.
 pub(super) fn read_put<'a>(alloc: Global, values: &ArgMatches<'a>) -> Result<Invocation<'a>, Error>
-    ensures read { IfOk result (AsksFor (codes "put") (given_in values.now)) }
+    ensures read { IfOk result (AsksFor (codes "put") (given_in values.now) (scripts_in values.now)) }
     ensures refused { IfErr result (TellsOf (IsNoChange (given_in values.now))) }
 {
     let (volume, now) = volume_and_now(alloc, Verb::Put, values)?;
@@ -225,7 +225,7 @@ pub(super) fn read_put<'a>(alloc: Global, values: &ArgMatches<'a>) -> Result<Inv
 
 /// Reads the words of `rm`.
 pub(super) fn read_rm<'a>(alloc: Global, values: &ArgMatches<'a>) -> Result<Invocation<'a>, Error>
-    ensures read { IfOk result (AsksFor (codes "rm") (given_in values.now)) }
+    ensures read { IfOk result (AsksFor (codes "rm") (given_in values.now) (scripts_in values.now)) }
     ensures refused { IfErr result (TellsOf (IsNoChange (given_in values.now))) }
 {
     let (volume, now) = volume_and_now(alloc, Verb::Rm, values)?;
@@ -239,7 +239,7 @@ pub(super) fn read_rmdir<'a>(
     alloc: Global,
     values: &ArgMatches<'a>,
 ) -> Result<Invocation<'a>, Error>
-    ensures read { IfOk result (AsksFor (codes "rmdir") (given_in values.now)) }
+    ensures read { IfOk result (AsksFor (codes "rmdir") (given_in values.now) (scripts_in values.now)) }
     ensures refused { IfErr result (TellsOf (IsNoChange (given_in values.now))) }
 {
     let (volume, now) = volume_and_now(alloc, Verb::Rmdir, values)?;
@@ -253,7 +253,7 @@ pub(super) fn read_mkdir<'a>(
     alloc: Global,
     values: &ArgMatches<'a>,
 ) -> Result<Invocation<'a>, Error>
-    ensures read { IfOk result (AsksFor (codes "mkdir") (given_in values.now)) }
+    ensures read { IfOk result (AsksFor (codes "mkdir") (given_in values.now) (scripts_in values.now)) }
     ensures refused { IfErr result (TellsOf (IsNoChange (given_in values.now))) }
 {
     let (volume, now) = volume_and_now(alloc, Verb::Mkdir, values)?;
@@ -264,7 +264,7 @@ pub(super) fn read_mkdir<'a>(
 
 /// Reads the words of `ln`.
 pub(super) fn read_ln<'a>(alloc: Global, values: &ArgMatches<'a>) -> Result<Invocation<'a>, Error>
-    ensures read { IfOk result (AsksFor (codes "ln") (given_in values.now)) }
+    ensures read { IfOk result (AsksFor (codes "ln") (given_in values.now) (scripts_in values.now)) }
     ensures refused { IfErr result (TellsOf (IsNoChange (given_in values.now))) }
 {
     let (volume, now) = volume_and_now(alloc, Verb::Ln, values)?;
@@ -280,7 +280,7 @@ pub(super) fn read_chmod<'a>(
     alloc: Global,
     values: &ArgMatches<'a>,
 ) -> Result<Invocation<'a>, Error>
-    ensures read { IfOk result (AsksFor (codes "chmod") (given_in values.now)) }
+    ensures read { IfOk result (AsksFor (codes "chmod") (given_in values.now) (scripts_in values.now)) }
     ensures refused { IfErr result (TellsOf (IsNoChmod (given_in values.now))) }
 {
     let (volume, now) = volume_and_now(alloc, Verb::Chmod, values)?;
@@ -296,7 +296,7 @@ pub(super) fn read_chown<'a>(
     alloc: Global,
     values: &ArgMatches<'a>,
 ) -> Result<Invocation<'a>, Error>
-    ensures read { IfOk result (AsksFor (codes "chown") (given_in values.now)) }
+    ensures read { IfOk result (AsksFor (codes "chown") (given_in values.now) (scripts_in values.now)) }
     ensures refused { IfErr result (TellsOf (IsNoChown (given_in values.now))) }
 {
     let (volume, now) = volume_and_now(alloc, Verb::Chown, values)?;
@@ -317,7 +317,7 @@ pub(super) fn read_salvage<'a>(
     alloc: Global,
     values: &ArgMatches<'a>,
 ) -> Result<Invocation<'a>, Error>
-    ensures read { IfOk result (AsksFor (codes "salvage") (given_in values.now)) }
+    ensures read { IfOk result (AsksFor (codes "salvage") (given_in values.now) (scripts_in values.now)) }
     ensures refused { IfErr result (TellsOf (IsNoEdition (given_in values.now (codes "EDITION")))) }
 {
     let volume = volume_in(alloc, Verb::Salvage, values)?;

@@ -3,7 +3,7 @@ ghost use Rattle.std.specs.Prelude.{◌≡◌, ◌∷◌, [], None, IfOk, IfErr,
 ghost use Rattle.clap.specs.Words.{kind_of};
 ghost use Rattle.clap.specs.declared.error.kind.ErrorKind.TheVariants as clap_kinds;
 ghost use Rattle.command_line.specs.CommandLine.{IsEditionNamed, IsNoCommand, IsNoEdition, TellsOf, given_in};
-ghost use Rattle.command_line.specs.Words.{command_shape, named_shape, verb_name, rule, shape, word_rule, edition_rule};
+ghost use Rattle.command_line.specs.Words.{command_shape, named_shape, verb_name, rule, shape, word_rule, edition_rule, words_rule};
 ghost use Rattle.command_line.specs.Decimal.{IsNumberUpTo, IsNumberGiven, IsThreads, IsThreadsGiven};
 ghost use Rattle.command_line.specs.Octal.{IsOctalUpTo, IsOctalGiven};
 
@@ -52,11 +52,12 @@ pub(super) enum Verb {
     Chmod,
     Chown,
     Salvage,
+    Play,
     Migrate,
 }
 
 /// All commands, in the order in which the help lists them.
-static VERBS: [Verb; 16] = [
+static VERBS: [Verb; 17] = [
     Verb::Cat,
     Verb::Ls,
     Verb::Get,
@@ -72,6 +73,7 @@ static VERBS: [Verb; 16] = [
     Verb::Chmod,
     Verb::Chown,
     Verb::Salvage,
+    Verb::Play,
     Verb::Migrate,
 ];
 
@@ -96,6 +98,7 @@ impl Verb {
             Verb::Chmod => "chmod",
             Verb::Chown => "chown",
             Verb::Salvage => "salvage",
+            Verb::Play => "play",
             Verb::Migrate => "migrate",
         }
     }
@@ -130,6 +133,7 @@ impl Verb {
             Verb::Chmod => volumes::chmod_command(alloc, editions),
             Verb::Chown => volumes::chown_command(alloc, editions),
             Verb::Salvage => volumes::salvage_command(alloc, editions),
+            Verb::Play => threads::play_command(alloc, editions),
             Verb::Migrate => migrate::command(alloc),
         }
     }
@@ -186,6 +190,14 @@ pub(super) fn required<'a>(alloc: Global, name: &'a str, help: &'a str) -> Arg<'
     ensures { rule result ≡ word_rule name.entry.now }
 {
     Arg::new(alloc, name).required(true).help(help)
+}
+
+/// An argument for one word or more.
+#[tactic(auto, unfolding(crate::specs::Words::rule, crate::specs::Words::words_rule))]
+pub(super) fn several<'a>(alloc: Global, name: &'a str, help: &'a str) -> Arg<'a>
+    ensures { rule result ≡ words_rule name.entry.now }
+{
+    required(alloc, name, help).num_args(1..)
 }
 
 /// The word that was given for an argument, or the empty one.

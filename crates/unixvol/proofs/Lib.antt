@@ -3,3 +3,4 @@ pub mod Begun
 pub mod Checked
 pub mod MadeVolumes
 pub mod Migrated
+pub mod Played

@@ -1,5 +1,5 @@
 -- What a run of the program comes to, by the bytes that its files give.
-use Rattle.std.specs.Prelude.{◌≡◌, ◌≢◌, ◌⊎◌, ◌↔◌, ◌≤◌, ℕ, false, true, List, [], Option, IsSome, IfSome, Result, Ok, Err, IsErrAnd, Bool}
+use Rattle.std.specs.Prelude.{All, length, ◌≡◌, ◌≢◌, ◌⊎◌, ◌↔◌, ◌≤◌, ℕ, false, true, List, [], Option, IsSome, IfSome, Result, Ok, Err, IsErrAnd, Bool}
 use Rattle.std.specs.Io.KnownBytes.{Keeps}
 use Rattle.clap.specs.Words.{kind_of}
 use Rattle.clap.specs.declared.error.Error.{Error}
@@ -16,6 +16,8 @@ use Rattle.vol_commands.specs.Jobs.{Streams, Does}
 use Rattle.vol_commands.specs.Making.{mkfs_line_at}
 use Rattle.vol_commands.specs.Migrating.{MigratesVolume}
 use Rattle.vol_layout.specs.declared.edition.Edition.{Edition}
+use Rattle.std.specs.Global.{Vec}
+use Rattle.vol_play.specs.Playing.{PlaysVolume}
 use Rattle.vol_commands.specs.declared.answer.Answer.{Answer}
 use Rattle.vol_commands.specs.declared.cat.CatFault.{CatFault}
 use Rattle.vol_commands.specs.declared.cat.CatFault.TheVariants.{Device, NoMemory, Writer}
@@ -106,6 +108,10 @@ abbrev pub EndsSaved : (List ℕ → Type 0) → Answer → ℕ → Type 0
 EndsSaved taken answer status =
     ((status ≡ answer.status) × IfSome answer.image (λ bytes. taken bytes.items)) ⊎ (IsSome answer.image × IsStatusOfFileOrMemory status)
 
+-- the status after a play: as after another command that saves; and where it was that of an output that failed, it still is (this project)
+abbrev pub EndsPlayed : (List ℕ → Type 0) → Answer → ℕ → Type 0
+EndsPlayed taken answer status = EndsSaved taken answer status × (answer.status ≡ 3 → status ≡ 3)
+
 -- the status after `mkfs`: its own, where the volume that it made, if any, was taken, or that of a file (this project)
 abbrev pub MadeSaved : (List ℕ → Type 0) → Made → ℕ → Type 0
 MadeSaved taken made status =
@@ -148,9 +154,18 @@ abbrev pub RunsCheck : Streams → HostFiles → Edition → Checker → ℕ →
 RunsCheck streams files edition checker status =
     RunsNothing streams files status ⊎ ((image : List ℕ) × files.given image × Checks checker edition image streams status)
 
+-- so many scripts are played: nothing is done; or files gave them, and they are played on an image that a file gave which may be changed, and the volume is saved where a file still stood that had the stamp of the one that was read (this project)
+abbrev pub RunsPlay : Streams → HostFiles → Edition → ℕ → ℕ → Type 0
+RunsPlay streams files edition count status =
+    RunsNothing streams files status
+    ⊎ ((image : List ℕ) × (stamp : Stamp) × (scripts : List (Vec ℕ)) × (answer : Answer) × files.opened image stamp
+    × All (λ script. files.given script.items) scripts × (length scripts ≡ count)
+    × PlaysVolume edition image scripts streams answer × EndsPlayed (λ saved. files.taken saved × files.stood stamp) answer status)
+
 -- what several threads do runs (this project)
 abbrev pub RunsWork : Streams → HostFiles → Edition → Work → ℕ → Type 0
 RunsWork streams files edition (works.Check checker workers) status = RunsCheck streams files edition checker status
+RunsWork streams files edition (works.Play scripts) status = RunsPlay streams files edition (length scripts.items) status
 
 -- what is asked for is done by one thread (this project)
 abbrev pub IsForOneThread : Invocation → Type 0

@@ -5,6 +5,7 @@ mod commands;
 mod explaining;
 mod image_file;
 mod reading;
+mod saving;
 mod saving_file;
 mod threads;
 

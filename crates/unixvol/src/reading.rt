@@ -1,5 +1,5 @@
 //! Files that are read to their ends.
-ghost use Rattle.std.specs.Prelude.{◌≡◌, false, true, IfErr, IfOk, IsErrOf, OnErr};
+ghost use Rattle.std.specs.Prelude.{◌≡◌, false, true, All, IfErr, IfOk, IsErrOf, OnErr, length};
 ghost use Rattle.pdp_words.specs.Devices.{IsReadWhole, LosesFront};
 ghost use Rattle.unixvol.specs.Opening.{IsOpened};
 ghost use Rattle.unixvol.specs.Running.{IsGiven, IsStatusOfFileOrMemory, IsUnread};
@@ -29,6 +29,25 @@ pub fn read_file<R: Files + Eprint + AllocGlobal>(rt: &R, path: &str) -> Result<
         Ok(file) => Ok(read_open(rt, path, file)?.bytes),
         Err(_) => Err(explain_unread(rt, path)),
     }
+}
+
+/// The bytes of several files, in the order of their paths. Where one can't be read, prints so, and answers the status.
+pub fn read_files<R: Files + Eprint + AllocGlobal>(
+    rt: &R,
+    paths: &[&str],
+) -> Result<Vec<Vec<u8>>, u8>
+    ensures given { IfOk result (λ files. All (λ file. IsGiven R.File.remaining file.items) files.items) }
+    ensures count { IfOk result (λ files. length files.items ≡ length paths.now) }
+    ensures fault { IfErr result (IsUnread R.File.remaining) }
+{
+    let mut files = Vec::new(rt.alloc());
+    'files: for path in paths {
+        let bytes = read_file(rt, path)?;
+        let Ok(()) = files.push(bytes) else {
+            return Err(explain_no_memory(rt));
+        };
+    }
+    Ok(files)
 }
 
 /// The bytes of a file, and its stamp. Where it can't be read, prints so, and answers the status.

@@ -1,33 +1,36 @@
 //! The commands of the program that several threads do. What is promised of them is promised if they return.
-ghost use Rattle.std.specs.Prelude.{◌≡◌, ◌⊎◌, ◌≤◌};
+ghost use Rattle.std.specs.Prelude.{◌≡◌, ◌⊎◌, ◌≤◌, length};
 ghost use Rattle.std.specs.Process.{exit_status};
 ghost use Rattle.command_line.specs.CommandLine.{IsWorkable};
 ghost use Rattle.vol_commands.specs.Faults.{Gets};
-ghost use Rattle.unixvol.specs.Running.{EndsWork, RunsCheck, RunsWork, WorksToEnd, host_files};
+ghost use Rattle.unixvol.specs.Running.{EndsWork, RunsCheck, RunsPlay, RunsWork, WorksToEnd, host_files};
 
 use crate::explaining::finish_printed;
 use crate::image_file::ImageFiles;
-use crate::reading::read_file;
+use crate::reading::{ReadFile, read_file, read_files, read_image};
+use crate::saving::save_played;
 use command_line::{VolumeFile, Work};
 use pdp_words::{IntoWrite, Sink};
 use std::fs::Files;
 use std::io::Write;
 use std::process::ExitCode;
+use std::rt::Clock;
 use std::sync::Wait;
 use std::thread::Threads;
-use vol_check::Checker;
+use vol_check::{Checker, Open};
 use vol_commands::checking::check;
+use vol_play::play;
 
 /// Does with the volume in a file what several threads are asked for, and answers how the program ends. What it prints goes
 /// to `output`, which is standard output; a fault is one line on standard error. `errors` writes to standard error too.
 pub fn run_to_end<
-    R: ImageFiles + Eprint + AllocGlobal + Threads + Wait + Sync,
+    R: ImageFiles + Clock + Eprint + AllocGlobal + Threads + Wait + Sync,
     O: Write + Drop,
     E: Write + Drop,
->(rt: &R, output: O, errors: E, volume: VolumeFile<'_>, work: Work) -> ExitCode
+>(rt: &R, output: O, errors: E, volume: VolumeFile<'_>, work: Work<'_>) -> ExitCode
     requires { IsWorkable work }
     ensures { WorksToEnd (host_files R.File.remaining R.File.contents R.had R.stood) (O.contents output) (E.contents errors)
-        volume.entry.edition work (exit_status result) }
+        volume.entry.edition work.entry (exit_status result) }
 {
     let mut output = IntoWrite::new(output);
     let mut errors = IntoWrite::new(errors);
@@ -37,12 +40,12 @@ pub fn run_to_end<
 
 /// Does with the volume in a file what several threads are asked for, and answers the status to end with, if
 /// [`finish_printed`] goes well.
-fn run<R: ImageFiles + Eprint + AllocGlobal + Threads + Wait + Sync, O: Sink, E: Sink>(
+fn run<R: ImageFiles + Clock + Eprint + AllocGlobal + Threads + Wait + Sync, O: Sink, E: Sink>(
     rt: &R,
     output: &mut O,
     errors: &mut E,
     volume: VolumeFile<'_>,
-    work: Work,
+    work: Work<'_>,
 ) -> u8
     requires { IsWorkable work }
     ensures runs { RunsWork (record {
@@ -51,7 +54,7 @@ fn run<R: ImageFiles + Eprint + AllocGlobal + Threads + Wait + Sync, O: Sink, E:
       had_failed = O.failed output.old;
       failed = O.failed output.new;
       said = Gets (E.failed errors.new) (E.contents errors.old) (E.contents errors.new);
-    }) (host_files R.File.remaining R.File.contents R.had R.stood) volume.entry.edition work result }
+    }) (host_files R.File.remaining R.File.contents R.had R.stood) volume.entry.edition work.entry result }
     ensures ends { EndsWork (record {
       old = O.contents output.old;
       new = O.contents output.new;
@@ -64,6 +67,7 @@ fn run<R: ImageFiles + Eprint + AllocGlobal + Threads + Wait + Sync, O: Sink, E:
         Work::Check { checker, workers } => {
             run_check(rt, output, errors, volume, checker, workers)
         }
+        Work::Play { scripts } => run_play(rt, output, errors, volume, &scripts),
     }
 }
 
@@ -100,4 +104,49 @@ fn run_check<R: ImageFiles + Eprint + AllocGlobal + Threads + Wait + Sync, O: Si
         output,
         errors,
     )
+}
+
+/// Plays the scripts in some files on the volume in a file, each by a thread of its own, saves the volume, and answers the
+/// status to end with.
+fn run_play<R: ImageFiles + Clock + Eprint + AllocGlobal + Threads + Wait + Sync, O: Sink, E: Sink>(
+    rt: &R,
+    output: &mut O,
+    errors: &mut E,
+    volume: VolumeFile<'_>,
+    scripts: &[&str],
+) -> u8
+    requires first { 1 ≤ length scripts.now }
+    requires last { length scripts.now ≤ 64 }
+    ensures { RunsPlay (record {
+      old = O.contents output.old;
+      new = O.contents output.new;
+      had_failed = O.failed output.old;
+      failed = O.failed output.new;
+      said = Gets (E.failed errors.new) (E.contents errors.old) (E.contents errors.new);
+    }) (host_files R.File.remaining R.File.contents R.had R.stood) volume.entry.edition (length scripts.now) result }
+{
+    let (read, stamp) = match read_image(rt, volume.image) {
+        Ok(read) => read,
+        Err(status) => return status,
+    };
+    // Its file stays open, and so locked, until what is made of it is saved.
+    let ReadFile {
+        bytes: image,
+        file: _locked,
+    } = read;
+    let files = match read_files(rt, scripts) {
+        Ok(files) => files,
+        Err(status) => return status,
+    };
+    let answer = play(
+        rt,
+        rt.alloc(),
+        volume.edition,
+        image,
+        &files,
+        &Open,
+        output,
+        errors,
+    );
+    save_played(rt, volume.image, stamp, &answer)
 }

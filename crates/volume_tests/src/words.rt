@@ -137,6 +137,34 @@ fn words_of_cat_are_read(rt: HostRuntime) {
     check(&rt, rt.alloc(), &["cat", "7", "disk", "017"], wanted);
 }
 
+/// Some words, and then so many scripts.
+fn with_scripts(
+    rt: &impl Abort,
+    alloc: Global,
+    words: &[&'static str],
+    count: usize,
+) -> Vec<&'static str> {
+    let mut all = Vec::from_slice(alloc, words).expect(rt, "memory for the words");
+    for _ in 0..count {
+        all.push("script").expect(rt, "memory for a word");
+    }
+    all
+}
+
+#[test]
+fn words_of_play_are_read(rt: HostRuntime) {
+    let alloc = rt.alloc();
+    for count in [1, 2, 64] {
+        let rest = with_scripts(&rt, alloc, &["play", "7", "disk"], count);
+        let scripts = with_scripts(&rt, alloc, &[], count);
+        let wanted = Invocation::OnThreads {
+            volume: VOLUME,
+            work: Work::Play { scripts },
+        };
+        check(&rt, alloc, &rest, wanted);
+    }
+}
+
 #[test]
 fn words_of_migrate_are_read(rt: HostRuntime) {
     let migration = Migration {

@@ -11,10 +11,10 @@ use Rattle.command_line.proofs.words.Verb.of.Goals as goal
 
 pub returns-clause-none : goal.returns-clause-none
 returns-clause-none c none =
-    let all : List Verb = verbs.Cat ∷ verbs.Ls ∷ verbs.Get ∷ verbs.Icheck ∷ verbs.Dcheck ∷ verbs.Ncheck ∷ verbs.Mkfs ∷ verbs.Put ∷ verbs.Rm ∷ verbs.Rmdir ∷ verbs.Mkdir ∷ verbs.Ln ∷ verbs.Chmod ∷ verbs.Chown ∷ verbs.Salvage ∷ verbs.Migrate ∷ [] in
+    let all : List Verb = verbs.Cat ∷ verbs.Ls ∷ verbs.Get ∷ verbs.Icheck ∷ verbs.Dcheck ∷ verbs.Ncheck ∷ verbs.Mkfs ∷ verbs.Put ∷ verbs.Rm ∷ verbs.Rmdir ∷ verbs.Mkdir ∷ verbs.Ln ∷ verbs.Chmod ∷ verbs.Chown ∷ verbs.Salvage ∷ verbs.Play ∷ verbs.Migrate ∷ [] in
     let chain = YieldsList-from_copied (YieldsList-at c.copied.ensures.source (YieldsList-from_slice all c.iter.ensures.rest)) in
     let found = first_from_find _ _ c.find.result (λ verb. Unit {0}) (λ verb. c.args.name.now ≢ verb_name verb) c.find.ensures.ran chain (λ x q k. tt) (λ x q k. search (rules, tests)) in
-    let no : AllWithin (λ verb. c.args.name.now ≢ verb_name verb) all 0 16 = MatchOption-at_none _ _ none found in (
+    let no : AllWithin (λ verb. c.args.name.now ≢ verb_name verb) all 0 17 = MatchOption-at_none _ _ none found in (
       no 0 verbs.Cat (omega arith) (omega arith),
       no 1 verbs.Cat (omega arith) (omega arith),
       no 2 verbs.Cat (omega arith) (omega arith),
@@ -31,4 +31,5 @@ returns-clause-none c none =
       no 13 verbs.Cat (omega arith) (omega arith),
       no 14 verbs.Cat (omega arith) (omega arith),
       no 15 verbs.Cat (omega arith) (omega arith),
+      no 16 verbs.Cat (omega arith) (omega arith),
     )

@@ -1,0 +1,29 @@
+use Rattle.std.proofs.Common.{◌∙◌, All, ap, inl, inr, length, refl}
+use Rattle.std.specs.Global.{Vec}
+use Rattle.std.proofs.KnownBytes.{Keeps-refl}
+use Rattle.std.proofs.lemmas.List.Elements.{All-same}
+use Rattle.vol_commands.proofs.Lines.{gets_nothing}
+use Rattle.unixvol.specs.Running.{IsGiven}
+use Rattle.unixvol.proofs.threads.run_play.Goals as goal
+
+pub returns-in-Err : goal.returns-in-Err
+returns-in-Err g c =
+    inl (c.in-Err.ensures.fault, Keeps-refl (g.O.Sink.contents c.args.output.now), refl, gets_nothing (g.E.Sink.failed c.args.errors.now) (g.E.Sink.contents c.args.errors.now))
+
+pub returns-in-Err-read_files : goal.returns-in-Err-read_files
+returns-in-Err-read_files g c =
+    inl (c.in-Err-read_files.ensures.fault, Keeps-refl (g.O.Sink.contents c.args.output.now), refl, gets_nothing (g.E.Sink.failed c.args.errors.now) (g.E.Sink.contents c.args.errors.now))
+
+pub returns : goal.returns
+returns g c =
+    inr (
+      c.in-Ok.read.0.bytes.items,
+      c.in-Ok.read.1,
+      c.deref.result.now,
+      c.play-answer.result,
+      c.in-Ok.ensures.given,
+      All-same (λ (script : Vec _). IsGiven g.R.File.Read.remaining script.items) _ _ c.deref.ensures.value c.in-Ok-read_files.ensures.given,
+      ap length c.deref.ensures.value ∙ c.in-Ok-read_files.ensures.count,
+      c.play-answer.ensures,
+      c.save_played.ensures,
+    )

@@ -1,0 +1,128 @@
+//! What a command made is saved in its file, and the status after that.
+ghost use Rattle.std.specs.Prelude.{◌≡◌, ◌⊎◌, IfErr, IfSome};
+ghost use Rattle.unixvol.specs.Running.{IsStatusOfFileOrMemory, EndsPlayed, EndsSaved, MadeSaved};
+ghost use Rattle.unixvol.specs.Saving.{IsTaken, Saves};
+
+use crate::explaining::{explain_no_memory, explain_unwritten};
+use crate::image_file::{ImageFiles, Kind, OpenFault, Stamp, open_image};
+use crate::saving_file::{Content, save_file};
+use std::io;
+use std::rt::Clock;
+use vol_commands::status::BAD_FILE;
+use vol_commands::{Answer, Made};
+
+/// Saves what a command made in the file `image`, if it made anything and the file still has the stamp `read`, and
+/// answers the status to end with.
+pub fn save_answer<R: ImageFiles + Eprint + AllocGlobal>(
+    rt: &R,
+    image: &str,
+    read: Stamp,
+    answer: &Answer,
+) -> u8
+    ensures { EndsSaved (λ bytes. IsTaken R.File.contents bytes × R.stood read) answer.now result }
+{
+    match &answer.image {
+        Some(bytes) => save(rt, image, Some(read), Content::Bytes(bytes), answer.status),
+        None => answer.status,
+    }
+}
+
+/// Saves the volume on which scripts were played in the file `image`, as [`save_answer`] does. Where standard output failed,
+/// the status to end with is that of this, whatever comes of the saving, and its line is the only one.
+pub fn save_played<R: ImageFiles + Eprint + AllocGlobal>(
+    rt: &R,
+    image: &str,
+    read: Stamp,
+    answer: &Answer,
+) -> u8
+    ensures { EndsPlayed (λ bytes. IsTaken R.File.contents bytes × R.stood read) answer.now result }
+{
+    if answer.status != BAD_FILE {
+        return save_answer(rt, image, read, answer);
+    }
+    if let Some(bytes) = &answer.image {
+        let _ = save_file(rt, image, Some(read), Content::Bytes(bytes));
+    }
+    BAD_FILE
+}
+
+/// Saves what `mkfs` made in the file `image`, if it made anything, and answers the status to end with. A regular file
+/// that is there is locked meanwhile, if it can be opened.
+pub fn save_made<R: ImageFiles + Clock + Eprint + AllocGlobal>(
+    rt: &R,
+    image: &str,
+    made: &Made,
+) -> u8
+    ensures { MadeSaved (IsTaken R.File.contents) made.now result }
+{
+    let Some(volume) = &made.volume else {
+        return made.status;
+    };
+    let _locked = match lock_replaced(rt, image) {
+        Ok(locked) => locked,
+        Err(status) => return status,
+    };
+    save(rt, image, None, Content::Volume(volume), made.status)
+}
+
+/// Saves what `migrate` made in the file `path`, if it made anything, and answers the status to end with. The file with
+/// the stamp `old`, out of which it was made, isn't replaced, whatever its path. A regular file that is there is locked
+/// meanwhile, if it can be opened.
+pub fn save_migrated<R: ImageFiles + Clock + Eprint + AllocGlobal>(
+    rt: &R,
+    path: &str,
+    old: Stamp,
+    answer: &Answer,
+) -> u8
+    ensures { EndsSaved (IsTaken R.File.contents) answer.now result }
+{
+    let Some(bytes) = &answer.image else {
+        return answer.status;
+    };
+    if stands_at(rt, path, old) {
+        return explain_unwritten(rt, path);
+    }
+    let _locked = match lock_replaced(rt, path) {
+        Ok(locked) => locked,
+        Err(status) => return status,
+    };
+    save(rt, path, None, Content::Bytes(bytes), answer.status)
+}
+
+/// Whether the file of a stamp stands at `path`, or at the end of the links that begin there.
+fn stands_at<R: ImageFiles>(rt: &R, path: &str, stamp: Stamp) -> bool {
+    match rt.stamp_at(path) {
+        Ok(there) => there.is_of(stamp),
+        Err(_) => false,
+    }
+}
+
+/// Locks the regular file that is to be replaced, if there is one that can be opened. Where another program has it
+/// locked for half a minute, prints that it can't be written, and answers the status.
+fn lock_replaced<R: ImageFiles + Clock + Eprint>(rt: &R, path: &str) -> Result<Option<R::File>, u8>
+    ensures { IfErr result IsStatusOfFileOrMemory }
+{
+    match open_image(rt, path) {
+        Ok((file, stamp)) if stamp.kind == Kind::Regular => Ok(Some(file)),
+        Err(OpenFault::Locked) => Err(explain_unwritten(rt, path)),
+        _ => Ok(None),
+    }
+}
+
+/// Saves a content in the file `path`, if that still has the stamp `read`, where one is given, and answers the status
+/// to end with: `status`, where it is saved.
+fn save<R: ImageFiles + Eprint + AllocGlobal>(
+    rt: &R,
+    path: &str,
+    read: Option<Stamp>,
+    content: Content<'_>,
+    status: u8,
+) -> u8
+    ensures { ((result ≡ status) × Saves R.File.contents content.entry × IfSome read R.stood) ⊎ IsStatusOfFileOrMemory result }
+{
+    match save_file(rt, path, read, content) {
+        Ok(()) => status,
+        Err(error) if error.kind() == io::ErrorKind::OutOfMemory => explain_no_memory(rt),
+        Err(_) => explain_unwritten(rt, path),
+    }
+}

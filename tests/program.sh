@@ -42,6 +42,12 @@ runs() {
     echo $? > status
 }
 
+# runs_within SECONDS WORD..: runs the program, and ends it once so many seconds are over
+runs_within() {
+    timeout "$1" "$program" "${@:2}" > output 2> error < /dev/null
+    echo $? > status
+}
+
 # prints FILE WORD..: the program prints the bytes of FILE, and nothing else, with status 0
 prints() {
     local file=$1
@@ -1165,6 +1171,143 @@ prints rc get 7 linux.v7 /etc/rc
 put linux.v7 1090 '05'
 refuses 1 'unixvol: unsound, rule 12' ls 7 linux.v7 /etc
 
+# Scripts that are played on a volume.
+echo '5 0 0 create /a 644' > create_a
+cp made played
+# Which of two scripts comes first is left open.
+runs play 6 played create_a create_a
+printf '%s\n' '1.1 ok 32' '2.1 17 Exists' 'records 1' 'confirmed 2' > lines
+printf '%s\n' '1.1 17 Exists' '2.1 ok 32' 'records 1' 'confirmed 2' > others
+cmp -s output lines || cp others lines
+wants 'two scripts that make one file' 1 lines none
+printf '%s\n' '    1 .' '    1 ..' '   32 a' > lines
+prints lines ls 6 played /
+printf '%s\n' '5 0 0 create /a 644' '6 0 0 cut' '7 0 0 chmod /a 600' '8 0 0 stat /a' > cutting
+cp made played
+printf '%s\n' '1.1 ok 32' '1.2 cut 1' '1.3 ok 0' '1.4 stat 32 file 0600 1 0 0 0' 'records 1' 'confirmed 2' 'gone 1' > lines
+prints lines play 6 played cutting
+holds 'the i-node of a file that was played' played 2016 '80 81 01 00 00 00 00 00'
+# Each call and each query, with what is refused of them.
+cat > all << 'END'
+1 0 0 mkdir /d 755
+2 3 4 create /d/f 644
+3 0 0 create /d/f 640
+4 0 0 write /d/f 0 4142430a
+5 0 0 write /d/f 1 -
+6 0 0 link /d/f /g
+7 0 0 read /g 1 4294967295
+8 0 0 read /g 4 1
+9 0 0 list /d
+10 0 0 stat /d
+11 0 0 truncate /g 1
+12 0 0 chown /g 3 4
+13 5 5 chmod /g 7777
+14 0 0 chmod /g 7777
+15 0 0 stat /g
+16 0 0 rmdir /d
+17 0 0 unlink /d/f
+18 0 0 rmdir /d
+19 256 0 stat /
+END
+printf '%s\n' '1.1 ok 32' '1.2 13 Access' '1.3 ok 31' '1.4 ok 4' '1.5 ok 0' '1.6 ok 0' '1.7 read 42430a' '1.8 read -' '1.9 list 3' \
+    '1.10 stat 32 dir 0755 2 0 0 48' '1.11 ok 0' '1.12 ok 0' '1.13 1 NotOwner' '1.14 ok 0' '1.15 stat 31 file 7777 2 3 4 1' \
+    '1.16 101 NotEmpty' '1.17 ok 0' '1.18 ok 0' '1.19 104 BadId' 'records 10' 'confirmed 19' > lines
+cp made played
+runs play 6 played all
+wants 'all calls and queries in a script' 1 lines none
+printf '%s\n' '    1 .' '    1 ..' '   31 g' > lines
+prints lines ls 6 played /
+: > no_line
+cp made played
+printf '%s\n' 'records 0' 'confirmed 0' > lines
+prints lines play 6 played no_line
+# Faults in their order: files that can't be read, lines that can't, the image, and the output.
+printf '%s\n' '1 0 0 stat /' '2 0 0 write / 0 123' > odd_digits
+printf '1 0 0 stat /' > no_end
+printf '%s\n' '4294967296 0 0 stat /' > too_late
+printf '%s\n' '1 0 0 chmod / 10000' > too_many_bits
+printf '%s\n' '1 0 0  stat /' > two_spaces
+printf '%s\n' '1 0 0 stat' > no_path
+printf '%s\n\n' '1 0 0 stat /' > empty_line
+cp made played
+stood=$(stat -c '%i %y' played)
+refuses 2 'unixvol: script 1 line 2' play 6 played odd_digits
+refuses 2 'unixvol: script 2 line 1' play 6 played create_a no_end
+for script in too_late too_many_bits two_spaces no_path; do
+    refuses 2 'unixvol: script 3 line 1' play 6 played create_a no_line "$script" odd_digits
+done
+refuses 2 'unixvol: script 1 line 2' play 6 played empty_line
+refuses 2 'unixvol: script 1 line 2' play 6 unsound odd_digits
+refuses 3 'unixvol: cannot read missing' play 6 played odd_digits missing
+refuses 3 'unixvol: cannot read missing' play 6 missing nothing
+refuses 3 'unixvol: cannot read .' play 6 played . nothing
+refuses 1 'unixvol: unsound, rule 12' play 6 unsound create_a
+refuses 3 'unixvol: cannot write pipe' play 6 pipe create_a
+saves 'an image of which no script was played' played made
+has 'an image that was not to be written' "$stood" "$(stat -c '%i %y' played)"
+"$program" play 6 played create_a > /dev/full 2> error < /dev/null
+echo $? > status
+: > output
+echo 'unixvol: cannot write -' > line
+wants 'a play into a full device' 3 none line
+printf '%s\n' '    1 .' '    1 ..' '   32 a' > lines
+prints lines ls 6 played /
+cp made played
+cp played before
+printf '%s\n' '1.1 ok 32' 'records 1' 'confirmed 1' > lines
+echo 'unixvol: cannot write played' > line
+(ulimit -f 8; trap '' XFSZ; runs play 6 played create_a)
+wants 'a play whose volume finds no room' 3 lines line
+saves 'an image whose volume found no room' played before
+# Where standard output fails and then the saving, the first fault alone is told.
+(
+    ulimit -f 8
+    trap '' XFSZ
+    "$program" play 6 played create_a > /dev/full 2> error < /dev/null
+    echo $? > status
+)
+: > output
+echo 'unixvol: cannot write -' > line
+wants 'a play into a full device, whose volume finds no room' 3 none line
+saves 'an image whose volume found no room after all' played before
+misread 'error: the following required arguments were not provided' play 6 played
+misread "error: invalid value '65' for '<SCRIPT>'" play 6 played $(yes create_a | head -65)
+misread "error: invalid value '8'" play 8 played create_a
+# Sixty-four scripts of a thousand calls each, all at once, within a minute.
+prints none mkfs 7 played 4000 100 0 0 1
+for number in $(seq 64); do
+    { echo "1 0 0 create /f$number 644"; yes "2 0 0 write /f$number 7 $(printf %02x "$number")" | head -999; } > "script$number"
+done
+runs_within 60 play 7 played script{1..64}
+cp output report
+head -64000 report | grep -v ' ok [0-9]*$' > output
+wants '64 scripts of a thousand calls' 0 none none
+printf '%s\n' 'records 64000' 'confirmed 64000' > lines
+tail -n +64001 report > output
+wants 'the receipts of 64 scripts of a thousand calls' 0 lines none
+has 'the files that 64 scripts made' 64 "$("$program" ls 7 played / | grep -c ' f[0-9]*$')"
+for number in 1 33 64; do
+    { head -c 7 /dev/zero; printf "\\x$(printf %02x "$number")"; } > bytes
+    prints bytes get 7 played "/f$number"
+done
+# The time of reading a script is that of its length: one of a hundred thousand lines, and one with 8 MB in one word.
+yes '1 0 0 list /' | head -100000 > many_lines
+{ seq -f '1.%.0f list 66' 100000; printf '%s\n' 'records 0' 'confirmed 100000'; } > lines
+runs_within 30 play 7 played many_lines
+wants 'a script of a hundred thousand lines' 0 lines none
+prints none mkfs 7 played 20000 100 0 0 1
+seq 2000000 | head -c 8388608 > many_bytes
+{
+    echo '1 0 0 create /f 644'
+    echo "2 0 0 write /f 0 $(od -An -v -tx1 many_bytes | tr -d ' \n')"
+    echo '3 0 0 stat /f'
+} > long_line
+printf '%s\n' '1.1 ok 102' '1.2 ok 8388608' '1.3 stat 102 file 0644 1 0 0 8388608' 'records 2' 'confirmed 3' > lines
+runs_within 30 play 7 played long_line
+wants 'a script with 8 MB in one word' 0 lines none
+gives many_bytes get 7 played /f
+rm -f played many_bytes many_lines long_line script[0-9]* report
+
 # The examples of README.md and of the help; where a word is `disk.img`, it is a volume in which the example has a file.
 prints hello cat 6 "$samples/hello.v6" 1
 prints none mkfs 6 disk.img 4000 100 0 0 173750400
@@ -1213,7 +1356,7 @@ helps --help
 helps help
 helps cat --help
 helps help cat
-for command in mkfs ls get icheck dcheck ncheck put rm mkdir rmdir ln chmod chown salvage migrate; do
+for command in mkfs ls get icheck dcheck ncheck put rm mkdir rmdir ln chmod chown salvage play migrate; do
     helps "$command" --help
     helps help "$command"
 done

@@ -32,13 +32,17 @@ reset() {
     fi
 }
 
-# microseconds FILE WORD..: runs a command, its output in FILE, and leaves the microseconds that it took in `taken`
+# microseconds FILE WORD..: runs a command, its output in FILE, and leaves the microseconds that it took in `taken`; its status
+# may be as high as `highest`
+highest=0
 microseconds() {
-    local file=$1 begin end
+    local file=$1 begin end status
     shift
     begin=${EPOCHREALTIME/./}
-    "$@" > "$file" || exit 1
+    "$@" > "$file"
+    status=$?
     end=${EPOCHREALTIME/./}
+    [ "$status" -le "$highest" ] || exit 1
     taken=$((end - begin))
 }
 
@@ -233,7 +237,7 @@ row 'the same 10 times, without loading' 0.45 "$best" "$one"
 compare 'migrate, 65,535 blocks' 1.5 0 made.img migrate six.img made.img 70000 1500 173750700
 rm -f six.img ours theirs
 
-# Scripts of calls: one of 100,000, as many in 4 and in 64 scripts, and one with a refusal and an answer for each two calls.
+# Scripts of calls: one of 100,000, as many in 4 and in 64 scripts, and one of which half is refused or answered.
 "$plain" mkfs 7 wide.img 60000 6000 0 0 173750400 || exit 1
 base=wide.img
 "$plain" script all 100000 whole > script.all
@@ -244,6 +248,9 @@ for number in $(seq 64); do "$plain" script "many$number" 1562 whole > "script.m
 side_by_side 'play, 4 scripts against one' 1.5 play 7 work.img script.four* -- play 7 work.img script.all
 side_by_side 'play, 64 scripts against one' 1.5 play 7 work.img script.many* -- play 7 work.img script.all
 "$plain" script half 100000 half > script.half
-compare 'play, half of it answers' 3 0 output play 7 work.img script.half
+highest=1
+compare 'play, half of it refused or asked' 3 0 output play 7 work.img script.half
+side_by_side 'the same against 100,000 calls' 3 play 7 work.img script.half -- play 7 work.img script.all
+highest=0
 base=
 echo "load after: $(cut -d ' ' -f 1-3 /proc/loadavg)"

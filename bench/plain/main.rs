@@ -12,7 +12,7 @@
 //! plain play 6|7 IMAGE SCRIPT..
 //! plain deep 6|7 IMAGE FSIZE IBLOCKS COUNT       a new volume with so many directories, one below the other
 //! plain names 6|7 IMAGE FSIZE IBLOCKS COUNT      a new volume whose directory /many has so many names of two files
-//! plain script FOLDER CALLS half|whole           a script of so many calls below /FOLDER, with as many answers between them, if half
+//! plain script FOLDER LINES half|whole           a script of so many calls below /FOLDER; if half, each second line is a query or is refused
 //! plain sample 6|7 IMAGE FSIZE IBLOCKS BYTES     a new volume with a file of so many bytes, the i-node after the root's
 //! plain fill 6|7 IMAGE FSIZE IBLOCKS FILES       a new volume with so many files of various sizes, half of them in /many
 //! plain calls DIRECTORIES NAMES create|write [image]     so many calls, as `many_calls` makes them

@@ -136,8 +136,8 @@ impl Volume {
     }
 }
 
-/// Writes a script of so many calls: directories of 100 files each below one of its own, a file made, written with 100 bytes,
-/// and each second one unlinked again.
+/// Writes a script of so many lines: directories of 100 files each below one of its own, a file made, written with 100 bytes,
+/// and each second one unlinked again. `with_answers` has a query, or a call that is refused, for each call that is accepted.
 pub fn write_script(
     folder: &str,
     calls: usize,
@@ -169,6 +169,9 @@ pub fn write_script(
         }
         if number % 2 == 1 {
             goes_on = line(output, format!("unlink {path}"))?;
+            if with_answers {
+                goes_on = line(output, format!("stat {path}"))?;
+            }
         }
     }
     Ok(())

@@ -17,10 +17,12 @@
 //! plain fill 6|7 IMAGE FSIZE IBLOCKS FILES       a new volume with so many files of various sizes, half of them in /many
 //! plain calls DIRECTORIES NAMES create|write [image]     so many calls, as `many_calls` makes them
 //! plain sparse 6|7 IMAGE FSIZE IBLOCKS COUNT     a new volume with so many directories of the greatest size, nearly all holes
+//! plain hostile 6|7 IMAGE FSIZE IBLOCKS PATTERN  a volume, mostly not a sound one, on which a checker may work long (`hostile.rs`)
 
 mod calls;
 mod checking;
 mod files;
+mod hostile;
 mod judging;
 mod migrating;
 mod playing;
@@ -182,6 +184,11 @@ fn run(words: &[String]) -> Outcome<()> {
         ["sparse", edition, image, blocks, list_blocks, count] => {
             let mut volume = make(edition, [blocks, list_blocks, "0", "0", "0"])?;
             volume.make_sparse(count.parse()?)?;
+            save(&volume, image)
+        }
+        ["hostile", edition, image, blocks, list_blocks, pattern] => {
+            let edition = Edition::named(edition)?;
+            let volume = Volume::hostile(pattern, edition, blocks.parse()?, list_blocks.parse()?)?;
             save(&volume, image)
         }
         ["calls", directories, names, job, ref rest @ ..] => {

@@ -1,0 +1,146 @@
+//! Images on which a command that follows all that they claim would work long.
+
+use crate::volume::{Edition, Volume, BLOCK, SLOT};
+use crate::Outcome;
+
+const MOMENT: usize = 173_750_400;
+
+/// The modes of regular files and of directories.
+const FILE: usize = 0o100644;
+const DIRECTORY: usize = 0o040755;
+
+impl Volume {
+    /// A volume in which all i-nodes but the root's are alike, and follow a pattern.
+    pub fn hostile(
+        pattern: &str,
+        edition: Edition,
+        blocks: usize,
+        list_blocks: usize,
+    ) -> Outcome<Volume> {
+        let mut volume = Volume::make(edition, blocks, list_blocks, 0, 0, MOMENT)?;
+        match pattern {
+            "file_rings" => volume.name_by_all(FILE, Volume::ring),
+            "file_fans" => volume.name_by_all(FILE, Volume::fan),
+            "file_trees" => volume.name_by_all(FILE, Volume::tree),
+            "directory_holes" => volume.name_by_all(DIRECTORY, |_| 0),
+            "directory_rings" => volume.name_by_all(DIRECTORY, Volume::ring),
+            "directory_zeros" => volume.name_by_all(DIRECTORY, Volume::tree),
+            "directory_entries" => volume.name_by_all(DIRECTORY, Volume::tree_of_entries),
+            "free_ring" => volume.free_ring(),
+            "free_chain" => volume.free_chain(),
+            "circle" => volume.circle()?,
+            _ => return Err("no such pattern".into()),
+        }
+        Ok(volume)
+    }
+
+    /// All i-nodes but the root's have this mode and the greatest size, and their last address is a block that is made so.
+    fn name_by_all(&mut self, mode: usize, make: impl Fn(&mut Volume) -> usize) {
+        let (mode, is_large) = match (self.edition, mode) {
+            (Edition::V6, FILE) => (0o100644, true),
+            (Edition::V6, _) => (0o140755, true),
+            (Edition::V7, mode) => (mode, false),
+        };
+        let top = make(self);
+        for ino in self.layout.root + 1..=self.last_inode() {
+            self.put_inode(ino, mode, 1, MOMENT);
+            if is_large {
+                self.put_large(ino, true);
+            }
+            self.put_size(ino, self.layout.greatest);
+            self.put_address(ino, self.layout.address_count - 1, top);
+        }
+    }
+
+    /// A block all of whose entries are one number.
+    fn fill_block(&mut self, block: usize, number: usize) {
+        for entry in 0..self.layout.fan_out {
+            self.put_number(block * BLOCK + entry * self.layout.number_bytes, number);
+        }
+    }
+
+    /// A block all of whose entries name it.
+    fn ring(&mut self) -> usize {
+        let block = self.zone_start + 1;
+        self.fill_block(block, block);
+        block
+    }
+
+    /// Four blocks, each of which names the next in all its entries, but for the last.
+    fn tree(&mut self) -> usize {
+        let top = self.zone_start + 1;
+        for step in 0..3 {
+            self.fill_block(top + step, top + step + 1);
+        }
+        self.bytes[(top + 3) * BLOCK..(top + 4) * BLOCK].fill(0);
+        top
+    }
+
+    /// The same, but for the last block, which has an entry.
+    fn tree_of_entries(&mut self) -> usize {
+        let top = self.tree();
+        let (root, last) = (self.layout.root, top + 3);
+        self.put_slot(last * BLOCK + SLOT, root, b"up");
+        top
+    }
+
+    /// Blocks whose entries name as many different blocks as there are, each of which does the same.
+    fn fan(&mut self) -> usize {
+        let zone = self.zone_end - self.zone_start;
+        for block in self.zone_start + 1..self.zone_end {
+            for entry in 0..self.layout.fan_out {
+                let number = self.zone_start + (block * self.layout.fan_out + entry * 7 + 1) % zone;
+                self.put_number(block * BLOCK + entry * self.layout.number_bytes, number);
+            }
+        }
+        self.zone_start + 1
+    }
+
+    /// The last block of the free list's chain leads to the first again.
+    fn free_ring(&mut self) {
+        let head = BLOCK + self.layout.free_head;
+        let first = self.number(head + 2);
+        let mut block = first;
+        while self.number(block * BLOCK + 2) != 0 {
+            block = self.number(block * BLOCK + 2);
+        }
+        self.put_number(block * BLOCK + 2, first);
+    }
+
+    /// Each block of the free list has the number of one more.
+    fn free_chain(&mut self) {
+        let head = BLOCK + self.layout.free_head;
+        self.put_word(head, 1);
+        self.put_number(head + 2, self.zone_start + 1);
+        for block in self.zone_start + 1..self.zone_end {
+            self.bytes[block * BLOCK..(block + 1) * BLOCK].fill(0);
+            let next = if block + 1 < self.zone_end {
+                block + 1
+            } else {
+                0
+            };
+            self.put_word(block * BLOCK, 1);
+            self.put_number(block * BLOCK + 2, next);
+        }
+    }
+
+    /// Directories one below the other, of which the first is an entry of the last and not of the root.
+    fn circle(&mut self) -> Outcome<()> {
+        let root = self.layout.root;
+        let count = (self.zone_end - self.zone_start).min(self.last_inode() - root) - 2;
+        let first = self.make_directory(root, b"d", MOMENT)?;
+        let mut dir = first;
+        for _ in 1..count {
+            dir = self.make_directory(dir, b"d", MOMENT)?;
+        }
+        let start = self.zone_start * BLOCK;
+        self.put_slot(start + 2 * SLOT, 0, b"");
+        let is_large = self.is_large(dir);
+        let block = self
+            .block(dir, is_large, 0)
+            .ok_or("a directory without a block")?;
+        self.put_slot(block * BLOCK + 2 * SLOT, first, b"d");
+        self.put_size(dir, 3 * SLOT);
+        Ok(())
+    }
+}

@@ -10,7 +10,8 @@ help:
 	@echo 'make run                    proves and builds the program, then prints the file in samples/hello.v6'
 	@echo 'make test                   the whole gate: every proof and test from nothing, then the built program from the shell'
 	@echo 'make bench                  times the program against one in plain Rust that does the same; needs rustc, and some minutes'
-	@echo 'make faults                 runs the program 10,000 times where memory, the stack, the disk or a descriptor fails it, or a signal ends it; some minutes'
+	@echo 'make faults                 refuses each allocation in turn, of the libraries and of the program, and runs the program 10,000 times where memory, the stack,'
+	@echo '                            the disk or a descriptor fails it, or a signal ends it; needs rustc, and some minutes'
 	@echo 'make build                  proves and builds the program, and leaves it as ./unixvol'
 	@echo 'make install PREFIX=FOLDER  builds the program and copies it to FOLDER/bin (to /usr/local/bin without PREFIX)'
 
@@ -33,7 +34,10 @@ bench: build
 	cd crates/many_checks && $(RT) run -- 6 icheck 1 1 < stdin
 	bench/run.sh ./unixvol crates/many_calls/out/many_calls crates/many_checks/out/many_checks
 
+# The libraries' runs come by the program `refused_memory`, which the gate runs once with nothing refused.
 faults: build
+	cd crates/refused_memory && $(RT) run -- volume
+	tests/refused.sh crates/refused_memory/out/refused_memory
 	tests/faults.sh ./unixvol
 
 install: build

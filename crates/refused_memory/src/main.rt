@@ -1,0 +1,71 @@
+//! Makes one run over the libraries, of which any one allocation may be refused, and looks at what a refusal leaves.
+//!
+//! refused_memory mkfs|volume|sessions|checkers|salvage|migrate|play
+//!
+//! Does the run's steps one after another. A step that finds no memory is to leave all as before, which is compared, and is
+//! done once more. Prints how many promises were broken; so its output is the same whichever allocation is refused. The status
+//! is 1 where the words can't be read or the number can't be printed. `tests/refused.sh` refuses each allocation in turn.
+#![tactic(auto)]
+
+mod checkers;
+mod found;
+mod plays;
+mod sessions;
+mod steps;
+mod volumes;
+
+use crate::found::Found;
+use pdp_words::IntoWrite;
+use std::alloc::Global;
+use std::env::{self, Env};
+use std::io::Write;
+use std::process::ExitCode;
+use std::sync::Wait;
+use std::thread::Threads;
+
+/// Makes the run of this name, as far as it comes. None where a step could not be done.
+fn run<R: Threads + Wait + Sync>(
+    rt: &R,
+    alloc: Global,
+    name: &str,
+    found: &mut Found,
+) -> Option<()> {
+    match name {
+        "mkfs" => volumes::make(alloc, found),
+        "volume" => volumes::change(alloc, found),
+        "sessions" => sessions::share(rt, alloc, found),
+        "checkers" => checkers::check_all(alloc, found),
+        "salvage" => volumes::mend(alloc, found),
+        "migrate" => volumes::migrate_sixth(alloc, found),
+        "play" => plays::play_script(rt, alloc, found),
+        _ => None,
+    }
+}
+
+/// The word after the program's own name. None where there is none, or no memory for the words.
+fn word<R: Env + AllocGlobal>(rt: &R) -> Option<String> {
+    let words = env::args(rt).ok()?.collect::<Vec<String>>(rt.alloc()).ok()?;
+    words.into_iter().nth(1)
+}
+
+/// Makes the run that the words ask for, and prints what was found to `output`. Whether it went out.
+fn report<R: Env + AllocGlobal + Threads + Wait + Sync, O: Write + Drop>(
+    rt: &R,
+    output: O,
+) -> bool {
+    let Some(name) = word(rt).or_else(|| word(rt)) else {
+        return false;
+    };
+    let mut found = Found::default();
+    if run(rt, rt.alloc(), &name, &mut found).is_none() {
+        found.breaks();
+    }
+    found.print(&mut IntoWrite::new(output))
+}
+
+fn main(rt: HostRuntime) -> ExitCode {
+    match report(&rt, rt.stdout()) {
+        true => ExitCode::SUCCESS,
+        false => ExitCode::from(1),
+    }
+}

@@ -1,0 +1,93 @@
+//! A script that is played.
+ghost use Rattle.std.specs.Prelude.{◌≡◌, ◌≤◌, length, vec_len, IfSome};
+
+use crate::found::Found;
+use crate::steps::{copied, made};
+use pdp_words::IntoWrite;
+use std::alloc::Global;
+use std::sync::Wait;
+use std::thread::Threads;
+use vol_check::Open;
+use vol_commands::Answer;
+use vol_layout::Edition;
+use vol_play::play;
+use vol_volume::Volume;
+
+/// Two calls of which each leaves the same, and a query.
+const SCRIPT: &[u8] = b"5 0 0 chmod / 755\n5 0 0 chmod / 755\n5 0 0 stat /\n";
+
+/// What is printed where no memory is refused.
+const WHOLE: &[u8] = b"1.1 ok 0\n1.2 ok 0\n1.3 stat 1 dir 0755 2 0 0 32\nrecords 2\nconfirmed 3\n";
+
+/// What is printed where a step finds none, where the receipts find none to be confirmed, and where the report finds none.
+static PARTS: [&[u8]; 5] = [
+    b"1.1 12 NoMemory\n1.2 ok 0\n1.3 stat 1 dir 0755 2 0 0 32\nrecords 1\nconfirmed 2\n",
+    b"1.1 ok 0\n1.2 12 NoMemory\n1.3 stat 1 dir 0755 2 0 0 32\nrecords 1\nconfirmed 2\n",
+    b"1.1 ok 0\n1.2 ok 0\n1.3 12 NoMemory\nrecords 2\nconfirmed 2\n",
+    b"1.1 ok 0\n1.2 ok 0\n1.3 stat 1 dir 0755 2 0 0 32\nrecords 2\nconfirmed 0\n",
+    b"",
+];
+
+/// Room for what is printed.
+const ROOM: usize = 4096;
+
+/// Plays a script on a volume of the sixth edition.
+pub fn play_script<R: Threads + Wait + Sync>(
+    rt: &R,
+    alloc: Global,
+    found: &mut Found,
+) -> Option<()> {
+    let image = made(alloc, found, Edition::V6, 20)?;
+    let scripts = [copied(alloc, SCRIPT)?];
+    let mut output = IntoWrite::new(room(alloc)?);
+    let mut errors = IntoWrite::new(room(alloc)?);
+    let answer = play(
+        rt,
+        alloc,
+        Edition::V6,
+        image,
+        &scripts,
+        &Open,
+        &mut output,
+        &mut errors,
+    );
+    check(found, &output.into_inner(), &errors.into_inner(), &answer);
+    match answer.image {
+        Some(image) => mount(alloc, found, image),
+        None => Some(()),
+    }
+}
+
+/// Room for what is printed, so that printing takes no memory.
+fn room(alloc: Global) -> Option<Vec<u8>> {
+    if let Ok(room) = Vec::with_capacity(alloc, ROOM) {
+        return Some(room);
+    }
+    Vec::with_capacity(alloc, ROOM).ok()
+}
+
+/// What was printed, and the status, are those of a play in which at most one allocation was refused.
+fn check(found: &mut Found, text: &[u8], line: &[u8], answer: &Answer) {
+    if answer.status == 0 {
+        found.wants(text == WHOLE && line.is_empty() && answer.image.is_some());
+        return;
+    }
+    found.wants(answer.status == 4);
+    found.wants(PARTS.iter().any(|part| *part == text));
+    if answer.image.is_none() {
+        found.wants(text.is_empty() && line == b"unixvol: 12 NoMemory\n".as_slice());
+    }
+}
+
+/// The bytes that are to be saved are those of a sound volume.
+fn mount(alloc: Global, found: &mut Found, image: Vec<u8>) -> Option<()> {
+    let volume = match Volume::mount(alloc, Edition::V6, image) {
+        Ok(volume) => volume,
+        Err((_, same)) => match Volume::mount(alloc, Edition::V6, same) {
+            Ok(volume) => volume,
+            Err(_) => return None,
+        },
+    };
+    found.wants(volume.journal().is_empty());
+    Some(())
+}

@@ -1,0 +1,153 @@
+//! The steps that several runs make. Each is tried twice: one allocation alone is refused.
+
+use crate::found::Found;
+use std::alloc::Global;
+use vol_dir::{Cred, Refusal};
+use vol_layout::Edition;
+use vol_volume::{Bytes, Call, Done, MkfsFault, MountFault, Query, Reply, Volume, mkfs};
+
+/// The user who may do everything.
+pub const ROOT: Cred = Cred { uid: 0, gid: 0 };
+
+/// The moment of all that is made.
+pub const NOW: u32 = 0x0A0B_0C0D;
+
+/// A copy of some bytes.
+pub fn copied(alloc: Global, bytes: &[u8]) -> Option<Vec<u8>> {
+    if let Ok(copy) = Vec::from_slice(alloc, bytes) {
+        return Some(copy);
+    }
+    Vec::from_slice(alloc, bytes).ok()
+}
+
+/// A path, or bytes that are written.
+pub fn bytes_of(alloc: Global, bytes: &[u8]) -> Option<Bytes> {
+    Some(Bytes::from_vec(copied(alloc, bytes)?))
+}
+
+/// A copy of a call.
+pub fn copy_of(call: &Call) -> Option<Call> {
+    if let Ok(copy) = call.clone() {
+        return Some(copy);
+    }
+    call.clone().ok()
+}
+
+/// The bytes of a new volume, with an i-list of two blocks.
+pub fn made(alloc: Global, found: &mut Found, edition: Edition, blocks: u32) -> Option<Vec<u8>> {
+    match mkfs(alloc, edition, blocks, 2, 0, 0, NOW) {
+        Ok(bytes) => return Some(bytes),
+        Err(fault) => found.wants(fault == MkfsFault::NoMemory),
+    }
+    mkfs(alloc, edition, blocks, 2, 0, 0, NOW).ok()
+}
+
+/// Mounts some bytes. Where there is no memory the same bytes come back.
+pub fn mounted(
+    alloc: Global,
+    found: &mut Found,
+    edition: Edition,
+    bytes: Vec<u8>,
+) -> Option<Volume> {
+    let before = copied(alloc, &bytes)?;
+    match Volume::mount(alloc, edition, bytes) {
+        Ok(volume) => Some(volume),
+        Err((fault, same)) => {
+            found.wants(fault == MountFault::NoMemory && same == before);
+            Volume::mount(alloc, edition, same).ok()
+        }
+    }
+}
+
+/// Makes a call. Where there is no memory, image and journal stay, and the same call comes back.
+pub fn called(alloc: Global, found: &mut Found, volume: &mut Volume, call: Call) -> Option<Done> {
+    let before = copied(alloc, volume.image().as_bytes())?;
+    let asked = copy_of(&call)?;
+    let records = volume.journal().len();
+    match volume.call(alloc, call) {
+        Ok(done) => Some(done),
+        Err((refusal, same)) => {
+            found.wants(refusal == Refusal::NoMemory && same == asked);
+            found.wants(volume.image().as_bytes() == before.as_slice());
+            found.wants(volume.journal().len() == records);
+            volume.call(alloc, same).ok()
+        }
+    }
+}
+
+/// Whether a query may find no memory.
+#[derive(Clone, Copy, Debug, PartialEq, Eq)]
+pub enum Wants {
+    Memory,
+    NoMemory,
+}
+
+/// Asks a query. Only one that wants memory may find none.
+pub fn asked(
+    alloc: Global,
+    found: &mut Found,
+    volume: &Volume,
+    query: &Query,
+    wants: Wants,
+) -> Option<Reply> {
+    match volume.ask(alloc, query) {
+        Ok(reply) => Some(reply),
+        Err(refusal) => {
+            found.wants(refusal == Refusal::NoMemory && wants == Wants::Memory);
+            volume.ask(alloc, query).ok()
+        }
+    }
+}
+
+/// A new volume of the sixth edition of 20 blocks, mounted.
+pub fn sixth(alloc: Global, found: &mut Found) -> Option<Volume> {
+    let bytes = made(alloc, found, Edition::V6, 20)?;
+    mounted(alloc, found, Edition::V6, bytes)
+}
+
+/// The call that makes a file.
+pub fn create(alloc: Global, path: &[u8]) -> Option<Call> {
+    Some(Call::Create {
+        cred: ROOT,
+        now: NOW,
+        path: bytes_of(alloc, path)?,
+        perm: 0o644,
+    })
+}
+
+/// The call that writes some bytes from the beginning of a file on.
+pub fn write(alloc: Global, path: &[u8], bytes: &[u8]) -> Option<Call> {
+    Some(Call::Write {
+        cred: ROOT,
+        now: NOW,
+        path: bytes_of(alloc, path)?,
+        offset: 0,
+        bytes: bytes_of(alloc, bytes)?,
+    })
+}
+
+/// The query for the first 1,024 bytes of a file.
+pub fn read(alloc: Global, path: &[u8]) -> Option<Query> {
+    Some(Query::Read {
+        cred: ROOT,
+        path: bytes_of(alloc, path)?,
+        offset: 0,
+        len: 1024,
+    })
+}
+
+/// The query for the names in a directory.
+pub fn list(alloc: Global, path: &[u8]) -> Option<Query> {
+    Some(Query::List {
+        cred: ROOT,
+        path: bytes_of(alloc, path)?,
+    })
+}
+
+/// The query for what a node is.
+pub fn stat(alloc: Global, path: &[u8]) -> Option<Query> {
+    Some(Query::Stat {
+        cred: ROOT,
+        path: bytes_of(alloc, path)?,
+    })
+}

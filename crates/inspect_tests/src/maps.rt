@@ -3,7 +3,7 @@ use crate::fixtures::{Asked, Made, SEVENTH, SIXTH, image_of};
 use std::alloc::Global;
 use std::process::Abort;
 use vol_layout::Geometry;
-use vol_map::{Use, block_uses, cells_of, draw, svg};
+use vol_map::{Use, block_uses, cells, draw, svg};
 
 /// Images, and a letter for each of their blocks.
 static ROWS: [(Made, &str); 5] = [
@@ -88,7 +88,7 @@ fn joins_cells(rt: HostRuntime) {
     let alloc = rt.alloc();
     let uses = uses_of(&rt, alloc, &ROWS[2].0);
     assert!(rt; uses.len() >= 1);
-    let cells = cells_of(alloc, &uses, 4).expect(&rt, "memory for the cells");
+    let cells = cells(alloc, &uses, 4).expect(&rt, "memory for the cells");
     let found = letters(&rt, alloc, &cells);
     assert_eq!(rt; found.as_str(), "STooo");
 }

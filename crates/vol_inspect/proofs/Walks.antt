@@ -11,7 +11,7 @@ use Rattle.vol_layout.proofs.BodyLaws.{zone_bounds}
 use Rattle.vol_free.proofs.Stacks.{head_end, zone_behind}
 use Rattle.vol_reports.specs.declared.line.FreeFault.{FreeFault}
 use Rattle.vol_reports.specs.Words.{zone_len}
-use Rattle.vol_reports.specs.FreeWalk.{Walked, walk_rest, free_walk}
+use Rattle.vol_reports.specs.FreeWalk.{walk_rest, free_walk}
 use Rattle.vol_inspect.specs.declared.walking.Rest.{Rest}
 use Rattle.vol_inspect.specs.Walking.{AreZoned, FlagsMet, Meets}
 use Rattle.vol_layout.specs.Geometry.{in_zone}

@@ -1,5 +1,5 @@
 -- Counts of places, up to two, while they grow.
-use Rattle.std.proofs.Common.{◌≡◌, ◌≢◌, ℕ, zero, suc, ◌+◌, ◌-◌, ◌*◌, ◌<◌, ◌≤◌, ◌∙◌, sym, ap, min, true, false, List, length, get_or, set, refl, arith, inl, inr, length-set, get_or-set_same, get_or-set_other}
+use Rattle.std.proofs.Common.{◌≡◌, ℕ, ◌+◌, ◌-◌, ◌*◌, ◌<◌, ◌≤◌, ◌∙◌, sym, ap, min, true, List, length, get_or, set, arith, inl, inr, length-set, get_or-set_same, get_or-set_other}
 use Rattle.std.proofs.lemmas.Bool.{cases_eq}
 use Rattle.vol_layout.specs.Geometry.{in_zone}
 use Rattle.vol_layout.proofs.BodyLaws.{zone_bounds}

@@ -1,5 +1,5 @@
 -- The uses of blocks, by what was counted.
-use Rattle.std.proofs.Common.{◌≡◌, ℕ, ◌+◌, ◌*◌, ◌<◌, ◌≤◌, ◌∙◌, ◌==◌, sym, ap, true, false, if◌then◌else◌, nat_lt, List, get_or, refl, arith, lit≤}
+use Rattle.std.proofs.Common.{◌≡◌, ℕ, ◌+◌, ◌*◌, ◌<◌, ◌≤◌, ◌∙◌, ◌==◌, ap, true, false, if◌then◌else◌, nat_lt, List, get_or, refl, arith, lit≤}
 use Rattle.std.proofs.lemmas.Bool.{ltb-false}
 use Rattle.vol_layout.specs.Geometry.{in_zone}
 use Rattle.vol_layout.specs.declared.geometry.Geometry.{Geometry}

@@ -1,5 +1,5 @@
 -- A picture of the uses of blocks as SVG.
-use Rattle.std.specs.Prelude.{ℕ, ◌+◌, ◌-◌, ◌*◌, ◌/◌, ◌%◌, List, [], ◌∷◌, ◌++◌, codes, decimal, length, slice_index_or}
+use Rattle.std.specs.Prelude.{ℕ, ◌+◌, ◌-◌, ◌*◌, ◌/◌, ◌%◌, List, ◌++◌, codes, decimal, length, slice_index_or}
 use Rattle.std.specs.List.{flat_map, range_with_len}
 use Rattle.vol_map.specs.Drawing.{letter, name, all_uses}
 use Rattle.vol_map.specs.declared.uses.Use.{Use}

@@ -1,5 +1,4 @@
 use Rattle.std.proofs.Common.{◌≡◌, ◌+◌, sym, ap, arith, ◌∙◌}
-use Rattle.vol_layout.specs.Inode.{inode_place, address_at}
 use Rattle.vol_layout.specs.Names.{form_at}
 use Rattle.vol_layout.specs.Places.{form_of, first_count, levels}
 use Rattle.vol_inspect.specs.Extents.{first_logical, holdings_from, address_holdings, holdings}

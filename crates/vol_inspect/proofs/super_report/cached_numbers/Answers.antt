@@ -1,9 +1,8 @@
-use Rattle.std.proofs.Common.{◌≡◌, ℕ, ◌+◌, ◌-◌, ◌*◌, ◌++◌, ◌∷◌, [], ap, sym, arith, refl, ◌∙◌, map}
+use Rattle.std.proofs.Common.{◌≡◌, ℕ, ◌+◌, ◌-◌, ◌*◌, ◌++◌, ◌∷◌, [], ap, sym, arith, ◌∙◌, map}
 use Rattle.std.specs.List.{range_with_len}
 use Rattle.std.proofs.lemmas.List.FromFn.{map-range_with_len_more}
 use Rattle.pdp_words.specs.Words.{word}
 use Rattle.vol_layout.specs.Super.{cache_head}
-use Rattle.vol_free.specs.Numbers.{cache_len}
 use Rattle.vol_inspect.specs.Inspecting.{cached_numbers}
 use Rattle.vol_inspect.proofs.super_report.cached_numbers.Goals as goal
 

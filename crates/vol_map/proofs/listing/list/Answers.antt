@@ -1,8 +1,8 @@
-use Rattle.std.proofs.Common.{◌≡◌, ℕ, suc, ◌+◌, ◌∷◌, [], ◌==◌, if◌then◌else◌, sym, ap, arith, ◌∙◌, inl, inr, drop, get_or, set, length, add-one, drop-cons, get_or-set_same, get_or-set_other, eq-eqb}
+use Rattle.std.proofs.Common.{◌≡◌, ◌+◌, ◌∷◌, [], ◌==◌, if◌then◌else◌, sym, ap, arith, ◌∙◌, inl, inr, drop, get_or, set, length, add-one, drop-cons, get_or-set_same, get_or-set_other, eq-eqb}
 use Rattle.std.proofs.lemmas.Bool.{cases_eq, ne_eqb}
 use Rattle.std.proofs.lemmas.List.{drop_all}
 use Rattle.vol_layout.proofs.BodyLaws.{zone_bounds}
-use Rattle.vol_map.specs.Listing.{listed_as, listed_at, next_count}
+use Rattle.vol_map.specs.Listing.{listed_as, listed_at}
 use Rattle.vol_map.specs.declared.listing.Listed.TheVariants.{Absent}
 use Rattle.vol_map.proofs.listing.list.Goals as goal
 

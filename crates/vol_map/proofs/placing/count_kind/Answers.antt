@@ -1,4 +1,4 @@
-use Rattle.std.proofs.Common.{◌≡◌, ◌+◌, ◌*◌, ℕ, sym, ap, arith, ◌∙◌, refl, get_or, min}
+use Rattle.std.proofs.Common.{◌≡◌, ◌+◌, ◌*◌, ℕ, ap, arith, ◌∙◌, refl, min}
 use Rattle.std.specs.List.{sum_by, range_with_len}
 use Rattle.vol_map.specs.Placing.{wanted_count, place_count}
 use Rattle.vol_map.proofs.Found.{sum_more}

@@ -1,6 +1,6 @@
 use Rattle.std.proofs.Common.{◌≡◌, ◌++◌, drop}
 use Rattle.vol_map.specs.Drawing.{cells, cells_from}
-use Rattle.vol_map.proofs.cells.cells.Given as goal
+use Rattle.vol_map.proofs.grouping.cells.Given as goal
 
 -- the cells so far, and then those of the blocks that are left
 abbrev pub invariant-loop-one : goal.invariant-loop-one

@@ -3,8 +3,8 @@ use Rattle.std.proofs.lemmas.List.{drop_all}
 use Rattle.vol_map.specs.Drawing.{cells, cells_from, more_telling}
 use Rattle.vol_map.specs.declared.uses.Use.{Use}
 use Rattle.vol_map.specs.declared.uses.Use.TheVariants as uses
-use Rattle.vol_map.proofs.cells.cells.Goals.{then-left-eq0+in_ok-push, else-left-eq0}
-use Rattle.vol_map.proofs.cells.cells.Goals as goal
+use Rattle.vol_map.proofs.grouping.cells.Goals.{then-left-eq0+in_ok-push, else-left-eq0}
+use Rattle.vol_map.proofs.grouping.cells.Goals as goal
 
 -- the blocks that are left begin with one
 split : (us : List Use) (i : ℕ) → i < length us → drop i us ≡ get_or us i uses.Boot ∷ drop (i + 1) us

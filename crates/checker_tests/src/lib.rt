@@ -1,10 +1,12 @@
-//! Tests of the checkers by their public functions: worked reports, by any number of workers; sweeps stepped by hand, on the
-//! image that they were made for and on another; gates, and workers that run at the same time; and of the visit of a
-//! file's blocks.
+//! Tests of the checkers by their public functions: worked reports, by any number of workers; images that are cut short;
+//! sweeps stepped by hand, on the image that they were made for and on another; gates, and workers that run at the same
+//! time; and of the visit of a file's blocks.
 #![tactic(auto)]
 
 #[cfg(test)]
 mod blocks;
+#[cfg(test)]
+mod cuts;
 #[cfg(test)]
 mod entries;
 #[cfg(test)]

@@ -5,7 +5,7 @@ use Rattle.std.specs.Str.{bytes_eq}
 use Rattle.std.proofs.lemmas.Bool.{ne_eqb}
 use Rattle.clap.proofs.OnLiterals.{clap_on_literals}
 use Rattle.clap.specs.Words.{Row}
-use Rattle.command_line.specs.CommandLine.{Asks, IsEditionNamed, IsGiven, command_name, given_by}
+use Rattle.command_line.specs.CommandLine.{MetAsks, IsEditionNamed, IsGiven, command_name, given_by}
 use Rattle.command_line.specs.Laws.{IsListing, IsPlainWord, ReadsListing}
 use Rattle.command_line.specs.Words.{AreEditions, command_in, command_shape, edition_rule, faults_of, migrate_shape, named_shape, play_shape, program, unixvol_app, with_argument, with_command, word_rule, words_rule}
 use Rattle.command_line.specs.declared.Invocation.{Invocation}
@@ -114,7 +114,7 @@ asks_listing given edition image path (OnThreads volume (works.Play scripts)) te
 
 -- what `ls` asks for, by the command that was met and the rows of its words
 listed : (met : Option (List ℕ × List Row)) (edition : Edition) (image path : List ℕ) (invocation : Invocation) → seen met ≡ codes "ls" ∷ word_of edition ∷ image ∷ path ∷ []
-    → Asks met invocation → IsListing edition image path invocation
+    → MetAsks met invocation → IsListing edition image path invocation
 listed None edition image path invocation is asks = absurd asks
 listed (Some met) edition image path invocation is asks =
     let name : met.0 ≡ codes "ls" = ap (λ (l : List (List ℕ)). slice_index_or l 0 []) is in
@@ -128,7 +128,7 @@ word_names V7 = refl
 
 -- where the words of `ls` were met, they ask for that listing
 listing_asks : (met : Option (List ℕ × List Row)) (edition : Edition) (image path : List ℕ) (invocation : Invocation)
-    → seen met ≡ codes "ls" ∷ word_of edition ∷ image ∷ path ∷ [] → IsListing edition image path invocation → Asks met invocation
+    → seen met ≡ codes "ls" ∷ word_of edition ∷ image ∷ path ∷ [] → IsListing edition image path invocation → MetAsks met invocation
 listing_asks None edition image path invocation is listed = absurd (cc)
 listing_asks (Some met) edition image path (Cat volume ino) is listed = absurd listed
 listing_asks (Some met) edition image path (Mkfs i volume) is listed = absurd listed
@@ -162,7 +162,7 @@ listing_asks (Some met) edition image path (OnThreads v work) is listed = absurd
 -- the words of `ls` ask for a listing, where they have its edition's word
 abbrev AsksListing : Bor (List (Bor (List ℕ))) → Edition → List ℕ → List ℕ → List ℕ → List ℕ → Type 0
 AsksListing editions edition program image path word = (faults_of (unixvol_app editions) (program ∷ codes "ls" ∷ word ∷ image ∷ path ∷ []) ≡ [])
-    × ((invocation : Invocation) → Asks (command_in (unixvol_app editions) (program ∷ codes "ls" ∷ word ∷ image ∷ path ∷ [])) invocation
+    × ((invocation : Invocation) → MetAsks (command_in (unixvol_app editions) (program ∷ codes "ls" ∷ word ∷ image ∷ path ∷ [])) invocation
     ↔ IsListing edition image path invocation)
 
 asks : (editions : Bor (List (Bor (List ℕ)))) (edition : Edition) (program image path : List ℕ) → IsTaken editions edition program image path

@@ -21,7 +21,7 @@ use Rattle.vol_layout.specs.declared.edition.Edition.TheVariants.{V6, V7}
 use Rattle.vol_volume.specs.declared.blank.NewVolume.{NewVolume}
 use Rattle.command_line.specs.Decimal.{IsNumberUpTo, IsThreads}
 use Rattle.command_line.specs.Octal.{IsOctalUpTo}
-use Rattle.command_line.specs.CommandLine.{Asks, AsksFor, AsksNothing, HasScripts, TellsOf, IsChange, IsCheck, IsEditionNamed, IsGiven, IsNewVolumeGiven, IsNoCat, IsNoChange, IsNoCheck, IsNoChmod, IsNoChown, IsNoCommand, IsNoEdition, IsNoMigration, IsNoMoment, IsNoNewVolume, IsNoPlay, IsNoValue, IsNumberless, IsRead, IsRefused, IsWorkGiven, IsWorkable, command_name, given_by, given_in, scripts_by, scripts_in, word_or_empty}
+use Rattle.command_line.specs.CommandLine.{MetAsks, AsksFor, AsksNothing, HasScripts, TellsOf, IsChange, IsCheck, IsEditionNamed, IsGiven, IsNewVolumeGiven, IsNoCat, IsNoChange, IsNoCheck, IsNoChmod, IsNoChown, IsNoCommand, IsNoEdition, IsNoMigration, IsNoMoment, IsNoNewVolume, IsNoPlay, IsNoValue, IsNumberless, IsRead, IsRefused, IsWorkGiven, IsWorkable, command_name, given_by, given_in, scripts_by, scripts_in, word_or_empty}
 use Rattle.command_line.specs.Words.{AreEditions, app, command_in, command_shape, edition_rule, faults_of, migrate_shape, named_shape, play_shape, program, unixvol_app, with_argument, with_command, word_rule, words_rule}
 use Rattle.command_line.specs.declared.Invocation.{Invocation}
 use Rattle.command_line.specs.declared.Invocation.TheVariants.{Cat, Mkfs, Migrate, OnVolume, OnThreads}
@@ -59,7 +59,7 @@ met (Some b) name rows named rows_are = cc
 -- what the command asks for, it asks for by its rows
 pub asks_by_rows : (matches values : ArgMatches) (name : List ℕ) (invocation : Invocation) → subcommand_name_of matches ≡ Some name
     → option_map (λ p. p.1) (subcommand_rows_of matches) ≡ Some (rows_of (found_of values))
-    → AsksFor name (given_in values) (scripts_in values) invocation → Asks (subcommand_rows_of matches) invocation
+    → AsksFor name (given_in values) (scripts_in values) invocation → MetAsks (subcommand_rows_of matches) invocation
 asks_by_rows matches values name invocation named rows_are asks =
     rw (met (out-ArgMatches matches).subcommand name (rows_of (found_of values)) named rows_are)
     (subst (λ (scripts : List (List ℕ)). AsksFor name (given_by (rows_of (found_of values))) scripts invocation) (scripts_same values)
@@ -67,7 +67,7 @@ asks_by_rows matches values name invocation named rows_are asks =
 
 pub asked_by_rows : (matches values : ArgMatches) (name : List ℕ) (invocation : Invocation) → subcommand_name_of matches ≡ Some name
     → option_map (λ p. p.1) (subcommand_rows_of matches) ≡ Some (rows_of (found_of values))
-    → Asks (subcommand_rows_of matches) invocation → AsksFor name (given_in values) (scripts_in values) invocation
+    → MetAsks (subcommand_rows_of matches) invocation → AsksFor name (given_in values) (scripts_in values) invocation
 asked_by_rows matches values name invocation named rows_are asks =
     subst (λ (scripts : List (List ℕ)). AsksFor name (given_in values) scripts invocation) (sym (scripts_same values))
     (subst (λ (given : List ℕ → List ℕ). AsksFor name given (scripts_by (rows_of (found_of values))) invocation) (sym (given_same values))
@@ -362,7 +362,7 @@ no_command name given scripts none (OnThreads volume (works.Play played)) asks =
 -- what a parse found asks for what its command asks for
 pub asked : {E : Type 0} (matches values : ArgMatches) (name : List ℕ) (result : Result (Option Invocation) E) → Some name ≡ subcommand_name_of matches
     → Some (rows_of (found_of values)) ≡ option_map (λ p. p.1) (subcommand_rows_of matches)
-    → IfOk result (λ found. IfSome found (AsksFor name (given_in values) (scripts_in values))) → IfOk result (λ found. IfSome found (Asks (subcommand_rows_of matches)))
+    → IfOk result (λ found. IfSome found (AsksFor name (given_in values) (scripts_in values))) → IfOk result (λ found. IfSome found (MetAsks (subcommand_rows_of matches)))
 asked matches values name (Ok (Some invocation)) named rows_are asks = asks_by_rows matches values name invocation (sym named) (sym rows_are) asks
 asked matches values name (Ok None) named rows_are asks = tt
 asked matches values name (Err e) named rows_are asks = tt
@@ -394,7 +394,7 @@ pub none_met : (matches : ArgMatches) → has_subcommand matches ≡ false → A
 unfolding AsksNothing
 none_met matches none = go (out-ArgMatches matches).subcommand none
   where
-    go : {Z : Type 0} (found : Option (Box SubCommand Z)) → is_some found ≡ false → (invocation : Invocation) → Asks (subcommand_rows found) invocation → ⊥
+    go : {Z : Type 0} (found : Option (Box SubCommand Z)) → is_some found ≡ false → (invocation : Invocation) → MetAsks (subcommand_rows found) invocation → ⊥
     go None none invocation asks = asks
     go (Some b) none invocation asks = absurd (true≢false none)
 
@@ -420,7 +420,7 @@ takes command editions words is none =
 
 -- the words are read
 pub reads : (editions : Bor (List (Bor (List ℕ)))) (words : List (List ℕ)) (matches : ArgMatches) (invocation : Invocation) → AreEditions editions
-    → faults_of (unixvol_app editions) words ≡ [] → subcommand_rows_of matches ≡ command_in (unixvol_app editions) words → Asks (subcommand_rows_of matches) invocation
+    → faults_of (unixvol_app editions) words ≡ [] → subcommand_rows_of matches ≡ command_in (unixvol_app editions) words → MetAsks (subcommand_rows_of matches) invocation
     → IsRead words invocation
 unfolding IsRead
 reads editions words matches invocation are taken is asks = (editions, are, (taken, rw is at asks))
@@ -461,7 +461,7 @@ work_given : (given : List ℕ → List ℕ) (work : Work) → IsWorkGiven given
 work_given given (works.Check checker workers) is = rw is.1 (is.0.1, is.0.2)
 work_given given (works.Play scripts) is = is
 
-work_asked : (met : Option (List ℕ × List Row)) (volume : VolumeFile) (work : Work) → Asks met (OnThreads volume work) → IsWorkable work
+work_asked : (met : Option (List ℕ × List Row)) (volume : VolumeFile) (work : Work) → MetAsks met (OnThreads volume work) → IsWorkable work
 work_asked None volume work asks = absurd asks
 work_asked (Some met) volume work asks = work_given (given_by met.1) work asks.1.1
 

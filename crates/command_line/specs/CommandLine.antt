@@ -219,17 +219,17 @@ abbrev pub TellsOf : Type 0 → Error → Type 0
 TellsOf wrong error = (kind_of error ≡ kinds.OutOfMemory) ⊎ ((kind_of error ≡ kinds.ValueValidation) × wrong)
 
 -- the command that was met, with the rows of its words, asks for this (this project)
-abbrev pub Asks : Option (List ℕ × List Row) → Invocation → Type 0
-Asks None invocation = ⊥
-Asks (Some met) invocation = AsksFor met.0 (given_by met.1) (scripts_by met.1) invocation
+abbrev pub MetAsks : Option (List ℕ × List Row) → Invocation → Type 0
+MetAsks None invocation = ⊥
+MetAsks (Some met) invocation = AsksFor met.0 (given_by met.1) (scripts_by met.1) invocation
 
 -- the command that was met, if any, asks for nothing (this project)
 unfoldable pub AsksNothing : Option (List ℕ × List Row) → Type 0
-AsksNothing met = (invocation : Invocation) → Asks met invocation → ⊥
+AsksNothing met = (invocation : Invocation) → MetAsks met invocation → ⊥
 
 -- the command line takes these words, and they ask for this (this project)
 abbrev pub IsReadBy : App → List (List ℕ) → Invocation → Type 0
-IsReadBy app words invocation = (faults_of app words ≡ []) × Asks (command_in app words) invocation
+IsReadBy app words invocation = (faults_of app words ≡ []) × MetAsks (command_in app words) invocation
 
 -- memory ran out, or this is what the command line refuses of the words, or it takes them and they ask for nothing (this project)
 abbrev pub IsRefusedBy : App → List (List ℕ) → Error → Type 0

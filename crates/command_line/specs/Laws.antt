@@ -1,7 +1,7 @@
 -- What the words of `ls` ask for.
 use Rattle.std.specs.Prelude.{◌≡◌, ◌≢◌, ◌↔◌, ◌∷◌, ℕ, List, [], slice_index, codes}
 use Rattle.std.specs.Borrow.{Bor}
-use Rattle.command_line.specs.CommandLine.{Asks, IsEditionNamed}
+use Rattle.command_line.specs.CommandLine.{MetAsks, IsEditionNamed}
 use Rattle.command_line.specs.Words.{AreEditions, command_in, faults_of, unixvol_app}
 use Rattle.command_line.specs.declared.Invocation.{Invocation}
 use Rattle.command_line.specs.declared.Invocation.TheVariants.{OnVolume}
@@ -23,5 +23,5 @@ abbrev pub ReadsListing : Type 0
 ReadsListing = (editions : Bor (List (Bor (List ℕ)))) → AreEditions editions → (edition : Edition) (program word image path : List ℕ)
     → IsEditionNamed edition word → IsPlainWord image → IsPlainWord path
     → (faults_of (unixvol_app editions) (program ∷ codes "ls" ∷ word ∷ image ∷ path ∷ []) ≡ [])
-    × ((invocation : Invocation) → Asks (command_in (unixvol_app editions) (program ∷ codes "ls" ∷ word ∷ image ∷ path ∷ [])) invocation
+    × ((invocation : Invocation) → MetAsks (command_in (unixvol_app editions) (program ∷ codes "ls" ∷ word ∷ image ∷ path ∷ [])) invocation
     ↔ IsListing edition image path invocation)

@@ -3,7 +3,7 @@
 
 ghost use Rattle.std.specs.Prelude.{◌≡◌, None, IfOk, IfErr, IfSome, IsOkAnd, map, string_bytes};
 ghost use Rattle.clap.specs.Words.{AddsSubcommand, subcommand_rows_of};
-ghost use Rattle.command_line.specs.CommandLine.{Asks, AsksFor, AsksNothing, IsNoCommand, IsNoValue, IsRead, IsRefused, TellsOf, given_in, scripts_in};
+ghost use Rattle.command_line.specs.CommandLine.{MetAsks, AsksFor, AsksNothing, IsNoCommand, IsNoValue, IsRead, IsRefused, TellsOf, given_in, scripts_in};
 ghost use Rattle.command_line.specs.Words.{app, changing, printing, unixvol_app, with_commands};
 
 use clap::error::ErrorKind;
@@ -97,7 +97,7 @@ fn read_matches<'a>(
     alloc: Global,
     matches: &ArgMatches<'a>,
 ) -> Result<Option<Invocation<'a>>, Error>
-    ensures read { IfOk result (λ found. IfSome found (Asks (subcommand_rows_of matches.now))) }
+    ensures read { IfOk result (λ found. IfSome found (MetAsks (subcommand_rows_of matches.now))) }
     ensures missing { IfOk result (λ found. found ≡ None → AsksNothing (subcommand_rows_of matches.now)) }
     ensures refused { IfErr result (TellsOf (AsksNothing (subcommand_rows_of matches.now))) }
 {

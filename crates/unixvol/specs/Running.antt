@@ -36,8 +36,8 @@ use Rattle.unixvol.specs.Saving.{IsTaken}
 use Rattle.unixvol.specs.declared.image_file.Stamp.{Stamp}
 
 -- some file gave these bytes, which are all that it had left (std::io::Read)
-abbrev pub IsGiven : {F : Type 0} → (F → Option (List ℕ)) → List ℕ → Type 0
-IsGiven {F} remaining bytes = (old : F) × (new : F) × IsReadWhole (remaining old) (remaining new) bytes
+abbrev pub GaveBytes : {F : Type 0} → (F → Option (List ℕ)) → List ℕ → Type 0
+GaveBytes {F} remaining bytes = (old : F) × (new : F) × IsReadWhole (remaining old) (remaining new) bytes
 
 -- a file isn't read, with this status: 3, where it can't be opened, can't be read on, or isn't to be changed; or 4, for want of memory, once some file was open and gave no more than a front of its bytes (this project)
 abbrev pub IsUnread : {F : Type 0} → (F → Option (List ℕ)) → ℕ → Type 0
@@ -54,7 +54,7 @@ pub record HostFiles : Type 1 where
 -- what files do, by what is known of them (std::io::Read and Write)
 abbrev pub host_files : {F : Type 0} → (F → Option (List ℕ)) → (F → Option (List ℕ)) → (F → Stamp → Type 0) → (Stamp → Type 0) → HostFiles
 host_files remaining contents had stood =
-    record { unread = IsUnread remaining; given = IsGiven remaining; opened = IsOpened remaining had; taken = IsTaken contents; stood = stood }
+    record { unread = IsUnread remaining; given = GaveBytes remaining; opened = IsOpened remaining had; taken = IsTaken contents; stood = stood }
 
 -- a file gave the bytes that a job puts into a volume; other jobs put none (this project)
 abbrev pub IsGivenFor : (List ℕ → Type 0) → Job → List ℕ → Type 0

@@ -5,7 +5,7 @@ ghost use Rattle.std.specs.Process.{exit_status};
 ghost use Rattle.vol_commands.specs.Cat.{IsNoWriters};
 ghost use Rattle.vol_commands.specs.Faults.{Gets};
 ghost use Rattle.vol_commands.specs.declared.cat.CatFault.TheVariants as faults;
-ghost use Rattle.unixvol.specs.Running.{IsForOneThread, IsGiven, IsGivenFor, IsUnread, CatsGiven, PrintsBody, RunsChange, RunsJob, RunsMigrate, RunsMkfs, RunsQuery, Runs, RunsRead, RunsToEnd, Ends, host_files};
+ghost use Rattle.unixvol.specs.Running.{IsForOneThread, GaveBytes, IsGivenFor, IsUnread, CatsGiven, PrintsBody, RunsChange, RunsJob, RunsMigrate, RunsMkfs, RunsQuery, Runs, RunsRead, RunsToEnd, Ends, host_files};
 ghost use Rattle.unixvol.specs.Saving.{IsTaken};
 
 use crate::explaining::{explain_cat, explain_command_line, finish};
@@ -115,7 +115,7 @@ fn run_cat<R: Files + Eprint + AllocGlobal, O: Sink>(
     volume: VolumeFile<'_>,
     ino: u16,
 ) -> u8
-    ensures shown { PrintsBody (IsGiven R.File.remaining) (O.contents output.old) (O.contents output.new) (O.failed output.old) (O.failed output.new)
+    ensures shown { PrintsBody (GaveBytes R.File.remaining) (O.contents output.old) (O.contents output.new) (O.failed output.old) (O.failed output.new)
         volume.entry.edition ino result }
     ensures whole { result ≡ 0 → O.failed output.new ≡ O.failed output.old }
     ensures silent { result ≢ 0 → result ≢ 3 → Keeps (O.contents output.old) (O.contents output.new) }
@@ -298,7 +298,7 @@ fn run_change<R: ImageFiles + Clock + Eprint + AllocGlobal, O: Sink, E: Sink>(
 
 /// The bytes of the file that a job puts into a volume, or none.
 fn file_of<R: Files + Eprint + AllocGlobal>(rt: &R, job: Job<'_>) -> Result<Vec<u8>, u8>
-    ensures given { IfOk result (λ file. IsGivenFor (IsGiven R.File.remaining) job.entry file.items) }
+    ensures given { IfOk result (λ file. IsGivenFor (GaveBytes R.File.remaining) job.entry file.items) }
     ensures fault { IfErr result (IsUnread R.File.remaining) }
 {
     match job {
@@ -314,7 +314,7 @@ fn cat_file<R: Files + AllocGlobal, O: Sink>(
     volume: VolumeFile<'_>,
     ino: u16,
 ) -> Result<(), CatFault>
-    ensures shown { CatsGiven (IsGiven R.File.remaining) (O.contents output.old) (O.contents output.new) volume.entry.edition ino result }
+    ensures shown { CatsGiven (GaveBytes R.File.remaining) (O.contents output.old) (O.contents output.new) volume.entry.edition ino result }
     ensures writer { IsErrAnd result (λ fault. (count : ℕ) × (fault ≡ faults.Writer count)) → O.failed output.new ≡ true }
     ensures kept { IsNoWriters result → O.failed output.new ≡ O.failed output.old }
 {

@@ -2,7 +2,7 @@
 ghost use Rattle.std.specs.Prelude.{◌≡◌, false, true, All, IfErr, IfOk, IsErrOf, OnErr, length};
 ghost use Rattle.pdp_words.specs.Devices.{IsReadWhole, LosesFront};
 ghost use Rattle.unixvol.specs.Opening.{IsOpened};
-ghost use Rattle.unixvol.specs.Running.{IsGiven, IsStatusOfFileOrMemory, IsUnread};
+ghost use Rattle.unixvol.specs.Running.{GaveBytes, IsStatusOfFileOrMemory, IsUnread};
 
 use crate::explaining::{explain_no_memory, explain_unread, explain_unwritten};
 use crate::image_file::{ImageFiles, OpenFault, Stamp, open_image};
@@ -22,7 +22,7 @@ pub struct ReadFile<F> {
 
 /// The bytes of a file. Where it can't be read, prints so, and answers the status.
 pub fn read_file<R: Files + Eprint + AllocGlobal>(rt: &R, path: &str) -> Result<Vec<u8>, u8>
-    ensures given { IfOk result (λ bytes. IsGiven R.File.remaining bytes.items) }
+    ensures given { IfOk result (λ bytes. GaveBytes R.File.remaining bytes.items) }
     ensures fault { IfErr result (IsUnread R.File.remaining) }
 {
     match fs::open(rt, path) {
@@ -36,7 +36,7 @@ pub fn read_files<R: Files + Eprint + AllocGlobal>(
     rt: &R,
     paths: &[&str],
 ) -> Result<Vec<Vec<u8>>, u8>
-    ensures given { IfOk result (λ files. All (λ file. IsGiven R.File.remaining file.items) files.items) }
+    ensures given { IfOk result (λ files. All (λ file. GaveBytes R.File.remaining file.items) files.items) }
     ensures count { IfOk result (λ files. length files.items ≡ length paths.now) }
     ensures fault { IfErr result (IsUnread R.File.remaining) }
 {
@@ -55,7 +55,7 @@ pub fn read_stamped<R: ImageFiles + Eprint + AllocGlobal>(
     rt: &R,
     path: &str,
 ) -> Result<(Vec<u8>, Stamp), u8>
-    ensures given { IfOk result (λ read. IsGiven R.File.remaining read.0.items) }
+    ensures given { IfOk result (λ read. GaveBytes R.File.remaining read.0.items) }
     ensures fault { IfErr result (IsUnread R.File.remaining) }
 {
     let Ok(file) = fs::open(rt, path) else {

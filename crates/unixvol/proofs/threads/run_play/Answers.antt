@@ -3,7 +3,7 @@ use Rattle.std.specs.Global.{Vec}
 use Rattle.std.proofs.KnownBytes.{Keeps-refl}
 use Rattle.std.proofs.lemmas.List.Elements.{All-same}
 use Rattle.vol_commands.proofs.Lines.{gets_nothing}
-use Rattle.unixvol.specs.Running.{IsGiven}
+use Rattle.unixvol.specs.Running.{GaveBytes}
 use Rattle.unixvol.proofs.threads.run_play.Goals as goal
 
 pub returns-in-Err : goal.returns-in-Err
@@ -22,7 +22,7 @@ returns g c =
       c.deref.result.now,
       c.play-answer.result,
       c.in-Ok.ensures.given,
-      All-same (λ (script : Vec _). IsGiven g.R.File.Read.remaining script.items) _ _ c.deref.ensures.value c.in-Ok-read_files.ensures.given,
+      All-same (λ (script : Vec _). GaveBytes g.R.File.Read.remaining script.items) _ _ c.deref.ensures.value c.in-Ok-read_files.ensures.given,
       ap length c.deref.ensures.value ∙ c.in-Ok-read_files.ensures.count,
       c.play-answer.ensures,
       c.save_played.ensures,

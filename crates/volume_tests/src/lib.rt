@@ -11,6 +11,8 @@ mod calls;
 #[cfg(test)]
 mod commands;
 #[cfg(test)]
+mod cuts;
+#[cfg(test)]
 mod devices;
 #[cfg(test)]
 mod fixtures;

@@ -128,17 +128,27 @@ impl Outcome {
 fn a_read_that_fails_is_the_devices(rt: HostRuntime) {
     let alloc = rt.alloc();
     let bytes = image(&rt, alloc, &SIXTH, (0, b""));
-    // Five reads give the bytes, and the sixth says that these were all.
-    for at in 0..8 {
-        let reader = ScriptedReader::new(&bytes, 512).failing_at(at, ErrorKind::Other);
+    for piece in [1, 7, 512] {
+        check_reads(&rt, alloc, &bytes, piece);
+    }
+}
+
+/// Prints file 1, once for each read that can fail, the last of which says that there are no more bytes, and twice more,
+/// where that read never comes.
+fn check_reads(rt: &impl Abort, alloc: Global, bytes: &[u8], piece: usize)
+    requires { 0 < piece }
+{
+    let reads = bytes.len().div_ceil(piece).saturating_add(1);
+    for at in 0..reads.saturating_add(2) {
+        let reader = ScriptedReader::new(bytes, piece).failing_at(at as u64, ErrorKind::Other);
         let writer = ScriptedWriter::new(alloc, 512);
         let outcome = run(alloc, Edition::V6, 1, reader, writer);
-        let label = format_args!("read {at}");
-        assert_eq!(rt; outcome.has_read_failed, at < 6, "{label}");
-        if at < 6 {
-            outcome.check(&rt, Err(CatFault::Device), b"", &label);
+        let label = format_args!("read {at} by {piece}");
+        assert_eq!(rt; outcome.has_read_failed, at < reads, "{label}");
+        if at < reads {
+            outcome.check(rt, Err(CatFault::Device), b"", &label);
         } else {
-            outcome.check(&rt, Ok(()), b"hello", &label);
+            outcome.check(rt, Ok(()), b"hello", &label);
         }
     }
 }
@@ -149,7 +159,7 @@ fn a_write_that_fails_counts_what_was_taken(rt: HostRuntime) {
     let bytes = image(&rt, alloc, &SIXTH, (1030, b"\x08\x02"));
     let body = padded(&rt, alloc, 520);
     for mishap in [WriteMishap::Error(ErrorKind::Other), WriteMishap::TakesNone] {
-        for piece in [1, 7, 104, 520] {
+        for piece in [1, 7, 104, 512, 520] {
             check_writes(&rt, alloc, &bytes, &body, piece, mishap);
         }
     }

@@ -172,6 +172,38 @@ fn all_scripts_are_read_before_the_first_call(rt: HostRuntime) {
     assert!(rt; ended.answer.image.is_none());
 }
 
+/// Lines that can't be read, and the number of the line in its script: one without a newline, one with half a byte, and
+/// numbers above their ranges.
+static UNREAD: [(&[u8], u64); 9] = [
+    (b"5 0 0 create /b 644", 1),
+    (b"5 0 0 create /b 644\n5 0 0 stat /b", 2),
+    (b"5 0 0 create /b 644\n5 0 0 write /b 0 416\n", 2),
+    (b"5 0 0 create /b 644\n\n5 0 0 stat /b\n", 2),
+    (b"4294967296 0 0 create /b 644\n", 1),
+    (b"5 65536 0 create /b 644\n", 1),
+    (b"5 0 0 create /b 10000\n", 1),
+    (b"5 0 0 create /b 644\n5 0 0 write /b 4294967296 41\n", 2),
+    (b"5 0 0 create /b 644\n5 0 0 truncate /b 4294967296\n", 2),
+];
+
+/// A second script can't be read by this line, and so the first isn't played.
+fn check_unread<R: Threads + Wait + Abort + Sync>(rt: &R, alloc: Global, script: &[u8], line: u64) {
+    let scripts = [bytes_of(rt, alloc, CREATE), bytes_of(rt, alloc, script)];
+    let ended = play_on(rt, alloc, sixth_bytes(rt, alloc), &scripts, &Open);
+    let wanted = format!(in alloc; "unixvol: script 2 line {line}\n").expect(rt, "memory");
+    assert_eq!(rt; ended.text.as_slice(), b"".as_slice());
+    assert_eq!(rt; ended.line.as_slice(), wanted.as_bytes(), "{script:?}");
+    assert_eq!(rt; ended.answer.status, 2);
+    assert!(rt; ended.answer.image.is_none());
+}
+
+#[test]
+fn scripts_that_can_not_be_read_are_told_before_the_first_call(rt: HostRuntime) {
+    for (script, line) in &UNREAD {
+        check_unread(&rt, rt.alloc(), *script, *line);
+    }
+}
+
 #[test]
 fn an_image_that_is_not_sound_is_not_played(rt: HostRuntime) {
     let alloc = rt.alloc();

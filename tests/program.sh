@@ -797,6 +797,12 @@ finds 1 ncheck damaged 'rule 1'
 image damaged 1024
 finds 1 dcheck damaged 'rule 2'
 finds 1 ncheck damaged 'rule 2'
+edition=7
+changed made7 damaged 1096 'FF FF FF FF' # the root has the greatest size that there is a number for
+finds 0 dcheck damaged
+finds 0 ncheck damaged
+refuses 1 'unixvol: unsound, rule 4' ls 7 damaged /
+edition=6
 cp made tree
 prints none mkdir 6 tree /d 1
 prints none put 6 tree /d/f hello 2

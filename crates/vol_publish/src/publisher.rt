@@ -1,12 +1,13 @@
 //! Who publishes versions.
-ghost use Rattle.std.specs.Prelude.{◌≡◌, ◌<◌, ◌+◌, ◌^◌, ◌++◌, ◌∷◌, [], length, IfOk, IfSome, drop};
+ghost use Rattle.std.specs.Prelude.{◌≡◌, ◌≢◌, ◌<◌, ◌+◌, ◌^◌, ◌++◌, ◌∷◌, [], length, IfOk, IfSome, drop};
 ghost use mathlib.Core.List.{IsPrefix};
-ghost use Rattle.vol_volume.specs.Journal.{MayFollow};
+ghost use Rattle.vol_volume.specs.Journal.{MayFollow, after};
+ghost use Rattle.vol_receipts.specs.Agrees.{start};
 ghost use Rattle.vol_ledger.specs.Rule.{first_log};
 ghost use Rattle.vol_ledger.specs.declared.history.LogEntry.TheVariants.{Made};
 ghost use Rattle.vol_versions.specs.States.{state_of};
 ghost use Rattle.vol_publish.specs.Absorbing.{empty_operation};
-ghost use Rattle.vol_publish.specs.Logs.{number_of};
+ghost use Rattle.vol_publish.specs.Logs.{history_of, origin_in, number_of};
 
 use crate::published::{Operation, Published};
 use crate::rule::{Copies, Learn, Tell};
@@ -73,6 +74,16 @@ impl Publisher {
         ensures { result ≡ number_of self.now.log }
     {
         self.copies.published().at
+    }
+
+    /// Does nothing: what every publisher keeps is in the contract. Its log has begun, and comes to what its records make
+    /// of their start.
+    pub fn check(&self)
+        ensures begun { self.now.log ≢ [] }
+        ensures reads { state_of self.now.log ≡ after (start (origin_in self.now.log)) (history_of self.now.log) }
+    {
+        // What is read of a publisher brings what every publisher keeps into the proof.
+        let _ = &self.copies;
     }
 
     /// The right to publish one record.

@@ -1,0 +1,41 @@
+-- What a view knows, and what it answers.
+use Rattle.std.specs.Prelude.{◌≡◌, ℕ, List, [], ◌∷◌, ◌++◌, Option, None, Some}
+use mathlib.Core.List.{IsPrefix}
+use Rattle.logbook.specs.Pages.{Book}
+use Rattle.vol_receipts.specs.Agrees.{Agrees}
+use Rattle.vol_receipts.specs.declared.receipts.Receipt.{Receipt}
+use Rattle.vol_ledger.specs.History.{Reached}
+use Rattle.vol_ledger.specs.declared.history.LogEntry.{LogEntry}
+use Rattle.vol_publish.specs.Logs.{history_of, origin_in, number_of}
+
+-- a view: of which log, the front of it that the view knows, and the receipts that it gave (this project)
+pub record Watched : Type 0 where
+  pub book : Book
+  pub log : List LogEntry
+  pub receipts : List Receipt
+
+-- the records of a log go on from those of another, from the same start (this project)
+pub record GoesOn (old new : List LogEntry) : Type 0 where
+  pub origin : origin_in new ≡ origin_in old
+  pub records : IsPrefix (history_of old) (history_of new)
+
+-- a receipt agrees with the records of a log (this project)
+abbrev pub AgreesIn : List LogEntry → Receipt → Type 0
+AgreesIn log receipt = Agrees (origin_in log) (history_of log) receipt
+
+-- a view after it gave a receipt: that is of the front which it knows now, and joins its receipts (this project)
+pub record Sees (old new : Watched) (receipt : Receipt) : Type 0 where
+  pub at : receipt.at ≡ number_of new.log
+  pub agrees : AgreesIn new.log receipt
+  pub receipts : new.receipts ≡ old.receipts ++ receipt ∷ []
+
+-- a view that asked nothing yet, and knows a whole log (this project)
+pub record IsNew (whole : Reached) (view : Watched) : Type 0 where
+  pub book : view.book ≡ whole.book
+  pub log : view.log ≡ whole.log
+  pub receipts : view.receipts ≡ []
+
+-- which log what was told is of, if anything was (this project)
+abbrev pub book_in : Option Reached → Option Book
+book_in None = None
+book_in (Some reached) = Some reached.book

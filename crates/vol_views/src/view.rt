@@ -1,0 +1,196 @@
+//! Views.
+ghost use Rattle.std.specs.Prelude.{◌≡◌, ◌≢◌, ◌≤◌, ◌++◌, ◌∷◌, [], true, Some, IfOk, IfErr, IfSome, OnErr, All};
+ghost use mathlib.Core.List.{IsPrefix};
+ghost use Rattle.vol_volume.specs.Answer.{Answers, takes_memory};
+ghost use Rattle.vol_volume.specs.Journal.{after};
+ghost use Rattle.vol_receipts.specs.Agrees.{start, IsAnswer};
+ghost use Rattle.vol_receipts.specs.declared.receipts.Asked.TheVariants.{Question};
+ghost use Rattle.vol_publish.specs.Logs.{history_of, origin_in, number_of};
+ghost use Rattle.vol_views.specs.Views.{GoesOn, Sees, IsNew, AgreesIn};
+
+use crate::notes::{Notes, no_notes, note};
+use crate::told::{Informed, Told};
+use std::alloc::Global;
+use std::marker::Model;
+use thiserror::Error;
+use vol_dir::Refusal;
+use vol_publish::{Answered, Publisher, Subscriber};
+use vol_receipts::{Asked, Outcome, Receipt};
+use vol_volume::Query;
+
+/// A view of a volume, for one thread at a time: it answers queries from what is published, and takes no lock. What it
+/// answers is never older than what it answered or learnt before. It keeps, for contracts alone, its receipts.
+#[derive(Drop)]
+pub struct View {
+    subscriber: Option<Subscriber>,
+    known: Told,
+    notes: Notes,
+}
+
+impl Model for View {
+    ghost use Rattle.std.specs.Prelude.{◌≡◌, All, IsSome, IfSome};
+    ghost use Rattle.vol_views.specs.Views.{Watched, AgreesIn};
+
+    ghost Value = { Watched };
+
+    ghost view = { λ v. record { book = v.known.book; log = v.known.log; receipts = v.notes.log } };
+
+    ghost invariant = { λ v. IsSome v.subscriber
+        × IfSome v.subscriber (λ s. s.book ≡ v.known.book)
+        × All (AgreesIn v.known.log) v.notes.log };
+}
+
+/// Why a view gave no answer.
+#[derive(Clone, Copy, Debug, PartialEq, Eq, Error)]
+pub enum ViewFault {
+    /// Memory ran out.
+    #[error("out of memory")]
+    NoMemory,
+    /// It couldn't take what is published, which is only once nothing is published any more.
+    #[error("nothing is published")]
+    NotEntered,
+}
+
+impl View {
+    /// A view that knows all that is published. None where each place for one was found in use.
+    ///
+    /// Takes a count of an owner, and no memory.
+    pub fn new(publisher: &mut Publisher) -> Option<View>
+        ensures same { publisher.new ≡ publisher.old }
+        ensures view { IfSome result (λ view. IsNew publisher.old view) }
+    {
+        let subscriber = publisher.subscriber()?;
+        Some(View {
+            subscriber: Some(subscriber),
+            known: Told::of(publisher),
+            notes: no_notes(),
+        })
+    }
+
+    /// The answer to a query, of what is published. NoMemory where the reply takes memory and there was none; NotEntered
+    /// where what is published couldn't be taken. Either leaves the receipts as they were, and NotEntered leaves all.
+    ///
+    /// Takes memory and costs what [`vol_publish::Subscriber::ask`] does, and waits for nobody.
+    pub fn ask(&mut self, alloc: Global, query: Query) -> Result<Receipt, (ViewFault, Query)>
+        ensures book { self.new.book ≡ self.old.book }
+        ensures goes_on { GoesOn self.old.log self.new.log }
+        ensures asked { IfOk result (λ receipt. receipt.asked ≡ Question query) }
+        ensures sees { IfOk result (λ receipt. Sees self.old self.new receipt) }
+        ensures receipts { OnErr result (self.new.receipts ≡ self.old.receipts) }
+        ensures not_entered { IfErr result (λ (fault, same). fault ≡ ViewFault.NotEntered → self.new ≡ self.old) }
+        ensures memory { IfErr result (λ (fault, same). fault ≡ ViewFault.NoMemory → takes_memory query ≡ true) }
+        ensures handed_back { IfErr result (λ (fault, same). same ≡ query) }
+    {
+        let Some(subscriber) = self.subscriber.take() else {
+            unreachable!();
+        };
+        match subscriber.ask(alloc, &query) {
+            Ok((subscriber, answered)) => {
+                self.subscriber = Some(subscriber);
+                self.take_over(answered, query)
+            }
+            Err(subscriber) => {
+                self.subscriber = Some(subscriber);
+                Err((ViewFault::NotEntered, query))
+            }
+        }
+    }
+
+    /// The receipt of an answer, unless it is older than what is known. That never happens, which no contract can say.
+    fn take_over(&mut self, answered: Answered, query: Query) -> Result<Receipt, (ViewFault, Query)>
+        requires book { answered.front.book ≡ self.old.book }
+        requires begun { answered.front.log ≢ [] }
+        requires at { answered.at ≡ number_of answered.front.log }
+        requires reply { Answers (after (start (origin_in answered.front.log)) (history_of answered.front.log)).tree query answered.reply }
+        ensures book { self.new.book ≡ self.old.book }
+        ensures goes_on { GoesOn self.old.log self.new.log }
+        ensures asked { IfOk result (λ receipt. receipt.asked ≡ Question query) }
+        ensures sees { IfOk result (λ receipt. Sees self.old self.new receipt) }
+        ensures receipts { OnErr result (self.new.receipts ≡ self.old.receipts) }
+        ensures not_entered { IfErr result (λ (fault, same). fault ≡ ViewFault.NotEntered → self.new ≡ self.old) }
+        ensures memory { IfErr result (λ (fault, same). fault ≡ ViewFault.NoMemory → takes_memory query ≡ true) }
+        ensures handed_back { IfErr result (λ (fault, same). same ≡ query) }
+    {
+        let Answered { at, front, reply } = answered;
+        if at < self.known.at {
+            return Err((ViewFault::NotEntered, query));
+        }
+        self.know(Told { front, at });
+        let outcome = match reply {
+            Ok(reply) => Outcome::Answered(reply),
+            Err(Refusal::NoMemory) => return Err((ViewFault::NoMemory, query)),
+            Err(refusal) => Outcome::Refused(refusal),
+        };
+        Ok(self.tell(at, Asked::Question(query), outcome))
+    }
+
+    /// The receipt of what is known, which joins the receipts.
+    fn tell(&mut self, at: u64, asked: Asked, outcome: Outcome) -> Receipt
+        requires at { at ≡ number_of self.old.log }
+        requires answer { IsAnswer (after (start (origin_in self.old.log)) (history_of self.old.log)) asked outcome }
+        ensures book { self.new.book ≡ self.old.book }
+        ensures log { self.new.log ≡ self.old.log }
+        ensures receipts { self.new.receipts ≡ self.old.receipts ++ result ∷ [] }
+        ensures receipt { result ≡ record { at = at; asked = asked; outcome = outcome } }
+        ensures agrees { AgreesIn self.old.log result }
+    {
+        let receipt = Receipt { at, asked, outcome };
+        self.notes = note(&self.notes, &receipt);
+        receipt
+    }
+
+    /// Knows a front that isn't older than what is known.
+    fn know(&mut self, told: Told)
+        requires book { told.book ≡ self.old.book }
+        requires later { number_of self.old.log ≤ number_of told.log }
+        ensures book { self.new.book ≡ self.old.book }
+        ensures log { self.new.log ≡ told.log }
+        ensures goes_on { GoesOn self.old.log told.log }
+        ensures receipts { self.new.receipts ≡ self.old.receipts }
+    {
+        self.known.goes_on(&told);
+        self.known = told;
+    }
+
+    /// Learns what a session was told: from now on each answer stands after all that the session knows of.
+    ///
+    /// Takes no memory.
+    pub fn learn<S: Informed>(&mut self, session: &mut S)
+        requires { S.book session.old ≡ Some self.old.book }
+        ensures session { session.new ≡ session.old }
+        ensures book { self.new.book ≡ self.old.book }
+        ensures receipts { self.new.receipts ≡ self.old.receipts }
+        ensures goes_on { GoesOn self.old.log self.new.log }
+        ensures learnt { S.next session.old ≤ number_of self.new.log }
+    {
+        let Some(told) = session.told() else {
+            unreachable!();
+        };
+        self.learn_told(told);
+    }
+
+    /// Knows a front that was told, if it is newer.
+    fn learn_told(&mut self, told: Told)
+        requires { told.book ≡ self.old.book }
+        ensures book { self.new.book ≡ self.old.book }
+        ensures receipts { self.new.receipts ≡ self.old.receipts }
+        ensures goes_on { GoesOn self.old.log self.new.log }
+        ensures learnt { GoesOn told.log self.new.log }
+    {
+        if self.known.at < told.at {
+            self.know(told);
+        } else {
+            told.goes_on(&self.known);
+        }
+    }
+
+    /// Does nothing: the log that is published goes on from what a view knows, with which all its receipts agree.
+    pub fn is_covered(&self, publisher: &mut Publisher)
+        requires { self.now.book ≡ publisher.old.book }
+        ensures same { publisher.new ≡ publisher.old }
+        ensures covered { GoesOn self.now.log publisher.old.log }
+        ensures agree { All (AgreesIn self.now.log) self.now.receipts }
+    {
+        self.known.is_covered(publisher);
+    }
+}

@@ -1,5 +1,5 @@
 //! Volumes, their sessions, calls and queries, and what is wanted of receipts.
-ghost use Rattle.std.specs.Prelude.{◌≡◌};
+ghost use Rattle.std.specs.Prelude.{◌≡◌, None};
 
 use std::alloc::{AllocError, Global};
 use std::process::Abort;
@@ -74,6 +74,14 @@ pub(crate) fn read(rt: &impl Abort, alloc: Global, path: &[u8]) -> Asked {
     })
 }
 
+/// A query for the names in a directory.
+pub(crate) fn list(rt: &impl Abort, alloc: Global, path: &[u8]) -> Asked {
+    Asked::Question(Query::List {
+        cred: ROOT,
+        path: bytes_of(rt, alloc, path),
+    })
+}
+
 /// A query for what a node is.
 pub(crate) fn stat(rt: &impl Abort, alloc: Global, path: &[u8]) -> Asked {
     Asked::Question(Query::Stat {
@@ -87,6 +95,7 @@ pub(crate) fn open_two(rt: &impl Abort, alloc: Global, volume: Volume) -> (Share
     ensures first { result.1.of ≡ result.0.of }
     ensures second { result.2.of ≡ result.0.of }
     ensures sessions { result.0.sessions ≡ 2 }
+    ensures unpublished { result.0.of.book ≡ None }
 {
     let Ok((shared, mut sessions)) = Shared::open(alloc, volume, 2) else {
         panic!(rt; "memory for two sessions")
@@ -105,6 +114,7 @@ pub(crate) fn close_two(
     second: Session,
 ) -> Closed
     requires sessions { shared.sessions ≡ 2 }
+    requires unpublished { shared.of.book ≡ None }
     requires first { first.of ≡ shared.of }
     requires second { second.of ≡ shared.of }
 {

@@ -1,5 +1,5 @@
 //! Tests of volumes that threads share: who comes first, receipts of another volume, threads that wait for one another,
-//! and cuts of the journal.
+//! cuts of the journal, and views.
 #![tactic(auto)]
 
 #[cfg(test)]
@@ -8,5 +8,7 @@ mod cuts;
 mod fixtures;
 #[cfg(test)]
 mod threads;
+#[cfg(test)]
+mod views;
 #[cfg(test)]
 mod volumes;

@@ -1,5 +1,5 @@
 //! Scripts are played on a volume.
-ghost use Rattle.std.specs.Prelude.{◌≡◌, ◌≤◌, [], map, All, IfOk, length, vec_len, vec_capacity};
+ghost use Rattle.std.specs.Prelude.{◌≡◌, ◌≤◌, [], None, map, All, IfOk, length, vec_len, vec_capacity};
 ghost use Rattle.vol_shared.specs.Sessions.{new_session};
 ghost use Rattle.vol_shared.specs.Stored.{stored_of, next_number};
 ghost use Rattle.vol_play.specs.Playing.{ArePlayed};
@@ -48,6 +48,7 @@ fn play_opened<R: Threads + Wait + Sync, G: Gate>(
     gate: &G,
 ) -> (Volume, Vec<Vec<Played>>)
     requires some { 1 ≤ vec_len stage.prepared }
+    requires unpublished { shared.of.book ≡ None }
     requires sessions { shared.sessions ≡ vec_len stage.prepared }
     requires count { vec_len sessions ≡ vec_len stage.prepared }
     requires fresh { All (λ s. s ≡ new_session shared.of (next_number shared.stored)) sessions.items }

@@ -4,3 +4,4 @@ pub mod Steps
 pub mod Seats
 pub mod Calls
 pub mod Ending
+pub mod Fronts

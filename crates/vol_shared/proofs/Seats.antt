@@ -49,15 +49,16 @@ follows_itself : (opened : Stored) → Follows opened [] opened
 follows_itself opened = record { edition = refl; first = omega arith; starts = refl; begins = begins_itself opened.journal }
 
 -- at the start
-pub opens : (key : Start) (slots : List (Option Stored)) → slots ≡ Some key.stock.value ∷ [] → Locked key (opening (0 ∷ []) slots (first_knowledge key))
+pub opens : (key : Start) (slots : List (Option Stored)) → slots ≡ Some key.stock ∷ [] → Locked key (opening (0 ∷ []) slots (first_knowledge key))
 opens key slots full = subst (λ (l : List (Option Stored)). Locked key (opening (0 ∷ []) l (first_knowledge key))) (sym full) record {
-  last = key.stock.value;
+  last = key.stock;
   gone = [];
   word = refl;
   one = omega arith;
   lock = let c = total_cons hold_of (first_knowledge key) [] in let n = total_nil hold_of in omega arith;
   home = λ e. refl;
-  follows = follows_itself key.stock.value;
+  follows = follows_itself key.stock;
+  book = refl;
   parts = let c = total_cons (λ (v : Knowledge). v.parts) (first_knowledge key) [] in let n = total_nil (λ (v : Knowledge). v.parts) in omega arith;
   places = λ weight. let c = total_cons (λ (v : Knowledge). total weight v.places) (first_knowledge key) [] in
       let n = total_nil (λ (v : Knowledge). total weight v.places) in let z = total_nil weight in omega arith;
@@ -66,13 +67,13 @@ opens key slots full = subst (λ (l : List (Option Stored)). Locked key (opening
   each = only;
 }
   where
-    only : (id : ℕ) (v : Knowledge) → get_elem? (first_knowledge key ∷ []) id ≡ some v → SeatFits key.stock.value key.stock.value key.stock.value.journal v
-    only zero v e = subst (SeatFits key.stock.value key.stock.value key.stock.value.journal) (some-injective (first_knowledge key) v e)
-        (fresh_fits key.stock.value key.sessions key.stock.value key.stock.value.journal (begins_itself key.stock.value.journal))
+    only : (id : ℕ) (v : Knowledge) → get_elem? (first_knowledge key ∷ []) id ≡ some v → SeatFits key.stock key.stock key.stock.journal v
+    only zero v e = subst (SeatFits key.stock key.stock key.stock.journal) (some-injective (first_knowledge key) v e)
+        (fresh_fits key.stock key.sessions key.stock key.stock.journal (begins_itself key.stock.journal))
     only (suc id) v e = absurd (some-ne-none v (sym e))
 
 -- one session is cut off a seat that did nothing yet
-pub splits : (key : Start) (id : ℕ) (v : Knowledge) (parts : ℕ) → 1 ≤ parts → v ≡ fresh parts key.stock.value → Splits (Locked key) id v (kept_part v) (given_part v)
+pub splits : (key : Start) (id : ℕ) (v : Knowledge) (parts : ℕ) → 1 ≤ parts → v ≡ fresh parts key.stock → Splits (Locked key) id v (kept_part v) (given_part v)
 splits key id v parts some-parts is s kept at =
     subst (λ (x : Knowledge). Locked key record { words = s.words; homes = s.homes; views = set s.views id (kept_part x) ++ given_part x ∷ [] }) (sym is) record {
       last = kept.last;
@@ -82,6 +83,7 @@ splits key id v parts some-parts is s kept at =
       lock = let h = moves hold_of in let p = pushes hold_of in let k = kept.lock in omega arith;
       home = kept.home;
       follows = kept.follows;
+      book = kept.book;
       parts = let h = moves (λ x. x.parts) in let p = pushes (λ x. x.parts) in let k = kept.parts in omega arith;
       places = λ weight. let h = moves (λ x. total weight x.places) in let p = pushes (λ x. total weight x.places) in let n = total_nil weight in
           let k = kept.places weight in omega arith;
@@ -99,21 +101,21 @@ splits key id v parts some-parts is s kept at =
     }
   where
     opened : Stored
-    opened = key.stock.value
+    opened = key.stock
 
-    there : get_elem? s.views id ≡ some (fresh parts key.stock.value)
+    there : get_elem? s.views id ≡ some (fresh parts key.stock)
     there = subst (λ (x : Knowledge). get_elem? s.views id ≡ some x) is at
 
-    moves : (g : Knowledge → ℕ) → total g (set s.views id (fresh (parts - 1) key.stock.value)) + g (fresh parts key.stock.value)
-        ≡ total g s.views + g (fresh (parts - 1) key.stock.value)
-    moves g = total_set g s.views id (fresh parts key.stock.value) (fresh (parts - 1) key.stock.value) there
+    moves : (g : Knowledge → ℕ) → total g (set s.views id (fresh (parts - 1) key.stock)) + g (fresh parts key.stock)
+        ≡ total g s.views + g (fresh (parts - 1) key.stock)
+    moves g = total_set g s.views id (fresh parts key.stock) (fresh (parts - 1) key.stock) there
 
-    pushes : (g : Knowledge → ℕ) → total g (set s.views id (fresh (parts - 1) key.stock.value) ++ fresh 1 key.stock.value ∷ [])
-        ≡ total g (set s.views id (fresh (parts - 1) key.stock.value)) + g (fresh 1 key.stock.value)
-    pushes g = total_push g (set s.views id (fresh (parts - 1) key.stock.value)) (fresh 1 key.stock.value)
+    pushes : (g : Knowledge → ℕ) → total g (set s.views id (fresh (parts - 1) key.stock) ++ fresh 1 key.stock ∷ [])
+        ≡ total g (set s.views id (fresh (parts - 1) key.stock)) + g (fresh 1 key.stock)
+    pushes g = total_push g (set s.views id (fresh (parts - 1) key.stock)) (fresh 1 key.stock)
 
-    fits : (n : ℕ) → SeatFits key.stock.value kept.last (kept.gone ++ kept.last.journal) (fresh n key.stock.value)
-    fits n = fresh_fits key.stock.value n kept.last (kept.gone ++ kept.last.journal) kept.follows.begins
+    fits : (n : ℕ) → SeatFits key.stock kept.last (kept.gone ++ kept.last.journal) (fresh n key.stock)
+    fits n = fresh_fits key.stock n kept.last (kept.gone ++ kept.last.journal) kept.follows.begins
 
 -- receipts that agree with what was known agree with all that it begins
 agree_front : (opened : Stored) (known history : List Record) (receipts : List Receipt) → BeginsWith history known
@@ -132,6 +134,7 @@ joins key id v other w some-parts first-free second-free s kept at apart there =
   lock = let h = sums hold_of in let k = kept.lock in let a = idle v first-free in let b = idle w second-free in omega arith;
   home = kept.home;
   follows = kept.follows;
+  book = kept.book;
   parts = let h = sums (λ x. x.parts) in let k = kept.parts in omega arith;
   places = λ weight. let h = sums (λ x. total weight x.places) in let k = kept.places weight in let a = total_append weight w.places v.places in
       let n = total_nil weight in omega arith;
@@ -147,10 +150,10 @@ joins key id v other w some-parts first-free second-free s kept at apart there =
       let k = kept.first in
       omega arith;
   uncut = λ e. let h = sums (λ x. length x.cuts) in let a = length-append w.cuts v.cuts in kept.uncut (omega arith);
-  each = λ j x e. ⊎_elim (λ (t : (j ≡ other) × (nobody ≡ x)). subst (SeatFits key.stock.value kept.last (kept.gone ++ kept.last.journal)) t.1
-      (blank_fits key.stock.value kept.last (kept.gone ++ kept.last.journal)))
+  each = λ j x e. ⊎_elim (λ (t : (j ≡ other) × (nobody ≡ x)). subst (SeatFits key.stock kept.last (kept.gone ++ kept.last.journal)) t.1
+      (blank_fits key.stock kept.last (kept.gone ++ kept.last.journal)))
       (λ (t : (j ≢ other) × (get_elem? (set s.views id (as_one v w)) j ≡ some x)). ⊎_elim
-      (λ (u : (j ≡ id) × (as_one v w ≡ x)). subst (SeatFits key.stock.value kept.last (kept.gone ++ kept.last.journal)) u.1 fits)
+      (λ (u : (j ≡ id) × (as_one v w ≡ x)). subst (SeatFits key.stock kept.last (kept.gone ++ kept.last.journal)) u.1 fits)
       (λ (u : (j ≢ id) × (get_elem? s.views j ≡ some x)). kept.each j x u.1) (at_set s.views id j (as_one v w) x t.1))
       (at_set (set s.views id (as_one v w)) other j nobody x e);
 }
@@ -172,13 +175,13 @@ joins key id v other w some-parts first-free second-free s kept at apart there =
     front-w : BeginsWith (kept.gone ++ kept.last.journal) w.history
     front-w = (kept.each other w second).front
 
-    fits : SeatFits key.stock.value kept.last (kept.gone ++ kept.last.journal) (as_one v w)
+    fits : SeatFits key.stock kept.last (kept.gone ++ kept.last.journal) (as_one v w)
     fits = record {
       same = λ e. (kept.each id v at).same some-parts;
       front = longer_front v.history w.history (kept.gone ++ kept.last.journal) front-v front-w;
-      agree = All-append (Agrees key.stock.value.origin (longer v.history w.history)) w.receipts v.receipts
-          (agree_front key.stock.value w.history (longer v.history w.history) w.receipts (longer_second v.history w.history (kept.gone ++ kept.last.journal) front-v front-w) (kept.each other w second).agree)
-          (agree_front key.stock.value v.history (longer v.history w.history) v.receipts (longer_first v.history w.history (kept.gone ++ kept.last.journal) front-v front-w) (kept.each id v at).agree);
+      agree = All-append (Agrees key.stock.origin (longer v.history w.history)) w.receipts v.receipts
+          (agree_front key.stock w.history (longer v.history w.history) w.receipts (longer_second v.history w.history (kept.gone ++ kept.last.journal) front-v front-w) (kept.each other w second).agree)
+          (agree_front key.stock v.history (longer v.history w.history) v.receipts (longer_first v.history w.history (kept.gone ++ kept.last.journal) front-v front-w) (kept.each id v at).agree);
       mine = λ e. absurd (cc);
       spent = λ e. absurd (omega arith);
     }
@@ -215,11 +218,11 @@ module _ (key : Start) (s : State (Option Stored) Knowledge) (kept : Locked key 
           let c = ap greatest_of ((kept.each j x e).spent (others_spent j x ne e)).2 in let n = greatest_nil (λ (k : ℕ). k) in omega arith
 
   agree_end : All (λ r. kept.last.origin.first ≤ r.at → Agrees kept.last.origin kept.last.journal r) v.receipts
-  agree_end k d lt le = agrees_after_cut key.stock.value.origin kept.last.origin kept.gone kept.last.journal _ kept.follows.first kept.follows.starts le
-      (agree_front key.stock.value v.history (kept.gone ++ kept.last.journal) v.receipts (kept.each id v at).front (kept.each id v at).agree k d lt)
+  agree_end k d lt le = agrees_after_cut key.stock.origin kept.last.origin kept.gone kept.last.journal _ kept.follows.first kept.follows.starts le
+      (agree_front key.stock v.history (kept.gone ++ kept.last.journal) v.receipts (kept.each id v at).front (kept.each id v at).agree k d lt)
 
   -- what holds at the end
-  pub ends : v.holds ≡ false → (get_elem? s.homes 0 ≡ some (some (Some kept.last))) × IsSettled key.stock.value v kept.last
+  pub ends : v.holds ≡ false → (get_elem? s.homes 0 ≡ some (some (Some kept.last))) × IsSettled key.stock v kept.last
   ends free = (
     kept.home (kept.lock ∙ (alone hold_of refl (λ x spent. idle x spent.0) ∙ idle v free)),
     record {
@@ -235,11 +238,11 @@ module _ (key : Start) (s : State (Option Stored) Knowledge) (kept : Locked key 
 -- what is taken out of the table at the end
 pub taken_at_end : (key : Start) (id : ℕ) (v : Knowledge) (words : List ℕ) (slots : List (Option Stored)) (found : Option Stored)
     → v.parts ≡ key.sessions → v.holds ≡ false → Final (Seen (Locked key) id v) words slots → get_elem? slots 0 ≡ some found
-    → (last : Stored) × (found ≡ Some last) × IsSettled key.stock.value v last
+    → (last : Stored) × (found ≡ Some last) × IsSettled key.stock v last × (last.book ≡ key.stock.book)
 taken_at_end key id v words slots found all free final there =
     let kept = final.1.0 in
     let e = ends key final.0 kept id v final.1.1 all free in
-    (kept.last, some-injective found (Some kept.last) (sym there ∙ final.4 0 (Some kept.last) e.0), e.1)
+    (kept.last, some-injective found (Some kept.last) (sym there ∙ final.4 0 (Some kept.last) e.0), e.1, kept.book)
 
 -- the members of a list's last list join those behind
 pub last_joins : {A B : Type 0} (f : A → List B) (xs : List A) (x : A) (ys all : List B) → flat_map f (xs ++ x ∷ []) ++ ys ≡ all → flat_map f xs ++ (f x ++ ys) ≡ all

@@ -45,6 +45,7 @@ one_word (x ∷ xs) e = refl
 -- what one seat's step does, where no other seat holds the volume: `last` and `gone` become `next` and `lost`, v becomes w
 pub record Moves (opened last : Stored) (gone : List Record) (v : Knowledge) (next : Stored) (lost : List Record) (w : Knowledge) : Type 0 where
   pub follows : Follows opened lost next
+  pub book : next.book ≡ last.book
   pub grows : BeginsWith (lost ++ next.journal) (gone ++ last.journal)
   pub parts : w.parts ≡ v.parts
   pub places : (weight : ℕ → ℕ) → total weight w.places + below weight (next_number last) ≡ total weight v.places + below weight (next_number next)
@@ -58,7 +59,7 @@ module _ (key : Start) (s : State (Option Stored) Knowledge) (kept : Locked key 
   pub shifts : (g : Knowledge → ℕ) (w : Knowledge) → total g (set s.views id w) + g v ≡ total g s.views + g w
   shifts g w = total_set g s.views id v w at
 
-  pub own : SeatFits key.stock.value kept.last (kept.gone ++ kept.last.journal) v
+  pub own : SeatFits key.stock kept.last (kept.gone ++ kept.last.journal) v
   own = kept.each id v at
 
   -- where the word is what this seat makes it, no other seat holds the volume
@@ -72,9 +73,9 @@ module _ (key : Start) (s : State (Option Stored) Knowledge) (kept : Locked key 
       absurd (omega arith)
 
   module _ (next : Stored) (lost : List Record) (w : Knowledge) (alone : slice_index s.words 0 ≡ hold_of v)
-      (moves : Moves key.stock.value kept.last kept.gone v next lost w) where
+      (moves : Moves key.stock kept.last kept.gone v next lost w) where
     -- what another seat knows is still right
-    still : (j : ℕ) (x : Knowledge) → j ≢ id → get_elem? s.views j ≡ some x → SeatFits key.stock.value next (lost ++ next.journal) x
+    still : (j : ℕ) (x : Knowledge) → j ≢ id → get_elem? s.views j ≡ some x → SeatFits key.stock next (lost ++ next.journal) x
     still j x ne there =
         let f = kept.each j x there in
         record {
@@ -85,7 +86,7 @@ module _ (key : Start) (s : State (Option Stored) Knowledge) (kept : Locked key 
           spent = f.spent;
         }
 
-    first_moves : next.origin.first ≡ max key.stock.value.origin.first (greatest cut_of (set s.views id w))
+    first_moves : next.origin.first ≡ max key.stock.origin.first (greatest cut_of (set s.views id w))
     first_moves =
         let g = greatest_set cut_of s.views id v w at in
         let p = greatest_part cut_of (set s.views id w) id w (set_there s.views id v w at) in
@@ -94,7 +95,7 @@ module _ (key : Start) (s : State (Option Stored) Knowledge) (kept : Locked key 
         let c = moves.cuts in
         omega arith
 
-    uncut_moves : total (λ (x : Knowledge). length x.cuts) (set s.views id w) ≡ 0 → next.origin ≡ key.stock.value.origin
+    uncut_moves : total (λ (x : Knowledge). length x.cuts) (set s.views id w) ≡ 0 → next.origin ≡ key.stock.origin
     uncut_moves none =
         let h = shifts (λ x. length x.cuts) w in
         let p = total_part (λ (x : Knowledge). length x.cuts) (set s.views id w) id w (set_there s.views id v w at) in
@@ -118,19 +119,20 @@ module _ (key : Start) (s : State (Option Stored) Knowledge) (kept : Locked key 
           lock = let h = shifts hold_of w in let l = kept.lock in omega arith;
           home = λ z. home (sym here ∙ z);
           follows = moves.follows;
+          book = moves.book ∙ kept.book;
           parts = let h = shifts (λ x. x.parts) w in let p = moves.parts in let k = kept.parts in omega arith;
           places = λ weight. let h = shifts (λ x. total weight x.places) w in let p = moves.places weight in let k = kept.places weight in omega arith;
           first = first_moves;
           uncut = uncut_moves;
-          each = λ j x e. ⊎_elim (λ (t : (j ≡ id) × (w ≡ x)). subst (SeatFits key.stock.value next (lost ++ next.journal)) t.1 moves.fits)
+          each = λ j x e. ⊎_elim (λ (t : (j ≡ id) × (w ≡ x)). subst (SeatFits key.stock next (lost ++ next.journal)) t.1 moves.fits)
               (λ (t : (j ≢ id) × (get_elem? s.views j ≡ some x)). still j x t.0 t.1) (at_set s.views id j w x e);
         }
 
   -- receipts that agree with what was known agree with all that it begins
   agree_more : (history : List Record) → BeginsWith history v.history
-      → All (Agrees key.stock.value.origin v.history) v.receipts → All (Agrees key.stock.value.origin history) v.receipts
-  agree_more history front agree = subst (λ (l : List Record). All (Agrees key.stock.value.origin l) v.receipts) (sym front.1)
-      (λ k d lt. agrees_grows key.stock.value.origin v.history front.0 _ (agree k d lt))
+      → All (Agrees key.stock.origin v.history) v.receipts → All (Agrees key.stock.origin history) v.receipts
+  agree_more history front agree = subst (λ (l : List Record). All (Agrees key.stock.origin l) v.receipts) (sym front.1)
+      (λ k d lt. agrees_grows key.stock.origin v.history front.0 _ (agree k d lt))
 
   -- there are no more places than numbers
   counted : length v.places ≤ next_number kept.last
@@ -147,11 +149,13 @@ module _ (key : Start) (s : State (Option Stored) Knowledge) (kept : Locked key 
     follows = subst (λ (o : Stored). Follows o kept.gone kept.last) (sym (own.same some-parts)) kept.follows;
     goes_on = own.front;
     counted = counted;
+    book = kept.book ∙ sym (ap (λ (o : Stored). o.book) (own.same some-parts));
   }
 
-  taking : 0 < v.parts → Moves key.stock.value kept.last kept.gone v kept.last kept.gone (took v kept.last (kept.gone ++ kept.last.journal))
+  taking : 0 < v.parts → Moves key.stock kept.last kept.gone v kept.last kept.gone (took v kept.last (kept.gone ++ kept.last.journal))
   taking some-parts = record {
     follows = kept.follows;
+    book = refl;
     grows = begins_itself (kept.gone ++ kept.last.journal);
     parts = refl;
     places = λ weight. refl;
@@ -195,14 +199,15 @@ module _ (key : Start) (s : State (Option Stored) Knowledge) (kept : Locked key 
     same_history : kept.gone ++ given.journal ≡ kept.gone ++ kept.last.journal
     same_history = ap (λ (j : List Record). kept.gone ++ j) same.journal
 
-    giving_back : Moves key.stock.value kept.last kept.gone v given kept.gone (gave v given nothing)
+    giving_back : Moves key.stock kept.last kept.gone v given kept.gone (gave v given nothing)
     giving_back = record {
       follows = record {
         edition = ap (λ (o : Origin). o.edition) same.origin ∙ kept.follows.edition;
         first = ap (λ (o : Origin). o.first) same.origin ∙ kept.follows.first;
         starts = ap start same.origin ∙ kept.follows.starts;
-        begins = subst (λ (h : List Record). BeginsWith h key.stock.value.journal) (sym same_history) kept.follows.begins;
+        begins = subst (λ (h : List Record). BeginsWith h key.stock.journal) (sym same_history) kept.follows.begins;
       };
+      book = same.book;
       grows = begins_same (kept.gone ++ given.journal) (kept.gone ++ kept.last.journal) same_history;
       parts = refl;
       places = λ weight. let l = ap length same.journal in let o = ap (λ (o : Origin). o.first) same.origin in
@@ -230,12 +235,12 @@ module _ (key : Start) (s : State (Option Stored) Knowledge) (kept : Locked key 
       known_grown : kept.gone ++ given.journal ≡ v.history ++ record_of r.asked r.outcome
       known_grown = grown ∙ ap (λ (h : List Record). h ++ record_of r.asked r.outcome) (sym knows)
 
-      follows_on : Follows key.stock.value kept.gone given
+      follows_on : Follows key.stock kept.gone given
       follows_on = record {
         edition = ap (λ (o : Origin). o.edition) may.origin ∙ kept.follows.edition;
         first = ap (λ (o : Origin). o.first) may.origin ∙ kept.follows.first;
         starts = ap start may.origin ∙ kept.follows.starts;
-        begins = begins_on key.stock.value.journal (kept.gone ++ kept.last.journal) (kept.gone ++ given.journal)
+        begins = begins_on key.stock.journal (kept.gone ++ kept.last.journal) (kept.gone ++ given.journal)
             (record_of r.asked r.outcome, grown) kept.follows.begins;
       }
 
@@ -253,17 +258,18 @@ module _ (key : Start) (s : State (Option Stored) Knowledge) (kept : Locked key 
           let reached = ap (below weight) to in
           omega arith
 
-      agree_on : All (Agrees key.stock.value.origin (v.history ++ record_of r.asked r.outcome)) (v.receipts ++ r ∷ [])
-      agree_on = All-append (Agrees key.stock.value.origin (v.history ++ record_of r.asked r.outcome)) v.receipts (r ∷ [])
-          (λ k d lt. agrees_grows key.stock.value.origin v.history (record_of r.asked r.outcome) _ (own.agree k d lt))
-          (All-cons (Agrees key.stock.value.origin (v.history ++ record_of r.asked r.outcome)) r []
-          (subst (λ (h : List Record). Agrees key.stock.value.origin h r) known_grown
-          (agrees_back key.stock.value kept.gone given follows_on given.journal r may.agrees))
-          (All-nil (Agrees key.stock.value.origin (v.history ++ record_of r.asked r.outcome))))
+      agree_on : All (Agrees key.stock.origin (v.history ++ record_of r.asked r.outcome)) (v.receipts ++ r ∷ [])
+      agree_on = All-append (Agrees key.stock.origin (v.history ++ record_of r.asked r.outcome)) v.receipts (r ∷ [])
+          (λ k d lt. agrees_grows key.stock.origin v.history (record_of r.asked r.outcome) _ (own.agree k d lt))
+          (All-cons (Agrees key.stock.origin (v.history ++ record_of r.asked r.outcome)) r []
+          (subst (λ (h : List Record). Agrees key.stock.origin h r) known_grown
+          (agrees_back key.stock kept.gone given follows_on given.journal r may.agrees))
+          (All-nil (Agrees key.stock.origin (v.history ++ record_of r.asked r.outcome))))
 
-      giving_answered : Moves key.stock.value kept.last kept.gone v given kept.gone (gave v given (receipt r))
+      giving_answered : Moves key.stock kept.last kept.gone v given kept.gone (gave v given (receipt r))
       giving_answered = record {
         follows = follows_on;
+        book = may.book;
         grows = (record_of r.asked r.outcome, grown);
         parts = refl;
         places = places_on;
@@ -286,16 +292,17 @@ module _ (key : Start) (s : State (Option Stored) Knowledge) (kept : Locked key 
       end_stays : next_number given ≡ next_number kept.last
       end_stays = let l = ap length is.journal in let f = is.first in omega arith
 
-      giving_cut : Moves key.stock.value kept.last kept.gone v given (kept.gone ++ kept.last.journal) (gave v given cut)
+      giving_cut : Moves key.stock kept.last kept.gone v given (kept.gone ++ kept.last.journal) (gave v given cut)
       giving_cut = record {
         follows = record {
           edition = is.edition ∙ kept.follows.edition;
           first = let f = is.first in let k = kept.follows.first in let l = length-append kept.gone kept.last.journal in omega arith;
           starts =
-              let made : after (start kept.last.origin) kept.last.journal ≡ after (after (start key.stock.value.origin) kept.gone) kept.last.journal = rw kept.follows.starts in
-              is.starts ∙ (made ∙ sym (after-append (start key.stock.value.origin) kept.gone kept.last.journal));
-          begins = subst (λ (h : List Record). BeginsWith h key.stock.value.journal) (sym all_gone) kept.follows.begins;
+              let made : after (start kept.last.origin) kept.last.journal ≡ after (after (start key.stock.origin) kept.gone) kept.last.journal = rw kept.follows.starts in
+              is.starts ∙ (made ∙ sym (after-append (start key.stock.origin) kept.gone kept.last.journal));
+          begins = subst (λ (h : List Record). BeginsWith h key.stock.journal) (sym all_gone) kept.follows.begins;
         };
+        book = is.book;
         grows = begins_same ((kept.gone ++ kept.last.journal) ++ given.journal) (kept.gone ++ kept.last.journal) all_gone;
         parts = refl;
         places = λ weight. let e = ap (below weight) end_stays in omega arith;

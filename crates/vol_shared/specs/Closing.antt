@@ -15,7 +15,7 @@ pub record IsLock (table : TableId) (key : Start) (records : ℕ) : Type 0 where
   pub words : table.words ≡ 1
   pub slots : table.slots ≡ 1
   pub some_sessions : 1 ≤ key.sessions
-  pub counted : records ≡ next_number key.stock.value
+  pub counted : records ≡ next_number key.stock
 
 -- a seat stands for all these sessions, and did what they did (this project)
 pub record IsGathered (sessions : List Known) (v : Knowledge) : Type 0 where

@@ -1,7 +1,9 @@
 pub mod Lists
 pub mod Stored
+pub mod Published
 pub mod Rule
 pub mod Plays
 pub mod Sessions
 pub mod Opened
+pub mod Watching
 pub mod Closing

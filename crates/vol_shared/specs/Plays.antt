@@ -30,7 +30,7 @@ fresh parts opened = record {
 
 -- the first seat stands for all sessions (this project)
 abbrev pub first_knowledge : Start → Knowledge
-first_knowledge key = fresh key.sessions key.stock.value
+first_knowledge key = fresh key.sessions key.stock
 
 -- a seat that stands for no session (this project)
 abbrev pub nobody : Knowledge
@@ -73,11 +73,13 @@ gave v given (receipt r) = record v {
 }
 gave v given cut = record v { holds = false; found = given; cuts = v.cuts ++ given.origin.first ∷ [] }
 
--- what a seat finds goes on from what was opened and from all that it knew, and has a number for each of its places (this project)
+-- what a seat finds goes on from what was opened and from all that it knew, has a number for each of its places, and is published in
+-- the log of what was opened (this project)
 pub record FindsVolume (v : Knowledge) (gone : List Record) (found : Stored) : Type 0 where
   pub follows : Follows v.opened gone found
   pub goes_on : BeginsWith (gone ++ found.journal) v.history
   pub counted : length v.places ≤ next_number found
+  pub book : found.book ≡ v.opened.book
 
 -- the volume was taken, and in its slot lies what is left there (this project)
 abbrev pub Took : Me (Option Stored) Knowledge → Me (Option Stored) Knowledge → Stored → Option Stored → Type 0
@@ -90,13 +92,14 @@ Tries st before found after =
     (found ≡ 0 → (stored : Stored) × Took before after stored (Some stored)) × (found ≢ 0 → after ≡ before)
 
 -- a call or query was answered on a volume: the receipt agrees with its journal, which has the record of an accepted call more; where
--- there is none, the journal and the image stay (this project)
+-- there is none, the journal and the image stay; the log stays (this project)
 pub record IsAnswered (found given : Stored) (r : Receipt) : Type 0 where
   pub origin : given.origin ≡ found.origin
   pub journal : given.journal ≡ found.journal ++ record_of r.asked r.outcome
   pub image : record_of r.asked r.outcome ≡ [] → given.image ≡ found.image
   pub at : r.at ≡ next_number found
   pub agrees : Agrees given.origin given.journal r
+  pub book : given.book ≡ found.book
 
 -- how a volume that was taken may be given back: with the same journal, with at most one record more, or with its journal cut (this project)
 abbrev pub MayGive : Stored → Stored → Event → Type 0

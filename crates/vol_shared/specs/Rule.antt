@@ -26,7 +26,7 @@ pub record SeatFits (opened last : Stored) (history : List Record) (v : Knowledg
 
 -- the word is 1 while a seat holds the volume, else the volume that was given back last is at home; it goes on from the one that was
 -- opened; the places of all seats are the numbers of the records made since, each once; the journal's first number is the greatest
--- that a cut answered, or that of the start (this project)
+-- that a cut answered, or that of the start; the log in which the records are published stays (this project)
 pub record Locked (key : Start) (s : State (Option Stored) Knowledge) : Type 0 where
   pub last : Stored
   pub gone : List Record
@@ -34,9 +34,10 @@ pub record Locked (key : Start) (s : State (Option Stored) Knowledge) : Type 0 w
   pub one : slice_index s.words 0 ≤ 1
   pub lock : slice_index s.words 0 ≡ total hold_of s.views
   pub home : slice_index s.words 0 ≡ 0 → get_elem? s.homes 0 ≡ some (some (Some last))
-  pub follows : Follows key.stock.value gone last
+  pub follows : Follows key.stock gone last
+  pub book : last.book ≡ key.stock.book
   pub parts : total (λ v. v.parts) s.views ≡ key.sessions
-  pub places : (weight : ℕ → ℕ) → total (λ v. total weight v.places) s.views + below weight (next_number key.stock.value) ≡ below weight (next_number last)
-  pub first : last.origin.first ≡ max key.stock.value.origin.first (greatest (λ v. greatest_of v.cuts) s.views)
-  pub uncut : total (λ v. length v.cuts) s.views ≡ 0 → last.origin ≡ key.stock.value.origin
-  pub each : (id : ℕ) (v : Knowledge) → get_elem? s.views id ≡ some v → SeatFits key.stock.value last (gone ++ last.journal) v
+  pub places : (weight : ℕ → ℕ) → total (λ v. total weight v.places) s.views + below weight (next_number key.stock) ≡ below weight (next_number last)
+  pub first : last.origin.first ≡ max key.stock.origin.first (greatest (λ v. greatest_of v.cuts) s.views)
+  pub uncut : total (λ v. length v.cuts) s.views ≡ 0 → last.origin ≡ key.stock.origin
+  pub each : (id : ℕ) (v : Knowledge) → get_elem? s.views id ≡ some v → SeatFits key.stock last (gone ++ last.journal) v

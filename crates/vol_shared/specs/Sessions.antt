@@ -1,14 +1,20 @@
 -- What a session is to its callers.
-use Rattle.std.specs.Prelude.{◌≡◌, ℕ, ◌+◌, ◌≤◌, List, [], ◌∷◌, ◌++◌, length, false}
+use Rattle.std.specs.Prelude.{◌≡◌, ℕ, ◌+◌, ◌≤◌, List, [], ◌∷◌, ◌++◌, length, false, Option, IfSome}
+use Rattle.logbook.specs.Pages.{Book}
 use Rattle.atomic_table.specs.Seated.{TableId}
 use Rattle.vol_receipts.specs.Agrees.{place_of, next_of}
 use Rattle.vol_receipts.specs.declared.receipts.Receipt.{Receipt}
+use Rattle.vol_ledger.specs.History.{Reached}
+use Rattle.vol_publish.specs.Logs.{number_of}
+use Rattle.vol_views.specs.Views.{book_in}
 use Rattle.vol_shared.specs.Plays.{nobody}
 use Rattle.vol_shared.specs.declared.knowledge.Knowledge.{Knowledge}
 
--- which shared volume it is, of all that were ever opened (this project)
+-- which shared volume it is, of all that were ever opened: its table, and the log in which its records are published, if they are
+-- (this project)
 pub record Identity : Type 0 where
   pub table : TableId
+  pub book : Option Book
 
 -- a session: its shared volume, the least number that its next receipt may have, the numbers of the records that its calls made,
 -- the numbers that its cuts answered, and its receipts (this project)
@@ -30,15 +36,24 @@ knowledge_of (v ∷ vs) = v
 
 -- what a session's parts are to its callers (this project)
 abbrev pub known_by : TableId → ℕ → Knowledge → Known
-known_by table next v = record { of = record { table = table }; next = next; places = v.places; cuts = v.cuts; receipts = v.receipts }
+known_by table next v = record {
+  of = record { table = table; book = v.opened.book };
+  next = next;
+  places = v.places;
+  cuts = v.cuts;
+  receipts = v.receipts;
+}
 
--- a session between two calls (this project)
-pub record IsIdle (views : List Knowledge) (next count : ℕ) : Type 0 where
+-- a session between two calls, and what it was told of the log that its volume is published in: the front up to the least number
+-- that its next receipt may have (this project)
+pub record IsIdle (views : List Knowledge) (next count : ℕ) (told : Option Reached) : Type 0 where
   pub one : views ≡ knowledge_of views ∷ []
   pub free : (knowledge_of views).holds ≡ false
   pub part : (knowledge_of views).parts ≡ 1
   pub reached : next ≤ (knowledge_of views).opened.origin.first + length (knowledge_of views).history
   pub counted : count ≡ length (knowledge_of views).places
+  pub book : book_in told ≡ (knowledge_of views).opened.book
+  pub number : IfSome told (λ t. number_of t.log ≡ next)
 
 -- a session after it got a receipt: its number isn't below the least that it might have, and joins the places if it is that of an
 -- accepted call (this project)

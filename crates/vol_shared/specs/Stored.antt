@@ -1,5 +1,6 @@
 -- The volume as the lock's rule sees it. The rule reads what its journal starts from, and its journal.
-use Rattle.std.specs.Prelude.{◌≡◌, ℕ, ◌+◌, List, [], ◌++◌, length}
+use Rattle.std.specs.Prelude.{◌≡◌, ℕ, ◌+◌, List, [], ◌++◌, length, Option, None}
+use Rattle.logbook.specs.Pages.{Book}
 use Rattle.vol_volume.specs.Journal.{after}
 use Rattle.vol_volume.specs.Volume.{Mounted}
 use Rattle.vol_volume.specs.declared.calls.Record.{Record}
@@ -8,19 +9,29 @@ use Rattle.vol_receipts.specs.Agrees.{origin_of, start}
 use Rattle.vol_receipts.specs.declared.receipts.Origin.{Origin}
 use Rattle.vol_shared.specs.Lists.{BeginsWith}
 
--- what lies under the lock: what its journal starts from, the journal, and the image (this project)
+-- what lies under the lock: what its journal starts from, the journal, the image, and the log in which its records are published, if
+-- they are (this project)
 pub record Stored : Type 0 where
   pub origin : Origin
   pub journal : List Record
   pub image : List ℕ
+  pub book : Option Book
 
--- what lies under the lock of a volume (this project)
+-- what lies under the lock of a volume whose records are published in a log, or not (this project)
+abbrev pub stored_with : Option Book → Mounted → Stored
+stored_with book volume = record { origin = origin_of volume; journal = volume.journal; image = volume.image; book = book }
+
+-- what lies under the lock of a volume whose records aren't published (this project)
 abbrev pub stored_of : Mounted → Stored
-stored_of volume = record { origin = origin_of volume; journal = volume.journal; image = volume.image }
+stored_of volume = stored_with None volume
+
+-- the volume that lies under the lock, by itself (this project)
+abbrev pub unpublished : Stored → Stored
+unpublished stored = record { origin = stored.origin; journal = stored.journal; image = stored.image; book = None }
 
 -- nothing that was ever stored (this project)
 abbrev pub nothing_stored : Stored
-nothing_stored = record { origin = record { edition = editions.V6; bytes = []; first = 0 }; journal = []; image = [] }
+nothing_stored = record { origin = record { edition = editions.V6; bytes = []; first = 0 }; journal = []; image = []; book = None }
 
 -- the number that the next record gets (this project)
 abbrev pub next_number : Stored → ℕ
@@ -37,11 +48,12 @@ pub record Follows (opened : Stored) (gone : List Record) (last : Stored) : Type
 abbrev pub Continues : Stored → Stored → Type 0
 Continues opened last = (gone : List Record) × Follows opened gone last
 
--- a volume has the same journal, from the same start, and the same image (this project)
+-- a volume has the same journal, from the same start, and the same image, and is published in the same log (this project)
 pub record IsUnchanged (old new : Stored) : Type 0 where
   pub origin : new.origin ≡ old.origin
   pub journal : new.journal ≡ old.journal
   pub image : new.image ≡ old.image
+  pub book : new.book ≡ old.book
 
 -- a volume's journal is cut: all its records go, and it starts from the bytes of its image, which are what they made; the image
 -- stays (this project)
@@ -52,3 +64,4 @@ pub record IsCut (old new : Stored) : Type 0 where
   pub starts : start new.origin ≡ after (start old.origin) old.journal
   pub journal : new.journal ≡ []
   pub image : new.image ≡ old.image
+  pub book : new.book ≡ old.book

@@ -1,10 +1,9 @@
 //! A volume that no thread shares any more.
-ghost use Rattle.std.specs.Prelude.{◌≡◌, ◌+◌, ◌<◌, ◌↔◌, IfOk, IsTrue, Err};
+ghost use Rattle.std.specs.Prelude.{◌≡◌, ◌+◌, ◌<◌, ◌^◌, ◌↔◌, IfOk, IsTrue, Err};
 ghost use Rattle.vol_receipts.specs.Agrees.{origin_of, Agrees};
 ghost use Rattle.vol_receipts.specs.Findings.{AreCounted};
 ghost use Rattle.vol_shared.specs.Stored.{stored_of, next_number};
 
-use crate::stock::Stock;
 use std::alloc::{AllocError, Global};
 use std::marker::Model;
 use vol_receipts::{ConfirmFault, Confirmed, Receipt, confirm, confirm_all};
@@ -31,13 +30,13 @@ impl Model for Closed {
 
 impl Closed {
     /// A volume that was opened with so many records, and on which so many calls were accepted since.
-    pub(crate) fn new(stock: Stock, records: u64, calls: u128) -> Closed
-        requires { calls + records ≡ next_number stock }
-        ensures { stored_of result ≡ stock }
+    pub(crate) fn new(volume: Volume, records: u64, calls: u128) -> Closed
+        requires numbered { next_number (stored_of volume) < 2 ^ 64 }
+        requires counted { calls + records ≡ next_number (stored_of volume) }
+        ensures { result ≡ volume }
     {
-        let _end = stock.end();
         Closed {
-            volume: stock.into_volume(),
+            volume,
             accepted: records + calls as u64,
         }
     }

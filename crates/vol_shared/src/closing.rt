@@ -38,6 +38,7 @@ fn seat_of(session: Session) -> (Place, u64)
         badge,
         next: _,
         count,
+        told: _,
     } = session;
     (badge.into_seat(), count)
 }
@@ -49,7 +50,8 @@ pub(crate) fn finish(board: Board, place: Place) -> Stock
     requires own { place.table_id ≡ board.shared.table_id }
     requires free { place.me.0.holds ≡ false }
     requires parts { place.me.0.parts ≡ board.shared.key.sessions }
-    ensures { IsSettled board.shared.key.stock.value place.me.0 result }
+    ensures settled { IsSettled board.shared.key.stock place.me.0 result }
+    ensures book { result.book ≡ board.shared.key.stock.book }
 {
     let mut closed = board.close_with(place);
     let slot = closed.take(0);

@@ -2,11 +2,11 @@
 ghost use Rattle.vol_shared.specs.Plays.{Event, Tries, Gives, first_knowledge, kept_part, given_part, as_one, nobody};
 ghost use Rattle.vol_shared.specs.Rule.{Locked};
 
+use crate::kept::Kept;
 use crate::stock::Stock;
 use atomic_table::{Join, Play, Seat, Shared, Split, TableRule};
 use std::collections::LinkedList;
 use std::marker::{Brand, PhantomData};
-use std::snapshot::Snapshot;
 use vol_receipts::Receipt;
 use vol_volume::Record;
 
@@ -17,9 +17,9 @@ pub struct Knowledge {
     /// Whether it holds the volume.
     pub holds: bool,
     /// The volume that was opened.
-    pub opened: Stock,
+    pub opened: Kept,
     /// The volume that it took or gave back last.
-    pub found: Stock,
+    pub found: Kept,
     /// All records of that volume since it was opened, those that were cut among them.
     pub history: LinkedList<Record>,
     /// The numbers of the records that its calls made, in order.
@@ -33,7 +33,7 @@ pub struct Knowledge {
 /// What the table is made with: the volume that is opened, and for how many sessions.
 #[derive(Drop)]
 pub struct Start {
-    pub stock: Snapshot<Stock>,
+    pub stock: Kept,
     pub sessions: u64,
 }
 

@@ -1,17 +1,21 @@
 //! A volume that threads share under one lock. Each thread calls it by a session of its own, and gets a receipt for
-//! each call and query. At the end each receipt can be compared with the journal.
+//! each call and query. Views answer queries without the lock. At the end each receipt can be compared with the journal.
 #![tactic(auto)]
 
 mod closed;
 mod closing;
+mod kept;
 mod knowledge;
 mod lock;
 mod opening;
+mod publishing;
 mod session;
 mod shared;
 mod stock;
+mod watching;
 
 pub use closed::Closed;
 pub use session::Session;
-pub use shared::Shared;
+pub use shared::{OpenFault, Shared};
 pub use vol_receipts::{Asked, ConfirmFault, Confirmed, Outcome, Receipt};
+pub use vol_views::{View, ViewFault};

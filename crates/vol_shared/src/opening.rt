@@ -1,5 +1,7 @@
 //! The lock's table is made, and its sessions are dealt out.
-ghost use Rattle.std.specs.Prelude.{◌≡◌, ◌+◌, ◌<◌, ◌≤◌, [], ◌∷◌, ◌++◌, length, vec_len, vec_capacity, All, IsSome, IfOk, IfErr};
+ghost use Rattle.std.specs.Prelude.{◌≡◌, ◌+◌, ◌<◌, ◌≤◌, [], ◌∷◌, ◌++◌, length, vec_len, vec_capacity, All, IsSome, IfOk, IfErr, IfSome};
+ghost use Rattle.vol_publish.specs.Logs.{number_of};
+ghost use Rattle.vol_views.specs.Views.{book_in};
 ghost use Rattle.vol_shared.specs.Closing.{IsLock};
 ghost use Rattle.vol_shared.specs.Plays.{fresh};
 ghost use Rattle.vol_shared.specs.Sessions.{new_session};
@@ -10,7 +12,7 @@ use crate::session::Session;
 use crate::stock::Stock;
 use atomic_table::{Refused, Table};
 use std::alloc::Global;
-use std::snapshot::Snapshot;
+use vol_views::Told;
 
 /// The table of a shared volume.
 pub(crate) type Board = Table<Option<Stock>, Knowledge, Start, OneHolder, Global>;
@@ -19,14 +21,14 @@ pub(crate) type Board = Table<Option<Stock>, Knowledge, Start, OneHolder, Global
 pub(crate) fn lay(alloc: Global, stock: Stock, sessions: u64) -> Result<(Board, Place), Stock>
     requires { 1 ≤ sessions }
     ensures lock { IfOk result (λ r. IsLock r.0.shared.table_id r.0.shared.key (next_number stock)) }
-    ensures stock { IfOk result (λ r. r.0.shared.key.stock.value ≡ stock) }
+    ensures stock { IfOk result (λ r. r.0.shared.key.stock ≡ stock) }
     ensures sessions { IfOk result (λ r. r.0.shared.key.sessions ≡ sessions) }
     ensures own { IfOk result (λ r. r.1.table_id ≡ r.0.shared.table_id) }
     ensures place { IfOk result (λ r. r.1.me ≡ (fresh sessions stock, [])) }
     ensures handed_back { IfErr result (λ same. same ≡ stock) }
 {
     let start = Start {
-        stock: Snapshot::of(&stock),
+        stock: stock.kept(),
         sessions,
     };
     let Ok(mut slots) = Vec::with_capacity(alloc, 1) else {
@@ -57,29 +59,33 @@ pub(crate) fn deal(
     all: &mut Vec<Session>,
     sessions: usize,
     records: u64,
+    told: &Option<Told>,
 )
     requires lock { IsLock lock.now.table_id lock.now.key records }
     requires own { place.table_id ≡ lock.now.table_id }
-    requires place { place.me ≡ (fresh sessions lock.now.key.stock.value, []) }
+    requires place { place.me ≡ (fresh sessions lock.now.key.stock, []) }
     requires some_sessions { 1 ≤ sessions }
+    requires book { book_in told.now ≡ lock.now.key.stock.book }
+    requires number { IfSome told.now (λ told. number_of told.log ≡ records) }
     requires empty { all.old.items ≡ [] }
     requires room { vec_capacity all.old ≡ sessions }
     ensures count { length all.new.items ≡ sessions }
-    ensures fresh { All (λ s. s ≡ new_session (record { table = lock.now.table_id }) records) all.new.items }
+    ensures fresh { All (λ s. s ≡ new_session (record { table = lock.now.table_id; book = lock.now.key.stock.book }) records) all.new.items }
 {
     for _i in 1..sessions {
         let part = lock.split_seat::<Deal>(&mut place);
-        seat_one(all, part, records);
+        seat_one(all, part, records, told);
     }
-    seat_one(all, place, records);
+    seat_one(all, place, records, told);
 }
 
 /// Puts one session on the list.
-fn seat_one(all: &mut Vec<Session>, place: Place, records: u64)
+fn seat_one(all: &mut Vec<Session>, place: Place, records: u64, told: &Option<Told>)
     requires free { place.me.1 ≡ [] }
     requires room { vec_len all.old < vec_capacity all.old }
-    requires place { (opened : Stored) × (place.me.0 ≡ fresh 1 opened) × (records ≡ next_number opened) }
-    ensures items { all.new.items ≡ all.old.items ++ new_session (record { table = place.table_id }) records ∷ [] }
+    requires place { (opened : Stored) × (place.me.0 ≡ fresh 1 opened) × (records ≡ next_number opened) × (book_in told.now ≡ opened.book) }
+    requires number { IfSome told.now (λ told. number_of told.log ≡ records) }
+    ensures items { all.new.items ≡ all.old.items ++ new_session (record { table = place.table_id; book = book_in told.now }) records ∷ [] }
     ensures len { vec_len all.new ≡ vec_len all.old + 1 }
     ensures capacity { vec_capacity all.new ≡ vec_capacity all.old }
 {
@@ -87,5 +93,16 @@ fn seat_one(all: &mut Vec<Session>, place: Place, records: u64)
         badge: place.into_badge(),
         next: records,
         count: 0,
+        told: copy_of(told),
     });
+}
+
+/// A copy of what a session is told.
+fn copy_of(told: &Option<Told>) -> Option<Told>
+    ensures { result ≡ told.now }
+{
+    match told {
+        Some(told) => Some(told.again()),
+        None => None,
+    }
 }

@@ -12,14 +12,17 @@ use std::marker::Model;
 use std::mem::replace;
 use std::sync::Wait;
 use vol_receipts::{Outcome, Receipt};
+use vol_views::{Informed, Told};
 
 /// A place at a shared volume, for one thread at a time. It keeps the least number that its next receipt may have, and
-/// how many of its calls were accepted.
+/// how many of its calls were accepted; and, where the volume has views, what was published when it last got a receipt or
+/// cut the journal.
 #[derive(Drop)]
 pub struct Session {
     pub(crate) badge: Badge<Knowledge>,
     pub(crate) next: u64,
     pub(crate) count: u64,
+    pub(crate) told: Option<Told>,
 }
 
 impl Model for Session {
@@ -29,7 +32,20 @@ impl Model for Session {
 
     ghost view = { λ s. known_by s.badge.table_id s.next (knowledge_of s.badge.views) };
 
-    ghost invariant = { λ s. IsIdle s.badge.views s.next s.count };
+    ghost invariant = { λ s. IsIdle s.badge.views s.next s.count s.told };
+}
+
+impl Informed for Session {
+    ghost book = { λ s. s.of.book };
+
+    ghost next = { λ s. s.next };
+
+    fn told(&self) -> Option<Told> {
+        match &self.told {
+            Some(told) => Some(told.again()),
+            None => None,
+        }
+    }
 }
 
 /// Takes the volume for a session, whose badge is its place until the volume is given back.

@@ -1,31 +1,46 @@
 //! A volume under a lock.
-ghost use Rattle.std.specs.Prelude.{◌≡◌, ℕ, ◌+◌, ◌≤◌, [], length, max, All, IfOk, IfErr, OnErr};
+ghost use Rattle.std.specs.Prelude.{◌≡◌, ℕ, ◌+◌, ◌≤◌, [], length, max, None, Some, All, IfOk, IfErr, OnErr};
 ghost use Rattle.count_table.specs.Sums.{total, below};
 ghost use Rattle.vol_receipts.specs.Agrees.{origin_of, Agrees};
 ghost use Rattle.vol_receipts.specs.declared.receipts.Asked.TheVariants.{Change, Question};
 ghost use Rattle.vol_shared.specs.Lists.{BeginsWith, greatest, greatest_of};
 ghost use Rattle.vol_shared.specs.Sessions.{new_session, Got, HasCut};
-ghost use Rattle.vol_shared.specs.Stored.{stored_of, next_number, Continues};
+ghost use Rattle.vol_shared.specs.Stored.{stored_of, unpublished, next_number, Continues};
+ghost use Rattle.vol_shared.specs.Watching.{IsNewView, Covers};
 
 use crate::closed::Closed;
 use crate::closing::{finish, gather};
-use crate::knowledge::{Knowledge, OneHolder, Start};
 use crate::lock::{give_answered, give_back, give_cut};
-use crate::opening::{deal, lay};
+use crate::opening::{Board, deal, lay};
 use crate::session::{Session, enter, note};
 use crate::stock::Stock;
-use atomic_table::Table;
+use crate::watching::{settle, watch};
 use std::alloc::{AllocError, Global};
 use std::marker::Model;
 use std::sync::Wait;
+use thiserror::Error;
+use vol_publish::Publisher;
 use vol_receipts::Receipt;
+use vol_views::View;
 use vol_volume::{Call, Query, Volume};
 
 /// A volume that threads share. One thread at a time calls it, by a session of its own; the others wait for it. It is never
 /// dropped: [`Shared::close`] ends it, with all its sessions.
 pub struct Shared {
-    table: Table<Option<Stock>, Knowledge, Start, OneHolder, Global>,
+    table: Board,
     records: u64,
+    views: usize,
+}
+
+/// Why a volume wasn't opened with views.
+#[derive(Clone, Copy, Debug, PartialEq, Eq, Error)]
+pub enum OpenFault {
+    /// Memory ran out.
+    #[error("out of memory")]
+    NoMemory,
+    /// There was no place for a view.
+    #[error("no place for a view")]
+    NoPlace,
 }
 
 impl Model for Shared {
@@ -34,7 +49,7 @@ impl Model for Shared {
 
     ghost Value = { Opened };
 
-    ghost view = { λ s. record { of = record { table = s.table.shared.table_id }; stored = s.table.shared.key.stock.value; sessions = s.table.shared.key.sessions } };
+    ghost view = { λ s. record { of = record { table = s.table.shared.table_id; book = s.table.shared.key.stock.book }; stored = s.table.shared.key.stock; sessions = s.table.shared.key.sessions; views = s.views } };
 
     ghost invariant = { λ s. IsLock s.table.shared.table_id s.table.shared.key s.records };
 }
@@ -52,6 +67,7 @@ impl Shared {
         requires least { 1 ≤ sessions }
         requires most { sessions ≤ 64 }
         ensures stored { IfOk result (λ (shared, all). shared.stored ≡ stored_of volume) }
+        ensures unpublished { IfOk result (λ (shared, all). shared.of.book ≡ None) }
         ensures sessions { IfOk result (λ (shared, all). shared.sessions ≡ sessions) }
         ensures count { IfOk result (λ (shared, all). length all.items ≡ sessions) }
         ensures fresh { IfOk result (λ (shared, all). All (λ s. s ≡ new_session shared.of (next_number shared.stored)) all.items) }
@@ -69,8 +85,59 @@ impl Shared {
             Ok(made) => made,
             Err(stock) => return Err((AllocError, stock.into_volume())),
         };
-        deal(&table.shared, place, &mut all, sessions, records);
-        Ok((Shared { table, records }, all))
+        deal(&table.shared, place, &mut all, sessions, records, &None);
+        let shared = Shared {
+            table,
+            records,
+            views: 0,
+        };
+        Ok((shared, all))
+    }
+
+    /// A volume under a lock, with so many sessions, 1 to 64, and so many views, at most 16. Where memory runs out, or there
+    /// is no place for a view, the volume comes back. It is ended by [`Shared::close_with`].
+    ///
+    /// Takes memory for two copies of the image, and a few bytes for the lock, for each session and for each view. Memory
+    /// counts as run out too where the volume's next record has no number below 2^64.
+    #[tactic(auto, using(crate::proofs::Fronts::own_of_new))]
+    pub fn open_with<R: Wait>(
+        rt: &R,
+        alloc: Global,
+        volume: Volume,
+        sessions: usize,
+        views: usize,
+    ) -> Result<(Shared, Vec<Session>, Vec<View>), (OpenFault, Volume)>
+        requires least { 1 ≤ sessions }
+        requires most { sessions ≤ 64 }
+        requires most_views { views ≤ 16 }
+        ensures stored { IfOk result (λ (shared, all, seen). unpublished shared.stored ≡ stored_of volume) }
+        ensures sessions { IfOk result (λ (shared, all, seen). (shared.sessions ≡ sessions) × (length all.items ≡ sessions)) }
+        ensures views { IfOk result (λ (shared, all, seen). (shared.views ≡ views) × (length seen.items ≡ views)) }
+        ensures fresh { IfOk result (λ (shared, all, seen). All (λ s. s ≡ new_session shared.of (next_number shared.stored)) all.items) }
+        ensures new_views { IfOk result (λ (shared, all, seen). All (IsNewView shared.stored) seen.items) }
+        ensures own_views { IfOk result (λ (shared, all, seen). All (λ v. shared.of.book ≡ Some v.book) seen.items) }
+        ensures handed_back { IfErr result (λ (error, same). same ≡ volume) }
+    {
+        let (stock, seen) = match publish(rt, alloc, volume, views) {
+            Ok(made) => made,
+            Err(refused) => return Err(refused),
+        };
+        let records = stock.end();
+        let told = stock.told();
+        let Ok(mut all) = Vec::with_capacity(alloc, sessions) else {
+            return Err((OpenFault::NoMemory, end(rt, stock)));
+        };
+        let (table, place) = match lay(alloc, stock, sessions as u64) {
+            Ok(made) => made,
+            Err(stock) => return Err((OpenFault::NoMemory, end(rt, stock))),
+        };
+        deal(&table.shared, place, &mut all, sessions, records, &told);
+        let shared = Shared {
+            table,
+            records,
+            views,
+        };
+        Ok((shared, all, seen))
     }
 
     /// Makes a call, once no other session holds the volume. The receipt has a copy of it, made before the volume is
@@ -97,9 +164,10 @@ impl Shared {
         };
         let lock = &self.table.shared;
         let (place, stock) = enter(rt, lock, &mut session.badge);
-        let (stock, outcome) = stock.change(alloc, call, asked);
+        let (stock, outcome) = stock.change(rt, alloc, call, asked);
         match outcome {
             Ok(receipt) => {
+                session.told = stock.told();
                 session.badge = give_answered(lock, place, stock, &receipt).into_badge();
                 note(&mut session.next, &mut session.count, &receipt);
                 Ok(receipt)
@@ -133,6 +201,7 @@ impl Shared {
         let (place, stock) = enter(rt, lock, &mut session.badge);
         match stock.reply(alloc, query) {
             Ok(receipt) => {
+                session.told = stock.told();
                 session.badge = give_answered(lock, place, stock, &receipt).into_badge();
                 note(&mut session.next, &mut session.count, &receipt);
                 Ok(receipt)
@@ -156,17 +225,19 @@ impl Shared {
         let lock = &self.table.shared;
         let (place, stock) = enter(rt, lock, &mut session.badge);
         let (stock, first) = stock.cut();
+        session.told = stock.told();
         session.badge = give_cut(lock, place, stock).into_badge();
         session.next = first;
         first
     }
 
-    /// Ends a shared volume, with all its sessions. Where none cut the journal, the volume starts from what it did when it
+    /// Ends a shared volume that was opened without views, with all its sessions. Where none cut the journal, the volume starts from what it did when it
     /// was opened, and its journal goes on from that one. Each record made since is that of one accepted call of one
     /// session, and each receipt agrees with the journal, if it isn't of before the last cut.
     ///
     /// Takes no memory.
     pub fn close(self, sessions: Vec<Session>) -> Closed
+        requires unpublished { self.of.book ≡ None }
         requires count { length sessions.items ≡ self.sessions }
         requires own { All (λ s. s.of ≡ self.of) sessions.items }
         ensures goes_on { Continues self.stored (stored_of result) }
@@ -176,15 +247,84 @@ impl Shared {
         ensures count { total (λ s. length s.places) sessions.items + next_number self.stored ≡ next_number (stored_of result) }
         ensures agree { All (λ s. All (λ receipt. result.first ≤ receipt.at → Agrees (origin_of result) result.journal receipt) s.receipts) sessions.items }
     {
-        let Shared { table, records } = self;
+        let Shared {
+            table,
+            records,
+            views: _,
+        } = self;
         let (place, calls) = gather(&table.shared, sessions);
         let stock = finish(table, place);
-        Closed::new(stock, records, calls)
+        Closed::new(stock.into_volume(), records, calls)
+    }
+
+    /// Ends a shared volume with all its sessions and views, as [`Shared::close`] does. The journal goes on from what each
+    /// view knows, and each receipt of a view agrees with it, if it isn't of before the last cut.
+    ///
+    /// Takes no memory. Waits for a view that still reads.
+    pub fn close_with<R: Wait>(self, rt: &R, sessions: Vec<Session>, views: Vec<View>) -> Closed
+        requires count { length sessions.items ≡ self.sessions }
+        requires own { All (λ s. s.of ≡ self.of) sessions.items }
+        requires views { length views.items ≡ self.views }
+        requires own_views { All (λ v. self.of.book ≡ Some v.book) views.items }
+        ensures goes_on { Continues self.stored (stored_of result) }
+        ensures uncut { All (λ s. s.cuts ≡ []) sessions.items → (origin_of result ≡ self.stored.origin) × BeginsWith result.journal self.stored.journal }
+        ensures first { result.first ≡ max self.stored.origin.first (greatest (λ s. greatest_of s.cuts) sessions.items) }
+        ensures places { (weight : ℕ → ℕ) → total (λ s. total weight s.places) sessions.items + below weight (next_number self.stored) ≡ below weight (next_number (stored_of result)) }
+        ensures count { total (λ s. length s.places) sessions.items + next_number self.stored ≡ next_number (stored_of result) }
+        ensures agree { All (λ s. All (λ receipt. result.first ≤ receipt.at → Agrees (origin_of result) result.journal receipt) s.receipts) sessions.items }
+        ensures covers { All (Covers (stored_of result)) views.items }
+        ensures views_agree { All (λ v. All (λ receipt. result.first ≤ receipt.at → Agrees (origin_of result) result.journal receipt) v.receipts) views.items }
+    {
+        let Shared {
+            table,
+            records,
+            views: _,
+        } = self;
+        let (place, calls) = gather(&table.shared, sessions);
+        let stock = finish(table, place);
+        let volume = settle(rt, stock, &views);
+        Closed::new(volume, records, calls)
     }
 }
 
+/// Publishes a volume, and makes so many views of it.
+fn publish<R: Wait>(
+    rt: &R,
+    alloc: Global,
+    volume: Volume,
+    views: usize,
+) -> Result<(Stock, Vec<View>), (OpenFault, Volume)>
+    requires { views ≤ 16 }
+    ensures stored { IfOk result (λ (stock, seen). unpublished stock ≡ stored_of volume) }
+    ensures count { IfOk result (λ (stock, seen). length seen.items ≡ views) }
+    ensures new_views { IfOk result (λ (stock, seen). All (IsNewView stock) seen.items) }
+    ensures handed_back { IfErr result (λ (fault, same). same ≡ volume) }
+{
+    let Ok(mut publisher) = Publisher::open(rt, alloc, &volume, views) else {
+        return Err((OpenFault::NoMemory, volume));
+    };
+    match watch(alloc, &mut publisher, views) {
+        Ok(seen) => Ok((Stock::with_publisher(volume, publisher), seen)),
+        Err(fault) => {
+            publisher.end(rt);
+            Err((fault, volume))
+        }
+    }
+}
+
+/// The volume by itself again, where it isn't shared after all.
+fn end<R: Wait>(rt: &R, stock: Stock) -> Volume
+    ensures { stored_of result ≡ unpublished stock }
+{
+    let (volume, publisher) = stock.into_parts();
+    if let Some(publisher) = publisher {
+        publisher.end(rt);
+    }
+    volume
+}
+
 /// A copy of a call.
-fn copy_of(call: &Call) -> Result<Call, AllocError>
+pub(crate) fn copy_of(call: &Call) -> Result<Call, AllocError>
     ensures { IfOk result (λ copy. copy ≡ call.now) }
 {
     call.clone()

@@ -1,28 +1,45 @@
 //! What lies under the lock.
-ghost use Rattle.std.specs.Prelude.{◌≡◌, ◌+◌, ◌<◌, ◌^◌, ◌≤◌, length, IfOk, IfErr, OnErr};
+ghost use Rattle.std.specs.Prelude.{◌≡◌, ◌+◌, ◌<◌, ◌^◌, ◌≤◌, length, None, Some, IfOk, IfErr, OnErr, IfSome};
+ghost use Rattle.vol_ledger.specs.Rule.{first_log};
+ghost use Rattle.vol_publish.specs.Logs.{number_of};
+ghost use Rattle.vol_receipts.specs.Agrees.{next_of};
 ghost use Rattle.vol_receipts.specs.declared.receipts.Asked.TheVariants.{Change, Question};
-ghost use Rattle.vol_shared.specs.Stored.{stored_of, next_number, IsUnchanged, IsCut};
+ghost use Rattle.vol_volume.specs.Volume.{after_cut};
+ghost use Rattle.vol_views.specs.Views.{book_in};
+ghost use Rattle.vol_shared.specs.Stored.{stored_of, stored_with, unpublished, next_number, IsUnchanged, IsCut};
 ghost use Rattle.vol_shared.specs.Plays.{IsAnswered};
+ghost use Rattle.vol_shared.specs.Published.{IsPublished};
 
+use crate::kept::Kept;
+use crate::publishing::change_published;
 use std::alloc::{AllocError, Global};
 use std::marker::Model;
+use std::snapshot::Snapshot;
+use std::sync::Wait;
+use vol_publish::Publisher;
 use vol_receipts::{Receipt, change, reply};
+use vol_views::Told;
 use vol_volume::{Call, Query, Volume};
 
-/// What lies under the lock: the volume. Its next record has a number below 2^64.
+/// What lies under the lock: the volume, and who publishes its records, if it has views. Its next record has a number below
+/// 2^64.
 pub struct Stock {
-    volume: Volume,
+    pub(crate) volume: Volume,
+    pub(crate) publisher: Option<Publisher>,
 }
 
 impl Model for Stock {
-    ghost use Rattle.std.specs.Prelude.{◌<◌, ◌^◌};
-    ghost use Rattle.vol_shared.specs.Stored.{Stored, stored_of, next_number};
+    ghost use Rattle.std.specs.Prelude.{◌<◌, ◌^◌, IfSome};
+    ghost use Rattle.vol_views.specs.Views.{book_in};
+    ghost use Rattle.vol_shared.specs.Stored.{Stored, stored_of, stored_with, next_number};
+    ghost use Rattle.vol_shared.specs.Published.{IsPublished};
 
     ghost Value = { Stored };
 
-    ghost view = { λ s. stored_of s.volume };
+    ghost view = { λ s. stored_with (book_in s.publisher) s.volume };
 
-    ghost invariant = { λ s. next_number (stored_of s.volume) < 2 ^ 64 };
+    ghost invariant = { λ s. (next_number (stored_of s.volume) < 2 ^ 64)
+        × IfSome s.publisher (λ p. IsPublished p.log (stored_of s.volume)) };
 }
 
 impl Stock {
@@ -35,7 +52,22 @@ impl Stock {
         if volume.first().checked_add(records).is_none() {
             return Err(volume);
         }
-        Ok(Stock { volume })
+        Ok(Stock {
+            volume,
+            publisher: None,
+        })
+    }
+
+    /// A volume that is published as it is.
+    pub(crate) fn with_publisher(volume: Volume, publisher: Publisher) -> Stock
+        requires { publisher.log ≡ first_log volume }
+        ensures { result ≡ stored_with (Some publisher.book) volume }
+    {
+        let _next = publisher.next_record();
+        Stock {
+            volume,
+            publisher: Some(publisher),
+        }
     }
 
     /// The number of the next record.
@@ -45,9 +77,35 @@ impl Stock {
         self.volume.first() + self.volume.journal().len() as u64
     }
 
-    /// Makes a call, and tells what came of it.
-    pub(crate) fn change(
+    /// What it is, for contracts to keep.
+    pub(crate) fn kept(&self) -> Kept
+        ensures { result ≡ self.now }
+    {
+        let front = match &self.publisher {
+            Some(publisher) => Some(publisher.front()),
+            None => None,
+        };
+        Kept {
+            volume: Snapshot::of(&self.volume),
+            front,
+        }
+    }
+
+    /// What a session is told: all that is published, if anything is.
+    pub(crate) fn told(&self) -> Option<Told>
+        ensures book { book_in result ≡ self.now.book }
+        ensures number { IfSome result (λ told. number_of told.log ≡ next_number self.now) }
+    {
+        match &self.publisher {
+            Some(publisher) => Some(Told::of(publisher)),
+            None => None,
+        }
+    }
+
+    /// Makes a call, publishes its record where it has one, and tells what came of it.
+    pub(crate) fn change<R: Wait>(
         self,
+        rt: &R,
         alloc: Global,
         call: Call,
         asked: Call,
@@ -56,12 +114,25 @@ impl Stock {
         ensures asked { IfOk result.1 (λ receipt. receipt.asked ≡ Change call) }
         ensures numbered { IfOk result.1 (λ receipt. receipt.at + 1 < 2 ^ 64) }
         ensures answered { IfOk result.1 (λ receipt. IsAnswered self result.0 receipt) }
+        ensures next { IfOk result.1 (λ receipt. next_number result.0 ≡ next_of receipt.at receipt.outcome) }
         ensures unchanged { OnErr result.1 (IsUnchanged self result.0) }
         ensures handed_back { IfErr result.1 (λ (error, same). same ≡ call) }
     {
-        let Stock { mut volume } = self;
-        let outcome = change(&mut volume, alloc, call, asked);
-        (Stock { volume }, outcome)
+        let Stock {
+            mut volume,
+            publisher,
+        } = self;
+        match publisher {
+            Some(publisher) => change_published(rt, alloc, volume, publisher, call, asked),
+            None => {
+                let outcome = change(&mut volume, alloc, call, asked);
+                let stock = Stock {
+                    volume,
+                    publisher: None,
+                };
+                (stock, outcome)
+            }
+        }
     }
 
     /// Asks a query, and tells what came of it.
@@ -69,31 +140,58 @@ impl Stock {
         ensures asked { IfOk result (λ receipt. receipt.asked ≡ Question query) }
         ensures numbered { IfOk result (λ receipt. receipt.at + 1 < 2 ^ 64) }
         ensures answered { IfOk result (λ receipt. IsAnswered self.now self.now receipt) }
+        ensures next { IfOk result (λ receipt. next_number self.now ≡ next_of receipt.at receipt.outcome) }
         ensures handed_back { IfErr result (λ (error, same). same ≡ query) }
     {
         reply(&self.volume, alloc, query)
     }
 
-    /// Cuts the journal, and tells the number of its first record.
+    /// Cuts the journal, and tells the number of its first record. Nothing is published.
     pub(crate) fn cut(self) -> (Stock, u64)
         ensures cut { IsCut self result.0 }
         ensures first { result.1 ≡ next_number self }
     {
-        let Stock { mut volume } = self;
+        let Stock {
+            mut volume,
+            publisher,
+        } = self;
         volume.check();
-        if volume.cut().is_err() {
-            unreachable!();
-        }
+        cut_journal(&mut volume);
         let first = volume.first();
-        (Stock { volume }, first)
+        (Stock { volume, publisher }, first)
     }
 
-    /// The volume.
+    /// The volume, and who publishes its records.
+    pub(crate) fn into_parts(self) -> (Volume, Option<Publisher>)
+        ensures stored { stored_of result.0 ≡ unpublished self }
+        ensures numbered { next_number self < 2 ^ 64 }
+        ensures book { book_in result.1 ≡ self.book }
+        ensures published { IfSome result.1 (λ publisher. IsPublished publisher.log (stored_of result.0)) }
+    {
+        let Stock { volume, publisher } = self;
+        (volume, publisher)
+    }
+
+    /// The volume, where it isn't published.
     pub(crate) fn into_volume(self) -> Volume
+        requires { self.book ≡ None }
         ensures stored { stored_of result ≡ self }
         ensures numbered { next_number self < 2 ^ 64 }
     {
-        let Stock { volume } = self;
-        volume
+        let (volume, publisher) = self.into_parts();
+        match publisher {
+            None => volume,
+            Some(_) => unreachable!(),
+        }
+    }
+}
+
+/// Cuts a volume's journal.
+fn cut_journal(volume: &mut Volume)
+    requires { next_number (stored_of volume.old) < 2 ^ 64 }
+    ensures { volume.new ≡ after_cut volume.old }
+{
+    if volume.cut().is_err() {
+        unreachable!();
     }
 }

@@ -1,4 +1,4 @@
-use Rattle.std.proofs.Common.{◌≡◌, ◌∙◌, sym, subst, Some, refl}
+use Rattle.std.proofs.Common.{◌≡◌, ◌∙◌, sym, ap, subst, Some, refl}
 use Rattle.std.specs.Option.{IsSome}
 use Rattle.std.specs.Slots.{slots_items}
 use Rattle.vol_shared.proofs.Seats.{taken_at_end}
@@ -8,7 +8,8 @@ use Rattle.vol_shared.proofs.closing.finish.Goals as goal
 use Rattle.vol_shared.proofs.closing.finish.Goals.{After-free}
 
 -- what is found at the end
-at_end : (c : After-free) → (last : Stored) × (c.take-slot.result ≡ Some last) × IsSettled c.args.board.shared.key.stock.value c.args.place.me.0 last
+at_end : (c : After-free) → (last : Stored) × (c.take-slot.result ≡ Some last) × IsSettled c.args.board.shared.key.stock c.args.place.me.0 last
+    × (last.book ≡ c.args.board.shared.key.stock.book)
 at_end c =
     let closed = c.close_with-closed.result in
     taken_at_end c.args.board.shared.key c.args.place.id c.args.place.me.0 (slots_items closed.words) (slots_items closed.slots) c.take-slot.result
@@ -20,7 +21,11 @@ unwrap-requires c = subst IsSome (sym (at_end c).1) refl
 pub returns : goal.returns
 returns c =
     let e = at_end (goal.at.returns c).After-free in
-    subst (IsSettled c.args.board.shared.key.stock.value c.args.place.me.0) (stored (sym e.1 ∙ c.unwrap.ensures)) e.2
+    let same = stored (sym e.1 ∙ c.unwrap.ensures) in
+    record {
+      settled = subst (IsSettled c.args.board.shared.key.stock c.args.place.me.0) same e.2;
+      book = ap (λ (s : Stored). s.book) (sym same) ∙ e.3;
+    }
   where
     stored : {a b : Stored} → Some a ≡ Some b → a ≡ b
     stored e = cc

@@ -5,5 +5,5 @@ use Rattle.vol_shared.proofs.opening.lay.Goals as goal
 
 pub new-requires : goal.new-requires
 new-requires c =
-    opens (record { stock = c.of.result; sessions = c.args.sessions }) c.push_reserved.new.self.items
-    (c.push_reserved.ensures.items ∙ (ap (λ l. l ++ Some c.args.stock ∷ []) c.in-Ok.ensures.items ∙ ap (λ (x : Stored). Some x ∷ []) (sym c.of.ensures)))
+    opens (record { stock = c.kept.result; sessions = c.args.sessions }) c.push_reserved.new.self.items
+    (c.push_reserved.ensures.items ∙ (ap (λ l. l ++ Some c.args.stock ∷ []) c.in-Ok.ensures.items ∙ ap (λ (x : Stored). Some x ∷ []) (sym c.kept.ensures)))

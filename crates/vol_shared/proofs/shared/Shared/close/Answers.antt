@@ -1,16 +1,17 @@
-use Rattle.std.proofs.Common.{sym, ap, subst, arith}
+use Rattle.std.proofs.Common.{◌∙◌, sym, ap, subst, arith}
 use Rattle.vol_shared.specs.Closing.{IsSettled}
 use Rattle.vol_shared.specs.Opened.{Opened}
-use Rattle.vol_shared.specs.Stored.{Stored, stored_of}
+use Rattle.vol_shared.specs.Stored.{Stored, stored_of, next_number}
 use Rattle.vol_shared.proofs.Ending.{counts, end_first, end_uncut, end_places, end_count, end_agree}
 use Rattle.vol_shared.proofs.shared.Shared.close.Goals as goal
 use Rattle.vol_shared.proofs.shared.Shared.close.Goals.{After-new}
 
-pub new-requires : goal.new-requires
-new-requires c =
-    let made = counts c.self.inside.table.shared.key.stock.value c.gather-place.result.0.me.0 c.finish-stock.result c.finish-stock.ensures in
+pub new-requires-clause-counted : goal.new-requires-clause-counted
+new-requires-clause-counted c =
+    let made = counts c.self.inside.table.shared.key.stock c.gather-place.result.0.me.0 c.finish-stock.result c.finish-stock.ensures.settled in
     let count = c.gather-place.ensures.count in
     let records = c.self.invariant.counted in
+    let same = ap next_number c.into_volume.ensures.stored in
     omega arith
 
 -- what is known of the end, in the words of the clauses
@@ -18,7 +19,7 @@ at_end : (c : After-new) → IsSettled c.args.self.stored c.gather-place.result.
 at_end c =
     let v = c.gather-place.result.0.me.0 in
     subst (λ (o : Stored). IsSettled o v (stored_of c.new.result)) (ap (λ (o : Opened). o.stored) c.self.view_is)
-    (subst (IsSettled c.self.inside.table.shared.key.stock.value v) (sym c.new.ensures) c.finish-stock.ensures)
+    (subst (IsSettled c.self.inside.table.shared.key.stock v) (sym (ap stored_of c.new.ensures ∙ c.into_volume.ensures.stored)) c.finish-stock.ensures.settled)
 
 pub returns-clause-goes_on : goal.returns-clause-goes_on
 returns-clause-goes_on c = (at_end c).goes_on

@@ -1,0 +1,17 @@
+-- What is published of a volume that lies under the lock.
+use Rattle.std.specs.Prelude.{◌≡◌, ◌≢◌, ◌+◌, List, [], ◌++◌, length}
+use Rattle.vol_volume.specs.Journal.{after}
+use Rattle.vol_volume.specs.declared.calls.Record.{Record}
+use Rattle.vol_receipts.specs.Agrees.{start}
+use Rattle.vol_ledger.specs.declared.history.LogEntry.{LogEntry}
+use Rattle.vol_publish.specs.Logs.{history_of, origin_in}
+use Rattle.vol_shared.specs.Stored.{Stored}
+
+-- all records of a volume are published: those of the log are the ones that were cut and then the journal, which starts from what the
+-- former made of the log's start (this project)
+pub record IsPublished (log : List LogEntry) (stored : Stored) : Type 0 where
+  pub gone : List Record
+  pub begun : log ≢ []
+  pub records : history_of log ≡ gone ++ stored.journal
+  pub first : stored.origin.first ≡ (origin_in log).first + length gone
+  pub starts : start stored.origin ≡ after (start (origin_in log)) gone

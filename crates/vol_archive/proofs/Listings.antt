@@ -24,7 +24,7 @@ use Rattle.vol_dir.specs.Names.{Names, get, insert, names_of}
 use Rattle.vol_dir.specs.Scanning.{IsNextEntry}
 use Rattle.vol_dir.proofs.NameMaps.{sorted}
 use Rattle.vol_judge.proofs.NextEntries.{entry_next}
-use Rattle.vol_archive.specs.Listing.{listed, put_first}
+use Rattle.vol_archive.specs.Listing.{by_bytes, put_first}
 
 -- the entries in the slots of directory d below slot n
 unfoldable pub slots_below : Geometry → List ℕ → ℕ → ℕ → List (Option (List ℕ × ℕ))
@@ -33,7 +33,7 @@ slots_below geometry image d n = map (entry_at geometry image d) (range_with_len
 -- the names in the slots of directory d below slot n were collected
 pub record HasCollected (geometry : Geometry) (image : List ℕ) (d n : ℕ) (entries : List (Vec ℕ × ℕ)) : Type 0 where
   pub within : n ≤ slot_count geometry image d
-  pub names : listed entries ≡ names_of (slots_below geometry image d n)
+  pub names : by_bytes entries ≡ names_of (slots_below geometry image d n)
 
 -- one number more
 range_more : (a n j : ℕ) → a + n ≡ j → range_with_len a (suc n) ≡ range_with_len a n ++ j ∷ []
@@ -136,11 +136,11 @@ names_behind slots name i =
 
 -- a name put among entries is put in their map
 pub named_insert : (entries : List (Vec ℕ × ℕ)) (key : Vec ℕ) (i : ℕ)
-    → listed (insert_entry (λ x y. slice_cmp nat_cmp x.items y.items) entries key i) ≡ insert (listed entries) key.items i
+    → by_bytes (insert_entry (λ x y. slice_cmp nat_cmp x.items y.items) entries key i) ≡ insert (by_bytes entries) key.items i
 named_insert [] key i = refl
 named_insert (e ∷ es) key i =
-    elim (slice_cmp nat_cmp key.items e.0.items) as (λ o. listed (match_ordering o ((key, i) ∷ e ∷ es) ((e.0, i) ∷ es) (e ∷ insert_entry (λ x y. slice_cmp nat_cmp x.items y.items) es key i))
-    ≡ by_order o ((key.items, i) ∷ listed (e ∷ es)) ((e.0.items, i) ∷ listed es) ((e.0.items, e.1) ∷ put (slice_cmp nat_cmp) key.items i (listed es))) [
+    elim (slice_cmp nat_cmp key.items e.0.items) as (λ o. by_bytes (match_ordering o ((key, i) ∷ e ∷ es) ((e.0, i) ∷ es) (e ∷ insert_entry (λ x y. slice_cmp nat_cmp x.items y.items) es key i))
+    ≡ by_order o ((key.items, i) ∷ by_bytes (e ∷ es)) ((e.0.items, i) ∷ by_bytes es) ((e.0.items, e.1) ∷ put (slice_cmp nat_cmp) key.items i (by_bytes es))) [
       | Less ↦ refl
       | Equal ↦ refl
       | Greater ↦ ap (λ rest. (e.0.items, e.1) ∷ rest) (named_insert es key i)
@@ -150,13 +150,13 @@ named_insert (e ∷ es) key i =
 pub collected_none : (geometry : Geometry) (image : List ℕ) (d : ℕ) (entries : List (Vec ℕ × ℕ)) → entries ≡ []
     → HasCollected geometry image d 0 entries
 unfolding slots_below
-collected_none geometry image d entries empty = record { within = omega arith; names = ap listed empty }
+collected_none geometry image d entries empty = record { within = omega arith; names = ap by_bytes empty }
 
 -- the name of the next entry, put first among those before, gives those up to it
 pub collected_next : (geometry : Geometry) (image : List ℕ) (d from s : ℕ) (slot : Slot) (name : List ℕ) (old new : List (Vec ℕ × ℕ))
     → HasCollected geometry image d from old
     → IsNextEntry (entry_at geometry image d) from (slot_count geometry image d) s slot → name ≡ name_of slot.name
-    → listed new ≡ put_first (listed old) name slot.inode → HasCollected geometry image d (s + 1) new
+    → by_bytes new ≡ put_first (by_bytes old) name slot.inode → HasCollected geometry image d (s + 1) new
 collected_next geometry image d from s slot name old new collected next is put =
     let here : entry_at geometry image d s ≡ Some (name_of slot.name, slot.inode) = entry_next next in
     let more : s + 1 ≡ suc s = omega arith in
@@ -174,30 +174,30 @@ collected_next geometry image d from s slot name old new collected next is put =
 -- where no further slot has an entry, all names of the directory are collected
 pub collected_all : (geometry : Geometry) (image : List ℕ) (d from : ℕ) (entries : List (Vec ℕ × ℕ)) → HasCollected geometry image d from entries
     → ((t : ℕ) → from ≤ t → t < slot_count geometry image d → entry_at geometry image d t ≡ None)
-    → listed entries ≡ names_of (slots geometry image d)
+    → by_bytes entries ≡ names_of (slots geometry image d)
 unfolding slots slots_below
 collected_all geometry image d from entries collected none =
     collected.names ∙ sym (names_until geometry image d from (slot_count geometry image d) collected.within none)
 
 -- what is looked up among entries is what their map has
-lookup_listed : (name : List ℕ) (entries : List (Vec ℕ × ℕ)) → lookup (λ k. is_eq (slice_cmp nat_cmp name k.items)) entries ≡ get (listed entries) name
+lookup_listed : (name : List ℕ) (entries : List (Vec ℕ × ℕ)) → lookup (λ k. is_eq (slice_cmp nat_cmp name k.items)) entries ≡ get (by_bytes entries) name
 lookup_listed name [] = refl
 lookup_listed name (e ∷ es) = ap (cond (is_eq (slice_cmp nat_cmp name e.0.items)) (Some e.1)) (lookup_listed name es)
 
 -- a name that isn't there is put among entries
 pub listed_put : (entries new : List (Vec ℕ × ℕ)) (key : Vec ℕ) (name : List ℕ) (i : ℕ)
     → is_some (lookup (λ k. is_eq (slice_cmp nat_cmp name k.items)) entries) ≡ false
-    → new ≡ insert_entry (λ x y. slice_cmp nat_cmp x.items y.items) entries key i → key.items ≡ name → listed new ≡ put_first (listed entries) name i
+    → new ≡ insert_entry (λ x y. slice_cmp nat_cmp x.items y.items) entries key i → key.items ≡ name → by_bytes new ≡ put_first (by_bytes entries) name i
 unfolding put_first
 listed_put entries new key name i missing put is =
-    ap listed put ∙ (named_insert entries key i ∙ (ap (λ n. insert (listed entries) n i) is
-    ∙ sym (ap (λ found. cond (is_some found) (listed entries) (insert (listed entries) name i)) (sym (lookup_listed name entries))
-    ∙ ap (λ b. cond b (listed entries) (insert (listed entries) name i)) missing)))
+    ap by_bytes put ∙ (named_insert entries key i ∙ (ap (λ n. insert (by_bytes entries) n i) is
+    ∙ sym (ap (λ found. cond (is_some found) (by_bytes entries) (insert (by_bytes entries) name i)) (sym (lookup_listed name entries))
+    ∙ ap (λ b. cond b (by_bytes entries) (insert (by_bytes entries) name i)) missing)))
 
 -- with a name that is there they stay
 pub listed_kept : (entries : List (Vec ℕ × ℕ)) (name : List ℕ) (i : ℕ)
-    → is_some (lookup (λ k. is_eq (slice_cmp nat_cmp name k.items)) entries) ≡ true → listed entries ≡ put_first (listed entries) name i
+    → is_some (lookup (λ k. is_eq (slice_cmp nat_cmp name k.items)) entries) ≡ true → by_bytes entries ≡ put_first (by_bytes entries) name i
 unfolding put_first
 listed_kept entries name i there =
-    sym (ap (λ found. cond (is_some found) (listed entries) (insert (listed entries) name i)) (sym (lookup_listed name entries))
-    ∙ ap (λ b. cond b (listed entries) (insert (listed entries) name i)) there)
+    sym (ap (λ found. cond (is_some found) (by_bytes entries) (insert (by_bytes entries) name i)) (sym (lookup_listed name entries))
+    ∙ ap (λ b. cond b (by_bytes entries) (insert (by_bytes entries) name i)) there)

@@ -5,8 +5,8 @@ use Rattle.std.specs.Global.{Vec}
 use Rattle.vol_dir.specs.Names.{Names, get, insert}
 
 -- entries with their names as lists of bytes (this project)
-abbrev pub listed : List (Vec ℕ × ℕ) → Names
-listed entries = map (λ (entry : Vec ℕ × ℕ). (entry.0.items, entry.1)) entries
+abbrev pub by_bytes : List (Vec ℕ × ℕ) → Names
+by_bytes entries = map (λ (entry : Vec ℕ × ℕ). (entry.0.items, entry.1)) entries
 
 -- a map with one more name, where it isn't there already (Lions on namei)
 unfoldable pub put_first : Names → List ℕ → ℕ → Names

@@ -3,8 +3,8 @@ ghost use Rattle.std.specs.Prelude.{◌≡◌, ◌++◌, ◌∷◌, [], IfOk, On
 ghost use Rattle.vol_layout.specs.Geometry.{Fits};
 ghost use Rattle.vol_dir.specs.Entries.{slots, IsDirectory};
 ghost use Rattle.vol_dir.specs.Names.{names_of};
-ghost use Rattle.vol_archive.specs.Listing.{listed, put_first};
-ghost use Rattle.vol_archive.specs.Walking.{is_plain, path_below, entry_below, entries_of, entries_below};
+ghost use Rattle.vol_archive.specs.Listing.{by_bytes, put_first};
+ghost use Rattle.vol_archive.specs.Walking.{is_plain, path_below, entry_below, pending_below, entries_below};
 
 use crate::member_path::MemberPath;
 use crate::pending::Pending;
@@ -30,16 +30,16 @@ pub(crate) fn entries_below(
     ensures { IfOk result (λ entries. entries.items ≡ entries_below geometry.now image.now path.now dir) }
 {
     let names = list(alloc, image, geometry, dir)?;
-    entries_of(alloc, path, &names)
+    pending_below(alloc, path, &names)
 }
 
 /// The entries with these names in the directory at a path, but for `.` and `..`.
-fn entries_of(
+fn pending_below(
     alloc: Global,
     path: &[u8],
     names: &[(MemberPath, u16)],
 ) -> Result<Vec<Pending>, AllocError>
-    ensures { IfOk result (λ entries. entries.items ≡ entries_of path.now names.now) }
+    ensures { IfOk result (λ entries. entries.items ≡ pending_below path.now names.now) }
 {
     let mut entries = Vec::new(alloc);
     'names: for (name, inode) in names {
@@ -123,7 +123,7 @@ fn collect_names(
 ) -> Result<BTreeMap<Vec<u8>, u16>, AllocError>
     requires fits { Fits geometry.now image.now }
     requires directory { IsDirectory geometry.now image.now dir }
-    ensures { IfOk result (λ names. listed names.entries ≡ names_of (slots geometry.now image.now dir)) }
+    ensures { IfOk result (λ names. by_bytes names.entries ≡ names_of (slots geometry.now image.now dir)) }
 {
     let mut names = BTreeMap::new(alloc);
     let mut from = 0;
@@ -141,7 +141,7 @@ fn put_first(
     name: &[u8],
     inode: u16,
 ) -> Result<(), AllocError>
-    ensures { OnOk result (listed names.new.entries ≡ put_first (listed names.old.entries) name.now inode) }
+    ensures { OnOk result (by_bytes names.new.entries ≡ put_first (by_bytes names.old.entries) name.now inode) }
 {
     if !names.contains_key(name) {
         names.insert(Vec::from_slice(alloc, name)?, inode)?;

@@ -11,19 +11,19 @@ use Rattle.vol_layout.specs.declared.geometry.Geometry.{Geometry}
 use Rattle.vol_reports.proofs.Ranges.{flat_more}
 use Rattle.vol_inspect.specs.declared.extent.Extent.{Extent}
 use Rattle.vol_inspect.specs.declared.gathering.Gathering.{Gathering}
-use Rattle.vol_inspect.specs.Extents.{single, joins, longer, gathered, gathering_with, Notes, holdings_from, address_holdings, holdings}
+use Rattle.vol_inspect.specs.Extents.{single, joins, extended, gathered, gathering_with, Collects, holdings_from, address_holdings, holdings}
 
 -- nothing was noted
-pub notes_none : (s : Gathering) → Notes s s []
+pub notes_none : (s : Gathering) → Collects s s []
 notes_none s = λ later. refl
 
 -- one list was noted, and then another
-pub notes_then : (old mid new : Gathering) (xs ys : List Extent) → Notes old mid xs → Notes mid new ys → Notes old new (xs ++ ys)
+pub notes_then : (old mid new : Gathering) (xs ys : List Extent) → Collects old mid xs → Collects mid new ys → Collects old new (xs ++ ys)
 notes_then old mid new xs ys first next = λ later.
     next later ∙ (first (ys ++ later) ∙ ap (λ zs. gathering_with old zs) (sym (append_assoc xs ys later)))
 
 -- what was noted is this list
-pub notes_as : (old new : Gathering) (xs ys : List Extent) → Notes old new xs → xs ≡ ys → Notes old new ys
+pub notes_as : (old new : Gathering) (xs ys : List Extent) → Collects old new xs → xs ≡ ys → Collects old new ys
 notes_as old new xs ys done same = λ later. done later ∙ ap (λ zs. gathering_with old (zs ++ later)) same
 
 -- empty lists of a range of numbers
@@ -112,27 +112,27 @@ unfolding addresses_before holdings
 addresses_all g image i = refl
 
 -- what was noted, once nothing comes later
-pub notes_end : (old new : Gathering) (xs : List Extent) → Notes old new xs → new.done.items ++ gathered new.last [] ≡ old.done.items ++ gathered old.last xs
+pub notes_end : (old new : Gathering) (xs : List Extent) → Collects old new xs → new.done.items ++ gathered new.last [] ≡ old.done.items ++ gathered old.last xs
 notes_end old new xs done = done [] ∙ ap (λ zs. old.done.items ++ gathered old.last zs) (append-nil xs)
 
 -- one block was noted as an extent of its own
-pub notes_fresh : (old new : Gathering) (next : Extent) → old.last ≡ None → new.done.items ≡ old.done.items → new.last ≡ Some next → Notes old new (next ∷ [])
+pub notes_fresh : (old new : Gathering) (next : Extent) → old.last ≡ None → new.done.items ≡ old.done.items → new.last ≡ Some next → Collects old new (next ∷ [])
 notes_fresh old new next none done last = λ later.
     (λ i. done i ++ gathered (last i) later) ∙ ap (λ o. old.done.items ++ gathered o (next ∷ later)) (sym none)
 
 -- one block was joined to the last extent
 pub notes_joined : (old new : Gathering) (e next : Extent) → old.last ≡ Some e → joins e next ≡ true → new.done.items ≡ old.done.items
-    → new.last ≡ Some (longer e) → Notes old new (next ∷ [])
+    → new.last ≡ Some (extended e) → Collects old new (next ∷ [])
 notes_joined old new e next was join done last = λ later.
     (λ i. done i ++ gathered (last i) later)
-    ∙ (ap (λ t. old.done.items ++ cond t (gathered (Some (longer e)) later) (e ∷ gathered (Some next) later)) (sym join)
+    ∙ (ap (λ t. old.done.items ++ cond t (gathered (Some (extended e)) later) (e ∷ gathered (Some next) later)) (sym join)
     ∙ ap (λ o. old.done.items ++ gathered o (next ∷ later)) (sym was))
 
 -- one block was noted behind the last extent
 pub notes_apart : (old new : Gathering) (e next : Extent) → old.last ≡ Some e → joins e next ≡ false → new.done.items ≡ old.done.items ++ e ∷ []
-    → new.last ≡ Some next → Notes old new (next ∷ [])
+    → new.last ≡ Some next → Collects old new (next ∷ [])
 notes_apart old new e next was apart done last = λ later.
     (λ i. done i ++ gathered (last i) later)
     ∙ (append_assoc old.done.items (e ∷ []) (gathered (Some next) later)
-    ∙ (ap (λ t. old.done.items ++ cond t (gathered (Some (longer e)) later) (e ∷ gathered (Some next) later)) (sym apart)
+    ∙ (ap (λ t. old.done.items ++ cond t (gathered (Some (extended e)) later) (e ∷ gathered (Some next) later)) (sym apart)
     ∙ ap (λ o. old.done.items ++ gathered o (next ∷ later)) (sym was)))

@@ -28,23 +28,23 @@ joins e next =
     && ((e.logical + e.count == next.logical) && (e.block + e.count == next.block))))
 
 -- an extent and one block more (this project)
-abbrev pub longer : Extent → Extent
-longer e = record e { count = e.count + 1 }
+abbrev pub extended : Extent → Extent
+extended e = record e { count = e.count + 1 }
 
 -- single blocks joined to extents, the first of them to the one before (this project)
 abbrev pub gathered : Option Extent → List Extent → List Extent
 gathered None [] = []
 gathered (Some e) [] = e ∷ []
 gathered None (next ∷ later) = gathered (Some next) later
-gathered (Some e) (next ∷ later) = if joins e next then gathered (Some (longer e)) later else e ∷ gathered (Some next) later
+gathered (Some e) (next ∷ later) = if joins e next then gathered (Some (extended e)) later else e ∷ gathered (Some next) later
 
 -- the extents once further single blocks are joined to those found so far (this project)
 abbrev pub gathering_with : Gathering → List Extent → List Extent
 gathering_with s later = s.done.items ++ gathered s.last later
 
 -- single blocks were joined to those found so far, whatever comes later (this project)
-abbrev pub Notes : Gathering → Gathering → List Extent → Type 0
-Notes old new found = (later : List Extent) → gathering_with new later ≡ gathering_with old (found ++ later)
+abbrev pub Collects : Gathering → Gathering → List Extent → Type 0
+Collects old new found = (later : List Extent) → gathering_with new later ≡ gathering_with old (found ++ later)
 
 -- the first logical block below address k (Lions on bmap; ino.h)
 abbrev pub first_logical : Form → ℕ → ℕ

@@ -36,10 +36,10 @@ unfoldable pub node_in : Edition → List ℕ → ℕ → Result Geometry Inspec
 node_in edition image i = numbered_in i (geometry_read edition image)
 
 -- a fault that the image is the cause of (this project)
-abbrev pub IsOfImage : InspectFault → Type 0
-IsOfImage NoMemory = ⊥
-IsOfImage NoEntry = Unit {0}
-IsOfImage (Unsound fault) = Unit {0}
+abbrev pub IsImagesFault : InspectFault → Type 0
+IsImagesFault NoMemory = ⊥
+IsImagesFault NoEntry = Unit {0}
+IsImagesFault (Unsound fault) = Unit {0}
 
 -- what is shown of i-node i, or why nothing is (this project)
 abbrev pub InspectsInode : Edition → List ℕ → ℕ → Result InodeReport InspectFault → Type 0

@@ -12,20 +12,20 @@ use Rattle.vol_inspect.specs.declared.super_report.SuperReport.{SuperReport}
 use Rattle.vol_inspect.specs.declared.inode_report.InodeReport.{InodeReport}
 
 -- a number in octal digits, with a zero before them (this project)
-abbrev pub octal : ℕ → List ℕ
-octal n = 48 ∷ digits 8 false n
+abbrev pub octal_text : ℕ → List ℕ
+octal_text n = 48 ∷ digits 8 false n
 
 -- numbers with a space before each (this project)
 unfoldable pub all_spaced : List ℕ → List ℕ
 all_spaced numbers = flat_map (λ n. 32 ∷ decimal n) numbers
 
 -- the word of a kind of i-node (this project)
-abbrev pub kind_word : Kind → List ℕ
-kind_word kinds.Free = codes "free"
-kind_word kinds.Regular = codes "file"
-kind_word kinds.Directory = codes "directory"
-kind_word kinds.Special = codes "special"
-kind_word kinds.Odd = codes "odd"
+abbrev pub kind_name : Kind → List ℕ
+kind_name kinds.Free = codes "free"
+kind_name kinds.Regular = codes "file"
+kind_name kinds.Directory = codes "directory"
+kind_name kinds.Special = codes "special"
+kind_name kinds.Odd = codes "odd"
 
 -- the first and the last of so many numbers, or the only one (this project)
 abbrev pub range_text : ℕ → ℕ → List ℕ
@@ -53,11 +53,11 @@ unfoldable pub extents_text : List Extent → List ℕ
 extents_text extents = flat_map (λ e. extent_text e ++ codes "\n") extents
 
 -- the lines of the fields before the addresses (this project)
-abbrev pub head_text : InodeReport → List ℕ
-head_text report =
+abbrev pub fields_text : InodeReport → List ℕ
+fields_text report =
     codes "i-node " ++ (decimal report.number
-    ++ (codes "\nmode " ++ (octal report.node.mode.bits ++ (codes " " ++ (kind_word (kind_of report.edition report.node.mode.bits)
-    ++ (codes " " ++ (octal (permissions_of report.node.mode.bits)
+    ++ (codes "\nmode " ++ (octal_text report.node.mode.bits ++ (codes " " ++ (kind_name (kind_of report.edition report.node.mode.bits)
+    ++ (codes " " ++ (octal_text (permissions_of report.node.mode.bits)
     ++ (codes "\nnlink " ++ (decimal report.node.links
     ++ (codes "\nuid " ++ (decimal report.node.uid
     ++ (codes "\ngid " ++ (decimal report.node.gid
@@ -74,13 +74,13 @@ times_text accessed modified (Some changed) =
 -- an i-node: its fields by their names in the manual, and its extents (this project)
 abbrev pub inode_text : InodeReport → List ℕ
 inode_text report =
-    head_text report ++ (all_spaced (take (address_count report.edition) report.node.addresses)
+    fields_text report ++ (all_spaced (take (address_count report.edition) report.node.addresses)
     ++ (times_text report.node.accessed report.node.modified report.node.changed ++ extents_text report.extents.items))
 
 -- the line of the fault that ended the walk over the free list, with its count or number (icheck)
-abbrev pub fault_line : Option (FreeFault × ℕ) → List ℕ
-fault_line None = []
-fault_line (Some fault) = fault_word fault.0 ++ (codes " " ++ (decimal fault.1 ++ codes "\n"))
+abbrev pub free_fault_line : Option (FreeFault × ℕ) → List ℕ
+free_fault_line None = []
+free_fault_line (Some fault) = fault_word fault.0 ++ (codes " " ++ (decimal fault.1 ++ codes "\n"))
 
 -- the lines of the counts, up to the numbers of the free list (this project)
 abbrev pub sizes_text : SuperReport → List ℕ
@@ -119,7 +119,7 @@ cache_text report = codes "\nninode " ++ (decimal report.cache_count ++ codes "\
 
 -- the lines of what is counted, and of the fault (this project)
 abbrev pub found_text : SuperReport → List ℕ
-found_text report = counts_text report ++ fault_line report.fault
+found_text report = counts_text report ++ free_fault_line report.fault
 
 -- the super-block: its fields by their names in filsys.h, and what is counted (this project)
 abbrev pub super_text : SuperReport → List ℕ

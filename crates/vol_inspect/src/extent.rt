@@ -1,6 +1,6 @@
 //! Ranges of blocks that an i-node names.
 ghost use Rattle.std.specs.Prelude.{◌≡◌, ◌+◌, ◌-◌, ◌<◌, ◌^◌, true};
-ghost use Rattle.vol_inspect.specs.Extents.{single, joins, longer};
+ghost use Rattle.vol_inspect.specs.Extents.{single, joins, extended};
 
 use vol_layout::Geometry;
 
@@ -47,9 +47,9 @@ impl Extent {
     }
 
     /// This extent and one block more.
-    pub(crate) fn longer(self) -> Extent
+    pub(crate) fn extended(self) -> Extent
         requires { self.count < 2 ^ 32 - 1 }
-        ensures { result ≡ longer self }
+        ensures { result ≡ extended self }
     {
         Extent {
             count: self.count + 1,

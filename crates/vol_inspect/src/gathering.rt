@@ -2,7 +2,7 @@
 ghost use Rattle.std.specs.Prelude.{◌≡◌, ◌+◌, ◌-◌, ◌<◌, ◌≤◌, ◌^◌, [], ◌∷◌, OnOk, IfOk};
 ghost use Rattle.vol_layout.specs.Edition.{constants};
 ghost use Rattle.vol_layout.specs.Geometry.{Fits};
-ghost use Rattle.vol_inspect.specs.Extents.{Notes, first_logical, holdings_from, holdings, extents_of};
+ghost use Rattle.vol_inspect.specs.Extents.{Collects, first_logical, holdings_from, holdings, extents_of};
 
 use crate::extent::Extent;
 use pdp_words::{BLOCK, Image};
@@ -45,7 +45,7 @@ pub(crate) fn extents(
     Ok(done)
 }
 
-/// Notes what the addresses of i-node `i` lead to.
+/// Collects what the addresses of i-node `i` lead to.
 fn note_inode(
     gathering: &mut Gathering,
     image: &Image,
@@ -55,7 +55,7 @@ fn note_inode(
     requires fits { Fits geometry.now image.now }
     requires first { 1 ≤ i }
     requires last { i ≤ geometry.now.last_inode }
-    ensures { OnOk result (Notes gathering.old gathering.new (holdings geometry.now image.now i)) }
+    ensures { OnOk result (Collects gathering.old gathering.new (holdings geometry.now image.now i)) }
 {
     let form = Form::of(geometry.edition, mode(image, geometry, i));
     for k in 0..form.address_count() {
@@ -82,7 +82,7 @@ fn first_logical(form: Form, k: usize) -> u32
     }
 }
 
-/// Notes number `b` and those found below it in `level` levels, if `b` isn't 0. The first logical block below it is
+/// Collects number `b` and those found below it in `level` levels, if `b` isn't 0. The first logical block below it is
 /// `logical`.
 fn note_from(
     gathering: &mut Gathering,
@@ -95,7 +95,7 @@ fn note_from(
     requires fits { Fits geometry.now image.now }
     requires level { level ≤ 3 }
     requires room { logical + (constants geometry.now.edition).pointers ^ level < 2 ^ 31 }
-    ensures { OnOk result (Notes gathering.old gathering.new (holdings_from geometry.now image.now level logical b)) }
+    ensures { OnOk result (Collects gathering.old gathering.new (holdings_from geometry.now image.now level logical b)) }
 {
     if b == 0 {
         return Ok(());
@@ -137,17 +137,17 @@ fn span(geometry: &Geometry, level: u8) -> u32
 }
 
 impl Gathering {
-    /// Notes one block.
+    /// Collects one block.
     fn note(&mut self, single: Extent) -> Result<(), AllocError>
         requires { single.logical < 2 ^ 32 - 1 }
-        ensures { OnOk result (Notes self.old self.new (single ∷ [])) }
+        ensures { OnOk result (Collects self.old self.new (single ∷ [])) }
     {
         let Some(last) = self.last else {
             self.last = Some(single);
             return Ok(());
         };
         if last.joins(&single) {
-            self.last = Some(last.longer());
+            self.last = Some(last.extended());
             return Ok(());
         }
         self.done.push(last)?;

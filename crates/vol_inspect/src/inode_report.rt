@@ -1,7 +1,7 @@
 //! An i-node, with the blocks that it names.
 ghost use Rattle.std.specs.Prelude.{◌≡◌, ◌≤◌, OnOk, IfOk, IfErr};
 ghost use Rattle.vol_layout.specs.Geometry.{Fits};
-ghost use Rattle.vol_inspect.specs.Inspecting.{InspectsInode, node_in, IsOfImage};
+ghost use Rattle.vol_inspect.specs.Inspecting.{InspectsInode, node_in, IsImagesFault};
 
 use crate::extent::Extent;
 use crate::fault::InspectFault;
@@ -50,7 +50,7 @@ pub fn inspect_inode(
 #[tactic(auto, unfolding(crate::specs::Inspecting::node_in))]
 fn open(edition: Edition, image: &Image, number: u16) -> Result<Geometry, InspectFault>
     ensures exact { result ≡ node_in edition image.now number }
-    ensures cause { IfErr result IsOfImage }
+    ensures cause { IfErr result IsImagesFault }
     ensures fits { IfOk result (λ geometry. Fits geometry image.now) }
     ensures first { OnOk result (1 ≤ number) }
     ensures last { IfOk result (λ geometry. number ≤ geometry.last_inode) }

@@ -3,18 +3,18 @@ ghost use Rattle.std.specs.Prelude.{◌≡◌, ◌≤◌, ◌++◌, OnOk, Some};
 ghost use Rattle.std.specs.String.{string_bytes};
 ghost use Rattle.vol_reports.specs.Texts.{fault_word};
 ghost use Rattle.vol_inspect.specs.Texts.{
-  octal,
+  octal_text,
   all_spaced,
-  kind_word,
+  kind_name,
   range_text,
   below_text,
   inside_text,
   extent_text,
   extents_text,
-  head_text,
+  fields_text,
   times_text,
   inode_text,
-  fault_line,
+  free_fault_line,
   sizes_text,
   guards_text,
   counts_text,
@@ -57,7 +57,7 @@ impl InodeReport {
 
     /// Appends the lines of the fields before the addresses.
     fn push_head(&self, text: &mut String) -> Result<(), AllocError>
-        ensures { OnOk result (string_bytes text.new ≡ string_bytes text.old ++ head_text self.now) }
+        ensures { OnOk result (string_bytes text.new ≡ string_bytes text.old ++ fields_text self.now) }
     {
         let number = self.number;
         let mode = Octal(self.node.mode.bits);
@@ -162,7 +162,7 @@ impl SuperReport {
 
 /// Appends the line of the fault that ended the walk over the free list.
 fn push_fault(text: &mut String, fault: Option<(FreeFault, u32)>) -> Result<(), AllocError>
-    ensures { OnOk result (string_bytes text.new ≡ string_bytes text.old ++ fault_line fault) }
+    ensures { OnOk result (string_bytes text.new ≡ string_bytes text.old ++ free_fault_line fault) }
 {
     let Some((fault, number)) = fault else {
         return Ok(());
@@ -187,7 +187,7 @@ fn fault_word(fault: FreeFault) -> &'static str
 struct Octal(u16);
 
 impl fmt::Display for Octal {
-    ghost output = { λ n. Some (octal n.0) };
+    ghost output = { λ n. Some (octal_text n.0) };
 
     fn fmt<W: fmt::Write>(&self, f: &mut fmt::Formatter<W>) -> fmt::Result {
         let bits = self.0;
@@ -266,7 +266,7 @@ fn inside_text(inside: bool) -> &'static str
 
 /// The word of a kind of i-node.
 fn word(kind: Kind) -> &'static str
-    ensures { result.now ≡ kind_word kind }
+    ensures { result.now ≡ kind_name kind }
 {
     match kind {
         Kind::Free => "free",

@@ -31,8 +31,8 @@ abbrev pub wanted_count : Geometry → List ℕ → Kind → ℕ → ℕ → ℕ
 wanted_count g image kind i c e = if is_kind kind (kind_at g image i) then node_count g image i c e else 0
 
 -- how many places of the i-nodes of a kind name block c with e levels of blocks below it (icheck)
-unfoldable pub place_count : Geometry → List ℕ → Kind → ℕ → ℕ → ℕ
-place_count g image kind c e =
+unfoldable pub naming_count : Geometry → List ℕ → Kind → ℕ → ℕ → ℕ
+naming_count g image kind c e =
     sum_by (λ i. wanted_count g image kind i c e) (range_with_len 1 g.last_inode)
 
 -- each count of places of a block, by the levels of blocks below it, grew by a number, up to two in all (this project)
@@ -53,7 +53,7 @@ CountsWanted g image kind i old new = Counts g (wanted_count g image kind i) old
 
 -- the counts are those of the places of the i-nodes of a kind, up to two (icheck)
 abbrev pub CountsKind : Geometry → List ℕ → Kind → List ℕ → Type 0
-CountsKind g image kind counts = (c e : ℕ) → in_zone g c ≡ true → e ≤ 3 → slice_index counts (4 * c + e) ≡ min 2 (place_count g image kind c e)
+CountsKind g image kind counts = (c e : ℕ) → in_zone g c ≡ true → e ≤ 3 → slice_index counts (4 * c + e) ≡ min 2 (naming_count g image kind c e)
 
 -- nothing was counted (this project)
 abbrev pub IsClear : List ℕ → Type 0

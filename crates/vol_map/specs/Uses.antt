@@ -3,7 +3,7 @@ use Rattle.std.specs.Prelude.{ℕ, ◌+◌, ◌*◌, ◌==◌, nat_lt, min, if�
 use Rattle.vol_layout.specs.declared.geometry.Geometry.{Geometry}
 use Rattle.vol_layout.specs.declared.mode.Kind.{Kind}
 use Rattle.vol_layout.specs.declared.mode.Kind.TheVariants as kinds
-use Rattle.vol_map.specs.Placing.{place_count}
+use Rattle.vol_map.specs.Placing.{naming_count}
 use Rattle.vol_map.specs.Listing.{listed_of}
 use Rattle.vol_map.specs.declared.listing.Listed.{Listed}
 use Rattle.vol_map.specs.declared.listing.Listed.TheVariants.{Absent, Plain, Linking}
@@ -37,7 +37,7 @@ use_in g directories files listed b =
 
 -- how many places of i-nodes of a kind name block b with e levels of blocks below it, counted up to two (icheck)
 abbrev pub held : Geometry → List ℕ → Kind → ℕ → ℕ → ℕ
-held g image kind b e = min 2 (place_count g image kind b e)
+held g image kind b e = min 2 (naming_count g image kind b e)
 
 -- how many places of i-nodes of a kind name block b as an indirect block, each level counted up to two (icheck)
 abbrev pub pointers_held : Geometry → List ℕ → Kind → ℕ → ℕ

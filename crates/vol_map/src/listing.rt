@@ -43,7 +43,7 @@ pub(crate) fn listed_blocks(
     Ok(listed)
 }
 
-/// Notes the blocks that the walk met, in their order; the array in the super-block has `count` numbers.
+/// Collects the blocks that the walk met, in their order; the array in the super-block has `count` numbers.
 fn list(listed: &mut [Listed], image: &Image, geometry: &Geometry, met: &[u32], count: u16)
     requires fits { Fits geometry.now image.now }
     requires len { length listed.old ≡ geometry.now.zone_end }

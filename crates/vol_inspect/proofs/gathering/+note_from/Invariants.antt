@@ -1,5 +1,5 @@
 use Rattle.std.proofs.Common.{◌-◌, ◌∷◌}
-use Rattle.vol_inspect.specs.Extents.{Notes, single}
+use Rattle.vol_inspect.specs.Extents.{Collects, single}
 use Rattle.vol_inspect.proofs.Gatherings.{entries_before}
 use Rattle.vol_inspect.proofs.gathering.+note_from.Given as goal
 
@@ -9,4 +9,4 @@ decreases-note_from l = l.level
 
 -- the block and what is found from the entries before j on is noted
 abbrev pub invariant-loop-j : goal.invariant-loop-j
-invariant-loop-j l = Notes l.fn.gathering l.gathering (single l.geometry l.level l.logical l.b ∷ entries_before l.geometry l.image (l.level - 1) l.logical l.b l.j)
+invariant-loop-j l = Collects l.fn.gathering l.gathering (single l.geometry l.level l.logical l.b ∷ entries_before l.geometry l.image (l.level - 1) l.logical l.b l.j)

@@ -1,6 +1,6 @@
 use Rattle.std.proofs.Common.{◌≡◌, ◌+◌, ◌*◌, ℕ, ap, arith, ◌∙◌, refl, min}
 use Rattle.std.specs.List.{sum_by, range_with_len}
-use Rattle.vol_map.specs.Placing.{wanted_count, place_count}
+use Rattle.vol_map.specs.Placing.{wanted_count, naming_count}
 use Rattle.vol_map.proofs.Found.{sum_more}
 use Rattle.vol_map.proofs.Tallies.{counts_then}
 use Rattle.vol_map.proofs.placing.count_kind.Goals as goal
@@ -19,7 +19,7 @@ loop-before-preserved c =
     }
 
 pub returns : goal.returns
-unfolding place_count
+unfolding naming_count
 returns c = λ b e zone lvl.
     let g = c.args.geometry.now in
     let image = c.args.image.now in

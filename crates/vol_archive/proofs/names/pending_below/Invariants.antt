@@ -1,7 +1,7 @@
 use Rattle.std.proofs.Common.{◌≡◌, take}
 use Rattle.std.specs.List.{flat_map}
 use Rattle.vol_archive.specs.Walking.{entry_below}
-use Rattle.vol_archive.proofs.names.entries_of.Given as goal
+use Rattle.vol_archive.proofs.names.pending_below.Given as goal
 
 -- the entries of the names so far are there
 abbrev pub invariant-names : goal.invariant-names

@@ -3,13 +3,14 @@
 # Usage: tests/faults.sh PROGRAM [RUNS]. Each kind of fault is tried RUNS times, 1,000 without the word, over all commands by turns.
 # After each run its status is one of 0 to 4 or, where a signal ended it, that signal's own; the image is the old one or the new one,
 # whole, and the new one where the status is 0; standard output has the front of what it is to have, and all where the status is 0;
-# standard error has one line where the status is one of 1 to 4, and else none; no file `.unixvol-N` is left but by a signal.
+# standard error has one line where the status is one of 1 to 4, and else none; no file `.unixvol-N` is left but by a signal. A play
+# that goes to its end says on standard output which lines found no memory, and is saved.
 # It prints a line for each run that breaks this, one for each kind of fault, and ends with 'N passed, N failed'.
 set -uo pipefail
 export LC_ALL=C
 program=$(realpath "${1:?usage: tests/faults.sh PROGRAM [RUNS]}")
 runs=${2:-1000}
-samples=$(realpath "$(dirname "$0")/../samples")
+tests=$(realpath "$(dirname "$0")")
 folder=$(mktemp -d)
 passed=0
 failed=0
@@ -87,12 +88,25 @@ is_front() {
     fi
 }
 
+# is_played: whether a play went to its end, of whose lines some found no memory or weren't confirmed for want of it: it says so on
+# standard output, as many calls were accepted as there are records, and the image is a sound volume
+is_played() {
+    [ ! -s error ] && tail -n 1 output | grep -qE '^confirmed [0-3]$' &&
+        ! grep -qvE '^(1\.[123] (ok [0-9]+|12 NoMemory|2 NoEntry|stat [0-9]+ file 0644 1 0 0 [03])|(records|confirmed) [0-3])$' output &&
+        [ "$(grep -c ' ok ' output)" = "$(sed -n 's/^records //p' output)" ] && "$program" ls 7 "$place/image" / > /dev/null 2>&1 &&
+        [ -z "$(find "$place" -name '.unixvol-*')" ]
+}
+
 # judge LABEL NUMBER STATUS SIGNAL SAYS: looks at what the run of a command left in the folder `place`; SIGNAL is the status of the
 # signal that may have ended it (0 for none), and SAYS how many lines standard error is to have where the status is one of 1 to 4
 judge() {
     local label=$1 number=$2 status=$3 signal=$4 says=$5 fault= before words
     read -r before words <<< "${commands[number]}"
     before=wanted/${before%:}
+    if [ "$status" = 4 ] && [ "${words%% *}" = play ] && is_played; then
+        passed=$((passed + 1))
+        return
+    fi
     if [ "$status" -gt 4 ] && [ "$status" != "$signal" ]; then fault="status $status"; fi
     if [ "$status" = 0 ]; then
         cmp -s "$place/image" "wanted/$number.image" || fault='the image is not the new one'
@@ -227,6 +241,29 @@ full() {
     echo "full disk: $run runs"
 }
 
+# refused: each command with each of its allocations refused in turn, until it meets none that is refused
+refused() {
+    local run=0 number allocation status
+    if ! command -v rustc > /dev/null || ! rustc -O --edition 2021 --crate-type cdylib -C panic=abort "$tests/refusing.rs" -o refusing.so; then
+        echo 'refused memory: not tried, since rustc is not there'
+        return
+    fi
+    place=work
+    for number in "${!commands[@]}"; do
+        allocation=0
+        true > met
+        while [ "$allocation" = 0 ] || [ -s met ]; do
+            allocation=$((allocation + 1))
+            lay "$number"
+            (cd work && exec env REFUSED="$allocation" LD_PRELOAD="$folder/refusing.so" "$program" "${words[@]}") > output 2> error < /dev/null 9> met
+            status=$?
+            judge "refused allocation $allocation" "$number" "$status" 0 1
+            run=$((run + 1))
+        done
+    done
+    echo "refused memory: $run runs"
+}
+
 # shut: the commands by turns, by a user who may not write into the folder
 shut() {
     local run=0 number status by=()
@@ -265,6 +302,7 @@ limited stack -s 256 8192 0 true 2> /dev/null
 limited 'greatest file' -f 1 4500 0 "trap '' XFSZ" 2> /dev/null
 limited 'greatest file, and a signal' -f 1 4500 153 true 2> /dev/null
 closed
+refused
 full
 shut
 signalled TERM 143

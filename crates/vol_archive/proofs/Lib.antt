@@ -1,5 +1,11 @@
+pub mod Each
+pub mod EntryLists
 pub mod FirstMarks
 pub mod Listings
 pub mod MemberLists
+pub mod MemberOrder
+pub mod NameOrder
 pub mod Outputs
+pub mod PathNames
+pub mod TreeMembers
 pub mod WalkSteps

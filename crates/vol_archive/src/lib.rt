@@ -3,6 +3,7 @@
 
 pub mod exporting;
 pub mod found;
+pub mod laws;
 pub mod member_path;
 mod members;
 mod names;

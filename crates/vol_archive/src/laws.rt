@@ -1,0 +1,13 @@
+//! Laws about what goes into an archive. A call does nothing: what matters is the contract, which is proved.
+ghost use Rattle.vol_archive.specs.Laws.{MembersAreOfTree, MembersAscend, MembersDiffer};
+
+/// Of every image, the path of each member leads from the directory that is exported to the member's i-number.
+pub fn members_are_of_the_tree()
+    ensures { MembersAreOfTree }
+{}
+
+/// Of every image, members ascend by the names of their paths, and so no path comes twice.
+pub fn members_ascend()
+    ensures ascending { MembersAscend }
+    ensures once { MembersDiffer }
+{}

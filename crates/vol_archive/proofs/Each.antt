@@ -26,7 +26,7 @@ pairs_append R [] ys h k across = k
 pairs_append R (x ∷ xs) ys h k across = (each_append (R x) xs ys h.0 across.0, pairs_append R xs ys h.1 k across.1)
 
 -- what holds of the first item and all others holds of all
-all_first : {X : Type 0} (P : X → Type 0) (x : X) (xs : List X) → P x → All P xs → All P (x ∷ xs)
+pub all_first : {X : Type 0} (P : X → Type 0) (x : X) (xs : List X) → P x → All P xs → All P (x ∷ xs)
 all_first P x xs here rest zero d below = here
 all_first P x xs here rest (suc k) d below = rest k d (omega arith)
 

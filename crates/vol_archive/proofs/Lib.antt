@@ -9,3 +9,4 @@ pub mod Outputs
 pub mod PathNames
 pub mod TreeMembers
 pub mod WalkSteps
+pub mod WholeDirectories

@@ -100,12 +100,12 @@ met_directory g image start first founds entry is =
         cc' e = cc
 
 -- names lead from a directory to an i-number, as user 0 walks them
-abbrev pub Leads : Geometry → List ℕ → ℕ → List (List ℕ) → ℕ → Type 0
-Leads g image start names i = walk_from (tree g image) user start names ≡ Ok i
+abbrev pub WalksTo : Geometry → List ℕ → ℕ → List (List ℕ) → ℕ → Type 0
+WalksTo g image start names i = walk_from (tree g image) user start names ≡ Ok i
 
 -- a name of a directory leads on
 pub leads_on : (g : Geometry) (image : List ℕ) (start d i : ℕ) (names : List (List ℕ)) (name : List ℕ) → IsDirectory g image d
-    → Leads g image start names d → get (names_of (slots g image d)) name ≡ Some i → Leads g image start (names ++ name ∷ []) i
+    → WalksTo g image start names d → get (names_of (slots g image d)) name ≡ Some i → WalksTo g image start (names ++ name ∷ []) i
 leads_on g image start d i names name directory leads found =
     walk_from-append (tree g image) user start names (name ∷ [])
     ∙ (ap (λ r. and_then r (λ j. walk_from (tree g image) user j (name ∷ []))) leads
@@ -113,22 +113,22 @@ leads_on g image start d i names name directory leads found =
     ∙ ap (λ o. and_then (ok_or o refusals.NoEntry) (λ next. walk_from (tree g image) user next [])) found))
 
 -- a pending entry with a plain name leads where it says
-abbrev pub PendingLeads : Geometry → List ℕ → ℕ → Pending → Type 0
-PendingLeads g image start entry = entry.is_plain ≡ true → Leads g image start (components entry.path) entry.inode
+abbrev pub PendingWalksTo : Geometry → List ℕ → ℕ → Pending → Type 0
+PendingWalksTo g image start entry = entry.is_plain ≡ true → WalksTo g image start (components entry.path) entry.inode
 
 -- the entries of a directory to which a path leads
 pub entries_lead : (g : Geometry) (image : List ℕ) (start d : ℕ) (path : List ℕ) → IsDirectory g image d
-    → Leads g image start (components path) d → Each (PendingLeads g image start) (entries_below g image path d)
+    → WalksTo g image start (components path) d → Each (PendingWalksTo g image start) (entries_below g image path d)
 entries_lead g image start d path directory leads =
-    each_map (λ (entry : Pending). entry.is_plain ≡ true → IsNamed (names_of (slots g image d)) path entry) (PendingLeads g image start)
+    each_map (λ (entry : Pending). entry.is_plain ≡ true → IsNamed (names_of (slots g image d)) path entry) (PendingWalksTo g image start)
     (λ entry named plain. ap (λ names. walk_from (tree g image) user start names) (named plain).parts
     ∙ leads_on g image start d entry.inode (components path) (named plain).name directory leads (named plain).found)
     (entries_below g image path d) (entries_named g image path d)
 
 -- those below what is met, whatever it is
 below_lead : (g : Geometry) (image : List ℕ) (start : ℕ) (found : Found) (role : Role)
-    → (role ≡ roles.Directory → IsDirectory g image found.inode × Leads g image start (components found.path) found.inode)
-    → Each (PendingLeads g image start) (below g image found role)
+    → (role ≡ roles.Directory → IsDirectory g image found.inode × WalksTo g image start (components found.path) found.inode)
+    → Each (PendingWalksTo g image start) (below g image found role)
 below_lead g image start found roles.Directory h = let d = h refl in entries_lead g image start found.inode found.path d.0 d.1
 below_lead g image start found roles.File h = tt
 below_lead g image start found roles.Special h = tt
@@ -137,17 +137,17 @@ below_lead g image start found (roles.Left reason) h = tt
 
 -- where all that is pending leads there, all members that are met do
 rest_leads : {g : Geometry} {image : List ℕ} {start : ℕ} {founds : List Found} {pending : List Pending} {all : List Found}
-    → (walks : Walks g image start founds pending all) → Each (PendingLeads g image start) pending
-    → Each (λ (found : Found). is_kept found.role ≡ true → Leads g image start (components found.path) found.inode) (rest_of walks)
+    → (walks : Walks g image start founds pending all) → Each (PendingWalksTo g image start) pending
+    → Each (λ (found : Found). is_kept found.role ≡ true → WalksTo g image start (components found.path) found.inode) (rest_of walks)
 unfolding rest_of
 rest_leads (Walks.ends founds) h = tt
 rest_leads {g = g} {image = image} {start = start} (Walks.meets founds entry rest all walks) h =
     let first = first_met entry.inode founds in
-    let here : is_kept (role_of g image start first founds entry) ≡ true → Leads g image start (components entry.path) entry.inode =
+    let here : is_kept (role_of g image start first founds entry) ≡ true → WalksTo g image start (components entry.path) entry.inode =
     λ kept. h.0 (member_plain g image start first founds entry kept) in
     let found = met g image start founds entry in (
       here,
-      rest_leads walks (each_append (PendingLeads g image start) (below g image found found.role) rest
+      rest_leads walks (each_append (PendingWalksTo g image start) (below g image found found.role) rest
           (below_lead g image start found found.role (λ is. (met_directory g image start first founds entry is, here (ap is_kept is)))) h.1),
     )
 
@@ -159,5 +159,5 @@ walk_is walks = sym (rest_is walks)
 pub members_lead : MembersAreOfTree
 members_lead g image start founds directory walks =
     all_kept (λ (found : Found). is_kept found.role) (λ (found : Found). walk_from (tree g image) user start (components found.path) ≡ Ok found.inode) founds
-    (subst (Each (λ (found : Found). is_kept found.role ≡ true → Leads g image start (components found.path) found.inode)) (walk_is walks)
+    (subst (Each (λ (found : Found). is_kept found.role ≡ true → WalksTo g image start (components found.path) found.inode)) (walk_is walks)
     (rest_leads walks (entries_lead g image start start [] directory (ap (λ names. walk_from (tree g image) user start names) components-nil))))

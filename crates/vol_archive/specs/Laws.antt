@@ -1,14 +1,15 @@
 -- Statements of what is met below a directory, said of the tree that an image reads as.
-use Rattle.std.specs.Prelude.{◌≡◌, ◌≢◌, ℕ, Bool, true, false, List, filter, All, AllPairs, Ok}
+use Rattle.std.specs.Prelude.{◌≡◌, ◌≢◌, ℕ, Bool, true, false, List, [], filter, All, AllPairs, Any, Some, Ok}
 use Rattle.std.specs.Cmp.Lexicographic.{slice_cmp}
 use Rattle.std.specs.Ordering.{nat_cmp}
 use Rattle.std.specs.declared.cmp.Ordering.TheVariants.{Less}
-use Rattle.vol_dir.specs.Entries.{IsDirectory}
+use Rattle.vol_dir.specs.Entries.{slots, IsDirectory}
+use Rattle.vol_dir.specs.Names.{get, names_of, is_dots}
 use Rattle.vol_dir.specs.Tree.{tree}
 use Rattle.vol_dir.specs.Walk.{components, walk_from}
 use Rattle.vol_layout.specs.declared.geometry.Geometry.{Geometry}
 use Rattle.vol_archive.specs.Exporting.{user}
-use Rattle.vol_archive.specs.Walking.{IsWalk}
+use Rattle.vol_archive.specs.Walking.{path_below, IsWalk}
 use Rattle.vol_archive.specs.declared.found.Found.{Found}
 use Rattle.vol_archive.specs.declared.found.Role.{Role}
 use Rattle.vol_archive.specs.declared.found.Role.TheVariants as roles
@@ -41,3 +42,18 @@ MembersAscend = (geometry : Geometry) (image : List ℕ) (start : ℕ) (founds :
 abbrev pub MembersDiffer : Type 0
 MembersDiffer = (geometry : Geometry) (image : List ℕ) (start : ℕ) (founds : List Found) → IsWalk geometry image start founds
     → AllPairs (λ (found later : Found). found.path ≢ later.path) (members_of founds)
+
+-- what is at a path, for an i-number, was met (this project)
+abbrev pub HasMet : List Found → List ℕ → ℕ → Type 0
+HasMet founds path i = Any (λ (found : Found). (found.path ≡ path) × (found.inode ≡ i)) founds
+
+-- each name of directory d, other than `.` and `..`, was met below its path, for the i-number that a search finds (Lions on namei)
+abbrev pub HasMetAllOf : Geometry → List ℕ → List Found → List ℕ → ℕ → Type 0
+HasMetAllOf geometry image founds path d =
+    (name : List ℕ) (i : ℕ) → get (names_of (slots geometry image d)) name ≡ Some i → is_dots name ≡ false → HasMet founds (path_below path name) i
+
+-- all names of the directory where the walk began are met, and all names of each directory that is a member (this project)
+abbrev pub DirectoriesAreWhole : Type 0
+DirectoriesAreWhole = (geometry : Geometry) (image : List ℕ) (start : ℕ) (founds : List Found) → IsWalk geometry image start founds
+    → HasMetAllOf geometry image founds [] start
+    × All (λ (found : Found). found.role ≡ roles.Directory → HasMetAllOf geometry image founds found.path found.inode) founds

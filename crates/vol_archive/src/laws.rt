@@ -1,5 +1,10 @@
 //! Laws about what goes into an archive. A call does nothing: what matters is the contract, which is proved.
-ghost use Rattle.vol_archive.specs.Laws.{MembersAreOfTree, MembersAscend, MembersDiffer};
+ghost use Rattle.vol_archive.specs.Laws.{
+  MembersAreOfTree,
+  MembersAscend,
+  MembersDiffer,
+  DirectoriesAreWhole,
+};
 
 /// Of every image, the path of each member leads from the directory that is exported to the member's i-number.
 pub fn members_are_of_the_tree()
@@ -10,4 +15,10 @@ pub fn members_are_of_the_tree()
 pub fn members_ascend()
     ensures ascending { MembersAscend }
     ensures once { MembersDiffer }
+{}
+
+/// Of every image, all names of the directory that is exported are met, and all names of each directory that is a member: as
+/// members, or with the reason why they are left out.
+pub fn directories_are_whole()
+    ensures { DirectoriesAreWhole }
 {}

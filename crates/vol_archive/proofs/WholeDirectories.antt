@@ -1,0 +1,134 @@
+-- All names of the directories that a walk goes below are met.
+use Rattle.std.proofs.Common.{◌≡◌, ℕ, suc, ◌⊎◌, inl, inr, true, false, cond, List, [], ◌∷◌, ◌++◌, Some, refl, ap, sym, subst, ◌∙◌, arith}
+use Rattle.std.specs.Prelude.{Any, All}
+use Rattle.std.specs.Cmp.Lexicographic.{slice_cmp}
+use Rattle.std.specs.Ordering.{nat_cmp, eq_by_cmp}
+use Rattle.std.specs.Option.{is_some}
+use Rattle.std.proofs.lemmas.Bool.{true≢false}
+use Rattle.std.proofs.lemmas.Map.Text.{is_eq-slice_cmp}
+use Rattle.vol_layout.specs.declared.geometry.Geometry.{Geometry}
+use Rattle.vol_file.proofs.PlaceLists.{same_bytes}
+use Rattle.vol_dir.specs.Entries.{slots}
+use Rattle.vol_dir.specs.Names.{Names, get, names_of, is_dots}
+use Rattle.vol_archive.specs.Laws.{HasMet, HasMetAllOf, DirectoriesAreWhole}
+use Rattle.vol_archive.specs.Walking.{Walks, is_plain, path_below, entry_below, pending_below, met, below, entries_below}
+use Rattle.vol_archive.specs.declared.found.Found.{Found}
+use Rattle.vol_archive.specs.declared.found.Role.TheVariants as roles
+use Rattle.vol_archive.specs.declared.pending.Pending.{Pending}
+use Rattle.vol_archive.proofs.Each.{Each, each_map, all_first}
+use Rattle.vol_archive.proofs.TreeMembers.{rest_of, walk_is}
+
+-- it holds of some item
+abbrev Has : {X : Type 0} → (X → Type 0) → List X → Type 0
+Has P [] = ⊥
+Has P (x ∷ xs) = P x ⊎ Has P xs
+
+has_map : {X : Type 0} (P Q : X → Type 0) → ((x : X) → P x → Q x) → (xs : List X) → Has P xs → Has Q xs
+has_map P Q f [] h = absurd h
+has_map P Q f (x ∷ xs) (inl p) = inl (f x p)
+has_map P Q f (x ∷ xs) (inr h) = inr (has_map P Q f xs h)
+
+has_behind : {X : Type 0} (P : X → Type 0) (xs ys : List X) → Has P ys → Has P (xs ++ ys)
+has_behind P [] ys h = h
+has_behind P (x ∷ xs) ys h = inr (has_behind P xs ys h)
+
+has_any : {X : Type 0} (P : X → Type 0) (xs : List X) → Has P xs → Any P xs
+has_any P [] h = absurd h
+has_any P (x ∷ xs) (inl p) = (0, x, omega arith, refl, p)
+has_any P (x ∷ xs) (inr h) = let rest = has_any P xs h in (suc rest.0, rest.1, omega (arith, rest.2), rest.3, rest.4)
+
+-- an item of which one thing holds, where another holds of each
+has_each : {X : Type 0} (P Q : X → Type 0) (R : Type 0) → ((x : X) → P x → Q x → R) → (xs : List X) → Has P xs → Each Q xs → R
+has_each P Q R f [] h k = absurd h
+has_each P Q R f (x ∷ xs) (inl p) k = f x p k.0
+has_each P Q R f (x ∷ xs) (inr h) k = has_each P Q R f xs h k.1
+
+each_all : {X : Type 0} (P : X → Type 0) (xs : List X) → Each P xs → All P xs
+each_all P [] h = λ k d within. absurd (omega arith)
+each_all P (x ∷ xs) h = all_first P x xs h.0 (each_all P xs h.1)
+
+each_front : {X : Type 0} (P : X → Type 0) (xs ys : List X) → Each P (xs ++ ys) → Each P xs
+each_front P [] ys h = tt
+each_front P (x ∷ xs) ys h = (h.0, each_front P xs ys h.1)
+
+each_back : {X : Type 0} (P : X → Type 0) (xs ys : List X) → Each P (xs ++ ys) → Each P ys
+each_back P [] ys h = h
+each_back P (x ∷ xs) ys h = each_back P xs ys h.1
+
+-- an entry is met
+abbrev Meets : List Found → Pending → Type 0
+Meets founds entry = Has (λ (found : Found). (found.path ≡ entry.path) × (found.inode ≡ entry.inode)) founds
+
+-- what was met is still met where more is met before it
+meets_more : (first : Found) (founds : List Found) (entries : List Pending) → Each (Meets founds) entries → Each (Meets (first ∷ founds)) entries
+meets_more first founds entries h = each_map (Meets founds) (Meets (first ∷ founds)) (λ entry m. inr m) entries h
+
+-- all that is pending is met
+pending_met : {g : Geometry} {image : List ℕ} {start : ℕ} {founds : List Found} {pending : List Pending} {all : List Found}
+    → (walks : Walks g image start founds pending all) → Each (Meets (rest_of walks)) pending
+unfolding rest_of
+pending_met (Walks.ends founds) = tt
+pending_met {g = g} {image = image} {start = start} (Walks.meets founds entry rest all walks) =
+    let found = met g image start founds entry in (
+      inl (refl, refl),
+      meets_more found (rest_of walks) rest
+          (each_back (Meets (rest_of walks)) (below g image found found.role) rest (pending_met walks)),
+    )
+
+-- a directory all of whose entries are among what is met
+abbrev IsWholeIn : Geometry → List ℕ → List Found → Found → Type 0
+IsWholeIn g image founds found = found.role ≡ roles.Directory → Each (Meets founds) (entries_below g image found.path found.inode)
+
+-- so are the entries of each directory that is met
+whole_met : {g : Geometry} {image : List ℕ} {start : ℕ} {founds : List Found} {pending : List Pending} {all : List Found}
+    → (walks : Walks g image start founds pending all) → Each (IsWholeIn g image (rest_of walks)) (rest_of walks)
+unfolding rest_of
+whole_met (Walks.ends founds) = tt
+whole_met {g = g} {image = image} {start = start} (Walks.meets founds entry rest all walks) =
+    let found = met g image start founds entry in (
+      λ is. meets_more found (rest_of walks) (entries_below g image found.path found.inode)
+          (subst (λ role. Each (Meets (rest_of walks)) (below g image found role)) is
+          (each_front (Meets (rest_of walks)) (below g image found found.role) rest (pending_met walks))),
+      each_map (IsWholeIn g image (rest_of walks)) (IsWholeIn g image (found ∷ rest_of walks))
+          (λ other whole is. meets_more found (rest_of walks) (entries_below g image other.path other.inode) (whole is)) (rest_of walks) (whole_met walks),
+    )
+
+-- an entry that is at a path, for an i-number
+abbrev IsAt : List ℕ → ℕ → Pending → Type 0
+IsAt path i entry = (entry.path ≡ path) × (entry.inode ≡ i)
+
+-- a name of a map, other than `.` and `..`, has an entry
+has_entry : (path : List ℕ) (es : Names) (name : List ℕ) (i : ℕ) → get es name ≡ Some i → is_dots name ≡ false
+    → Has (IsAt (path_below path name) i) (pending_below path es)
+unfolding pending_below
+has_entry path [] name i found dots = absurd (true≢false (sym (ap is_some found)))
+has_entry path (e ∷ es) name i found dots =
+    elim (eq_by_cmp (slice_cmp nat_cmp) name e.0) as (λ b. eq_by_cmp (slice_cmp nat_cmp) name e.0 ≡ b → cond b (Some e.1) (get es name) ≡ Some i
+    → Has (IsAt (path_below path name) i) (entry_below path e ++ pending_below path es)) [
+      | true ↦ λ same here.
+          let is : name ≡ e.0 = same_bytes name e.0 (sym (is_eq-slice_cmp name e.0) ∙ same) in
+          let number : e.1 ≡ i = cc in
+          subst (λ b. Has (IsAt (path_below path name) i) (cond b [] (record { path = path_below path e.0; inode = e.1; is_plain = is_plain e.0 } ∷ []) ++ pending_below path es))
+          (sym dots ∙ ap is_dots is) (inl (ap (path_below path) (sym is), number))
+      | false ↦ λ other later. has_behind (IsAt (path_below path name) i) (entry_below path e) (pending_below path es) (has_entry path es name i later dots)
+    ] refl found
+
+-- where all entries are met, all names are
+names_met : (g : Geometry) (image : List ℕ) (founds : List Found) (path : List ℕ) (d : ℕ) → Each (Meets founds) (entries_below g image path d)
+    → HasMetAllOf g image founds path d
+names_met g image founds path d h name i found dots =
+    has_each (IsAt (path_below path name) i) (Meets founds) (HasMet founds (path_below path name) i)
+    (λ entry at meets. has_any (λ (f : Found). (f.path ≡ path_below path name) × (f.inode ≡ i)) founds
+    (has_map (λ (f : Found). (f.path ≡ entry.path) × (f.inode ≡ entry.inode)) (λ (f : Found). (f.path ≡ path_below path name) × (f.inode ≡ i))
+    (λ f same. (same.0 ∙ at.0, same.1 ∙ at.1)) founds meets))
+    (entries_below g image path d) (has_entry path (names_of (slots g image d)) name i found dots) h
+
+-- all names are met of each directory that the walk goes below
+pub directories_whole : DirectoriesAreWhole
+directories_whole g image start founds walks = (
+  names_met g image founds [] start (subst (λ all. Each (Meets all) (entries_below g image [] start)) (walk_is walks) (pending_met walks)),
+  each_all (λ (found : Found). found.role ≡ roles.Directory → HasMetAllOf g image founds found.path found.inode) founds
+      (each_map (IsWholeIn g image founds) (λ (found : Found). found.role ≡ roles.Directory → HasMetAllOf g image founds found.path found.inode)
+      (λ found whole is. names_met g image founds found.path found.inode (whole is)) founds
+      (subst (λ all. Each (IsWholeIn g image all) all) (walk_is walks) (whole_met walks))),
+)

@@ -5,6 +5,7 @@ pub mod Listings
 pub mod MemberLists
 pub mod MemberOrder
 pub mod NameOrder
+pub mod NamedEntries
 pub mod Outputs
 pub mod PathNames
 pub mod TreeMembers

@@ -76,7 +76,7 @@ abbrev pub IsAfter : List (List ℕ) → Pending → Type 0
 IsAfter names entry = entry.is_plain ≡ true → order names (components entry.path) ≡ Less
 
 -- what holds of each entry of a directory that was met holds of each that is below what was met
-each_inside : (P : Pending → Type 0) (g : Geometry) (image : List ℕ) (found : Found) (role : Role)
+pub each_inside : (P : Pending → Type 0) (g : Geometry) (image : List ℕ) (found : Found) (role : Role)
     → (role ≡ roles.Directory → Each P (entries_below g image found.path found.inode)) → Each P (below g image found role)
 each_inside P g image found roles.Directory h = h refl
 each_inside P g image found roles.File h = tt

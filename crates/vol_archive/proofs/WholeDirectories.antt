@@ -43,7 +43,7 @@ has_each P Q R f [] h k = absurd h
 has_each P Q R f (x ∷ xs) (inl p) k = f x p k.0
 has_each P Q R f (x ∷ xs) (inr h) k = has_each P Q R f xs h k.1
 
-each_all : {X : Type 0} (P : X → Type 0) (xs : List X) → Each P xs → All P xs
+pub each_all : {X : Type 0} (P : X → Type 0) (xs : List X) → Each P xs → All P xs
 each_all P [] h = λ k d within. absurd (omega arith)
 each_all P (x ∷ xs) h = all_first P x xs h.0 (each_all P xs h.1)
 

@@ -3,7 +3,8 @@ use Rattle.std.specs.Prelude.{◌≡◌, ◌≢◌, ℕ, Bool, true, false, List
 use Rattle.std.specs.Cmp.Lexicographic.{slice_cmp}
 use Rattle.std.specs.Ordering.{nat_cmp}
 use Rattle.std.specs.declared.cmp.Ordering.TheVariants.{Less}
-use Rattle.vol_dir.specs.Entries.{slots, IsDirectory}
+use Rattle.vol_file.specs.Rules.{HasKinds}
+use Rattle.vol_dir.specs.Entries.{slots, IsDirectory, HasEntries}
 use Rattle.vol_dir.specs.Names.{get, names_of, is_dots}
 use Rattle.vol_dir.specs.Tree.{tree}
 use Rattle.vol_dir.specs.Walk.{components, walk_from}
@@ -13,6 +14,7 @@ use Rattle.vol_archive.specs.Walking.{path_below, IsWalk}
 use Rattle.vol_archive.specs.declared.found.Found.{Found}
 use Rattle.vol_archive.specs.declared.found.Role.{Role}
 use Rattle.vol_archive.specs.declared.found.Role.TheVariants as roles
+use Rattle.vol_archive.specs.declared.found.Reason.TheVariants as reasons
 
 -- whether what has this role is a member of the archive (POSIX, ustar interchange format)
 abbrev pub is_kept : Role → Bool
@@ -57,3 +59,9 @@ abbrev pub DirectoriesAreWhole : Type 0
 DirectoriesAreWhole = (geometry : Geometry) (image : List ℕ) (start : ℕ) (founds : List Found) → IsWalk geometry image start founds
     → HasMetAllOf geometry image founds [] start
     × All (λ (found : Found). found.role ≡ roles.Directory → HasMetAllOf geometry image founds found.path found.inode) founds
+
+-- of an image where rules 3 and 9 hold, nothing that is met is left out for its name, or because it has no i-node (manual section 5, directories)
+abbrev pub EntriesHaveNodes : Type 0
+EntriesHaveNodes = (geometry : Geometry) (image : List ℕ) (start : ℕ) (founds : List Found) → HasKinds geometry image → HasEntries geometry image
+    → IsDirectory geometry image start → IsWalk geometry image start founds
+    → All (λ (found : Found). (found.role ≢ roles.Left reasons.BadName) × (found.role ≢ roles.Left reasons.NoNode)) founds

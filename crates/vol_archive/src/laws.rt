@@ -4,6 +4,7 @@ ghost use Rattle.vol_archive.specs.Laws.{
   MembersAscend,
   MembersDiffer,
   DirectoriesAreWhole,
+  EntriesHaveNodes,
 };
 
 /// Of every image, the path of each member leads from the directory that is exported to the member's i-number.
@@ -21,4 +22,9 @@ pub fn members_ascend()
 /// members, or with the reason why they are left out.
 pub fn directories_are_whole()
     ensures { DirectoriesAreWhole }
+{}
+
+/// Of an image where each i-node has a kind, and each entry a name and an i-node, nothing is left out for want of these.
+pub fn entries_have_nodes()
+    ensures { EntriesHaveNodes }
 {}

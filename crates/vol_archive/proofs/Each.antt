@@ -48,3 +48,23 @@ all_pairs_kept p R (x ∷ xs) h =
       | true ↦ λ here. AllPairs-cons R x (filter p xs) (all_kept p (R x) xs (here refl)) (all_pairs_kept p R xs h.1)
       | false ↦ λ here. all_pairs_kept p R xs h.1
     ] (λ e. each_map (λ y. p x ≡ true → p y ≡ true → R x y) (λ y. p y ≡ true → R x y) (λ y r. r e) xs h.0)
+
+-- two things that hold of each
+pub each_both : {X : Type 0} (P Q : X → Type 0) (xs : List X) → Each P xs → Each Q xs → Each (λ x. P x × Q x) xs
+each_both P Q [] h k = tt
+each_both P Q (x ∷ xs) h k = ((h.0, k.0), each_both P Q xs h.1 k.1)
+
+-- what holds of each by turns holds of all
+pub each_all : {X : Type 0} (P : X → Type 0) (xs : List X) → Each P xs → All P xs
+each_all P [] h = λ k d within. absurd (omega arith)
+each_all P (x ∷ xs) h = all_first P x xs h.0 (each_all P xs h.1)
+
+-- what holds of each of two lists holds of each of the first
+pub each_front : {X : Type 0} (P : X → Type 0) (xs ys : List X) → Each P (xs ++ ys) → Each P xs
+each_front P [] ys h = tt
+each_front P (x ∷ xs) ys h = (h.0, each_front P xs ys h.1)
+
+-- and of each of the second
+pub each_back : {X : Type 0} (P : X → Type 0) (xs ys : List X) → Each P (xs ++ ys) → Each P ys
+each_back P [] ys h = h
+each_back P (x ∷ xs) ys h = each_back P xs ys h.1

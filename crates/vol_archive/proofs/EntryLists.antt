@@ -22,7 +22,7 @@ use Rattle.vol_dir.proofs.NameMaps.{sorted}
 use Rattle.vol_archive.proofs.PathNames.{components-join, components-nil}
 use Rattle.vol_archive.specs.Walking.{is_plain, path_below, entry_below, pending_below, entries_below}
 use Rattle.vol_archive.specs.declared.pending.Pending.{Pending}
-use Rattle.vol_archive.proofs.Each.{Each, each_append}
+use Rattle.vol_archive.proofs.Each.{Each, each_append, each_both}
 
 -- a name is cut at 14 bytes
 abbrev pub IsShort : List ℕ → Type 0
@@ -156,11 +156,6 @@ each_below path P Q f (e ∷ es) h =
       | true ↦ tt
       | false ↦ (f e h.0, tt)
     ]) (each_below path P Q f es h.1)
-
--- two things that hold of each
-pub each_both : {X : Type 0} (P Q : X → Type 0) (xs : List X) → Each P xs → Each Q xs → Each (λ x. P x × Q x) xs
-each_both P Q [] h k = tt
-each_both P Q (x ∷ xs) h k = ((h.0, k.0), each_both P Q xs h.1 k.1)
 
 -- the entries below a path have names of the directory
 pub entries_named : (geometry : Geometry) (image : List ℕ) (path : List ℕ) (d : ℕ)

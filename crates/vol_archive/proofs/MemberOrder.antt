@@ -18,8 +18,8 @@ use Rattle.vol_archive.specs.declared.found.Found.{Found}
 use Rattle.vol_archive.specs.declared.found.Role.{Role}
 use Rattle.vol_archive.specs.declared.found.Role.TheVariants as roles
 use Rattle.vol_archive.specs.declared.pending.Pending.{Pending}
-use Rattle.vol_archive.proofs.Each.{Each, Pairs, each_map, each_append, pairs_append, all_pairs_kept}
-use Rattle.vol_archive.proofs.EntryLists.{IsShort, IsNamed, component_below, directory_short, entries_named, each_below, each_both}
+use Rattle.vol_archive.proofs.Each.{Each, Pairs, each_map, each_append, pairs_append, all_pairs_kept, each_both}
+use Rattle.vol_archive.proofs.EntryLists.{IsShort, IsNamed, component_below, directory_short, entries_named, each_below}
 use Rattle.vol_archive.proofs.NameOrder.{order, order_total, Clears, before_inside, before_below, clear_before, clear_below, clear_beside}
 use Rattle.vol_archive.proofs.TreeMembers.{member_plain, rest_of, walk_is}
 

@@ -23,11 +23,10 @@ use Rattle.vol_archive.specs.declared.found.Role.{Role}
 use Rattle.vol_archive.specs.declared.found.Role.TheVariants as roles
 use Rattle.vol_archive.specs.declared.found.Reason.TheVariants as reasons
 use Rattle.vol_archive.specs.declared.pending.Pending.{Pending}
-use Rattle.vol_archive.proofs.Each.{Each, each_append}
-use Rattle.vol_archive.proofs.EntryLists.{directory_found, each_below, each_both}
+use Rattle.vol_archive.proofs.Each.{Each, each_append, each_both, each_all}
+use Rattle.vol_archive.proofs.EntryLists.{directory_found, each_below}
 use Rattle.vol_archive.proofs.MemberOrder.{each_inside}
 use Rattle.vol_archive.proofs.TreeMembers.{rest_of, walk_is, met_directory}
-use Rattle.vol_archive.proofs.WholeDirectories.{each_all}
 
 -- what holds of names holds of those of a map that one is put in
 each_put : (P : List ℕ → Type 0) (name : List ℕ) (i : ℕ) (names : Names) → P name → Each (λ (e : List ℕ × ℕ). P e.0) names
@@ -64,14 +63,14 @@ names_plain g image d entries directory =
     plain (c ∷ name) some none = ap not none
 
 -- an entry has a plain name, and an i-number in use
-abbrev HasNode : Geometry → List ℕ → Pending → Type 0
-HasNode g image entry = (entry.is_plain ≡ true) × IsInUse g image entry.inode
+abbrev IsForNode : Geometry → List ℕ → Pending → Type 0
+IsForNode g image entry = (entry.is_plain ≡ true) × IsInUse g image entry.inode
 
 -- so has each of a directory
 entries_have : (g : Geometry) (image : List ℕ) (path : List ℕ) (d : ℕ) → HasEntries g image → IsDirectory g image d
-    → Each (HasNode g image) (entries_below g image path d)
+    → Each (IsForNode g image) (entries_below g image path d)
 entries_have g image path d entries directory =
-    each_below path (λ (e : List ℕ × ℕ). (is_plain e.0 ≡ true) × (get (names_of (slots g image d)) e.0 ≡ Some e.1)) (HasNode g image)
+    each_below path (λ (e : List ℕ × ℕ). (is_plain e.0 ≡ true) × (get (names_of (slots g image d)) e.0 ≡ Some e.1)) (IsForNode g image)
     (λ e h. (h.0, found_in_use g image d e.0 e.1 entries directory h.1)) (names_of (slots g image d))
     (each_both (λ (e : List ℕ × ℕ). is_plain e.0 ≡ true) (λ (e : List ℕ × ℕ). get (names_of (slots g image d)) e.0 ≡ Some e.1)
     (names_of (slots g image d)) (names_plain g image d entries directory) (directory_found g image d))
@@ -81,7 +80,7 @@ abbrev IsFit : Role → Type 0
 IsFit role = (role ≢ roles.Left reasons.BadName) × (role ≢ roles.Left reasons.NoNode)
 
 -- what such an entry is met as
-fits_role : (g : Geometry) (image : List ℕ) (start : ℕ) (first : Option ℕ) (founds : List Found) (entry : Pending) → HasKinds g image → HasNode g image entry
+fits_role : (g : Geometry) (image : List ℕ) (start : ℕ) (first : Option ℕ) (founds : List Found) (entry : Pending) → HasKinds g image → IsForNode g image entry
     → IsFit (role_of g image start first founds entry)
 fits_role g image start first founds entry known node =
     let low : 1 ≤ entry.inode = let root = root_first g.edition in let least = node.1.first in omega arith in
@@ -121,7 +120,7 @@ fits_role g image start first founds entry known node =
 
 -- where all that is pending has a node, all that is met has
 rest_fits : {g : Geometry} {image : List ℕ} {start : ℕ} {founds : List Found} {pending : List Pending} {all : List Found}
-    → HasKinds g image → HasEntries g image → (walks : Walks g image start founds pending all) → Each (HasNode g image) pending
+    → HasKinds g image → HasEntries g image → (walks : Walks g image start founds pending all) → Each (IsForNode g image) pending
     → Each (λ (found : Found). IsFit found.role) (rest_of walks)
 unfolding rest_of
 rest_fits known entries (Walks.ends founds) h = tt
@@ -129,8 +128,8 @@ rest_fits {g = g} {image = image} {start = start} known entries (Walks.meets fou
     let first = first_met entry.inode founds in
     let found = met g image start founds entry in (
       fits_role g image start first founds entry known h.0,
-      rest_fits known entries walks (each_append (HasNode g image) (below g image found found.role) rest
-          (each_inside (HasNode g image) g image found found.role
+      rest_fits known entries walks (each_append (IsForNode g image) (below g image found found.role) rest
+          (each_inside (IsForNode g image) g image found found.role
           (λ is. entries_have g image entry.path entry.inode entries (met_directory g image start first founds entry is))) h.1),
     )
 

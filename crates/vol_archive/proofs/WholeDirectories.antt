@@ -1,6 +1,6 @@
 -- All names of the directories that a walk goes below are met.
 use Rattle.std.proofs.Common.{◌≡◌, ℕ, suc, ◌⊎◌, inl, inr, true, false, cond, List, [], ◌∷◌, ◌++◌, Some, refl, ap, sym, subst, ◌∙◌, arith}
-use Rattle.std.specs.Prelude.{Any, All}
+use Rattle.std.specs.Prelude.{Any}
 use Rattle.std.specs.Cmp.Lexicographic.{slice_cmp}
 use Rattle.std.specs.Ordering.{nat_cmp, eq_by_cmp}
 use Rattle.std.specs.Option.{is_some}
@@ -15,7 +15,7 @@ use Rattle.vol_archive.specs.Walking.{Walks, is_plain, path_below, entry_below, 
 use Rattle.vol_archive.specs.declared.found.Found.{Found}
 use Rattle.vol_archive.specs.declared.found.Role.TheVariants as roles
 use Rattle.vol_archive.specs.declared.pending.Pending.{Pending}
-use Rattle.vol_archive.proofs.Each.{Each, each_map, all_first}
+use Rattle.vol_archive.proofs.Each.{Each, each_map, each_all, each_front, each_back}
 use Rattle.vol_archive.proofs.TreeMembers.{rest_of, walk_is}
 
 -- it holds of some item
@@ -43,41 +43,29 @@ has_each P Q R f [] h k = absurd h
 has_each P Q R f (x ∷ xs) (inl p) k = f x p k.0
 has_each P Q R f (x ∷ xs) (inr h) k = has_each P Q R f xs h k.1
 
-pub each_all : {X : Type 0} (P : X → Type 0) (xs : List X) → Each P xs → All P xs
-each_all P [] h = λ k d within. absurd (omega arith)
-each_all P (x ∷ xs) h = all_first P x xs h.0 (each_all P xs h.1)
-
-each_front : {X : Type 0} (P : X → Type 0) (xs ys : List X) → Each P (xs ++ ys) → Each P xs
-each_front P [] ys h = tt
-each_front P (x ∷ xs) ys h = (h.0, each_front P xs ys h.1)
-
-each_back : {X : Type 0} (P : X → Type 0) (xs ys : List X) → Each P (xs ++ ys) → Each P ys
-each_back P [] ys h = h
-each_back P (x ∷ xs) ys h = each_back P xs ys h.1
-
 -- an entry is met
-abbrev Meets : List Found → Pending → Type 0
-Meets founds entry = Has (λ (found : Found). (found.path ≡ entry.path) × (found.inode ≡ entry.inode)) founds
+abbrev IsMetAmong : List Found → Pending → Type 0
+IsMetAmong founds entry = Has (λ (found : Found). (found.path ≡ entry.path) × (found.inode ≡ entry.inode)) founds
 
 -- what was met is still met where more is met before it
-meets_more : (first : Found) (founds : List Found) (entries : List Pending) → Each (Meets founds) entries → Each (Meets (first ∷ founds)) entries
-meets_more first founds entries h = each_map (Meets founds) (Meets (first ∷ founds)) (λ entry m. inr m) entries h
+meets_more : (first : Found) (founds : List Found) (entries : List Pending) → Each (IsMetAmong founds) entries → Each (IsMetAmong (first ∷ founds)) entries
+meets_more first founds entries h = each_map (IsMetAmong founds) (IsMetAmong (first ∷ founds)) (λ entry m. inr m) entries h
 
 -- all that is pending is met
 pending_met : {g : Geometry} {image : List ℕ} {start : ℕ} {founds : List Found} {pending : List Pending} {all : List Found}
-    → (walks : Walks g image start founds pending all) → Each (Meets (rest_of walks)) pending
+    → (walks : Walks g image start founds pending all) → Each (IsMetAmong (rest_of walks)) pending
 unfolding rest_of
 pending_met (Walks.ends founds) = tt
 pending_met {g = g} {image = image} {start = start} (Walks.meets founds entry rest all walks) =
     let found = met g image start founds entry in (
       inl (refl, refl),
       meets_more found (rest_of walks) rest
-          (each_back (Meets (rest_of walks)) (below g image found found.role) rest (pending_met walks)),
+          (each_back (IsMetAmong (rest_of walks)) (below g image found found.role) rest (pending_met walks)),
     )
 
 -- a directory all of whose entries are among what is met
 abbrev IsWholeIn : Geometry → List ℕ → List Found → Found → Type 0
-IsWholeIn g image founds found = found.role ≡ roles.Directory → Each (Meets founds) (entries_below g image found.path found.inode)
+IsWholeIn g image founds found = found.role ≡ roles.Directory → Each (IsMetAmong founds) (entries_below g image found.path found.inode)
 
 -- so are the entries of each directory that is met
 whole_met : {g : Geometry} {image : List ℕ} {start : ℕ} {founds : List Found} {pending : List Pending} {all : List Found}
@@ -87,8 +75,8 @@ whole_met (Walks.ends founds) = tt
 whole_met {g = g} {image = image} {start = start} (Walks.meets founds entry rest all walks) =
     let found = met g image start founds entry in (
       λ is. meets_more found (rest_of walks) (entries_below g image found.path found.inode)
-          (subst (λ role. Each (Meets (rest_of walks)) (below g image found role)) is
-          (each_front (Meets (rest_of walks)) (below g image found found.role) rest (pending_met walks))),
+          (subst (λ role. Each (IsMetAmong (rest_of walks)) (below g image found role)) is
+          (each_front (IsMetAmong (rest_of walks)) (below g image found found.role) rest (pending_met walks))),
       each_map (IsWholeIn g image (rest_of walks)) (IsWholeIn g image (found ∷ rest_of walks))
           (λ other whole is. meets_more found (rest_of walks) (entries_below g image other.path other.inode) (whole is)) (rest_of walks) (whole_met walks),
     )
@@ -114,10 +102,10 @@ has_entry path (e ∷ es) name i found dots =
     ] refl found
 
 -- where all entries are met, all names are
-names_met : (g : Geometry) (image : List ℕ) (founds : List Found) (path : List ℕ) (d : ℕ) → Each (Meets founds) (entries_below g image path d)
+names_met : (g : Geometry) (image : List ℕ) (founds : List Found) (path : List ℕ) (d : ℕ) → Each (IsMetAmong founds) (entries_below g image path d)
     → HasMetAllOf g image founds path d
 names_met g image founds path d h name i found dots =
-    has_each (IsAt (path_below path name) i) (Meets founds) (HasMet founds (path_below path name) i)
+    has_each (IsAt (path_below path name) i) (IsMetAmong founds) (HasMet founds (path_below path name) i)
     (λ entry at meets. has_any (λ (f : Found). (f.path ≡ path_below path name) × (f.inode ≡ i)) founds
     (has_map (λ (f : Found). (f.path ≡ entry.path) × (f.inode ≡ entry.inode)) (λ (f : Found). (f.path ≡ path_below path name) × (f.inode ≡ i))
     (λ f same. (same.0 ∙ at.0, same.1 ∙ at.1)) founds meets))
@@ -126,7 +114,7 @@ names_met g image founds path d h name i found dots =
 -- all names are met of each directory that the walk goes below
 pub directories_whole : DirectoriesAreWhole
 directories_whole g image start founds walks = (
-  names_met g image founds [] start (subst (λ all. Each (Meets all) (entries_below g image [] start)) (walk_is walks) (pending_met walks)),
+  names_met g image founds [] start (subst (λ all. Each (IsMetAmong all) (entries_below g image [] start)) (walk_is walks) (pending_met walks)),
   each_all (λ (found : Found). found.role ≡ roles.Directory → HasMetAllOf g image founds found.path found.inode) founds
       (each_map (IsWholeIn g image founds) (λ (found : Found). found.role ≡ roles.Directory → HasMetAllOf g image founds found.path found.inode)
       (λ found whole is. names_met g image founds found.path found.inode (whole is)) founds

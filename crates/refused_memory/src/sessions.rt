@@ -1,5 +1,5 @@
 //! A shared volume with two sessions.
-ghost use Rattle.std.specs.Prelude.{◌≡◌, ◌≤◌, IfOk, IfSome, vec_len, vec_capacity};
+ghost use Rattle.std.specs.Prelude.{◌≡◌, ◌≤◌, IfOk, IfSome, None, vec_len, vec_capacity};
 
 use crate::found::Found;
 use crate::steps::{copied, copy_of, create, read, sixth, stat};
@@ -129,6 +129,7 @@ fn open_two(alloc: Global, found: &mut Found, volume: Volume) -> Option<(Shared,
     ensures first { IfSome result (λ opened. opened.1.of ≡ opened.0.of) }
     ensures second { IfSome result (λ opened. opened.2.of ≡ opened.0.of) }
     ensures sessions { IfSome result (λ opened. opened.0.sessions ≡ 2) }
+    ensures unpublished { IfSome result (λ opened. opened.0.of.book ≡ None) }
 {
     let before = copied(alloc, volume.image().as_bytes())?;
     match opened(alloc, volume) {
@@ -146,6 +147,7 @@ fn opened(alloc: Global, volume: Volume) -> Result<(Shared, Session, Session), V
     ensures first { IfOk result (λ opened. opened.1.of ≡ opened.0.of) }
     ensures second { IfOk result (λ opened. opened.2.of ≡ opened.0.of) }
     ensures sessions { IfOk result (λ opened. opened.0.sessions ≡ 2) }
+    ensures unpublished { IfOk result (λ opened. opened.0.of.book ≡ None) }
 {
     match Shared::open(alloc, volume, 2) {
         Ok((shared, mut sessions)) => {
@@ -204,6 +206,7 @@ fn ask<R: Wait>(
 fn close_two(shared: Shared, mut room: Vec<Session>, first: Session, second: Session) -> Closed
     requires room { 2 ≤ vec_capacity room }
     requires empty { vec_len room ≡ 0 }
+    requires unpublished { shared.of.book ≡ None }
     requires sessions { shared.sessions ≡ 2 }
     requires first { first.of ≡ shared.of }
     requires second { second.of ≡ shared.of }

@@ -4,7 +4,7 @@ RT ?= rt
 PREFIX ?= /usr/local
 
 .DEFAULT_GOAL := help
-.PHONY: help run build test bench faults install
+.PHONY: help run build test bench faults manual install
 
 help:
 	@echo 'make run                    proves and builds the program, then prints the file in samples/hello.v6'
@@ -13,7 +13,8 @@ help:
 	@echo 'make faults                 refuses each allocation in turn, of the libraries and of the program, and runs the program 10,000 times where memory, the stack,'
 	@echo '                            the disk or a descriptor fails it, or a signal ends it; needs rustc, and some minutes'
 	@echo 'make build                  proves and builds the program, and leaves it as ./unixvol'
-	@echo 'make install PREFIX=FOLDER  builds the program and copies it to FOLDER/bin (to /usr/local/bin without PREFIX)'
+	@echo 'make install PREFIX=FOLDER  builds the program and copies it to FOLDER/bin, with its manual page and completions (to /usr/local without PREFIX)'
+	@echo 'make manual                 builds the program, and makes the manual page and the completions anew from what it says of itself'
 
 # The program is built only where it is proved. The words after `--` are its own: it is run once.
 build:
@@ -28,6 +29,7 @@ test:
 	$(RT) ci
 	cp -f crates/unixvol/out/unixvol unixvol
 	tests/program.sh ./unixvol
+	tests/manual.sh ./unixvol
 
 bench: build
 	cd crates/many_calls && $(RT) run -- 0 0 create
@@ -40,6 +42,12 @@ faults: build
 	tests/refused.sh crates/refused_memory/out/refused_memory
 	tests/faults.sh ./unixvol
 
+# What is made is committed, and the gate compares it with the program's help.
+manual: build
+	manual/make.sh ./unixvol manual
+
 install: build
-	install -d $(DESTDIR)$(PREFIX)/bin
-	install -m 755 unixvol $(DESTDIR)$(PREFIX)/bin/unixvol
+	install -D -m 755 unixvol $(DESTDIR)$(PREFIX)/bin/unixvol
+	install -D -m 644 manual/unixvol.1 $(DESTDIR)$(PREFIX)/share/man/man1/unixvol.1
+	install -D -m 644 manual/unixvol.bash $(DESTDIR)$(PREFIX)/share/bash-completion/completions/unixvol
+	install -D -m 644 manual/_unixvol $(DESTDIR)$(PREFIX)/share/zsh/site-functions/_unixvol

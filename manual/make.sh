@@ -1,0 +1,210 @@
+#!/usr/bin/env bash
+# Writes the manual page and the completions for bash and zsh, as the program describes itself: each command, word and option comes
+# from `--help`. Usage: manual/make.sh PROGRAM FOLDER. It writes FOLDER/unixvol.1, FOLDER/unixvol.bash and FOLDER/_unixvol.
+set -euo pipefail
+# Texts are bytes, whatever the language of the system.
+export LC_ALL=C
+[ $# = 2 ] || { echo "usage: manual/make.sh PROGRAM FOLDER" >&2; exit 2; }
+program=$(realpath "$1")
+folder=$(realpath "$2")
+
+# help WORD..: the help of the program, or of the command that is named
+help() { "$program" "$@" --help; }
+
+# commands: the name of each command but `help`, a line each
+commands() { help | awk '/^Commands:/ { on = 1; next } /^$/ { on = 0 } on && $1 != "help" { print $1 }'; }
+
+# about WORD..: the first line of the help
+about() { help "$@" | head -n 1; }
+
+# usage WORD..: the line of the usage, without the word `Usage:`, where the program has its own name
+usage() { help "$@" | sed -n 's/^Usage: [^ ]*/unixvol/p'; }
+
+# section NAME WORD..: the lines of a section of the help, from after its heading to the next empty line
+section() {
+    local name=$1
+    shift
+    help "$@" | awk -v name="$name:" '$0 == name { on = 1; next } /^$/ { on = 0 } on'
+}
+
+# rest WORD..: what stands in the help after the options
+rest() { help "$@" | awk 'past { print; next } /^Options:/ { on = 1; next } on && /^$/ { past = 1 }'; }
+
+# escaped: standard input as text of a manual page
+escaped() { sed -e 's/\\/\\e/g' -e 's/-/\\-/g' -e 's/`/\\(ga/g' -e "s/'/\\\\(aq/g" -e 's/^\./\\\&./'; }
+
+# table: lines of a section of the help as a list of a manual page: what stands before two spaces, and then its text
+table() {
+    sed -E -e 's/^ +//' -e 's/  +/\t/' | escaped | awk -F '\t' '{ print ".TP"; print ".B " $1; print $2 }'
+}
+
+# verbatim: standard input as it is, in a manual page
+verbatim() {
+    echo .nf
+    escaped
+    echo .fi
+}
+
+manual_page() {
+    echo '.\" Made by manual/make.sh.'
+    echo ".TH UNIXVOL 1 \"\" \"unixvol $("$program" --version | awk '{ print $2 }')\""
+    echo .SH NAME
+    echo "unixvol \\- $(about | sed -e 's/\.$//' | escaped)"
+    echo .SH SYNOPSIS
+    for command in $(commands); do
+        echo .br
+        usage "$command" | escaped
+    done
+    echo .SH COMMANDS
+    for command in $(commands); do
+        echo ".SS $command"
+        about "$command" | escaped
+        section Arguments "$command" | table
+        section Options "$command" | table
+        echo .PP
+        rest "$command" | verbatim
+    done
+    echo ".SH EXIT STATUS"
+    rest | verbatim
+}
+
+# kind WORD: what stands for a word of the command line: an edition, a file, a path in the volume, or anything
+kind() {
+    case $1 in
+        EDITION) echo edition ;;
+        IMAGE | FILE | SCRIPT | OLD | NEW | FOLDER) echo file ;;
+        PATH | FROM | TO | DIR) echo path ;;
+        *) echo any ;;
+    esac
+}
+
+# words COMMAND: the kinds of the command's words, in their order; the last has dots behind it where it may be repeated
+words() {
+    local name dots
+    while read -r name; do
+        dots=
+        [[ $name == *... ]] && dots=...
+        echo "$(kind "$(tr -d '<>[].' <<< "$name")")$dots"
+    done < <(section Arguments "$1" | awk '{ print $1 }')
+}
+
+# options COMMAND: the command's options, a line each; what stands for the value of one that takes a value is behind it
+options() {
+    section Options "$1" | sed -E -e 's/^ +//' -e 's/  .*//' | awk -F ', ' '
+        { value = ""; if (match($0, /<[A-Z]+>/)) value = " " substr($0, RSTART + 1, RLENGTH - 2) }
+        { for (i = 1; i <= NF; i++) { sub(/ .*/, "", $i); print $i value } }'
+}
+
+# one_line: standard input in one line
+one_line() { paste -s -d ' ' -; }
+
+bash_completion() {
+    cat << 'END'
+# Completion for bash. Made by manual/make.sh.
+
+# The names in a directory of the volume, as far as the path's directory leads there.
+_unixvol_paths() {
+    local folder=${3%/*} name
+    [[ $3 == */* ]] || folder=
+    while IFS= read -r name; do
+        name=${name:6}
+        [[ $name == . || $name == .. ]] || COMPREPLY+=("$folder/$name")
+    done < <(unixvol ls "$1" "$2" "$folder/" 2> /dev/null)
+    [[ $3 == /* ]] || COMPREPLY=("${COMPREPLY[@]#/}")
+    mapfile -t COMPREPLY < <(compgen -W "$(printf '%q ' "${COMPREPLY[@]}")" -- "$3")
+}
+
+_unixvol() {
+    local current=${COMP_WORDS[COMP_CWORD]} command=${COMP_WORDS[1]} options='' kinds='' word expected=''
+    local -a given=()
+    COMPREPLY=()
+    if [ "$COMP_CWORD" -eq 1 ]; then
+END
+    echo "        mapfile -t COMPREPLY < <(compgen -W '$(commands | one_line) help --help --version' -- \"\$current\")"
+    cat << 'END'
+        return
+    fi
+    case $command in
+END
+    for command in $(commands); do
+        echo "        $command) kinds='$(words "$command" | one_line)' options='$(options "$command" | awk '{ print $1 }' | one_line)' ;;"
+    done
+    cat << 'END'
+    esac
+    if [[ $current == -* ]]; then
+        mapfile -t COMPREPLY < <(compgen -W "$options" -- "$current")
+        return
+    fi
+    for word in "${COMP_WORDS[@]:2:COMP_CWORD-2}"; do
+        [[ $word == -* ]] || given+=("$word")
+    done
+    read -r -a kinds <<< "$kinds"
+    expected=${kinds[${#given[@]}]:-}
+    [[ -z $expected && ${#kinds[@]} -gt 0 && ${kinds[-1]} == *... ]] && expected=${kinds[-1]}
+    case ${expected%...} in
+        edition) mapfile -t COMPREPLY < <(compgen -W '6 7' -- "$current") ;;
+        file) mapfile -t COMPREPLY < <(compgen -f -- "$current") ;;
+        path) _unixvol_paths "${given[0]}" "${given[1]}" "$current" ;;
+    esac
+}
+
+complete -o filenames -F _unixvol unixvol
+END
+}
+
+# completer KIND: what zsh completes a word of this kind by
+completer() {
+    case $1 in
+        edition) echo '(6 7)' ;;
+        file) echo _files ;;
+        *) echo ' ' ;;
+    esac
+}
+
+# quoted: standard input as the text within an argument of zsh's `_arguments`
+quoted() { sed -e "s/'/'\\\\''/g" -e 's/\[/(/g' -e 's/\]/)/g' -e 's/:/\\:/g'; }
+
+# arguments COMMAND: the arguments of zsh's `_arguments` for a command, a line each
+arguments() {
+    local name text place star value
+    while IFS=$'\t' read -r name text; do
+        value=
+        [[ $name == *'<'* ]] && value=":$(grep -o '<[A-Z]*>' <<< "$name" | tr -d '<>'):$(completer "$(kind "$(grep -o '<[A-Z]*>' <<< "$name" | tr -d '<>')")")"
+        for name in $(sed -e 's/,//g' -e 's/<[A-Z]*>//' <<< "$name"); do
+            echo "'${name}[$(quoted <<< "$text")]$value'"
+        done
+    done < <(section Options "$1" | sed -E -e 's/^ +//' -e 's/  +/\t/')
+    place=2
+    while IFS=$'\t' read -r name text; do
+        star=$place
+        [[ $name == *... ]] && star='*'
+        name=$(tr -d '<>[].' <<< "$name")
+        echo "'$star:$name -- $(quoted <<< "$text"):$(completer "$(kind "$name")")'"
+        place=$((place + 1))
+    done < <(section Arguments "$1" | sed -E -e 's/^ +//' -e 's/  +/\t/')
+}
+
+zsh_completion() {
+    echo '#compdef unixvol'
+    echo '# Completion for zsh. Made by manual/make.sh.'
+    echo
+    echo 'local -a commands'
+    echo 'commands=('
+    for command in $(commands); do
+        echo "    '$command:$(about "$command" | quoted)'"
+    done
+    echo ')'
+    echo 'if (( CURRENT == 2 )); then'
+    echo '    _describe command commands'
+    echo '    return'
+    echo 'fi'
+    echo "case \$words[2] in"
+    for command in $(commands); do
+        echo "    $command) _arguments '1: :' $(arguments "$command" | one_line) ;;"
+    done
+    echo 'esac'
+}
+
+manual_page > "$folder/unixvol.1"
+bash_completion > "$folder/unixvol.bash"
+zsh_completion > "$folder/_unixvol"

@@ -1,0 +1,55 @@
+#!/usr/bin/env bash
+# Compares the manual page and the completions in manual/ with what the program says of itself, and tries the completion for bash.
+# Usage: tests/manual.sh PROGRAM. It prints a line for each row that fails, and ends with 'N passed, N failed'.
+set -uo pipefail
+program=$(realpath "${1:?usage: tests/manual.sh PROGRAM}")
+manual=$(realpath "$(dirname "$0")/../manual")
+samples=$(realpath "$(dirname "$0")/../samples")
+folder=$(mktemp -d)
+trap 'rm -rf "$folder"' EXIT
+passed=0
+failed=0
+
+# counts LABEL STATUS: a row, which holds where the status is 0
+counts() {
+    if [ "$2" -eq 0 ]; then
+        passed=$((passed + 1))
+    else
+        failed=$((failed + 1))
+        echo "failed: $1"
+    fi
+}
+
+# unixvol WORD..: the program, where the completion asks for it
+unixvol() { "$program" "$@"; }
+
+# completes WANTED WORD..: the last word is completed to the words in WANTED
+completes() {
+    local wanted=$1
+    shift
+    COMP_WORDS=(unixvol "$@")
+    COMP_CWORD=$#
+    _unixvol
+    [ "${COMPREPLY[*]}" = "$wanted" ]
+    counts "completion of 'unixvol $*': '${COMPREPLY[*]}', wanted '$wanted'" $?
+}
+
+"$manual/make.sh" "$program" "$folder"
+for file in unixvol.1 unixvol.bash _unixvol; do
+    cmp -s "$folder/$file" "$manual/$file"
+    counts "manual/$file isn't what manual/make.sh makes of the program's help: run it" $?
+done
+
+cd "$folder" || exit 1
+source "$manual/unixvol.bash"
+cp "$samples/linux_made.v7" disk.img
+completes 'mkfs mkdir' mk
+completes '6 7' ls ''
+completes 'disk.img' ls 7 disk
+completes '/etc/motd' get 7 disk.img /etc/m
+completes 'etc/empty etc/motd etc/passwd' get 7 disk.img etc/
+completes '--help' rm --he
+completes '' rm 7 disk.img /etc/motd 1
+
+echo "$passed passed, $failed failed"
+[ "$failed" -eq 0 ]

@@ -3,6 +3,8 @@
 #![tactic(auto)]
 
 #[cfg(test)]
+mod crowds;
+#[cfg(test)]
 mod cuts;
 #[cfg(test)]
 mod fixtures;

@@ -1,4 +1,5 @@
-//! Tests of exporting a tree as an archive: what GNU tar makes of the same tree, and images that aren't sound.
+//! Tests of exporting a tree as an archive: what GNU tar makes of the same tree, and images that aren't sound; and of reading the
+//! headers of archives.
 #![tactic(auto)]
 
 #[cfg(test)]
@@ -7,5 +8,7 @@ mod expected;
 mod exporting;
 #[cfg(test)]
 mod fixtures;
+#[cfg(test)]
+mod headers;
 #[cfg(test)]
 mod hostile;

@@ -1,4 +1,5 @@
-//! Tests of what views of a shared volume stand on: calls that are foreseen and made again, versions, and the log.
+//! Tests of what views of a shared volume stand on: calls that are foreseen and made again, versions, the log, and what
+//! is published.
 #![tactic(auto)]
 
 #[cfg(test)]
@@ -7,5 +8,7 @@ mod fixtures;
 mod foreseen;
 #[cfg(test)]
 mod ledgers;
+#[cfg(test)]
+mod publishing;
 #[cfg(test)]
 mod versions;

@@ -1,8 +1,9 @@
-//! Refuses one allocation of a program: a library that is loaded before the C library, in whose place it stands for `malloc`, `calloc`
-//! and `realloc`. REFUSED names the allocation by its number, counted from 1; where it was met, a line goes to descriptor 9, if that is open.
+//! Refuses allocations of a program: a library that is loaded before the C library, in whose place it stands for `malloc`, `calloc`
+//! and `realloc`. REFUSED names the one allocation that is refused by its number, counted from 1, and REFUSED_FROM the first of which it
+//! and all later are; for each that is refused a line goes to descriptor 9, if that is open.
 //! `tests/refused.sh` builds it with `rustc --crate-type cdylib` and loads it by LD_PRELOAD. It needs the GNU C library.
 
-use std::ffi::{c_char, c_int, c_void};
+use std::ffi::{c_char, c_int, c_void, CStr};
 use std::ptr::null_mut;
 use std::sync::atomic::{AtomicU64, Ordering};
 
@@ -22,16 +23,21 @@ const ENOMEM: c_int = 12;
 /// How many allocations there were.
 static COUNT: AtomicU64 = AtomicU64::new(0);
 
-/// Whether this allocation is the one that is refused.
-fn is_refused() -> bool {
-    let number = COUNT.fetch_add(1, Ordering::SeqCst) + 1;
-    let refused = unsafe {
-        match getenv(c"REFUSED".as_ptr()) {
+/// The number that a variable of the environment has, 0 where there is none.
+fn number_in(name: &CStr) -> u64 {
+    unsafe {
+        match getenv(name.as_ptr()) {
             text if text.is_null() => 0,
             text => atol(text) as u64,
         }
-    };
-    if number != refused {
+    }
+}
+
+/// Whether this allocation is refused.
+fn is_refused() -> bool {
+    let number = COUNT.fetch_add(1, Ordering::SeqCst) + 1;
+    let from = number_in(c"REFUSED_FROM");
+    if number != number_in(c"REFUSED") && (from == 0 || number < from) {
         return false;
     }
     unsafe {
@@ -41,7 +47,7 @@ fn is_refused() -> bool {
     true
 }
 
-/// As the C library's, but for the allocation that is refused.
+/// As the C library's, but for what is refused.
 #[no_mangle]
 pub unsafe extern "C" fn malloc(size: usize) -> *mut c_void {
     match is_refused() {
@@ -50,7 +56,7 @@ pub unsafe extern "C" fn malloc(size: usize) -> *mut c_void {
     }
 }
 
-/// As the C library's, but for the allocation that is refused.
+/// As the C library's, but for what is refused.
 #[no_mangle]
 pub unsafe extern "C" fn calloc(count: usize, size: usize) -> *mut c_void {
     match is_refused() {
@@ -59,7 +65,7 @@ pub unsafe extern "C" fn calloc(count: usize, size: usize) -> *mut c_void {
     }
 }
 
-/// As the C library's, but for the allocation that is refused.
+/// As the C library's, but for what is refused.
 #[no_mangle]
 pub unsafe extern "C" fn realloc(old: *mut c_void, size: usize) -> *mut c_void {
     match is_refused() {

@@ -1,6 +1,6 @@
 //! Makes one run over the libraries, of which any one allocation may be refused, and looks at what a refusal leaves.
 //!
-//! refused_memory mkfs|volume|sessions|checkers|salvage|migrate|play
+//! refused_memory mkfs|volume|sessions|views|checkers|salvage|migrate|play
 //!
 //! Does the run's steps one after another. A step that finds no memory is to leave all as before, which is compared, and is
 //! done once more. Prints how many promises were broken; so its output is the same whichever allocation is refused. The status
@@ -12,6 +12,7 @@ mod found;
 mod plays;
 mod sessions;
 mod steps;
+mod views;
 mod volumes;
 
 use crate::found::Found;
@@ -34,6 +35,7 @@ fn run<R: Threads + Wait + Sync>(
         "mkfs" => volumes::make(alloc, found),
         "volume" => volumes::change(alloc, found),
         "sessions" => sessions::share(rt, alloc, found),
+        "views" => views::watch(rt, alloc, found),
         "checkers" => checkers::check_all(alloc, found),
         "salvage" => volumes::mend(alloc, found),
         "migrate" => volumes::migrate_sixth(alloc, found),

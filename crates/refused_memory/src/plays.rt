@@ -2,7 +2,7 @@
 ghost use Rattle.std.specs.Prelude.{◌≡◌, ◌≤◌, length, vec_len, IfSome};
 
 use crate::found::Found;
-use crate::steps::{copied, made};
+use crate::steps::{copied, made, room};
 use pdp_words::IntoWrite;
 use std::alloc::Global;
 use std::sync::Wait;
@@ -28,7 +28,7 @@ static PARTS: [&[u8]; 5] = [
     b"",
 ];
 
-/// Room for what is printed.
+/// Room for what is printed, so that printing takes no memory.
 const ROOM: usize = 4096;
 
 /// Plays a script on a volume of the sixth edition.
@@ -39,8 +39,8 @@ pub fn play_script<R: Threads + Wait + Sync>(
 ) -> Option<()> {
     let image = made(alloc, found, Edition::V6, 20)?;
     let scripts = [copied(alloc, SCRIPT)?];
-    let mut output = IntoWrite::new(room(alloc)?);
-    let mut errors = IntoWrite::new(room(alloc)?);
+    let mut output = IntoWrite::new(room(alloc, ROOM)?);
+    let mut errors = IntoWrite::new(room(alloc, ROOM)?);
     let answer = play(
         rt,
         alloc,
@@ -56,14 +56,6 @@ pub fn play_script<R: Threads + Wait + Sync>(
         Some(image) => mount(alloc, found, image),
         None => Some(()),
     }
-}
-
-/// Room for what is printed, so that printing takes no memory.
-fn room(alloc: Global) -> Option<Vec<u8>> {
-    if let Ok(room) = Vec::with_capacity(alloc, ROOM) {
-        return Some(room);
-    }
-    Vec::with_capacity(alloc, ROOM).ok()
 }
 
 /// What was printed, and the status, are those of a play in which at most one allocation was refused.

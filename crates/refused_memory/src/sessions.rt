@@ -1,29 +1,48 @@
 //! A shared volume with two sessions.
-ghost use Rattle.std.specs.Prelude.{◌≡◌, ◌≤◌, IfOk, IfSome, None, vec_len, vec_capacity};
+ghost use Rattle.std.specs.Prelude.{◌≡◌, ◌≤◌, length, IfOk, IfSome, None, vec_len, vec_capacity, All};
+ghost use Rattle.vol_shared.specs.Sessions.{new_session};
+ghost use Rattle.vol_shared.specs.Stored.{next_number};
 
 use crate::found::Found;
-use crate::steps::{copied, copy_of, create, read, sixth, stat};
+use crate::steps::{called, copied, copy_of, create, read, room, sixth, stat};
 use std::alloc::Global;
 use std::sync::Wait;
+use vol_dir::Refusal;
 use vol_shared::{Closed, ConfirmFault, Outcome, Receipt, Session, Shared};
 use vol_volume::{Call, Done, Query, Reply, Volume};
 
 /// What a session asks.
 #[derive(Drop)]
-struct Turn {
-    call: Call,
-    query: Query,
+pub struct Turn {
+    pub call: Call,
+    pub query: Query,
 }
+
+/// The bytes of a volume before and after each of the two calls, as it has them by itself.
+pub type Images = [Vec<u8>; 3];
 
 /// The receipts of a session, where there was the memory for them.
 #[derive(Drop)]
-struct Kept {
-    called: Option<Receipt>,
-    asked: Option<Receipt>,
+pub struct Kept {
+    pub called: Option<Receipt>,
+    pub asked: Option<Receipt>,
 }
 
 /// Opens a volume with two sessions, of which each makes a call and asks a query, ends it, and confirms all receipts.
 pub fn share<R: Wait>(rt: &R, alloc: Global, found: &mut Found) -> Option<()> {
+    let images = images(alloc, found)?;
+    let (first, second) = turns(alloc)?;
+    let volume = sixth(alloc, found)?;
+    let (closed, kept, others) = played(rt, alloc, found, volume, first, second)?;
+    let before = check(found, &kept, 0, Done::Made(32));
+    let after = check(found, &others, before, Done::Made(31));
+    check_closed(found, &closed, after, &images);
+    confirm_kept(alloc, found, &closed, kept)?;
+    confirm_kept(alloc, found, &closed, others)
+}
+
+/// What two sessions ask: each makes a file, and asks of the first one's.
+pub fn turns(alloc: Global) -> Option<(Turn, Turn)> {
     let first = Turn {
         call: create(alloc, b"/a")?,
         query: read(alloc, b"/a")?,
@@ -32,14 +51,18 @@ pub fn share<R: Wait>(rt: &R, alloc: Global, found: &mut Found) -> Option<()> {
         call: create(alloc, b"/b")?,
         query: stat(alloc, b"/a")?,
     };
-    let volume = sixth(alloc, found)?;
-    let (closed, kept, others) = played(rt, alloc, found, volume, first, second)?;
-    found.wants(closed.accepted() == 2);
-    found.wants(closed.volume().journal().len() == 2);
-    check(found, &kept, 0, Done::Made(32));
-    check(found, &others, 1, Done::Made(31));
-    confirm_kept(alloc, found, &closed, kept)?;
-    confirm_kept(alloc, found, &closed, others)
+    Some((first, second))
+}
+
+/// What the calls of both sessions leave of a volume that nobody shares.
+pub fn images(alloc: Global, found: &mut Found) -> Option<Images> {
+    let (first, second) = turns(alloc)?;
+    let mut volume = sixth(alloc, found)?;
+    let new = copied(alloc, volume.image().as_bytes())?;
+    called(alloc, found, &mut volume, first.call)?;
+    let one = copied(alloc, volume.image().as_bytes())?;
+    called(alloc, found, &mut volume, second.call)?;
+    Some([new, one, volume.unmount()])
 }
 
 /// Opens a volume, lets two sessions take their turns, and ends it.
@@ -51,7 +74,7 @@ fn played<R: Wait>(
     first: Turn,
     second: Turn,
 ) -> Option<(Closed, Kept, Kept)> {
-    let room = room(alloc)?;
+    let room = room(alloc, 2)?;
     let (shared, mut one, mut other) = open_two(alloc, found, volume)?;
     let kept = take(rt, alloc, found, &shared, &mut one, first);
     let others = take(rt, alloc, found, &shared, &mut other, second);
@@ -59,7 +82,7 @@ fn played<R: Wait>(
 }
 
 /// A session makes its call and asks its query.
-fn take<R: Wait>(
+pub fn take<R: Wait>(
     rt: &R,
     alloc: Global,
     found: &mut Found,
@@ -77,51 +100,48 @@ fn take<R: Wait>(
     }
 }
 
-/// The receipts of a session have the numbers and the outcomes that they have where no memory is refused: its call made a
-/// file by the record of this number, and its query was of an empty file, or of what i-node 32 is.
-fn check(found: &mut Found, kept: &Kept, at: u64, made: Done) {
-    match &kept.called {
-        Some(receipt) => {
-            found.wants(receipt.at == at);
-            found.wants(receipt.outcome == Outcome::Accepted(made));
-        }
-        None => found.breaks(),
+/// The receipts of a session have the numbers and the outcomes that they have after so many records: its call made a file by the
+/// next record, and its query stands after that. How many records there are then.
+pub fn check(found: &mut Found, kept: &Kept, before: u64, made: Done) -> u64 {
+    let mut records = before;
+    if let Some(receipt) = &kept.called {
+        found.wants(receipt.at == before);
+        found.wants(receipt.outcome == Outcome::Accepted(made));
+        records = before.saturating_add(1);
     }
-    match &kept.asked {
-        Some(receipt) => {
-            found.wants(receipt.at == at.saturating_add(1));
-            found.wants(is_answered(&receipt.outcome));
-        }
-        None => found.breaks(),
+    if let Some(receipt) = &kept.asked {
+        found.wants(receipt.at == records);
+        found.wants(is_answered(&receipt.outcome, records));
     }
+    records
 }
 
-/// Whether an outcome is the answer to a query for the bytes of an empty file, or for what i-node 32 is.
-fn is_answered(outcome: &Outcome) -> bool {
+/// Whether an outcome is that of a query, after so many records, for the bytes of the first session's file, which is empty, or
+/// for what that is.
+pub fn is_answered(outcome: &Outcome, records: u64) -> bool {
     match outcome {
-        Outcome::Answered(Reply::Bytes(bytes)) => bytes.as_slice().is_empty(),
-        Outcome::Answered(Reply::Stat(stat)) => stat.number == 32,
+        Outcome::Answered(Reply::Bytes(bytes)) => records > 0 && bytes.as_slice().is_empty(),
+        Outcome::Answered(Reply::Stat(stat)) => records > 0 && stat.number == 32,
+        Outcome::Refused(refusal) => records == 0 && *refusal == Refusal::NoEntry,
         _ => false,
     }
 }
 
-/// Confirms the receipts of a session.
-fn confirm_kept(alloc: Global, found: &mut Found, closed: &Closed, kept: Kept) -> Option<()> {
-    let Kept { called, asked } = kept;
-    let called = called?;
-    confirm(alloc, found, closed, &called)?;
-    let asked = asked?;
-    confirm(alloc, found, closed, &asked)
+/// A volume has so many records, and the bytes that these leave.
+pub fn check_closed(found: &mut Found, closed: &Closed, records: u64, images: &Images) {
+    found.wants(closed.accepted() == records);
+    found.wants(closed.volume().journal().len() as u64 == records);
+    match images.get(records as usize) {
+        Some(image) => found.wants(closed.volume().image().as_bytes() == image.as_slice()),
+        None => found.breaks(),
+    }
 }
 
-/// Room for two sessions.
-fn room(alloc: Global) -> Option<Vec<Session>>
-    ensures { IfSome result (λ room. (vec_len room ≡ 0) × (2 ≤ vec_capacity room)) }
-{
-    if let Ok(room) = Vec::with_capacity(alloc, 2) {
-        return Some(room);
-    }
-    Vec::with_capacity(alloc, 2).ok()
+/// Confirms the receipts of a session. None where one isn't there.
+pub fn confirm_kept(alloc: Global, found: &mut Found, closed: &Closed, kept: Kept) -> Option<()> {
+    let Kept { called, asked } = kept;
+    confirm(alloc, found, closed, called)?;
+    confirm(alloc, found, closed, asked)
 }
 
 /// Opens a volume with two sessions. Where there is no memory the same volume comes back.
@@ -150,13 +170,26 @@ fn opened(alloc: Global, volume: Volume) -> Result<(Shared, Session, Session), V
     ensures unpublished { IfOk result (λ opened. opened.0.of.book ≡ None) }
 {
     match Shared::open(alloc, volume, 2) {
-        Ok((shared, mut sessions)) => {
-            let second = sessions.take_last();
-            let first = sessions.take_last();
+        Ok((shared, sessions)) => {
+            let (first, second) = two(&shared, sessions);
             Ok((shared, first, second))
         }
         Err((_, same)) => Err(same),
     }
+}
+
+/// The two sessions of a volume that was just opened.
+pub fn two(shared: &Shared, mut sessions: Vec<Session>) -> (Session, Session)
+    requires count { length sessions.items ≡ 2 }
+    requires fresh { All (λ s. s ≡ new_session shared.now.of (next_number shared.now.stored)) sessions.items }
+    ensures first { result.0.of ≡ shared.now.of }
+    ensures second { result.1.of ≡ shared.now.of }
+{
+    // Which volume it is only the proof reads.
+    let _ = shared;
+    let second = sessions.take_last();
+    let first = sessions.take_last();
+    (first, second)
 }
 
 /// Makes a call by a session. Where there is no memory the same call comes back.
@@ -216,13 +249,19 @@ fn close_two(shared: Shared, mut room: Vec<Session>, first: Session, second: Ses
     shared.close(room)
 }
 
-/// Confirms a receipt.
-fn confirm(alloc: Global, found: &mut Found, closed: &Closed, receipt: &Receipt) -> Option<()> {
-    let confirmed = match closed.confirm(alloc, receipt) {
+/// Confirms a receipt, if it is there.
+pub fn confirm(
+    alloc: Global,
+    found: &mut Found,
+    closed: &Closed,
+    receipt: Option<Receipt>,
+) -> Option<()> {
+    let receipt = receipt?;
+    let confirmed = match closed.confirm(alloc, &receipt) {
         Ok(confirmed) => confirmed,
         Err(fault) => {
             found.wants(matches!(fault, ConfirmFault::NoMemory));
-            closed.confirm(alloc, receipt).ok()?
+            closed.confirm(alloc, &receipt).ok()?
         }
     };
     found.wants(confirmed);

@@ -1,4 +1,5 @@
 //! The steps that several runs make. Each is tried twice: one allocation alone is refused.
+ghost use Rattle.std.specs.Prelude.{◌≡◌, ◌≤◌, IfSome, vec_len, vec_capacity};
 
 use crate::found::Found;
 use std::alloc::Global;
@@ -18,6 +19,16 @@ pub fn copied(alloc: Global, bytes: &[u8]) -> Option<Vec<u8>> {
         return Some(copy);
     }
     Vec::from_slice(alloc, bytes).ok()
+}
+
+/// Room for so many values.
+pub fn room<T: Drop>(alloc: Global, count: usize) -> Option<Vec<T>>
+    ensures { IfSome result (λ room. (vec_len room ≡ 0) × (count ≤ vec_capacity room)) }
+{
+    if let Ok(room) = Vec::with_capacity(alloc, count) {
+        return Some(room);
+    }
+    Vec::with_capacity(alloc, count).ok()
 }
 
 /// A path, or bytes that are written.

@@ -1227,6 +1227,36 @@ prints lines ls 6 played /
 cp made played
 printf '%s\n' 'records 0' 'confirmed 0' > lines
 prints lines play 6 played no_line
+# Scripts for views beside a session's, and alone.
+printf '%s\n' view '6 0 0 stat /' '7 0 0 stat /b' '8 0 0 read / 0 4' '9 0 0 list /' > watching
+printf 'view\n6 0 0 stat /\n' > looking
+cp made played
+runs play 6 played create_a looking
+# Whether the view sees the file yet is left open.
+printf '%s\n' '1.1 ok 32' '2.2 stat 1 dir 0777 2 0 0 48' 'records 1' 'confirmed 2' > lines
+printf '%s\n' '1.1 ok 32' '2.2 stat 1 dir 0777 2 0 0 32' 'records 1' 'confirmed 2' > others
+cmp -s output lines || cp others lines
+wants 'a view beside a session' 0 lines none
+printf '%s\n' '    1 .' '    1 ..' '   32 a' > lines
+prints lines ls 6 played /
+cp made played
+printf '%s\n' '1.2 stat 1 dir 0777 2 0 0 32' '1.3 2 NoEntry' '1.4 21 IsDirectory' '1.5 list 2' 'records 0' 'confirmed 4' > lines
+runs play 6 played watching
+wants 'a view alone' 1 lines none
+echo view > asks_nothing
+printf '%s\n' 'records 0' 'confirmed 0' > lines
+prints lines play 6 played asks_nothing
+for line in '1 0 0 create /b 644' '1 0 0 cut' 'view'; do
+    printf '%s\n' view '1 0 0 stat /' "$line" > odd_view
+    refuses 2 'unixvol: script 1 line 3' play 6 played odd_view
+done
+printf '%s\n' '1 0 0 stat /' view > late_view
+refuses 2 'unixvol: script 1 line 2' play 6 played late_view
+yes looking | head -16 > sixteen
+printf '%s\n' $(seq 16 | sed 's/$/.2 stat 1 dir 0777 2 0 0 32/' | tr ' ' '_') 'records 0' 'confirmed 16' | tr '_' ' ' > lines
+prints lines play 6 played $(cat sixteen)
+refuses 2 'unixvol: script 17 line 1' play 6 played $(cat sixteen) looking
+refuses 2 'unixvol: script 18 line 1' play 6 played $(cat sixteen) create_a looking
 # Faults in their order: files that can't be read, lines that can't, the image, and the output.
 printf '%s\n' '1 0 0 stat /' '2 0 0 write / 0 123' > odd_digits
 printf '1 0 0 stat /' > no_end

@@ -1,5 +1,5 @@
 //! What a play prints and answers, from what came of its steps.
-use crate::fixtures::{script_of, sixth, stream, taken};
+use crate::fixtures::{sixth, steps_of, stream, taken};
 use pdp_words::IntoWrite;
 use pdp_words::testing::{ScriptedWriter, WriteMishap};
 use std::alloc::Global;
@@ -34,7 +34,7 @@ fn play_step(rt: &impl Abort, alloc: Global, volume: &mut Volume, step: Step) ->
 /// Plays a script.
 fn play_script(rt: &impl Abort, alloc: Global, volume: &mut Volume, script: &[u8]) -> Vec<Played> {
     let mut played = Vec::new(alloc);
-    for step in script_of(rt, alloc, script).into_vec() {
+    for step in steps_of(rt, alloc, script) {
         let came = play_step(rt, alloc, volume, step);
         assert!(rt; played.push(came).is_ok());
     }
@@ -116,6 +116,25 @@ fn scripts_are_printed_in_their_order(rt: HostRuntime) {
         true,
         (b"records 0\nconfirmed 0\ngone 0\n", 0),
     );
+}
+
+#[test]
+fn a_view_that_could_not_enter_has_its_line(rt: HostRuntime) {
+    let alloc = rt.alloc();
+    let mut output = stream(alloc);
+    let mut errors = stream(alloc);
+    let mut played = Vec::new(alloc);
+    assert!(rt; played.push(Played::View).is_ok());
+    assert!(rt; played.push(Played::NotEntered).is_ok());
+    let mut all = Vec::new(alloc);
+    assert!(rt; all.push(played).is_ok());
+    let volume = sixth(&rt, alloc);
+    let answer = finish(alloc, volume, false, all, &mut output, &mut errors);
+    let text = b"1.2 NotEntered\nrecords 0\nconfirmed 0\n";
+    assert_eq!(rt; taken(output).as_slice(), text.as_slice());
+    assert_eq!(rt; taken(errors).as_slice(), b"".as_slice());
+    assert_eq!(rt; answer.status, 4);
+    assert!(rt; answer.image.is_some());
 }
 
 /// What came of one step for which there was no memory.

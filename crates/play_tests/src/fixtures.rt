@@ -4,8 +4,8 @@ use pdp_words::testing::ScriptedWriter;
 use std::alloc::Global;
 use std::process::Abort;
 use vol_layout::Edition;
-use vol_scripts::{Script, read_script};
-use vol_volume::{Bytes, Volume, mkfs};
+use vol_scripts::{Script, Step, read_script};
+use vol_volume::{Bytes, Query, Volume, mkfs};
 
 /// Some bytes.
 pub(crate) fn bytes_of(rt: &impl Abort, alloc: Global, bytes: &[u8]) -> Vec<u8> {
@@ -17,9 +17,20 @@ pub(crate) fn held(rt: &impl Abort, alloc: Global, bytes: &[u8]) -> Bytes {
     Bytes::from_vec(bytes_of(rt, alloc, bytes))
 }
 
-/// The steps of a script that can be read.
-pub(crate) fn script_of(rt: &impl Abort, alloc: Global, script: &[u8]) -> Script {
-    read_script(alloc, script).expect(rt, "a script that can be read")
+/// The steps of a script for a session that can be read.
+pub(crate) fn steps_of(rt: &impl Abort, alloc: Global, script: &[u8]) -> Vec<Step> {
+    match read_script(alloc, script).expect(rt, "a script that can be read") {
+        Script::Session(steps) => steps.into_vec(),
+        Script::View(_) => panic!(rt; "a script for a session"),
+    }
+}
+
+/// The queries of a script for a view that can be read.
+pub(crate) fn queries_of(rt: &impl Abort, alloc: Global, script: &[u8]) -> Vec<Query> {
+    match read_script(alloc, script).expect(rt, "a script that can be read") {
+        Script::Session(_) => panic!(rt; "a script for a view"),
+        Script::View(queries) => queries.into_vec(),
+    }
 }
 
 /// The bytes of a new volume of the sixth edition: 20 blocks, two of them the i-list.

@@ -124,6 +124,50 @@ fn a_script_without_lines_is_played(rt: HostRuntime) {
     );
 }
 
+/// A script for a view that asks what the root is.
+const LOOK: &[u8] = b"view\n6 0 0 stat /\n";
+
+#[test]
+fn a_view_answers_beside_a_session(rt: HostRuntime) {
+    let alloc = rt.alloc();
+    let scripts = [bytes_of(&rt, alloc, CREATE), bytes_of(&rt, alloc, LOOK)];
+    let ended = play_on(&rt, alloc, sixth_bytes(&rt, alloc), &scripts, &Open);
+    let before = b"1.1 ok 32\n2.2 stat 1 dir 0777 2 0 0 32\nrecords 1\nconfirmed 2\n";
+    let after = b"1.1 ok 32\n2.2 stat 1 dir 0777 2 0 0 48\nrecords 1\nconfirmed 2\n";
+    let text = ended.text.as_slice();
+    assert!(rt; text == before.as_slice() || text == after.as_slice());
+    assert_eq!(rt; ended.line.as_slice(), b"".as_slice());
+    assert_eq!(rt; ended.answer.status, 0);
+    let image = saved(&rt, ended);
+    assert!(rt; Volume::mount(alloc, Edition::V6, image).is_ok());
+}
+
+#[test]
+fn views_alone_are_played(rt: HostRuntime) {
+    let script = b"view
+6 0 0 stat /
+6 0 0 list /
+6 0 0 read /a 0 1
+";
+    let text = b"1.2 stat 1 dir 0777 2 0 0 32
+1.3 list 2
+1.4 2 NoEntry
+records 0
+confirmed 3
+";
+    check_one(&rt, rt.alloc(), script.as_slice(), (text.as_slice(), 1));
+}
+
+#[test]
+fn a_view_that_asks_nothing_is_played(rt: HostRuntime) {
+    check_one(
+        &rt,
+        rt.alloc(),
+        b"view\n",
+        (b"records 0\nconfirmed 0\n".as_slice(), 0),
+    );
+}
+
 #[test]
 fn the_changed_volume_is_to_be_saved(rt: HostRuntime) {
     let alloc = rt.alloc();

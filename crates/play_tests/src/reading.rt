@@ -1,5 +1,5 @@
 //! Scripts that can be read, and lines that can't.
-use crate::fixtures::{bytes_of, held, script_of};
+use crate::fixtures::{bytes_of, held, queries_of, steps_of};
 use std::alloc::Global;
 use std::process::Abort;
 use std::rt::HostRuntime;
@@ -102,7 +102,7 @@ fn check_step(rt: &impl Abort, steps: &[Step], line: usize, wanted: &Step) {
 #[test]
 fn each_command_is_read(rt: HostRuntime) {
     let alloc = rt.alloc();
-    let script = script_of(&rt, alloc, SCRIPT);
+    let script = steps_of(&rt, alloc, SCRIPT);
     let steps = script.as_slice();
     assert_eq!(rt; steps.len(), 14);
     let mut line = 0usize;
@@ -144,7 +144,7 @@ fn check_questions(rt: &impl Abort, alloc: Global, steps: &[Step]) {
 }
 
 /// Scripts, with the first line that can't be read, 0 where all can.
-static LINES: [(&[u8], u64); 34] = [
+static LINES: [(&[u8], u64); 43] = [
     (b"", 0),
     (b"\n", 1),
     (b"5 0 0 cut\n", 0),
@@ -179,6 +179,15 @@ static LINES: [(&[u8], u64); 34] = [
     (b"5 0 0 write /a 4294967296 41\n", 1),
     (b"5 0 0 truncate /a\n", 1),
     (b"5 0 0 cut now\n", 1),
+    (b"view\n", 0),
+    (b"view", 1),
+    (b"view \n", 1),
+    (b"view\n\n", 2),
+    (b"view\nview\n", 2),
+    (b"5 0 0 cut\nview\n", 2),
+    (b"view\n5 0 0 stat /\n", 0),
+    (b"view\n5 0 0 stat /\n5 0 0 cut\n", 3),
+    (b"view\n5 0 0 create /a 644\n", 2),
 ];
 
 #[test]
@@ -211,6 +220,59 @@ fn the_first_fault_is_told_by_script_and_line(rt: HostRuntime) {
     }
 }
 
+/// The queries of a script for a view.
+const VIEW: &[u8] = b"view
+1 1 65535 stat /
+2 1 65535 read /a 1 2
+3 1 65535 list /d
+";
+
+#[test]
+fn a_script_for_a_view_is_read(rt: HostRuntime) {
+    let alloc = rt.alloc();
+    let stat = Query::Stat {
+        cred: CRED,
+        path: held(&rt, alloc, b"/"),
+    };
+    let read = Query::Read {
+        cred: CRED,
+        path: held(&rt, alloc, b"/a"),
+        offset: 1,
+        len: 2,
+    };
+    let list = Query::List {
+        cred: CRED,
+        path: held(&rt, alloc, b"/d"),
+    };
+    let queries = queries_of(&rt, alloc, VIEW);
+    assert!(rt; queries.as_slice() == [stat, read, list].as_slice());
+}
+
+#[test]
+fn a_seventeenth_view_can_not_be_read(rt: HostRuntime) {
+    let alloc = rt.alloc();
+    let mut scripts = Vec::new(alloc);
+    for _ in 0..16 {
+        assert!(rt; scripts.push(bytes_of(&rt, alloc, b"view\n")).is_ok());
+    }
+    match read_scripts(alloc, &scripts) {
+        Err(fault) => panic!(rt; "{fault:?}"),
+        Ok(read) => assert_eq!(rt; read.len(), 16),
+    }
+    assert!(rt; scripts.push(bytes_of(&rt, alloc, b"5 0 0 cut\n")).is_ok());
+    assert!(rt; scripts.push(bytes_of(&rt, alloc, b"view\nx\n")).is_ok());
+    match read_scripts(alloc, &scripts) {
+        Err(fault) => assert_eq!(rt;
+            fault,
+            ScriptsFault::Line {
+                script: 18,
+                line: 1
+            }
+        ),
+        Ok(_) => panic!(rt; "a further view can't be read"),
+    }
+}
+
 #[test]
 fn long_scripts_are_read(rt: HostRuntime) {
     let alloc = rt.alloc();
@@ -219,7 +281,7 @@ fn long_scripts_are_read(rt: HostRuntime) {
         let line = script.extend_from_slice(b"5 0 0 stat /a\n".as_slice());
         line.expect(&rt, "memory for a line");
     }
-    assert_eq!(rt; script_of(&rt, alloc, &script).as_slice().len(), 100_000);
+    assert_eq!(rt; steps_of(&rt, alloc, &script).as_slice().len(), 100_000);
 }
 
 #[test]
@@ -229,7 +291,7 @@ fn long_writes_are_read(rt: HostRuntime) {
     let mut script = bytes_of(&rt, alloc, b"5 0 0 write /a 0 ");
     script.extend_from_slice(&digits).expect(&rt, "memory");
     script.push(b'\n').expect(&rt, "memory");
-    match script_of(&rt, alloc, &script).as_slice() {
+    match steps_of(&rt, alloc, &script).as_slice() {
         [Step::Change(Call::Write { bytes, .. })] => {
             assert_eq!(rt; bytes.as_slice().len(), 1_000_000);
             assert!(rt; bytes.as_slice().iter().all(|byte| *byte == b'D'));

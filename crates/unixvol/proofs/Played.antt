@@ -34,6 +34,8 @@ step_few : (came : Played) → step_status came ≤ 4
 step_few (played.Told receipt) = outcome_few receipt.outcome
 step_few (played.Cut first) = omega arith
 step_few played.NoMemory = omega arith
+step_few played.NotEntered = omega arith
+step_few played.View = omega arith
 
 steps_few : (worst : ℕ) (steps : List Played) → worst ≤ 4 → fold max worst (map step_status steps) ≤ 4
 steps_few worst [] few = few

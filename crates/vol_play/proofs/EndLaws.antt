@@ -1,88 +1,157 @@
--- What is known of a volume once all scripts were played, by what came of their steps.
-use Rattle.std.proofs.Common.{◌≡◌, ◌∙◌, ℕ, ◌+◌, ◌≤◌, List, [], map, max, All, ap, sym, subst, arith}
-use Rattle.std.specs.Prelude.{Vec, slice_index_or}
+-- What is known of a volume once all scripts were played, by what came of their lines.
+use Rattle.std.proofs.Common.{◌≡◌, ◌∙◌, ℕ, ◌+◌, ◌≤◌, List, [], ◌∷◌, ◌++◌, Some, map, max, All, refl, ap, sym, arith}
+use Rattle.std.proofs.lemmas.List.Elements.{All-append, All-cons, All-head, All-nil, All-same, All-tail, All-weaker}
+use Rattle.std.specs.Prelude.{Vec}
 use Rattle.std.specs.Global.{Global}
-use Rattle.std.proofs.lemmas.List.Elements.{All-map, All-same, All-weaker}
+use Rattle.std.specs.List.{AllByRecursion}
 use Rattle.count_table.specs.Sums.{total, below}
+use Rattle.count_table.proofs.Totals.{total_append}
 use Rattle.vol_receipts.specs.Agrees.{origin_of, Agrees}
 use Rattle.vol_receipts.specs.declared.receipts.Receipt.{Receipt}
 use Rattle.vol_scripts.specs.Ending.{receipts_in}
 use Rattle.vol_scripts.specs.declared.played.Played.{Played}
-use Rattle.vol_shared.specs.Lists.{BeginsWith, greatest, greatest_of}
-use Rattle.vol_shared.specs.Sessions.{Identity, Known, new_session}
-use Rattle.vol_shared.specs.Stored.{Stored, next_number}
+use Rattle.vol_scripts.specs.declared.steps.Script.{Script}
+use Rattle.vol_shared.specs.Lists.{greatest, greatest_of}
+use Rattle.vol_shared.specs.Opened.{Opened}
+use Rattle.vol_shared.specs.Sessions.{Known}
+use Rattle.vol_shared.specs.Stored.{next_number, unpublished}
+use Rattle.vol_shared.proofs.Lists.{greatest_append}
+use Rattle.vol_views.specs.Views.{Watched}
 use Rattle.vol_volume.specs.Volume.{Mounted}
-use Rattle.vol_play.specs.Steps.{CameOfAll, known_after_all, places_made, cuts_made}
-use Rattle.vol_play.proofs.StepLaws.{known_places, known_cuts, known_receipts, known_all_of}
-use Rattle.vol_play.specs.Players.{InPairs, HasPlayed, dealt}
+use Rattle.vol_play.specs.Opened.{Closes, fresh_session}
+use Rattle.vol_play.specs.Players.{InPairs, played_by, sessions_of, views_of}
+use Rattle.vol_play.specs.Playing.{ArePlayed}
+use Rattle.vol_play.specs.Steps.{CameOfScript, cuts_made, places_made}
 use Rattle.vol_play.specs.declared.preparing.Player.{Player}
-use Rattle.vol_play.specs.declared.preparing.Prepared.{Prepared}
-use Rattle.vol_play.proofs.ListLaws.{total_made, greatest_made, all_made}
-use Rattle.vol_play.proofs.PlayerLaws.{came_of_players, known_of_players}
+use Rattle.vol_play.specs.declared.preparing.Player.TheVariants.{Caller, Viewer}
+use Rattle.vol_play.proofs.ListLaws.{all_after, greatest_none, total_none}
+use Rattle.vol_play.proofs.PlayerLaws.{IsEnded}
+use Rattle.vol_play.proofs.StepLaws.{known_all_of, known_cuts, known_places, known_receipts}
 
-module _ (of : Identity) (next : ℕ) where
-  -- a session, by what came of the steps of its script
-  abbrev pub ended : Vec Played Global → Known
-  ended came = known_after_all (new_session of next) came.items
-
-  -- the sessions that the players give back are those of what came of their scripts
-  pub sessions_ended : (prepared : List Prepared) (old new whole : List Player) (sessions : List Known) (played : List (Vec Played Global))
-      → old ≡ map (dealt (new_session of next)) prepared → InPairs HasPlayed old new → whole ≡ new
-      → sessions ≡ map (λ p. p.session) whole → played ≡ map (λ p. p.played) whole → sessions ≡ map ended played
-  sessions_ended prepared old new whole sessions played old_is pairs whole_is sessions_is played_is =
-      let players = subst (λ (xs : List Player). InPairs HasPlayed xs new) old_is pairs in
-      sessions_is ∙ ap (map (λ (p : Player). p.session)) whole_is ∙ known_of_players (new_session of next) prepared new players
-      ∙ ap (map ended) (sym (played_is ∙ ap (map (λ (p : Player). p.played)) whole_is))
-
-  -- something came of each step of each script
-  pub steps_came : (prepared : List Prepared) (old new whole : List Player) (played : List (Vec Played Global))
-      → old ≡ map (dealt (new_session of next)) prepared → InPairs HasPlayed old new → whole ≡ new → played ≡ map (λ p. p.played) whole
-      → InPairs (λ script came. CameOfAll script next came.items) (map (λ p. p.script) prepared) played
-  steps_came prepared old new whole played old_is pairs whole_is played_is =
-      let players = subst (λ (xs : List Player). InPairs HasPlayed xs new) old_is pairs in
-      subst (λ (ps : List (Vec Played Global)). InPairs (λ script came. CameOfAll script next came.items) (map (λ (p : Prepared). p.script) prepared) ps)
-      (sym (played_is ∙ ap (map (λ (p : Player). p.played)) whole_is)) (came_of_players (new_session of next) prepared new players)
-
+module _ (shared : Opened) where
   -- all sessions are the volume's
-  pub own_sessions : (sessions : List Known) (played : List (Vec Played Global)) → sessions ≡ map ended played → All (λ s. s.of ≡ of) sessions
-  own_sessions sessions played is =
-      All-same (λ (s : Known). s.of ≡ of) sessions (map ended played) is
-      (All-map (λ (s : Known). s.of ≡ of) ended played (λ i d lt. known_all_of (new_session of next) (slice_index_or played i d).items))
+  own_dealt : (players : List Player) → AllByRecursion (IsEnded shared) players → All (λ s. s.of ≡ shared.of) (sessions_of players)
+  own_dealt [] all = All-nil (λ (s : Known). s.of ≡ shared.of)
+  own_dealt (Caller session steps played ∷ players) all =
+      All-cons (λ (s : Known). s.of ≡ shared.of) session (sessions_of players) (ap (λ (s : Known). s.of) all.0 ∙ known_all_of (fresh_session shared) played.items)
+      (own_dealt players all.1)
+  own_dealt (Viewer view queries played ∷ players) all = own_dealt players all.1
 
-  pub ended_places : (opened last : Stored) (sessions : List Known) (played : List (Vec Played Global)) → sessions ≡ map ended played
-      → ((weight : ℕ → ℕ) → total (λ s. total weight s.places) sessions + below weight (next_number opened) ≡ below weight (next_number last))
-      → (weight : ℕ → ℕ) → total (λ came. total weight (places_made came.items)) played + below weight (next_number opened) ≡ below weight (next_number last)
-  ended_places opened last sessions played is each weight =
-      let h = each weight in
-      let e : total (λ s. total weight s.places) sessions ≡ total (λ came. total weight (places_made came.items)) played =
-      ap (total (λ s. total weight s.places)) is
-      ∙ total_made ended (λ s. total weight s.places) (λ came. total weight (places_made came.items)) (λ came. ap (total weight) (known_places (new_session of next) came.items)) played
-      in
+  -- all views are the volume's
+  pub own_views : (players : List Player) → AllByRecursion (IsEnded shared) players → All (λ v. shared.of.book ≡ Some v.book) (views_of players)
+  own_views [] all = All-nil (λ (v : Watched). shared.of.book ≡ Some v.book)
+  own_views (Caller session steps played ∷ players) all = own_views players all.1
+  own_views (Viewer view queries played ∷ players) all =
+      All-cons (λ (v : Watched). shared.of.book ≡ Some v.book) view (views_of players) all.0.2 (own_views players all.1)
+
+  -- the records that all calls made
+  places_dealt : (weight : ℕ → ℕ) (players : List Player) → AllByRecursion (IsEnded shared) players
+      → total (λ s. total weight s.places) (sessions_of players) ≡ total (λ came. total weight (places_made came.items)) (map played_by players)
+  unfolding total
+  places_dealt weight [] all = refl
+  places_dealt weight (Caller session steps played ∷ players) all =
+      let one = ap (total weight) (ap (λ (s : Known). s.places) all.0 ∙ known_places (fresh_session shared) played.items) in
+      let rest = places_dealt weight players all.1 in
       omega arith
+  places_dealt weight (Viewer view queries played ∷ players) all =
+      let one = ap (total weight) all.0.0 in let rest = places_dealt weight players all.1 in omega arith
 
-  pub ended_first : (first : ℕ) (last : Mounted) (sessions : List Known) (played : List (Vec Played Global)) → sessions ≡ map ended played
-      → last.first ≡ max first (greatest (λ s. greatest_of s.cuts) sessions)
-      → last.first ≡ max first (greatest (λ came. greatest_of (cuts_made came.items)) played)
-  ended_first first last sessions played is known =
-      known ∙ ap (λ n. max first n)
-      (ap (greatest (λ s. greatest_of s.cuts)) is
-      ∙ greatest_made ended (λ s. greatest_of s.cuts) (λ came. greatest_of (cuts_made came.items)) (λ came. ap greatest_of (known_cuts (new_session of next) came.items)) played)
+  -- the greatest number that a cut answered
+  cuts_dealt : (players : List Player) → AllByRecursion (IsEnded shared) players
+      → greatest (λ s. greatest_of s.cuts) (sessions_of players) ≡ greatest (λ came. greatest_of (cuts_made came.items)) (map played_by players)
+  unfolding greatest
+  cuts_dealt [] all = refl
+  cuts_dealt (Caller session steps played ∷ players) all =
+      let one = ap greatest_of (ap (λ (s : Known). s.cuts) all.0 ∙ known_cuts (fresh_session shared) played.items) in
+      let rest = cuts_dealt players all.1 in
+      omega arith
+  cuts_dealt (Viewer view queries played ∷ players) all = let one = ap greatest_of all.0.1 in let rest = cuts_dealt players all.1 in omega arith
 
-  pub ended_uncut : (opened : Stored) (last : Mounted) (sessions : List Known) (played : List (Vec Played Global)) → sessions ≡ map ended played
-      → (All (λ s. s.cuts ≡ []) sessions → (origin_of last ≡ opened.origin) × BeginsWith last.journal opened.journal)
-      → All (λ came. cuts_made came.items ≡ []) played → (origin_of last ≡ opened.origin) × BeginsWith last.journal opened.journal
-  ended_uncut opened last sessions played is known none =
-      known
-      (All-same (λ (s : Known). s.cuts ≡ []) sessions (map ended played) is
-      (All-map (λ (s : Known). s.cuts ≡ []) ended played
-      (All-weaker (λ (came : Vec Played Global). cuts_made came.items ≡ []) (λ (came : Vec Played Global). (ended came).cuts ≡ [])
-      (λ came no. known_cuts (new_session of next) came.items ∙ no) played none)))
+  -- where no script cut the journal, no session did
+  uncut_dealt : (players : List Player) → AllByRecursion (IsEnded shared) players → All (λ came. cuts_made came.items ≡ []) (map played_by players)
+      → All (λ s. s.cuts ≡ []) (sessions_of players)
+  uncut_dealt [] all none = All-nil (λ (s : Known). s.cuts ≡ [])
+  uncut_dealt (Caller session steps played ∷ players) all none =
+      All-cons (λ (s : Known). s.cuts ≡ []) session (sessions_of players)
+      (ap (λ (s : Known). s.cuts) all.0 ∙ known_cuts (fresh_session shared) played.items
+      ∙ All-head (λ (came : Vec Played Global). cuts_made came.items ≡ []) played (map played_by players) none)
+      (uncut_dealt players all.1 (All-tail (λ (came : Vec Played Global). cuts_made came.items ≡ []) played (map played_by players) none))
+  uncut_dealt (Viewer view queries played ∷ players) all none =
+      uncut_dealt players all.1 (All-tail (λ (came : Vec Played Global). cuts_made came.items ≡ []) played (map played_by players) none)
 
-  pub ended_agree : (last : Mounted) (sessions : List Known) (played : List (Vec Played Global)) → sessions ≡ map ended played
-      → All (λ s. All (λ receipt. last.first ≤ receipt.at → Agrees (origin_of last) last.journal receipt) s.receipts) sessions
-      → All (λ came. All (λ receipt. last.first ≤ receipt.at → Agrees (origin_of last) last.journal receipt) (receipts_in came.items)) played
-  ended_agree last sessions played is known =
-      let fits : Receipt → Type 0 = λ receipt. last.first ≤ receipt.at → Agrees (origin_of last) last.journal receipt in
-      all_made ended (λ (s : Known). All fits s.receipts) (λ (came : Vec Played Global). All fits (receipts_in came.items))
-      (λ came all. All-same fits (receipts_in came.items) (ended came).receipts (sym (known_receipts (new_session of next) came.items)) all) played
-      (All-same (λ (s : Known). All fits s.receipts) (map ended played) sessions (sym is) known)
+  -- what holds of the receipts of all sessions and views holds of all receipts
+  receipts_dealt : (fits : Receipt → Type 0) (players : List Player) → AllByRecursion (IsEnded shared) players
+      → All (λ s. All fits s.receipts) (sessions_of players) → All (λ v. All fits v.receipts) (views_of players)
+      → All (λ came. All fits (receipts_in came.items)) (map played_by players)
+  receipts_dealt fits [] all sessions views = All-nil (λ (came : Vec Played Global). All fits (receipts_in came.items))
+  receipts_dealt fits (Caller session steps played ∷ players) all sessions views =
+      All-cons (λ (came : Vec Played Global). All fits (receipts_in came.items)) played (map played_by players)
+      (All-same fits (receipts_in played.items) session.receipts (sym (ap (λ (s : Known). s.receipts) all.0 ∙ known_receipts (fresh_session shared) played.items))
+      (All-head (λ (s : Known). All fits s.receipts) session (sessions_of players) sessions))
+      (receipts_dealt fits players all.1 (All-tail (λ (s : Known). All fits s.receipts) session (sessions_of players) sessions) views)
+  receipts_dealt fits (Viewer view queries played ∷ players) all sessions views =
+      All-cons (λ (came : Vec Played Global). All fits (receipts_in came.items)) played (map played_by players)
+      (All-same fits (receipts_in played.items) view.receipts (sym all.0.3) (All-head (λ (v : Watched). All fits v.receipts) view (views_of players) views))
+      (receipts_dealt fits players all.1 sessions (All-tail (λ (v : Watched). All fits v.receipts) view (views_of players) views))
+
+  -- the same, with the sessions that no script had
+  module _ (left : List Known) (unused : All (λ s. s ≡ fresh_session shared) left) (players : List Player) (ended : AllByRecursion (IsEnded shared) players) where
+    pub own_sessions : All (λ s. s.of ≡ shared.of) (left ++ sessions_of players)
+    own_sessions =
+        All-append (λ (s : Known). s.of ≡ shared.of) left (sessions_of players)
+        (All-weaker (λ (s : Known). s ≡ fresh_session shared) (λ (s : Known). s.of ≡ shared.of) (λ s is. ap (λ (k : Known). k.of) is) left unused)
+        (own_dealt players ended)
+
+    pub ended_places : (weight : ℕ → ℕ)
+        → total (λ s. total weight s.places) (left ++ sessions_of players) ≡ total (λ came. total weight (places_made came.items)) (map played_by players)
+    unfolding total
+    ended_places weight =
+        let whole = total_append (λ (s : Known). total weight s.places) left (sessions_of players) in
+        let none = total_none (λ (s : Known). total weight s.places) left
+        (All-weaker (λ (s : Known). s ≡ fresh_session shared) (λ (s : Known). total weight s.places ≡ 0) (λ s is. ap (λ (k : Known). total weight k.places) is) left unused)
+        in
+        let dealt = places_dealt weight players ended in
+        omega arith
+
+    pub ended_cuts : greatest (λ s. greatest_of s.cuts) (left ++ sessions_of players) ≡ greatest (λ came. greatest_of (cuts_made came.items)) (map played_by players)
+    unfolding greatest
+    ended_cuts =
+        let whole = greatest_append (λ (s : Known). greatest_of s.cuts) left (sessions_of players) in
+        let none = greatest_none (λ (s : Known). greatest_of s.cuts) left
+        (All-weaker (λ (s : Known). s ≡ fresh_session shared) (λ (s : Known). greatest_of s.cuts ≡ 0) (λ s is. ap (λ (k : Known). greatest_of k.cuts) is) left unused)
+        in
+        let dealt = cuts_dealt players ended in
+        omega arith
+
+    pub ended_uncut : All (λ came. cuts_made came.items ≡ []) (map played_by players) → All (λ s. s.cuts ≡ []) (left ++ sessions_of players)
+    ended_uncut none =
+        All-append (λ (s : Known). s.cuts ≡ []) left (sessions_of players)
+        (All-weaker (λ (s : Known). s ≡ fresh_session shared) (λ (s : Known). s.cuts ≡ []) (λ s is. ap (λ (k : Known). k.cuts) is) left unused)
+        (uncut_dealt players ended none)
+
+    pub ended_receipts : (fits : Receipt → Type 0) → All (λ s. All fits s.receipts) (left ++ sessions_of players) → All (λ v. All fits v.receipts) (views_of players)
+        → All (λ came. All fits (receipts_in came.items)) (map played_by players)
+    ended_receipts fits sessions views =
+        receipts_dealt fits players ended (all_after (λ (s : Known). All fits s.receipts) left (sessions_of players) sessions) views
+
+    -- what is known of the volume once it ended is what a play comes to
+    pub whole_played : (scripts : List Script) (last : Mounted) → InPairs (λ script came. CameOfScript script (next_number shared.stored) came.items) scripts (map played_by players)
+        → Closes shared.stored (left ++ sessions_of players) (views_of players) last → ArePlayed (unpublished shared.stored) scripts last (map played_by players)
+    whole_played scripts last came closes = record {
+      came = came;
+      goes_on = (
+        closes.goes_on.0,
+        record {
+          edition = closes.goes_on.1.edition;
+          first = closes.goes_on.1.first;
+          starts = closes.goes_on.1.starts;
+          begins = closes.goes_on.1.begins;
+        },
+      );
+      uncut = λ none. closes.uncut (ended_uncut none);
+      first = closes.first ∙ ap (λ n. max shared.stored.origin.first n) ended_cuts;
+      places =
+          λ weight.
+          ap (λ n. n + below weight (next_number shared.stored)) (sym (ended_places weight)) ∙ closes.places weight;
+      agree = ended_receipts (λ receipt. last.first ≤ receipt.at → Agrees (origin_of last) last.journal receipt) closes.agree closes.views_agree;
+    }

@@ -1,30 +1,40 @@
 -- Sums, greatest values and facts over lists that a function makes, and lists in pairs.
-use Rattle.std.proofs.Common.{◌≡◌, ℕ, suc, ◌<◌, List, [], ◌∷◌, ◌++◌, length, take, drop, map, All, refl, ap, ◌∙◌, arith}
+use Rattle.std.proofs.Common.{◌≡◌, ℕ, suc, ◌<◌, List, [], ◌∷◌, ◌++◌, length, take, drop, All, refl, ap, ◌∙◌, sym, subst, append_assoc, append-nil, arith}
 use Rattle.std.proofs.lemmas.List.Elements.{All-cons, All-head, All-nil, All-tail}
-use Rattle.std.specs.Prelude.{slice_index_or}
+use Rattle.std.proofs.lemmas.List.Sums.{sum_by-cons}
+use Rattle.std.specs.Prelude.{slice_index_or, Bool, ◌+◌, cond, count_by}
 use Rattle.count_table.specs.Sums.{total}
 use Rattle.vol_shared.specs.Lists.{greatest}
 use Rattle.vol_play.specs.Players.{InPairs}
 
-module _ {A B : Type 0} (make : A → B) where
-  -- a sum over what a function makes
-  pub total_made : (weight : B → ℕ) (other : A → ℕ) → ((x : A) → weight (make x) ≡ other x) → (xs : List A) → total weight (map make xs) ≡ total other xs
+-- a count over one more
+pub counted_first : {A : Type 0} (p : A → Bool) (x : A) (xs : List A) → count_by p (x ∷ xs) ≡ cond (p x) 1 0 + count_by p xs
+counted_first p x xs = sum_by-cons (λ y. cond (p y) 1 0) x xs
+
+-- a list without length is empty
+pub empty_of : {A : Type 0} (xs : List A) → length xs ≡ 0 → xs ≡ []
+empty_of [] none = refl
+empty_of (x ∷ xs) none = absurd (omega arith)
+
+-- what holds of all of two lists in a row holds of all of the second
+pub all_after : {A : Type 0} (P : A → Type 0) (xs ys : List A) → All P (xs ++ ys) → All P ys
+all_after P [] ys all = all
+all_after P (x ∷ xs) ys all = all_after P xs ys (All-tail P x (xs ++ ys) all)
+
+module _ {A : Type 0} (weight : A → ℕ) where
+  -- a sum over a list without weight
+  pub total_none : (xs : List A) → All (λ x. weight x ≡ 0) xs → total weight xs ≡ 0
   unfolding total
-  total_made weight other each [] = refl
-  total_made weight other each (x ∷ xs) = let h = total_made weight other each xs in let e = each x in omega arith
+  total_none [] all = refl
+  total_none (x ∷ xs) all =
+      let one = All-head (λ (y : A). weight y ≡ 0) x xs all in let rest = total_none xs (All-tail (λ (y : A). weight y ≡ 0) x xs all) in omega arith
 
-  -- the greatest of what a function makes
-  pub greatest_made : (weight : B → ℕ) (other : A → ℕ) → ((x : A) → weight (make x) ≡ other x) → (xs : List A)
-      → greatest weight (map make xs) ≡ greatest other xs
+  -- the greatest of a list without weight
+  pub greatest_none : (xs : List A) → All (λ x. weight x ≡ 0) xs → greatest weight xs ≡ 0
   unfolding greatest
-  greatest_made weight other each [] = refl
-  greatest_made weight other each (x ∷ xs) = rw (each x, greatest_made weight other each xs) refl
-
-  -- what holds of all that a function makes
-  pub all_made : (P : B → Type 0) (Q : A → Type 0) → ((x : A) → P (make x) → Q x) → (xs : List A) → All P (map make xs) → All Q xs
-  all_made P Q each [] all = All-nil Q
-  all_made P Q each (x ∷ xs) all =
-      All-cons Q x xs (each x (All-head P (make x) (map make xs) all)) (all_made P Q each xs (All-tail P (make x) (map make xs) all))
+  greatest_none [] all = refl
+  greatest_none (x ∷ xs) all =
+      let one = All-head (λ (y : A). weight y ≡ 0) x xs all in let rest = greatest_none xs (All-tail (λ (y : A). weight y ≡ 0) x xs all) in omega arith
 
 -- lists whose elements at each place are related
 pub pairs_at : {A : Type 0} (related : A → A → Type 0) (xs ys : List A) → length ys ≡ length xs
@@ -52,3 +62,18 @@ over (x ∷ xs) (y ∷ ys) same = ap (λ zs. y ∷ zs) (over xs ys (omega arith)
 -- the same, whose length is known by another name
 pub written_over : {A : Type 0} (xs ys : List A) (n : ℕ) → length ys ≡ length xs → n ≡ length xs → take n (ys ++ drop (length ys) xs) ≡ ys
 written_over xs ys n same is = ap (λ m. take m (ys ++ drop (length ys) xs)) is ∙ over xs ys same
+
+module _ {A B : Type 0} (related : A → B → Type 0) (whole : List A) where
+  -- one more of two lists in pairs
+  pub pairs_more : (x : A) (rest : List A) (y : B) (front now : List B) → now ≡ front ++ y ∷ [] → related x y
+      → ((others : List B) → InPairs related (x ∷ rest) others → InPairs related whole (front ++ others))
+      → (others : List B) → InPairs related rest others → InPairs related whole (now ++ others)
+  pairs_more x rest y front now now_is one given others all =
+      let joined : now ++ others ≡ front ++ y ∷ others = ap (λ (ys : List B). ys ++ others) now_is ∙ append_assoc front (y ∷ []) others in
+      subst (InPairs related whole) (sym joined) (given (y ∷ others) (one, all))
+
+  -- the last of two lists in pairs
+  pub pairs_end : (rest : List A) (front : List B) → length rest ≡ 0
+      → ((others : List B) → InPairs related rest others → InPairs related whole (front ++ others)) → InPairs related whole front
+  pairs_end [] front none given = subst (InPairs related whole) (append-nil front) (given [] tt)
+  pairs_end (x ∷ rest) front none given = absurd (omega arith)

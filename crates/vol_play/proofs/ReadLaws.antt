@@ -1,31 +1,75 @@
 -- Scripts that were read, and reasons to play none.
-use Rattle.std.proofs.Common.{◌≡◌, ℕ, ◌+◌, List, [], ◌∷◌, length, Result, Ok, Err, true, refl, ap, arith}
-use Rattle.std.specs.Prelude.{Vec}
+use Rattle.std.proofs.Common.{◌≡◌, ℕ, ◌+◌, ◌≤◌, Bool, List, [], ◌∷◌, length, Result, Ok, Err, false, true, refl, sym, ap, arith}
+use Rattle.std.proofs.lemmas.Bool.{leb-false}
+use Rattle.std.specs.Prelude.{Vec, cond, count_by, drop, nat_le, ◌&&◌, if◌then◌else◌}
+use Rattle.std.specs.Result.{result_map_both}
 use Rattle.std.specs.Global.{Global}
 use Rattle.vol_commands.specs.Faults.{IsRuled}
 use Rattle.vol_commands.proofs.Reasons.{least_within}
 use Rattle.vol_commands.specs.declared.faults.Fault.{Fault}
 use Rattle.vol_commands.specs.declared.faults.Fault.TheVariants as faults
 use Rattle.vol_layout.specs.declared.edition.Edition.{Edition}
-use Rattle.vol_scripts.specs.Reading.{before_scripts, scripts_from, steps_in}
+use Rattle.vol_scripts.specs.Grammar.{query_in, step_in}
+use Rattle.vol_scripts.specs.Reading.{asked_in, before_scripts, is_for_view, script_after, scripts_from, views_after}
+use Rattle.vol_scripts.specs.declared.steps.Script.{Script}
+use Rattle.vol_scripts.specs.declared.steps.Script.TheVariants as kinds
 use Rattle.vol_scripts.specs.declared.steps.Step.{Step}
+use Rattle.vol_volume.specs.declared.queries.Query.{Query}
+use Rattle.vol_play.specs.Players.{is_view}
 use Rattle.vol_play.specs.Playing.{IsUnplayed}
+use Rattle.vol_play.proofs.ListLaws.{counted_first}
 
 -- where scripts were read, the first was, and those after it
-before_read : (first : Result (List Step) ℕ) (number : ℕ) (others : Result (List (List Step)) (ℕ × ℕ)) (read : List (List Step))
-    → before_scripts first number others ≡ Ok read → (head : List Step) × (tail : List (List Step)) × (others ≡ Ok tail) × (read ≡ head ∷ tail)
+before_read : (first : Result Script ℕ) (number : ℕ) (others : Result (List Script) (ℕ × ℕ)) (read : List Script) → before_scripts first number others ≡ Ok read
+    → (head : Script) × (tail : List Script) × (first ≡ Ok head) × (others ≡ Ok tail) × (read ≡ head ∷ tail)
 before_read (Err line) number others read is = absurd (let e = is in cc)
-before_read (Ok steps) number (Ok tail) read is = let e = is in (steps, tail, refl, cc)
-before_read (Ok steps) number (Err later) read is = absurd (let e = is in cc)
+before_read (Ok script) number (Ok tail) read is = let e = is in (script, tail, refl, refl, cc)
+before_read (Ok script) number (Err later) read is = absurd (let e = is in cc)
 
--- each script that was read has its steps
-pub read_many : (number : ℕ) (scripts : List (Vec ℕ Global)) (read : List (List Step)) → scripts_from number scripts ≡ Ok read → length read ≡ length scripts
-read_many number [] read is = let e = is in let none : read ≡ [] = cc in ap length none
-read_many number (script ∷ scripts) read is =
-    let parts = before_read (steps_in script.items) number (scripts_from (number + 1) scripts) read is in
-    let others = read_many (number + 1) scripts parts.1 parts.2 in
-    let all = ap length parts.3 in
+-- each script that was read is there
+pub read_many : (number views : ℕ) (scripts : List (Vec ℕ Global)) (read : List Script) → scripts_from number views scripts ≡ Ok read → length read ≡ length scripts
+read_many number views [] read is = let e = is in let none : read ≡ [] = cc in ap length none
+read_many number views (script ∷ scripts) read is =
+    let parts = before_read (script_after views script.items) number (scripts_from (number + 1) (views_after views script.items) scripts) read is in
+    let others = read_many (number + 1) (views_after views script.items) scripts parts.1 parts.3 in
+    let all = ap length parts.4 in
     omega arith
+
+-- lines that were read make the script that they were read for
+made_session : (asked : Result (List Step) ℕ) (script : Script) → result_map_both kinds.Session (λ line. line) asked ≡ Ok script → is_view script ≡ false
+made_session (Ok steps) script is = let e = is in let same : script ≡ kinds.Session steps = cc in ap is_view same
+made_session (Err line) script is = absurd (let e = is in cc)
+
+made_view : (asked : Result (List Query) ℕ) (script : Script) → result_map_both kinds.View (λ line. line) asked ≡ Ok script → is_view script ≡ true
+made_view (Ok queries) script is = let e = is in let same : script ≡ kinds.View queries = cc in ap is_view same
+made_view (Err line) script is = absurd (let e = is in cc)
+
+read_by : (views : ℕ) (says over : Bool) (viewed asked : Result Script ℕ) (script : Script) → over ≡ nat_le 16 views
+    → (viewed ≡ Ok script → is_view script ≡ true) → (asked ≡ Ok script → is_view script ≡ false) → views ≤ 16
+    → (if says && over then Err 1 else (if says then viewed else asked)) ≡ Ok script
+    → ((if says then views + 1 else views) ≡ cond (is_view script) 1 0 + views) × ((if says then views + 1 else views) ≤ 16)
+read_by views true true viewed asked script over_is as_view as_session few is = absurd (let e = is in cc)
+read_by views true false viewed asked script over_is as_view as_session few is =
+    let yes = as_view is in let below = leb-false 16 views (sym over_is) in (rw yes (omega arith), omega arith)
+read_by views false over viewed asked script over_is as_view as_session few is = let no = as_session is in (rw no (omega arith), few)
+
+-- a script that was read is for a view where its first line says so, and then at most 15 came before it
+read_one : (views : ℕ) (bytes : List ℕ) (script : Script) → views ≤ 16 → script_after views bytes ≡ Ok script
+    → (views_after views bytes ≡ cond (is_view script) 1 0 + views) × (views_after views bytes ≤ 16)
+read_one views bytes script few is =
+    read_by views (is_for_view bytes) (nat_le 16 views) _ _ script refl (made_view (asked_in query_in 2 (drop 5 bytes)) script)
+    (made_session (asked_in step_in 1 bytes) script) few is
+
+-- at most 16 scripts that were read are for views
+pub read_views : (number views : ℕ) (scripts : List (Vec ℕ Global)) (read : List Script) → views ≤ 16 → scripts_from number views scripts ≡ Ok read
+    → views + count_by is_view read ≤ 16
+read_views number views [] read few is = let e = is in let none : read ≡ [] = cc in let count = ap (count_by is_view) none in omega arith
+read_views number views (script ∷ scripts) read few is =
+    let parts = before_read (script_after views script.items) number (scripts_from (number + 1) (views_after views script.items) scripts) read is in
+    let one = read_one views script.items parts.0 few parts.2 in
+    let others = read_views (number + 1) (views_after views script.items) scripts parts.1 one.1 parts.3 in
+    let count = ap (count_by is_view) parts.4 in
+    omega (arith, one.0, counted_first is_view parts.0 parts.1)
 
 -- a reason to play none names a rule of the twelve, if any
 pub unplayed_ruled : (edition : Edition) (image : List ℕ) (fault : Fault) → IsUnplayed edition image fault → IsRuled fault

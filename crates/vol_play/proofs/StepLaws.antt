@@ -4,9 +4,8 @@ use Rattle.vol_receipts.specs.declared.receipts.Receipt.{Receipt}
 use Rattle.vol_scripts.specs.Ending.{receipts_in}
 use Rattle.vol_scripts.specs.declared.played.Played.{Played}
 use Rattle.vol_scripts.specs.declared.played.Played.TheVariants as played
-use Rattle.vol_scripts.specs.declared.steps.Step.{Step}
 use Rattle.vol_shared.specs.Sessions.{Known, Got, HasCut}
-use Rattle.vol_play.specs.Steps.{CameOf, CameOfAll, next_after, known_after, known_after_all, places_made, cuts_made}
+use Rattle.vol_play.specs.Steps.{CameInTurn, next_after, known_after, known_after_all, places_made, cuts_made}
 
 -- a session that got a receipt
 pub got_known : (old new : Known) (receipt : Receipt) → new.of ≡ old.of → Got old new receipt → new ≡ known_after old (played.Told receipt)
@@ -21,6 +20,8 @@ pub known_of : (known : Known) (came : Played) → (known_after known came).of �
 known_of known (played.Told receipt) = refl
 known_of known (played.Cut first) = refl
 known_of known played.NoMemory = refl
+known_of known played.NotEntered = refl
+known_of known played.View = refl
 
 -- so do all steps
 pub known_all_of : (known : Known) (all : List Played) → (known_after_all known all).of ≡ known.of
@@ -32,21 +33,29 @@ pub known_next : (known : Known) (came : Played) → (known_after known came).ne
 known_next known (played.Told receipt) = refl
 known_next known (played.Cut first) = refl
 known_next known played.NoMemory = refl
+known_next known played.NotEntered = refl
+known_next known played.View = refl
 
 -- one step more
 pub known_push : (known : Known) (all : List Played) (came : Played) → known_after_all known (all ++ came ∷ []) ≡ known_after (known_after_all known all) came
 known_push known [] came = refl
 known_push known (first ∷ all) came = known_push (known_after known first) all came
 
--- what came of a step goes before what comes of those after it
-pub came_more : (whole rest : List Step) (step : Step) (start next later : ℕ) (front now : List Played) (came : Played)
-    → later ≡ next_after next came → now ≡ front ++ came ∷ [] → CameOf step next came
-    → ((others : List Played) → CameOfAll (step ∷ rest) next others → CameOfAll whole start (front ++ others))
-    → (others : List Played) → CameOfAll rest later others → CameOfAll whole start (now ++ others)
-came_more whole rest step start next later front now came later_is now_is one given others all =
-    let joined : now ++ others ≡ front ++ came ∷ others = ap (λ (ps : List Played). ps ++ others) now_is ∙ append_assoc front (came ∷ []) others in
-    subst (λ (ps : List Played). CameOfAll whole start ps) (sym joined)
-    (given (came ∷ others) (one, subst (λ (n : ℕ). CameOfAll rest n others) later_is all))
+module _ {A : Type 0} (came_of : A → ℕ → Played → Type 0) (Came : List Played → Type 0) where
+  -- what came of a line goes before what comes of those after it
+  pub came_more : (rest : List A) (line : A) (next later : ℕ) (front now : List Played) (came : Played)
+      → later ≡ next_after next came → now ≡ front ++ came ∷ [] → came_of line next came
+      → ((others : List Played) → CameInTurn came_of (line ∷ rest) next others → Came (front ++ others))
+      → (others : List Played) → CameInTurn came_of rest later others → Came (now ++ others)
+  came_more rest line next later front now came later_is now_is one given others all =
+      let joined : now ++ others ≡ front ++ came ∷ others = ap (λ (ps : List Played). ps ++ others) now_is ∙ append_assoc front (came ∷ []) others in
+      subst Came (sym joined) (given (came ∷ others) (one, subst (λ (n : ℕ). CameInTurn came_of rest n others) later_is all))
+
+  -- once no line is left, that is what came of all
+  pub came_end : (rest : List A) (next : ℕ) (front : List Played) → length rest ≡ 0
+      → ((others : List Played) → CameInTurn came_of rest next others → Came (front ++ others)) → Came front
+  came_end [] next front none given = subst Came (append-nil front) (given [] tt)
+  came_end (line ∷ rest) next front none given = absurd (omega arith)
 
 -- a session's places are those of its steps
 pub known_places : (known : Known) (all : List Played) → (known_after_all known all).places ≡ known.places ++ places_made all
@@ -54,6 +63,8 @@ known_places known [] = sym (append-nil known.places)
 known_places known (played.Told receipt ∷ others) = known_places (known_after known (played.Told receipt)) others ∙ append_assoc known.places _ (places_made others)
 known_places known (played.Cut first ∷ others) = known_places (known_after known (played.Cut first)) others
 known_places known (played.NoMemory ∷ others) = known_places known others
+known_places known (played.NotEntered ∷ others) = known_places known others
+known_places known (played.View ∷ others) = known_places known others
 
 -- so are the numbers that its cuts answered
 pub known_cuts : (known : Known) (all : List Played) → (known_after_all known all).cuts ≡ known.cuts ++ cuts_made all
@@ -61,6 +72,8 @@ known_cuts known [] = sym (append-nil known.cuts)
 known_cuts known (played.Told receipt ∷ others) = known_cuts (known_after known (played.Told receipt)) others
 known_cuts known (played.Cut first ∷ others) = known_cuts (known_after known (played.Cut first)) others ∙ append_assoc known.cuts (first ∷ []) (cuts_made others)
 known_cuts known (played.NoMemory ∷ others) = known_cuts known others
+known_cuts known (played.NotEntered ∷ others) = known_cuts known others
+known_cuts known (played.View ∷ others) = known_cuts known others
 
 -- and its receipts
 pub known_receipts : (known : Known) (all : List Played) → (known_after_all known all).receipts ≡ known.receipts ++ receipts_in all
@@ -69,9 +82,14 @@ known_receipts known (played.Told receipt ∷ others) =
     known_receipts (known_after known (played.Told receipt)) others ∙ append_assoc known.receipts (receipt ∷ []) (receipts_in others)
 known_receipts known (played.Cut first ∷ others) = known_receipts (known_after known (played.Cut first)) others
 known_receipts known (played.NoMemory ∷ others) = known_receipts known others
+known_receipts known (played.NotEntered ∷ others) = known_receipts known others
+known_receipts known (played.View ∷ others) = known_receipts known others
 
--- once no step is left, that is what came of all
-pub came_end : (whole rest : List Step) (start next : ℕ) (front : List Played) → length rest ≡ 0
-    → ((others : List Played) → CameOfAll rest next others → CameOfAll whole start (front ++ others)) → CameOfAll whole start front
-came_end whole [] start next front none given = subst (λ (ps : List Played). CameOfAll whole start ps) (append-nil front) (given [] tt)
-came_end whole (step ∷ rest) start next front none given = absurd (omega arith)
+-- the receipts with one line more
+pub receipts_push : (front : List Played) (came : Played) → receipts_in (front ++ came ∷ []) ≡ receipts_in front ++ receipts_in (came ∷ [])
+receipts_push [] came = refl
+receipts_push (played.Told receipt ∷ front) came = ap (λ rs. receipt ∷ rs) (receipts_push front came)
+receipts_push (played.Cut first ∷ front) came = receipts_push front came
+receipts_push (played.NoMemory ∷ front) came = receipts_push front came
+receipts_push (played.NotEntered ∷ front) came = receipts_push front came
+receipts_push (played.View ∷ front) came = receipts_push front came

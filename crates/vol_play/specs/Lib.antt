@@ -1,3 +1,4 @@
 pub mod Steps
+pub mod Opened
 pub mod Players
 pub mod Playing

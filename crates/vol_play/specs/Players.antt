@@ -1,9 +1,19 @@
--- Scripts with their sessions, before they are played and after it.
-use Rattle.std.specs.Prelude.{◌≡◌, ◌≤◌, List, [], ◌∷◌, length, vec_capacity}
+-- Scripts with their sessions and views, before they are played and after it.
+use Rattle.std.specs.Prelude.{◌≡◌, ℕ, ◌+◌, ◌≤◌, ◌++◌, Bool, true, false, List, [], ◌∷◌, length, Vec, vec_capacity}
+use Rattle.std.specs.Global.{Global}
+use Rattle.vol_publish.specs.Logs.{number_of}
+use Rattle.vol_scripts.specs.Ending.{receipts_in}
+use Rattle.vol_scripts.specs.declared.played.Played.{Played}
+use Rattle.vol_scripts.specs.declared.steps.Script.{Script}
+use Rattle.vol_scripts.specs.declared.steps.Script.TheVariants as kinds
+use Rattle.vol_shared.specs.Opened.{Opened}
 use Rattle.vol_shared.specs.Sessions.{Identity, Known}
-use Rattle.vol_play.specs.Steps.{CameOfAll, known_after_all}
+use Rattle.vol_views.specs.Views.{Watched}
+use Rattle.vol_play.specs.Opened.{fresh_session, IsFreshView}
+use Rattle.vol_play.specs.Steps.{CameOf, CameInTurn, CameOfView, known_after_all}
 use Rattle.vol_play.specs.declared.preparing.Prepared.{Prepared}
 use Rattle.vol_play.specs.declared.preparing.Player.{Player}
+use Rattle.vol_play.specs.declared.preparing.Player.TheVariants.{Caller, Viewer}
 
 -- two lists have one length, and a relation holds of the elements at each place (this project)
 abbrev pub InPairs : {A B : Type 0} → (A → B → Type 0) → List A → List B → Type 0
@@ -12,22 +22,71 @@ InPairs related [] (y ∷ ys) = ⊥
 InPairs related (x ∷ xs) [] = ⊥
 InPairs related (x ∷ xs) (y ∷ ys) = related x y × InPairs related xs ys
 
--- nothing came of a script yet, and there is room for what comes of each step (this project)
+-- a script is for a view (this project)
+abbrev pub is_view : Script → Bool
+is_view (kinds.Session steps) = false
+is_view (kinds.View queries) = true
+
+-- a script is for a session (this project)
+abbrev pub is_session : Script → Bool
+is_session (kinds.Session steps) = true
+is_session (kinds.View queries) = false
+
+-- a script that is to be played wants a view (this project)
+abbrev pub wants_view : Prepared → Bool
+wants_view prepared = is_view prepared.script
+
+-- a script that is to be played wants a session (this project)
+abbrev pub wants_session : Prepared → Bool
+wants_session prepared = is_session prepared.script
+
+-- how many lines of a script something comes of (this project)
+abbrev pub lines_of : Script → ℕ
+lines_of (kinds.Session steps) = length steps
+lines_of (kinds.View queries) = length queries + 1
+
+-- nothing came of a script yet, and there is room for what comes of each line (this project)
 pub record IsPrepared (prepared : Prepared) : Type 0 where
   pub empty : prepared.played.items ≡ []
-  pub room : length prepared.script ≤ vec_capacity prepared.played
+  pub room : lines_of prepared.script ≤ vec_capacity prepared.played
 
--- a script with its session (this project)
-abbrev pub dealt : Known → Prepared → Player
-dealt session prepared = record { session = session; script = prepared.script; played = prepared.played }
+-- what came of the lines of a player's script (this project)
+abbrev pub played_by : Player → Vec Played Global
+played_by (Caller session steps played) = played
+played_by (Viewer view queries played) = played
 
--- a script can be played on a volume (this project)
-pub record CanPlay (of : Identity) (player : Player) : Type 0 where
-  pub own : player.session.of ≡ of
-  pub empty : player.played.items ≡ []
-  pub room : length player.script ≤ vec_capacity player.played
+-- the sessions of players, in order (this project)
+abbrev pub sessions_of : List Player → List Known
+sessions_of [] = []
+sessions_of (Caller session steps played ∷ players) = session ∷ sessions_of players
+sessions_of (Viewer view queries played ∷ players) = sessions_of players
 
--- a script was played (this project)
-pub record HasPlayed (old new : Player) : Type 0 where
-  pub came : CameOfAll old.script old.session.next new.played.items
-  pub known : new.session ≡ known_after_all old.session new.played.items
+-- the views of players, in order (this project)
+abbrev pub views_of : List Player → List Watched
+views_of [] = []
+views_of (Caller session steps played ∷ players) = views_of players
+views_of (Viewer view queries played ∷ players) = view ∷ views_of players
+
+-- a player has what a script asks for and the room for what comes of it, and a session or a view that was just opened (this project)
+abbrev pub IsDealtTo : Opened → Script → Vec Played Global → Player → Type 0
+IsDealtTo shared (kinds.Session wanted) room (Caller session steps played) = (session ≡ fresh_session shared) × (steps ≡ wanted) × (played ≡ room)
+IsDealtTo shared (kinds.Session wanted) room (Viewer view queries played) = ⊥
+IsDealtTo shared (kinds.View wanted) room (Caller session steps played) = ⊥
+IsDealtTo shared (kinds.View wanted) room (Viewer view queries played) = IsFreshView shared view × (queries ≡ wanted) × (played ≡ room)
+
+-- a script has its player (this project)
+abbrev pub IsDealt : Opened → Prepared → Player → Type 0
+IsDealt shared prepared player = IsDealtTo shared prepared.script prepared.played player
+
+-- a player can play its script on a volume (this project)
+abbrev pub CanPlay : Identity → Player → Type 0
+CanPlay of (Caller session steps played) = (session.of ≡ of) × (played.items ≡ []) × (length steps ≤ vec_capacity played)
+CanPlay of (Viewer view queries played) = (played.items ≡ []) × (length queries + 1 ≤ vec_capacity played)
+
+-- a player played its script (this project)
+abbrev pub HasPlayed : Player → Player → Type 0
+HasPlayed (Caller old steps room) (Caller new none played) = CameInTurn CameOf steps old.next played.items × (new ≡ known_after_all old played.items)
+HasPlayed (Caller old steps room) (Viewer new none played) = ⊥
+HasPlayed (Viewer old queries room) (Caller new none played) = ⊥
+HasPlayed (Viewer old queries room) (Viewer new none played) = CameOfView queries (number_of old.log) played.items
+    × (new.book ≡ old.book) × (new.receipts ≡ old.receipts ++ receipts_in played.items)

@@ -12,15 +12,17 @@ use Rattle.vol_shared.specs.Stored.{Stored, stored_of, next_number, Continues}
 use Rattle.vol_commands.specs.Faults.{IsCause, fault_line, fault_status}
 use Rattle.vol_commands.specs.Jobs.{Streams}
 use Rattle.vol_scripts.specs.Ending.{Finishes, PrintsPlay, receipts_in}
-use Rattle.vol_scripts.specs.Reading.{ReadsScripts, scripts_from}
+use Rattle.vol_scripts.specs.Reading.{ReadsScripts, scripts_in}
 use Rattle.vol_scripts.specs.Refusing.{AnswersFault, SavesNothing}
 use Rattle.vol_play.specs.Players.{InPairs}
-use Rattle.vol_play.specs.Steps.{CameOfAll, places_made, cuts_made}
+use Rattle.vol_play.specs.Steps.{CameOfScript, places_made, cuts_made}
 use Rattle.vol_layout.specs.declared.edition.Edition.{Edition}
 use Rattle.vol_commands.specs.declared.answer.Answer.{Answer}
 use Rattle.vol_commands.specs.declared.faults.Fault.{Fault}
 use Rattle.vol_scripts.specs.declared.played.Played.{Played}
 use Rattle.vol_scripts.specs.declared.reading.ScriptsFault.{ScriptsFault}
+use Rattle.vol_scripts.specs.declared.steps.Script.{Script}
+use Rattle.vol_scripts.specs.declared.steps.Script.TheVariants as kinds
 use Rattle.vol_scripts.specs.declared.steps.Step.{Step}
 use Rattle.vol_scripts.specs.declared.steps.Step.TheVariants as steps
 
@@ -31,19 +33,20 @@ is_cut (steps.Question query) = false
 is_cut steps.Cut = true
 
 -- a script cuts the journal (this project)
-abbrev pub script_cuts : List Step → Bool
-script_cuts script = list_any is_cut script
+abbrev pub script_cuts : Script → Bool
+script_cuts (kinds.Session steps) = list_any is_cut steps
+script_cuts (kinds.View queries) = false
 
 -- one of some scripts cuts the journal (this project)
-abbrev pub any_cut : List (List Step) → Bool
+abbrev pub any_cut : List Script → Bool
 any_cut scripts = list_any script_cuts scripts
 
--- scripts were played on a volume: something came of each step of each script, in order; the volume goes on from what it was, and
+-- scripts were played on a volume: something came of each line of each script, in order; the volume goes on from what it was, and
 -- where no script cut the journal, that goes on from the one that there was; the journal's first number is the greatest that a cut
 -- answered, or that of the start; the accepted calls of all scripts have the numbers of the records made since, each once; and each
 -- receipt agrees with the journal, but for those with lesser numbers than its first (this project)
-pub record ArePlayed (opened : Stored) (scripts : List (List Step)) (last : Mounted) (played : List (Vec Played Global)) : Type 0 where
-  pub came : InPairs (λ script came. CameOfAll script (next_number opened) came.items) scripts played
+pub record ArePlayed (opened : Stored) (scripts : List Script) (last : Mounted) (played : List (Vec Played Global)) : Type 0 where
+  pub came : InPairs (λ script came. CameOfScript script (next_number opened) came.items) scripts played
   pub goes_on : Continues opened (stored_of last)
   pub uncut : All (λ came. cuts_made came.items ≡ []) played → (origin_of last ≡ opened.origin) × BeginsWith last.journal opened.journal
   pub first : last.first ≡ max opened.origin.first (greatest (λ came. greatest_of (cuts_made came.items)) played)
@@ -52,7 +55,7 @@ pub record ArePlayed (opened : Stored) (scripts : List (List Step)) (last : Moun
   pub agree : All (λ came. All (λ receipt. last.first ≤ receipt.at → Agrees (origin_of last) last.journal receipt) (receipts_in came.items)) played
 
 -- scripts were played on the sound volume in some bytes, and it reads as its journal says (this project)
-pub record IsPlayed (edition : Edition) (image : List ℕ) (scripts : List (List Step)) (last : Mounted) (played : List (Vec Played Global)) : Type 0 where
+pub record IsPlayed (edition : Edition) (image : List ℕ) (scripts : List Script) (last : Mounted) (played : List (Vec Played Global)) : Type 0 where
   pub sound : IsSound edition image
   pub whole : ArePlayed (stored_of (mounted edition image)) scripts last played
   pub consistent : IsConsistent last
@@ -75,11 +78,11 @@ StopsUnplayed edition image streams answer =
     IsSilent streams × ((fault : Fault) × IsUnplayed edition image fault × SavesNothing answer (fault_status fault) (streams.said (fault_line fault)))
 
 -- scripts are played, and what came of their steps is printed (this project)
-abbrev pub PlaysAll : Edition → List ℕ → List (List Step) → Streams → Answer → Type 0
+abbrev pub PlaysAll : Edition → List ℕ → List Script → Streams → Answer → Type 0
 PlaysAll edition image scripts streams answer = (last : Mounted) × (played : List (Vec Played Global)) × IsPlayed edition image scripts last played
     × Finishes last (any_cut scripts) played (PrintsPlay last (any_cut scripts) played streams.old streams.new streams.had_failed streams.failed) streams.said answer
 
 -- what `play` comes to: a line of a script can't be read; or all can, and no step is played; or all scripts are played (this project)
 abbrev pub PlaysVolume : Edition → List ℕ → List (Vec ℕ Global) → Streams → Answer → Type 0
 PlaysVolume edition image scripts streams answer = StopsUnread scripts streams answer
-    ⊎ ((read : List (List Step)) × (scripts_from 1 scripts ≡ Ok read) × (StopsUnplayed edition image streams answer ⊎ PlaysAll edition image read streams answer))
+    ⊎ ((read : List Script) × (scripts_in scripts ≡ Ok read) × (StopsUnplayed edition image streams answer ⊎ PlaysAll edition image read streams answer))

@@ -1,12 +1,16 @@
--- What comes of the steps of a script, and what its session is then.
-use Rattle.std.specs.Prelude.{◌≡◌, ℕ, ◌≤◌, List, [], ◌∷◌, ◌++◌}
+-- What comes of the lines of a script, and what its session is then.
+use Rattle.std.specs.Prelude.{◌≡◌, ℕ, ◌≤◌, List, [], ◌∷◌, ◌++◌, true}
 use Rattle.vol_receipts.specs.Agrees.{place_of, next_of}
 use Rattle.vol_receipts.specs.declared.receipts.Asked.TheVariants as asked
 use Rattle.vol_shared.specs.Sessions.{Known}
 use Rattle.vol_scripts.specs.declared.played.Played.{Played}
 use Rattle.vol_scripts.specs.declared.played.Played.TheVariants as played
+use Rattle.vol_scripts.specs.declared.steps.Script.{Script}
+use Rattle.vol_scripts.specs.declared.steps.Script.TheVariants as kinds
 use Rattle.vol_scripts.specs.declared.steps.Step.{Step}
 use Rattle.vol_scripts.specs.declared.steps.Step.TheVariants as steps
+use Rattle.vol_volume.specs.Answer.{takes_memory}
+use Rattle.vol_volume.specs.declared.queries.Query.{Query}
 
 -- what may come of a step, by the least number that its receipt or its cut may have: a call and a query leave a receipt of themselves, unless memory runs out; a cut is made (this project)
 abbrev pub CameOf : Step → ℕ → Played → Type 0
@@ -19,19 +23,41 @@ CameOf steps.Cut next (played.Cut first) = next ≤ first
 CameOf (steps.Change call) next played.NoMemory = Unit {0}
 CameOf (steps.Question query) next played.NoMemory = Unit {0}
 CameOf steps.Cut next played.NoMemory = ⊥
+CameOf step next played.NotEntered = ⊥
+CameOf step next played.View = ⊥
+
+-- what may come of a query of a view, by the least number that its receipt may have: a receipt of itself, which has no place; none where its reply takes memory and that runs out, or what is published couldn't be taken (this project)
+abbrev pub CameOfQuery : Query → ℕ → Played → Type 0
+CameOfQuery query next (played.Told receipt) = (receipt.asked ≡ asked.Question query) × (next ≤ receipt.at) × (place_of receipt.at receipt.outcome ≡ [])
+CameOfQuery query next (played.Cut first) = ⊥
+CameOfQuery query next played.NoMemory = takes_memory query ≡ true
+CameOfQuery query next played.NotEntered = Unit {0}
+CameOfQuery query next played.View = ⊥
 
 -- the least number that the next receipt or cut may have (this project)
 abbrev pub next_after : ℕ → Played → ℕ
 next_after next (played.Told receipt) = next_of receipt.at receipt.outcome
 next_after next (played.Cut first) = first
 next_after next played.NoMemory = next
+next_after next played.NotEntered = next
+next_after next played.View = next
 
--- what may come of the steps of a script, one after another (this project)
-abbrev pub CameOfAll : List Step → ℕ → List Played → Type 0
-CameOfAll [] next [] = Unit {0}
-CameOfAll [] next (came ∷ others) = ⊥
-CameOfAll (step ∷ steps) next [] = ⊥
-CameOfAll (step ∷ steps) next (came ∷ others) = CameOf step next came × CameOfAll steps (next_after next came) others
+-- what may come of lines, one after another, by what may come of each (this project)
+abbrev pub CameInTurn : {A : Type 0} → (A → ℕ → Played → Type 0) → List A → ℕ → List Played → Type 0
+CameInTurn came_of [] next [] = Unit {0}
+CameInTurn came_of [] next (came ∷ others) = ⊥
+CameInTurn came_of (line ∷ lines) next [] = ⊥
+CameInTurn came_of (line ∷ lines) next (came ∷ others) = came_of line next came × CameInTurn came_of lines (next_after next came) others
+
+-- what may come of a script for a view: its first line says that it is one (this project)
+abbrev pub CameOfView : List Query → ℕ → List Played → Type 0
+CameOfView queries next (played.View ∷ others) = CameInTurn CameOfQuery queries next others
+CameOfView queries next _ = ⊥
+
+-- what may come of the lines of a script (this project)
+abbrev pub CameOfScript : Script → ℕ → List Played → Type 0
+CameOfScript (kinds.Session steps) next came = CameInTurn CameOf steps next came
+CameOfScript (kinds.View queries) next came = CameOfView queries next came
 
 -- the numbers of the records that the calls of a script made, in order (this project)
 abbrev pub places_made : List Played → List ℕ
@@ -39,6 +65,8 @@ places_made [] = []
 places_made (played.Told receipt ∷ others) = place_of receipt.at receipt.outcome ++ places_made others
 places_made (played.Cut first ∷ others) = places_made others
 places_made (played.NoMemory ∷ others) = places_made others
+places_made (played.NotEntered ∷ others) = places_made others
+places_made (played.View ∷ others) = places_made others
 
 -- the numbers that the cuts of a script answered, in order (this project)
 abbrev pub cuts_made : List Played → List ℕ
@@ -46,6 +74,8 @@ cuts_made [] = []
 cuts_made (played.Told receipt ∷ others) = cuts_made others
 cuts_made (played.Cut first ∷ others) = first ∷ cuts_made others
 cuts_made (played.NoMemory ∷ others) = cuts_made others
+cuts_made (played.NotEntered ∷ others) = cuts_made others
+cuts_made (played.View ∷ others) = cuts_made others
 
 -- a session after a step (this project)
 abbrev pub known_after : Known → Played → Known
@@ -64,6 +94,8 @@ known_after known (played.Cut first) = record {
   receipts = known.receipts;
 }
 known_after known played.NoMemory = known
+known_after known played.NotEntered = known
+known_after known played.View = known
 
 -- a session after some steps (this project)
 abbrev pub known_after_all : Known → List Played → Known

@@ -1,12 +1,13 @@
 //! Scripts are played on a volume.
-ghost use Rattle.std.specs.Prelude.{◌≡◌, ◌≤◌, [], None, map, All, IfOk, length, vec_len, vec_capacity};
-ghost use Rattle.vol_shared.specs.Sessions.{new_session};
-ghost use Rattle.vol_shared.specs.Stored.{stored_of, next_number};
+ghost use Rattle.std.specs.Prelude.{◌≡◌, ◌≤◌, [], map, All, IfOk, count_by, length, max, vec_len, vec_capacity};
+ghost use Rattle.vol_shared.specs.Stored.{stored_of, unpublished};
+ghost use Rattle.vol_play.specs.Opened.{IsOpened};
 ghost use Rattle.vol_play.specs.Playing.{ArePlayed};
-ghost use Rattle.vol_play.specs.Players.{IsPrepared};
+ghost use Rattle.vol_play.specs.Players.{IsPrepared, is_view, wants_session, wants_view};
 
 use crate::dealing::deal;
 use crate::gathering::gather;
+use crate::opening::{close, open};
 use crate::preparing::Stage;
 use crate::running::run_all;
 use std::alloc::{AllocError, Global};
@@ -14,11 +15,11 @@ use std::sync::Wait;
 use std::thread::Threads;
 use vol_check::Gate;
 use vol_scripts::{Played, Script};
-use vol_shared::{Session, Shared};
+use vol_shared::{Session, Shared, View};
 use vol_volume::Volume;
 
-/// Plays scripts on a volume, each by a session of its own, and returns the volume and what came of the steps. Where
-/// memory runs out for that, no step is done.
+/// Plays scripts on a volume, each by a session or a view of its own, and returns the volume and what came of their lines.
+/// Where all are for views, one session is opened and not used. Where memory runs out for that, nothing is done.
 pub(crate) fn play_on<R: Threads + Wait + Sync, G: Gate>(
     rt: &R,
     alloc: Global,
@@ -28,14 +29,34 @@ pub(crate) fn play_on<R: Threads + Wait + Sync, G: Gate>(
 ) -> Result<(Volume, Vec<Vec<Played>>), AllocError>
     requires first { 1 ≤ length scripts.items }
     requires last { length scripts.items ≤ 64 }
+    requires views { count_by is_view scripts.items ≤ 16 }
     ensures { IfOk result (λ made. ArePlayed (stored_of volume) scripts.items made.0 made.1.items) }
 {
-    let count = scripts.len();
+    let views = count_views(&scripts);
+    let sessions = (scripts.len() - views).max(1);
     let stage = Stage::new(alloc, scripts)?;
-    match Shared::open(alloc, volume, count) {
-        Ok((shared, sessions)) => Ok(play_opened(rt, alloc, shared, sessions, stage, gate)),
-        Err((error, _)) => Err(error),
+    let (shared, sessions, views) = open(rt, alloc, volume, sessions, views)?;
+    Ok(play_opened(rt, alloc, shared, sessions, views, stage, gate))
+}
+
+/// How many scripts are for views.
+fn count_views(scripts: &[Script]) -> usize
+    ensures { result ≡ count_by is_view scripts.now }
+{
+    let mut count = 0;
+    for script in scripts {
+        if is_view(script) {
+            count += 1;
+        }
     }
+    count
+}
+
+/// Whether a script is for a view.
+fn is_view(script: &Script) -> bool
+    ensures { result ≡ is_view script.now }
+{
+    matches!(script, Script::View(_))
 }
 
 /// Plays all scripts of a stage on a volume that was just opened, and ends it.
@@ -44,26 +65,26 @@ fn play_opened<R: Threads + Wait + Sync, G: Gate>(
     alloc: Global,
     shared: Shared,
     mut sessions: Vec<Session>,
+    mut views: Vec<View>,
     stage: Stage,
     gate: &G,
 ) -> (Volume, Vec<Vec<Played>>)
     requires some { 1 ≤ vec_len stage.prepared }
-    requires unpublished { shared.of.book ≡ None }
-    requires sessions { shared.sessions ≡ vec_len stage.prepared }
-    requires count { vec_len sessions ≡ vec_len stage.prepared }
-    requires fresh { All (λ s. s ≡ new_session shared.of (next_number shared.stored)) sessions.items }
+    requires opened { IsOpened (unpublished shared.stored) (max (count_by wants_session stage.prepared.items) 1) (count_by wants_view stage.prepared.items)
+        shared sessions.items views.items }
     requires ready { All IsPrepared stage.prepared.items }
     requires empty { (stage.players.items ≡ []) × (stage.played.items ≡ []) }
     requires room { (vec_len stage.prepared ≤ vec_capacity stage.players) × (vec_len stage.prepared ≤ vec_capacity stage.played) }
-    ensures { ArePlayed shared.stored (map (λ p. p.script) stage.prepared.items) result.0 result.1.items }
+    ensures { ArePlayed (unpublished shared.stored) (map (λ p. p.script) stage.prepared.items) result.0 result.1.items }
 {
     let Stage {
         prepared,
         mut players,
         mut played,
     } = stage;
-    deal(&mut sessions, prepared, &mut players);
+    deal(&mut sessions, &mut views, prepared, &mut players);
     run_all(rt, alloc, gate, &shared, &mut players);
-    gather(players, &mut sessions, &mut played);
-    (shared.close(sessions).into_volume(), played)
+    gather(players, &mut sessions, &mut views, &mut played);
+    let closed = close(rt, shared, sessions, views);
+    (closed.into_volume(), played)
 }

@@ -1,6 +1,8 @@
 //! The command `play`: from the bytes of an image and of scripts to what is printed, the status and the bytes to be saved.
-ghost use Rattle.std.specs.Prelude.{◌≡◌, ◌≤◌, IfOk, IfErr, length};
+ghost use Rattle.std.specs.Prelude.{◌≡◌, ◌≤◌, IfOk, IfErr, count_by, length};
+ghost use Rattle.std.specs.List.{list_any};
 ghost use Rattle.vol_commands.specs.Faults.{Gets};
+ghost use Rattle.vol_play.specs.Players.{is_view};
 ghost use Rattle.vol_play.specs.Playing.{PlaysVolume, IsPlayed, IsUnplayed, any_cut, script_cuts, is_cut};
 
 use crate::performing::play_on;
@@ -16,8 +18,8 @@ use vol_layout::Edition;
 use vol_scripts::{Played, Script, Step, finish, read_scripts, refuse};
 use vol_volume::Volume;
 
-/// Plays 1 to 64 scripts on the volume in some bytes, each by one session in one thread; a script whose thread can't be
-/// started is played by the calling thread. The gate is called round each script, with its number from 0.
+/// Plays 1 to 64 scripts on the volume in some bytes, each by one session, or one view where its first line says so, in one
+/// thread; a script whose thread can't be started is played by the calling thread. The gate is called round each script, with its number from 0.
 ///
 /// All scripts are read before the first call. Where a line can't be read, the volume isn't mounted or memory runs out
 /// before the first call, nothing is to be saved, and `errors` gets the line of the fault; the status is 2 for a line, 1
@@ -67,6 +69,7 @@ fn play_image<R: Threads + Wait + Sync, G: Gate>(
 ) -> Result<(Volume, Vec<Vec<Played>>), Fault>
     requires first { 1 ≤ length scripts.items }
     requires last { length scripts.items ≤ 64 }
+    requires views { count_by is_view scripts.items ≤ 16 }
     ensures played { IfOk result (λ made. IsPlayed edition image.items scripts.items made.0 made.1.items) }
     ensures fault { IfErr result (IsUnplayed edition image.items) }
 {
@@ -83,14 +86,24 @@ fn play_image<R: Threads + Wait + Sync, G: Gate>(
 fn any_cut(scripts: &[Script]) -> bool
     ensures { result ≡ any_cut scripts.now }
 {
-    scripts.iter().any(|script| script_cuts(script.as_slice()))
+    scripts.iter().any(|script| script_cuts(script))
 }
 
 /// Whether a script cuts the journal.
-fn script_cuts(script: &[Step]) -> bool
+fn script_cuts(script: &Script) -> bool
     ensures { result ≡ script_cuts script.now }
 {
-    script.iter().any(|step| is_cut(step))
+    match script {
+        Script::Session(steps) => steps_cut(steps.as_slice()),
+        Script::View(_) => false,
+    }
+}
+
+/// Whether one of some steps cuts the journal.
+fn steps_cut(steps: &[Step]) -> bool
+    ensures { result ≡ list_any is_cut steps.now }
+{
+    steps.iter().any(|step| is_cut(step))
 }
 
 /// Whether a step cuts the journal.

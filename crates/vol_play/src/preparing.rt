@@ -1,27 +1,37 @@
 //! What a play takes of memory before its volume is shared, so that nothing can fail while it is, but calls and queries.
 ghost use Rattle.std.specs.Prelude.{◌≡◌, ◌∷◌, ◌++◌, [], map, All, IfOk, OnOk, length, vec_len, vec_capacity, ◌≤◌};
-ghost use Rattle.vol_play.specs.Players.{IsPrepared};
+ghost use Rattle.vol_play.specs.Players.{IsPrepared, lines_of};
 
 use std::alloc::{AllocError, Global};
-use vol_scripts::{Played, Script};
-use vol_shared::Session;
+use vol_scripts::{Played, Script, Sequence, Step};
+use vol_shared::{Session, View};
+use vol_volume::Query;
 
-/// A script that is to be played, with room for what comes of its steps.
+/// A script that is to be played, with room for what comes of its lines.
 #[derive(Drop)]
 pub(crate) struct Prepared {
     pub(crate) script: Script,
     pub(crate) played: Vec<Played>,
 }
 
-/// A session that plays a script, and what came of the steps.
+/// Who plays a script, and what came of its lines.
 #[derive(Drop)]
-pub(crate) struct Player {
-    pub(crate) session: Session,
-    pub(crate) script: Script,
-    pub(crate) played: Vec<Played>,
+pub(crate) enum Player {
+    /// A session, which makes calls and asks queries.
+    Caller {
+        session: Session,
+        steps: Sequence<Step>,
+        played: Vec<Played>,
+    },
+    /// A view, which asks queries.
+    Viewer {
+        view: View,
+        queries: Sequence<Query>,
+        played: Vec<Played>,
+    },
 }
 
-/// The scripts, and room for their players and for what comes of all steps.
+/// The scripts, and room for their players and for what comes of all lines.
 #[derive(Drop)]
 pub(crate) struct Stage {
     pub(crate) prepared: Vec<Prepared>,
@@ -49,17 +59,27 @@ impl Stage {
     }
 }
 
-/// The scripts, each with room for what comes of its steps.
+/// The scripts, each with room for what comes of its lines.
 fn prepare(alloc: Global, scripts: Vec<Script>) -> Result<Vec<Prepared>, AllocError>
     ensures scripts { IfOk result (λ prepared. map (λ p. p.script) prepared.items ≡ scripts.items) }
     ensures ready { IfOk result (λ prepared. All IsPrepared prepared.items) }
 {
     let mut prepared = Vec::new(alloc);
     'scripts: for script in scripts {
-        let played = Vec::with_capacity(alloc, script.as_slice().len())?;
+        let played = Vec::with_capacity(alloc, lines_of(&script))?;
         push_prepared(&mut prepared, Prepared { script, played })?;
     }
     Ok(prepared)
+}
+
+/// How many lines of a script something comes of.
+fn lines_of(script: &Script) -> usize
+    ensures { result ≡ lines_of script.now }
+{
+    match script {
+        Script::Session(steps) => steps.as_slice().len(),
+        Script::View(queries) => queries.as_slice().len() + 1,
+    }
 }
 
 /// Appends a script.

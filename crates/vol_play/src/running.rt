@@ -3,31 +3,41 @@ ghost use Rattle.std.specs.Prelude.{◌≡◌, ◌<◌, All, length};
 ghost use Rattle.vol_play.specs.Players.{InPairs, CanPlay, HasPlayed};
 
 use crate::preparing::Player;
-use crate::steps::play_script;
+use crate::queries::play_queries;
+use crate::steps::play_steps;
 use std::alloc::Global;
 use std::mem::replace;
 use std::sync::Wait;
 use std::thread;
 use std::thread::Threads;
 use vol_check::Gate;
-use vol_scripts::Script;
+use vol_scripts::Sequence;
 use vol_shared::Shared;
 
 impl Player {
-    /// Plays the script, of which no step is left then.
+    /// Plays the script, of which no line is left then.
     fn play<R: Wait>(&mut self, rt: &R, alloc: Global, shared: &Shared)
         requires { CanPlay shared.now.of self.old }
         ensures { HasPlayed self.old self.new }
     {
-        let script = replace(&mut self.script, Script::from_vec(Vec::new(alloc)));
-        play_script(
-            rt,
-            alloc,
-            shared,
-            &mut self.session,
-            script,
-            &mut self.played,
-        );
+        match self {
+            Player::Caller {
+                session,
+                steps,
+                played,
+            } => {
+                let steps = replace(steps, Sequence::from_vec(Vec::new(alloc)));
+                play_steps(rt, alloc, shared, session, steps, played);
+            }
+            Player::Viewer {
+                view,
+                queries,
+                played,
+            } => {
+                let queries = replace(queries, Sequence::from_vec(Vec::new(alloc)));
+                play_queries(alloc, view, queries, played);
+            }
+        }
     }
 }
 

@@ -1,28 +1,28 @@
-//! The steps of one script, by one session.
+//! The lines of a script for a session.
 ghost use Rattle.std.specs.Prelude.{◌≡◌, ◌+◌, ◌≤◌, [], length, vec_len, vec_capacity};
-ghost use Rattle.vol_play.specs.Steps.{CameOf, CameOfAll, known_after, known_after_all};
+ghost use Rattle.vol_play.specs.Steps.{CameOf, CameInTurn, known_after, known_after_all};
 
 use std::alloc::Global;
 use std::sync::Wait;
-use vol_scripts::{Played, Script, Step};
+use vol_scripts::{Played, Sequence, Step};
 use vol_shared::{Session, Shared};
 
 /// Does the steps of a script, one after another, and puts what came of each on the list.
-pub(crate) fn play_script<R: Wait>(
+pub(crate) fn play_steps<R: Wait>(
     rt: &R,
     alloc: Global,
     shared: &Shared,
     session: &mut Session,
-    script: Script,
+    steps: Sequence<Step>,
     played: &mut Vec<Played>,
 )
     requires own { session.old.of ≡ shared.now.of }
     requires empty { played.old.items ≡ [] }
-    requires room { length script ≤ vec_capacity played.old }
-    ensures came { CameOfAll script session.old.next played.new.items }
+    requires room { length steps ≤ vec_capacity played.old }
+    ensures came { CameInTurn CameOf steps session.old.next played.new.items }
     ensures known { session.new ≡ known_after_all session.old played.new.items }
 {
-    'steps: for step in script.into_vec() {
+    'steps: for step in steps.into_vec() {
         let came = play_step(rt, alloc, shared, session, step);
         played.push_reserved(came);
     }

@@ -24,11 +24,13 @@ outcome_status (outcomes.Accepted done) = 0
 outcome_status (outcomes.Refused refusal) = 1
 outcome_status (outcomes.Answered reply) = 0
 
--- the status by what came of a step: 4 for want of memory (this project)
+-- the status by what came of a step: 4 for want of memory, and where a view couldn't take what is published (this project)
 abbrev pub step_status : Played → ℕ
 step_status (played.Told receipt) = outcome_status receipt.outcome
 step_status (played.Cut first) = 0
 step_status played.NoMemory = 4
+step_status played.NotEntered = 4
+step_status played.View = 0
 
 -- the status by what came of the steps of a script: the greatest (this project)
 abbrev pub script_status : List Played → ℕ
@@ -49,6 +51,8 @@ receipts_in [] = []
 receipts_in (played.Told receipt ∷ steps) = receipt ∷ receipts_in steps
 receipts_in (played.Cut first ∷ steps) = receipts_in steps
 receipts_in (played.NoMemory ∷ steps) = receipts_in steps
+receipts_in (played.NotEntered ∷ steps) = receipts_in steps
+receipts_in (played.View ∷ steps) = receipts_in steps
 
 -- the receipts of all scripts, script by script (this project)
 abbrev pub all_receipts : List (Vec Played Global) → List Receipt

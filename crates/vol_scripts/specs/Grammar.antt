@@ -5,6 +5,7 @@ use Rattle.std.specs.Option.{option_map, option_and_then}
 use Rattle.std.specs.Str.{bytes_eq}
 use Rattle.vol_dir.specs.declared.cred.Cred.{Cred}
 use Rattle.vol_volume.specs.declared.calls.Call.TheVariants as calls
+use Rattle.vol_volume.specs.declared.queries.Query.{Query}
 use Rattle.vol_volume.specs.declared.queries.Query.TheVariants as queries
 use Rattle.vol_scripts.specs.Numbers.{long_in, short_in, permissions_in, bytes_in}
 use Rattle.vol_scripts.specs.declared.commands.Command.{Command}
@@ -139,6 +140,16 @@ step_by (now ∷ uid ∷ gid ∷ name ∷ words) = do
   asked_by command cred moment words
 step_by _ = None
 
--- what a line asks for, whose words stand between its single spaces (this project)
+-- what a line asks of a session, whose words stand between its single spaces (this project)
 abbrev pub step_in : List ℕ → Option Step
 step_in line = step_by (slice_split (λ b. b == 32) line)
+
+-- the query of a step, where it is one (this project)
+abbrev pub query_of : Step → Option Query
+query_of (steps.Change call) = None
+query_of (steps.Question query) = Some query
+query_of steps.Cut = None
+
+-- what a line asks of a view: a query alone (this project)
+abbrev pub query_in : List ℕ → Option Query
+query_in line = step_in line >>= query_of

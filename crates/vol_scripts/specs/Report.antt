@@ -13,17 +13,19 @@ outcome_text (outcomes.Accepted done) = done_text done
 outcome_text (outcomes.Refused refusal) = refusal_text refusal
 outcome_text (outcomes.Answered reply) = reply_text reply
 
--- what came of a step (this project)
-abbrev pub played_text : Played → List ℕ
-played_text (played.Told receipt) = outcome_text receipt.outcome
-played_text (played.Cut first) = codes "cut " ++ decimal first
-played_text played.NoMemory = refusal_text refusals.NoMemory
+-- a line of the report: a script, a line of it, and what came of that (this project)
+abbrev pub line_text : ℕ → ℕ → List ℕ → List ℕ
+line_text script line came = decimal script ++ codes "." ++ decimal line ++ codes " " ++ came ++ codes "\n"
 
--- the line of a step: its script, its line, and what came of it (this project)
+-- the line of a step; the one that says that a script is for a view has none (this project)
 abbrev pub step_line_text : ℕ → ℕ → Played → List ℕ
-step_line_text script line came = decimal script ++ codes "." ++ decimal line ++ codes " " ++ played_text came ++ codes "\n"
+step_line_text script line (played.Told receipt) = line_text script line (outcome_text receipt.outcome)
+step_line_text script line (played.Cut first) = line_text script line (codes "cut " ++ decimal first)
+step_line_text script line played.NoMemory = line_text script line (refusal_text refusals.NoMemory)
+step_line_text script line played.NotEntered = line_text script line (codes "NotEntered")
+step_line_text script line played.View = []
 
--- the lines of steps of a script, of which the first has this number (this project)
+-- the lines of a script, of which the first has this number (this project)
 abbrev pub lines_text : ℕ → ℕ → List Played → List ℕ
 lines_text script line [] = []
 lines_text script line (first ∷ others) = step_line_text script line first ++ lines_text script (line + 1) others

@@ -21,7 +21,8 @@ use vol_volume::Volume;
 /// what was cut. The bytes of the volume are to be saved in any case.
 ///
 /// The status is 3 where `output` failed; else 4 where a step, this report or its confirming ran out of memory,
-/// in which case no receipt counts as confirmed; else 1 where a step was refused; else 0. Without memory for the
+/// in the last case no receipt counts as confirmed, or where a view couldn't take what is published; else 1 where
+/// a step was refused; else 0. Without memory for the
 /// report nothing of it goes out. A fault of the output and want of memory for the report have their line on
 /// `errors`.
 ///
@@ -182,11 +183,11 @@ fn step_status(played: &Played) -> u8
     ensures { result ≡ step_status played.now }
 {
     match played {
-        Played::NoMemory => NO_MEMORY,
+        Played::NoMemory | Played::NotEntered => NO_MEMORY,
         Played::Told(receipt) => match receipt.outcome {
             Outcome::Refused(_) => REFUSED,
             Outcome::Accepted(_) | Outcome::Answered(_) => DONE,
         },
-        Played::Cut(_) => DONE,
+        Played::Cut(_) | Played::View => DONE,
     }
 }

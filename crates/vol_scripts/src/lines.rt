@@ -34,8 +34,42 @@ impl From<AllocError> for LineFault {
     }
 }
 
-/// What a line asks for. Takes memory for paths and for the bytes of a write.
-pub(crate) fn read_line(alloc: Global, line: &[u8]) -> Result<Step, LineFault>
+/// What a line of a script may ask for.
+pub(crate) trait FromLine: Drop {
+    ghost use Rattle.std.specs.Prelude.{List, Option};
+
+    ghost written: { List ℕ → Option Self };
+
+    /// What a line asks for. Takes memory for paths and for the bytes of a write.
+    fn from_line(alloc: Global, line: &[u8]) -> Result<Self, LineFault>
+        ensures { Reads (written line.now) result };
+}
+
+impl FromLine for Step {
+    ghost use Rattle.vol_scripts.specs.Grammar.{step_in};
+
+    ghost written = { step_in };
+
+    fn from_line(alloc: Global, line: &[u8]) -> Result<Step, LineFault> {
+        read_line(alloc, line)
+    }
+}
+
+impl FromLine for Query {
+    ghost use Rattle.vol_scripts.specs.Grammar.{query_in};
+
+    ghost written = { query_in };
+
+    fn from_line(alloc: Global, line: &[u8]) -> Result<Query, LineFault> {
+        match read_line(alloc, line)? {
+            Step::Question(query) => Ok(query),
+            Step::Change(_) | Step::Cut => Err(LineFault::Unreadable),
+        }
+    }
+}
+
+/// What a line asks of a session.
+fn read_line(alloc: Global, line: &[u8]) -> Result<Step, LineFault>
     ensures { Reads (step_in line.now) result }
 {
     let mut words = Pieces::of(b' ', line);

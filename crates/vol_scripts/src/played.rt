@@ -1,7 +1,7 @@
-//! What came of the steps of a script.
+//! What came of the lines of a script.
 use vol_receipts::Receipt;
 
-/// What came of one step.
+/// What came of one line.
 #[derive(Debug, PartialEq, Eq, Drop)]
 pub enum Played {
     /// A call or a query has its receipt.
@@ -10,4 +10,8 @@ pub enum Played {
     Cut(u64),
     /// An allocation was refused, so nothing was done, and there is no receipt.
     NoMemory,
+    /// A view couldn't take what is published, so there is no receipt.
+    NotEntered,
+    /// The line says that the script is for a view. Nothing is printed of it.
+    View,
 }

@@ -1,10 +1,10 @@
 //! Reading of scripts.
-ghost use Rattle.std.specs.Prelude.{◌≡◌, ◌∷◌, ◌++◌, [], OnOk, IfErr};
-ghost use Rattle.vol_scripts.specs.Reading.{ReadsScript, ReadsScripts};
+ghost use Rattle.std.specs.Prelude.{◌≡◌, ◌≤◌, ◌∷◌, ◌++◌, [], OnOk, IfErr};
+ghost use Rattle.vol_scripts.specs.Reading.{ReadsScript, ReadsScripts, asked_in, script_after, script_in, views_after};
 
-use crate::lines::{LineFault, read_line};
+use crate::lines::{FromLine, LineFault};
 use crate::pieces::Pieces;
-use crate::steps::{Script, Step};
+use crate::steps::{Script, Sequence};
 use std::alloc::{AllocError, Global};
 
 /// Why a script wasn't read.
@@ -26,39 +26,61 @@ impl From<AllocError> for ScriptFault {
     }
 }
 
-/// The steps that a script asks for. Each line ends with a newline, and a script of no bytes has none.
+/// The line that says that a script is for a view.
+const VIEW_LINE: &[u8] = b"view\n";
+
+/// How many scripts may be for views.
+const MOST_VIEWS: u64 = 16;
+
+/// What a script asks for: of a view, where its first line is the word `view`, else of a session. Each line ends with
+/// a newline, and a script of no bytes has none. What is asked of a view are queries alone.
 ///
 /// Takes memory for the steps, their paths and the bytes of their writes. Costs the length of the script.
 pub fn read_script(alloc: Global, script: &[u8]) -> Result<Script, ScriptFault>
-    ensures { ReadsScript script.now result }
+    ensures { ReadsScript (script_in script.now) result }
 {
-    let mut steps = Vec::new(alloc);
-    let mut lines = Pieces::of(b'\n', script);
+    match script.strip_prefix(VIEW_LINE) {
+        Some(queries) => Ok(Script::View(read_lines(alloc, queries, 2)?)),
+        None => Ok(Script::Session(read_lines(alloc, script, 1)?)),
+    }
+}
+
+/// What lines ask for, of which the first has this number.
+fn read_lines<A: FromLine>(
+    alloc: Global,
+    text: &[u8],
+    first: u64,
+) -> Result<Sequence<A>, ScriptFault>
+    requires { first ≤ 2 }
+    ensures { ReadsScript (asked_in A.written first text.now) result }
+{
+    let mut asked = Vec::new(alloc);
+    let mut lines = Pieces::of(b'\n', text);
     'lines: while let Some(line) = lines.take_next() {
-        let number = steps.len() as u64 + 1;
+        let number = asked.len() as u64 + first;
         if lines.is_empty() {
             // What stands after the last newline is no line, and has to be nothing.
             return if line.is_empty() {
-                Ok(Script::from_vec(steps))
+                Ok(Sequence::from_vec(asked))
             } else {
                 Err(ScriptFault::Line(number))
             };
         }
-        match read_line(alloc, line) {
-            Ok(step) => push_step(&mut steps, step)?,
+        match A::from_line(alloc, line) {
+            Ok(item) => push_item(&mut asked, item)?,
             Err(LineFault::Unreadable) => return Err(ScriptFault::Line(number)),
             Err(LineFault::NoMemory) => return Err(ScriptFault::NoMemory),
         }
     }
-    Ok(Script::from_vec(steps))
+    Ok(Sequence::from_vec(asked))
 }
 
-/// Appends a step.
-fn push_step(steps: &mut Vec<Step>, step: Step) -> Result<(), ScriptFault>
-    ensures pushed { OnOk result (steps.new.items ≡ steps.old.items ++ step ∷ []) }
+/// Appends what a line asks for.
+fn push_item<T: Drop>(items: &mut Vec<T>, item: T) -> Result<(), ScriptFault>
+    ensures pushed { OnOk result (items.new.items ≡ items.old.items ++ item ∷ []) }
     ensures fault { IfErr result (λ fault. fault ≡ ScriptFault.NoMemory) }
 {
-    steps.push(step).map_err(|_| ScriptFault::NoMemory)
+    items.push(item).map_err(|_| ScriptFault::NoMemory)
 }
 
 /// Why several scripts weren't read.
@@ -75,14 +97,15 @@ pub enum ScriptsFault {
     NoMemory,
 }
 
-/// The steps that several scripts ask for, as [`read_script`] reads each. Takes memory as it does, and a list
-/// of the scripts.
+/// What several scripts ask for, as [`read_script`] reads each; at most 16 may be for views, and the first line of a
+/// further one can't be read. Takes memory as it does, and a list of the scripts.
 pub fn read_scripts(alloc: Global, scripts: &[Vec<u8>]) -> Result<Vec<Script>, ScriptsFault>
     ensures { ReadsScripts scripts.now result }
 {
     let mut read = Vec::new(alloc);
+    let mut views = 0;
     'scripts: for script in scripts {
-        match read_script(alloc, script) {
+        match read_next(alloc, &mut views, script) {
             Ok(script) => push_script(&mut read, script)?,
             Err(ScriptFault::Line(line)) => {
                 let script = read.len() as u64 + 1;
@@ -92,6 +115,22 @@ pub fn read_scripts(alloc: Global, scripts: &[Vec<u8>]) -> Result<Vec<Script>, S
         }
     }
     Ok(read)
+}
+
+/// What a script asks for, where so many before it are for views.
+fn read_next(alloc: Global, views: &mut u64, script: &[u8]) -> Result<Script, ScriptFault>
+    requires { views.old ≤ 16 }
+    ensures read { ReadsScript (script_after views.old script.now) result }
+    ensures views { OnOk result (views.new ≡ views_after views.old script.now) }
+    ensures most { views.new ≤ 16 }
+{
+    if script.starts_with(VIEW_LINE) {
+        if *views == MOST_VIEWS {
+            return Err(ScriptFault::Line(1));
+        }
+        *views += 1;
+    }
+    read_script(alloc, script)
 }
 
 /// Appends a script.

@@ -1,7 +1,7 @@
 //! What `play` prints.
 ghost use Rattle.std.specs.Prelude.{◌≡◌, ◌++◌, IfOk, OnOk};
 ghost use Rattle.std.specs.String.{string_bytes};
-ghost use Rattle.vol_scripts.specs.Report.{lines_text, step_line_text, outcome_text, played_text, totals_text};
+ghost use Rattle.vol_scripts.specs.Report.{line_text, lines_text, step_line_text, outcome_text, totals_text};
 
 use crate::played::Played;
 use crate::texts::{done_text, refusal_text, reply_text};
@@ -9,17 +9,6 @@ use std::alloc::{AllocError, Global};
 use std::fmt::Write;
 use vol_dir::Refusal;
 use vol_receipts::Outcome;
-
-/// What came of a step.
-fn played_text(alloc: Global, played: &Played) -> Result<String, AllocError>
-    ensures { IfOk result (λ text. string_bytes text ≡ played_text played.now) }
-{
-    match played {
-        Played::Told(receipt) => outcome_text(alloc, &receipt.outcome),
-        Played::Cut(first) => format!(in alloc; "cut {first}"),
-        Played::NoMemory => String::from_str(alloc, refusal_text(Refusal::NoMemory)),
-    }
-}
 
 /// What came of a call or a query.
 fn outcome_text(alloc: Global, outcome: &Outcome) -> Result<String, AllocError>
@@ -50,7 +39,7 @@ pub(crate) fn push_lines(
     Ok(())
 }
 
-/// Appends the line of a step.
+/// Appends the line of a step. The line that says that a script is for a view has none.
 fn push_line(
     alloc: Global,
     text: &mut String,
@@ -60,8 +49,25 @@ fn push_line(
 ) -> Result<(), AllocError>
     ensures { OnOk result (string_bytes text.new ≡ string_bytes text.old ++ step_line_text script line played.now) }
 {
-    let came = played_text(alloc, played)?;
-    let came = came.as_str();
+    match played {
+        Played::Told(receipt) => {
+            let came = outcome_text(alloc, &receipt.outcome)?;
+            push_came(text, script, line, came.as_str())
+        }
+        Played::Cut(first) => {
+            let came = format!(in alloc; "cut {first}")?;
+            push_came(text, script, line, came.as_str())
+        }
+        Played::NoMemory => push_came(text, script, line, refusal_text(Refusal::NoMemory)),
+        Played::NotEntered => push_came(text, script, line, "NotEntered"),
+        Played::View => Ok(()),
+    }
+}
+
+/// Appends a line: a script, a line of it, and what came of that.
+fn push_came(text: &mut String, script: u64, line: u64, came: &str) -> Result<(), AllocError>
+    ensures { OnOk result (string_bytes text.new ≡ string_bytes text.old ++ line_text script line came.now) }
+{
     writeln!(text, "{script}.{line} {came}").map_err(|_| AllocError)
 }
 

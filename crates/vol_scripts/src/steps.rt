@@ -4,7 +4,7 @@ ghost use Rattle.std.specs.Prelude.{◌≡◌};
 use std::marker::Model;
 use vol_volume::{Call, Query};
 
-/// What one line of a script asks for.
+/// What one line of a script asks of a session.
 #[derive(Debug, PartialEq, Eq, Drop)]
 pub enum Step {
     /// A call.
@@ -15,40 +15,48 @@ pub enum Step {
     Cut,
 }
 
-/// A script. A caller sees the list of its steps, one a line.
+/// A script, which is played in a thread of its own.
 #[derive(Debug, Drop)]
-pub struct Script {
-    steps: Vec<Step>,
+pub enum Script {
+    /// What each line asks of a session.
+    Session(Sequence<Step>),
+    /// What each line after the first, which is the word `view`, asks of a view.
+    View(Sequence<Query>),
 }
 
-impl Model for Script {
+/// What lines ask for, one after another. A caller sees the list.
+#[derive(Debug, Drop)]
+pub struct Sequence<T> {
+    items: Vec<T>,
+}
+
+impl<T> Model for Sequence<T> {
     ghost use Rattle.std.specs.Prelude.{List};
-    ghost use Rattle.vol_scripts.specs.declared.steps.Step.{Step};
 
-    ghost Value = { List Step };
+    ghost Value = { List T };
 
-    ghost view = { λ script. script.steps.items };
+    ghost view = { λ sequence. sequence.items.items };
 }
 
-impl Script {
-    /// These steps. Takes no memory.
-    pub fn from_vec(steps: Vec<Step>) -> Script
-        ensures { result ≡ steps.items }
+impl<T> Sequence<T> {
+    /// What a list has. Takes no memory.
+    pub fn from_vec(items: Vec<T>) -> Sequence<T>
+        ensures { result ≡ items.items }
     {
-        Script { steps }
+        Sequence { items }
     }
 
-    /// The steps, given back. Takes no memory.
-    pub fn into_vec(self) -> Vec<Step>
+    /// The list, given back. Takes no memory.
+    pub fn into_vec(self) -> Vec<T>
         ensures { result.items ≡ self }
     {
-        self.steps
+        self.items
     }
 
-    /// All the steps, in their order.
-    pub fn as_slice(&self) -> &[Step]
+    /// All of it, in order.
+    pub fn as_slice(&self) -> &[T]
         ensures { result.now ≡ self.now }
     {
-        self.steps.as_slice()
+        self.items.as_slice()
     }
 }

@@ -1,93 +1,122 @@
-use Rattle.std.proofs.Common.{◌∙◌, length, map, arith, refl, ap, sym, subst}
-use Rattle.std.proofs.lemmas.List.{length-map}
+use Rattle.std.proofs.Common.{◌≡◌, ◌∙◌, ◌++◌, List, Some, length, map, arith, ap, sym, subst, length-append}
+use Rattle.std.specs.Prelude.{Vec}
+use Rattle.std.specs.Global.{Global}
 use Rattle.std.proofs.lemmas.List.Elements.{All-same}
-use Rattle.vol_shared.specs.Sessions.{new_session}
-use Rattle.vol_shared.specs.Stored.{next_number, stored_of}
+use Rattle.vol_scripts.specs.declared.played.Played.{Played}
+use Rattle.vol_shared.specs.Sessions.{Known}
+use Rattle.vol_shared.specs.Stored.{unpublished}
+use Rattle.vol_views.specs.Views.{Watched}
 use Rattle.vol_volume.specs.Volume.{Mounted}
-use Rattle.vol_play.specs.Players.{CanPlay, HasPlayed, dealt}
+use Rattle.vol_play.specs.Opened.{Closes, fresh_session}
+use Rattle.vol_play.specs.Players.{CanPlay, HasPlayed, InPairs, IsDealt, played_by, sessions_of, views_of}
 use Rattle.vol_play.specs.Playing.{ArePlayed}
 use Rattle.vol_play.specs.declared.preparing.Player.{Player}
-use Rattle.vol_play.proofs.EndLaws.{own_sessions, sessions_ended, steps_came, ended_places, ended_first, ended_uncut, ended_agree}
-use Rattle.vol_play.proofs.ListLaws.{written_over}
-use Rattle.vol_play.proofs.PlayerLaws.{as_many, dealt_can, dealt_many}
 use Rattle.vol_play.specs.declared.preparing.Prepared.{Prepared}
+use Rattle.vol_play.proofs.EndLaws.{own_sessions, own_views, whole_played}
+use Rattle.vol_play.proofs.ListLaws.{empty_of, written_over}
+use Rattle.vol_play.proofs.PlayerLaws.{as_many, came_all, dealt_can, ended_all, ended_players, sessions_many, views_many}
 use Rattle.vol_play.proofs.performing.play_opened.Goals as goal
-
-pub deal-requires-clause-alike : goal.deal-requires-clause-alike
-deal-requires-clause-alike g c = (new_session c.args.shared.of (next_number c.args.shared.stored), c.requires.fresh)
 
 pub run_all-requires-clause-some : goal.run_all-requires-clause-some
 run_all-requires-clause-some g c κs within =
-    let session = new_session c.args.shared.of (next_number c.args.shared.stored) in
-    let many = dealt_many session c.args.stage.prepared.items c.deref_mut.result.now (c.deref_mut.ensures.value ∙ c.deal.ensures.dealt session c.requires.fresh) in
-    omega (arith, many, c.requires.some, c.args.stage.prepared.ok.0)
+    let shared = c.args.shared in
+    let many = as_many (IsDealt shared) c.args.stage.prepared.items c.deal.new.players.items (c.deal.ensures.dealt shared c.requires.opened.fresh c.requires.opened.fresh_views) in
+    omega (arith, many, ap length c.deref_mut.ensures.value, c.requires.some, c.args.stage.prepared.ok.0)
 
 pub run_all-requires-clause-can : goal.run_all-requires-clause-can
 run_all-requires-clause-can g c κs within =
-    let session = new_session c.args.shared.of (next_number c.args.shared.stored) in
-    All-same (CanPlay c.args.shared.of) c.deref_mut.result.now (map (dealt session) c.args.stage.prepared.items)
-    (c.deref_mut.ensures.value ∙ c.deal.ensures.dealt session c.requires.fresh) (dealt_can session c.args.shared.of refl c.args.stage.prepared.items c.requires.ready)
+    let shared = c.args.shared in
+    All-same (CanPlay shared.of) c.deref_mut.result.now c.deal.new.players.items c.deref_mut.ensures.value
+    (dealt_can shared c.args.stage.prepared.items c.deal.new.players.items c.requires.ready
+    (c.deal.ensures.dealt shared c.requires.opened.fresh c.requires.opened.fresh_views))
 
-pub gather-requires-clause-room : goal.gather-requires-clause-room
-gather-requires-clause-room g c =
-    let session = new_session c.args.shared.of (next_number c.args.shared.stored) in
-    let many = dealt_many session c.args.stage.prepared.items c.deal.new.players.items (c.deal.ensures.dealt session c.requires.fresh) in
-    let same = c.args.stage.prepared.ok.0 in let players = c.deal.new.players.ok.0 in
-    (omega (arith, many, same, players, c.requires.count, c.deal.ensures.room, c.args.sessions.ok), omega (arith, many, same, players, c.requires.room.1))
-
-pub close-requires-clause-count : goal.close-requires-clause-count
-close-requires-clause-count g c =
-    let of = c.args.shared.of in
-    let next = next_number c.args.shared.stored in
-    let session = new_session of next in
+pub gather-requires-clause-sessions : goal.gather-requires-clause-sessions
+gather-requires-clause-sessions g c =
+    let shared = c.args.shared in
     let prepared = c.args.stage.prepared.items in
     let old = c.deref_mut.result.now in
     let new = c.run_all.new.players in
-    let dealt_is = c.deal.ensures.dealt session c.requires.fresh in
-    let old_is = c.deref_mut.ensures.value ∙ dealt_is in
+    let dealt_players = c.deal.new.players.items in
+    let dealt = subst (λ (ps : List Player). InPairs (IsDealt shared) prepared ps) (sym c.deref_mut.ensures.value)
+    (c.deal.ensures.dealt shared c.requires.opened.fresh c.requires.opened.fresh_views) in
     let as_long = as_many HasPlayed old new c.run_all.ensures ∙ ap length c.deref_mut.ensures.value in
-    let whole_is = written_over c.deal.new.players.items new c.deal.new.players.len as_long c.deal.new.players.ok.0 in
-    let many = dealt_many session prepared c.deal.new.players.items dealt_is in
-    let sessions = ap length (c.gather.ensures.sessions ∙ ap (map (λ (p : Player). p.session)) whole_is) ∙ length-map new (λ (p : Player). p.session) in
-    omega (arith, many, as_long, sessions, c.requires.sessions, c.args.stage.prepared.ok.0)
+    let whole_is = written_over dealt_players new c.deal.new.players.len as_long c.deal.new.players.ok.0 in
+    let ended = ended_all shared prepared old new dealt c.run_all.ensures in
+    let many = ap (λ (ps : List Player). length (sessions_of ps)) whole_is ∙ sessions_many shared prepared new ended in
+    omega (arith, many, c.deal.ensures.left, c.deal.ensures.rooms.0, c.deal.new.sessions.ok.0, c.args.sessions.ok)
 
-pub close-requires-clause-own : goal.close-requires-clause-own
-close-requires-clause-own g c =
-    let of = c.args.shared.of in
-    let next = next_number c.args.shared.stored in
-    let session = new_session of next in
+pub gather-requires-clause-views : goal.gather-requires-clause-views
+gather-requires-clause-views g c =
+    let shared = c.args.shared in
     let prepared = c.args.stage.prepared.items in
     let old = c.deref_mut.result.now in
     let new = c.run_all.new.players in
-    let dealt_is = c.deal.ensures.dealt session c.requires.fresh in
-    let old_is = c.deref_mut.ensures.value ∙ dealt_is in
+    let dealt_players = c.deal.new.players.items in
+    let dealt = subst (λ (ps : List Player). InPairs (IsDealt shared) prepared ps) (sym c.deref_mut.ensures.value)
+    (c.deal.ensures.dealt shared c.requires.opened.fresh c.requires.opened.fresh_views) in
     let as_long = as_many HasPlayed old new c.run_all.ensures ∙ ap length c.deref_mut.ensures.value in
-    let whole_is = written_over c.deal.new.players.items new c.deal.new.players.len as_long c.deal.new.players.ok.0 in
-    own_sessions of next c.gather.new.sessions.items c.gather.new.played.items
-    (sessions_ended of next prepared old new _ c.gather.new.sessions.items c.gather.new.played.items old_is c.run_all.ensures whole_is c.gather.ensures.sessions c.gather.ensures.played)
+    let whole_is = written_over dealt_players new c.deal.new.players.len as_long c.deal.new.players.ok.0 in
+    let ended = ended_all shared prepared old new dealt c.run_all.ensures in
+    let many = ap (λ (ps : List Player). length (views_of ps)) whole_is ∙ views_many shared prepared new ended in
+    omega (arith, many, ap length c.deal.ensures.none_left, c.deal.ensures.rooms.1, c.deal.new.views.ok.0, c.requires.opened.views, c.args.views.ok)
+
+pub gather-requires-clause-played : goal.gather-requires-clause-played
+gather-requires-clause-played g c =
+    let shared = c.args.shared in
+    let many = as_many (IsDealt shared) c.args.stage.prepared.items c.deal.new.players.items (c.deal.ensures.dealt shared c.requires.opened.fresh c.requires.opened.fresh_views) in
+    omega (arith, many, c.args.stage.prepared.ok.0, c.deal.new.players.ok.0, c.requires.room.1)
+
+pub close-closed-requires : goal.close-closed-requires
+close-closed-requires g c =
+    let shared = c.args.shared in
+    let prepared = c.args.stage.prepared.items in
+    let old = c.deref_mut.result.now in
+    let new = c.run_all.new.players in
+    let dealt_players = c.deal.new.players.items in
+    let dealt = subst (λ (ps : List Player). InPairs (IsDealt shared) prepared ps) (sym c.deref_mut.ensures.value)
+    (c.deal.ensures.dealt shared c.requires.opened.fresh c.requires.opened.fresh_views) in
+    let as_long = as_many HasPlayed old new c.run_all.ensures ∙ ap length c.deref_mut.ensures.value in
+    let whole_is = written_over dealt_players new c.deal.new.players.len as_long c.deal.new.players.ok.0 in
+    let ended = ended_all shared prepared old new dealt c.run_all.ensures in
+    let each = ended_players shared prepared new ended in
+    let left = c.deal.new.sessions.items in
+    let unused = c.deal.ensures.alike (fresh_session shared) c.requires.opened.fresh in
+    let sessions_is : c.gather.new.sessions.items ≡ left ++ sessions_of new = c.gather.ensures.sessions ∙ ap (λ (ps : List Player). left ++ sessions_of ps) whole_is in
+    let views_is : c.gather.new.views.items ≡ views_of new =
+    c.gather.ensures.views ∙ ap (λ (ps : List Player). c.deal.new.views.items ++ views_of ps) whole_is ∙ ap (λ (vs : List Watched). vs ++ views_of new) c.deal.ensures.none_left in
+    let sessions_count = ap length sessions_is ∙ length-append left (sessions_of new) in
+    let views_count = ap length views_is ∙ views_many shared prepared new ended in
+    let same_views : length c.gather.new.views.items ≡ length c.args.views.items = omega (arith, views_count, c.requires.opened.views) in
+    record {
+      count = omega (arith, sessions_count, sessions_many shared prepared new ended, c.deal.ensures.left, c.deal.new.sessions.ok.0, c.args.sessions.ok.0, c.requires.opened.count, c.requires.opened.sessions);
+      own = All-same (λ (s : Known). s.of ≡ shared.of) c.gather.new.sessions.items (left ++ sessions_of new) sessions_is (own_sessions shared left unused new each);
+      own_views = All-same (λ (v : Watched). shared.of.book ≡ Some v.book) c.gather.new.views.items (views_of new) views_is (own_views shared new each);
+      plain = λ e. c.requires.opened.plain (empty_of c.args.views.items (omega (arith, same_views, ap length e)));
+      published =
+          λ some. same_views ∙ sym (c.requires.opened.published (λ e. some (empty_of c.gather.new.views.items (omega (arith, same_views, ap length e)))));
+    }
 
 pub returns : goal.returns
 returns g c =
-    let of = c.args.shared.of in
-    let next = next_number c.args.shared.stored in
-    let session = new_session of next in
+    let shared = c.args.shared in
     let prepared = c.args.stage.prepared.items in
     let old = c.deref_mut.result.now in
     let new = c.run_all.new.players in
-    let dealt_is = c.deal.ensures.dealt session c.requires.fresh in
-    let old_is = c.deref_mut.ensures.value ∙ dealt_is in
+    let dealt_players = c.deal.new.players.items in
+    let dealt = subst (λ (ps : List Player). InPairs (IsDealt shared) prepared ps) (sym c.deref_mut.ensures.value)
+    (c.deal.ensures.dealt shared c.requires.opened.fresh c.requires.opened.fresh_views) in
     let as_long = as_many HasPlayed old new c.run_all.ensures ∙ ap length c.deref_mut.ensures.value in
-    let whole_is = written_over c.deal.new.players.items new c.deal.new.players.len as_long c.deal.new.players.ok.0 in
-    let opened = c.args.shared.stored in
-    let sessions = c.gather.new.sessions.items in
-    let played = c.gather.new.played.items in
-    let all = sessions_ended of next prepared old new _ sessions played old_is c.run_all.ensures whole_is c.gather.ensures.sessions c.gather.ensures.played in
-    subst (λ (last : Mounted). ArePlayed opened (map (λ (p : Prepared). p.script) prepared) last played) (sym c.into_volume.ensures)
-    (record {
-      came = steps_came of next prepared old new _ played old_is c.run_all.ensures whole_is c.gather.ensures.played;
-      goes_on = c.close.ensures.goes_on;
-      uncut = ended_uncut of next opened c.close.result sessions played all c.close.ensures.uncut;
-      first = ended_first of next opened.origin.first c.close.result sessions played all c.close.ensures.first;
-      places = ended_places of next opened (stored_of c.close.result) sessions played all c.close.ensures.places;
-      agree = ended_agree of next c.close.result sessions played all c.close.ensures.agree;
-    })
+    let whole_is = written_over dealt_players new c.deal.new.players.len as_long c.deal.new.players.ok.0 in
+    let ended = ended_all shared prepared old new dealt c.run_all.ensures in
+    let each = ended_players shared prepared new ended in
+    let left = c.deal.new.sessions.items in
+    let unused = c.deal.ensures.alike (fresh_session shared) c.requires.opened.fresh in
+    let sessions_is : c.gather.new.sessions.items ≡ left ++ sessions_of new = c.gather.ensures.sessions ∙ ap (λ (ps : List Player). left ++ sessions_of ps) whole_is in
+    let views_is : c.gather.new.views.items ≡ views_of new =
+    c.gather.ensures.views ∙ ap (λ (ps : List Player). c.deal.new.views.items ++ views_of ps) whole_is ∙ ap (λ (vs : List Watched). vs ++ views_of new) c.deal.ensures.none_left in
+    let played_is : c.gather.new.played.items ≡ map played_by new = c.gather.ensures.played ∙ ap (map played_by) whole_is in
+    let closes = subst (λ (all : List Known). Closes shared.stored all (views_of new) c.close-closed.result) sessions_is
+    (subst (λ (seen : List Watched). Closes shared.stored c.gather.new.sessions.items seen c.close-closed.result) views_is c.close-closed.ensures) in
+    subst (λ (last : Mounted). ArePlayed (unpublished shared.stored) (map (λ (p : Prepared). p.script) prepared) last c.gather.new.played.items) (sym c.into_volume.ensures)
+    (subst (λ (ps : List (Vec Played Global)). ArePlayed (unpublished shared.stored) (map (λ (p : Prepared). p.script) prepared) c.close-closed.result ps) (sym played_is)
+    (whole_played shared left unused new each (map (λ (p : Prepared). p.script) prepared) c.close-closed.result (came_all shared prepared new ended) closes))

@@ -2,16 +2,20 @@ use Rattle.std.proofs.Common.{◌∙◌, Bool, arith, ap, inr, subst}
 use Rattle.vol_commands.specs.Faults.{Gets}
 use Rattle.vol_scripts.specs.Ending.{Finishes, PrintsPlay}
 use Rattle.vol_play.specs.Playing.{any_cut}
-use Rattle.vol_play.proofs.ReadLaws.{read_many, unplayed_ruled}
+use Rattle.vol_play.proofs.ReadLaws.{read_many, read_views, unplayed_ruled}
 use Rattle.vol_play.proofs.playing.play.Goals as goal
 
 pub play_image-requires-clause-first : goal.play_image-requires-clause-first
 play_image-requires-clause-first g c =
-    let many = read_many 1 c.args.scripts.now c.in-Ok.scripts.items c.in-Ok.ensures in omega (arith, many, c.requires.first)
+    let many = read_many 1 0 c.args.scripts.now c.in-Ok.scripts.items c.in-Ok.ensures in omega (arith, many, c.requires.first)
 
 pub play_image-requires-clause-last : goal.play_image-requires-clause-last
 play_image-requires-clause-last g c =
-    let many = read_many 1 c.args.scripts.now c.in-Ok.scripts.items c.in-Ok.ensures in omega (arith, many, c.requires.last)
+    let many = read_many 1 0 c.args.scripts.now c.in-Ok.scripts.items c.in-Ok.ensures in omega (arith, many, c.requires.last)
+
+pub play_image-requires-clause-views : goal.play_image-requires-clause-views
+play_image-requires-clause-views g c =
+    let few = read_views 1 0 c.args.scripts.now c.in-Ok.scripts.items (omega arith) c.in-Ok.ensures in omega arith
 
 pub report-requires : goal.report-requires
 report-requires g c = unplayed_ruled c.args.edition c.args.image.items c.in-Err-play_image.fault c.in-Err-play_image.ensures.fault

@@ -1,0 +1,16 @@
+use Rattle.std.proofs.Common.{◌≡◌, ◌+◌, ◌≤◌, List, ◌++◌, length, vec_capacity}
+use Rattle.vol_publish.specs.Logs.{number_of}
+use Rattle.vol_scripts.specs.Ending.{receipts_in}
+use Rattle.vol_scripts.specs.declared.played.Played.{Played}
+use Rattle.vol_play.specs.Steps.{CameInTurn, CameOfQuery, CameOfView}
+use Rattle.vol_play.proofs.queries.play_queries.Given as goal
+
+-- what comes of the queries that are left joins what came of those so far, whose receipts the view has
+abbrev pub invariant-queries : goal.invariant-queries
+invariant-queries l = record {
+  book : l.view.book ≡ l.fn.view.book;
+  came : (others : List Played) → CameInTurn CameOfQuery l.query-iterator.rest.items (number_of l.view.log) others
+      → CameOfView l.fn.queries (number_of l.fn.view.log) (l.played.items ++ others);
+  receipts : l.view.receipts ≡ l.fn.view.receipts ++ receipts_in l.played.items;
+  room : length l.played.items + length l.query-iterator.rest.items ≤ vec_capacity l.played;
+}

@@ -1,6 +1,6 @@
 //! Makes one run over the libraries, of which any one allocation may be refused, and looks at what a refusal leaves.
 //!
-//! refused_memory mkfs|volume|sessions|views|checkers|salvage|migrate|play
+//! refused_memory mkfs|volume|sessions|views|checkers|salvage|migrate|play|watched
 //!
 //! Does the run's steps one after another. A step that finds no memory is to leave all as before, which is compared, and is
 //! done once more. Prints how many promises were broken; so its output is the same whichever allocation is refused. The status
@@ -40,6 +40,7 @@ fn run<R: Threads + Wait + Sync>(
         "salvage" => volumes::mend(alloc, found),
         "migrate" => volumes::migrate_sixth(alloc, found),
         "play" => plays::play_script(rt, alloc, found),
+        "watched" => plays::play_watched(rt, alloc, found),
         _ => None,
     }
 }

@@ -1,17 +1,20 @@
 #!/usr/bin/env bash
 # Times the program against bench/plain, which does the same jobs in plain Rust, and compares what both write, byte by byte.
-# Usage: bench/run.sh PROGRAM CALLS CHECKS, the second being the built crates/many_calls, the third crates/many_checks.
+# Usage: bench/run.sh PROGRAM CALLS CHECKS VIEWS, the second being the built crates/many_calls, the third crates/many_checks, the
+# fourth crates/many_views.
 # It needs rustc, some 900 MB of disk, and a machine that does nothing else.
 # Times are the best of five runs of the whole command, by turns; memory is the greatest that was resident in a run.
-# For jobs that mount a volume, the last column is that memory by two copies of the image and one of the file that is put.
+# For jobs that mount a volume, the last column is that memory by two copies of the image and one of the file that is put; for
+# the shared volume, how many images it takes more with a view.
 # A row ends with what it is above, where it is above what is wanted.
 # FOLDER names another place for the files than bench/out: one in memory shows the programs without the disk.
 set -uo pipefail
 export LC_ALL=C
-usage='usage: bench/run.sh PROGRAM CALLS CHECKS'
+usage='usage: bench/run.sh PROGRAM CALLS CHECKS VIEWS'
 program=$(realpath "${1:?$usage}")
 calls=$(realpath "${2:?$usage}")
 checks=$(realpath "${3:?$usage}")
+views=$(realpath "${4:?$usage}")
 bench=$(dirname "$(realpath "$0")")
 if ! command -v rustc > /dev/null; then
     echo 'bench: rustc is not there, which builds the plain program' >&2
@@ -140,6 +143,16 @@ checking() {
     best=$((best - once))
 }
 
+# asking JOB COUNT VIEWS BYTES: the microseconds of so many queries or calls on a shared volume in memory, in `best`; so many bytes
+# are written by each call
+asking() {
+    local none
+    quickest "$views" "$1" 0 "$3" 400 "$4"
+    none=$best
+    quickest "$views" "$1" "$2" "$3" 400 "$4"
+    best=$((best - none))
+}
+
 # many DIRECTORIES NAMES: so many directories are made with so many files each, and then a byte is written into each file;
 # two rows of the table. Both programs leave the same volume.
 many() {
@@ -253,4 +266,29 @@ compare 'play, half of it refused or asked' 3 0 output play 7 work.img script.ha
 side_by_side 'the same against 100,000 calls' 3 play 7 work.img script.half -- play 7 work.img script.all
 highest=0
 base=
+
+# A volume that threads share: ten queries by a view to one by a session through the lock, both while another session writes 4,096
+# bytes at a time; as many queries by each of four views as by one alone; calls where there is a view against those where there is none.
+asking view 1000000 1 4096
+one=$best
+asking lock 100000 1 4096
+row '10 Stats by a view to 1 locked' 1 "$one" "$best"
+asking views 1000000 1 5
+one=$best
+asking views 1000000 4 5
+row '1,000,000 Stats each of 4 views' 1.6 "$best" "$one"
+asking calls 20000 1 5
+one=$best
+asking calls 20000 0 5
+row '20,000 Writes, with a view' 3.5 "$one" "$best"
+
+# The memory of a shared volume of 200,000 blocks with a view and without, and how many images the first is more.
+kilobytes "$views" calls 1 1 200000 5
+one=$resident
+kilobytes "$views" calls 1 0 200000 5
+awk -v with="$one" -v without="$resident" 'BEGIN {
+    more = (with - without) * 1024 / (200000 * 512)
+    printf "%-34s %36.1f %9.1f %6.2f %6.2f", "a shared volume, with a view", with / 1024, without / 1024, with / without, more
+    if (more > 2.1) printf "  images above 2.1"
+    printf "\n" }'
 echo "load after: $(cut -d ' ' -f 1-3 /proc/loadavg)"

@@ -6,6 +6,7 @@ use std::alloc::Global;
 use std::process::Abort;
 use std::sync::Wait;
 use std::test::Fail;
+use vol_dir::Refusal;
 use vol_shared::{Asked, Closed, Outcome, Receipt, Session, Shared, View};
 use vol_volume::{Bytes, Done, Reply, Volume};
 
@@ -113,5 +114,21 @@ fn a_view_answers_what_its_session_made(rt: HostRuntime) -> Result<(), Fail> {
         5,
         0,
     );
+    Ok(())
+}
+
+#[test]
+fn a_refused_call_beside_a_view_has_its_receipt(rt: HostRuntime) -> Result<(), Fail> {
+    let alloc = rt.alloc();
+    let (shared, mut session, mut view) = open_one(&rt, alloc, sixth(&rt, alloc));
+    let made = ask(&rt, alloc, &shared, &mut session, create(&rt, alloc, b"/a"));
+    let again = ask(&rt, alloc, &shared, &mut session, create(&rt, alloc, b"/a"));
+    view.learn(&mut session);
+    let names = look(&rt, alloc, &mut view, list(&rt, alloc, b"/"));
+    let closed = close_one(&rt, alloc, shared, session, view);
+    check(&rt, &made, 0, Outcome::Accepted(Done::Made(32)));
+    check(&rt, &again, 1, Outcome::Refused(Refusal::Exists));
+    check_names(&rt, alloc, &names, &[(b".", 1), (b"..", 1), (b"a", 32)]);
+    check_all(&rt, alloc, &closed, &[made, again, names], 3, 0);
     Ok(())
 }

@@ -1,5 +1,5 @@
 //! An i-node, with the blocks that it names.
-ghost use Rattle.std.specs.Prelude.{◌≡◌, ◌≤◌, OnOk, IfOk, IfErr};
+ghost use Rattle.std.specs.Prelude.{◌≡◌, ◌≤◌, OnOk, IfOk, IfErr, take};
 ghost use Rattle.vol_layout.specs.Geometry.{Fits};
 ghost use Rattle.vol_inspect.specs.Inspecting.{InspectsInode, node_in, IsImagesFault};
 
@@ -22,6 +22,20 @@ pub struct InodeReport {
     /// The blocks that its places name, in the order of the places, each indirect block before what it leads to. None for
     /// an i-node that is no regular file or directory.
     pub extents: Vec<Extent>,
+}
+
+impl InodeReport {
+    ghost use Rattle.vol_layout.specs.Inode.{address_count};
+
+    /// The addresses that an i-node of the edition has.
+    pub fn addresses(&self) -> &[u32]
+        ensures { result.now ≡ take (address_count self.now.edition) self.now.node.addresses }
+    {
+        match self.edition {
+            Edition::V6 => &self.node.addresses[..8],
+            Edition::V7 => &self.node.addresses[..13],
+        }
+    }
 }
 
 /// I-node `number` of an image in which rules 1 and 2 hold, which may be any bytes otherwise. A free i-node is shown too.

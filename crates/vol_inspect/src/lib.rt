@@ -13,4 +13,5 @@ pub use extent::Extent;
 pub use fault::InspectFault;
 pub use inode_report::{InodeReport, inspect_inode};
 pub use super_report::{SuperReport, inspect_super};
+pub use texts::{fault_word, kind_name};
 pub use walking::{FreeBlocks, walk_free};

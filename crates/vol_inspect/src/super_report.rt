@@ -52,7 +52,8 @@ pub fn inspect_super(
     edition: Edition,
     image: &Image,
 ) -> Result<SuperReport, InspectFault>
-    ensures { InspectsSuper edition image.now result }
+    ensures report { InspectsSuper edition image.now result }
+    ensures ordered { IfOk result (λ report. report.geometry.zone_start ≤ report.geometry.zone_end) }
 {
     let geometry = Geometry::read(edition, image).map_err(InspectFault::Unsound)?;
     Ok(super_report(alloc, image, &geometry)?)
@@ -65,7 +66,8 @@ fn super_report(
     geometry: &Geometry,
 ) -> Result<SuperReport, AllocError>
     requires { Fits geometry.now image.now }
-    ensures { IfOk result (λ report. IsSuperReport geometry.now image.now report) }
+    ensures report { IfOk result (λ report. IsSuperReport geometry.now image.now report) }
+    ensures ordered { IfOk result (λ report. report.geometry.zone_start ≤ report.geometry.zone_end) }
 {
     let block = Super {
         edition: geometry.edition,

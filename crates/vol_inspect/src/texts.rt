@@ -29,7 +29,7 @@ use crate::inode_report::InodeReport;
 use crate::super_report::SuperReport;
 use std::alloc::AllocError;
 use std::fmt;
-use vol_layout::{Edition, Kind};
+use vol_layout::Kind;
 use vol_reports::FreeFault;
 
 impl InodeReport {
@@ -41,11 +41,7 @@ impl InodeReport {
         ensures { OnOk result (string_bytes text.new ≡ string_bytes text.old ++ inode_text self.now) }
     {
         self.push_head(text)?;
-        let count = match self.edition {
-            Edition::V6 => 8,
-            Edition::V7 => 13,
-        };
-        push_spaced(text, &self.node.addresses[..count])?;
+        push_spaced(text, self.addresses())?;
         push_times(
             text,
             self.node.accessed,
@@ -61,7 +57,7 @@ impl InodeReport {
     {
         let number = self.number;
         let mode = Octal(self.node.mode.bits);
-        let kind = word(self.node.mode.kind(self.edition));
+        let kind = kind_name(self.node.mode.kind(self.edition));
         let permissions = Octal(self.node.mode.permissions());
         let links = self.node.links;
         let uid = self.node.uid;
@@ -172,7 +168,7 @@ fn push_fault(text: &mut String, fault: Option<(FreeFault, u32)>) -> Result<(), 
 }
 
 /// The words of a fault of the free list.
-fn fault_word(fault: FreeFault) -> &'static str
+pub fn fault_word(fault: FreeFault) -> &'static str
     ensures { result.now ≡ fault_word fault }
 {
     match fault {
@@ -265,7 +261,7 @@ fn inside_text(inside: bool) -> &'static str
 }
 
 /// The word of a kind of i-node.
-fn word(kind: Kind) -> &'static str
+pub fn kind_name(kind: Kind) -> &'static str
     ensures { result.now ≡ kind_name kind }
 {
     match kind {

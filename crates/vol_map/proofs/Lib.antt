@@ -1,3 +1,4 @@
 pub mod Found
 pub mod Tallies
 pub mod UseLaws
+pub mod Shared

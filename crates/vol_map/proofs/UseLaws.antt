@@ -14,15 +14,15 @@ use Rattle.vol_map.specs.declared.uses.Use.{Use}
 use Rattle.vol_map.specs.declared.uses.Use.TheVariants as uses
 
 -- numbers between the ends are those of data blocks
-zone_within : (geometry : Geometry) (k : ℕ) → geometry.zone_start ≤ k → k < geometry.zone_end → in_zone geometry k ≡ true
+pub zone_within : (geometry : Geometry) (k : ℕ) → geometry.zone_start ≤ k → k < geometry.zone_end → in_zone geometry k ≡ true
 zone_within geometry k from to = grind (arith, from, to)
 
 -- a count at level 0
-count_here : (counts : List ℕ) (b n : ℕ) → get_or counts (4 * b + 0) 0 ≡ n → get_or counts (4 * b) 0 ≡ n
+pub count_here : (counts : List ℕ) (b n : ℕ) → get_or counts (4 * b + 0) 0 ≡ n → get_or counts (4 * b) 0 ≡ n
 count_here counts b n is = let at : 4 * b ≡ 4 * b + 0 = omega arith in ap (λ k. get_or counts k 0) at ∙ is
 
 -- counts of indirect blocks
-pointers_is : (g : Geometry) (image : List ℕ) (kind : Kind) (counts : List ℕ) (b : ℕ) → CountsKind g image kind counts → in_zone g b ≡ true
+pub pointers_is : (g : Geometry) (image : List ℕ) (kind : Kind) (counts : List ℕ) (b : ℕ) → CountsKind g image kind counts → in_zone g b ≡ true
     → pointers_in counts (4 * b) ≡ pointers_held g image kind b
 pointers_is g image kind counts b done zone =
     λ i. done b 1 zone (lit≤ tt) i + done b 2 zone (lit≤ tt) i + done b 3 zone (lit≤ tt) i

@@ -1,4 +1,5 @@
 pub mod Placing
+pub mod Sharing
 pub mod Listing
 pub mod Uses
 pub mod Drawing

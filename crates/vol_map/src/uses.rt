@@ -56,7 +56,7 @@ pub fn block_uses(alloc: Global, image: &Image, geometry: &Geometry) -> Result<V
 }
 
 /// How many places of i-nodes of a kind name each block, by the levels of blocks below it, counted up to two.
-fn counts(
+pub(crate) fn counts(
     alloc: Global,
     image: &Image,
     geometry: &Geometry,
@@ -94,7 +94,7 @@ fn use_at(geometry: &Geometry, directories: &[u8], files: &[u8], listed: &[Liste
 }
 
 /// How many places name an indirect block, each level counted up to two.
-fn pointers_at(counts: &[u8], at: usize) -> u64
+pub(crate) fn pointers_at(counts: &[u8], at: usize) -> u64
     requires { at + 3 < length counts.now }
     ensures value { result ≡ pointers_in counts.now at }
     ensures bound { result < 1000 }

@@ -14,4 +14,6 @@ pub mod writing;
 pub use exporting::{Start, StartFault, export, start_of};
 pub use found::{Found, Reason, Role};
 pub use member_path::MemberPath;
+pub use members::put_archive;
+pub use walking::walk;
 pub use writing::WriteFault;

@@ -58,7 +58,7 @@ pub fn report<E: Sink>(outcome: Result<(), Fault>, errors: &mut E) -> Answer
 }
 
 /// Writes the line of a fault, and answers its status. Where the line can't be written, the status tells.
-pub(crate) fn explain<E: Sink>(fault: Fault, errors: &mut E) -> u8
+pub fn explain<E: Sink>(fault: Fault, errors: &mut E) -> u8
     requires { IsRuled fault }
     ensures status { result ≡ fault_status fault }
     ensures line { Gets (E.failed errors.new) (E.contents errors.old) (E.contents errors.new) (fault_line fault) }

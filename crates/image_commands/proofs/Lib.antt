@@ -1,0 +1,7 @@
+pub mod Exported
+pub mod InOrder
+pub mod Mapped
+pub mod Printed
+pub mod Shown
+pub mod Told
+pub mod Whole

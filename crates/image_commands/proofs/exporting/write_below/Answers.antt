@@ -1,0 +1,48 @@
+use Rattle.std.proofs.Common.{◌≡◌, ◌⊎◌, List, true, sym, subst}
+use Rattle.std.specs.Io.KnownBytes.{Appends}
+use Rattle.pdp_words.specs.Devices.{AppendsFront}
+use Rattle.vol_archive.specs.Members.{archive_bytes}
+use Rattle.vol_archive.specs.declared.found.Found.{Found}
+use Rattle.vol_commands.specs.Faults.{no_memory}
+use Rattle.vol_commands.specs.declared.faults.Fault.{Fault}
+use Rattle.vol_commands.specs.declared.faults.Fault.TheVariants as faults
+use Rattle.image_commands.specs.Exporting.{IsUnwritten}
+use Rattle.image_commands.specs.Telling.{TellsAll}
+use Rattle.image_commands.proofs.Exported.{unbegun_memory, unwritten_cause}
+use Rattle.image_commands.proofs.exporting.write_below.Goals as goal
+
+pub returns-in_err-founds-clause-written : goal.returns-in_err-founds-clause-written
+returns-in_err-founds-clause-written g c =
+    unbegun_memory c.args.edition c.args.image.now c.args.start.now (g.O.Sink.contents c.args.output.now) (g.O.Sink.failed c.args.output.now)
+    c.from_residual.result c.from_residual.ensures.1
+
+pub returns-in_err-lines-clause-written : goal.returns-in_err-lines-clause-written
+returns-in_err-lines-clause-written g c =
+    unbegun_memory c.args.edition c.args.image.now c.args.start.now (g.O.Sink.contents c.args.output.now) (g.O.Sink.failed c.args.output.now)
+    c.from_residual-in_err-lines.result c.from_residual-in_err-lines.ensures.1
+
+pub returns-in-Ok-clause-written : goal.returns-in-Ok-clause-written
+returns-in-Ok-clause-written g c =
+    let old = g.O.Sink.contents c.args.output.now in
+    let new = g.O.Sink.contents c.put_archive.new.sink in
+    record {
+      founds = c.in_ok-founds.founds.items;
+      walk = c.in_ok-founds.ensures;
+      bytes = subst (λ (fs : List Found). Appends old new (archive_bytes c.args.start.now.geometry c.args.image.now fs)) c.deref-2.ensures.value c.in-Ok.ensures.0;
+      working = c.in-Ok.ensures.1;
+      told = subst (λ (fs : List Found). TellsAll c.args.edition c.args.image.now c.args.start.now.geometry fs c.in_ok-lines.lines.items) c.deref.ensures.value
+          c.in_ok-lines.ensures;
+    }
+
+pub returns-clause-written : goal.returns-clause-written
+returns-clause-written g c =
+    let old = g.O.Sink.contents c.args.output.now in
+    let new = g.O.Sink.contents c.put_archive.new.sink in
+    let after = g.O.Sink.failed c.put_archive.new.sink in
+    let cut = c.in-Err.ensures in
+    IsUnwritten.midway c.in_ok-founds.founds.items c.in_ok-founds.ensures (
+      cut.count,
+      subst (λ (fs : List Found). AppendsFront old new (archive_bytes c.args.start.now.geometry c.args.image.now fs) cut.count) c.deref-2.ensures.value cut.front,
+    )
+    (subst (λ (f : Fault). (f ≡ no_memory) ⊎ ((f ≡ faults.Output) × (after ≡ true))) (sym c.unwritten.ensures.value)
+    (unwritten_cause c.in-Err.fault after cut.cause))

@@ -1,0 +1,11 @@
+use Rattle.std.proofs.Common.{◌++◌, ap, ◌∙◌, arith}
+use Rattle.std.specs.List.{flat_map}
+use Rattle.std.proofs.lemmas.List.{take_all}
+use Rattle.image_commands.specs.Telling.{escaped, escaped_byte}
+use Rattle.image_commands.proofs.telling.push_escaped.Goals as goal
+
+pub returns : goal.returns
+unfolding escaped
+returns c =
+    c.loop-byte.invariant
+    ∙ ap (λ bs. c.args.text.now.items ++ flat_map escaped_byte bs) (take_all c.loop-byte.byte-index c.args.bytes.now (omega arith))

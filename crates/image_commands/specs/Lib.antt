@@ -1,0 +1,9 @@
+pub mod Exporting
+pub mod Faults
+pub mod Json
+pub mod Looking
+pub mod Mapping
+pub mod Members
+pub mod Printing
+pub mod Showing
+pub mod Telling

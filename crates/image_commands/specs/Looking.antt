@@ -1,0 +1,17 @@
+-- What a look at an image comes to.
+use Rattle.std.specs.Prelude.{ℕ, List}
+use Rattle.vol_layout.specs.declared.edition.Edition.{Edition}
+use Rattle.vol_commands.specs.Jobs.{Streams}
+use Rattle.image_commands.specs.Exporting.{Exports}
+use Rattle.image_commands.specs.Mapping.{DrawsMap}
+use Rattle.image_commands.specs.Showing.{ShowsInode, ShowsSuper}
+use Rattle.image_commands.specs.declared.looks.Look.{Look}
+use Rattle.image_commands.specs.declared.looks.Look.TheVariants as looks
+use Rattle.image_commands.specs.declared.looks.Screen.{Screen}
+
+-- what is asked for is shown (this project)
+abbrev pub Looks : Edition → List ℕ → Screen → Streams → ℕ → Look → Type 0
+Looks edition image screen streams status (looks.Export path) = Exports edition image path.now screen streams status
+Looks edition image screen streams status (looks.Inode number form) = ShowsInode edition image number form streams status
+Looks edition image screen streams status (looks.Super form) = ShowsSuper edition image form streams status
+Looks edition image screen streams status (looks.Map picture) = DrawsMap edition image screen picture streams status

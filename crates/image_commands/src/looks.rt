@@ -1,0 +1,41 @@
+//! What is looked at, and how it is shown.
+
+/// What of an image is looked at.
+#[derive(Clone, Copy, Debug, PartialEq, Eq)]
+pub enum Look<'a> {
+    /// Write all that is below a directory as an archive.
+    Export { path: &'a str },
+    /// Show an i-node.
+    Inode { number: u16, form: Form },
+    /// Show the super-block.
+    Super { form: Form },
+    /// Draw what each block is used for.
+    Map { picture: Picture },
+}
+
+/// How a report is written.
+#[derive(Clone, Copy, Debug, PartialEq, Eq)]
+pub enum Form {
+    /// Lines of text.
+    Text,
+    /// One JSON object, and a newline.
+    Json,
+}
+
+/// How the uses of blocks are drawn.
+#[derive(Clone, Copy, Debug, PartialEq, Eq)]
+pub enum Picture {
+    /// Rows of letters.
+    Cells,
+    /// A picture as SVG.
+    Svg,
+}
+
+/// What shows the output.
+#[derive(Clone, Copy, Debug, PartialEq, Eq)]
+pub enum Screen {
+    /// A terminal with so many columns.
+    Terminal { columns: u16 },
+    /// A file, a pipe or a device.
+    Stream,
+}

@@ -1,0 +1,11 @@
+//! Tests of the commands that look at an image: what each prints and tells, and its status.
+#![tactic(auto)]
+
+#[cfg(test)]
+mod drawings;
+#[cfg(test)]
+mod exports;
+#[cfg(test)]
+mod fixtures;
+#[cfg(test)]
+mod reports;

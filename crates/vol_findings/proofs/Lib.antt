@@ -1,0 +1,9 @@
+pub mod Agains
+pub mod Cuts
+pub mod FirstEntries
+pub mod FreeFaults
+pub mod Losts
+pub mod NamedFree
+pub mod Outsides
+pub mod Searches
+pub mod Telling

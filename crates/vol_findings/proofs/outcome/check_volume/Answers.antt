@@ -1,0 +1,29 @@
+use Rattle.std.proofs.Common.{refl}
+use Rattle.vol_free.specs.Stack.{HasStack}
+use Rattle.vol_file.specs.Rules.{HasKinds, HasSizes, IsZoned}
+use Rattle.vol_dir.specs.Entries.{HasEntries}
+use Rattle.vol_findings.specs.Entries.{IsFirstEntry}
+use Rattle.vol_findings.specs.FreeList.{IsFirstFault}
+use Rattle.vol_findings.specs.INodes.{IsFirstKind, IsFirstSize}
+use Rattle.vol_findings.specs.Zones.{IsFirstOutside}
+use Rattle.vol_findings.proofs.Telling.{said_as}
+use Rattle.vol_findings.proofs.outcome.check_volume.Goals as goal
+
+pub returns : goal.returns
+returns c =
+    let g = c.args.geometry.now in
+    let image = c.args.image.now in
+    record {
+      whole = refl;
+      bounded = refl;
+      kinds = said_as (HasKinds g image) (IsFirstKind g image) ⊥ c.find_kind.result c.of-kinds.result c.find_kind.ensures c.of-kinds.ensures;
+      sizes = said_as (HasSizes g image) (IsFirstSize g image) ⊥ c.find_size.result c.of-sizes.result c.find_size.ensures c.of-sizes.ensures;
+      zoned = said_as (IsZoned g image) (IsFirstOutside g image) ⊥ c.in_ok-find_outside.field-0 c.of-zoned.result
+          c.in_ok-find_outside.ensures c.of-zoned.ensures;
+      listed = said_as (HasStack g image) (IsFirstFault g image) ⊥ c.in_ok-find_fault.field-0 c.of-listed.result
+          c.in_ok-find_fault.ensures c.of-listed.ensures;
+      apart = c.in_ok-apart.ensures;
+      covered = c.in_ok-covered.ensures;
+      entries = said_as (HasEntries g image) (IsFirstEntry g image) ⊥ c.in_ok-find_entry.field-0 c.of-entries.result
+          c.in_ok-find_entry.ensures c.of-entries.ensures;
+    }

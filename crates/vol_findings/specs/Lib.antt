@@ -1,0 +1,9 @@
+pub mod Entries
+pub mod Finds
+pub mod FreeList
+pub mod INodes
+pub mod Lost
+pub mod Outcomes
+pub mod Sharing
+pub mod Texts
+pub mod Zones

@@ -1,0 +1,65 @@
+-- What is found of each rule.
+use Rattle.std.specs.Prelude.{◌≡◌, ℕ, true, List, Option, None, Some}
+use Rattle.vol_layout.specs.Geometry.{geometry_of}
+use Rattle.vol_free.specs.Stack.{HasStack}
+use Rattle.vol_file.specs.Rules.{HasKinds, HasSizes, IsZoned}
+use Rattle.vol_dir.specs.Entries.{HasEntries}
+use Rattle.vol_judge.specs.Sound.{Rule, IsNoneLost}
+use Rattle.vol_layout.specs.declared.edition.Edition.{Edition}
+use Rattle.vol_layout.specs.declared.geometry.Geometry.{Geometry}
+use Rattle.vol_findings.specs.Entries.{IsFirstEntry}
+use Rattle.vol_findings.specs.FreeList.{IsFirstFault}
+use Rattle.vol_findings.specs.INodes.{IsFirstKind, IsFirstSize}
+use Rattle.vol_findings.specs.Lost.{IsFirstUncovered}
+use Rattle.vol_findings.specs.Sharing.{IsUsedOnce, IsFirstTwice}
+use Rattle.vol_findings.specs.Zones.{IsFirstOutside}
+use Rattle.vol_findings.specs.declared.finding.Finding.{Finding}
+use Rattle.vol_findings.specs.declared.finding.Finding.TheVariants.{TooShort, BadSizes}
+use Rattle.vol_findings.specs.declared.outcome.Outcome.{Outcome}
+use Rattle.vol_findings.specs.declared.outcome.Outcome.TheVariants.{Holds, Broken, NotAsked}
+use Rattle.vol_findings.specs.declared.outcome.Outcomes.{Outcomes}
+
+-- what is said of a rule: that it holds, what breaks it first, or that it isn't asked, for a reason (this project)
+abbrev pub Says : Type 0 → (Finding → Type 0) → Type 0 → Outcome → Type 0
+Says rule first reason Holds = rule
+Says rule first reason (Broken finding) = first finding × (rule → ⊥)
+Says rule first reason NotAsked = reason
+
+-- what a search answers, as what is said of the rule (this project)
+abbrev pub outcome_of : Option Finding → Outcome
+outcome_of None = Holds
+outcome_of (Some finding) = Broken finding
+
+-- what is said of rules 1 to 9 of a volume whose geometry is known: rule 7 isn't asked where 5 fails, nor 8 where 6 fails (this project)
+pub record TellsVolume (geometry : Geometry) (image : List ℕ) (found : Outcomes) : Type 0 where
+  pub whole : found.whole ≡ Holds
+  pub bounded : found.bounded ≡ Holds
+  pub kinds : Says (HasKinds geometry image) (IsFirstKind geometry image) ⊥ found.kinds
+  pub sizes : Says (HasSizes geometry image) (IsFirstSize geometry image) ⊥ found.sizes
+  pub zoned : Says (IsZoned geometry image) (IsFirstOutside geometry image) ⊥ found.zoned
+  pub listed : Says (HasStack geometry image) (IsFirstFault geometry image) ⊥ found.listed
+  pub apart : Says (IsUsedOnce geometry image) (IsFirstTwice geometry image) (IsZoned geometry image → ⊥) found.apart
+  pub covered : Says (IsNoneLost geometry image) (IsFirstUncovered geometry image) (HasStack geometry image → ⊥) found.covered
+  pub entries : Says (HasEntries geometry image) (IsFirstEntry geometry image) ⊥ found.entries
+
+-- rule n of an image (this project)
+abbrev pub Keeps : Edition → List ℕ → ℕ → Type 0
+Keeps edition image n = Rule true edition image n
+
+-- the image has a geometry: rules 1 and 2 hold (this project)
+abbrev pub HasGeometry : Edition → List ℕ → Type 0
+HasGeometry edition image = Keeps edition image 1 × Keeps edition image 2
+
+-- what is said of rules 1 to 9 of an image: a rule isn't asked where one that it needs fails (this project)
+pub record Tells (edition : Edition) (image : List ℕ) (found : Outcomes) : Type 0 where
+  pub whole : Says (Keeps edition image 1) (λ finding. finding ≡ TooShort) ⊥ found.whole
+  pub bounded : Says (Keeps edition image 2) (λ finding. finding ≡ BadSizes) (Keeps edition image 1 → ⊥) found.bounded
+  pub kinds : Says (Keeps edition image 3) (IsFirstKind (geometry_of edition image) image) (HasGeometry edition image → ⊥) found.kinds
+  pub sizes : Says (Keeps edition image 4) (IsFirstSize (geometry_of edition image) image) (HasGeometry edition image → ⊥) found.sizes
+  pub zoned : Says (Keeps edition image 5) (IsFirstOutside (geometry_of edition image) image) (HasGeometry edition image → ⊥) found.zoned
+  pub listed : Says (Keeps edition image 6) (IsFirstFault (geometry_of edition image) image) (HasGeometry edition image → ⊥) found.listed
+  pub apart : Says (Keeps edition image 7) (IsFirstTwice (geometry_of edition image) image)
+      (HasGeometry edition image × Keeps edition image 5 → ⊥) found.apart
+  pub covered : Says (Keeps edition image 8) (IsFirstUncovered (geometry_of edition image) image)
+      (HasGeometry edition image × Keeps edition image 6 → ⊥) found.covered
+  pub entries : Says (Keeps edition image 9) (IsFirstEntry (geometry_of edition image) image) (HasGeometry edition image → ⊥) found.entries

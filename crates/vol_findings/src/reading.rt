@@ -1,0 +1,100 @@
+//! Reading the entries of directories, one after the other.
+ghost use Rattle.std.specs.Prelude.{◌≡◌, ◌+◌, ◌<◌, ◌≤◌, MatchOption, IsTrue, ◌↔◌};
+ghost use Rattle.vol_layout.specs.Geometry.{Fits};
+ghost use Rattle.vol_layout.specs.Slot.{name_of};
+ghost use Rattle.vol_dir.specs.Entries.{IsDirectory};
+ghost use Rattle.vol_dir.specs.Names.{is_dots};
+ghost use Rattle.vol_judge.specs.Stepping.{IsNextSlot, IsPastEntries, rank};
+
+use pdp_words::Image;
+use vol_layout::i_list::kind;
+use vol_layout::{Geometry, Kind, Slot};
+
+/// Whether i-number `i` is that of a directory.
+pub(crate) fn is_directory(image: &Image, geometry: &Geometry, i: u16) -> bool
+    requires fits { Fits geometry.now image.now }
+    requires first { 1 ≤ i }
+    requires last { i ≤ geometry.now.last_inode }
+    ensures { IsTrue result ↔ IsDirectory geometry.now image.now i }
+{
+    kind(image, geometry, i) == Kind::Directory
+}
+
+/// A place among the slots of all directories, directory after directory.
+#[derive(Clone, Copy, Debug)]
+pub(crate) struct Place {
+    /// The directory's i-number, from 1 on.
+    pub directory: u16,
+    /// The number of the slot.
+    pub slot: u32,
+}
+
+/// An entry of a directory, with its place.
+#[derive(Clone, Copy, Debug)]
+pub(crate) struct Entry {
+    /// The directory's i-number.
+    pub directory: u16,
+    /// The number of the slot.
+    pub number: u32,
+    /// What the slot holds.
+    pub slot: Slot,
+}
+
+impl Place {
+    /// The place before all entries.
+    pub(crate) fn first() -> Place
+        ensures directory { result.directory ≡ 1 }
+        ensures slot { result.slot ≡ 0 }
+    {
+        Place {
+            directory: 1,
+            slot: 0,
+        }
+    }
+}
+
+impl Entry {
+    /// The place after the entry.
+    pub(crate) fn next_place(&self) -> Place
+        requires { self.now.number < 67637568 }
+        ensures directory { result.directory ≡ self.now.directory }
+        ensures slot { result.slot ≡ self.now.number + 1 }
+    {
+        Place {
+            directory: self.directory,
+            slot: self.number + 1,
+        }
+    }
+
+    /// Whether the entry's name is `.` or `..`.
+    pub(crate) fn is_dots(&self) -> bool
+        ensures { result ≡ is_dots (name_of self.now.slot.name) }
+    {
+        vol_dir::is_dots(self.slot.name())
+    }
+}
+
+/// The first entry from a place on, over all directories.
+///
+/// Costs a look at each i-node and slot that is passed.
+pub(crate) fn next_entry(image: &Image, geometry: &Geometry, from: Place) -> Option<Entry>
+    requires fits { Fits geometry.now image.now }
+    requires first { 1 ≤ from.directory }
+    ensures { MatchOption result (IsPastEntries geometry.now image.now (rank from.directory from.slot))
+        (λ entry. IsNextSlot geometry.now image.now (rank from.directory from.slot) entry.directory entry.number entry.slot) }
+{
+    let mut start = from.slot;
+    for d in from.directory..=geometry.last_inode {
+        if is_directory(image, geometry, d) {
+            if let Some((number, slot)) = vol_dir::next_entry(image, geometry, d, start) {
+                return Some(Entry {
+                    directory: d,
+                    number,
+                    slot,
+                });
+            }
+        }
+        start = 0;
+    }
+    None
+}

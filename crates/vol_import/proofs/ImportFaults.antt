@@ -1,0 +1,155 @@
+-- Why an archive isn't imported, and what it comes to where it is.
+use Rattle.std.proofs.Common.{◌≡◌, ◌≢◌, ◌⊎◌, ℕ, List, Ok, Err, IfOk, IfErr, inl, inr, sym, ap, ◌∙◌, subst}
+use Rattle.std.specs.Prelude.{Result}
+use Rattle.std.specs.Global.{Vec}
+use Rattle.vol_dir.specs.Tree.{Tree}
+use Rattle.vol_judge.specs.Sound.{IsSound}
+use Rattle.vol_volume.specs.Faults.{IsFaultOf}
+use Rattle.vol_volume.specs.Volume.{Mounted, IsConsistent, mounted, reads_as}
+use Rattle.vol_import.specs.Members.{members}
+use Rattle.vol_import.specs.Plan.{plan}
+use Rattle.vol_import.specs.Making.{AreMade, AreStopped, unmounted, unread, unplanned, told, planned, calls_to_make, Tells, IsUnmounted, IsStop, Imports, IsReason}
+use Rattle.vol_import.proofs.MadeCalls.{imported}
+use Rattle.vol_dir.specs.declared.refusal.Refusal.{Refusal}
+use Rattle.vol_layout.specs.declared.edition.Edition.{Edition}
+use Rattle.vol_volume.specs.declared.calls.Call.{Call}
+use Rattle.vol_volume.specs.declared.volume.MountFault.{MountFault}
+use Rattle.vol_volume.specs.declared.volume.MountFault.TheVariants as mounts
+use Rattle.vol_import.specs.declared.faults.ArchiveFault.{ArchiveFault}
+use Rattle.vol_import.specs.declared.faults.ArchiveFault.TheVariants as archives
+use Rattle.vol_import.specs.declared.making.ImportFault.{ImportFault}
+use Rattle.vol_import.specs.declared.making.ImportFault.TheVariants as faults
+use Rattle.vol_import.specs.declared.planning.PlanFault.{PlanFault}
+use Rattle.vol_import.specs.declared.planning.PlanFault.TheVariants as plans
+use Rattle.vol_import.specs.declared.reading.Member.{Member}
+
+-- a fault that a plan may have
+abbrev IsPlans : ImportFault → Type 0
+IsPlans (faults.Archive fault) = Unit {0}
+IsPlans (faults.Member path cause) = Unit {0}
+IsPlans faults.NoMemory = Unit {0}
+IsPlans (faults.Unsound rule) = ⊥
+IsPlans (faults.Refused refusal call) = ⊥
+
+unplanned_plans : (fault : PlanFault) → IsPlans (unplanned fault)
+unplanned_plans (plans.Member path cause) = tt
+unplanned_plans plans.NoMemory = tt
+
+unread_plans : (fault : ArchiveFault) → IsPlans (unread fault)
+unread_plans archives.NoMemory = tt
+unread_plans (archives.Truncated at) = tt
+unread_plans (archives.LoneZeroBlock at) = tt
+unread_plans (archives.Header at fault) = tt
+unread_plans (archives.Records at) = tt
+unread_plans (archives.Unsupported at) = tt
+
+told_plans : (plan : Result (List Call) PlanFault) (fault : ImportFault) → told plan ≡ Err fault → IsPlans fault
+told_plans (Ok calls) fault e = absurd (cc)
+told_plans (Err why) fault e = let same : unplanned why ≡ fault = cc in subst IsPlans same (unplanned_plans why)
+
+planned_plans : (tree : Tree) (base : List ℕ) (now : ℕ) (read : Result (List Member) ArchiveFault) (fault : ImportFault) → planned tree base now read ≡ Err fault
+    → IsPlans fault
+planned_plans tree base now (Ok all) fault e = told_plans (plan tree base now all) fault e
+planned_plans tree base now (Err why) fault e = let same : unread why ≡ fault = cc in subst IsPlans same (unread_plans why)
+
+-- a fault of the calls that were to be made is a reason
+planned_reason : (edition : Edition) (image : List ℕ) (wanted : Result (List Call) ImportFault) (fault : ImportFault) → IsSound edition image
+    → ((told : ImportFault) → wanted ≡ Err told → IsPlans told) → Tells wanted fault → IsReason edition image wanted fault
+unfolding IsReason
+planned_reason edition image wanted (faults.Unsound rule) sound plans tells = absurd (plans (faults.Unsound rule) (tells (λ same. cc)))
+planned_reason edition image wanted (faults.Archive fault) sound plans tells = (sound, tells (λ same. cc))
+planned_reason edition image wanted (faults.Member path cause) sound plans tells = (sound, tells (λ same. cc))
+planned_reason edition image wanted (faults.Refused refusal call) sound plans tells = absurd (plans (faults.Refused refusal call) (tells (λ same. cc)))
+planned_reason edition image wanted faults.NoMemory sound plans tells = tt
+
+pub no_calls : (edition : Edition) (image archive base : List ℕ) (now : ℕ) (old : Mounted) (fault : ImportFault) → IsSound edition image
+    → old ≡ mounted edition image → Tells (calls_to_make (reads_as old.edition old.image).tree archive base now) fault
+    → IsReason edition image (calls_to_make (reads_as edition image).tree archive base now) fault
+unfolding calls_to_make
+no_calls edition image archive base now old fault sound is tells =
+    planned_reason edition image (calls_to_make (reads_as edition image).tree archive base now) fault sound
+    (planned_plans (reads_as edition image).tree base now (members archive))
+    (subst (λ (v : Mounted). Tells (calls_to_make (reads_as v.edition v.image).tree archive base now) fault) is tells)
+
+-- what isn't mounted is told
+unmounted_reason : (edition : Edition) (image : List ℕ) (wanted : Result (List Call) ImportFault) (why : MountFault) → IsFaultOf edition image why
+    → IsReason edition image wanted (unmounted why)
+unfolding IsReason
+unmounted_reason edition image wanted (mounts.Unsound rule) is = is
+unmounted_reason edition image wanted mounts.NoMemory is = tt
+
+pub no_volume : (edition : Edition) (image : List ℕ) (wanted : Result (List Call) ImportFault) (fault : ImportFault) → IsUnmounted edition image fault
+    → IsReason edition image wanted fault
+unfolding IsUnmounted
+no_volume edition image wanted fault is = subst (IsReason edition image wanted) (sym is.1) (unmounted_reason edition image wanted is.0 is.2)
+
+-- a refused call is told
+stop_reason : (edition : Edition) (image : List ℕ) (calls : List Call) (new : Mounted) (fault : ImportFault) → IsSound edition image
+    → IsStop (mounted edition image) calls new fault → IsReason edition image (Ok calls) fault
+unfolding IsStop IsReason
+stop_reason edition image calls new (faults.Unsound rule) sound is = absurd is
+stop_reason edition image calls new (faults.Archive fault) sound is = absurd is
+stop_reason edition image calls new (faults.Member path cause) sound is = absurd is
+stop_reason edition image calls new (faults.Refused refusal call) sound is = (sound, (new, is))
+stop_reason edition image calls new faults.NoMemory sound is = tt
+
+pub not_made : (edition : Edition) (image archive base : List ℕ) (now : ℕ) (old new : Mounted) (calls : List Call) (fault : ImportFault) → IsSound edition image
+    → old ≡ mounted edition image → calls_to_make (reads_as old.edition old.image).tree archive base now ≡ Ok calls → IsStop old calls new fault
+    → IsReason edition image (calls_to_make (reads_as edition image).tree archive base now) fault
+not_made edition image archive base now old new calls fault sound is wanted stop =
+    let here : calls_to_make (reads_as edition image).tree archive base now ≡ Ok calls =
+    subst (λ (v : Mounted). calls_to_make (reads_as v.edition v.image).tree archive base now ≡ Ok calls) is wanted in
+    subst (λ (w : Result (List Call) ImportFault). IsReason edition image w fault) (sym here)
+    (stop_reason edition image calls new fault sound (subst (λ (v : Mounted). IsStop v calls new fault) is stop))
+
+-- all calls are made
+pub all_made : (edition : Edition) (image archive base bytes : List ℕ) (now : ℕ) (old new : Mounted) (calls : List Call) → IsSound edition image
+    → old ≡ mounted edition image → calls_to_make (reads_as old.edition old.image).tree archive base now ≡ Ok calls → AreMade old calls new
+    → IsConsistent new → bytes ≡ new.image → Imports edition image (calls_to_make (reads_as edition image).tree archive base now) bytes
+unfolding Imports
+all_made edition image archive base bytes now old new calls sound is wanted made consistent left =
+    let here : calls_to_make (reads_as edition image).tree archive base now ≡ Ok calls =
+    subst (λ (v : Mounted). calls_to_make (reads_as v.edition v.image).tree archive base now ≡ Ok calls) is wanted in
+    subst (λ (w : Result (List Call) ImportFault). Imports edition image w bytes) (sym here)
+    (imported edition image bytes calls new sound (subst (λ (v : Mounted). AreMade v calls new) is made) consistent left)
+
+-- a fault of the plan is told
+pub plan_told : (wanted : Result (List Call) PlanFault) (why : PlanFault) (fault : ImportFault) → (why ≢ plans.NoMemory → wanted ≡ Err why)
+    → fault ≡ unplanned why → Tells (told wanted) fault
+plan_told wanted why fault tells is = λ other.
+    let e : wanted ≡ Err why = tells (λ (same : why ≡ plans.NoMemory). other (is ∙ ap unplanned same)) in
+    ap told e ∙ ap Err (sym is)
+
+-- a fault of the archive is told
+pub archive_told : (tree : Tree) (archive base : List ℕ) (now : ℕ) (why : ArchiveFault) (fault : ImportFault)
+    → (why ≢ archives.NoMemory → members archive ≡ Err why) → fault ≡ unread why → Tells (calls_to_make tree archive base now) fault
+unfolding calls_to_make
+archive_told tree archive base now why fault tells is = λ other.
+    let e : members archive ≡ Err why = tells (λ (same : why ≡ archives.NoMemory). other (is ∙ ap unread same)) in
+    ap (planned tree base now) e ∙ ap Err (sym is)
+
+-- what the members of an archive come to, the archive does
+pub found_ok : (result : Result (Vec Call) ImportFault) (tree : Tree) (archive base : List ℕ) (now : ℕ) (found : List Member) → members archive ≡ Ok found
+    → IfOk result (λ calls. told (plan tree base now found) ≡ Ok calls.items) → IfOk result (λ calls. calls_to_make tree archive base now ≡ Ok calls.items)
+unfolding calls_to_make
+found_ok result tree archive base now found e ok =
+    subst (λ (read : Result (List Member) ArchiveFault). IfOk result (λ calls. planned tree base now read ≡ Ok calls.items)) (sym e) ok
+
+pub found_fault : (result : Result (Vec Call) ImportFault) (tree : Tree) (archive base : List ℕ) (now : ℕ) (found : List Member) → members archive ≡ Ok found
+    → IfErr result (Tells (told (plan tree base now found))) → IfErr result (Tells (calls_to_make tree archive base now))
+unfolding calls_to_make
+found_fault result tree archive base now found e fault =
+    subst (λ (read : Result (List Member) ArchiveFault). IfErr result (Tells (planned tree base now read))) (sym e) fault
+
+-- a stop of calls is told
+pub stop_told : (old new : Mounted) (calls : List Call) (refusal : Refusal) (call : Call) (fault : ImportFault) → AreStopped old calls new refusal call
+    → (fault ≡ faults.NoMemory) ⊎ (fault ≡ faults.Refused refusal call) → IsStop old calls new fault
+unfolding IsStop
+stop_told old new calls refusal call fault stopped (inl none) = subst (IsStop old calls new) (sym none) tt
+stop_told old new calls refusal call fault stopped (inr is) = subst (IsStop old calls new) (sym is) stopped
+
+-- what isn't mounted isn't for its reason
+pub is_unmounted : (edition : Edition) (image : List ℕ) (why : MountFault) (fault : ImportFault) → fault ≡ unmounted why → IsFaultOf edition image why
+    → IsUnmounted edition image fault
+unfolding IsUnmounted
+is_unmounted edition image why fault is cause = (why, is, cause)

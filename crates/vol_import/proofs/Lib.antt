@@ -1,0 +1,5 @@
+pub mod ImportFaults
+pub mod MadeCalls
+pub mod MemberRuns
+pub mod PlanRuns
+pub mod RecordRuns

@@ -1,0 +1,7 @@
+pub mod Entries
+pub mod Faults
+pub mod Making
+pub mod Members
+pub mod Names
+pub mod Plan
+pub mod Records

@@ -1,0 +1,119 @@
+-- Making calls on a volume, all or nothing.
+use Rattle.std.specs.Prelude.{◌≡◌, ◌≢◌, ◌⊎◌, ℕ, List, [], ◌∷◌, true, map, Result, Ok, Err}
+use Rattle.vol_layout.specs.Geometry.{geometry_of}
+use Rattle.vol_dir.specs.Tree.{Tree}
+use Rattle.vol_judge.specs.Sound.{IsSound, IsLeastBroken}
+use Rattle.vol_change.specs.Whole.{StaysAround}
+use Rattle.vol_volume.specs.Faults.{IsFaultOf}
+use Rattle.vol_volume.specs.Journal.{Refuses, IsLegal, after}
+use Rattle.vol_volume.specs.Volume.{Mounted, Accepts, mounted, reads_as}
+use Rattle.vol_import.specs.Members.{members}
+use Rattle.vol_import.specs.Plan.{plan}
+use Rattle.vol_dir.specs.declared.refusal.Refusal.{Refusal}
+use Rattle.vol_layout.specs.declared.edition.Edition.{Edition}
+use Rattle.vol_volume.specs.declared.calls.Call.{Call}
+use Rattle.vol_volume.specs.declared.calls.Done.{Done}
+use Rattle.vol_volume.specs.declared.calls.Record.{Record}
+use Rattle.vol_import.specs.declared.faults.ArchiveFault.{ArchiveFault}
+use Rattle.vol_volume.specs.declared.volume.MountFault.{MountFault}
+use Rattle.vol_volume.specs.declared.volume.MountFault.TheVariants as mounts
+use Rattle.vol_import.specs.declared.faults.ArchiveFault.TheVariants as archives
+use Rattle.vol_import.specs.declared.making.ImportFault.{ImportFault}
+use Rattle.vol_import.specs.declared.making.ImportFault.TheVariants as faults
+use Rattle.vol_import.specs.declared.planning.PlanFault.{PlanFault}
+use Rattle.vol_import.specs.declared.planning.PlanFault.TheVariants as plans
+use Rattle.vol_import.specs.declared.reading.Member.{Member}
+
+-- a volume accepts calls, each in turn, and is another one then (this project)
+unfoldable pub AreMade : Mounted → List Call → Mounted → Type 0
+AreMade old [] new = new ≡ old
+AreMade old (call ∷ calls) new = (between : Mounted) × (done : Done) × Accepts old between call done × AreMade between calls new
+
+-- a volume accepts the first of some calls, each in turn, and then this one of them is refused so, which changes nothing (this project)
+unfoldable pub AreStopped : Mounted → List Call → Mounted → Refusal → Call → Type 0
+AreStopped old [] new refusal stopped = ⊥
+AreStopped old (call ∷ calls) new refusal stopped =
+    ((stopped ≡ call) × Refuses (reads_as old.edition old.image) call refusal × (new ≡ old))
+    ⊎ ((between : Mounted) × (done : Done) × Accepts old between call done × AreStopped between calls new refusal stopped)
+
+-- a volume isn't mounted, for this reason (this project)
+abbrev pub unmounted : MountFault → ImportFault
+unmounted (mounts.Unsound rule) = faults.Unsound rule
+unmounted mounts.NoMemory = faults.NoMemory
+
+-- an archive can't be read, for this reason (this project)
+abbrev pub unread : ArchiveFault → ImportFault
+unread archives.NoMemory = faults.NoMemory
+unread (archives.Truncated at) = faults.Archive (archives.Truncated at)
+unread (archives.LoneZeroBlock at) = faults.Archive (archives.LoneZeroBlock at)
+unread (archives.Header at fault) = faults.Archive (archives.Header at fault)
+unread (archives.Records at) = faults.Archive (archives.Records at)
+unread (archives.Unsupported at) = faults.Archive (archives.Unsupported at)
+
+-- there are no calls that make the members of an archive, for this reason (this project)
+abbrev pub unplanned : PlanFault → ImportFault
+unplanned (plans.Member path cause) = faults.Member path cause
+unplanned plans.NoMemory = faults.NoMemory
+
+-- a plan, or why there is none, as an import tells it (this project)
+abbrev pub told : Result (List Call) PlanFault → Result (List Call) ImportFault
+told (Ok calls) = Ok calls
+told (Err fault) = Err (unplanned fault)
+
+-- the plan for the members of an archive, if it can be read (this project)
+abbrev pub planned : Tree → List ℕ → ℕ → Result (List Member) ArchiveFault → Result (List Call) ImportFault
+planned tree base now (Ok all) = told (plan tree base now all)
+planned tree base now (Err fault) = Err (unread fault)
+
+-- the calls that make the members of an archive below a path of a tree; or why there are none (this project)
+unfoldable pub calls_to_make : Tree → List ℕ → List ℕ → ℕ → Result (List Call) ImportFault
+calls_to_make tree archive base now = planned tree base now (members archive)
+
+-- a fault is the one that is to be told, or want of memory (this project)
+abbrev pub Tells : {X : Type 0} → Result X ImportFault → ImportFault → Type 0
+Tells wanted fault = fault ≢ faults.NoMemory → wanted ≡ Err fault
+
+-- an image isn't mounted for this reason: want of memory, or the least rule that it breaks (this project)
+unfoldable pub IsUnmounted : Edition → List ℕ → ImportFault → Type 0
+IsUnmounted edition image fault = (why : MountFault) × (fault ≡ unmounted why) × IsFaultOf edition image why
+
+-- calls aren't made for this reason: one of them is refused, or memory runs out (this project)
+unfoldable pub IsStop : Mounted → List Call → Mounted → ImportFault → Type 0
+IsStop old calls new (faults.Refused refusal call) = AreStopped old calls new refusal call
+IsStop old calls new faults.NoMemory = Unit {0}
+IsStop old calls new (faults.Unsound rule) = ⊥
+IsStop old calls new (faults.Archive fault) = ⊥
+IsStop old calls new (faults.Member path cause) = ⊥
+
+-- the bytes are a sound image that reads as what calls, accepted in turn, make of the tree of a sound image; no byte changes but those that
+-- calls change (this project)
+pub record ImportsCalls (edition : Edition) (image : List ℕ) (calls : List Call) (bytes : List ℕ) : Type 0 where
+  pub mounts : IsSound edition image
+  pub journal : List Record
+  pub asked : map (λ (entry : Record). entry.call) journal ≡ calls
+  pub legal : IsLegal (reads_as edition image) journal
+  pub reads : reads_as edition bytes ≡ after (reads_as edition image) journal
+  pub sound : IsSound edition bytes
+  pub around : StaysAround (geometry_of edition image) image bytes
+  pub volume : Mounted
+  pub made : AreMade (mounted edition image) calls volume
+  pub left : volume.image ≡ bytes
+
+-- the bytes are what the calls that were to be made make of a sound image, all of them (this project)
+unfoldable pub Imports : Edition → List ℕ → Result (List Call) ImportFault → List ℕ → Type 0
+Imports edition image (Ok calls) bytes = ImportsCalls edition image calls bytes
+Imports edition image (Err fault) bytes = ⊥
+
+-- one of the calls that were to be made of a sound image is refused so, after those before it were accepted (this project)
+abbrev pub IsRefused : Edition → List ℕ → Result (List Call) ImportFault → Refusal → Call → Type 0
+IsRefused edition image (Ok calls) refusal call = (volume : Mounted) × AreStopped (mounted edition image) calls volume refusal call
+IsRefused edition image (Err fault) refusal call = ⊥
+
+-- a reason not to import: the least rule that the image breaks; of a sound image why there are no calls to be made, or a refusal of one
+-- of them; or want of memory (this project)
+unfoldable pub IsReason : Edition → List ℕ → Result (List Call) ImportFault → ImportFault → Type 0
+IsReason edition image wanted (faults.Unsound rule) = IsLeastBroken true edition image rule
+IsReason edition image wanted (faults.Archive fault) = IsSound edition image × (wanted ≡ Err (faults.Archive fault))
+IsReason edition image wanted (faults.Member path cause) = IsSound edition image × (wanted ≡ Err (faults.Member path cause))
+IsReason edition image wanted (faults.Refused refusal call) = IsSound edition image × IsRefused edition image wanted refusal call
+IsReason edition image wanted faults.NoMemory = Unit {0}

@@ -1,0 +1,183 @@
+-- The calls that make the members of an archive.
+use Rattle.std.specs.Prelude.{◌≡◌, ◌≢◌, ℕ, ◌-◌, ◌%◌, ◌==◌, ◌&&◌, Bool, true, false, nat_lt, if◌then◌else◌, List, [], ◌∷◌, ◌++◌, length, slice_index, codes, Result, Ok, Err}
+use Rattle.std.specs.List.{list_any, slice_split}
+use Rattle.std.specs.Str.{bytes_eq}
+use Rattle.ustar.specs.declared.header.MemberKind.TheVariants as members
+use Rattle.ustar.specs.declared.reading.ReadHeader.{ReadHeader}
+use Rattle.ustar.specs.declared.reading.TypeFlag.{TypeFlag}
+use Rattle.ustar.specs.declared.reading.TypeFlag.TheVariants as flags
+use Rattle.vol_dir.specs.Tree.{Tree}
+use Rattle.vol_dir.specs.declared.cred.Cred.{Cred}
+use Rattle.vol_dir.specs.declared.refusal.Refusal.{Refusal}
+use Rattle.vol_layout.specs.declared.mode.Kind.{Kind}
+use Rattle.vol_layout.specs.declared.mode.Kind.TheVariants as kinds
+use Rattle.vol_volume.specs.Answer.{answer}
+use Rattle.vol_volume.specs.declared.calls.Call.{Call}
+use Rattle.vol_volume.specs.declared.calls.Call.TheVariants as calls
+use Rattle.vol_volume.specs.declared.queries.Query.TheVariants as queries
+use Rattle.vol_volume.specs.declared.queries.Reply.{Reply}
+use Rattle.vol_volume.specs.declared.queries.Reply.TheVariants as replies
+use Rattle.vol_import.specs.declared.checking.Made.{Made}
+use Rattle.vol_import.specs.declared.checking.Made.TheVariants.{File, Directory, Link}
+use Rattle.vol_import.specs.declared.checking.MemberFault.{MemberFault}
+use Rattle.vol_import.specs.declared.checking.MemberFault.TheVariants as faults
+use Rattle.vol_import.specs.declared.planning.PlanFault.{PlanFault}
+use Rattle.vol_import.specs.declared.planning.PlanFault.TheVariants as plans
+use Rattle.vol_import.specs.declared.reading.Member.{Member}
+
+-- who makes the calls: user 0, group 0 (this project)
+abbrev pub user : Cred
+user = record { uid = 0; gid = 0 }
+
+-- what comes after an Ok; a fault ends it (this project)
+abbrev pub and_then : {X Y : Type 0} → Result X MemberFault → (X → Result Y MemberFault) → Result Y MemberFault
+and_then (Ok x) next = next x
+and_then (Err fault) next = Err fault
+
+-- the names of a path: what stands between its slashes (POSIX, ustar interchange format)
+abbrev pub names_of : List ℕ → List (List ℕ)
+names_of path = slice_split (λ c. c == 47) path
+
+-- whether a name is above the 14 bytes that an entry of a directory has room for (manual section 5, directories)
+abbrev pub is_long : List ℕ → Bool
+is_long name = nat_lt 14 (length name)
+
+-- whether a name leads to the parent (manual section 5, directories)
+abbrev pub is_dot_dot : List ℕ → Bool
+is_dot_dot name = bytes_eq name (codes "..")
+
+-- a path that can be made: no name of it is above 14 bytes, and none is `..` (this project)
+abbrev pub check_path : List ℕ → Result (Unit {0}) MemberFault
+check_path path =
+    if list_any is_long (names_of path) then Err faults.LongName
+    else if list_any is_dot_dot (names_of path) then Err faults.DotDot
+    else Ok tt
+
+-- whether a path ends in a slash (POSIX, ustar interchange format)
+abbrev pub ends_in_slash : List ℕ → Bool
+ends_in_slash path = nat_lt 0 (length path) && (slice_index path (length path - 1) == 47)
+
+-- what a member is made as; a regular file whose path ends in a slash is a directory, as archives before POSIX's have it; no call makes
+-- a special file, and the editions have no symbolic links (POSIX, ustar interchange format)
+abbrev pub made_as : TypeFlag → List ℕ → Result Made MemberFault
+made_as (flags.Member members.File) path = Ok (if ends_in_slash path then Directory else File)
+made_as (flags.Member members.Directory) path = Ok Directory
+made_as (flags.Member members.Link) path = Ok Link
+made_as (flags.Member members.Character) path = Err faults.Kind
+made_as (flags.Member members.Block) path = Err faults.Kind
+made_as flags.SymbolicLink path = Err faults.Kind
+made_as flags.Fifo path = Err faults.Kind
+made_as flags.LongName path = Err faults.Kind
+made_as flags.LongLink path = Err faults.Kind
+made_as flags.Extended path = Err faults.Kind
+made_as flags.Global path = Err faults.Kind
+made_as (flags.Other c) path = Err faults.Kind
+
+-- the path that a member leads to, if it is a link, can be walked (this project)
+abbrev pub check_link : Made → List ℕ → Result (Unit {0}) MemberFault
+check_link Link link = check_path link
+check_link File link = Ok tt
+check_link Directory link = Ok tt
+
+-- the owner and the group of a member, where a call has room for their numbers (this project)
+abbrev pub owner_of : ReadHeader → Result Cred MemberFault
+owner_of header =
+    if nat_lt header.uid 65536 && nat_lt header.gid 65536 then Ok (record { uid = header.uid; gid = header.gid }) else Err faults.Owner
+
+-- what a member is made as, and for whom, or the first thing that speaks against it: its kind, its path, the path that it leads to, its
+-- owner (this project)
+unfoldable pub check : Member → Result (Made × Cred) MemberFault
+check member =
+    and_then (made_as member.header.flag member.path) (λ made.
+    and_then (check_path member.path) (λ _.
+    and_then (check_link made member.link) (λ _.
+    and_then (owner_of member.header) (λ owner. Ok (made, owner)))))
+
+-- the path of a member below another path (this project)
+abbrev pub below : List ℕ → List ℕ → List ℕ
+below base path = base ++ 47 ∷ path
+
+-- the permission bits of a member (POSIX, ustar interchange format)
+abbrev pub permissions_of : ReadHeader → ℕ
+permissions_of header = header.permissions % 4096
+
+-- the moment of a member's calls: that of its last change, where it has 32 bits (this project)
+abbrev pub moment_of : ReadHeader → ℕ → ℕ
+moment_of header now = if nat_lt header.modified 4294967296 then header.modified else now
+
+-- the call that gives a file or a directory to its owner: none where that is user 0 of group 0, who makes it (this project)
+abbrev pub owner_calls : ℕ → List ℕ → Cred → List Call
+owner_calls moment path owner =
+    if owner.uid == 0 && owner.gid == 0 then [] else calls.Chown user moment path owner.uid owner.gid ∷ []
+
+-- the call that writes the bytes of a file, if it has any (this project)
+abbrev pub write_calls : ℕ → List ℕ → List ℕ → List Call
+write_calls moment path [] = []
+write_calls moment path (c ∷ content) = calls.Write user moment path 0 (c ∷ content) ∷ []
+
+-- the calls that make a regular file (this project)
+abbrev pub file_calls : ℕ → List ℕ → ℕ → Cred → List ℕ → List Call
+file_calls moment path perm owner content =
+    calls.Create user moment path perm ∷ [] ++ write_calls moment path content ++ owner_calls moment path owner
+
+-- whether a node is a directory (manual section 5, file system)
+abbrev pub is_directory_kind : Kind → Bool
+is_directory_kind kinds.Directory = true
+is_directory_kind kinds.Regular = false
+is_directory_kind kinds.Special = false
+is_directory_kind kinds.Free = false
+is_directory_kind kinds.Odd = false
+
+-- whether a question for a path answers that it is a directory (this project)
+abbrev pub is_directory : Result Reply Refusal → Bool
+is_directory (Ok (replies.Stat stat)) = is_directory_kind stat.kind
+is_directory (Ok (replies.Bytes bytes)) = false
+is_directory (Ok (replies.Names names)) = false
+is_directory (Err refusal) = false
+
+-- the calls that make a directory: none where it is there (this project)
+abbrev pub directory_calls : Tree → ℕ → List ℕ → ℕ → Cred → List Call
+directory_calls tree moment path perm owner =
+    if is_directory (answer tree (queries.Stat user path)) then []
+    else calls.Mkdir user moment path perm ∷ [] ++ owner_calls moment path owner
+
+-- the calls that make a member as something, for its owner (this project)
+abbrev pub calls_as : Made → Tree → List ℕ → ℕ → Member → Cred → List Call
+calls_as File tree base now member owner =
+    file_calls (moment_of member.header now) (below base member.path) (permissions_of member.header) owner member.content
+calls_as Directory tree base now member owner =
+    directory_calls tree (moment_of member.header now) (below base member.path) (permissions_of member.header) owner
+calls_as Link tree base now member owner =
+    calls.Link user (moment_of member.header now) (below base member.link) (below base member.path) ∷ []
+
+-- the calls that make a member below a path, at its own moment or now (this project)
+abbrev pub calls_of : Tree → List ℕ → ℕ → Member → Result (List Call) MemberFault
+calls_of tree base now member = and_then (check member) (λ (made : Made × Cred). Ok (calls_as made.0 tree base now member made.1))
+
+-- calls, and then those that make a member; or why the member can't be made (this project)
+abbrev pub onto : List Call → Member → Result (List Call) MemberFault → Result (List Call) PlanFault
+onto front member (Ok calls) = Ok (front ++ calls)
+onto front member (Err cause) = Err (plans.Member member.path cause)
+
+-- what comes after an Ok; a fault ends it (this project)
+abbrev pub and_next : {X Y : Type 0} → Result X PlanFault → (X → Result Y PlanFault) → Result Y PlanFault
+and_next (Ok x) next = next x
+and_next (Err fault) next = Err fault
+
+-- calls, and then those that make members, each in turn (this project)
+unfoldable pub plan_onto : Tree → List ℕ → ℕ → List Call → List Member → Result (List Call) PlanFault
+plan_onto tree base now front [] = Ok front
+plan_onto tree base now front (member ∷ rest) =
+    and_next (onto front member (calls_of tree base now member)) (λ front. plan_onto tree base now front rest)
+
+-- the calls that make the members of an archive below a path, each in turn; or the first member that can't be made, and why (this project)
+abbrev pub plan : Tree → List ℕ → ℕ → List Member → Result (List Call) PlanFault
+plan tree base now all = plan_onto tree base now [] all
+
+-- a fault is the one that is to be told, or want of memory (this project)
+abbrev pub Tells : {X : Type 0} → Result X PlanFault → PlanFault → Type 0
+Tells wanted fault = fault ≢ plans.NoMemory → wanted ≡ Err fault
+
+-- the fault where memory runs out (this project)
+abbrev pub no_memory : PlanFault
+no_memory = plans.NoMemory

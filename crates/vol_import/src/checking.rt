@@ -1,0 +1,127 @@
+//! What speaks against making a member.
+ghost use Rattle.std.specs.Prelude.{◌≡◌, ◌==◌};
+ghost use Rattle.std.specs.List.{list_any};
+ghost use Rattle.vol_import.specs.Plan.{names_of, is_long, is_dot_dot, check_path, ends_in_slash, made_as, check_link, owner_of, check};
+
+use crate::reading::Member;
+use thiserror::Error;
+use ustar::{MemberKind, ReadHeader, TypeFlag};
+use vol_dir::Cred;
+use vol_layout::slot::NAME;
+
+/// What a member is made as.
+#[derive(Clone, Copy, Debug, PartialEq, Eq)]
+pub enum Made {
+    /// A regular file.
+    File,
+    /// A directory.
+    Directory,
+    /// A further name of a file.
+    Link,
+}
+
+/// Why no calls make a member.
+#[derive(Clone, Copy, Debug, PartialEq, Eq, Error)]
+pub enum MemberFault {
+    /// It is a special file, a symbolic link, or of a kind that isn't known.
+    #[error("no call makes its kind")]
+    Kind,
+    /// A name of its path, or of the path that it leads to, is above 14 bytes.
+    #[error("a name is above 14 bytes")]
+    LongName,
+    /// Its path, or the path that it leads to, has a name `..`.
+    #[error("its path leads up by ..")]
+    DotDot,
+    /// The number of its owner or of its group is above 16 bits.
+    #[error("no number of a user")]
+    Owner,
+}
+
+/// What a member is made as, and for whom, or the first thing that speaks against it: its kind, its path, the path that it leads
+/// to, its owner.
+#[tactic(auto, unfolding(crate::specs::Plan::check))]
+pub fn check(member: &Member) -> Result<(Made, Cred), MemberFault>
+    ensures { result ≡ check member.now }
+{
+    let path = member.path.as_slice();
+    let made = made_as(member.header.flag, path)?;
+    check_path(path)?;
+    check_link(made, member.link.as_slice())?;
+    let owner = owner_of(&member.header)?;
+    Ok((made, owner))
+}
+
+/// What a member is made as, by its type flag and its path.
+fn made_as(flag: TypeFlag, path: &[u8]) -> Result<Made, MemberFault>
+    ensures { result ≡ made_as flag path.now }
+{
+    match flag {
+        TypeFlag::Member(MemberKind::File) if ends_in_slash(path) => Ok(Made::Directory),
+        TypeFlag::Member(MemberKind::File) => Ok(Made::File),
+        TypeFlag::Member(MemberKind::Directory) => Ok(Made::Directory),
+        TypeFlag::Member(MemberKind::Link) => Ok(Made::Link),
+        TypeFlag::Member(MemberKind::Character | MemberKind::Block) => Err(MemberFault::Kind),
+        TypeFlag::SymbolicLink | TypeFlag::Fifo => Err(MemberFault::Kind),
+        TypeFlag::LongName | TypeFlag::LongLink => Err(MemberFault::Kind),
+        TypeFlag::Extended | TypeFlag::Global | TypeFlag::Other(_) => Err(MemberFault::Kind),
+    }
+}
+
+/// Whether a path ends in a slash.
+fn ends_in_slash(path: &[u8]) -> bool
+    ensures { result ≡ ends_in_slash path.now }
+{
+    path.len() > 0 && path[path.len() - 1] == b'/'
+}
+
+/// Whether a path can be made: no name of it is above 14 bytes, and none is `..`.
+fn check_path(path: &[u8]) -> Result<(), MemberFault>
+    ensures { result ≡ check_path path.now }
+{
+    if has_long_name(path) {
+        Err(MemberFault::LongName)
+    } else if has_dot_dot(path) {
+        Err(MemberFault::DotDot)
+    } else {
+        Ok(())
+    }
+}
+
+/// Whether a name of a path is above 14 bytes.
+fn has_long_name(path: &[u8]) -> bool
+    ensures { result ≡ list_any is_long (names_of path.now) }
+{
+    path.split(|c| *c == b'/').any(|name| name.len() > NAME)
+}
+
+/// Whether a name of a path is `..`.
+fn has_dot_dot(path: &[u8]) -> bool
+    ensures { result ≡ list_any is_dot_dot (names_of path.now) }
+{
+    path.split(|c| *c == b'/')
+        .any(|name| name == b"..".as_slice())
+}
+
+/// Whether the path that a member leads to, if it is a link, can be walked.
+fn check_link(made: Made, link: &[u8]) -> Result<(), MemberFault>
+    ensures { result ≡ check_link made link.now }
+{
+    match made {
+        Made::Link => check_path(link),
+        Made::File | Made::Directory => Ok(()),
+    }
+}
+
+/// The owner and the group of a member, where a call has room for their numbers.
+fn owner_of(header: &ReadHeader) -> Result<Cred, MemberFault>
+    ensures { result ≡ owner_of header.now }
+{
+    let (uid, gid) = (header.uid, header.gid);
+    if uid >= 65536 || gid >= 65536 {
+        return Err(MemberFault::Owner);
+    }
+    Ok(Cred {
+        uid: uid as u16,
+        gid: gid as u16,
+    })
+}

@@ -1,0 +1,19 @@
+//! Archives in POSIX's ustar format, read, and made by the calls of a volume.
+#![tactic(auto)]
+
+pub mod checking;
+pub mod entries;
+pub mod faults;
+pub mod long_names;
+pub mod making;
+pub mod planning;
+pub mod reading;
+mod records;
+
+pub use checking::{Made, MemberFault, check};
+pub use entries::{Entry, entry_at};
+pub use faults::ArchiveFault;
+pub use long_names::LongNames;
+pub use making::{ImportFault, import, make_all};
+pub use planning::{PlanFault, plan};
+pub use reading::{Member, members};

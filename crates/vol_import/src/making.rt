@@ -1,0 +1,178 @@
+//! Making calls on a volume, all or nothing.
+ghost use Rattle.std.specs.Prelude.{◌≡◌, ◌⊎◌, IfOk, IfErr, OnOk, Ok};
+ghost use Rattle.vol_judge.specs.Sound.{IsSound};
+ghost use Rattle.vol_volume.specs.Volume.{mounted, reads_as};
+ghost use Rattle.vol_import.specs.Making.{AreMade, AreStopped, IsUnmounted, unmounted, unread, unplanned, told, calls_to_make, IsStop, Tells, Imports, IsReason};
+ghost use Rattle.vol_import.specs.Plan.{plan};
+
+use crate::checking::MemberFault;
+use crate::faults::ArchiveFault;
+use crate::planning::{PlanFault, plan};
+use crate::reading::{Member, members};
+use std::alloc::Global;
+use vol_dir::Refusal;
+use vol_layout::Edition;
+use vol_volume::{Bytes, Call, MountFault, Volume};
+
+/// Why an archive isn't imported.
+#[derive(Debug, Drop)]
+pub enum ImportFault {
+    /// The image isn't sound. The least of the twelve rules that it breaks.
+    Unsound(u8),
+    /// The archive can't be read.
+    Archive(ArchiveFault),
+    /// No calls make the member at this path.
+    Member(Bytes, MemberFault),
+    /// A call is refused; its path ends in that of its member.
+    Refused(Refusal, Call),
+    /// An allocation was refused.
+    NoMemory,
+}
+
+/// Makes the members of an archive below the path `base` of the volume in some bytes, and answers its bytes then. All calls that
+/// [`plan`] gives are made, in their order and as user 0; or nothing is to be saved, and the fault says why: the image
+/// first, then the archive, the members, and the calls.
+///
+/// Takes memory to mount the image, for the paths of the members twice, and for their bytes once, beside what the calls take.
+pub fn import(
+    alloc: Global,
+    edition: Edition,
+    image: Vec<u8>,
+    archive: &[u8],
+    base: &[u8],
+    now: u32,
+) -> Result<Vec<u8>, ImportFault>
+    ensures made { IfOk result (λ bytes. Imports edition image.items (calls_to_make (reads_as edition image.items).tree archive.now base.now now) bytes.items) }
+    ensures fault { IfErr result (IsReason edition image.items (calls_to_make (reads_as edition image.items).tree archive.now base.now now)) }
+{
+    let mut volume = match mount(alloc, edition, image) {
+        Ok(volume) => volume,
+        Err(fault) => return Err(fault),
+    };
+    let calls = match calls_to_make(alloc, &volume, archive, base, now) {
+        Ok(calls) => calls,
+        Err(fault) => return Err(fault),
+    };
+    match make(alloc, &mut volume, calls) {
+        Ok(()) => Ok(volume.unmount()),
+        Err(fault) => Err(fault),
+    }
+}
+
+/// Mounts the volume in some bytes.
+fn mount(alloc: Global, edition: Edition, image: Vec<u8>) -> Result<Volume, ImportFault>
+    ensures mounted { IfOk result (λ volume. volume ≡ mounted edition image.items) }
+    ensures sound { OnOk result (IsSound edition image.items) }
+    ensures fault { IfErr result (IsUnmounted edition image.items) }
+{
+    match Volume::mount(alloc, edition, image) {
+        Ok(volume) => Ok(volume),
+        Err((fault, _)) => Err(unmounted(fault)),
+    }
+}
+
+/// A volume isn't mounted, for this reason.
+fn unmounted(fault: MountFault) -> ImportFault
+    ensures { result ≡ unmounted fault }
+{
+    match fault {
+        MountFault::Unsound(rule) => ImportFault::Unsound(rule),
+        MountFault::NoMemory => ImportFault::NoMemory,
+    }
+}
+
+/// An archive can't be read, for this reason.
+fn unread(fault: ArchiveFault) -> ImportFault
+    ensures { result ≡ unread fault }
+{
+    match fault {
+        ArchiveFault::NoMemory => ImportFault::NoMemory,
+        ArchiveFault::Truncated(_) => ImportFault::Archive(fault),
+        ArchiveFault::LoneZeroBlock(_) => ImportFault::Archive(fault),
+        ArchiveFault::Header(_, _) => ImportFault::Archive(fault),
+        ArchiveFault::Records(_) => ImportFault::Archive(fault),
+        ArchiveFault::Unsupported(_) => ImportFault::Archive(fault),
+    }
+}
+
+/// There are no calls that make the members of an archive, for this reason.
+fn unplanned(fault: PlanFault) -> ImportFault
+    ensures { result ≡ unplanned fault }
+{
+    match fault {
+        PlanFault::Member(path, cause) => ImportFault::Member(path, cause),
+        PlanFault::NoMemory => ImportFault::NoMemory,
+    }
+}
+
+/// The calls that make the members of an archive below a path of a volume.
+fn calls_to_make(
+    alloc: Global,
+    volume: &Volume,
+    archive: &[u8],
+    base: &[u8],
+    now: u32,
+) -> Result<Vec<Call>, ImportFault>
+    ensures ok { IfOk result (λ calls. calls_to_make (reads_as volume.now.edition volume.now.image).tree archive.now base.now now ≡ Ok calls.items) }
+    ensures fault { IfErr result (Tells (calls_to_make (reads_as volume.now.edition volume.now.image).tree archive.now base.now now)) }
+{
+    match members(alloc, archive) {
+        Ok(found) => calls_for(alloc, volume, base, now, found),
+        Err(fault) => Err(unread(fault)),
+    }
+}
+
+/// The calls that make members below a path of a volume.
+fn calls_for(
+    alloc: Global,
+    volume: &Volume,
+    base: &[u8],
+    now: u32,
+    found: Vec<Member>,
+) -> Result<Vec<Call>, ImportFault>
+    ensures ok { IfOk result (λ calls. told (plan (reads_as volume.now.edition volume.now.image).tree base.now now found.items) ≡ Ok calls.items) }
+    ensures fault { IfErr result (Tells (told (plan (reads_as volume.now.edition volume.now.image).tree base.now now found.items))) }
+{
+    match plan(alloc, volume, base, now, found) {
+        Ok(calls) => Ok(calls),
+        Err(fault) => Err(unplanned(fault)),
+    }
+}
+
+/// Makes calls on a volume, and tells as an import does which of them is refused.
+fn make(alloc: Global, volume: &mut Volume, calls: Vec<Call>) -> Result<(), ImportFault>
+    ensures made { OnOk result (AreMade volume.old calls.items volume.new) }
+    ensures fault { IfErr result (IsStop volume.old calls.items volume.new) }
+{
+    match make_all(alloc, volume, calls) {
+        Ok(()) => Ok(()),
+        Err((refusal, call)) => Err(stopped(refusal, call)),
+    }
+}
+
+/// A call is refused so.
+fn stopped(refusal: Refusal, call: Call) -> ImportFault
+    ensures { (result ≡ ImportFault.NoMemory) ⊎ (result ≡ ImportFault.Refused refusal call) }
+{
+    match refusal {
+        Refusal::NoMemory => ImportFault::NoMemory,
+        _ => ImportFault::Refused(refusal, call),
+    }
+}
+
+/// Makes calls on a volume, each in turn, up to the first that is refused: it comes back with its refusal, and the volume is as the
+/// calls before it left it.
+pub fn make_all(alloc: Global, volume: &mut Volume, calls: Vec<Call>) -> Result<(), (Refusal, Call)>
+    ensures made { OnOk result (AreMade volume.old calls.items volume.new) }
+    ensures refused { IfErr result (λ (refusal, call). AreStopped volume.old calls.items volume.new refusal call) }
+{
+    let mut left = calls;
+    left.reverse();
+    'calls: while let Some(call) = left.pop() {
+        match volume.call(alloc, call) {
+            Ok(_) => {}
+            Err(refused) => return Err(refused),
+        }
+    }
+    Ok(())
+}

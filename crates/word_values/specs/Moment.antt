@@ -1,0 +1,16 @@
+-- Moments as they are written on the command line.
+use Rattle.std.specs.Prelude.{◌≡◌, ◌⊎◌, ◌≤◌, ◌*◌, ℕ, ℤ, List, Ok, pos}
+use Rattle.jiff.specs.Words.{parse_timestamp}
+use Rattle.word_values.specs.Decimal.{IsNumberGiven, IsNumberUpTo}
+
+-- the nanoseconds since the beginning of 1970 at the beginning of this second (this project)
+abbrev pub second_of : ℕ → ℤ
+second_of now = pos (now * 1000000000)
+
+-- the text is a date and a time, and the moment is this second (RFC 3339, jiff's contract)
+abbrev pub IsDateOf : List ℕ → ℕ → Type 0
+IsDateOf text now = (parse_timestamp text ≡ Ok (second_of now)) × (now ≤ 4294967295)
+
+-- the text writes this moment, in seconds since the beginning of 1970: as a number of 32 bits, or as a date and a time (this project)
+abbrev pub IsMomentOf : List ℕ → ℕ → Type 0
+IsMomentOf text now = IsNumberGiven 4294967295 text now ⊎ ((IsNumberUpTo 4294967295 text → ⊥) × IsDateOf text now)

@@ -1,0 +1,46 @@
+//! Numbers as they are written on the command line.
+ghost use Rattle.std.specs.Prelude.{◌≡◌, ◌==◌, SomeIff, slice_index};
+ghost use Rattle.std.specs.Str.Parse.{digits_value};
+ghost use Rattle.word_values.specs.Decimal.{IsNumberUpTo, IsThreads};
+
+/// The number of 16 bits that `text` writes: one or more decimal digits, of which the first may be
+/// zeros, and no sign. `None` where the text is anything else, or the number has more bits.
+pub fn word_of(text: &str) -> Option<u16>
+    ensures { SomeIff result (IsNumberUpTo 65535 text.now) (digits_value 10 text.now) }
+{
+    if is_signed(text) {
+        return None;
+    }
+    text.parse().ok()
+}
+
+/// The number of 32 bits that `text` writes, as [`word_of`] reads one of 16 bits.
+pub fn long_of(text: &str) -> Option<u32>
+    ensures { SomeIff result (IsNumberUpTo 4294967295 text.now) (digits_value 10 text.now) }
+{
+    if is_signed(text) {
+        return None;
+    }
+    text.parse::<u32>().ok()
+}
+
+/// The most threads that a command works with.
+const MOST_THREADS: u16 = 64;
+
+/// The number of threads, 1 to 64, that `text` writes, as [`word_of`] reads a number. `None` where the text is anything
+/// else, or another number.
+pub fn threads_of(text: &str) -> Option<usize>
+    ensures { SomeIff result (IsThreads text.now) (digits_value 10 text.now) }
+{
+    match word_of(text) {
+        Some(number) if 0 < number && number <= MOST_THREADS => Some(usize::from(number)),
+        _ => None,
+    }
+}
+
+/// Whether a text begins with a plus sign, which Rust's numbers may.
+pub(crate) fn is_signed(text: &str) -> bool
+    ensures { result ≡ (slice_index text.now 0 == 43) }
+{
+    text.as_bytes().first() == Some(&b'+')
+}

@@ -1,0 +1,37 @@
+//! Moments as they are written on the command line.
+ghost use Rattle.std.specs.Prelude.{◌≡◌, ◌≢◌, ◌≤◌, ◌*◌, ℕ, None, IfSome, Ok, pos};
+ghost use Rattle.jiff.specs.Words.{parse_timestamp};
+ghost use Rattle.word_values.specs.Moment.{IsMomentOf, second_of};
+
+use crate::decimal::long_of;
+use jiff::Timestamp;
+
+/// Nanoseconds in a second.
+const SECOND: u128 = 1_000_000_000;
+
+/// The moment that `text` writes, in seconds since the beginning of 1970: as [`long_of`] reads a number, or as a date and a
+/// time with its offset, as `2026-11-23T12:00:00Z`. `None` where the text is anything else, or the moment has a
+/// fraction of a second, or is no number of 32 bits.
+pub fn moment_of(text: &str) -> Option<u32>
+    ensures some { IfSome result (IsMomentOf text.now) }
+    ensures none { result ≡ None → (now : ℕ) → IsMomentOf text.now now → ⊥ }
+{
+    match long_of(text) {
+        Some(number) => Some(number),
+        None => date_of(text),
+    }
+}
+
+/// The moment that a date and a time write. `None` where the text is anything else, or the moment is no number of 32 bits.
+fn date_of(text: &str) -> Option<u32>
+    ensures some { IfSome result (λ now. parse_timestamp text.now ≡ Ok (second_of now)) }
+    ensures none { result ≡ None → (now : ℕ) → now ≤ 4294967295 → parse_timestamp text.now ≢ Ok (second_of now) }
+{
+    let moment = text.parse::<Timestamp>().ok()?;
+    let nanoseconds = u128::try_from(moment.as_nanosecond()).ok()?;
+    if nanoseconds % SECOND == 0 {
+        u32::try_from(nanoseconds / SECOND).ok()
+    } else {
+        None
+    }
+}

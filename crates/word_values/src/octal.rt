@@ -1,0 +1,23 @@
+//! Permissions as they are written on the command line.
+ghost use Rattle.std.specs.Prelude.{SomeIff};
+ghost use Rattle.std.specs.Str.Parse.{digits_value};
+ghost use Rattle.word_values.specs.Octal.{IsOctalUpTo};
+
+use crate::decimal::is_signed;
+
+/// The greatest permissions, which are all twelve bits.
+const ALL_PERMISSIONS: u16 = 0o7777;
+
+/// The permissions that `text` writes: one or more octal digits, of which the first may be zeros, and no sign.
+/// `None` where the text is anything else, or the number is above 7777.
+pub fn permissions_of(text: &str) -> Option<u16>
+    ensures { SomeIff result (IsOctalUpTo 4095 text.now) (digits_value 8 text.now) }
+{
+    if is_signed(text) {
+        return None;
+    }
+    match u16::from_str_radix(text, 8) {
+        Ok(number) if number <= ALL_PERMISSIONS => Some(number),
+        _ => None,
+    }
+}

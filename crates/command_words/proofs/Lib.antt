@@ -1,0 +1,3 @@
+pub mod Moments
+pub mod Names
+pub mod Values

@@ -1,0 +1,25 @@
+-- The moment that is meant, where a word was given for it.
+use Rattle.std.proofs.Common.{◌≡◌, ℕ, List, [], ◌∷◌, Option, Some, None, Result, IfErr, refl, sym, subst}
+use Rattle.std.specs.List.{slice_get}
+use Rattle.std.specs.Option.{ok_or}
+use Rattle.word_values.specs.Moment.{IsMomentOf}
+use Rattle.command_words.specs.Asking.{IsMomentGiven, TellsOf}
+use Rattle.command_words.specs.declared.fault.Fault.{Fault}
+use Rattle.command_words.specs.declared.fault.Fault.TheVariants as faults
+
+-- the moment that is meant is the one that the first word writes
+pub written : (clock : Option ℕ) (words : List (List ℕ)) (word : List ℕ) → Some word ≡ slice_get words 0 → (now : ℕ) → IsMomentGiven clock words now
+    → IsMomentOf word now
+written clock [] word first now given = cc
+written clock (other ∷ more) word first now given = let same : word ≡ other = cc in subst (λ (w : List ℕ). IsMomentOf w now) (sym same) given
+
+-- a fault tells of what is wrong
+tells : (wrong : Type 0) (fault : Fault) → wrong → TellsOf wrong fault
+tells wrong faults.NoMemory is = tt
+tells wrong (faults.Wrong word) is = is
+
+-- where a word writes no moment, the fault tells of what is wrong then
+pub refused : (wrong : Type 0) (moment : Option ℕ) (result : Result ℕ Fault) (fault : Fault) → result ≡ ok_or moment fault → (moment ≡ None → wrong)
+    → IfErr result (TellsOf wrong)
+refused wrong None result fault same none = subst (λ (r : Result ℕ Fault). IfErr r (TellsOf wrong)) (sym same) (tells wrong fault (none refl))
+refused wrong (Some now) result fault same none = subst (λ (r : Result ℕ Fault). IfErr r (TellsOf wrong)) (sym same) tt

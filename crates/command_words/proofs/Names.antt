@@ -1,0 +1,50 @@
+-- The names of the commands: no two commands have one name.
+use Rattle.std.proofs.Common.{◌≡◌, ◌∙◌, ℕ, List, cond, codes, refl, sym, ap}
+use Rattle.std.specs.Str.{bytes_eq}
+use Rattle.command_words.specs.Verbs.{verb_name}
+use Rattle.command_words.specs.declared.verbs.Verb.{Verb}
+use Rattle.command_words.specs.declared.verbs.Verb.TheVariants as verbs
+
+-- the command of this name, or another command where it is a name of none of the others
+abbrev named : List ℕ → Verb
+named text =
+    cond (bytes_eq text (codes "cat")) verbs.Cat
+    (cond (bytes_eq text (codes "ls")) verbs.Ls
+    (cond (bytes_eq text (codes "get")) verbs.Get
+    (cond (bytes_eq text (codes "icheck")) verbs.Icheck
+    (cond (bytes_eq text (codes "dcheck")) verbs.Dcheck
+    (cond (bytes_eq text (codes "ncheck")) verbs.Ncheck
+    (cond (bytes_eq text (codes "mkfs")) verbs.Mkfs
+    (cond (bytes_eq text (codes "put")) verbs.Put
+    (cond (bytes_eq text (codes "rm")) verbs.Rm
+    (cond (bytes_eq text (codes "rmdir")) verbs.Rmdir
+    (cond (bytes_eq text (codes "mkdir")) verbs.Mkdir
+    (cond (bytes_eq text (codes "ln")) verbs.Ln
+    (cond (bytes_eq text (codes "chmod")) verbs.Chmod
+    (cond (bytes_eq text (codes "chown")) verbs.Chown
+    (cond (bytes_eq text (codes "salvage")) verbs.Salvage
+    (cond (bytes_eq text (codes "play")) verbs.Play verbs.Migrate)))))))))))))))
+
+-- a command is found by its name
+named_by_its_name : (verb : Verb) → named (verb_name verb) ≡ verb
+named_by_its_name verbs.Cat = refl
+named_by_its_name verbs.Ls = refl
+named_by_its_name verbs.Get = refl
+named_by_its_name verbs.Icheck = refl
+named_by_its_name verbs.Dcheck = refl
+named_by_its_name verbs.Ncheck = refl
+named_by_its_name verbs.Mkfs = refl
+named_by_its_name verbs.Put = refl
+named_by_its_name verbs.Rm = refl
+named_by_its_name verbs.Rmdir = refl
+named_by_its_name verbs.Mkdir = refl
+named_by_its_name verbs.Ln = refl
+named_by_its_name verbs.Chmod = refl
+named_by_its_name verbs.Chown = refl
+named_by_its_name verbs.Salvage = refl
+named_by_its_name verbs.Play = refl
+named_by_its_name verbs.Migrate = refl
+
+-- commands of one name are the same
+pub verb_name-injective : (one other : Verb) → verb_name one ≡ verb_name other → one ≡ other
+verb_name-injective one other same = sym (named_by_its_name one) ∙ (ap named same ∙ named_by_its_name other)

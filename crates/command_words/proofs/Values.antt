@@ -1,0 +1,75 @@
+-- What is asked for was given by words that are values: a word that is none asks for nothing.
+use Rattle.std.proofs.Common.{◌≡◌, ◌⊎◌, ◌∙◌, ◌≤◌, ◌∷◌, ℕ, List, [], Option, codes, length, map, sym, ap, subst, inl, inr}
+use Rattle.std.specs.Borrow.{Bor}
+use Rattle.std.proofs.lemmas.List.{length-map}
+use Rattle.vol_layout.specs.declared.edition.Edition.{Edition}
+use Rattle.vol_layout.specs.declared.edition.Edition.TheVariants.{V6, V7}
+use Rattle.vol_check.specs.declared.checker.Checker.TheVariants as checkers
+use Rattle.vol_commands.specs.declared.jobs.Job.TheVariants as jobs
+use Rattle.command_words.specs.Asking.{AreValues, IsEditionNamed, IsGiven, IsOneWrong, NameAsksFor, Words, verb_of}
+use Rattle.command_words.specs.Verbs.{Argument, IsNoCommand, arguments_of, verb_name}
+use Rattle.command_words.specs.declared.invocation.Invocation.{Invocation}
+use Rattle.command_words.specs.declared.invocation.Invocation.TheVariants.{Cat, Mkfs, Migrate, OnVolume, OnThreads}
+use Rattle.command_words.specs.declared.invocation.Work.TheVariants as works
+use Rattle.command_words.specs.declared.verbs.Verb.{Verb}
+use Rattle.command_words.proofs.Names.{verb_name-injective}
+
+-- a word that names an edition is the name of one
+edition_value : (edition : Edition) (text : List ℕ) → IsEditionNamed edition text → (text ≡ codes "6") ⊎ (text ≡ codes "7")
+edition_value V6 text is = inl is
+edition_value V7 text is = inr is
+
+-- as many words were given as there are scripts
+scripts_value : (items : List (Bor (List ℕ))) (words : List (List ℕ)) → map (λ script. script.now) items ≡ words → 1 ≤ length items → length items ≤ 64
+    → (1 ≤ length words) × (length words ≤ 64)
+scripts_value items words are least most =
+    let same_length : length words ≡ length items = sym (ap length are) ∙ length-map items (λ (script : Bor (List ℕ)). script.now) in (
+      subst (λ (n : ℕ). 1 ≤ n) (sym same_length) least,
+      subst (λ (n : ℕ). n ≤ 64) (sym same_length) most,
+    )
+
+-- the words of what is asked for are values of its command's arguments
+pub values_given : (clock : Option ℕ) (given : Words) (invocation : Invocation) → IsGiven clock given invocation
+    → AreValues clock given (arguments_of (verb_of invocation))
+values_given clock given (Cat volume ino) is = (edition_value volume.edition _ is.0.0, (tt, (is.1.0, tt)))
+values_given clock given (Mkfs image volume) is = (
+  edition_value volume.edition _ is.1.0,
+  (tt, (is.1.1.0, (is.1.2.0, (is.1.3.0, (is.1.4.0, ((volume.now, is.1.5), tt)))))),
+)
+values_given clock given (Migrate old new migration) is = (tt, (tt, (is.2.0.0, (is.2.1.0, ((migration.now, is.2.2), tt)))))
+values_given clock given (OnVolume volume (jobs.Ls path)) is = (edition_value volume.edition _ is.0.0, (tt, (tt, tt)))
+values_given clock given (OnVolume volume (jobs.Get path)) is = (edition_value volume.edition _ is.0.0, (tt, (tt, tt)))
+values_given clock given (OnVolume volume (jobs.Put path file now)) is =
+    (edition_value volume.edition _ is.0.0, (tt, (tt, (tt, ((now, is.1.2), tt)))))
+values_given clock given (OnVolume volume (jobs.Rm path now)) is = (edition_value volume.edition _ is.0.0, (tt, (tt, ((now, is.1.1), tt))))
+values_given clock given (OnVolume volume (jobs.Rmdir path now)) is = (edition_value volume.edition _ is.0.0, (tt, (tt, ((now, is.1.1), tt))))
+values_given clock given (OnVolume volume (jobs.Mkdir path now)) is = (edition_value volume.edition _ is.0.0, (tt, (tt, ((now, is.1.1), tt))))
+values_given clock given (OnVolume volume (jobs.Ln from to now)) is =
+    (edition_value volume.edition _ is.0.0, (tt, (tt, (tt, ((now, is.1.2), tt)))))
+values_given clock given (OnVolume volume (jobs.Chmod path perm now)) is =
+    (edition_value volume.edition _ is.0.0, (tt, (tt, (is.1.1.0, ((now, is.1.2), tt)))))
+values_given clock given (OnVolume volume (jobs.Chown path uid gid now)) is =
+    (edition_value volume.edition _ is.0.0, (tt, (tt, (is.1.1.0, (is.1.2.0, ((now, is.1.3), tt))))))
+values_given clock given (OnVolume volume jobs.Salvage) is = (edition_value volume.edition _ is.0.0, (tt, tt))
+values_given clock given (OnThreads volume (works.Check checkers.Blocks workers)) is = (edition_value volume.edition _ is.0.0, (tt, (is.1.0, tt)))
+values_given clock given (OnThreads volume (works.Check checkers.Entries workers)) is = (edition_value volume.edition _ is.0.0, (tt, (is.1.0, tt)))
+values_given clock given (OnThreads volume (works.Check checkers.Names workers)) is = (edition_value volume.edition _ is.0.0, (tt, (is.1.0, tt)))
+values_given clock given (OnThreads volume (works.Play scripts)) is =
+    (edition_value volume.edition _ is.0.0, (tt, (scripts_value scripts.items _ is.1.0 is.1.1 is.1.2, tt)))
+
+-- words that are all values have none that is no value
+none_wrong : (clock : Option ℕ) (given : Words) (row : List Argument) → AreValues clock given row → IsOneWrong clock given row → ⊥
+none_wrong clock given [] are wrong = wrong
+none_wrong clock given (argument ∷ rest) are (inl wrong) = wrong are.0
+none_wrong clock given (argument ∷ rest) are (inr wrong) = none_wrong clock given rest are.1 wrong
+
+-- where one of the words is no value, nothing is asked for
+pub no_value : (clock : Option ℕ) (verb : Verb) (given : Words) → IsOneWrong clock given (arguments_of verb) → (invocation : Invocation)
+    → NameAsksFor clock (verb_name verb) given invocation → ⊥
+no_value clock verb given wrong invocation asks =
+    none_wrong clock given (arguments_of (verb_of invocation)) (values_given clock given invocation asks.1)
+    (subst (λ (other : Verb). IsOneWrong clock given (arguments_of other)) (verb_name-injective verb (verb_of invocation) asks.0) wrong)
+
+-- where the name is that of no command, nothing is asked for
+pub no_command : (clock : Option ℕ) (name : List ℕ) (given : Words) → IsNoCommand name → (invocation : Invocation) → NameAsksFor clock name given invocation → ⊥
+no_command clock name given none invocation asks = none (verb_of invocation) asks.0

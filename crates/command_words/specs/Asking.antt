@@ -1,0 +1,181 @@
+-- What the words after a command ask for.
+use Rattle.std.specs.Prelude.{◌≡◌, ◌⊎◌, ◌∷◌, ◌≤◌, ℕ, List, [], length, map, Option, Some}
+use Rattle.std.specs.Prelude.{codes}
+use Rattle.vol_layout.specs.declared.edition.Edition.{Edition}
+use Rattle.vol_layout.specs.declared.edition.Edition.TheVariants.{V6, V7}
+use Rattle.word_values.specs.Decimal.{IsNumberUpTo, IsNumberGiven, IsThreads, IsThreadsGiven}
+use Rattle.word_values.specs.Moment.{IsMomentOf}
+use Rattle.word_values.specs.Octal.{IsOctalUpTo, IsOctalGiven}
+use Rattle.command_words.specs.Verbs.{Argument, verb_name}
+use Rattle.command_words.specs.declared.fault.Fault.{Fault}
+use Rattle.command_words.specs.declared.fault.Fault.TheVariants as faults
+use Rattle.command_words.specs.declared.parameters.Kind.{Kind}
+use Rattle.command_words.specs.declared.parameters.Kind.TheVariants as kinds
+use Rattle.command_words.specs.declared.invocation.Invocation.{Invocation}
+use Rattle.command_words.specs.declared.invocation.Invocation.TheVariants.{Cat, Mkfs, Migrate, OnVolume, OnThreads}
+use Rattle.command_words.specs.declared.invocation.VolumeFile.{VolumeFile}
+use Rattle.command_words.specs.declared.invocation.Work.{Work}
+use Rattle.command_words.specs.declared.invocation.Work.TheVariants as works
+use Rattle.command_words.specs.declared.verbs.Verb.{Verb}
+use Rattle.command_words.specs.declared.verbs.Verb.TheVariants as verbs
+use Rattle.vol_check.specs.declared.checker.Checker.{Checker}
+use Rattle.vol_check.specs.declared.checker.Checker.TheVariants as checkers
+use Rattle.vol_commands.specs.declared.jobs.Job.{Job}
+use Rattle.vol_commands.specs.declared.jobs.Job.TheVariants as jobs
+use Rattle.vol_commands.specs.declared.migrating.Migration.{Migration}
+use Rattle.vol_volume.specs.declared.blank.NewVolume.{NewVolume}
+
+-- the words that were given for each argument, by its name (this project)
+abbrev pub Words : Type 0
+Words = List ℕ → List (List ℕ)
+
+-- the first word, or the empty one where there is none (this project)
+abbrev pub first_word : List (List ℕ) → List ℕ
+first_word [] = []
+first_word (word ∷ more) = word
+
+-- the first word that was given for an argument, or the empty one (this project)
+abbrev pub the_word : Words → List ℕ → List ℕ
+the_word given name = first_word (given name)
+
+-- the word names this edition (this project)
+abbrev pub IsEditionNamed : Edition → List ℕ → Type 0
+IsEditionNamed V6 text = text ≡ codes "6"
+IsEditionNamed V7 text = text ≡ codes "7"
+
+-- the moment that is meant: the one that was written, or that of the program's clock where no word was given (this project)
+abbrev pub IsMomentGiven : Option ℕ → List (List ℕ) → ℕ → Type 0
+IsMomentGiven clock [] now = clock ≡ Some now
+IsMomentGiven clock (word ∷ more) now = IsMomentOf word now
+
+-- the words are a value of an argument of this kind (this project)
+abbrev pub IsValue : Option ℕ → Kind → List (List ℕ) → Type 0
+IsValue clock kinds.Edition words = (first_word words ≡ codes "6") ⊎ (first_word words ≡ codes "7")
+IsValue clock kinds.Text words = Unit {0}
+IsValue clock kinds.Word words = IsNumberUpTo 65535 (first_word words)
+IsValue clock kinds.Long words = IsNumberUpTo 4294967295 (first_word words)
+IsValue clock kinds.Permissions words = IsOctalUpTo 4095 (first_word words)
+IsValue clock kinds.Threads words = IsThreads (first_word words)
+IsValue clock kinds.Moment words = (now : ℕ) × IsMomentGiven clock words now
+IsValue clock kinds.Scripts words = (1 ≤ length words) × (length words ≤ 64)
+
+-- the words that were given for each of these arguments are a value of it (this project)
+abbrev pub AreValues : Option ℕ → Words → List Argument → Type 0
+AreValues clock given [] = Unit {0}
+AreValues clock given (argument ∷ rest) = IsValue clock argument.1 (given argument.0) × AreValues clock given rest
+
+-- the words that were given for one of these arguments are no value of it (this project)
+abbrev pub IsOneWrong : Option ℕ → Words → List Argument → Type 0
+IsOneWrong clock given [] = ⊥
+IsOneWrong clock given (argument ∷ rest) = (IsValue clock argument.1 (given argument.0) → ⊥) ⊎ IsOneWrong clock given rest
+
+-- the command of a checker (this project)
+abbrev pub checker_verb : Checker → Verb
+checker_verb checkers.Blocks = verbs.Icheck
+checker_verb checkers.Entries = verbs.Dcheck
+checker_verb checkers.Names = verbs.Ncheck
+
+-- the command of what several threads do (this project)
+abbrev pub work_verb : Work → Verb
+work_verb (works.Check checker workers) = checker_verb checker
+work_verb (works.Play scripts) = verbs.Play
+
+-- the command of a job (this project)
+abbrev pub job_verb : Job → Verb
+job_verb (jobs.Ls path) = verbs.Ls
+job_verb (jobs.Get path) = verbs.Get
+job_verb (jobs.Put path file now) = verbs.Put
+job_verb (jobs.Rm path now) = verbs.Rm
+job_verb (jobs.Rmdir path now) = verbs.Rmdir
+job_verb (jobs.Mkdir path now) = verbs.Mkdir
+job_verb (jobs.Ln from to now) = verbs.Ln
+job_verb (jobs.Chmod path perm now) = verbs.Chmod
+job_verb (jobs.Chown path uid gid now) = verbs.Chown
+job_verb jobs.Salvage = verbs.Salvage
+
+-- the command that asks for this (this project)
+abbrev pub verb_of : Invocation → Verb
+verb_of (Cat volume ino) = verbs.Cat
+verb_of (Mkfs image volume) = verbs.Mkfs
+verb_of (Migrate old new migration) = verbs.Migrate
+verb_of (OnVolume volume job) = job_verb job
+verb_of (OnThreads volume work) = work_verb work
+
+-- the words name this volume (this project)
+abbrev pub IsVolumeGiven : Words → VolumeFile → Type 0
+IsVolumeGiven given volume =
+    IsEditionNamed volume.edition (the_word given (codes "EDITION")) × (volume.image.now ≡ the_word given (codes "IMAGE"))
+
+-- the words describe this new volume (this project)
+abbrev pub IsNewVolumeGiven : Option ℕ → Words → NewVolume → Type 0
+IsNewVolumeGiven clock given volume = IsEditionNamed volume.edition (the_word given (codes "EDITION"))
+    × IsNumberGiven 4294967295 (the_word given (codes "FSIZE")) volume.blocks
+    × IsNumberGiven 65535 (the_word given (codes "IBLOCKS")) volume.list_blocks
+    × IsNumberGiven 65535 (the_word given (codes "UID")) volume.uid
+    × IsNumberGiven 65535 (the_word given (codes "GID")) volume.gid
+    × IsMomentGiven clock (given (codes "NOW")) volume.now
+
+-- the words describe this migration (this project)
+abbrev pub IsMigrationGiven : Option ℕ → Words → Migration → Type 0
+IsMigrationGiven clock given migration = IsNumberGiven 4294967295 (the_word given (codes "FSIZE")) migration.blocks
+    × IsNumberGiven 65535 (the_word given (codes "IBLOCKS")) migration.list_blocks
+    × IsMomentGiven clock (given (codes "NOW")) migration.now
+
+-- the words describe this job (this project)
+abbrev pub IsJobGiven : Option ℕ → Words → Job → Type 0
+IsJobGiven clock given (jobs.Ls path) = path.now ≡ the_word given (codes "PATH")
+IsJobGiven clock given (jobs.Get path) = path.now ≡ the_word given (codes "PATH")
+IsJobGiven clock given (jobs.Put path file now) = (path.now ≡ the_word given (codes "PATH"))
+    × (file.now ≡ the_word given (codes "FILE")) × IsMomentGiven clock (given (codes "NOW")) now
+IsJobGiven clock given (jobs.Rm path now) =
+    (path.now ≡ the_word given (codes "PATH")) × IsMomentGiven clock (given (codes "NOW")) now
+IsJobGiven clock given (jobs.Rmdir path now) =
+    (path.now ≡ the_word given (codes "PATH")) × IsMomentGiven clock (given (codes "NOW")) now
+IsJobGiven clock given (jobs.Mkdir path now) =
+    (path.now ≡ the_word given (codes "PATH")) × IsMomentGiven clock (given (codes "NOW")) now
+IsJobGiven clock given (jobs.Ln from to now) = (from.now ≡ the_word given (codes "FROM"))
+    × (to.now ≡ the_word given (codes "TO")) × IsMomentGiven clock (given (codes "NOW")) now
+IsJobGiven clock given (jobs.Chmod path perm now) = (path.now ≡ the_word given (codes "PATH"))
+    × IsOctalGiven 4095 (the_word given (codes "PERM")) perm × IsMomentGiven clock (given (codes "NOW")) now
+IsJobGiven clock given (jobs.Chown path uid gid now) = (path.now ≡ the_word given (codes "PATH"))
+    × IsNumberGiven 65535 (the_word given (codes "UID")) uid × IsNumberGiven 65535 (the_word given (codes "GID")) gid
+    × IsMomentGiven clock (given (codes "NOW")) now
+IsJobGiven clock given jobs.Salvage = Unit {0}
+
+-- the words describe what several threads do (this project)
+abbrev pub IsWorkGiven : Words → Work → Type 0
+IsWorkGiven given (works.Check checker workers) = IsThreadsGiven (the_word given (codes "WORKERS")) workers
+IsWorkGiven given (works.Play scripts) =
+    (map (λ script. script.now) scripts.items ≡ given (codes "SCRIPT")) × (1 ≤ length scripts.items) × (length scripts.items ≤ 64)
+
+-- the words describe what is asked for (this project)
+abbrev pub IsGiven : Option ℕ → Words → Invocation → Type 0
+IsGiven clock given (Cat volume ino) = IsVolumeGiven given volume × IsNumberGiven 65535 (the_word given (codes "INO")) ino
+IsGiven clock given (Mkfs image volume) = (image.now ≡ the_word given (codes "IMAGE")) × IsNewVolumeGiven clock given volume
+IsGiven clock given (Migrate old new migration) = (old.now ≡ the_word given (codes "OLD"))
+    × (new.now ≡ the_word given (codes "NEW")) × IsMigrationGiven clock given migration
+IsGiven clock given (OnVolume volume job) = IsVolumeGiven given volume × IsJobGiven clock given job
+IsGiven clock given (OnThreads volume work) = IsVolumeGiven given volume × IsWorkGiven given work
+
+-- the command with the words for its arguments asks for this (this project)
+abbrev pub AsksFor : Option ℕ → Verb → Words → Invocation → Type 0
+AsksFor clock verb given invocation = (verb ≡ verb_of invocation) × IsGiven clock given invocation
+
+-- the command of this name with the words for its arguments asks for this (this project)
+abbrev pub NameAsksFor : Option ℕ → List ℕ → Words → Invocation → Type 0
+NameAsksFor clock name given invocation = (name ≡ verb_name (verb_of invocation)) × IsGiven clock given invocation
+
+-- memory ran out, or the fault tells of a word that is no value, of which this holds (this project)
+abbrev pub TellsOf : Type 0 → Fault → Type 0
+TellsOf wrong faults.NoMemory = Unit {0}
+TellsOf wrong (faults.Wrong word) = wrong
+
+-- the fault tells of a word that is no value (this project)
+abbrev pub IsWrong : Fault → Type 0
+IsWrong faults.NoMemory = ⊥
+IsWrong (faults.Wrong word) = Unit {0}
+
+-- several threads can do this: their number, or that of the scripts, is 1 to 64 (this project)
+abbrev pub IsWorkable : Work → Type 0
+IsWorkable (works.Check checker workers) = (1 ≤ workers) × (workers ≤ 64)
+IsWorkable (works.Play scripts) = (1 ≤ length scripts.items) × (length scripts.items ≤ 64)

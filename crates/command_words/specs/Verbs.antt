@@ -1,0 +1,97 @@
+-- The commands, and the words that each takes.
+use Rattle.std.specs.Prelude.{◌≢◌, ◌∷◌, ℕ, List, [], codes}
+use Rattle.command_words.specs.declared.parameters.Kind.{Kind}
+use Rattle.command_words.specs.declared.parameters.Kind.TheVariants as kinds
+use Rattle.command_words.specs.declared.parameters.Need.{Need}
+use Rattle.command_words.specs.declared.parameters.Need.TheVariants as needs
+use Rattle.command_words.specs.declared.parameters.Parameter.{Parameter}
+use Rattle.command_words.specs.declared.verbs.Verb.{Verb}
+use Rattle.command_words.specs.declared.verbs.Verb.TheVariants as verbs
+
+-- what a command takes: the name of the argument, what its words have to be, and how many there are (this project)
+abbrev pub Argument : Type 0
+Argument = List ℕ × Kind × Need
+
+-- what a parameter says to a parse (this project)
+abbrev pub argument_of : Parameter → Argument
+argument_of parameter = (parameter.name.now, parameter.kind, parameter.need)
+
+-- the argument `EDITION` (this project)
+abbrev pub edition : Argument
+edition = (codes "EDITION", kinds.Edition, needs.Once)
+
+-- an argument for any word (this project)
+abbrev pub word : List ℕ → Argument
+word name = (name, kinds.Text, needs.Once)
+
+-- an argument for a number of 16 bits (this project)
+abbrev pub number : List ℕ → Argument
+number name = (name, kinds.Word, needs.Once)
+
+-- an argument for a number of 32 bits (this project)
+abbrev pub long_number : List ℕ → Argument
+long_number name = (name, kinds.Long, needs.Once)
+
+-- the argument `NOW`, which may be left out (this project)
+abbrev pub moment : Argument
+moment = (codes "NOW", kinds.Moment, needs.Maybe)
+
+-- the words of a command on a volume in a file: the edition, the file, and these (this project)
+abbrev pub on_volume : List Argument → List Argument
+on_volume more = edition ∷ word (codes "IMAGE") ∷ more
+
+-- the words of a checker's command (this project)
+abbrev pub of_checker : List Argument
+of_checker = on_volume ((codes "WORKERS", kinds.Threads, needs.Once) ∷ [])
+
+-- the name of a command (this project)
+abbrev pub verb_name : Verb → List ℕ
+verb_name verbs.Cat = codes "cat"
+verb_name verbs.Ls = codes "ls"
+verb_name verbs.Get = codes "get"
+verb_name verbs.Icheck = codes "icheck"
+verb_name verbs.Dcheck = codes "dcheck"
+verb_name verbs.Ncheck = codes "ncheck"
+verb_name verbs.Mkfs = codes "mkfs"
+verb_name verbs.Put = codes "put"
+verb_name verbs.Rm = codes "rm"
+verb_name verbs.Rmdir = codes "rmdir"
+verb_name verbs.Mkdir = codes "mkdir"
+verb_name verbs.Ln = codes "ln"
+verb_name verbs.Chmod = codes "chmod"
+verb_name verbs.Chown = codes "chown"
+verb_name verbs.Salvage = codes "salvage"
+verb_name verbs.Play = codes "play"
+verb_name verbs.Migrate = codes "migrate"
+
+-- the words of a command, in their order (this project)
+abbrev pub arguments_of : Verb → List Argument
+arguments_of verbs.Cat = on_volume (number (codes "INO") ∷ [])
+arguments_of verbs.Ls = on_volume (word (codes "PATH") ∷ [])
+arguments_of verbs.Get = on_volume (word (codes "PATH") ∷ [])
+arguments_of verbs.Icheck = of_checker
+arguments_of verbs.Dcheck = of_checker
+arguments_of verbs.Ncheck = of_checker
+arguments_of verbs.Mkfs =
+    on_volume (long_number (codes "FSIZE") ∷ number (codes "IBLOCKS") ∷ number (codes "UID") ∷ number (codes "GID") ∷ moment ∷ [])
+arguments_of verbs.Put = on_volume (word (codes "PATH") ∷ word (codes "FILE") ∷ moment ∷ [])
+arguments_of verbs.Rm = on_volume (word (codes "PATH") ∷ moment ∷ [])
+arguments_of verbs.Rmdir = on_volume (word (codes "PATH") ∷ moment ∷ [])
+arguments_of verbs.Mkdir = on_volume (word (codes "PATH") ∷ moment ∷ [])
+arguments_of verbs.Ln = on_volume (word (codes "FROM") ∷ word (codes "TO") ∷ moment ∷ [])
+arguments_of verbs.Chmod = on_volume (word (codes "PATH") ∷ (codes "PERM", kinds.Permissions, needs.Once) ∷ moment ∷ [])
+arguments_of verbs.Chown = on_volume (word (codes "PATH") ∷ number (codes "UID") ∷ number (codes "GID") ∷ moment ∷ [])
+arguments_of verbs.Salvage = on_volume []
+arguments_of verbs.Play = on_volume ((codes "SCRIPT", kinds.Scripts, needs.Several) ∷ [])
+arguments_of verbs.Migrate =
+    word (codes "OLD") ∷ word (codes "NEW") ∷ long_number (codes "FSIZE") ∷ number (codes "IBLOCKS") ∷ moment ∷ []
+
+-- all commands, in the order in which the help lists them (this project)
+abbrev pub all_verbs : List Verb
+all_verbs =
+    verbs.Cat ∷ verbs.Ls ∷ verbs.Get ∷ verbs.Icheck ∷ verbs.Dcheck ∷ verbs.Ncheck ∷ verbs.Mkfs ∷ verbs.Put ∷ verbs.Rm ∷ verbs.Rmdir
+    ∷ verbs.Mkdir ∷ verbs.Ln ∷ verbs.Chmod ∷ verbs.Chown ∷ verbs.Salvage ∷ verbs.Play ∷ verbs.Migrate ∷ []
+
+-- the word names no command (this project)
+abbrev pub IsNoCommand : List ℕ → Type 0
+IsNoCommand text = (verb : Verb) → text ≢ verb_name verb

@@ -1,0 +1,132 @@
+//! The words that were given for the arguments of a command.
+ghost use Rattle.std.specs.Prelude.{◌≡◌, ◌≤◌, ℕ, List, None, IfOk, IfErr, codes, length, map, option_map, slice_get};
+ghost use Rattle.word_values.specs.Decimal.{IsNumberUpTo, IsNumberGiven, IsThreads, IsThreadsGiven};
+ghost use Rattle.word_values.specs.Octal.{IsOctalUpTo, IsOctalGiven};
+ghost use Rattle.command_words.specs.Asking.{IsEditionNamed, IsMomentGiven, IsValue, IsWrong, TellsOf, the_word};
+ghost use Rattle.command_words.specs.declared.parameters.Kind.TheVariants as kinds;
+
+use crate::fault::{Fault, Said, WrongWord};
+use crate::texts;
+use std::alloc::{AllocError, Global};
+use vol_layout::Edition;
+use word_values::decimal::{long_of, threads_of, word_of};
+use word_values::moment::moment_of;
+use word_values::octal::permissions_of;
+
+/// The words that were given for the arguments of a command.
+pub trait Given<'a> {
+    ghost words: { Self → List ℕ → List (List ℕ) };
+
+    /// The first word that was given for an argument.
+    fn first(&self, name: &str) -> Option<&'a str>
+        ensures { option_map (λ word. word.now) result ≡ slice_get (words self.now name.now) 0 };
+
+    /// All words that were given for an argument.
+    fn all(&self, alloc: Global, name: &str) -> Result<Vec<&'a str>, AllocError>
+        ensures { IfOk result (λ found. map (λ word. word.now) found.items ≡ words self.now name.now) };
+}
+
+/// The first word that was given for an argument, or the empty one.
+pub(crate) fn text_in<'a, G: Given<'a>>(given: &G, name: &str) -> &'a str
+    ensures { result.now ≡ the_word (G.words given.now) name.now }
+{
+    given.first(name).unwrap_or("")
+}
+
+/// The edition that was given.
+pub(crate) fn edition_in<'a, G: Given<'a>>(given: &G) -> Result<Edition, Fault<'a>>
+    ensures read { IfOk result (λ edition. IsEditionNamed edition (the_word (G.words given.now) (codes "EDITION"))) }
+    ensures refused { IfErr result (TellsOf (IsValue None kinds.Edition (G.words given.now (codes "EDITION")) → ⊥)) }
+{
+    let text = text_in(given, "EDITION");
+    match text {
+        "6" => Ok(Edition::V6),
+        "7" => Ok(Edition::V7),
+        _ => Err(wrong("EDITION", text, texts::EDITIONS)),
+    }
+}
+
+/// The number of 16 bits that was given for an argument.
+pub(crate) fn word_in<'a, G: Given<'a>>(given: &G, name: &'a str) -> Result<u16, Fault<'a>>
+    ensures read { IfOk result (λ number. IsNumberGiven 65535 (the_word (G.words given.now) name.now) number) }
+    ensures refused { IfErr result (TellsOf (IsNumberUpTo 65535 (the_word (G.words given.now) name.now) → ⊥)) }
+{
+    let text = text_in(given, name);
+    word_of(text).ok_or(wrong(name, text, texts::WORD))
+}
+
+/// The number of 32 bits that was given for an argument.
+pub(crate) fn long_in<'a, G: Given<'a>>(given: &G, name: &'a str) -> Result<u32, Fault<'a>>
+    ensures read { IfOk result (λ number. IsNumberGiven 4294967295 (the_word (G.words given.now) name.now) number) }
+    ensures refused { IfErr result (TellsOf (IsNumberUpTo 4294967295 (the_word (G.words given.now) name.now) → ⊥)) }
+{
+    let text = text_in(given, name);
+    long_of(text).ok_or(wrong(name, text, texts::LONG))
+}
+
+/// The number of threads that was given for an argument.
+pub(crate) fn threads_in<'a, G: Given<'a>>(given: &G, name: &'a str) -> Result<usize, Fault<'a>>
+    ensures read { IfOk result (λ number. IsThreadsGiven (the_word (G.words given.now) name.now) number) }
+    ensures refused { IfErr result (TellsOf (IsThreads (the_word (G.words given.now) name.now) → ⊥)) }
+{
+    let text = text_in(given, name);
+    threads_of(text).ok_or(wrong(name, text, texts::THREADS))
+}
+
+/// The permissions that were given for an argument.
+pub(crate) fn permissions_in<'a, G: Given<'a>>(given: &G, name: &'a str) -> Result<u16, Fault<'a>>
+    ensures read { IfOk result (λ number. IsOctalGiven 4095 (the_word (G.words given.now) name.now) number) }
+    ensures refused { IfErr result (TellsOf (IsOctalUpTo 4095 (the_word (G.words given.now) name.now) → ⊥)) }
+{
+    let text = text_in(given, name);
+    permissions_of(text).ok_or(wrong(name, text, texts::OCTAL))
+}
+
+/// The moment that was given, or that of the program's clock where none was.
+pub(crate) fn moment_in<'a, G: Given<'a>>(given: &G, clock: Option<u32>) -> Result<u32, Fault<'a>>
+    ensures read { IfOk result (IsMomentGiven clock (G.words given.now (codes "NOW"))) }
+    ensures refused { IfErr result (TellsOf (IsValue clock kinds.Moment (G.words given.now (codes "NOW")) → ⊥)) }
+{
+    match given.first("NOW") {
+        Some(text) => moment_of(text).ok_or(wrong("NOW", text, texts::MOMENT)),
+        None => clock.ok_or(Fault::Wrong(WrongWord {
+            name: "NOW",
+            said: Said::Nothing,
+            wanted: texts::NO_CLOCK,
+        })),
+    }
+}
+
+/// The most scripts that are played.
+const MOST_SCRIPTS: usize = 64;
+
+/// The scripts that were given.
+pub(crate) fn scripts_in<'a, G: Given<'a>>(
+    alloc: Global,
+    given: &G,
+) -> Result<Vec<&'a str>, Fault<'a>>
+    ensures read { IfOk result (λ scripts. (map (λ script. script.now) scripts.items ≡ G.words given.now (codes "SCRIPT"))
+        × (1 ≤ length scripts.items) × (length scripts.items ≤ 64)) }
+    ensures refused { IfErr result (TellsOf (IsValue None kinds.Scripts (G.words given.now (codes "SCRIPT")) → ⊥)) }
+{
+    let scripts = given.all(alloc, "SCRIPT")?;
+    if scripts.is_empty() || scripts.len() > MOST_SCRIPTS {
+        return Err(Fault::Wrong(WrongWord {
+            name: "SCRIPT",
+            said: Said::Words(scripts.len()),
+            wanted: texts::SCRIPTS,
+        }));
+    }
+    Ok(scripts)
+}
+
+/// The fault of a word that is no value of the argument `name`.
+fn wrong<'a>(name: &'a str, word: &'a str, wanted: &'a str) -> Fault<'a>
+    ensures { IsWrong result }
+{
+    Fault::Wrong(WrongWord {
+        name,
+        said: Said::Word(word),
+        wanted,
+    })
+}

@@ -1,0 +1,54 @@
+//! What the user asks for.
+use vol_check::Checker;
+use vol_commands::{Job, Migration};
+use vol_layout::Edition;
+use vol_volume::NewVolume;
+
+/// A volume in a file.
+#[derive(Clone, Copy, Debug, PartialEq, Eq)]
+pub struct VolumeFile<'a> {
+    /// The edition of Unix.
+    pub edition: Edition,
+    /// The file.
+    pub image: &'a str,
+}
+
+/// What several threads do with a volume.
+#[derive(Debug, PartialEq, Eq, Drop)]
+pub enum Work<'a> {
+    /// Print what a checker finds, by so many threads, 1 to 64.
+    Check { checker: Checker, workers: usize },
+    /// Play the scripts in these files, 1 to 64, each by a thread of its own.
+    Play { scripts: Vec<&'a str> },
+}
+
+/// What the user asks for.
+#[derive(Debug, PartialEq, Eq, Drop)]
+pub enum Invocation<'a> {
+    /// Print the body of i-node `ino` of the volume in a file.
+    Cat {
+        volume: VolumeFile<'a>,
+        ino: u16,
+    },
+    /// Make a volume in the file `image`.
+    Mkfs {
+        image: &'a str,
+        volume: NewVolume,
+    },
+    /// Make a volume of the seventh edition in the file `new`, out of the one of the sixth in the file `old`.
+    Migrate {
+        old: &'a str,
+        new: &'a str,
+        migration: Migration,
+    },
+    /// Do something with the volume in a file.
+    OnVolume {
+        volume: VolumeFile<'a>,
+        job: Job<'a>,
+    },
+    /// Do something with the volume in a file, by several threads.
+    OnThreads {
+        volume: VolumeFile<'a>,
+        work: Work<'a>,
+    },
+}

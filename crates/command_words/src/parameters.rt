@@ -1,0 +1,275 @@
+//! The words that commands take.
+use crate::texts;
+
+/// What the words for an argument have to be.
+#[derive(Clone, Copy, Debug, PartialEq, Eq)]
+pub enum Kind {
+    /// An edition, `6` or `7`.
+    Edition,
+    /// Any word.
+    Text,
+    /// A number of 16 bits.
+    Word,
+    /// A number of 32 bits.
+    Long,
+    /// Permissions, in octal digits.
+    Permissions,
+    /// A number of threads, 1 to 64.
+    Threads,
+    /// A moment; where there is no word, that of the program's clock.
+    Moment,
+    /// The names of 1 to 64 scripts.
+    Scripts,
+}
+
+/// How many words there are for an argument.
+#[derive(Clone, Copy, Debug, PartialEq, Eq)]
+pub enum Need {
+    /// One.
+    Once,
+    /// One or none.
+    Maybe,
+    /// One or more.
+    Several,
+}
+
+/// An argument of a command.
+#[derive(Clone, Copy, Debug, PartialEq, Eq)]
+pub struct Parameter {
+    /// Its name, as the help shows it.
+    pub name: &'static str,
+    /// What its words have to be.
+    pub kind: Kind,
+    /// How many words there are.
+    pub need: Need,
+    /// What the help says of it.
+    pub help: &'static str,
+}
+
+/// The editions' names on the command line.
+pub static EDITIONS: [&str; 2] = ["6", "7"];
+
+const EDITION: Parameter = Parameter {
+    name: "EDITION",
+    kind: Kind::Edition,
+    need: Need::Once,
+    help: texts::EDITION,
+};
+
+const IMAGE: Parameter = Parameter {
+    name: "IMAGE",
+    kind: Kind::Text,
+    need: Need::Once,
+    help: texts::IMAGE,
+};
+
+const NEW_IMAGE: Parameter = Parameter {
+    name: "IMAGE",
+    kind: Kind::Text,
+    need: Need::Once,
+    help: texts::NEW_IMAGE,
+};
+
+const INO: Parameter = Parameter {
+    name: "INO",
+    kind: Kind::Word,
+    need: Need::Once,
+    help: texts::INO,
+};
+
+const WORKERS: Parameter = Parameter {
+    name: "WORKERS",
+    kind: Kind::Threads,
+    need: Need::Once,
+    help: texts::WORKERS,
+};
+
+const BLOCKS: Parameter = Parameter {
+    name: "FSIZE",
+    kind: Kind::Long,
+    need: Need::Once,
+    help: texts::BLOCKS,
+};
+
+const LIST_BLOCKS: Parameter = Parameter {
+    name: "IBLOCKS",
+    kind: Kind::Word,
+    need: Need::Once,
+    help: texts::LIST_BLOCKS,
+};
+
+const UID: Parameter = Parameter {
+    name: "UID",
+    kind: Kind::Word,
+    need: Need::Once,
+    help: texts::UID,
+};
+
+const GID: Parameter = Parameter {
+    name: "GID",
+    kind: Kind::Word,
+    need: Need::Once,
+    help: texts::GID,
+};
+
+const NEW_UID: Parameter = Parameter {
+    name: "UID",
+    kind: Kind::Word,
+    need: Need::Once,
+    help: texts::NEW_UID,
+};
+
+const NEW_GID: Parameter = Parameter {
+    name: "GID",
+    kind: Kind::Word,
+    need: Need::Once,
+    help: texts::NEW_GID,
+};
+
+const MADE_NOW: Parameter = Parameter {
+    name: "NOW",
+    kind: Kind::Moment,
+    need: Need::Maybe,
+    help: texts::NOW,
+};
+
+const CALL_NOW: Parameter = Parameter {
+    name: "NOW",
+    kind: Kind::Moment,
+    need: Need::Maybe,
+    help: texts::CALL_NOW,
+};
+
+const MIGRATED: Parameter = Parameter {
+    name: "NOW",
+    kind: Kind::Moment,
+    need: Need::Maybe,
+    help: texts::MIGRATED,
+};
+
+const DIRECTORY: Parameter = Parameter {
+    name: "PATH",
+    kind: Kind::Text,
+    need: Need::Once,
+    help: texts::DIRECTORY,
+};
+
+const REGULAR: Parameter = Parameter {
+    name: "PATH",
+    kind: Kind::Text,
+    need: Need::Once,
+    help: texts::REGULAR,
+};
+
+const NAMED: Parameter = Parameter {
+    name: "PATH",
+    kind: Kind::Text,
+    need: Need::Once,
+    help: texts::NAMED,
+};
+
+const OWNED: Parameter = Parameter {
+    name: "PATH",
+    kind: Kind::Text,
+    need: Need::Once,
+    help: texts::OWNED,
+};
+
+const FILE: Parameter = Parameter {
+    name: "FILE",
+    kind: Kind::Text,
+    need: Need::Once,
+    help: texts::FILE,
+};
+
+const FROM: Parameter = Parameter {
+    name: "FROM",
+    kind: Kind::Text,
+    need: Need::Once,
+    help: texts::NAMED,
+};
+
+const TO: Parameter = Parameter {
+    name: "TO",
+    kind: Kind::Text,
+    need: Need::Once,
+    help: texts::NEW_NAME,
+};
+
+const PERM: Parameter = Parameter {
+    name: "PERM",
+    kind: Kind::Permissions,
+    need: Need::Once,
+    help: texts::PERM,
+};
+
+const SCRIPT: Parameter = Parameter {
+    name: "SCRIPT",
+    kind: Kind::Scripts,
+    need: Need::Several,
+    help: texts::SCRIPT,
+};
+
+const OLD: Parameter = Parameter {
+    name: "OLD",
+    kind: Kind::Text,
+    need: Need::Once,
+    help: texts::OLD,
+};
+
+const NEW: Parameter = Parameter {
+    name: "NEW",
+    kind: Kind::Text,
+    need: Need::Once,
+    help: texts::NEW_IMAGE,
+};
+
+/// The words of `cat`.
+pub static CAT_WORDS: [Parameter; 3] = [EDITION, IMAGE, INO];
+
+/// The words of `ls`.
+pub static LS_WORDS: [Parameter; 3] = [EDITION, IMAGE, DIRECTORY];
+
+/// The words of `get`.
+pub static GET_WORDS: [Parameter; 3] = [EDITION, IMAGE, REGULAR];
+
+/// The words of a checker.
+pub static CHECK_WORDS: [Parameter; 3] = [EDITION, IMAGE, WORKERS];
+
+/// The words of `mkfs`.
+pub static MKFS_WORDS: [Parameter; 7] = [
+    EDITION,
+    NEW_IMAGE,
+    BLOCKS,
+    LIST_BLOCKS,
+    UID,
+    GID,
+    MADE_NOW,
+];
+
+/// The words of `put`.
+pub static PUT_WORDS: [Parameter; 5] = [EDITION, IMAGE, REGULAR, FILE, CALL_NOW];
+
+/// The words of `rm`.
+pub static RM_WORDS: [Parameter; 4] = [EDITION, IMAGE, NAMED, CALL_NOW];
+
+/// The words of `rmdir` and `mkdir`.
+pub static DIR_WORDS: [Parameter; 4] = [EDITION, IMAGE, DIRECTORY, CALL_NOW];
+
+/// The words of `ln`.
+pub static LN_WORDS: [Parameter; 5] = [EDITION, IMAGE, FROM, TO, CALL_NOW];
+
+/// The words of `chmod`.
+pub static CHMOD_WORDS: [Parameter; 5] = [EDITION, IMAGE, OWNED, PERM, CALL_NOW];
+
+/// The words of `chown`.
+pub static CHOWN_WORDS: [Parameter; 6] = [EDITION, IMAGE, OWNED, NEW_UID, NEW_GID, CALL_NOW];
+
+/// The words of `salvage`.
+pub static SALVAGE_WORDS: [Parameter; 2] = [EDITION, IMAGE];
+
+/// The words of `play`.
+pub static PLAY_WORDS: [Parameter; 3] = [EDITION, IMAGE, SCRIPT];
+
+/// The words of `migrate`.
+pub static MIGRATE_WORDS: [Parameter; 5] = [OLD, NEW, BLOCKS, LIST_BLOCKS, MIGRATED];

@@ -1,0 +1,277 @@
+//! What the words after a command ask for.
+ghost use Rattle.std.specs.Prelude.{◌≡◌, None, IfOk, IfErr, codes};
+ghost use Rattle.command_words.specs.Asking.{AsksFor, IsOneWrong, IsValue, IsVolumeGiven, TellsOf, checker_verb};
+ghost use Rattle.command_words.specs.Verbs.{arguments_of, of_checker};
+ghost use Rattle.command_words.specs.declared.parameters.Kind.TheVariants as kinds;
+ghost use Rattle.command_words.specs.declared.verbs.Verb.TheVariants as verbs;
+
+use crate::fault::Fault;
+use crate::given::{
+    Given, edition_in, long_in, moment_in, permissions_in, scripts_in, text_in, threads_in, word_in,
+};
+use crate::invocation::{Invocation, VolumeFile, Work};
+use crate::verbs::Verb;
+use std::alloc::Global;
+use vol_check::Checker;
+use vol_commands::{Job, Migration};
+use vol_volume::NewVolume;
+
+/// Reads the words after a command. `clock` is the moment of the program's clock, in seconds since the beginning of 1970,
+/// if it tells one; a command whose moment was left out means it. Where a word is no value of its argument, or no
+/// moment is given or told, the fault says so.
+pub fn read<'a, G: Given<'a>>(
+    alloc: Global,
+    verb: Verb,
+    given: &G,
+    clock: Option<u32>,
+) -> Result<Invocation<'a>, Fault<'a>>
+    ensures read { IfOk result (AsksFor clock verb (G.words given.now)) }
+    ensures refused { IfErr result (TellsOf (IsOneWrong clock (G.words given.now) (arguments_of verb))) }
+{
+    match verb {
+        Verb::Cat => read_cat(given),
+        Verb::Ls => read_ls(given),
+        Verb::Get => read_get(given),
+        Verb::Icheck => read_check(given, Checker::Blocks),
+        Verb::Dcheck => read_check(given, Checker::Entries),
+        Verb::Ncheck => read_check(given, Checker::Names),
+        Verb::Mkfs => read_mkfs(given, clock),
+        Verb::Put => read_put(given, clock),
+        Verb::Rm => read_rm(given, clock),
+        Verb::Rmdir => read_rmdir(given, clock),
+        Verb::Mkdir => read_mkdir(given, clock),
+        Verb::Ln => read_ln(given, clock),
+        Verb::Chmod => read_chmod(given, clock),
+        Verb::Chown => read_chown(given, clock),
+        Verb::Salvage => read_salvage(given),
+        Verb::Play => read_play(alloc, given),
+        Verb::Migrate => read_migrate(given, clock),
+    }
+}
+
+/// Reads the words of `cat`.
+fn read_cat<'a, G: Given<'a>>(given: &G) -> Result<Invocation<'a>, Fault<'a>>
+    ensures read { IfOk result (AsksFor None verbs.Cat (G.words given.now)) }
+    ensures refused { IfErr result (TellsOf (IsOneWrong None (G.words given.now) (arguments_of verbs.Cat))) }
+{
+    let volume = volume_in(given)?;
+    let ino = word_in(given, "INO")?;
+    Ok(Invocation::Cat { volume, ino })
+}
+
+/// Reads the words of `ls`.
+fn read_ls<'a, G: Given<'a>>(given: &G) -> Result<Invocation<'a>, Fault<'a>>
+    ensures read { IfOk result (AsksFor None verbs.Ls (G.words given.now)) }
+    ensures refused { IfErr result (TellsOf (IsOneWrong None (G.words given.now) (arguments_of verbs.Ls))) }
+{
+    let volume = volume_in(given)?;
+    let path = text_in(given, "PATH");
+    Ok(Invocation::OnVolume {
+        volume,
+        job: Job::Ls { path },
+    })
+}
+
+/// Reads the words of `get`.
+fn read_get<'a, G: Given<'a>>(given: &G) -> Result<Invocation<'a>, Fault<'a>>
+    ensures read { IfOk result (AsksFor None verbs.Get (G.words given.now)) }
+    ensures refused { IfErr result (TellsOf (IsOneWrong None (G.words given.now) (arguments_of verbs.Get))) }
+{
+    let volume = volume_in(given)?;
+    let path = text_in(given, "PATH");
+    Ok(Invocation::OnVolume {
+        volume,
+        job: Job::Get { path },
+    })
+}
+
+/// Reads the words of `mkfs`.
+fn read_mkfs<'a, G: Given<'a>>(given: &G, clock: Option<u32>) -> Result<Invocation<'a>, Fault<'a>>
+    ensures read { IfOk result (AsksFor clock verbs.Mkfs (G.words given.now)) }
+    ensures refused { IfErr result (TellsOf (IsOneWrong clock (G.words given.now) (arguments_of verbs.Mkfs))) }
+{
+    let image = text_in(given, "IMAGE");
+    let volume = NewVolume {
+        edition: edition_in(given)?,
+        blocks: long_in(given, "FSIZE")?,
+        list_blocks: word_in(given, "IBLOCKS")?,
+        uid: word_in(given, "UID")?,
+        gid: word_in(given, "GID")?,
+        now: moment_in(given, clock)?,
+    };
+    Ok(Invocation::Mkfs { image, volume })
+}
+
+/// Reads the words of `migrate`.
+fn read_migrate<'a, G: Given<'a>>(
+    given: &G,
+    clock: Option<u32>,
+) -> Result<Invocation<'a>, Fault<'a>>
+    ensures read { IfOk result (AsksFor clock verbs.Migrate (G.words given.now)) }
+    ensures refused { IfErr result (TellsOf (IsOneWrong clock (G.words given.now) (arguments_of verbs.Migrate))) }
+{
+    let old = text_in(given, "OLD");
+    let new = text_in(given, "NEW");
+    let migration = Migration {
+        blocks: long_in(given, "FSIZE")?,
+        list_blocks: word_in(given, "IBLOCKS")?,
+        now: moment_in(given, clock)?,
+    };
+    Ok(Invocation::Migrate {
+        old,
+        new,
+        migration,
+    })
+}
+
+/// Reads the words of `put`.
+fn read_put<'a, G: Given<'a>>(given: &G, clock: Option<u32>) -> Result<Invocation<'a>, Fault<'a>>
+    ensures read { IfOk result (AsksFor clock verbs.Put (G.words given.now)) }
+    ensures refused { IfErr result (TellsOf (IsOneWrong clock (G.words given.now) (arguments_of verbs.Put))) }
+{
+    let volume = volume_in(given)?;
+    let path = text_in(given, "PATH");
+    let file = text_in(given, "FILE");
+    let now = moment_in(given, clock)?;
+    Ok(Invocation::OnVolume {
+        volume,
+        job: Job::Put { path, file, now },
+    })
+}
+
+/// Reads the words of `rm`.
+fn read_rm<'a, G: Given<'a>>(given: &G, clock: Option<u32>) -> Result<Invocation<'a>, Fault<'a>>
+    ensures read { IfOk result (AsksFor clock verbs.Rm (G.words given.now)) }
+    ensures refused { IfErr result (TellsOf (IsOneWrong clock (G.words given.now) (arguments_of verbs.Rm))) }
+{
+    let volume = volume_in(given)?;
+    let path = text_in(given, "PATH");
+    let now = moment_in(given, clock)?;
+    Ok(Invocation::OnVolume {
+        volume,
+        job: Job::Rm { path, now },
+    })
+}
+
+/// Reads the words of `rmdir`.
+fn read_rmdir<'a, G: Given<'a>>(given: &G, clock: Option<u32>) -> Result<Invocation<'a>, Fault<'a>>
+    ensures read { IfOk result (AsksFor clock verbs.Rmdir (G.words given.now)) }
+    ensures refused { IfErr result (TellsOf (IsOneWrong clock (G.words given.now) (arguments_of verbs.Rmdir))) }
+{
+    let volume = volume_in(given)?;
+    let path = text_in(given, "PATH");
+    let now = moment_in(given, clock)?;
+    Ok(Invocation::OnVolume {
+        volume,
+        job: Job::Rmdir { path, now },
+    })
+}
+
+/// Reads the words of `mkdir`.
+fn read_mkdir<'a, G: Given<'a>>(given: &G, clock: Option<u32>) -> Result<Invocation<'a>, Fault<'a>>
+    ensures read { IfOk result (AsksFor clock verbs.Mkdir (G.words given.now)) }
+    ensures refused { IfErr result (TellsOf (IsOneWrong clock (G.words given.now) (arguments_of verbs.Mkdir))) }
+{
+    let volume = volume_in(given)?;
+    let path = text_in(given, "PATH");
+    let now = moment_in(given, clock)?;
+    Ok(Invocation::OnVolume {
+        volume,
+        job: Job::Mkdir { path, now },
+    })
+}
+
+/// Reads the words of `ln`.
+fn read_ln<'a, G: Given<'a>>(given: &G, clock: Option<u32>) -> Result<Invocation<'a>, Fault<'a>>
+    ensures read { IfOk result (AsksFor clock verbs.Ln (G.words given.now)) }
+    ensures refused { IfErr result (TellsOf (IsOneWrong clock (G.words given.now) (arguments_of verbs.Ln))) }
+{
+    let volume = volume_in(given)?;
+    let from = text_in(given, "FROM");
+    let to = text_in(given, "TO");
+    let now = moment_in(given, clock)?;
+    Ok(Invocation::OnVolume {
+        volume,
+        job: Job::Ln { from, to, now },
+    })
+}
+
+/// Reads the words of `chmod`.
+fn read_chmod<'a, G: Given<'a>>(given: &G, clock: Option<u32>) -> Result<Invocation<'a>, Fault<'a>>
+    ensures read { IfOk result (AsksFor clock verbs.Chmod (G.words given.now)) }
+    ensures refused { IfErr result (TellsOf (IsOneWrong clock (G.words given.now) (arguments_of verbs.Chmod))) }
+{
+    let volume = volume_in(given)?;
+    let path = text_in(given, "PATH");
+    let perm = permissions_in(given, "PERM")?;
+    let now = moment_in(given, clock)?;
+    Ok(Invocation::OnVolume {
+        volume,
+        job: Job::Chmod { path, perm, now },
+    })
+}
+
+/// Reads the words of `chown`.
+fn read_chown<'a, G: Given<'a>>(given: &G, clock: Option<u32>) -> Result<Invocation<'a>, Fault<'a>>
+    ensures read { IfOk result (AsksFor clock verbs.Chown (G.words given.now)) }
+    ensures refused { IfErr result (TellsOf (IsOneWrong clock (G.words given.now) (arguments_of verbs.Chown))) }
+{
+    let volume = volume_in(given)?;
+    let path = text_in(given, "PATH");
+    let uid = word_in(given, "UID")?;
+    let gid = word_in(given, "GID")?;
+    let now = moment_in(given, clock)?;
+    Ok(Invocation::OnVolume {
+        volume,
+        job: Job::Chown {
+            path,
+            uid,
+            gid,
+            now,
+        },
+    })
+}
+
+/// Reads the words of `salvage`.
+fn read_salvage<'a, G: Given<'a>>(given: &G) -> Result<Invocation<'a>, Fault<'a>>
+    ensures read { IfOk result (AsksFor None verbs.Salvage (G.words given.now)) }
+    ensures refused { IfErr result (TellsOf (IsOneWrong None (G.words given.now) (arguments_of verbs.Salvage))) }
+{
+    let volume = volume_in(given)?;
+    Ok(Invocation::OnVolume {
+        volume,
+        job: Job::Salvage,
+    })
+}
+
+/// Reads the words of a checker's command.
+fn read_check<'a, G: Given<'a>>(given: &G, checker: Checker) -> Result<Invocation<'a>, Fault<'a>>
+    ensures read { IfOk result (AsksFor None (checker_verb checker) (G.words given.now)) }
+    ensures refused { IfErr result (TellsOf (IsOneWrong None (G.words given.now) of_checker)) }
+{
+    let volume = volume_in(given)?;
+    let workers = threads_in(given, "WORKERS")?;
+    let work = Work::Check { checker, workers };
+    Ok(Invocation::OnThreads { volume, work })
+}
+
+/// Reads the words of `play`.
+fn read_play<'a, G: Given<'a>>(alloc: Global, given: &G) -> Result<Invocation<'a>, Fault<'a>>
+    ensures read { IfOk result (AsksFor None verbs.Play (G.words given.now)) }
+    ensures refused { IfErr result (TellsOf (IsOneWrong None (G.words given.now) (arguments_of verbs.Play))) }
+{
+    let volume = volume_in(given)?;
+    let scripts = scripts_in(alloc, given)?;
+    let work = Work::Play { scripts };
+    Ok(Invocation::OnThreads { volume, work })
+}
+
+/// The edition and the file of the volume that were given.
+fn volume_in<'a, G: Given<'a>>(given: &G) -> Result<VolumeFile<'a>, Fault<'a>>
+    ensures read { IfOk result (IsVolumeGiven (G.words given.now)) }
+    ensures refused { IfErr result (TellsOf (IsValue None kinds.Edition (G.words given.now (codes "EDITION")) → ⊥)) }
+{
+    let edition = edition_in(given)?;
+    let image = text_in(given, "IMAGE");
+    Ok(VolumeFile { edition, image })
+}

@@ -322,6 +322,18 @@ mkdir volumes
 prints none mkfs 6 volumes/a "${twenty[@]}"
 saves 'a new file' volumes/a made
 prints root cat 6 volumes/a 1
+
+# The moment as a date, and that of the clock where it is left out.
+prints none mkfs 6 volumes/dated 20 2 0 0 1975-05-05T05:59:01+01:30
+saves 'a volume that was made at a date' volumes/dated made
+begun=$(date +%s)
+prints none mkfs 6 volumes/dated 20 2 0 0
+ended=$(date +%s)
+read -r high low < <(od -An -tu2 -j 924 -N 4 volumes/dated)
+now=$((high * 65536 + low))
+has 'the moment of the clock' yes "$([ "$begun" -le "$now" ] && [ "$now" -le "$ended" ] && echo yes || echo no)"
+rm volumes/dated
+
 prints none mkfs 7 volumes/b 100 2 0 0 168496141
 has 'the size of a volume of the seventh edition' 51200 "$(wc -c < volumes/b)"
 put root 0 '02'
@@ -469,7 +481,7 @@ for number in 65536 +1 0x1 '' ' 1' one; do
     misread "error: invalid value '$number' for '<UID>'" mkfs 6 volumes/kept 20 2 "$number" 0 0
     misread "error: invalid value '$number' for '<GID>'" mkfs 6 volumes/kept 20 2 0 "$number" 0
 done
-misread 'error: the following required arguments were not provided' mkfs 6 volumes/kept 20 2 0 0
+misread 'error: the following required arguments were not provided' mkfs 6 volumes/kept 20 2 0
 misread 'error: unexpected argument' mkfs 6 volumes/kept 20 2 0 0 0 0
 saves 'a file whose command line was misread' volumes/kept hello
 
@@ -477,13 +489,13 @@ saves 'a file whose command line was misread' volumes/kept hello
 for command in 'ls /' 'get /a' 'put /a hello 1' 'rm /a 1' 'rmdir /a 1' 'mkdir /a 1' 'ln /a /b 1' 'chmod /a 644 1' 'chown /a 1 2 1'; do
     read -r -a given <<< "$command"
     misread "error: invalid value '8'" "${given[0]}" 8 volumes/a "${given[@]:1}"
-    misread 'error: the following required arguments were not provided' "${given[0]}" 6 volumes/a "${given[@]:2}"
+    misread 'error: the following required arguments were not provided' "${given[0]}" 6 volumes/a
     misread 'error: unexpected argument' "${given[0]}" 6 volumes/a "${given[@]:1}" 2
 done
 misread "error: invalid value '8'" salvage 8 volumes/a
 misread 'error: the following required arguments were not provided' salvage 6
 misread 'error: unexpected argument' salvage 6 volumes/a 2
-for number in 4294967296 +1 0x1 '' one; do
+for number in 4294967296 +1 0x1 '' one 2026-11-23 2026-11-23T12:00:00 2026-11-23T12:00:00.5Z 1969-12-31T23:59:59Z 2106-02-07T06:28:16Z; do
     misread "error: invalid value '$number' for '<NOW>'" put 6 volumes/a /a hello "$number"
     misread "error: invalid value '$number' for '<NOW>'" rm 6 volumes/a /a "$number"
     misread "error: invalid value '$number' for '<NOW>'" rmdir 6 volumes/a /a "$number"
@@ -928,7 +940,7 @@ cp other before
 echo 'unixvol: cannot write other' > line
 wants 'migrate where the new file finds no room' 3 none line
 saves 'a file in whose place the new volume found no room' other before
-misread 'error: the following required arguments were not provided' migrate old new 100 5
+misread 'error: the following required arguments were not provided' migrate old new 100
 misread 'error: unexpected argument' migrate 6 old new 100 5 1
 for number in 4294967296 +1 one ''; do
     misread "error: invalid value '$number' for '<FSIZE>'" migrate old new "$number" 5 1

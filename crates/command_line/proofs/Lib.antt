@@ -1,3 +1,4 @@
+pub mod FoundWords
 pub mod Listings
 pub mod Reading
 pub mod Shapes

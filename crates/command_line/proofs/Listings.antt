@@ -3,19 +3,21 @@ use Rattle.std.proofs.Common.{◌≡◌, ◌↔◌, ◌==◌, ◌∙◌, ℕ, tr
 use Rattle.std.specs.Borrow.{Bor}
 use Rattle.std.specs.Str.{bytes_eq}
 use Rattle.std.proofs.lemmas.Bool.{ne_eqb}
+use Rattle.std.proofs.lemmas.Slice.Eq.{bytes_eq-Decides}
 use Rattle.clap.proofs.OnLiterals.{clap_on_literals}
 use Rattle.clap.specs.Words.{Row}
-use Rattle.command_line.specs.CommandLine.{MetAsks, IsEditionNamed, IsGiven, command_name, given_by}
-use Rattle.command_line.specs.Laws.{IsListing, IsPlainWord, ReadsListing}
-use Rattle.command_line.specs.Words.{AreEditions, command_in, command_shape, edition_rule, faults_of, migrate_shape, named_shape, play_shape, program, unixvol_app, with_argument, with_command, word_rule, words_rule}
-use Rattle.command_line.specs.declared.Invocation.{Invocation}
-use Rattle.command_line.specs.declared.Invocation.TheVariants.{Cat, Mkfs, Migrate, OnVolume, OnThreads}
+use Rattle.command_words.specs.Asking.{IsEditionNamed, IsGiven, Words, the_word, verb_of}
+use Rattle.command_words.specs.Verbs.{verb_name}
+use Rattle.command_words.specs.declared.invocation.Invocation.{Invocation}
+use Rattle.command_words.specs.declared.invocation.Invocation.TheVariants.{Cat, Mkfs, Migrate, OnVolume, OnThreads}
+use Rattle.command_words.specs.declared.invocation.Work.TheVariants as works
 use Rattle.vol_commands.specs.declared.jobs.Job.TheVariants as jobs
 use Rattle.vol_check.specs.declared.checker.Checker.TheVariants as checkers
-use Rattle.command_line.specs.declared.Work.TheVariants as works
 use Rattle.vol_layout.specs.declared.edition.Edition.{Edition}
 use Rattle.vol_layout.specs.declared.edition.Edition.TheVariants.{V6, V7}
-use Rattle.command_line.proofs.Reading.{same}
+use Rattle.command_line.specs.CommandLine.{MetAsks, words_by}
+use Rattle.command_line.specs.Laws.{IsListing, IsPlainWord, ReadsListing}
+use Rattle.command_line.specs.Words.{AreEditions, argument_rule, command_in, faults_of, named_shape, need_rule, program, unixvol_app, verb_shape, with_argument, with_command}
 
 -- the word of an edition
 abbrev word_of : Edition → List ℕ
@@ -44,7 +46,7 @@ at_names P holds editions are = go editions.ref_ptr editions.now are
 -- the name of the command that was met, and the words for the arguments of `ls`
 abbrev seen : Option (List ℕ × List Row) → List (List ℕ)
 seen None = []
-seen (Some met) = met.0 ∷ given_by met.1 (codes "EDITION") ∷ given_by met.1 (codes "IMAGE") ∷ given_by met.1 (codes "PATH") ∷ []
+seen (Some met) = met.0 ∷ the_word (words_by met.1) (codes "EDITION") ∷ the_word (words_by met.1) (codes "IMAGE") ∷ the_word (words_by met.1) (codes "PATH") ∷ []
 
 -- the command line takes the words of `ls`, and has them for its arguments
 abbrev IsTaken : Bor (List (Bor (List ℕ))) → Edition → List ℕ → List ℕ → List ℕ → Type 0
@@ -54,7 +56,7 @@ IsTaken editions edition program image path =
 
 -- the command line takes the words of `ls` where the file and the path begin with no hyphen
 taken : (p q r : ℕ × ℕ) (edition : Edition) (name image path : List ℕ) → IsPlainWord image → IsPlainWord path → IsTaken (names_at p q r) edition name image path
-unfolding clap_on_literals faults_of command_in unixvol_app program with_command command_shape play_shape migrate_shape with_argument named_shape word_rule words_rule edition_rule
+unfolding clap_on_literals faults_of command_in unixvol_app program with_command verb_shape with_argument named_shape argument_rule need_rule
 taken p q r V6 name [] [] image path = (refl, refl)
 taken p q r V6 name (x ∷ xs) [] image path =
     let e : (x == 45) ≡ false = ne_eqb _ _ image in
@@ -78,6 +80,10 @@ taken p q r V7 name (x ∷ xs) (y ∷ ys) image path =
     let f : (y == 45) ≡ false = ne_eqb _ _ path in
     (rw (e, e, f, f) refl, rw (e, e, f, f) refl)
 
+-- texts that are the same pass the test for that
+same : (one other : List ℕ) → one ≡ other → bytes_eq one other ≡ true
+same one other is = (bytes_eq-Decides one other).1 is
+
 -- an edition is the one that its word names
 edition_is : (one other : Edition) → IsEditionNamed one (word_of other) → one ≡ other
 edition_is V6 V6 named = refl
@@ -91,34 +97,34 @@ word_is V6 word named = named
 word_is V7 word named = named
 
 -- what `ls` asks for, by the words for its arguments
-asks_listing : (given : List ℕ → List ℕ) (edition : Edition) (image path : List ℕ) (invocation : Invocation) → bytes_eq (codes "ls") (command_name invocation) ≡ true
-    → given (codes "EDITION") ≡ word_of edition → given (codes "IMAGE") ≡ image → given (codes "PATH") ≡ path → IsGiven given invocation → IsListing edition image path invocation
-asks_listing given edition image path (Cat volume ino) test e_is i_is p_is is = absurd (true≢false (sym test))
-asks_listing given edition image path (Mkfs i volume) test e_is i_is p_is is = absurd (true≢false (sym test))
-asks_listing given edition image path (Migrate old new migration) test e_is i_is p_is is = absurd (true≢false (sym test))
-asks_listing given edition image path (OnVolume volume (jobs.Ls directory)) test e_is i_is p_is is =
+asks_listing : (clock : Option ℕ) (given : Words) (edition : Edition) (image path : List ℕ) (invocation : Invocation) → bytes_eq (codes "ls") (verb_name (verb_of invocation)) ≡ true
+    → the_word given (codes "EDITION") ≡ word_of edition → the_word given (codes "IMAGE") ≡ image → the_word given (codes "PATH") ≡ path → IsGiven clock given invocation → IsListing edition image path invocation
+asks_listing clock given edition image path (Cat volume ino) test e_is i_is p_is is = absurd (true≢false (sym test))
+asks_listing clock given edition image path (Mkfs i volume) test e_is i_is p_is is = absurd (true≢false (sym test))
+asks_listing clock given edition image path (Migrate old new migration) test e_is i_is p_is is = absurd (true≢false (sym test))
+asks_listing clock given edition image path (OnVolume volume (jobs.Ls directory)) test e_is i_is p_is is =
     (edition_is volume.edition edition (subst (IsEditionNamed volume.edition) e_is is.0.0), is.0.1 ∙ i_is, is.1 ∙ p_is)
-asks_listing given edition image path (OnVolume volume (jobs.Get p)) test e_is i_is p_is is = absurd (true≢false (sym test))
-asks_listing given edition image path (OnVolume volume (jobs.Put p file now)) test e_is i_is p_is is = absurd (true≢false (sym test))
-asks_listing given edition image path (OnVolume volume (jobs.Rm p now)) test e_is i_is p_is is = absurd (true≢false (sym test))
-asks_listing given edition image path (OnVolume volume (jobs.Rmdir p now)) test e_is i_is p_is is = absurd (true≢false (sym test))
-asks_listing given edition image path (OnVolume volume (jobs.Mkdir p now)) test e_is i_is p_is is = absurd (true≢false (sym test))
-asks_listing given edition image path (OnVolume volume (jobs.Ln from to now)) test e_is i_is p_is is = absurd (true≢false (sym test))
-asks_listing given edition image path (OnVolume volume (jobs.Chmod p perm now)) test e_is i_is p_is is = absurd (true≢false (sym test))
-asks_listing given edition image path (OnVolume volume (jobs.Chown p uid gid now)) test e_is i_is p_is is = absurd (true≢false (sym test))
-asks_listing given edition image path (OnVolume volume jobs.Salvage) test e_is i_is p_is is = absurd (true≢false (sym test))
-asks_listing given edition image path (OnThreads volume (works.Check checkers.Blocks workers)) test e_is i_is p_is is = absurd (true≢false (sym test))
-asks_listing given edition image path (OnThreads volume (works.Check checkers.Entries workers)) test e_is i_is p_is is = absurd (true≢false (sym test))
-asks_listing given edition image path (OnThreads volume (works.Check checkers.Names workers)) test e_is i_is p_is is = absurd (true≢false (sym test))
-asks_listing given edition image path (OnThreads volume (works.Play scripts)) test e_is i_is p_is is = absurd (true≢false (sym test))
+asks_listing clock given edition image path (OnVolume volume (jobs.Get p)) test e_is i_is p_is is = absurd (true≢false (sym test))
+asks_listing clock given edition image path (OnVolume volume (jobs.Put p file now)) test e_is i_is p_is is = absurd (true≢false (sym test))
+asks_listing clock given edition image path (OnVolume volume (jobs.Rm p now)) test e_is i_is p_is is = absurd (true≢false (sym test))
+asks_listing clock given edition image path (OnVolume volume (jobs.Rmdir p now)) test e_is i_is p_is is = absurd (true≢false (sym test))
+asks_listing clock given edition image path (OnVolume volume (jobs.Mkdir p now)) test e_is i_is p_is is = absurd (true≢false (sym test))
+asks_listing clock given edition image path (OnVolume volume (jobs.Ln from to now)) test e_is i_is p_is is = absurd (true≢false (sym test))
+asks_listing clock given edition image path (OnVolume volume (jobs.Chmod p perm now)) test e_is i_is p_is is = absurd (true≢false (sym test))
+asks_listing clock given edition image path (OnVolume volume (jobs.Chown p uid gid now)) test e_is i_is p_is is = absurd (true≢false (sym test))
+asks_listing clock given edition image path (OnVolume volume jobs.Salvage) test e_is i_is p_is is = absurd (true≢false (sym test))
+asks_listing clock given edition image path (OnThreads volume (works.Check checkers.Blocks workers)) test e_is i_is p_is is = absurd (true≢false (sym test))
+asks_listing clock given edition image path (OnThreads volume (works.Check checkers.Entries workers)) test e_is i_is p_is is = absurd (true≢false (sym test))
+asks_listing clock given edition image path (OnThreads volume (works.Check checkers.Names workers)) test e_is i_is p_is is = absurd (true≢false (sym test))
+asks_listing clock given edition image path (OnThreads volume (works.Play scripts)) test e_is i_is p_is is = absurd (true≢false (sym test))
 
 -- what `ls` asks for, by the command that was met and the rows of its words
-listed : (met : Option (List ℕ × List Row)) (edition : Edition) (image path : List ℕ) (invocation : Invocation) → seen met ≡ codes "ls" ∷ word_of edition ∷ image ∷ path ∷ []
-    → MetAsks met invocation → IsListing edition image path invocation
-listed None edition image path invocation is asks = absurd asks
-listed (Some met) edition image path invocation is asks =
+listed : (clock : Option ℕ) (met : Option (List ℕ × List Row)) (edition : Edition) (image path : List ℕ) (invocation : Invocation) → seen met ≡ codes "ls" ∷ word_of edition ∷ image ∷ path ∷ []
+    → MetAsks clock met invocation → IsListing edition image path invocation
+listed clock None edition image path invocation is asks = absurd asks
+listed clock (Some met) edition image path invocation is asks =
     let name : met.0 ≡ codes "ls" = ap (λ (l : List (List ℕ)). slice_index_or l 0 []) is in
-    asks_listing (given_by met.1) edition image path invocation (same _ _ (sym name ∙ asks.0)) (ap (λ (l : List (List ℕ)). slice_index_or l 1 []) is)
+    asks_listing clock (words_by met.1) edition image path invocation (same _ _ (sym name ∙ asks.0)) (ap (λ (l : List (List ℕ)). slice_index_or l 1 []) is)
     (ap (λ (l : List (List ℕ)). slice_index_or l 2 []) is) (ap (λ (l : List (List ℕ)). slice_index_or l 3 []) is) asks.1
 
 -- an edition is named by its word
@@ -127,53 +133,52 @@ word_names V6 = refl
 word_names V7 = refl
 
 -- where the words of `ls` were met, they ask for that listing
-listing_asks : (met : Option (List ℕ × List Row)) (edition : Edition) (image path : List ℕ) (invocation : Invocation)
-    → seen met ≡ codes "ls" ∷ word_of edition ∷ image ∷ path ∷ [] → IsListing edition image path invocation → MetAsks met invocation
-listing_asks None edition image path invocation is listed = absurd (cc)
-listing_asks (Some met) edition image path (Cat volume ino) is listed = absurd listed
-listing_asks (Some met) edition image path (Mkfs i volume) is listed = absurd listed
-listing_asks (Some met) edition image path (Migrate old new migration) is listed = absurd listed
-listing_asks (Some met) edition image path (OnVolume volume (jobs.Ls directory)) is listed =
+listing_asks : (clock : Option ℕ) (met : Option (List ℕ × List Row)) (edition : Edition) (image path : List ℕ) (invocation : Invocation)
+    → seen met ≡ codes "ls" ∷ word_of edition ∷ image ∷ path ∷ [] → IsListing edition image path invocation → MetAsks clock met invocation
+listing_asks clock None edition image path invocation is listed = absurd (cc)
+listing_asks clock (Some met) edition image path (Cat volume ino) is listed = absurd listed
+listing_asks clock (Some met) edition image path (Mkfs i volume) is listed = absurd listed
+listing_asks clock (Some met) edition image path (Migrate old new migration) is listed = absurd listed
+listing_asks clock (Some met) edition image path (OnVolume volume (jobs.Ls directory)) is listed =
     let name : met.0 ≡ codes "ls" = ap (λ (l : List (List ℕ)). slice_index_or l 0 []) is in
-    let word : given_by met.1 (codes "EDITION") ≡ word_of edition = ap (λ (l : List (List ℕ)). slice_index_or l 1 []) is in
-    let file : given_by met.1 (codes "IMAGE") ≡ image = ap (λ (l : List (List ℕ)). slice_index_or l 2 []) is in
-    let end : given_by met.1 (codes "PATH") ≡ path = ap (λ (l : List (List ℕ)). slice_index_or l 3 []) is in (
+    let word : the_word (words_by met.1) (codes "EDITION") ≡ word_of edition = ap (λ (l : List (List ℕ)). slice_index_or l 1 []) is in
+    let file : the_word (words_by met.1) (codes "IMAGE") ≡ image = ap (λ (l : List (List ℕ)). slice_index_or l 2 []) is in
+    let end : the_word (words_by met.1) (codes "PATH") ≡ path = ap (λ (l : List (List ℕ)). slice_index_or l 3 []) is in (
       name,
       (
         (
-          subst (λ (e : Edition). IsEditionNamed e (given_by met.1 (codes "EDITION"))) (sym listed.0) (subst (IsEditionNamed edition) (sym word) (word_names edition)),
+          subst (λ (e : Edition). IsEditionNamed e (the_word (words_by met.1) (codes "EDITION"))) (sym listed.0) (subst (IsEditionNamed edition) (sym word) (word_names edition)),
           listed.1 ∙ sym file,
         ),
         listed.2 ∙ sym end,
       ),
-      tt,
     )
-listing_asks (Some met) edition image path (OnVolume volume (jobs.Get p)) is listed = absurd listed
-listing_asks (Some met) edition image path (OnVolume volume (jobs.Put p file now)) is listed = absurd listed
-listing_asks (Some met) edition image path (OnVolume volume (jobs.Rm p now)) is listed = absurd listed
-listing_asks (Some met) edition image path (OnVolume volume (jobs.Rmdir p now)) is listed = absurd listed
-listing_asks (Some met) edition image path (OnVolume volume (jobs.Mkdir p now)) is listed = absurd listed
-listing_asks (Some met) edition image path (OnVolume volume (jobs.Ln from to now)) is listed = absurd listed
-listing_asks (Some met) edition image path (OnVolume volume (jobs.Chmod p perm now)) is listed = absurd listed
-listing_asks (Some met) edition image path (OnVolume volume (jobs.Chown p uid gid now)) is listed = absurd listed
-listing_asks (Some met) edition image path (OnVolume volume jobs.Salvage) is listed = absurd listed
-listing_asks (Some met) edition image path (OnThreads v work) is listed = absurd listed
+listing_asks clock (Some met) edition image path (OnVolume volume (jobs.Get p)) is listed = absurd listed
+listing_asks clock (Some met) edition image path (OnVolume volume (jobs.Put p file now)) is listed = absurd listed
+listing_asks clock (Some met) edition image path (OnVolume volume (jobs.Rm p now)) is listed = absurd listed
+listing_asks clock (Some met) edition image path (OnVolume volume (jobs.Rmdir p now)) is listed = absurd listed
+listing_asks clock (Some met) edition image path (OnVolume volume (jobs.Mkdir p now)) is listed = absurd listed
+listing_asks clock (Some met) edition image path (OnVolume volume (jobs.Ln from to now)) is listed = absurd listed
+listing_asks clock (Some met) edition image path (OnVolume volume (jobs.Chmod p perm now)) is listed = absurd listed
+listing_asks clock (Some met) edition image path (OnVolume volume (jobs.Chown p uid gid now)) is listed = absurd listed
+listing_asks clock (Some met) edition image path (OnVolume volume jobs.Salvage) is listed = absurd listed
+listing_asks clock (Some met) edition image path (OnThreads v work) is listed = absurd listed
 
 -- the words of `ls` ask for a listing, where they have its edition's word
-abbrev AsksListing : Bor (List (Bor (List ℕ))) → Edition → List ℕ → List ℕ → List ℕ → List ℕ → Type 0
-AsksListing editions edition program image path word = (faults_of (unixvol_app editions) (program ∷ codes "ls" ∷ word ∷ image ∷ path ∷ []) ≡ [])
-    × ((invocation : Invocation) → MetAsks (command_in (unixvol_app editions) (program ∷ codes "ls" ∷ word ∷ image ∷ path ∷ [])) invocation
+abbrev AsksListing : Option ℕ → Bor (List (Bor (List ℕ))) → Edition → List ℕ → List ℕ → List ℕ → List ℕ → Type 0
+AsksListing clock editions edition program image path word = (faults_of (unixvol_app editions) (program ∷ codes "ls" ∷ word ∷ image ∷ path ∷ []) ≡ [])
+    × ((invocation : Invocation) → MetAsks clock (command_in (unixvol_app editions) (program ∷ codes "ls" ∷ word ∷ image ∷ path ∷ [])) invocation
     ↔ IsListing edition image path invocation)
 
-asks : (editions : Bor (List (Bor (List ℕ)))) (edition : Edition) (program image path : List ℕ) → IsTaken editions edition program image path
-    → AsksListing editions edition program image path (word_of edition)
-asks editions edition program image path t =
+asks : (clock : Option ℕ) (editions : Bor (List (Bor (List ℕ)))) (edition : Edition) (program image path : List ℕ) → IsTaken editions edition program image path
+    → AsksListing clock editions edition program image path (word_of edition)
+asks clock editions edition program image path t =
     let met = command_in (unixvol_app editions) (program ∷ codes "ls" ∷ word_of edition ∷ image ∷ path ∷ []) in
-    (t.0, λ invocation. (listed met edition image path invocation t.1, listing_asks met edition image path invocation t.1))
+    (t.0, λ invocation. (listed clock met edition image path invocation t.1, listing_asks clock met edition image path invocation t.1))
 
 -- what the words of `ls` ask for
 pub reads_listing : ReadsListing
-reads_listing editions are edition program word image path named plain_image plain_path =
-    subst (AsksListing editions edition program image path) (sym (word_is edition word named))
-    (asks editions edition program image path
+reads_listing clock editions are edition program word image path named plain_image plain_path =
+    subst (AsksListing clock editions edition program image path) (sym (word_is edition word named))
+    (asks clock editions edition program image path
     (at_names (λ e. IsTaken e edition program image path) (λ p q r. taken p q r edition program image path plain_image plain_path) editions are))

@@ -1,8 +1,12 @@
 -- What the steps add by which the command line is built.
-use Rattle.std.proofs.Common.{Bool, codes, fold, Option, Some, None, IsOkAnd, IsSomeAnd, ◌&&◌, not, is_some, IfOk, Result, Ok, Err, ◌≡◌, ◌∙◌, ℕ, true, false, List, ◌∷◌, ◌++◌, [], refl, ap, ap₂}
+use Rattle.std.proofs.Common.{Bool, codes, map, take, length, get_or, Option, Some, None, IsSomeAnd, ◌&&◌, not, is_some, ◌≡◌, ◌<◌, ◌+◌, ◌∙◌, ℕ, true, false, List, ◌∷◌, ◌++◌, [], refl, sym, ap, ap₂}
 use Rattle.std.specs.Borrow.{Bor}
+use Rattle.std.proofs.lemmas.Grind.{fold-append}
+use Rattle.std.proofs.lemmas.List.{map-append, take_more}
 use Rattle.clap.specs.Lexer.{usize_max}
 use Rattle.clap.specs.declared.builder.range.ValueRange.{ValueRange}
+use Rattle.clap.specs.declared.builder.value_parser.ValueParser.{ValueParser}
+use Rattle.clap.specs.declared.builder.value_parser.ValueParser.TheVariants as parsers
 use Rattle.clap.specs.Walk.{Rule, is_empty, is_simple_arg}
 use Rattle.clap.specs.Simple.{App, Shape, app_of_fields, shape_of_fields}
 use Rattle.clap.specs.Words.{AddsArg, AddsSubcommand, app_of, new_app, rule_of, shape_of, with_subcommand}
@@ -12,7 +16,14 @@ use Rattle.clap.specs.declared.builder.command.Command.TheViews.{out-Command}
 use Rattle.clap.specs.declared.builder.command.Command.TheOpen.{Command-F}
 use Rattle.clap.proofs.WalkLemmas.{both}
 use Rattle.clap.proofs.SimpleLemmas.{is_false, plain_fields}
-use Rattle.command_line.specs.Words.{app, changing, command_shape, migrate_shape, named_shape, play_shape, printing, program, rule, shape, unixvol_app, with_command, with_commands, word_rule, words_rule, edition_rule, with_argument}
+use Rattle.command_words.specs.Verbs.{Argument, argument_of, arguments_of, verb_name}
+use Rattle.command_words.specs.declared.parameters.Kind.{Kind}
+use Rattle.command_words.specs.declared.parameters.Kind.TheVariants as kinds
+use Rattle.command_words.specs.declared.parameters.Need.{Need}
+use Rattle.command_words.specs.declared.parameters.Need.TheVariants as needs
+use Rattle.command_words.specs.declared.parameters.Parameter.{Parameter}
+use Rattle.command_words.specs.declared.verbs.Verb.{Verb}
+use Rattle.command_line.specs.Words.{app, argument_rule, kind_rule, named_shape, need_rule, program, rule, shape, verb_shape, with_argument, with_arguments, with_command, with_commands}
 
 -- the last of ten tests that pass passes
 last : (a b c d e f g h i j : Bool) → (a && (b && (c && (d && (e && (f && (g && (h && (i && j))))))))) ≡ true → j ≡ true
@@ -40,44 +51,68 @@ adds_rule old new argument known added is simple =
     ap (λ (a : App). a.top) (added.shape (local argument simple_argument)) ∙ ap (λ (r : Rule). record (shape old) { rules = (shape old).rules ++ r ∷ [] }) is
 
 -- an argument for a word that has to be given, once it may have so many values
-ranged : (old : Arg) (range : Option ValueRange) (name : List ℕ) → rule old ≡ word_rule name
-    → IsSomeAnd range (λ r. r ≡ record { start_inclusive = 1; end_inclusive = usize_max }) → rule (record old { num_vals = range }) ≡ words_rule name
-unfolding rule word_rule words_rule
+ranged : (old : Arg) (range : Option ValueRange) (name : List ℕ) → rule old ≡ need_rule name needs.Once
+    → IsSomeAnd range (λ r. r ≡ record { start_inclusive = 1; end_inclusive = usize_max }) → rule (record old { num_vals = range }) ≡ need_rule name needs.Several
+unfolding rule need_rule
 ranged old None name before is = absurd is
 ranged old (Some range) name before is =
-    ap (λ (r : Rule). record r { range = Some range }) before ∙ ap (λ (r : ValueRange). record (word_rule name) { range = Some r }) is
+    ap (λ (r : Rule). record r { range = Some range }) before ∙ ap (λ (r : ValueRange). record (need_rule name needs.Once) { range = Some r }) is
 
 -- an argument for one word or more, out of one for a word that has to be given
-pub takes_words : (old new : Arg) (name : List ℕ) → rule old ≡ word_rule name → new ≡ record old { num_vals = new.num_vals }
-    → IsSomeAnd new.num_vals (λ r. r ≡ record { start_inclusive = 1; end_inclusive = usize_max }) → rule new ≡ words_rule name
+pub takes_words : (old new : Arg) (name : List ℕ) → rule old ≡ need_rule name needs.Once → new ≡ record old { num_vals = new.num_vals }
+    → IsSomeAnd new.num_vals (λ r. r ≡ record { start_inclusive = 1; end_inclusive = usize_max }) → rule new ≡ need_rule name needs.Several
 takes_words old new name before same is = ap rule same ∙ ranged old new.num_vals name before is
 
--- one more word that has to be given
-pub adds_word : (old new : Command) (argument : Arg) (name : List ℕ) (before : Shape) → AddsArg old argument new → rule argument ≡ word_rule name
-    → shape old ≡ before → shape new ≡ with_argument before (word_rule name)
-unfolding rule word_rule
-adds_word old new argument name before added is known =
-    adds_rule old new argument (word_rule name) added is refl ∙ ap (λ (s : Shape). with_argument s (word_rule name)) known
+-- an argument whose words are the names of editions
+pub takes_editions : (old new : Arg) (editions : Bor (List (Bor (List ℕ)))) (before : Rule) → rule old ≡ before → new ≡ record old { value_parser = new.value_parser }
+    → new.value_parser ≡ Some (parsers.Names editions) → rule new ≡ record before { parser = Some (parsers.Names editions) }
+unfolding rule
+takes_editions old new editions before was same is =
+    ap rule same
+    ∙ (ap (λ (r : Rule). record r { parser = new.value_parser }) was
+    ∙ ap (λ (p : Option ValueParser). record before { parser = p }) is)
 
--- one more argument, which is the edition
-adds_edition : (old new : Command) (argument : Arg) (editions : Bor (List (Bor (List ℕ)))) (before : Shape) → AddsArg old argument new
-    → rule argument ≡ edition_rule editions → shape old ≡ before → shape new ≡ with_argument before (edition_rule editions)
-unfolding rule edition_rule
-adds_edition old new argument editions before added is known =
-    adds_rule old new argument (edition_rule editions) added is refl ∙ ap (λ (s : Shape). with_argument s (edition_rule editions)) known
+-- what words have to be that are no edition's changes nothing of an argument
+pub other_kinds : (editions : Bor (List (Bor (List ℕ)))) (kind : Kind) (before : Rule) → (kind ≡ kinds.Edition → ⊥) → before ≡ kind_rule editions kind before
+other_kinds editions kinds.Edition before other = absurd (other refl)
+other_kinds editions _ before other = refl
 
--- one more word, where the memory for it was there
-pub adds_last : {E : Type 0} (result : Result Command E) (old : Command) (argument : Arg) (name : List ℕ) (before : Shape) → IfOk result (AddsArg old argument)
-    → rule argument ≡ word_rule name → shape old ≡ before → IfOk result (λ new. shape new ≡ with_argument before (word_rule name))
-adds_last (Ok new) old argument name before added is known = adds_word old new argument name before added is known
-adds_last (Err e) old argument name before added is known = tt
+-- an argument for so many words changes nothing of how words are read
+need_simple : (name : List ℕ) (need : Need) → (need_rule name need).is_simple ≡ true
+unfolding need_rule
+need_simple name needs.Once = refl
+need_simple name needs.Maybe = refl
+need_simple name needs.Several = refl
 
--- the edition as the first argument, where the memory for it was there
-pub adds_edition_last : {E : Type 0} (result : Result Command E) (old : Command) (argument : Arg) (editions : Bor (List (Bor (List ℕ)))) (before : Shape)
-    → IfOk result (AddsArg old argument) → rule argument ≡ edition_rule editions → shape old ≡ before
-    → IfOk result (λ new. shape new ≡ with_argument before (edition_rule editions))
-adds_edition_last (Ok new) old argument editions before added is known = adds_edition old new argument editions before added is known
-adds_edition_last (Err e) old argument editions before added is known = tt
+-- nor does what its words have to be
+kind_simple : (editions : Bor (List (Bor (List ℕ)))) (kind : Kind) (argument : Rule) → (kind_rule editions kind argument).is_simple ≡ argument.is_simple
+kind_simple editions kinds.Edition argument = refl
+kind_simple editions _ argument = refl
+
+argument_simple : (editions : Bor (List (Bor (List ℕ)))) (argument : Argument) → (argument_rule editions argument).is_simple ≡ true
+unfolding argument_rule
+argument_simple editions argument = kind_simple editions argument.1 (need_rule argument.0 argument.2) ∙ need_simple argument.0 argument.2
+
+-- one more of the arguments that a command takes
+more_arguments : (editions : Bor (List (Bor (List ℕ)))) (begun : Shape) (parameters : List Parameter) (i : ℕ) (other : Parameter) → i < length parameters
+    → with_arguments editions begun (map argument_of (take (i + 1) parameters))
+    ≡ with_argument (with_arguments editions begun (map argument_of (take i parameters))) (argument_rule editions (argument_of (get_or parameters i other)))
+more_arguments editions begun parameters i other inside =
+    let step = λ (command : Shape) (argument : Argument). with_argument command (argument_rule editions argument) in
+    ap (λ (ps : List Parameter). with_arguments editions begun (map argument_of ps)) (take_more parameters i other inside)
+    ∙ (ap (with_arguments editions begun) (map-append argument_of (take i parameters) (get_or parameters i other ∷ []))
+    ∙ fold-append step begun (map argument_of (take i parameters)) (argument_of (get_or parameters i other) ∷ []))
+
+pub adds_argument : (old new : Command) (argument : Arg) (editions : Bor (List (Bor (List ℕ)))) (begun : Shape) (parameters : List Parameter) (i : ℕ) (other : Parameter)
+    → i < length parameters → AddsArg old argument new → rule argument ≡ argument_rule editions (argument_of (get_or parameters i other))
+    → shape old ≡ with_arguments editions begun (map argument_of (take i parameters))
+    → shape new ≡ with_arguments editions begun (map argument_of (take (i + 1) parameters))
+unfolding rule
+adds_argument old new argument editions begun parameters i other inside added known was =
+    let parameter = get_or parameters i other in
+    adds_rule old new argument (argument_rule editions (argument_of parameter)) added known (argument_simple editions (argument_of parameter))
+    ∙ (ap (λ (s : Shape). with_argument s (argument_rule editions (argument_of parameter))) was
+    ∙ sym (more_arguments editions begun parameters i other inside))
 
 -- a command with its texts, and no argument
 pub starts : (new texts more : Command) (about after_help : Bor (List ℕ)) (name : List ℕ) → app_of new ≡ new_app name
@@ -90,24 +125,16 @@ starts new texts more about after_help name is texts_are more_are = ap shape_of_
 no_globals : (command : Command) → (shape_of command).is_plain ≡ true → (out-Command command).has_globals ≡ false
 no_globals command plain = (plain_fields command plain).globals
 
--- a command of a name and its words changes nothing of how words are read
-words_plain : (before : Shape) (arguments : List (List ℕ)) → before.is_plain ≡ true
-    → (fold (λ (s : Shape) argument. with_argument s (word_rule argument)) before arguments).is_plain ≡ true
+-- a command with arguments changes nothing of how words are read
+arguments_plain : (editions : Bor (List (Bor (List ℕ)))) (before : Shape) (arguments : List Argument) → before.is_plain ≡ true
+    → (with_arguments editions before arguments).is_plain ≡ true
 unfolding with_argument
-words_plain before [] plain = plain
-words_plain before (argument ∷ rest) plain = words_plain (with_argument before (word_rule argument)) rest plain
+arguments_plain editions before [] plain = plain
+arguments_plain editions before (argument ∷ rest) plain = arguments_plain editions (with_argument before (argument_rule editions argument)) rest plain
 
-command_plain : (editions : Bor (List (Bor (List ℕ)))) (name : List ℕ) (arguments : List (List ℕ)) → (command_shape editions name arguments).is_plain ≡ true
-unfolding command_shape with_argument named_shape
-command_plain editions name arguments = words_plain (with_argument (named_shape name) (edition_rule editions)) arguments refl
-
-play_plain : (editions : Bor (List (Bor (List ℕ)))) → (play_shape editions).is_plain ≡ true
-unfolding play_shape with_argument
-play_plain editions = command_plain editions (codes "play") (codes "IMAGE" ∷ [])
-
-migrate_plain : migrate_shape.is_plain ≡ true
-unfolding migrate_shape with_argument named_shape
-migrate_plain = words_plain (named_shape (codes "migrate")) (codes "OLD" ∷ codes "NEW" ∷ codes "FSIZE" ∷ codes "IBLOCKS" ∷ codes "NOW" ∷ []) refl
+verb_plain : (editions : Bor (List (Bor (List ℕ)))) (verb : Verb) → (verb_shape editions verb).is_plain ≡ true
+unfolding verb_shape named_shape
+verb_plain editions verb = arguments_plain editions (named_shape (verb_name verb)) (arguments_of verb) refl
 
 -- one more command
 adds_command : (old command new : Command) (before : App) (known : Shape) → AddsSubcommand old command new → shape command ≡ known → known.is_plain ≡ true
@@ -116,21 +143,20 @@ unfolding shape app with_command
 adds_command old command new before known added is plain was =
     added.shape (no_globals command (ap (λ (s : Shape). s.is_plain) is ∙ plain)) ∙ ap₂ with_subcommand was is
 
--- one more command, which was made with the memory for it
-pub adds_made : {E : Type 0} (old new : Command) (one : Result Command E) (before : App) (editions : Bor (List (Bor (List ℕ)))) (name : List ℕ)
-    (arguments : List (List ℕ)) → IsOkAnd one (λ made. AddsSubcommand old made new) → IfOk one (λ made. shape made ≡ command_shape editions name arguments)
-    → app old ≡ before → app new ≡ with_command before (command_shape editions name arguments)
-adds_made old new (Ok made) before editions name arguments added is was =
-    adds_command old made new before (command_shape editions name arguments) added is (command_plain editions name arguments) was
-adds_made old new (Err e) before editions name arguments added is was = absurd added
+-- one more of the commands of the program
+more_commands : (editions : Bor (List (Bor (List ℕ)))) (begun : App) (verbs : List Verb) (i : ℕ) (other : Verb) → i < length verbs
+    → with_commands editions begun (take (i + 1) verbs) ≡ with_command (with_commands editions begun (take i verbs)) (verb_shape editions (get_or verbs i other))
+more_commands editions begun verbs i other inside =
+    let step = λ (old : App) (v : Verb). with_command old (verb_shape editions v) in
+    ap (with_commands editions begun) (take_more verbs i other inside) ∙ fold-append step begun (take i verbs) (get_or verbs i other ∷ [])
 
--- one more command, where the memory for making it and for adding it was there
-pub adds_last_made : {E : Type 0} (result : Result Command E) (old : Command) (one : Result Command E) (before : App) (editions : Bor (List (Bor (List ℕ))))
-    (name : List ℕ) (arguments : List (List ℕ)) → IfOk result (λ new. IsOkAnd one (λ made. AddsSubcommand old made new))
-    → IfOk one (λ made. shape made ≡ command_shape editions name arguments) → app old ≡ before
-    → IfOk result (λ new. app new ≡ with_command before (command_shape editions name arguments))
-adds_last_made (Ok new) old one before editions name arguments added is was = adds_made old new one before editions name arguments added is was
-adds_last_made (Err e) old one before editions name arguments added is was = tt
+pub adds_verb : (old command new : Command) (editions : Bor (List (Bor (List ℕ)))) (begun : App) (verbs : List Verb) (i : ℕ) (other : Verb) → i < length verbs
+    → AddsSubcommand old command new → shape command ≡ verb_shape editions (get_or verbs i other) → app old ≡ with_commands editions begun (take i verbs)
+    → app new ≡ with_commands editions begun (take (i + 1) verbs)
+adds_verb old command new editions begun verbs i other inside added known was =
+    let verb = get_or verbs i other in
+    adds_command old command new (with_commands editions begun (take i verbs)) (verb_shape editions verb) added known (verb_plain editions verb) was
+    ∙ sym (more_commands editions begun verbs i other inside)
 
 -- the program with its texts, and no command
 pub starts_program : (new versioned about more asking whole : Command) (version about_text after_help : Bor (List ℕ)) → app_of new ≡ new_app (codes "unixvol")
@@ -148,29 +174,3 @@ starts_program new versioned about more asking whole version about_text after_he
     ∙ (ap (λ (f : Command-F Command). app_of_fields (record f { subcommand_required = true; arg_required_else_help = true })) about_is
     ∙ (ap (λ (f : Command-F Command). app_of_fields (record f { subcommand_required = true; arg_required_else_help = true })) version_is
     ∙ ap (λ (a : App). record a { top = record a.top { has_version = true; subcommand_required = true; arg_required_else_help = true } }) is))))
-
--- the scripts of `play` as its last words, where the memory was there
-pub adds_scripts : {E : Type 0} (result : Result Command E) (old : Command) (argument : Arg) (editions : Bor (List (Bor (List ℕ)))) → IfOk result (AddsArg old argument)
-    → rule argument ≡ words_rule (codes "SCRIPT") → shape old ≡ command_shape editions (codes "play") (codes "IMAGE" ∷ [])
-    → IfOk result (λ new. shape new ≡ play_shape editions)
-unfolding rule words_rule play_shape
-adds_scripts (Ok new) old argument editions added is known =
-    adds_rule old new argument (words_rule (codes "SCRIPT")) added is refl ∙ ap (λ (s : Shape). with_argument s (words_rule (codes "SCRIPT"))) known
-adds_scripts (Err e) old argument editions added is known = tt
-
--- `play` as one more command, which was made with the memory for it
-pub adds_play : {E : Type 0} (old new : Command) (one : Result Command E) (before : App) (editions : Bor (List (Bor (List ℕ))))
-    → IsOkAnd one (λ made. AddsSubcommand old made new) → IfOk one (λ made. shape made ≡ play_shape editions) → app old ≡ before
-    → app new ≡ with_command before (play_shape editions)
-adds_play old new (Ok made) before editions added is was = adds_command old made new before (play_shape editions) added is (play_plain editions) was
-adds_play old new (Err e) before editions added is was = absurd added
-
--- a program with its other commands has `migrate` after them, where the memory for it was there
-pub ends_migrating : {E : Type 0} (result : Result Command E) (old : Command) (one : Result Command E) (editions : Bor (List (Bor (List ℕ))))
-    → IfOk result (λ new. IsOkAnd one (λ made. AddsSubcommand old made new)) → IfOk one (λ made. shape made ≡ migrate_shape)
-    → app old ≡ with_command (with_commands editions (with_commands editions program printing) changing) (play_shape editions)
-    → IfOk result (λ new. app new ≡ unixvol_app editions)
-unfolding unixvol_app
-ends_migrating (Ok new) old (Ok made) editions added is was = adds_command old made new _ migrate_shape added is migrate_plain was
-ends_migrating (Ok new) old (Err e) editions added is was = absurd added
-ends_migrating (Err e) old one editions added is was = tt

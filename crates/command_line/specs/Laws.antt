@@ -1,10 +1,11 @@
 -- What the words of `ls` ask for.
-use Rattle.std.specs.Prelude.{◌≡◌, ◌≢◌, ◌↔◌, ◌∷◌, ℕ, List, [], slice_index, codes}
+use Rattle.std.specs.Prelude.{◌≡◌, ◌≢◌, ◌↔◌, ◌∷◌, ℕ, List, [], Option, slice_index, codes}
 use Rattle.std.specs.Borrow.{Bor}
-use Rattle.command_line.specs.CommandLine.{MetAsks, IsEditionNamed}
+use Rattle.command_words.specs.Asking.{IsEditionNamed}
+use Rattle.command_words.specs.declared.invocation.Invocation.{Invocation}
+use Rattle.command_words.specs.declared.invocation.Invocation.TheVariants.{OnVolume}
+use Rattle.command_line.specs.CommandLine.{MetAsks}
 use Rattle.command_line.specs.Words.{AreEditions, command_in, faults_of, unixvol_app}
-use Rattle.command_line.specs.declared.Invocation.{Invocation}
-use Rattle.command_line.specs.declared.Invocation.TheVariants.{OnVolume}
 use Rattle.vol_commands.specs.declared.jobs.Job.TheVariants as jobs
 use Rattle.vol_layout.specs.declared.edition.Edition.{Edition}
 
@@ -18,10 +19,10 @@ IsListing edition image path (OnVolume volume (jobs.Ls directory)) =
     (volume.edition ≡ edition) × (volume.image.now ≡ image) × (directory.now ≡ path)
 IsListing edition image path _ = ⊥
 
--- clap takes `ls`, an edition and two words without a hyphen at their beginning, and they ask for that listing and nothing else (this project)
+-- whatever the clock tells, clap takes `ls`, an edition and two words without a hyphen at their beginning, and they ask for that listing and nothing else (this project)
 abbrev pub ReadsListing : Type 0
-ReadsListing = (editions : Bor (List (Bor (List ℕ)))) → AreEditions editions → (edition : Edition) (program word image path : List ℕ)
+ReadsListing = (clock : Option ℕ) (editions : Bor (List (Bor (List ℕ)))) → AreEditions editions → (edition : Edition) (program word image path : List ℕ)
     → IsEditionNamed edition word → IsPlainWord image → IsPlainWord path
     → (faults_of (unixvol_app editions) (program ∷ codes "ls" ∷ word ∷ image ∷ path ∷ []) ≡ [])
-    × ((invocation : Invocation) → MetAsks (command_in (unixvol_app editions) (program ∷ codes "ls" ∷ word ∷ image ∷ path ∷ [])) invocation
+    × ((invocation : Invocation) → MetAsks clock (command_in (unixvol_app editions) (program ∷ codes "ls" ∷ word ∷ image ∷ path ∷ [])) invocation
     ↔ IsListing edition image path invocation)

@@ -1,92 +1,42 @@
-//! The words of the command line.
+//! The words of the command line, read by clap.
 #![tactic(auto)]
 
-ghost use Rattle.std.specs.Prelude.{◌≡◌, None, IfOk, IfErr, IfSome, IsOkAnd, map, string_bytes};
-ghost use Rattle.clap.specs.Words.{AddsSubcommand, subcommand_rows_of};
-ghost use Rattle.command_line.specs.CommandLine.{MetAsks, AsksFor, AsksNothing, IsNoCommand, IsNoValue, IsRead, IsRefused, TellsOf, given_in, scripts_in};
-ghost use Rattle.command_line.specs.Words.{app, changing, printing, unixvol_app, with_commands};
+ghost use Rattle.std.specs.Prelude.{◌≡◌, None, Option, ℕ, IfOk, IfErr, IfSome, map, string_bytes};
+ghost use Rattle.clap.specs.Words.{kind_of, subcommand_rows_of};
+ghost use Rattle.clap.specs.declared.error.kind.ErrorKind.TheVariants as clap_kinds;
+ghost use Rattle.command_words.specs.Asking.{IsWrong, NameAsksFor};
+ghost use Rattle.command_words.specs.Verbs.{IsNoCommand};
+ghost use Rattle.command_line.specs.CommandLine.{AsksNothing, IsNoValue, IsRead, IsRefused, MetAsks, TellsOf, words_of};
 
 use clap::error::ErrorKind;
-use clap::{ArgMatches, Command, Error};
+use clap::{ArgMatches, Error};
+use command_words::{Fault, Said, Verb, WrongWord, reading};
 use std::alloc::{AllocError, Global};
-use vol_check::Checker;
-use vol_commands::{Job, Migration};
-use vol_layout::Edition;
-use vol_volume::NewVolume;
 
-mod cat;
-pub mod decimal;
+mod building;
+mod found;
 pub mod laws;
-mod migrate;
-mod mkfs;
-pub mod octal;
-mod texts;
-mod threads;
-mod volumes;
-mod words;
 
-use words::{EDITIONS, Verb};
+use building::Builder;
+pub use command_words::{Invocation, VolumeFile, Work};
+use found::Found;
 
-/// A volume in a file.
-#[derive(Clone, Copy, Debug, PartialEq, Eq)]
-pub struct VolumeFile<'a> {
-    /// The edition of Unix.
-    pub edition: Edition,
-    /// The file.
-    pub image: &'a str,
-}
-
-/// What several threads do with a volume.
-#[derive(Debug, PartialEq, Eq, Drop)]
-pub enum Work<'a> {
-    /// Print what a checker finds, by so many threads, 1 to 64.
-    Check { checker: Checker, workers: usize },
-    /// Play the scripts in these files, 1 to 64, each by a thread of its own.
-    Play { scripts: Vec<&'a str> },
-}
-
-/// What the user asks for.
-#[derive(Debug, PartialEq, Eq, Drop)]
-pub enum Invocation<'a> {
-    /// Print the body of i-node `ino` of the volume in a file.
-    Cat {
-        volume: VolumeFile<'a>,
-        ino: u16,
-    },
-    /// Make a volume in the file `image`.
-    Mkfs {
-        image: &'a str,
-        volume: NewVolume,
-    },
-    /// Make a volume of the seventh edition in the file `new`, out of the one of the sixth in the file `old`.
-    Migrate {
-        old: &'a str,
-        new: &'a str,
-        migration: Migration,
-    },
-    /// Do something with the volume in a file.
-    OnVolume {
-        volume: VolumeFile<'a>,
-        job: Job<'a>,
-    },
-    /// Do something with the volume in a file, by several threads.
-    OnThreads {
-        volume: VolumeFile<'a>,
-        work: Work<'a>,
-    },
-}
-
-/// Reads the words of the command line, of which the first is the program's own name. The error is
-/// clap's, with its text, its stream and its status: of the kind `ValueValidation` where a word is no value of its
-/// argument, `MissingSubcommand` where there is no command, `OutOfMemory` where an allocation was refused, and else
-/// what clap itself tells of the words.
-pub fn read<'a>(alloc: Global, words: &'a [String]) -> Result<Invocation<'a>, Error>
-    ensures read { IfOk result (IsRead (map string_bytes words.entry.now)) }
-    ensures refused { IfErr result (IsRefused (map string_bytes words.entry.now)) }
+/// Reads the words of the command line, of which the first is the program's own name. `clock` is the moment of the
+/// program's clock, in seconds since the beginning of 1970, if it tells one; a command whose moment was left out means
+/// it. The error is clap's, with its text, its stream and its status: of the kind `ValueValidation` where a word is no
+/// value of its argument or no moment is given or told, `MissingSubcommand` where there is no command, `OutOfMemory`
+/// where an allocation was refused, and else what clap itself tells of the words.
+pub fn read<'a>(
+    alloc: Global,
+    clock: Option<u32>,
+    words: &'a [String],
+) -> Result<Invocation<'a>, Error>
+    ensures read { IfOk result (IsRead clock (map string_bytes words.entry.now)) }
+    ensures refused { IfErr result (IsRefused clock (map string_bytes words.entry.now)) }
 {
-    let mut command = command_line(alloc, EDITIONS.as_slice())?;
+    let mut command = Builder::new(alloc).command_line()?;
     let matches = command.try_get_matches_from_mut(words)?;
-    match read_matches(alloc, &matches)? {
+    match read_matches(alloc, clock, &matches)? {
         Some(invocation) => Ok(invocation),
         None => Err(command.error(ErrorKind::MissingSubcommand, "a command is missing")?),
     }
@@ -95,14 +45,15 @@ pub fn read<'a>(alloc: Global, words: &'a [String]) -> Result<Invocation<'a>, Er
 /// Reads what a parse found. `None` where it met no command.
 fn read_matches<'a>(
     alloc: Global,
+    clock: Option<u32>,
     matches: &ArgMatches<'a>,
 ) -> Result<Option<Invocation<'a>>, Error>
-    ensures read { IfOk result (λ found. IfSome found (MetAsks (subcommand_rows_of matches.now))) }
-    ensures missing { IfOk result (λ found. found ≡ None → AsksNothing (subcommand_rows_of matches.now)) }
-    ensures refused { IfErr result (TellsOf (AsksNothing (subcommand_rows_of matches.now))) }
+    ensures read { IfOk result (λ found. IfSome found (MetAsks clock (subcommand_rows_of matches.now))) }
+    ensures missing { IfOk result (λ found. found ≡ None → AsksNothing clock (subcommand_rows_of matches.now)) }
+    ensures refused { IfErr result (TellsOf (AsksNothing clock (subcommand_rows_of matches.now))) }
 {
     match matches.subcommand() {
-        Some((name, values)) => read_command(alloc, name, values),
+        Some((name, values)) => read_command(alloc, clock, name, values),
         None => Ok(None),
     }
 }
@@ -110,98 +61,54 @@ fn read_matches<'a>(
 /// Reads the words after a command. `None` where there is no command of that name.
 fn read_command<'a>(
     alloc: Global,
+    clock: Option<u32>,
     name: &str,
     values: &ArgMatches<'a>,
 ) -> Result<Option<Invocation<'a>>, Error>
-    ensures read { IfOk result (λ found. IfSome found (AsksFor name.now (given_in values.now) (scripts_in values.now))) }
-    ensures refused { IfErr result (TellsOf (IsNoValue name.now (given_in values.now) (scripts_in values.now))) }
+    ensures read { IfOk result (λ found. IfSome found (NameAsksFor clock name.now (words_of values.now))) }
+    ensures refused { IfErr result (TellsOf (IsNoValue clock name.now (words_of values.now))) }
     ensures missing { IfOk result (λ found. found ≡ None → IsNoCommand name.now) }
 {
     let Some(verb) = Verb::of(name) else {
         return Ok(None);
     };
-    let invocation = match verb {
-        Verb::Cat => cat::read(alloc, values)?,
-        Verb::Ls => volumes::read_ls(alloc, values)?,
-        Verb::Get => volumes::read_get(alloc, values)?,
-        Verb::Icheck => threads::read_check(alloc, values, Checker::Blocks)?,
-        Verb::Dcheck => threads::read_check(alloc, values, Checker::Entries)?,
-        Verb::Ncheck => threads::read_check(alloc, values, Checker::Names)?,
-        Verb::Mkfs => mkfs::read(alloc, values)?,
-        Verb::Put => volumes::read_put(alloc, values)?,
-        Verb::Rm => volumes::read_rm(alloc, values)?,
-        Verb::Rmdir => volumes::read_rmdir(alloc, values)?,
-        Verb::Mkdir => volumes::read_mkdir(alloc, values)?,
-        Verb::Ln => volumes::read_ln(alloc, values)?,
-        Verb::Chmod => volumes::read_chmod(alloc, values)?,
-        Verb::Chown => volumes::read_chown(alloc, values)?,
-        Verb::Salvage => volumes::read_salvage(alloc, values)?,
-        Verb::Play => threads::read_play(alloc, values)?,
-        Verb::Migrate => migrate::read(alloc, values)?,
-    };
-    Ok(Some(invocation))
+    let found = Found { values };
+    match reading::read(alloc, verb, &found, clock) {
+        Ok(invocation) => Ok(Some(invocation)),
+        Err(fault) => Err(told(alloc, verb, fault)?),
+    }
 }
 
-/// The whole command line.
-fn command_line<'a>(alloc: Global, editions: &'a [&'a str]) -> Result<Command<'a>, AllocError>
-    ensures { IfOk result (λ command. app command ≡ unixvol_app editions.entry) }
+/// The error that tells of a fault, in the words of the help.
+fn told(alloc: Global, verb: Verb, fault: Fault<'_>) -> Result<Error, AllocError>
+    ensures kind { IfOk result (λ error. kind_of error ≡ clap_kinds.ValueValidation) }
+    ensures wrong { IfOk result (λ _. IsWrong fault.entry) }
 {
-    let command = Command::new(alloc, "unixvol")
-        .version("0.1.0")
-        .about(texts::ABOUT)
-        .after_help(texts::STATUSES)
-        .subcommand_required(true)
-        .arg_required_else_help(true);
-    let command = with_prints(alloc, editions, command)?;
-    let command = with_changes(alloc, editions, command)?;
-    let command = with_one_more(command, threads::play_command(alloc, editions))?;
-    with_one_more(command, migrate::command(alloc))
+    match fault {
+        Fault::NoMemory => Err(AllocError),
+        Fault::Wrong(word) => wrong_word(alloc, verb, word),
+    }
 }
 
-/// Adds the commands that print something of a volume to the command line.
-fn with_prints<'a>(
-    alloc: Global,
-    editions: &'a [&'a str],
-    command: Command<'a>,
-) -> Result<Command<'a>, AllocError>
-    ensures { IfOk result (λ more. app more ≡ with_commands editions.entry (app command.entry) printing) }
+/// The error of a word that is no value of its argument.
+fn wrong_word(alloc: Global, verb: Verb, word: WrongWord<'_>) -> Result<Error, AllocError>
+    ensures { IfOk result (λ error. kind_of error ≡ clap_kinds.ValueValidation) }
 {
-    let command = with_one_more(command, cat::command(alloc, editions))?;
-    let command = with_one_more(command, volumes::ls_command(alloc, editions))?;
-    let command = with_one_more(command, volumes::get_command(alloc, editions))?;
-    let icheck = threads::check_command(alloc, editions, Checker::Blocks);
-    let command = with_one_more(command, icheck)?;
-    let dcheck = threads::check_command(alloc, editions, Checker::Entries);
-    let command = with_one_more(command, dcheck)?;
-    let ncheck = threads::check_command(alloc, editions, Checker::Names);
-    with_one_more(command, ncheck)
+    let whole_name = format!(in alloc; "unixvol {}", verb.name())?;
+    let mut command = Builder::new(alloc)
+        .command(verb)?
+        .bin_name(whole_name.as_str())?;
+    let text = wrong_text(alloc, word)?;
+    command.error(ErrorKind::ValueValidation, text.as_str())
 }
 
-/// Adds the commands that make or change a volume to the command line.
-fn with_changes<'a>(
-    alloc: Global,
-    editions: &'a [&'a str],
-    command: Command<'a>,
-) -> Result<Command<'a>, AllocError>
-    ensures { IfOk result (λ more. app more ≡ with_commands editions.entry (app command.entry) changing) }
-{
-    let command = with_one_more(command, mkfs::command(alloc, editions))?;
-    let command = with_one_more(command, volumes::put_command(alloc, editions))?;
-    let command = with_one_more(command, volumes::rm_command(alloc, editions))?;
-    let command = with_one_more(command, volumes::rmdir_command(alloc, editions))?;
-    let command = with_one_more(command, volumes::mkdir_command(alloc, editions))?;
-    let command = with_one_more(command, volumes::ln_command(alloc, editions))?;
-    let command = with_one_more(command, volumes::chmod_command(alloc, editions))?;
-    let command = with_one_more(command, volumes::chown_command(alloc, editions))?;
-    with_one_more(command, volumes::salvage_command(alloc, editions))
-}
-
-/// Adds one more command to the command line, where the memory for making it was there.
-fn with_one_more<'a>(
-    command: Command<'a>,
-    one: Result<Command<'a>, AllocError>,
-) -> Result<Command<'a>, AllocError>
-    ensures { IfOk result (λ more. IsOkAnd one.entry (λ made. AddsSubcommand command.entry made more)) }
-{
-    command.subcommand(one?)
+/// What the error says of a word that is no value.
+fn wrong_text(alloc: Global, word: WrongWord<'_>) -> Result<String, AllocError> {
+    let name = word.name;
+    let wanted = word.wanted;
+    match word.said {
+        Said::Nothing => format!(in alloc; "no value for '<{name}>': {wanted}"),
+        Said::Word(text) => format!(in alloc; "invalid value '{text}' for '<{name}>': {wanted}"),
+        Said::Words(count) => format!(in alloc; "invalid value '{count}' for '<{name}>': {wanted}"),
+    }
 }

@@ -324,7 +324,8 @@ Each line of a script is NOW UID GID, and then one of these, with single spaces 
   create PATH PERM        mkdir PATH PERM        link FROM TO          unlink PATH        rmdir PATH
   write PATH OFFSET HEX   truncate PATH LENGTH   chmod PATH PERM       chown PATH UID GID
   stat PATH               read PATH OFFSET LEN   list PATH             cut
-PERM is octal; HEX has two hexadecimal digits for each byte, or is `-` for none.
+PERM is octal; HEX has two hexadecimal digits for each byte, or is `-` for none. A script whose first line is `view`
+reads without waiting for the others: its other lines are stat, read or list. There may be 16 of them.
 
 The scripts share the volume: which of two lines of different scripts comes first is left open, but each call is made
 whole. All scripts are read before the first call. Then a line is printed for each of theirs, by script and line:
@@ -338,7 +339,7 @@ Status:
   1  a line was refused; or `unixvol: unsound, rule N`: the volume breaks this rule, and none before it
   2  `unixvol: script S line L`: this line can't be read, and nothing was played; or the command line can't be
   3  `unixvol: cannot read FILE`, `unixvol: cannot write IMAGE`, or `unixvol: cannot write -`: standard output failed
-  4  `unixvol: 12 NoMemory`, or memory ran out for a line";
+  4  `unixvol: 12 NoMemory`, or memory ran out for a line, or a view's line was not answered (`NotEntered`)";
 
 pub const SCRIPT: &str = "The files that hold the scripts, 1 to 64";
 

@@ -1,22 +1,23 @@
 -- What was read of the words, by what it asks for.
-use Rattle.std.proofs.Common.{◌≡◌, ℕ, List, Result, Ok, Err, IfOk, sym, subst}
+use Rattle.std.proofs.Common.{◌≡◌, ℕ, List, Option, Result, Ok, Err, IfOk, sym, subst}
 use Rattle.clap.specs.Words.{kind_of}
 use Rattle.clap.specs.declared.error.Error.{Error}
-use Rattle.command_line.specs.CommandLine.{IsRead, IsWorkable}
-use Rattle.command_line.specs.declared.Invocation.{Invocation}
-use Rattle.command_line.specs.declared.Invocation.TheVariants.{OnThreads}
-use Rattle.command_line.specs.declared.VolumeFile.{VolumeFile}
-use Rattle.command_line.specs.declared.Work.{Work}
+use Rattle.command_line.specs.CommandLine.{IsRead}
+use Rattle.command_words.specs.Asking.{IsWorkable}
+use Rattle.command_words.specs.declared.invocation.Invocation.{Invocation}
+use Rattle.command_words.specs.declared.invocation.Invocation.TheVariants.{OnThreads}
+use Rattle.command_words.specs.declared.invocation.VolumeFile.{VolumeFile}
+use Rattle.command_words.specs.declared.invocation.Work.{Work}
 use Rattle.command_line.proofs.Reading.{workable}
 use Rattle.vol_commands.specs.Jobs.{Streams}
 use Rattle.unixvol.specs.Running.{HostFiles, RunsRead, Tells}
 
 -- what was read of some words asks several threads only for what they can do
-pub asked : {E : Type 0} (result : Result Invocation E) (words : List (List ℕ)) (volume : VolumeFile) (work : Work) → IfOk result (IsRead words)
+pub asked : {E : Type 0} (clock : Option ℕ) (result : Result Invocation E) (words : List (List ℕ)) (volume : VolumeFile) (work : Work) → IfOk result (IsRead clock words)
     → result ≡ Ok (OnThreads volume work) → IsWorkable work
-asked (Ok invocation) words volume work read is =
-    let same : invocation ≡ OnThreads volume work = cc in workable words volume work (subst (λ (i : Invocation). IsRead words i) same read)
-asked (Err e) words volume work read is = absurd (cc)
+asked clock (Ok invocation) words volume work read is =
+    let same : invocation ≡ OnThreads volume work = cc in workable clock words volume work (subst (λ (i : Invocation). IsRead clock words i) same read)
+asked clock (Err e) words volume work read is = absurd (cc)
 
 -- what is told of words that are refused is what runs of them
 pub refusal_runs : (streams : Streams) (files : HostFiles) (status : ℕ) (read : Result Invocation Error) (error : Error) → read ≡ Err error

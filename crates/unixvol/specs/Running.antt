@@ -21,10 +21,10 @@ use Rattle.vol_play.specs.Playing.{PlaysVolume}
 use Rattle.vol_commands.specs.declared.answer.Answer.{Answer}
 use Rattle.vol_commands.specs.declared.cat.CatFault.{CatFault}
 use Rattle.vol_commands.specs.declared.cat.CatFault.TheVariants.{Device, NoMemory, Writer}
-use Rattle.command_line.specs.declared.Invocation.{Invocation}
-use Rattle.command_line.specs.declared.Invocation.TheVariants as invocations
-use Rattle.command_line.specs.declared.Work.{Work}
-use Rattle.command_line.specs.declared.Work.TheVariants as works
+use Rattle.command_words.specs.declared.invocation.Invocation.{Invocation}
+use Rattle.command_words.specs.declared.invocation.Invocation.TheVariants as invocations
+use Rattle.command_words.specs.declared.invocation.Work.{Work}
+use Rattle.command_words.specs.declared.invocation.Work.TheVariants as works
 use Rattle.vol_check.specs.declared.checker.Checker.{Checker}
 use Rattle.vol_commands.specs.declared.jobs.Job.{Job}
 use Rattle.vol_commands.specs.declared.jobs.Job.TheVariants as jobs

@@ -13,6 +13,8 @@ use command_line::Invocation;
 use std::env::{self, Env};
 use std::io;
 use std::process::ExitCode;
+use std::rt::Clock;
+use std::time::{SystemTime, UNIX_EPOCH};
 
 /// Reads the words of the command line, and goes on in one of two functions: only what several threads do may wait.
 fn main(rt: HostRuntime) -> ExitCode {
@@ -20,7 +22,7 @@ fn main(rt: HostRuntime) -> ExitCode {
         Ok(words) => words,
         Err(error) => return ExitCode::from(explaining::explain_words(&rt, &error)),
     };
-    match command_line::read(rt.alloc(), words.as_slice()) {
+    match command_line::read(rt.alloc(), moment(&rt), words.as_slice()) {
         Ok(Invocation::OnThreads { volume, work }) => {
             threads::run_to_end(&rt, rt.stdout(), rt.stderr(), volume, work)
         }
@@ -31,4 +33,12 @@ fn main(rt: HostRuntime) -> ExitCode {
 /// The words of the command line, of which the first is the program's own name.
 fn words<R: Env + AllocGlobal>(rt: &R) -> io::Result<Vec<String>> {
     Ok(env::args(rt)?.collect(rt.alloc())?)
+}
+
+/// The moment of the clock, in seconds since the beginning of 1970. `None` where the clock can't be read, or tells a moment
+/// before 1970 or after 2106.
+fn moment<R: Clock>(rt: &R) -> Option<u32> {
+    let now = SystemTime::now(rt).ok()?;
+    let since = now.duration_since(UNIX_EPOCH).ok()?;
+    u32::try_from(since.as_secs()).ok()
 }

@@ -1,7 +1,7 @@
 //! The commands of the program that several threads do. What is promised of them is promised if they return.
 ghost use Rattle.std.specs.Prelude.{◌≡◌, ◌⊎◌, ◌≤◌, length};
 ghost use Rattle.std.specs.Process.{exit_status};
-ghost use Rattle.command_line.specs.CommandLine.{IsWorkable};
+ghost use Rattle.command_words.specs.Asking.{IsWorkable};
 ghost use Rattle.vol_commands.specs.Faults.{Gets};
 ghost use Rattle.unixvol.specs.Running.{EndsWork, RunsCheck, RunsPlay, RunsWork, WorksToEnd, host_files};
 

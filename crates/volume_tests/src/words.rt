@@ -83,6 +83,35 @@ static WORKERS: [(&str, usize); 3] = [("1", 1), ("064", 64), ("7", 7)];
 
 static MIGRATE: [&str; 6] = ["migrate", "6", "disk", "4294967295", "65535", "07"];
 
+/// The words before a moment.
+static RM: [&str; 4] = ["rm", "7", "disk", "/f"];
+
+/// The word for a moment, if there is one, what the clock tells, and the moment that is meant.
+type Meant = (Option<&'static str>, Option<u32>, u32);
+
+static MOMENTS: [Meant; 9] = [
+    (Some("2026-11-23T12:00:00Z"), None, 1_795_435_200),
+    (Some("2026-11-23T13:30:00+01:30"), Some(7), 1_795_435_200),
+    (Some("2026-11-23 12:00:00.000Z"), None, 1_795_435_200),
+    (Some("1970-01-01T00:00:00Z"), Some(7), 0),
+    (Some("2106-02-07T06:28:15Z"), None, 4_294_967_295),
+    (Some("12"), Some(7), 12),
+    (Some("12"), None, 12),
+    (None, Some(7), 7),
+    (None, Some(0), 0),
+];
+
+/// Words that are no moments.
+static NO_MOMENTS: [&str; 7] = [
+    "2026-11-23",
+    "2026-11-23T12:00:00",
+    "2026-11-23T12:00:00.5Z",
+    "1969-12-31T23:59:59Z",
+    "2106-02-07T06:28:16Z",
+    "now",
+    "",
+];
+
 static MKFS: [&str; 8] = ["mkfs", "7", "disk", "65536", "65535", "1", "02", "3"];
 
 /// The words of a command line.
@@ -95,12 +124,35 @@ fn words(alloc: Global, rest: &[&str]) -> Result<Vec<String>, AllocError> {
     Ok(words)
 }
 
-/// What is read of the words of a command line.
+/// What is read of the words of a command line, where the clock tells nothing.
 fn check(rt: &impl Abort, alloc: Global, rest: &[&str], wanted: Invocation<'_>) {
+    check_at(rt, alloc, None, rest, wanted);
+}
+
+/// What is read of the words of a command line, where the clock tells this.
+fn check_at(
+    rt: &impl Abort,
+    alloc: Global,
+    clock: Option<u32>,
+    rest: &[&str],
+    wanted: Invocation<'_>,
+) {
     let words = words(alloc, rest).expect(rt, "memory for the words");
-    match read(alloc, words.as_slice()) {
+    match read(alloc, clock, words.as_slice()) {
         Ok(invocation) => assert_eq!(rt; invocation, wanted),
         Err(_) => panic!(rt; "the words are read"),
+    }
+}
+
+/// The words of a command line are refused, where the clock tells this, and the error has these words.
+fn refuse_at(rt: &impl Abort, alloc: Global, clock: Option<u32>, rest: &[&str], told: &str) {
+    let words = words(alloc, rest).expect(rt, "memory for the words");
+    match read(alloc, clock, words.as_slice()) {
+        Ok(_) => panic!(rt; "the words are refused"),
+        Err(error) => {
+            let text = format!(in alloc; "{error}").expect(rt, "memory for the text");
+            assert!(rt; text.as_str().contains(told));
+        }
     }
 }
 
@@ -178,6 +230,48 @@ fn words_of_migrate_are_read(rt: HostRuntime) {
         migration,
     };
     check(&rt, rt.alloc(), &MIGRATE, wanted);
+}
+
+/// The words of `rm` with one for the moment, if there is one.
+fn with_moment(rt: &impl Abort, alloc: Global, moment: Option<&'static str>) -> Vec<&'static str> {
+    let mut all = Vec::from_slice(alloc, &RM).expect(rt, "memory for the words");
+    if let Some(word) = moment {
+        all.push(word).expect(rt, "memory for a word");
+    }
+    all
+}
+
+#[test]
+fn moments_are_read(rt: HostRuntime) {
+    let alloc = rt.alloc();
+    for &(moment, clock, now) in &MOMENTS {
+        let wanted = Invocation::OnVolume {
+            volume: VOLUME,
+            job: Job::Rm { path: "/f", now },
+        };
+        check_at(&rt, alloc, clock, &with_moment(&rt, alloc, moment), wanted);
+    }
+}
+
+#[test]
+fn other_words_are_no_moments(rt: HostRuntime) {
+    let alloc = rt.alloc();
+    for &word in &NO_MOMENTS {
+        let rest = with_moment(&rt, alloc, Some(word));
+        refuse_at(
+            &rt,
+            alloc,
+            Some(7),
+            &rest,
+            "for '<NOW>': not a number from 0",
+        );
+    }
+}
+
+#[test]
+fn a_moment_is_given_or_told(rt: HostRuntime) {
+    let told = "no value for '<NOW>': the clock tells no moment from 1970 to 2106";
+    refuse_at(&rt, rt.alloc(), None, &RM, told);
 }
 
 #[test]

@@ -1,9 +1,0 @@
-use Rattle.command_line.specs.Words.{command_shape}
-use Rattle.command_line.proofs.Shapes.{adds_last}
-use Rattle.command_line.proofs.volumes.get_command.Goals as goal
-
-pub returns : goal.returns
-unfolding command_shape
-returns c =
-    adds_last _ _ _ _ _ c.arg.ensures c.required.ensures
-    c.in_ok-on_volume.ensures

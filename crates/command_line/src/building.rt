@@ -1,0 +1,121 @@
+//! The command line, built from the table of commands.
+ghost use Rattle.std.specs.Prelude.{◌≡◌, IfOk};
+ghost use Rattle.command_words.specs.Verbs.{argument_of, verb_name};
+ghost use Rattle.command_words.specs.declared.parameters.Need.TheVariants as needs;
+ghost use Rattle.command_line.specs.Words.{AreEditions, app, argument_rule, named_shape, need_rule, program, rule, shape, unixvol_app, verb_shape};
+
+use clap::{Arg, Command};
+use command_words::parameters::EDITIONS;
+use command_words::{Kind, Need, Parameter, VERBS, Verb, texts};
+use std::alloc::{AllocError, Global};
+
+/// What the command line is built with.
+#[derive(Clone, Copy)]
+pub(crate) struct Builder<'a> {
+    /// The allocator.
+    pub alloc: Global,
+    /// The editions' names on the command line.
+    pub editions: &'a [&'a str],
+}
+
+impl<'a> Builder<'a> {
+    /// A builder that knows the editions' names.
+    pub(crate) fn new(alloc: Global) -> Builder<'a>
+        ensures { AreEditions result.editions }
+    {
+        Builder {
+            alloc,
+            editions: EDITIONS.as_slice(),
+        }
+    }
+
+    /// The whole command line.
+    pub(crate) fn command_line(self) -> Result<Command<'a>, AllocError>
+        ensures { IfOk result (λ command. app command ≡ unixvol_app self.entry.editions) }
+    {
+        let mut whole = bare(self.alloc);
+        for verb in &VERBS {
+            whole = whole.subcommand(self.command(*verb)?)?;
+        }
+        Ok(whole)
+    }
+
+    /// A command with its texts and its arguments.
+    pub(crate) fn command(self, verb: Verb) -> Result<Command<'a>, AllocError>
+        ensures { IfOk result (λ command. shape command ≡ verb_shape self.entry.editions verb) }
+    {
+        let parameters = verb.parameters();
+        let mut command = named(self.alloc, verb);
+        for parameter in parameters {
+            command = command.arg(self.argument(*parameter))?;
+        }
+        Ok(command)
+    }
+
+    /// An argument of a command.
+    fn argument(self, parameter: Parameter) -> Arg<'a>
+        ensures { rule result ≡ argument_rule self.entry.editions (argument_of parameter) }
+    {
+        let argument = needed(self.alloc, parameter.name, parameter.help, parameter.need);
+        match parameter.kind {
+            Kind::Edition => argument.value_parser(self.editions),
+            _ => argument,
+        }
+    }
+}
+
+/// The program with its texts, and no command.
+fn bare<'a>(alloc: Global) -> Command<'a>
+    ensures { app result ≡ program }
+{
+    Command::new(alloc, "unixvol")
+        .version("0.1.0")
+        .about(texts::ABOUT)
+        .after_help(texts::STATUSES)
+        .subcommand_required(true)
+        .arg_required_else_help(true)
+}
+
+/// A command with its texts, which takes no words yet.
+fn named<'a>(alloc: Global, verb: Verb) -> Command<'a>
+    ensures { shape result ≡ named_shape (verb_name verb) }
+{
+    let name: &'a str = verb.name();
+    let about: &'a str = verb.about();
+    let more: &'a str = verb.more();
+    Command::new(alloc, name).about(about).after_help(more)
+}
+
+/// An argument of this name for so many words.
+fn needed<'a>(alloc: Global, name: &'a str, help: &'a str, need: Need) -> Arg<'a>
+    ensures { rule result ≡ need_rule name.entry.now need }
+{
+    match need {
+        Need::Once => required(alloc, name, help),
+        Need::Maybe => optional(alloc, name, help),
+        Need::Several => several(alloc, name, help),
+    }
+}
+
+/// An argument for a word that is required.
+#[tactic(auto, unfolding(crate::specs::Words::rule, crate::specs::Words::need_rule))]
+fn required<'a>(alloc: Global, name: &'a str, help: &'a str) -> Arg<'a>
+    ensures { rule result ≡ need_rule name.entry.now needs.Once }
+{
+    Arg::new(alloc, name).required(true).help(help)
+}
+
+/// An argument for a word that may be left out.
+#[tactic(auto, unfolding(crate::specs::Words::rule, crate::specs::Words::need_rule))]
+fn optional<'a>(alloc: Global, name: &'a str, help: &'a str) -> Arg<'a>
+    ensures { rule result ≡ need_rule name.entry.now needs.Maybe }
+{
+    Arg::new(alloc, name).help(help)
+}
+
+/// An argument for one word or more.
+fn several<'a>(alloc: Global, name: &'a str, help: &'a str) -> Arg<'a>
+    ensures { rule result ≡ need_rule name.entry.now needs.Several }
+{
+    required(alloc, name, help).num_args(1..)
+}

@@ -1,0 +1,28 @@
+//! The words that a parse found.
+ghost use Rattle.command_line.specs.CommandLine.{words_of};
+
+use clap::ArgMatches;
+use command_words::Given;
+use std::alloc::{AllocError, Global};
+
+/// What a parse found of the words after a command.
+#[derive(Drop)]
+pub(crate) struct Found<'m, 'a> {
+    /// What clap holds of them.
+    pub values: &'m ArgMatches<'a>,
+}
+
+impl<'m, 'a> Given<'a> for Found<'m, 'a> {
+    ghost words = { λ found name. words_of found.values.now name };
+
+    fn first(&self, name: &str) -> Option<&'a str> {
+        self.values.get_str(name)
+    }
+
+    fn all(&self, alloc: Global, name: &str) -> Result<Vec<&'a str>, AllocError> {
+        match self.values.get_strs(name) {
+            Some(words) => Vec::from_slice(alloc, words),
+            None => Ok(Vec::new(alloc)),
+        }
+    }
+}

@@ -1,43 +1,60 @@
 // Worked volumes, each with what is found of its rules.
-use crate::fixtures::{Made, SEVENTH, SIXTH, image_of};
+use crate::fixtures::{Asked, Made, SEVENTH, SIXTH, image_of};
 use std::alloc::{AllocError, Global};
 use std::process::Abort;
-use vol_findings::{Outcomes, check_rules};
+use vol_findings::{Outcome, Outcomes, check_rules};
 
-/// Images, and what is found of rules 1 to 9, each on a line.
-static ROWS: [(Made, &str); 15] = [
+/// What is found of a rule that doesn't hold, by its number.
+type Found = (usize, &'static str);
+
+/// A directory in the root: i-number 32, in block 5; the root is in block 4.
+const DIRECTORY: Made = Made {
+    calls: &[Asked::Mkdir(b"/d")],
+    ..SIXTH
+};
+
+/// That all rules from one on aren't asked.
+const NOT_ASKED: [Found; 11] = [
+    (2, "not asked"),
+    (3, "not asked"),
+    (4, "not asked"),
+    (5, "not asked"),
+    (6, "not asked"),
+    (7, "not asked"),
+    (8, "not asked"),
+    (9, "not asked"),
+    (10, "not asked"),
+    (11, "not asked"),
+    (12, "not asked"),
+];
+
+/// Images, and what is found of the rules that don't hold.
+static ROWS: [(Made, &[Found]); 21] = [
     // New volumes, of the sixth edition and of the seventh.
-    (
-        Made { ..SIXTH },
-        "holds\nholds\nholds\nholds\nholds\nholds\nholds\nholds\nholds\n",
-    ),
-    (
-        Made { ..SEVENTH },
-        "holds\nholds\nholds\nholds\nholds\nholds\nholds\nholds\nholds\n",
-    ),
-    // Fewer blocks than the super-block says.
-    (
-        Made {
-            pieces: &[(514, &[21, 0])],
-            ..SIXTH
-        },
-        "the image is too short\nnot asked\nnot asked\nnot asked\nnot asked\nnot asked\nnot asked\nnot asked\nnot asked\n",
-    ),
-    // No i-list.
-    (
-        Made {
-            pieces: &[(512, &[0, 0])],
-            ..SIXTH
-        },
-        "holds\nthe sizes are no volume's\nnot asked\nnot asked\nnot asked\nnot asked\nnot asked\nnot asked\nnot asked\n",
-    ),
-    // An i-node of no kind.
+    (Made { ..SIXTH }, &[]),
+    (Made { ..SEVENTH }, &[]),
+    // An i-node of no kind, which no entry is for.
     (
         Made {
             pieces: &[(1152, &[0, 0xF0])],
             ..SEVENTH
         },
-        "holds\nholds\nan odd mode: i-node 3\nholds\nholds\nholds\nholds\nholds\nholds\n",
+        &[
+            (3, "an odd mode: i-node 3"),
+            (12, "a wrong link count: i-node 3, entries 0, links 0"),
+        ],
+    ),
+    // A root that is a regular file.
+    (
+        Made {
+            pieces: &[(1025, &[0x81])],
+            ..SIXTH
+        },
+        &[
+            (3, "the root is no directory"),
+            (10, "no . for itself: directory 1"),
+            (12, "a wrong link count: i-node 1, entries 0, links 2"),
+        ],
     ),
     // A size of more than eight blocks in a small file.
     (
@@ -45,7 +62,7 @@ static ROWS: [(Made, &str); 15] = [
             pieces: &[(1030, &[0x10, 0x10])],
             ..SIXTH
         },
-        "holds\nholds\nholds\ntoo large: i-node 1\nholds\nholds\nholds\nholds\nholds\n",
+        &[(4, "too large: i-node 1")],
     ),
     // The root names a number past the volume's end; what is used twice isn't asked.
     (
@@ -53,7 +70,7 @@ static ROWS: [(Made, &str); 15] = [
             pieces: &[(1034, &[99, 0])],
             ..SIXTH
         },
-        "holds\nholds\nholds\nholds\nno data block: i-node 1, number 99\nholds\nnot asked\nholds\nholds\n",
+        &[(5, "no data block: i-node 1, number 99"), (7, "not asked")],
     ),
     // The free list meets a block twice; what is lost isn't asked.
     (
@@ -61,7 +78,7 @@ static ROWS: [(Made, &str); 15] = [
             pieces: &[(544, &[6, 0])],
             ..SIXTH
         },
-        "holds\nholds\nholds\nholds\nholds\nfree repeat: 6\nholds\nnot asked\nholds\n",
+        &[(6, "free repeat: 6"), (8, "not asked")],
     ),
     // The root names its block twice.
     (
@@ -69,7 +86,7 @@ static ROWS: [(Made, &str); 15] = [
             pieces: &[(1034, &[4, 0])],
             ..SIXTH
         },
-        "holds\nholds\nholds\nholds\nholds\nholds\nnamed twice: i-node 1, block 4\nholds\nholds\n",
+        &[(7, "named twice: i-node 1, block 4")],
     ),
     // The root names a free block.
     (
@@ -77,7 +94,7 @@ static ROWS: [(Made, &str); 15] = [
             pieces: &[(1034, &[5, 0])],
             ..SIXTH
         },
-        "holds\nholds\nholds\nholds\nholds\nholds\nnamed and free: block 5\nholds\nholds\n",
+        &[(7, "named and free: block 5")],
     ),
     // The free list is one block shorter.
     (
@@ -85,15 +102,15 @@ static ROWS: [(Made, &str); 15] = [
             pieces: &[(516, &[15, 0])],
             ..SIXTH
         },
-        "holds\nholds\nholds\nholds\nholds\nholds\nholds\nneither named nor free: block 5\nholds\n",
+        &[(8, "neither named nor free: block 5")],
     ),
-    // The root's size is no whole number of slots.
+    // The root's size is no whole number of slots; its entries `.` and `..` aren't asked.
     (
         Made {
             pieces: &[(1030, &[33, 0])],
             ..SIXTH
         },
-        "holds\nholds\nholds\nholds\nholds\nholds\nholds\nholds\npart of a slot: directory 1\n",
+        &[(9, "part of a slot: directory 1"), (10, "not asked")],
     ),
     // An entry for an i-number past the last, one for a free i-node, and a name that comes twice.
     (
@@ -101,27 +118,120 @@ static ROWS: [(Made, &str); 15] = [
             pieces: &[(2048, &[40, 0])],
             ..SIXTH
         },
-        "holds\nholds\nholds\nholds\nholds\nholds\nholds\nholds\nno i-number of the volume: directory 1, slot 0\n",
+        &[
+            (9, "no i-number of the volume: directory 1, slot 0"),
+            (10, "not asked"),
+            (12, "a wrong link count: i-node 1, entries 1, links 2"),
+        ],
     ),
     (
         Made {
             pieces: &[(2064, &[2, 0])],
             ..SIXTH
         },
-        "holds\nholds\nholds\nholds\nholds\nholds\nholds\nholds\na free i-node: directory 1, slot 1\n",
+        &[
+            (9, "a free i-node: directory 1, slot 1"),
+            (10, "not asked"),
+            (12, "a wrong link count: i-node 1, entries 1, links 2"),
+        ],
     ),
     (
         Made {
             pieces: &[(2067, &[0])],
             ..SIXTH
         },
-        "holds\nholds\nholds\nholds\nholds\nholds\nholds\nholds\na name that comes before: directory 1, slot 1\n",
+        &[
+            (9, "a name that comes before: directory 1, slot 1"),
+            (10, "not asked"),
+        ],
+    ),
+    // The root's entry `..` leads to the directory in it.
+    (
+        Made {
+            pieces: &[(2064, &[32, 0])],
+            ..DIRECTORY
+        },
+        &[
+            (10, "no .. for its parent: directory 1"),
+            (12, "a wrong link count: i-node 1, entries 2, links 3"),
+        ],
+    ),
+    // The entry `..` of a directory leads to itself.
+    (
+        Made {
+            pieces: &[(2576, &[32, 0])],
+            ..DIRECTORY
+        },
+        &[
+            (10, "no .. for its parent: directory 32"),
+            (12, "a wrong link count: i-node 1, entries 2, links 3"),
+        ],
+    ),
+    // The entry `.` of a directory has another name, which is one more for the directory.
+    (
+        Made {
+            pieces: &[(2562, b"x")],
+            ..DIRECTORY
+        },
+        &[
+            (10, "no . for itself: directory 32"),
+            (11, "a second entry for a directory: directory 32, slot 0"),
+        ],
+    ),
+    // The entry of a file is for the root.
+    (
+        Made {
+            calls: &[Asked::Create(b"/a")],
+            pieces: &[(2080, &[1, 0])],
+            ..SIXTH
+        },
+        &[
+            (11, "an entry for the root: directory 1, slot 2"),
+            (12, "a wrong link count: i-node 1, entries 3, links 2"),
+        ],
+    ),
+    // No entry is for a directory.
+    (
+        Made {
+            pieces: &[(2080, &[0, 0])],
+            ..DIRECTORY
+        },
+        &[
+            (10, "no .. for its parent: directory 32"),
+            (11, "not reached from the root: directory 32"),
+            (12, "a wrong link count: i-node 32, entries 1, links 2"),
+        ],
+    ),
+    // Two directories, each with an entry for the other, which it names by `..`.
+    (
+        Made {
+            calls: &[Asked::Mkdir(b"/d"), Asked::Mkdir(b"/d/e")],
+            pieces: &[
+                (1990, &[48, 0]),
+                (2080, &[0, 0]),
+                (2576, &[31, 0]),
+                (3104, &[32, 0, b'd']),
+            ],
+            ..SIXTH
+        },
+        &[
+            (11, "not reached from the root: directory 31"),
+            (12, "a wrong link count: i-node 1, entries 2, links 3"),
+        ],
+    ),
+    // The root says that it has five links.
+    (
+        Made {
+            pieces: &[(1090, &[5, 0])],
+            ..SEVENTH
+        },
+        &[(12, "a wrong link count: i-node 2, entries 2, links 5")],
     ),
 ];
 
-/// What is found of each rule, on a line.
-fn push_outcomes(text: &mut String, found: &Outcomes) -> Result<(), AllocError> {
-    let all = [
+/// What is found of the twelve rules.
+fn outcomes_of(found: &Outcomes) -> [Outcome; 12] {
+    [
         found.whole,
         found.bounded,
         found.kinds,
@@ -131,26 +241,68 @@ fn push_outcomes(text: &mut String, found: &Outcomes) -> Result<(), AllocError> 
         found.apart,
         found.covered,
         found.entries,
-    ];
-    for outcome in all {
+        found.dots,
+        found.tree,
+        found.links,
+    ]
+}
+
+/// What is found of each rule, on a line.
+fn push_outcomes(text: &mut String, found: &Outcomes) -> Result<(), AllocError> {
+    for outcome in outcomes_of(found) {
         write!(text, "{outcome}\n")?;
     }
     Ok(())
 }
 
-/// What is found of a row's image is as the row says.
-fn check_row(rt: &impl Abort, alloc: Global, row: &(Made, &str)) {
-    let (made, wanted) = row;
+/// What is wanted of each rule, on a line.
+fn push_wanted(text: &mut String, wanted: &[Found]) -> Result<(), AllocError> {
+    for rule in 1..=12 {
+        let named = wanted.iter().find(|found| found.0 == rule);
+        let outcome = match named {
+            Some((_, outcome)) => *outcome,
+            None => "holds",
+        };
+        write!(text, "{outcome}\n")?;
+    }
+    Ok(())
+}
+
+/// What is found of an image is as it is wanted.
+fn check_row(rt: &impl Abort, alloc: Global, made: &Made, wanted: &[Found]) {
     let image = image_of(rt, alloc, made);
     let found = check_rules(alloc, made.edition, &image).expect(rt, "memory for the check");
-    let mut text = String::new(alloc);
+    let (mut text, mut all) = (String::new(alloc), String::new(alloc));
     push_outcomes(&mut text, &found).expect(rt, "memory for the text");
-    assert_eq!(rt; text.as_str(), *wanted);
+    push_wanted(&mut all, wanted).expect(rt, "memory for the text");
+    assert_eq!(rt; text.as_str(), all.as_str());
 }
 
 #[test]
 fn finds_what_breaks_each_rule(rt: HostRuntime) {
-    for row in &ROWS {
-        check_row(&rt, rt.alloc(), row);
+    for (made, wanted) in &ROWS {
+        check_row(&rt, rt.alloc(), made, wanted);
     }
+}
+
+#[test]
+fn asks_nothing_without_sizes(rt: HostRuntime) {
+    let alloc = rt.alloc();
+    let mut wanted = vec![in alloc; (1, "holds"); 12].expect(&rt, "memory for outcomes");
+    wanted[1..].copy_from_slice(&NOT_ASKED);
+    // Fewer blocks than the super-block says.
+    let short = Made {
+        pieces: &[(514, &[21, 0])],
+        ..SIXTH
+    };
+    wanted[0] = (1, "the image is too short");
+    check_row(&rt, alloc, &short, &wanted);
+    // No i-list.
+    let unlisted = Made {
+        pieces: &[(512, &[0, 0])],
+        ..SIXTH
+    };
+    wanted[0] = (1, "holds");
+    wanted[1] = (2, "the sizes are no volume's");
+    check_row(&rt, alloc, &unlisted, &wanted);
 }

@@ -1,9 +1,13 @@
 pub mod Agains
+pub mod Countings
 pub mod Cuts
+pub mod Dotted
 pub mod FirstEntries
 pub mod FreeFaults
 pub mod Losts
 pub mod NamedFree
 pub mod Outsides
+pub mod Parented
 pub mod Searches
 pub mod Telling
+pub mod Upwards

@@ -8,12 +8,16 @@ use Rattle.vol_layout.specs.declared.geometry.GeometryFault.TheVariants.{Short, 
 use Rattle.vol_free.specs.Stack.{HasStack}
 use Rattle.vol_file.specs.Rules.{HasKinds, HasSizes, IsZoned}
 use Rattle.vol_dir.specs.Entries.{HasEntries}
+use Rattle.vol_judge.specs.Directories.{HasDots, IsTree, HasLinks}
 use Rattle.vol_judge.specs.Sound.{Rule, IsNoneLost}
+use Rattle.vol_findings.specs.Dots.{IsFirstDots}
 use Rattle.vol_findings.specs.Entries.{IsFirstEntry}
 use Rattle.vol_findings.specs.FreeList.{IsFirstFault}
 use Rattle.vol_findings.specs.INodes.{IsFirstKind, IsFirstSize}
+use Rattle.vol_findings.specs.Links.{IsFirstLink}
 use Rattle.vol_findings.specs.Lost.{IsFirstUncovered}
 use Rattle.vol_findings.specs.Sharing.{IsUsedOnce, IsFirstTwice}
+use Rattle.vol_findings.specs.Tree.{IsFirstTree}
 use Rattle.vol_findings.specs.Zones.{IsFirstOutside}
 use Rattle.vol_findings.specs.Finds.{Finds}
 use Rattle.vol_findings.specs.Outcomes.{Says, outcome_of, TellsVolume, Tells, Keeps, HasGeometry}
@@ -70,6 +74,9 @@ unread whole bounded = record {
   apart = NotAsked;
   covered = NotAsked;
   entries = NotAsked;
+  dots = NotAsked;
+  tree = NotAsked;
+  links = NotAsked;
 }
 
 -- where the image is too short
@@ -87,6 +94,9 @@ tells_short edition image e =
       apart = λ has. fails has.0.0;
       covered = λ has. fails has.0.0;
       entries = λ has. fails has.0;
+      dots = λ has. fails has.0.0;
+      tree = λ has. fails has.0;
+      links = λ has. fails has.0;
     }
 
 -- where its sizes are no volume's
@@ -104,6 +114,9 @@ tells_bounds edition image e =
       apart = λ has. chosen.1 has.0.1;
       covered = λ has. chosen.1 has.0.1;
       entries = λ has. chosen.1 has.1;
+      dots = λ has. chosen.1 has.0.1;
+      tree = λ has. chosen.1 has.1;
+      links = λ has. chosen.1 has.1;
     }
 
 -- what is said of its volume, where it has a geometry
@@ -125,6 +138,10 @@ tells_own edition image found whole bounded volume =
       covered = said_for (IsNoneLost g image) (IsFirstUncovered g image) (HasStack g image → ⊥) (HasGeometry edition image × Keeps edition image 6 → ⊥)
           found.covered (λ fails has. fails has.1) volume.covered;
       entries = said_for (HasEntries g image) (IsFirstEntry g image) ⊥ Unread found.entries (λ none. absurd none) volume.entries;
+      dots = said_for (HasDots g image) (IsFirstDots g image) (HasEntries g image → ⊥) (HasGeometry edition image × Keeps edition image 9 → ⊥) found.dots
+          (λ fails has. fails has.1) volume.dots;
+      tree = said_for (IsTree g image) (IsFirstTree g image) ⊥ Unread found.tree (λ none. absurd none) volume.tree;
+      links = said_for (HasLinks g image) (IsFirstLink g image) ⊥ Unread found.links (λ none. absurd none) volume.links;
     }
 
 pub tells_volume : (edition : Edition) (image : List ℕ) (g : Geometry) (found : Outcomes) → geometry_read edition image ≡ Ok g

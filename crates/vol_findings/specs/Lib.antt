@@ -1,9 +1,12 @@
+pub mod Dots
 pub mod Entries
 pub mod Finds
 pub mod FreeList
 pub mod INodes
+pub mod Links
 pub mod Lost
 pub mod Outcomes
 pub mod Sharing
 pub mod Texts
+pub mod Tree
 pub mod Zones

@@ -4,14 +4,18 @@ use Rattle.vol_layout.specs.Geometry.{geometry_of}
 use Rattle.vol_free.specs.Stack.{HasStack}
 use Rattle.vol_file.specs.Rules.{HasKinds, HasSizes, IsZoned}
 use Rattle.vol_dir.specs.Entries.{HasEntries}
+use Rattle.vol_judge.specs.Directories.{HasDots, IsTree, HasLinks}
 use Rattle.vol_judge.specs.Sound.{Rule, IsNoneLost}
 use Rattle.vol_layout.specs.declared.edition.Edition.{Edition}
 use Rattle.vol_layout.specs.declared.geometry.Geometry.{Geometry}
+use Rattle.vol_findings.specs.Dots.{IsFirstDots}
 use Rattle.vol_findings.specs.Entries.{IsFirstEntry}
 use Rattle.vol_findings.specs.FreeList.{IsFirstFault}
 use Rattle.vol_findings.specs.INodes.{IsFirstKind, IsFirstSize}
+use Rattle.vol_findings.specs.Links.{IsFirstLink}
 use Rattle.vol_findings.specs.Lost.{IsFirstUncovered}
 use Rattle.vol_findings.specs.Sharing.{IsUsedOnce, IsFirstTwice}
+use Rattle.vol_findings.specs.Tree.{IsFirstTree}
 use Rattle.vol_findings.specs.Zones.{IsFirstOutside}
 use Rattle.vol_findings.specs.declared.finding.Finding.{Finding}
 use Rattle.vol_findings.specs.declared.finding.Finding.TheVariants.{TooShort, BadSizes}
@@ -30,7 +34,7 @@ abbrev pub outcome_of : Option Finding → Outcome
 outcome_of None = Holds
 outcome_of (Some finding) = Broken finding
 
--- what is said of rules 1 to 9 of a volume whose geometry is known: rule 7 isn't asked where 5 fails, nor 8 where 6 fails (this project)
+-- what is said of the rules of a volume whose geometry is known: rule 7 isn't asked where 5 fails, nor 8 where 6 does, nor 10 where 9 does (this project)
 pub record TellsVolume (geometry : Geometry) (image : List ℕ) (found : Outcomes) : Type 0 where
   pub whole : found.whole ≡ Holds
   pub bounded : found.bounded ≡ Holds
@@ -41,6 +45,9 @@ pub record TellsVolume (geometry : Geometry) (image : List ℕ) (found : Outcome
   pub apart : Says (IsUsedOnce geometry image) (IsFirstTwice geometry image) (IsZoned geometry image → ⊥) found.apart
   pub covered : Says (IsNoneLost geometry image) (IsFirstUncovered geometry image) (HasStack geometry image → ⊥) found.covered
   pub entries : Says (HasEntries geometry image) (IsFirstEntry geometry image) ⊥ found.entries
+  pub dots : Says (HasDots geometry image) (IsFirstDots geometry image) (HasEntries geometry image → ⊥) found.dots
+  pub tree : Says (IsTree geometry image) (IsFirstTree geometry image) ⊥ found.tree
+  pub links : Says (HasLinks geometry image) (IsFirstLink geometry image) ⊥ found.links
 
 -- rule n of an image (this project)
 abbrev pub Keeps : Edition → List ℕ → ℕ → Type 0
@@ -50,7 +57,7 @@ Keeps edition image n = Rule true edition image n
 abbrev pub HasGeometry : Edition → List ℕ → Type 0
 HasGeometry edition image = Keeps edition image 1 × Keeps edition image 2
 
--- what is said of rules 1 to 9 of an image: a rule isn't asked where one that it needs fails (this project)
+-- what is said of the twelve rules of an image: a rule isn't asked where one that it needs fails (this project)
 pub record Tells (edition : Edition) (image : List ℕ) (found : Outcomes) : Type 0 where
   pub whole : Says (Keeps edition image 1) (λ finding. finding ≡ TooShort) ⊥ found.whole
   pub bounded : Says (Keeps edition image 2) (λ finding. finding ≡ BadSizes) (Keeps edition image 1 → ⊥) found.bounded
@@ -63,3 +70,7 @@ pub record Tells (edition : Edition) (image : List ℕ) (found : Outcomes) : Typ
   pub covered : Says (Keeps edition image 8) (IsFirstUncovered (geometry_of edition image) image)
       (HasGeometry edition image × Keeps edition image 6 → ⊥) found.covered
   pub entries : Says (Keeps edition image 9) (IsFirstEntry (geometry_of edition image) image) (HasGeometry edition image → ⊥) found.entries
+  pub dots : Says (Keeps edition image 10) (IsFirstDots (geometry_of edition image) image)
+      (HasGeometry edition image × Keeps edition image 9 → ⊥) found.dots
+  pub tree : Says (Keeps edition image 11) (IsFirstTree (geometry_of edition image) image) (HasGeometry edition image → ⊥) found.tree
+  pub links : Says (Keeps edition image 12) (IsFirstLink (geometry_of edition image) image) (HasGeometry edition image → ⊥) found.links

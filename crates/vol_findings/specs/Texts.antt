@@ -28,6 +28,12 @@ words_of (findings.Slash d s) = codes "a slash in a name"
 words_of (findings.BadNumber d s) = codes "no i-number of the volume"
 words_of (findings.FreeInode d s) = codes "a free i-node"
 words_of (findings.SameName d s) = codes "a name that comes before"
+words_of (findings.NoDot d) = codes "no . for itself"
+words_of (findings.NoDotDot d) = codes "no .. for its parent"
+words_of (findings.RootEntered d s) = codes "an entry for the root"
+words_of (findings.EnteredTwice d s) = codes "a second entry for a directory"
+words_of (findings.Unreached d) = codes "not reached from the root"
+words_of (findings.BadLinks i entries links) = codes "a wrong link count"
 
 -- where it is (this project)
 abbrev pub spot_of : Finding → Spot
@@ -49,6 +55,12 @@ spot_of (findings.Slash d s) = spots.Slot d s
 spot_of (findings.BadNumber d s) = spots.Slot d s
 spot_of (findings.FreeInode d s) = spots.Slot d s
 spot_of (findings.SameName d s) = spots.Slot d s
+spot_of (findings.NoDot d) = spots.Directory d
+spot_of (findings.NoDotDot d) = spots.Directory d
+spot_of (findings.RootEntered d s) = spots.Slot d s
+spot_of (findings.EnteredTwice d s) = spots.Slot d s
+spot_of (findings.Unreached d) = spots.Directory d
+spot_of (findings.BadLinks i entries links) = spots.Links i entries links
 
 -- a place as it is shown, behind what it is the place of (this project)
 abbrev pub spot_text : Spot → List ℕ
@@ -60,6 +72,8 @@ spot_text (spots.BlockOf i b) = codes ": i-node " ++ (decimal i ++ (codes ", blo
 spot_text (spots.Block b) = codes ": block " ++ decimal b
 spot_text (spots.Directory d) = codes ": directory " ++ decimal d
 spot_text (spots.Slot d s) = codes ": directory " ++ (decimal d ++ (codes ", slot " ++ decimal s))
+spot_text (spots.Links i entries links) =
+    codes ": i-node " ++ (decimal i ++ (codes ", entries " ++ (decimal entries ++ (codes ", links " ++ decimal links))))
 
 -- what breaks a rule, and where (this project)
 abbrev pub finding_text : Finding → List ℕ

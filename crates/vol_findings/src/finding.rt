@@ -40,4 +40,16 @@ pub enum Finding {
     FreeInode(u16, u32),
     /// Rule 9: the name of the entry in this slot of a directory comes before in the directory.
     SameName(u16, u32),
+    /// Rule 10: this directory has no entry `.` for itself.
+    NoDot(u16),
+    /// Rule 10: this directory has no entry `..` for its parent.
+    NoDotDot(u16),
+    /// Rule 11: the entry in this slot of a directory is for the root.
+    RootEntered(u16, u32),
+    /// Rule 11: the entry in this slot of a directory is for a directory that an entry before it is for.
+    EnteredTwice(u16, u32),
+    /// Rule 11: this directory isn't reached from the root.
+    Unreached(u16),
+    /// Rule 12: so many entries are for this i-node, which has another link count, or wants an entry.
+    BadLinks(u16, u64, u16),
 }

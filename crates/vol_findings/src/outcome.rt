@@ -3,19 +3,26 @@ ghost use Rattle.std.specs.Prelude.{◌≡◌, IfOk};
 ghost use Rattle.vol_layout.specs.Geometry.{Fits};
 ghost use Rattle.vol_free.specs.Stack.{HasStack};
 ghost use Rattle.vol_file.specs.Rules.{IsZoned};
+ghost use Rattle.vol_dir.specs.Entries.{HasEntries};
+ghost use Rattle.vol_judge.specs.Directories.{HasDots};
 ghost use Rattle.vol_judge.specs.Sound.{IsNoneLost};
+ghost use Rattle.vol_findings.specs.Dots.{IsFirstDots};
+ghost use Rattle.vol_findings.specs.Entries.{IsFirstEntry};
 ghost use Rattle.vol_findings.specs.FreeList.{IsFirstFault};
 ghost use Rattle.vol_findings.specs.Lost.{IsFirstUncovered};
 ghost use Rattle.vol_findings.specs.Sharing.{IsUsedOnce, IsFirstTwice};
 ghost use Rattle.vol_findings.specs.Zones.{IsFirstOutside};
 ghost use Rattle.vol_findings.specs.Outcomes.{Says, TellsVolume, Tells, outcome_of};
 
+use crate::dots::find_dots;
 use crate::entries::find_entry;
 use crate::finding::Finding;
 use crate::free_list::find_fault;
 use crate::i_nodes::{find_kind, find_size};
+use crate::links::find_link;
 use crate::lost::find_lost;
 use crate::sharing::find_twice;
+use crate::tree::find_tree;
 use crate::zones::find_outside;
 use pdp_words::Image;
 use std::alloc::{AllocError, Global};
@@ -32,7 +39,7 @@ pub enum Outcome {
     NotAsked,
 }
 
-/// What is found of rules 1 to 9, in their order.
+/// What is found of the twelve rules, in their order.
 #[derive(Clone, Copy, Debug)]
 pub struct Outcomes {
     /// Rule 1: the image has all blocks of the volume.
@@ -53,9 +60,15 @@ pub struct Outcomes {
     pub covered: Outcome,
     /// Rule 9: the entries of directories.
     pub entries: Outcome,
+    /// Rule 10: the entries `.` and `..`. Needs rule 9.
+    pub dots: Outcome,
+    /// Rule 11: the tree of directories.
+    pub tree: Outcome,
+    /// Rule 12: the link counts.
+    pub links: Outcome,
 }
 
-/// Of each of rules 1 to 9 whether an image keeps it, what breaks it first, or that a rule that it needs is broken. The image may be
+/// Of each of the twelve rules whether an image keeps it, what breaks it first, or that a rule that it needs is broken. The image may be
 /// any bytes.
 ///
 /// The time grows with the image's blocks and the slots of its directories, whatever they hold, and with sorting the names of
@@ -102,6 +115,9 @@ impl Outcomes {
           apart = Outcome.NotAsked;
           covered = Outcome.NotAsked;
           entries = Outcome.NotAsked;
+          dots = Outcome.NotAsked;
+          tree = Outcome.NotAsked;
+          links = Outcome.NotAsked;
         } }
     {
         let rest = Outcome::NotAsked;
@@ -115,6 +131,9 @@ impl Outcomes {
             apart: rest,
             covered: rest,
             entries: rest,
+            dots: rest,
+            tree: rest,
+            links: rest,
         }
     }
 }
@@ -131,6 +150,9 @@ fn check_volume(alloc: Global, image: &Image, geometry: &Geometry) -> Result<Out
     let apart = check_apart(alloc, image, geometry, zoned)?;
     let covered = check_covered(alloc, image, geometry, listed)?;
     let entries = Outcome::of(find_entry(alloc, image, geometry)?);
+    let dots = check_dots(alloc, image, geometry, entries)?;
+    let tree = Outcome::of(find_tree(alloc, image, geometry)?);
+    let links = Outcome::of(find_link(alloc, image, geometry)?);
     Ok(Outcomes {
         whole: Outcome::Holds,
         bounded: Outcome::Holds,
@@ -141,6 +163,9 @@ fn check_volume(alloc: Global, image: &Image, geometry: &Geometry) -> Result<Out
         apart,
         covered,
         entries,
+        dots,
+        tree,
+        links,
     })
 }
 
@@ -174,6 +199,23 @@ fn check_covered(
 {
     match listed {
         Outcome::Holds => Ok(Outcome::of(find_lost(alloc, image, geometry)?)),
+        Outcome::Broken(_) | Outcome::NotAsked => Ok(Outcome::NotAsked),
+    }
+}
+
+/// What is found of rule 10, by what is found of rule 9.
+fn check_dots(
+    alloc: Global,
+    image: &Image,
+    geometry: &Geometry,
+    entries: Outcome,
+) -> Result<Outcome, AllocError>
+    requires fits { Fits geometry.now image.now }
+    requires entries { Says (HasEntries geometry.now image.now) (IsFirstEntry geometry.now image.now) ⊥ entries }
+    ensures { IfOk result (Says (HasDots geometry.now image.now) (IsFirstDots geometry.now image.now) (HasEntries geometry.now image.now → ⊥)) }
+{
+    match entries {
+        Outcome::Holds => Ok(Outcome::of(find_dots(alloc, image, geometry)?)),
         Outcome::Broken(_) | Outcome::NotAsked => Ok(Outcome::NotAsked),
     }
 }

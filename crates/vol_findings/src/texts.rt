@@ -26,6 +26,8 @@ enum Spot {
     Directory(u16),
     /// A slot of a directory.
     Slot(u16, u32),
+    /// An i-node, the number of its entries and its link count.
+    Links(u16, u64, u16),
 }
 
 impl fmt::Display for Spot {
@@ -41,6 +43,9 @@ impl fmt::Display for Spot {
             Spot::Block(b) => write!(f, ": block {b}"),
             Spot::Directory(d) => write!(f, ": directory {d}"),
             Spot::Slot(d, s) => write!(f, ": directory {d}, slot {s}"),
+            Spot::Links(i, entries, links) => {
+                write!(f, ": i-node {i}, entries {entries}, links {links}")
+            }
         }
     }
 }
@@ -90,6 +95,12 @@ fn words_of(finding: Finding) -> &'static str
         Finding::BadNumber(_, _) => "no i-number of the volume",
         Finding::FreeInode(_, _) => "a free i-node",
         Finding::SameName(_, _) => "a name that comes before",
+        Finding::NoDot(_) => "no . for itself",
+        Finding::NoDotDot(_) => "no .. for its parent",
+        Finding::RootEntered(_, _) => "an entry for the root",
+        Finding::EnteredTwice(_, _) => "a second entry for a directory",
+        Finding::Unreached(_) => "not reached from the root",
+        Finding::BadLinks(_, _, _) => "a wrong link count",
     }
 }
 
@@ -106,11 +117,15 @@ fn spot_of(finding: Finding) -> Spot
         Finding::FreeList(_, n) => Spot::Count(n),
         Finding::Twice(i, b) => Spot::BlockOf(i, b),
         Finding::UsedAndFree(b) | Finding::Lost(b) => Spot::Block(b),
-        Finding::PartSlot(d) => Spot::Directory(d),
+        Finding::PartSlot(d) | Finding::NoDot(d) | Finding::NoDotDot(d) | Finding::Unreached(d) =>
+            Spot::Directory(d),
         Finding::NoName(d, s)
         | Finding::Slash(d, s)
         | Finding::BadNumber(d, s)
         | Finding::FreeInode(d, s)
-        | Finding::SameName(d, s) => Spot::Slot(d, s),
+        | Finding::SameName(d, s)
+        | Finding::RootEntered(d, s)
+        | Finding::EnteredTwice(d, s) => Spot::Slot(d, s),
+        Finding::BadLinks(i, entries, links) => Spot::Links(i, entries, links),
     }
 }

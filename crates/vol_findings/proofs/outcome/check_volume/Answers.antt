@@ -2,9 +2,12 @@ use Rattle.std.proofs.Common.{refl}
 use Rattle.vol_free.specs.Stack.{HasStack}
 use Rattle.vol_file.specs.Rules.{HasKinds, HasSizes, IsZoned}
 use Rattle.vol_dir.specs.Entries.{HasEntries}
+use Rattle.vol_judge.specs.Directories.{IsTree, HasLinks}
 use Rattle.vol_findings.specs.Entries.{IsFirstEntry}
 use Rattle.vol_findings.specs.FreeList.{IsFirstFault}
 use Rattle.vol_findings.specs.INodes.{IsFirstKind, IsFirstSize}
+use Rattle.vol_findings.specs.Links.{IsFirstLink}
+use Rattle.vol_findings.specs.Tree.{IsFirstTree}
 use Rattle.vol_findings.specs.Zones.{IsFirstOutside}
 use Rattle.vol_findings.proofs.Telling.{said_as}
 use Rattle.vol_findings.proofs.outcome.check_volume.Goals as goal
@@ -26,4 +29,7 @@ returns c =
       covered = c.in_ok-covered.ensures;
       entries = said_as (HasEntries g image) (IsFirstEntry g image) ⊥ c.in_ok-find_entry.field-0 c.of-entries.result
           c.in_ok-find_entry.ensures c.of-entries.ensures;
+      dots = c.in_ok-dots.ensures;
+      tree = said_as (IsTree g image) (IsFirstTree g image) ⊥ c.in_ok-find_tree.field-0 c.of-tree.result c.in_ok-find_tree.ensures c.of-tree.ensures;
+      links = said_as (HasLinks g image) (IsFirstLink g image) ⊥ c.in_ok-find_link.field-0 c.of-links.result c.in_ok-find_link.ensures c.of-links.ensures;
     }

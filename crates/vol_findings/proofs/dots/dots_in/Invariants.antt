@@ -1,0 +1,14 @@
+use Rattle.std.proofs.Common.{◌-◌}
+use Rattle.vol_dir.specs.Names.{dot, dot_dot}
+use Rattle.vol_judge.specs.InodeMarks.{IsNamedUpTo}
+use Rattle.vol_findings.proofs.dots.dots_in.Given as goal
+
+-- the slots below `from` are gone over
+abbrev pub invariant-loop-s : goal.invariant-loop-s
+invariant-loop-s l = record {
+  own : IsNamedUpTo l.geometry l.image l.d l.from dot l.own;
+  up : IsNamedUpTo l.geometry l.image l.d l.from dot_dot l.up;
+}
+
+abbrev pub decreases-loop-s : goal.decreases-loop-s
+decreases-loop-s l = 4294967296 - l.from

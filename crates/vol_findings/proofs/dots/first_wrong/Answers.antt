@@ -1,0 +1,19 @@
+use Rattle.std.proofs.Common.{◌+◌, arith}
+use Rattle.vol_judge.proofs.Deciding.{fails}
+use Rattle.vol_findings.proofs.Dotted.{keep_more, keep_all}
+use Rattle.vol_findings.proofs.dots.first_wrong.Goals as goal
+use Rattle.vol_findings.proofs.dots.first_wrong.Goals.{then-needs_dots+in_default, else-needs_dots}
+
+pub loop-d-preserved : goal.loop-d-preserved
+loop-d-preserved c =
+    keep_more c.loop-d.d c.loop-d.invariant (λ needs. elim c.if-needs_dots.branch [
+      | then-needs_dots+in_default w ↦ w.in_default.ensures
+      | else-needs_dots w ↦ absurd (fails c.needs_dots.result c.needs_dots.ensures w.if-needs_dots.false needs)
+    ])
+
+pub returns-after-needs_dots : goal.returns-after-needs_dots
+returns-after-needs_dots c =
+    keep_all (c.loop-d.d + 1) c.requires.fits (keep_more c.loop-d.d c.loop-d.invariant (λ needs. elim c.if-needs_dots.branch [
+      | then-needs_dots+in_default w ↦ w.in_default.ensures
+      | else-needs_dots w ↦ absurd (fails c.needs_dots.result c.needs_dots.ensures w.if-needs_dots.false needs)
+    ])) (omega arith)

@@ -5,3 +5,5 @@
 mod fixtures;
 #[cfg(test)]
 mod outcomes;
+#[cfg(test)]
+mod reports;

@@ -6,8 +6,10 @@ pub mod FirstEntries
 pub mod FreeFaults
 pub mod Losts
 pub mod NamedFree
+pub mod Noted
 pub mod Outsides
 pub mod Parented
 pub mod Searches
+pub mod Soundness
 pub mod Telling
 pub mod Upwards

@@ -6,6 +6,7 @@ pub mod INodes
 pub mod Links
 pub mod Lost
 pub mod Outcomes
+pub mod Reports
 pub mod Sharing
 pub mod Texts
 pub mod Tree

@@ -1,0 +1,114 @@
+-- The report on an image.
+use Rattle.std.specs.Prelude.{◌≡◌, ℕ, ◌&&◌, Bool, true, false, not, if◌then◌else◌, IsTrue, ◌↔◌, List, [], ◌∷◌, ◌++◌, codes, decimal}
+use Rattle.std.specs.List.{flat_map, list_all}
+use Rattle.std.specs.Result.{is_ok}
+use Rattle.vol_layout.specs.Geometry.{geometry_read}
+use Rattle.vol_judge.specs.Sound.{IsSound}
+use Rattle.vol_layout.specs.declared.edition.Edition.{Edition}
+use Rattle.vol_layout.specs.declared.edition.Edition.TheVariants.{V6, V7}
+use Rattle.vol_findings.specs.Outcomes.{Tells}
+use Rattle.vol_findings.specs.Texts.{outcome_text}
+use Rattle.vol_findings.specs.declared.outcome.Outcome.{Outcome}
+use Rattle.vol_findings.specs.declared.outcome.Outcome.TheVariants.{Holds, Broken, NotAsked}
+use Rattle.vol_findings.specs.declared.outcome.Outcomes.{Outcomes}
+use Rattle.vol_findings.specs.declared.report.Line.{Line}
+use Rattle.vol_findings.specs.declared.rules.Rule.{Rule}
+use Rattle.vol_findings.specs.declared.rules.Rule.TheVariants as rules
+
+-- the number of a rule (this project)
+abbrev pub rule_number : Rule → ℕ
+rule_number rules.Whole = 1
+rule_number rules.Bounded = 2
+rule_number rules.Kinds = 3
+rule_number rules.Sizes = 4
+rule_number rules.Zoned = 5
+rule_number rules.Listed = 6
+rule_number rules.Apart = 7
+rule_number rules.Covered = 8
+rule_number rules.Entries = 9
+rule_number rules.Dots = 10
+rule_number rules.Tree = 11
+rule_number rules.Links = 12
+
+-- what a rule asks, in plain words (this project)
+abbrev pub rule_sentence : Rule → List ℕ
+rule_sentence rules.Whole = codes "the image has all blocks of the volume"
+rule_sentence rules.Bounded = codes "the sizes are within their limits"
+rule_sentence rules.Kinds = codes "each mode is known and the root is a directory"
+rule_sentence rules.Sizes = codes "file sizes and link counts are within their limits"
+rule_sentence rules.Zoned = codes "each number that a file names is a data block"
+rule_sentence rules.Listed = codes "the free list names data blocks, each once"
+rule_sentence rules.Apart = codes "no block is used twice"
+rule_sentence rules.Covered = codes "each data block is used or free"
+rule_sentence rules.Entries = codes "each entry has a name of its own and an i-node"
+rule_sentence rules.Dots = codes "each directory has . for itself and .. for its parent"
+rule_sentence rules.Tree = codes "each directory is entered once and reached from the root"
+rule_sentence rules.Links = codes "each link count is the number of entries"
+
+-- the line of a rule: its number, what it asks, and what is found of it (this project)
+abbrev pub line_text : Line → List ℕ
+line_text line =
+    decimal (rule_number line.rule) ++ (codes " " ++ (rule_sentence line.rule ++ (codes ": " ++ (outcome_text line.outcome ++ codes "\n"))))
+
+-- the lines of some rules (this project)
+unfoldable pub lines_text : List Line → List ℕ
+lines_text lines = flat_map line_text lines
+
+-- a rule with what is found of it (this project)
+abbrev pub line : Rule → Outcome → Line
+line rule outcome = record { rule = rule; outcome = outcome }
+
+-- the twelve rules, in their order, with what is found of each (this project)
+abbrev pub lines_of : Outcomes → List Line
+lines_of found =
+    line rules.Whole found.whole
+    ∷ line rules.Bounded found.bounded
+    ∷ line rules.Kinds found.kinds
+    ∷ line rules.Sizes found.sizes
+    ∷ line rules.Zoned found.zoned
+    ∷ line rules.Listed found.listed
+    ∷ line rules.Apart found.apart
+    ∷ line rules.Covered found.covered
+    ∷ line rules.Entries found.entries
+    ∷ line rules.Dots found.dots
+    ∷ line rules.Tree found.tree
+    ∷ line rules.Links found.links
+    ∷ []
+
+-- whether a rule is said to hold (this project)
+abbrev pub is_held : Outcome → Bool
+is_held Holds = true
+is_held (Broken finding) = false
+is_held NotAsked = false
+
+-- whether all of some rules are said to hold (this project)
+abbrev pub are_held : List Line → Bool
+are_held lines = list_all (λ (line : Line). is_held line.outcome) lines
+
+-- the other edition (this project)
+abbrev pub other_edition : Edition → Edition
+other_edition V6 = V7
+other_edition V7 = V6
+
+-- the number of an edition (this project)
+abbrev pub edition_number : Edition → ℕ
+edition_number V6 = 6
+edition_number V7 = 7
+
+-- a note, where rule 1 or 2 fails, and both hold for the other edition (this project)
+abbrev pub note_text : Edition → List ℕ → List ℕ
+note_text edition image =
+    if not (is_ok (geometry_read edition image)) && is_ok (geometry_read (other_edition edition) image)
+    then codes "note: rules 1 and 2 hold for edition " ++ (decimal (edition_number (other_edition edition)) ++ codes "\n")
+    else []
+
+-- the text of a report, by what is found (this project)
+abbrev pub report_text : Edition → List ℕ → Outcomes → List ℕ
+report_text edition image found = lines_text (lines_of found) ++ note_text edition image
+
+-- a text is the report on an image, and it is said truly whether all twelve rules hold (this project)
+pub record IsReport (edition : Edition) (image text : List ℕ) (sound : Bool) : Type 0 where
+  pub found : Outcomes
+  pub tells : Tells edition image found
+  pub words : text ≡ report_text edition image found
+  pub verdict : IsTrue sound ↔ IsSound edition image

@@ -1,0 +1,136 @@
+//! The report on an image: a line for each rule of soundness.
+ghost use Rattle.std.specs.Prelude.{◌≡◌, ◌++◌, Some, IfOk, OnOk, string_bytes};
+ghost use Rattle.vol_layout.specs.Edition.{constants};
+ghost use Rattle.vol_findings.specs.Reports.{line_text, lines_of, report_text, note_text, other_edition, edition_number, are_held, lines_text, IsReport};
+
+use crate::outcome::{Outcome, Outcomes, check_rules};
+use crate::rules::Rule;
+use pdp_words::Image;
+use std::alloc::{AllocError, Global};
+use std::fmt;
+use vol_layout::{Edition, Geometry};
+
+/// A rule, and what is found of it.
+#[derive(Clone, Copy, Debug, Drop)]
+pub struct Line {
+    /// The rule.
+    pub rule: Rule,
+    /// What is found of it.
+    pub outcome: Outcome,
+}
+
+/// The report on an image.
+#[derive(Drop)]
+pub struct Report {
+    /// Its lines.
+    pub text: String,
+    /// Whether all twelve rules hold.
+    pub is_sound: bool,
+}
+
+impl fmt::Display for Line {
+    ghost output = { λ line. Some (line_text line) };
+
+    fn fmt<W: fmt::Write>(&self, f: &mut fmt::Formatter<W>) -> fmt::Result {
+        let number = self.rule.number();
+        let sentence = self.rule.sentence();
+        let outcome = self.outcome;
+        write!(f, "{number} {sentence}: {outcome}\n")
+    }
+}
+
+/// The report on an image, which may be any bytes: a line for each of the twelve rules, with what breaks it first; and where rule 1
+/// or 2 fails, a note if they hold for the other edition.
+///
+/// Costs and takes memory for what [`check_rules`] does, and for the text.
+pub fn make_report(alloc: Global, edition: Edition, image: &Image) -> Result<Report, AllocError>
+    ensures { IfOk result (λ report. IsReport edition image.now (string_bytes report.text) report.is_sound) }
+{
+    let found = check_rules(alloc, edition, image)?;
+    let lines = lines_of(&found);
+    let mut text = String::new(alloc);
+    push_lines(&mut text, &lines)?;
+    push_note(&mut text, edition, image)?;
+    Ok(Report {
+        text,
+        is_sound: are_held(&lines),
+    })
+}
+
+/// The rules, in their order, with what is found of each.
+fn lines_of(found: &Outcomes) -> [Line; 12]
+    ensures { result ≡ lines_of found.now }
+{
+    [
+        line_of(Rule::Whole, found.whole),
+        line_of(Rule::Bounded, found.bounded),
+        line_of(Rule::Kinds, found.kinds),
+        line_of(Rule::Sizes, found.sizes),
+        line_of(Rule::Zoned, found.zoned),
+        line_of(Rule::Listed, found.listed),
+        line_of(Rule::Apart, found.apart),
+        line_of(Rule::Covered, found.covered),
+        line_of(Rule::Entries, found.entries),
+        line_of(Rule::Dots, found.dots),
+        line_of(Rule::Tree, found.tree),
+        line_of(Rule::Links, found.links),
+    ]
+}
+
+/// A rule, with what is found of it.
+fn line_of(rule: Rule, outcome: Outcome) -> Line
+    ensures { result ≡ record { rule = rule; outcome = outcome } }
+{
+    Line { rule, outcome }
+}
+
+/// Whether all of some rules hold.
+fn are_held(lines: &[Line]) -> bool
+    ensures { result ≡ are_held lines.now }
+{
+    lines
+        .iter()
+        .all(|line| matches!(line.outcome, Outcome::Holds))
+}
+
+/// Appends some lines.
+fn push_lines(text: &mut String, lines: &[Line]) -> Result<(), AllocError>
+    ensures { OnOk result (string_bytes text.new ≡ string_bytes text.old ++ lines_text lines.now) }
+{
+    for line in lines {
+        write!(text, "{line}")?;
+    }
+    Ok(())
+}
+
+/// Appends a note, where rule 1 or 2 fails, and both hold for the other edition.
+fn push_note(text: &mut String, edition: Edition, image: &Image) -> Result<(), AllocError>
+    ensures { OnOk result (string_bytes text.new ≡ string_bytes text.old ++ note_text edition image.now) }
+{
+    let other = other_edition(edition);
+    if Geometry::read(edition, image).is_err() && Geometry::read(other, image).is_ok() {
+        let number = edition_number(other);
+        write!(text, "note: rules 1 and 2 hold for edition {number}\n")?;
+    }
+    Ok(())
+}
+
+/// The other edition.
+fn other_edition(edition: Edition) -> Edition
+    ensures { result ≡ other_edition edition }
+{
+    match edition {
+        Edition::V6 => Edition::V7,
+        Edition::V7 => Edition::V6,
+    }
+}
+
+/// The number of an edition.
+fn edition_number(edition: Edition) -> u8
+    ensures { result ≡ edition_number edition }
+{
+    match edition {
+        Edition::V6 => 6,
+        Edition::V7 => 7,
+    }
+}

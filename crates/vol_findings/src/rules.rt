@@ -1,0 +1,74 @@
+//! The twelve rules of soundness, in words.
+ghost use Rattle.std.specs.Prelude.{◌≡◌};
+ghost use Rattle.vol_findings.specs.Reports.{rule_number, rule_sentence};
+
+/// A rule of soundness.
+#[derive(Clone, Copy, Debug, PartialEq, Eq)]
+pub enum Rule {
+    /// The image has all blocks of the volume.
+    Whole,
+    /// The sizes are within their limits.
+    Bounded,
+    /// What the i-nodes are.
+    Kinds,
+    /// Their sizes and link counts.
+    Sizes,
+    /// Each number that is named is a data block's.
+    Zoned,
+    /// The free list is a stack.
+    Listed,
+    /// No block is used twice.
+    Apart,
+    /// No block is lost.
+    Covered,
+    /// The entries of directories.
+    Entries,
+    /// The entries `.` and `..`.
+    Dots,
+    /// The tree of directories.
+    Tree,
+    /// The link counts.
+    Links,
+}
+
+impl Rule {
+    /// Its number, from 1 to 12.
+    pub fn number(self) -> u8
+        ensures { result ≡ rule_number self }
+    {
+        match self {
+            Rule::Whole => 1,
+            Rule::Bounded => 2,
+            Rule::Kinds => 3,
+            Rule::Sizes => 4,
+            Rule::Zoned => 5,
+            Rule::Listed => 6,
+            Rule::Apart => 7,
+            Rule::Covered => 8,
+            Rule::Entries => 9,
+            Rule::Dots => 10,
+            Rule::Tree => 11,
+            Rule::Links => 12,
+        }
+    }
+
+    /// What it asks, in plain words.
+    pub fn sentence(self) -> &'static str
+        ensures { result.now ≡ rule_sentence self }
+    {
+        match self {
+            Rule::Whole => "the image has all blocks of the volume",
+            Rule::Bounded => "the sizes are within their limits",
+            Rule::Kinds => "each mode is known and the root is a directory",
+            Rule::Sizes => "file sizes and link counts are within their limits",
+            Rule::Zoned => "each number that a file names is a data block",
+            Rule::Listed => "the free list names data blocks, each once",
+            Rule::Apart => "no block is used twice",
+            Rule::Covered => "each data block is used or free",
+            Rule::Entries => "each entry has a name of its own and an i-node",
+            Rule::Dots => "each directory has . for itself and .. for its parent",
+            Rule::Tree => "each directory is entered once and reached from the root",
+            Rule::Links => "each link count is the number of entries",
+        }
+    }
+}

@@ -10,12 +10,12 @@ use Rattle.vol_commands.specs.Faults.{fault_line}
 use Rattle.vol_commands.specs.Jobs.{Streams}
 use Rattle.vol_commands.specs.declared.faults.Fault.{Fault}
 use Rattle.vol_commands.specs.declared.faults.Fault.TheVariants as faults
-use Rattle.image_commands.specs.Printing.{IsTold, Prints, PrintsOne}
+use Rattle.image_commands.specs.Printing.{IsTold, Prints, PrintsWith, PrintsOne}
 
 -- all bytes of a text went out
-pub printed : (streams : Streams) (text bytes : List ℕ) → bytes ≡ text → Appends streams.old streams.new bytes
-    → streams.failed ≡ streams.had_failed → streams.said [] → Prints streams text 0
-printed streams text bytes is whole working said = inl (record {
+pub printed : (wanted : ℕ) (streams : Streams) (text bytes : List ℕ) → bytes ≡ text → Appends streams.old streams.new bytes
+    → streams.failed ≡ streams.had_failed → streams.said [] → PrintsWith wanted streams text wanted
+printed wanted streams text bytes is whole working said = inl (record {
   status = refl;
   whole = subst (Appends streams.old streams.new) is whole;
   working = working;
@@ -23,9 +23,9 @@ printed streams text bytes is whole working said = inl (record {
 })
 
 -- the front of a text went out, and standard output failed
-pub broken : (streams : Streams) (text bytes : List ℕ) (count status : ℕ) → bytes ≡ text → AppendsFront streams.old streams.new bytes count
-    → streams.failed ≡ true → status ≡ 3 → streams.said (fault_line faults.Output) → Prints streams text status
-broken streams text bytes count status is front fails state said = inr (record {
+pub broken : (wanted : ℕ) (streams : Streams) (text bytes : List ℕ) (count status : ℕ) → bytes ≡ text → AppendsFront streams.old streams.new bytes count
+    → streams.failed ≡ true → status ≡ 3 → streams.said (fault_line faults.Output) → PrintsWith wanted streams text status
+broken wanted streams text bytes count status is front fails state said = inr (record {
   status = state;
   front = (count, subst (λ xs. AppendsFront streams.old streams.new xs count) is front);
   broken = fails;

@@ -1,3 +1,4 @@
+pub mod Checking
 pub mod Exporting
 pub mod Faults
 pub mod Json

@@ -2,6 +2,7 @@
 use Rattle.std.specs.Prelude.{ℕ, List}
 use Rattle.vol_layout.specs.declared.edition.Edition.{Edition}
 use Rattle.vol_commands.specs.Jobs.{Streams}
+use Rattle.image_commands.specs.Checking.{Checks}
 use Rattle.image_commands.specs.Exporting.{Exports}
 use Rattle.image_commands.specs.Mapping.{DrawsMap}
 use Rattle.image_commands.specs.Showing.{ShowsInode, ShowsSuper}
@@ -15,3 +16,4 @@ Looks edition image screen streams status (looks.Export path) = Exports edition 
 Looks edition image screen streams status (looks.Inode number form) = ShowsInode edition image number form streams status
 Looks edition image screen streams status (looks.Super form) = ShowsSuper edition image form streams status
 Looks edition image screen streams status (looks.Map picture) = DrawsMap edition image screen picture streams status
+Looks edition image screen streams status looks.Check = Checks edition image streams status

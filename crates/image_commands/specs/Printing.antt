@@ -21,16 +21,24 @@ pub record IsBrokenOff (streams : Streams) (bytes : List ℕ) (code : ℕ) : Typ
   pub broken : streams.failed ≡ true
   pub said : streams.said (fault_line faults.Output)
 
--- a text is printed, with status 0 and no line (this project)
-pub record IsPrinted (streams : Streams) (text : List ℕ) (code : ℕ) : Type 0 where
-  pub status : code ≡ 0
+-- a text is printed, with a status and no line (this project)
+pub record IsPrintedWith (wanted : ℕ) (streams : Streams) (text : List ℕ) (code : ℕ) : Type 0 where
+  pub status : code ≡ wanted
   pub whole : Appends streams.old streams.new text
   pub working : streams.failed ≡ streams.had_failed
   pub said : streams.said []
 
+-- a text is printed, with status 0 and no line (this project)
+abbrev pub IsPrinted : Streams → List ℕ → ℕ → Type 0
+IsPrinted streams text code = IsPrintedWith 0 streams text code
+
+-- a text is printed, with a status, or standard output has the front of it (this project)
+abbrev pub PrintsWith : ℕ → Streams → List ℕ → ℕ → Type 0
+PrintsWith wanted streams text status = IsPrintedWith wanted streams text status ⊎ IsBrokenOff streams text status
+
 -- a text is printed, or standard output has the front of it (this project)
 abbrev pub Prints : Streams → List ℕ → ℕ → Type 0
-Prints streams text status = IsPrinted streams text status ⊎ IsBrokenOff streams text status
+Prints streams text status = PrintsWith 0 streams text status
 
 -- a text of some is printed, or a fault of some is told (this project)
 abbrev pub PrintsOne : (List ℕ → Type 0) → (Fault → Type 0) → Streams → ℕ → Type 0

@@ -1,6 +1,7 @@
 //! Commands that look at an image, sound or not: what each prints, and its status.
 #![tactic(auto)]
 
+pub mod checking;
 pub mod exporting;
 mod faults;
 mod json;

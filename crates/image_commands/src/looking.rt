@@ -2,6 +2,7 @@
 ghost use Rattle.vol_commands.specs.Faults.{Gets};
 ghost use Rattle.image_commands.specs.Looking.{Looks};
 
+use crate::checking::check;
 use crate::exporting::export;
 use crate::looks::{Look, Screen};
 use crate::mapping::draw_map;
@@ -37,5 +38,6 @@ pub fn look<O: Sink, E: Sink>(
         }
         Look::Super { form } => show_super(alloc, edition, image, form, output, errors),
         Look::Map { picture } => draw_map(alloc, edition, image, picture, screen, output, errors),
+        Look::Check => check(alloc, edition, image, output, errors),
     }
 }

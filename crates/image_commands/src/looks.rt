@@ -11,6 +11,8 @@ pub enum Look<'a> {
     Super { form: Form },
     /// Draw what each block is used for.
     Map { picture: Picture },
+    /// Tell which rules of soundness hold.
+    Check,
 }
 
 /// How a report is written.

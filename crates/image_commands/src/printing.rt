@@ -3,7 +3,7 @@ ghost use Rattle.std.specs.Prelude.{◌≡◌, ◌⊎◌, ℕ, true, IfErr, IfOk
 ghost use Rattle.std.specs.Io.KnownBytes.{Appends, Keeps};
 ghost use Rattle.pdp_words.specs.Devices.{AppendsFront};
 ghost use Rattle.vol_commands.specs.Faults.{Gets, IsRuled};
-ghost use Rattle.image_commands.specs.Printing.{IsTold, Prints};
+ghost use Rattle.image_commands.specs.Printing.{IsTold, Prints, PrintsWith};
 
 use pdp_words::{Sink, write_all};
 use vol_commands::answer::explain;
@@ -40,7 +40,6 @@ pub(crate) fn finish<O: Sink, E: Sink>(
 }
 
 /// Prints a text, and answers the status.
-#[tactic(auto, using(vol_commands::proofs::Lines::gets_nothing, crate::proofs::Printed::printed, crate::proofs::Printed::broken))]
 fn print<O: Sink, E: Sink>(text: &String, output: &mut O, errors: &mut E) -> u8
     ensures { Prints (record {
       old = O.contents output.old;
@@ -50,8 +49,27 @@ fn print<O: Sink, E: Sink>(text: &String, output: &mut O, errors: &mut E) -> u8
       said = Gets (E.failed errors.new) (E.contents errors.old) (E.contents errors.new);
     }) (string_bytes text.now) result }
 {
+    print_with(text, DONE, output, errors)
+}
+
+/// Prints a text, and answers a status, or that of why it isn't printed.
+#[tactic(auto, using(vol_commands::proofs::Lines::gets_nothing, crate::proofs::Printed::printed, crate::proofs::Printed::broken))]
+pub(crate) fn print_with<O: Sink, E: Sink>(
+    text: &String,
+    status: u8,
+    output: &mut O,
+    errors: &mut E,
+) -> u8
+    ensures { PrintsWith status (record {
+      old = O.contents output.old;
+      new = O.contents output.new;
+      had_failed = O.failed output.old;
+      failed = O.failed output.new;
+      said = Gets (E.failed errors.new) (E.contents errors.old) (E.contents errors.new);
+    }) (string_bytes text.now) result }
+{
     match write_all(output, text.as_bytes()) {
-        Ok(()) => DONE,
+        Ok(()) => status,
         Err(_) => explain(Fault::Output, errors),
     }
 }

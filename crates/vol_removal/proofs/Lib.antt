@@ -1,0 +1,5 @@
+mod GoneCalls
+mod GoneNames
+mod GoneTrees
+mod Removals
+mod TakenPaths

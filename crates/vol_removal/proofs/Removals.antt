@@ -1,0 +1,126 @@
+-- What a removal comes to, and why there is none.
+use Rattle.std.proofs.Common.{◌≡◌, ◌∙◌, sym, ap, subst, ℕ, List, [], ◌∷◌, ◌++◌, Err}
+use Rattle.vol_layout.specs.Geometry.{geometry_of}
+use Rattle.vol_judge.specs.Sound.{IsSound}
+use Rattle.vol_dir.specs.Tree.{Tree, tree}
+use Rattle.vol_volume.specs.Answer.{answer}
+use Rattle.vol_volume.specs.Faults.{IsFaultOf}
+use Rattle.vol_volume.specs.Volume.{Mounted, IsConsistent, Accepts, mounted, reads_as}
+use Rattle.vol_import.specs.Making.{AreMade}
+use Rattle.vol_import.specs.Plan.{user}
+use Rattle.vol_import.proofs.MadeCalls.{imported}
+use Rattle.vol_removal.specs.Removal.{IsRemoval, IsNotFound, names_of, call_of}
+use Rattle.vol_removal.specs.Removing.{Removes, IsReason, IsUnmounted, IsStop, unmounted}
+use Rattle.vol_removal.proofs.GoneCalls.{call_gone}
+use Rattle.vol_removal.proofs.TakenPaths.{takes_last}
+use Rattle.vol_dir.specs.declared.refusal.Refusal.TheVariants as refusals
+use Rattle.vol_layout.specs.declared.edition.Edition.{Edition}
+use Rattle.vol_volume.specs.declared.calls.Call.{Call}
+use Rattle.vol_volume.specs.declared.calls.Done.{Done}
+use Rattle.vol_volume.specs.declared.queries.Query.TheVariants as queries
+use Rattle.vol_volume.specs.declared.volume.MountFault.{MountFault}
+use Rattle.vol_volume.specs.declared.volume.MountFault.TheVariants as mounts
+use Rattle.vol_removal.specs.declared.faults.RemovalFault.{RemovalFault}
+use Rattle.vol_removal.specs.declared.faults.RemovalFault.TheVariants as faults
+
+-- calls that are made keep the edition
+edition_kept : (old new : Mounted) (calls : List Call) → AreMade old calls new → new.edition ≡ old.edition
+unfolding AreMade
+edition_kept old new [] made = ap (λ (v : Mounted). v.edition) made
+edition_kept old new (call ∷ calls) made = edition_kept made.0 new calls made.3 ∙ made.2.edition
+
+-- the last of calls that are made
+record EndsWith (new : Mounted) (call : Call) : Type 0 where
+  pub mid : Mounted
+  pub done : Done
+  pub accepts : Accepts mid new call done
+
+ends_with : (old new : Mounted) (inner : List Call) (call : Call) → AreMade old (inner ++ call ∷ []) new → EndsWith new call
+unfolding AreMade
+ends_with old new [] call made = record {
+  mid = old;
+  done = made.1;
+  accepts = subst (λ (v : Mounted). Accepts old v call made.1) (sym made.3) made.2;
+}
+ends_with old new (first ∷ inner) call made = ends_with made.0 new inner call made.3
+
+-- after it the path leads to nothing
+ended_gone : (edition : Edition) (new : Mounted) (path bytes : List ℕ) (now : ℕ) (tree : Tree) → new.edition ≡ edition → bytes ≡ new.image
+    → EndsWith new (call_of now path (names_of tree path)) → answer (reads_as edition bytes).tree (queries.Stat user path) ≡ Err refusals.NoEntry
+ended_gone edition new path bytes now before kept left ends =
+    let g = geometry_of ends.mid.edition ends.mid.image in
+    let same : geometry_of edition bytes ≡ g =
+    ap (geometry_of edition) left ∙ (ap (λ e. geometry_of e new.image) (sym kept ∙ ends.accepts.edition) ∙ sym ends.accepts.performed.changes.ready.sizes) in
+    ap (λ b. answer (tree (geometry_of edition bytes) b) (queries.Stat user path)) left
+    ∙ (ap (λ g. answer (tree g new.image) (queries.Stat user path)) same
+    ∙ call_gone ends.mid new path now (names_of before path) ends.done ends.accepts)
+
+-- all calls are made
+removes_from : (edition : Edition) (image path bytes : List ℕ) (now : ℕ) (new : Mounted) (calls : List Call) → IsSound edition image
+    → IsRemoval (reads_as edition image).tree path now calls → AreMade (mounted edition image) calls new → IsConsistent new → bytes ≡ new.image
+    → Removes edition image path now bytes
+removes_from edition image path bytes now new calls sound removal made consistent left =
+    let before = (reads_as edition image).tree in
+    let last = takes_last before now path calls removal.takes in
+    let ends = ends_with (mounted edition image) new last.0 (call_of now path (names_of before path))
+    (subst (λ cs. AreMade (mounted edition image) cs new) last.1 made) in
+    record {
+      calls = calls;
+      removal = removal;
+      made = imported edition image bytes calls new sound made consistent left;
+      gone = ended_gone edition new path bytes now before (edition_kept (mounted edition image) new calls made) left ends;
+    }
+
+pub all_removed : (edition : Edition) (image path bytes : List ℕ) (now : ℕ) (old new : Mounted) (calls : List Call) → IsSound edition image
+    → old ≡ mounted edition image → IsRemoval (reads_as old.edition old.image).tree path now calls → AreMade old calls new → IsConsistent new → bytes ≡ new.image
+    → Removes edition image path now bytes
+all_removed edition image path bytes now old new calls sound is removal made consistent left =
+    removes_from edition image path bytes now new calls sound
+    (subst (λ (v : Mounted). IsRemoval (reads_as v.edition v.image).tree path now calls) is removal) (subst (λ (v : Mounted). AreMade v calls new) is made) consistent left
+
+-- what isn't mounted is told
+unmounted_reason : (edition : Edition) (image path : List ℕ) (now : ℕ) (why : MountFault) → IsFaultOf edition image why → IsReason edition image path now (unmounted why)
+unfolding IsReason
+unmounted_reason edition image path now (mounts.Unsound rule) is = is
+unmounted_reason edition image path now mounts.NoMemory is = tt
+
+pub no_volume : (edition : Edition) (image path : List ℕ) (now : ℕ) (fault : RemovalFault) → IsUnmounted edition image fault → IsReason edition image path now fault
+unfolding IsUnmounted
+no_volume edition image path now fault is = subst (IsReason edition image path now) (sym is.1) (unmounted_reason edition image path now is.0 is.2)
+
+pub is_unmounted : (edition : Edition) (image : List ℕ) (why : MountFault) (fault : RemovalFault) → fault ≡ unmounted why → IsFaultOf edition image why
+    → IsUnmounted edition image fault
+unfolding IsUnmounted
+is_unmounted edition image why fault is cause = (why, is, cause)
+
+-- a path that leads to nothing is told
+missing_reason : (edition : Edition) (image path : List ℕ) (now : ℕ) (fault : RemovalFault) → IsSound edition image
+    → IsNotFound (reads_as edition image).tree path fault → IsReason edition image path now fault
+unfolding IsReason
+missing_reason edition image path now (faults.Unsound rule) sound is = absurd is
+missing_reason edition image path now (faults.Missing refusal) sound is = (sound, is)
+missing_reason edition image path now (faults.Refused refusal call) sound is = absurd is
+missing_reason edition image path now faults.NoMemory sound is = tt
+
+pub not_found : (edition : Edition) (image path : List ℕ) (now : ℕ) (old : Mounted) (fault : RemovalFault) → IsSound edition image → old ≡ mounted edition image
+    → IsNotFound (reads_as old.edition old.image).tree path fault → IsReason edition image path now fault
+not_found edition image path now old fault sound is missing =
+    missing_reason edition image path now fault sound (subst (λ (v : Mounted). IsNotFound (reads_as v.edition v.image).tree path fault) is missing)
+
+-- a refused call is told
+stop_reason : (edition : Edition) (image path : List ℕ) (now : ℕ) (calls : List Call) (new : Mounted) (fault : RemovalFault) → IsSound edition image
+    → IsRemoval (reads_as edition image).tree path now calls → IsStop (mounted edition image) calls new fault → IsReason edition image path now fault
+unfolding IsStop IsReason
+stop_reason edition image path now calls new (faults.Unsound rule) sound removal is = absurd is
+stop_reason edition image path now calls new (faults.Missing refusal) sound removal is = absurd is
+stop_reason edition image path now calls new (faults.Refused refusal call) sound removal is =
+    (sound, record { calls = calls; removal = removal; volume = new; stopped = is })
+stop_reason edition image path now calls new faults.NoMemory sound removal is = tt
+
+pub not_made : (edition : Edition) (image path : List ℕ) (now : ℕ) (old new : Mounted) (calls : List Call) (fault : RemovalFault) → IsSound edition image
+    → old ≡ mounted edition image → IsRemoval (reads_as old.edition old.image).tree path now calls → IsStop old calls new fault
+    → IsReason edition image path now fault
+not_made edition image path now old new calls fault sound is removal stop =
+    stop_reason edition image path now calls new fault sound
+    (subst (λ (v : Mounted). IsRemoval (reads_as v.edition v.image).tree path now calls) is removal)
+    (subst (λ (v : Mounted). IsStop v calls new fault) is stop)

@@ -1,0 +1,3 @@
+pub mod Laws
+pub mod Removal
+pub mod Removing

@@ -1,0 +1,67 @@
+-- The calls that take away what a path leads to, with all that is below it.
+use Rattle.std.specs.Prelude.{◌≡◌, ℕ, true, if◌then◌else◌, List, [], ◌∷◌, ◌++◌, Option, None, Some, Result, Ok, Err, is_ok}
+use Rattle.std.specs.List.{flat_map}
+use Rattle.vol_dir.specs.Names.{Names, is_dots}
+use Rattle.vol_dir.specs.Tree.{Tree}
+use Rattle.vol_volume.specs.Answer.{answer}
+use Rattle.vol_import.specs.Plan.{user, below}
+use Rattle.vol_dir.specs.declared.refusal.Refusal.{Refusal}
+use Rattle.vol_volume.specs.declared.calls.Call.{Call}
+use Rattle.vol_volume.specs.declared.calls.Call.TheVariants.{Unlink, Rmdir}
+use Rattle.vol_volume.specs.declared.queries.Query.TheVariants.{Stat, List as ListNames}
+use Rattle.vol_volume.specs.declared.queries.Reply.{Reply}
+use Rattle.vol_volume.specs.declared.queries.Reply.TheVariants as replies
+use Rattle.vol_removal.specs.declared.faults.RemovalFault.{RemovalFault}
+use Rattle.vol_removal.specs.declared.faults.RemovalFault.TheVariants as faults
+
+-- the names that a question for them is answered; none where it is refused (this project)
+abbrev pub listed : Result Reply Refusal → Option Names
+listed (Ok (replies.Names names)) = Some names
+listed (Ok (replies.Stat stat)) = None
+listed (Ok (replies.Bytes bytes)) = None
+listed (Err refusal) = None
+
+-- the names of the directory that a path leads to, in ascending order; None where it leads to no directory (Lions on namei)
+abbrev pub names_of : Tree → List ℕ → Option Names
+names_of tree path = listed (answer tree (ListNames user path))
+
+-- the path of a name below a path; of `.` and `..` none (rm)
+abbrev pub path_of : List ℕ → List ℕ → List (List ℕ)
+path_of path name = if is_dots name then [] else below path name ∷ []
+
+-- the paths of what is in the directory that a path leads to (rm)
+abbrev pub paths_of : List ℕ → Option Names → List (List ℕ)
+paths_of path None = []
+paths_of path (Some names) = flat_map (λ (entry : List ℕ × ℕ). path_of path entry.0) names
+
+-- the call that takes away what a path leads to: a directory, or what is none (rm, rmdir)
+abbrev pub call_of : ℕ → List ℕ → Option Names → Call
+call_of now path (Some names) = Rmdir user now path
+call_of now path None = Unlink user now path
+
+-- calls take away what paths lead to, each path in turn: first what is below it, and then itself (rm)
+pub data Takes (tree : Tree) (now : ℕ) : List (List ℕ) → List Call → Type 0 where
+  none : Takes tree now [] []
+  next : (path : List ℕ) (rest : List (List ℕ)) (inner others : List Call)
+      → Takes tree now (paths_of path (names_of tree path)) inner → Takes tree now rest others
+      → Takes tree now (path ∷ rest) (inner ++ call_of now path (names_of tree path) ∷ others)
+
+-- a path leads to something (stat)
+abbrev pub IsFound : Tree → List ℕ → Type 0
+IsFound tree path = is_ok (answer tree (Stat user path)) ≡ true
+
+-- the calls take away what a path leads to, which is something, with all that is below it (rm)
+pub record IsRemoval (tree : Tree) (path : List ℕ) (now : ℕ) (calls : List Call) : Type 0 where
+  pub found : IsFound tree path
+  pub takes : Takes tree now (path ∷ []) calls
+
+-- there are no such calls for this reason: a question for what the path leads to is refused so, or memory runs out (this project)
+abbrev pub IsNotFound : Tree → List ℕ → RemovalFault → Type 0
+IsNotFound tree path (faults.Missing refusal) = answer tree (Stat user path) ≡ Err refusal
+IsNotFound tree path faults.NoMemory = Unit {0}
+IsNotFound tree path (faults.Unsound rule) = ⊥
+IsNotFound tree path (faults.Refused refusal call) = ⊥
+
+-- the fault where memory runs out (this project)
+abbrev pub no_memory : RemovalFault
+no_memory = faults.NoMemory

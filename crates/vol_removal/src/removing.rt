@@ -1,0 +1,79 @@
+//! Taking away what a path leads to, all or nothing.
+ghost use Rattle.std.specs.Prelude.{◌≡◌, IfOk, IfErr, OnOk};
+ghost use Rattle.vol_judge.specs.Sound.{IsSound};
+ghost use Rattle.vol_volume.specs.Volume.{mounted};
+ghost use Rattle.vol_import.specs.Making.{AreMade};
+ghost use Rattle.vol_removal.specs.Removing.{Removes, IsReason, IsUnmounted, IsStop, unmounted};
+
+use crate::faults::RemovalFault;
+use crate::planning::removal;
+use std::alloc::Global;
+use vol_dir::Refusal;
+use vol_import::make_all;
+use vol_layout::Edition;
+use vol_volume::{Call, MountFault, Volume};
+
+/// Takes away what a path of the volume in some bytes leads to, and of a directory all that is below it, and answers the bytes of
+/// the volume then, in which the path leads to nothing. All calls that [`removal`] gives are made, in their order and as user 0; or
+/// nothing is to be saved, and the fault says why: the image first, then the path, and the calls.
+///
+/// Takes memory to mount the image, and what [`removal`] and the calls take. Costs that and the calls: each thing that goes costs
+/// the walk of its path and a search of its directory.
+pub fn remove_all(
+    alloc: Global,
+    edition: Edition,
+    image: Vec<u8>,
+    path: &[u8],
+    now: u32,
+) -> Result<Vec<u8>, RemovalFault>
+    ensures removed { IfOk result (λ bytes. Removes edition image.items path.now now bytes.items) }
+    ensures fault { IfErr result (IsReason edition image.items path.now now) }
+{
+    let mut volume = match mount(alloc, edition, image) {
+        Ok(volume) => volume,
+        Err(fault) => return Err(fault),
+    };
+    let calls = match removal(alloc, &volume, path, now) {
+        Ok(calls) => calls,
+        Err(fault) => return Err(fault),
+    };
+    match make(alloc, &mut volume, calls) {
+        Ok(()) => Ok(volume.unmount()),
+        Err(fault) => Err(fault),
+    }
+}
+
+/// Mounts the volume in some bytes.
+fn mount(alloc: Global, edition: Edition, image: Vec<u8>) -> Result<Volume, RemovalFault>
+    ensures mounted { IfOk result (λ volume. volume ≡ mounted edition image.items) }
+    ensures sound { OnOk result (IsSound edition image.items) }
+    ensures fault { IfErr result (IsUnmounted edition image.items) }
+{
+    match Volume::mount(alloc, edition, image) {
+        Ok(volume) => Ok(volume),
+        Err((fault, _)) => Err(unmounted(fault)),
+    }
+}
+
+/// A volume isn't mounted, for this reason.
+fn unmounted(fault: MountFault) -> RemovalFault
+    ensures { result ≡ unmounted fault }
+{
+    match fault {
+        MountFault::Unsound(rule) => RemovalFault::Unsound(rule),
+        MountFault::NoMemory => RemovalFault::NoMemory,
+    }
+}
+
+/// Makes calls on a volume, and tells which of them is refused.
+#[tactic(auto, unfolding(crate::specs::Removing::IsStop))]
+fn make(alloc: Global, volume: &mut Volume, calls: Vec<Call>) -> Result<(), RemovalFault>
+    ensures made { OnOk result (AreMade volume.old calls.items volume.new) }
+    ensures fault { IfErr result (IsStop volume.old calls.items volume.new) }
+{
+    match make_all(alloc, volume, calls) {
+        Ok(()) => Ok(()),
+        Err((Refusal::NoMemory, _)) => Err(RemovalFault::NoMemory),
+        Err((refusal, call)) => Err(RemovalFault::Refused(refusal, call)),
+    }
+}

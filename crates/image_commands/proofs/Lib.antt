@@ -1,6 +1,11 @@
+pub mod Asked
+pub mod Calendar
+pub mod Columns
+pub mod Descents
 pub mod Exported
 pub mod InOrder
 pub mod Mapped
+pub mod NodesRead
 pub mod Printed
 pub mod Shown
 pub mod Told

@@ -1,6 +1,7 @@
 -- What printing a text comes to.
 use Rattle.std.proofs.Common.{◌≡◌, ℕ, true, List, [], Option, Result, Ok, Err, IfOk, IfErr, inl, inr, refl, subst}
 use Rattle.std.specs.Prelude.{String}
+use Rattle.std.specs.Global.{Vec}
 use Rattle.std.specs.String.{string_bytes}
 use Rattle.std.specs.declared.alloc.Global.{Global}
 use Rattle.std.specs.Io.KnownBytes.{Appends, Keeps}
@@ -38,6 +39,13 @@ pub one_of : (IsText : List ℕ → Type 0) (IsFault : Fault → Type 0) (stream
     → IfErr text (λ fault. IsTold streams fault status) → PrintsOne IsText IsFault streams status
 one_of IsText IsFault streams status (Ok t) is why prints told = inl (string_bytes t, is, prints)
 one_of IsText IsFault streams status (Err fault) is why prints told = inr (fault, why, told)
+
+-- the same of a text of any bytes
+pub one_of_bytes : (IsText : List ℕ → Type 0) (IsFault : Fault → Type 0) (streams : Streams) (status : ℕ) (text : Result (Vec ℕ) Fault)
+    → IfOk text (λ t. IsText t.items) → IfErr text IsFault → IfOk text (λ t. Prints streams t.items status)
+    → IfErr text (λ fault. IsTold streams fault status) → PrintsOne IsText IsFault streams status
+one_of_bytes IsText IsFault streams status (Ok t) is why prints told = inl (t.items, is, prints)
+one_of_bytes IsText IsFault streams status (Err fault) is why prints told = inr (fault, why, told)
 
 -- known bytes that nobody touched stay
 pub kept_same : (known : Option (List ℕ)) → Keeps known known

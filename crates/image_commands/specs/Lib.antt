@@ -1,10 +1,16 @@
 pub mod Checking
+pub mod Dates
 pub mod Exporting
 pub mod Faults
 pub mod Json
+pub mod Lines
+pub mod Listing
+pub mod LongLines
 pub mod Looking
 pub mod Mapping
 pub mod Members
+pub mod Places
 pub mod Printing
+pub mod Rows
 pub mod Showing
 pub mod Telling

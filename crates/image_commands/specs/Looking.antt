@@ -4,6 +4,7 @@ use Rattle.vol_layout.specs.declared.edition.Edition.{Edition}
 use Rattle.vol_commands.specs.Jobs.{Streams}
 use Rattle.image_commands.specs.Checking.{Checks}
 use Rattle.image_commands.specs.Exporting.{Exports}
+use Rattle.image_commands.specs.Listing.{Lists}
 use Rattle.image_commands.specs.Mapping.{DrawsMap}
 use Rattle.image_commands.specs.Showing.{ShowsInode, ShowsSuper}
 use Rattle.image_commands.specs.declared.looks.Look.{Look}
@@ -17,3 +18,4 @@ Looks edition image screen streams status (looks.Inode number form) = ShowsInode
 Looks edition image screen streams status (looks.Super form) = ShowsSuper edition image form streams status
 Looks edition image screen streams status (looks.Map picture) = DrawsMap edition image screen picture streams status
 Looks edition image screen streams status looks.Check = Checks edition image streams status
+Looks edition image screen streams status (looks.List path listing) = Lists edition image path.now listing screen streams status

@@ -37,7 +37,7 @@ pub fn check<O: Sink, E: Sink>(
     match make_report(alloc, edition, &image) {
         Ok(report) => {
             let status = verdict_status(report.is_sound);
-            print_with(&report.text, status, output, errors)
+            print_with(report.text.as_bytes(), status, output, errors)
         }
         Err(error) => explain(Fault::from(error), errors),
     }

@@ -4,6 +4,7 @@ ghost use Rattle.image_commands.specs.Looking.{Looks};
 
 use crate::checking::check;
 use crate::exporting::export;
+use crate::listing::list;
 use crate::looks::{Look, Screen};
 use crate::mapping::draw_map;
 use crate::showing::{show_inode, show_super};
@@ -39,5 +40,8 @@ pub fn look<O: Sink, E: Sink>(
         Look::Super { form } => show_super(alloc, edition, image, form, output, errors),
         Look::Map { picture } => draw_map(alloc, edition, image, picture, screen, output, errors),
         Look::Check => check(alloc, edition, image, output, errors),
+        Look::List { path, listing } => {
+            list(alloc, edition, image, path, listing, screen, output, errors)
+        }
     }
 }

@@ -13,6 +13,26 @@ pub enum Look<'a> {
     Map { picture: Picture },
     /// Tell which rules of soundness hold.
     Check,
+    /// List the names in a directory, or a file.
+    List { path: &'a str, listing: Listing },
+}
+
+/// What is listed, and how.
+#[derive(Clone, Copy, Debug, PartialEq, Eq)]
+pub struct Listing {
+    /// What is told of each name.
+    pub lines: Lines,
+    /// Whether the directories below are listed too.
+    pub below: bool,
+}
+
+/// What is told of each name that is listed.
+#[derive(Clone, Copy, Debug, PartialEq, Eq)]
+pub enum Lines {
+    /// Its i-number, on a line.
+    Plain,
+    /// What its i-node says, on a line.
+    Long,
 }
 
 /// How a report is written.

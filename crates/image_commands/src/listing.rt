@@ -1,0 +1,172 @@
+//! The command that lists the names in a directory.
+ghost use Rattle.std.specs.Prelude.{◌≡◌, IfErr, IfOk};
+ghost use Rattle.vol_layout.specs.Geometry.{Fits, geometry_of};
+ghost use Rattle.vol_judge.specs.Sound.{IsSound};
+ghost use Rattle.vol_dir.specs.Tree.{tree};
+ghost use Rattle.vol_volume.specs.declared.queries.Query.TheVariants as questions;
+ghost use Rattle.vol_commands.specs.Faults.{user, Gets, IsRuled};
+ghost use Rattle.vol_commands.specs.Showing.{IsObstacle};
+ghost use Rattle.image_commands.specs.Places.{IsVolume};
+ghost use Rattle.image_commands.specs.Listing.{shown_path, IsBelow, IsFound, IsListing, IsListingOf, Lists};
+
+use crate::directories::USER;
+use crate::lines::{Style, lines_text};
+use crate::looks::{Lines, Listing, Screen};
+use crate::places::{Place, all_below};
+use crate::printing::finish_bytes;
+use pdp_words::{Image, Sink};
+use std::alloc::{AllocError, Global};
+use vol_commands::faults::Fault;
+use vol_judge::examine;
+use vol_layout::{Edition, Geometry};
+use vol_volume::{Bytes, Query, Reply, ask_image};
+
+/// Lists what stands at a path of a sound image: the names in a directory, in ascending order of their bytes, each on a line with its
+/// i-number, and where asked for with what its i-node says; then, where asked for, those of each directory below. What is no directory
+/// has a line of its own. Answers the status: 0; 1 where the image isn't sound, or the path leads nowhere; 3 where `output` failed, 4
+/// where memory ran out. Nothing goes out before all is known. A terminal gets the names escaped.
+///
+/// Costs what [`examine`] costs, a look at each i-node that is told of, and sorting the names of each directory. Takes memory for that
+/// and for the text.
+pub fn list<O: Sink, E: Sink>(
+    alloc: Global,
+    edition: Edition,
+    image: Vec<u8>,
+    path: &str,
+    listing: Listing,
+    screen: Screen,
+    output: &mut O,
+    errors: &mut E,
+) -> u8
+    ensures { Lists edition image.items path.now listing screen (record {
+      old = O.contents output.old;
+      new = O.contents output.new;
+      had_failed = O.failed output.old;
+      failed = O.failed output.new;
+      said = Gets (E.failed errors.new) (E.contents errors.old) (E.contents errors.new);
+    }) result }
+{
+    let image = Image::from_bytes(image);
+    let text = list_image(alloc, edition, &image, path, listing, screen);
+    finish_bytes(text, output, errors)
+}
+
+/// The listing of what stands at a path of an image.
+fn list_image(
+    alloc: Global,
+    edition: Edition,
+    image: &Image,
+    path: &str,
+    listing: Listing,
+    screen: Screen,
+) -> Result<Vec<u8>, Fault>
+    ensures text { IfOk result (λ text. IsListing edition image.now path.now listing screen text.items) }
+    ensures fault { IfErr result (λ fault. IsObstacle edition image.now (questions.Stat user path.now) fault) }
+    ensures ruled { IfErr result IsRuled }
+{
+    match examine(alloc, edition, image, true)? {
+        Ok(examined) => {
+            let geometry = &examined.geometry;
+            list_sound(alloc, edition, image, geometry, path, listing, screen)
+        }
+        Err(rule) => Err(Fault::Unsound(rule)),
+    }
+}
+
+/// The listing of what stands at a path of a sound image.
+fn list_sound(
+    alloc: Global,
+    edition: Edition,
+    image: &Image,
+    geometry: &Geometry,
+    path: &str,
+    listing: Listing,
+    screen: Screen,
+) -> Result<Vec<u8>, Fault>
+    requires sound { IsSound edition image.now }
+    requires sizes { geometry.now ≡ geometry_of edition image.now }
+    requires fits { Fits geometry.now image.now }
+    ensures text { IfOk result (λ text. IsListing edition image.now path.now listing screen text.items) }
+    ensures fault { IfErr result (λ fault. IsObstacle edition image.now (questions.Stat user path.now) fault) }
+    ensures ruled { IfErr result IsRuled }
+{
+    let inode = find(alloc, edition, image, geometry, path)?;
+    let path = Bytes::from_vec(shown_path(alloc, path.as_bytes())?);
+    let start = Place { path, inode };
+    Ok(list_place(alloc, image, geometry, &start, listing, screen)?)
+}
+
+/// The i-number of what stands at a path of a sound image.
+fn find(
+    alloc: Global,
+    edition: Edition,
+    image: &Image,
+    geometry: &Geometry,
+    path: &str,
+) -> Result<u16, Fault>
+    requires sound { IsSound edition image.now }
+    requires sizes { geometry.now ≡ geometry_of edition image.now }
+    ensures found { IfOk result (λ i. IsFound edition image.now path.now i) }
+    ensures fault { IfErr result (λ fault. IsObstacle edition image.now (questions.Stat user path.now) fault) }
+    ensures ruled { IfErr result IsRuled }
+{
+    let path = Bytes::from_vec(Vec::from_slice(alloc, path.as_bytes())?);
+    let query = Query::Stat { cred: USER, path };
+    match ask_image(alloc, image, geometry, &query) {
+        Ok(Reply::Stat(stat)) => Ok(stat.number),
+        Ok(Reply::Bytes(_)) => unreachable!(),
+        Ok(Reply::Names(_)) => unreachable!(),
+        Err(refusal) => Err(Fault::Refused(refusal)),
+    }
+}
+
+/// The path by which a listing begins.
+fn shown_path(alloc: Global, path: &[u8]) -> Result<Vec<u8>, AllocError>
+    ensures { IfOk result (λ shown. shown.items ≡ shown_path path.now) }
+{
+    if path.is_empty() {
+        Vec::from_slice(alloc, b"/")
+    } else {
+        Vec::from_slice(alloc, path)
+    }
+}
+
+/// The listing of what stands at a place.
+fn list_place(
+    alloc: Global,
+    image: &Image,
+    geometry: &Geometry,
+    start: &Place,
+    listing: Listing,
+    screen: Screen,
+) -> Result<Vec<u8>, AllocError>
+    requires { IsVolume geometry.now image.now }
+    ensures { IfOk result (λ text. IsListingOf (tree geometry.now image.now) listing screen start.now text.items) }
+{
+    let below = listing.below;
+    let places = places_below(alloc, image, geometry, start, below)?;
+    let is_long = match listing.lines {
+        Lines::Plain => false,
+        Lines::Long => true,
+    };
+    let style = Style { is_long, screen };
+    lines_text(alloc, image, geometry, style, start, &places, below)
+}
+
+/// The directories below one, where they are asked for.
+fn places_below(
+    alloc: Global,
+    image: &Image,
+    geometry: &Geometry,
+    start: &Place,
+    below: bool,
+) -> Result<Vec<Place>, AllocError>
+    requires { IsVolume geometry.now image.now }
+    ensures { IfOk result (λ places. IsBelow below (tree geometry.now image.now) start.now places.items) }
+{
+    if below {
+        all_below(alloc, image, geometry, start)
+    } else {
+        Ok(Vec::new(alloc))
+    }
+}

@@ -20,6 +20,10 @@ pub(crate) enum Step {
     Mkdir(&'static str),
     /// A file is given a further name.
     Ln(&'static str, &'static str),
+    /// A file or a directory is given other permissions.
+    Chmod(&'static str, u16),
+    /// A file or a directory is given to another user and group.
+    Chown(&'static str, u16, u16),
 }
 
 /// The job of a step, and the bytes that are put.
@@ -36,6 +40,16 @@ fn job_of(step: Step) -> (Job<'static>, &'static [u8]) {
         ),
         Step::Mkdir(path) => (Job::Mkdir { path, now }, b""),
         Step::Ln(from, to) => (Job::Ln { from, to, now }, b""),
+        Step::Chmod(path, perm) => (Job::Chmod { path, perm, now }, b""),
+        Step::Chown(path, uid, gid) => (
+            Job::Chown {
+                path,
+                uid,
+                gid,
+                now,
+            },
+            b"",
+        ),
     }
 }
 

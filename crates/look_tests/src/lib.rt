@@ -10,4 +10,8 @@ mod exports;
 #[cfg(test)]
 mod fixtures;
 #[cfg(test)]
+mod listings;
+#[cfg(test)]
+mod moments;
+#[cfg(test)]
 mod reports;

@@ -3,12 +3,12 @@ use Rattle.std.specs.Prelude.{ℕ, Bool, if◌then◌else◌, List, ◌∷◌, �
 use Rattle.std.specs.List.{flat_map}
 use Rattle.vol_dir.specs.Tree.{Tree}
 use Rattle.vol_dir.specs.Walk.{is_directory}
+use Rattle.escaped_text.specs.Escaping.{escaped}
 use Rattle.vol_change.specs.Nodes.{node_at}
 use Rattle.vol_commands.specs.Showing.{entry_line}
 use Rattle.image_commands.specs.LongLines.{long_line}
 use Rattle.image_commands.specs.Places.{names_under}
 use Rattle.image_commands.specs.Rows.{row_of}
-use Rattle.image_commands.specs.Telling.{escaped}
 use Rattle.image_commands.specs.declared.lines.Style.{Style}
 use Rattle.image_commands.specs.declared.looks.Screen.{Screen}
 use Rattle.image_commands.specs.declared.looks.Screen.TheVariants as screens

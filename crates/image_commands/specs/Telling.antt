@@ -1,6 +1,7 @@
 -- What is told of an export.
-use Rattle.std.specs.Prelude.{◌≡◌, ℕ, ◌+◌, ◌/◌, ◌%◌, ◌==◌, ◌&&◌, nat_lt, nat_le, true, if◌then◌else◌, List, [], ◌∷◌, ◌++◌, codes, decimal, Option, None, Some}
+use Rattle.std.specs.Prelude.{◌≡◌, ℕ, true, List, [], ◌++◌, codes, decimal, Option, None, Some}
 use Rattle.std.specs.List.{flat_map}
+use Rattle.escaped_text.specs.Escaping.{escaped}
 use Rattle.vol_layout.specs.declared.edition.Edition.{Edition}
 use Rattle.vol_layout.specs.declared.geometry.Geometry.{Geometry}
 use Rattle.vol_judge.specs.Sound.{IsJudged}
@@ -11,16 +12,6 @@ use Rattle.vol_archive.specs.declared.found.Role.TheVariants as roles
 use Rattle.vol_archive.specs.declared.found.Reason.{Reason}
 use Rattle.vol_archive.specs.declared.found.Reason.TheVariants as reasons
 use Rattle.vol_commands.specs.Faults.{line_of_rule}
-
--- a byte as a terminal can show it: printable ASCII as it is, but for a backslash, which is doubled; any other as a backslash and
--- three octal digits (ls -b; this project)
-abbrev pub escaped_byte : ℕ → List ℕ
-escaped_byte b =
-    if b == 92 then 92 ∷ 92 ∷ [] else if nat_le 32 b && nat_lt b 127 then b ∷ [] else 92 ∷ (48 + b / 64) ∷ (48 + b / 8 % 8) ∷ (48 + b % 8) ∷ []
-
--- bytes as a terminal can show them (ls -b; this project)
-unfoldable pub escaped : List ℕ → List ℕ
-escaped bytes = flat_map escaped_byte bytes
 
 -- why an entry is left out, in plain words (this project)
 abbrev pub reason_text : Reason → List ℕ

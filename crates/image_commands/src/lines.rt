@@ -13,7 +13,7 @@ use crate::long_lines::{padded, push_columns};
 use crate::looks::Screen;
 use crate::places::Place;
 use crate::rows::{Row, row_at};
-use crate::telling::push_escaped;
+use escaped_text::push_escaped;
 use pdp_words::Image;
 use std::alloc::{AllocError, Global};
 use vol_layout::Geometry;

@@ -2,8 +2,9 @@
 ghost use Rattle.std.specs.Prelude.{◌≡◌, ◌≤◌, ◌++◌, IfOk, IfSome, OnOk};
 ghost use Rattle.vol_layout.specs.Geometry.{Fits};
 ghost use Rattle.vol_archive.specs.declared.found.Role.{Role};
-ghost use Rattle.image_commands.specs.Telling.{escaped_byte, escaped, reason_text, role_line, left_lines, shared_line, shared_lines, rule_lines, TellsAll};
+ghost use Rattle.image_commands.specs.Telling.{reason_text, role_line, left_lines, shared_line, shared_lines, rule_lines, TellsAll};
 
+use escaped_text::push_escaped;
 use pdp_words::Image;
 use std::alloc::{AllocError, Global};
 use vol_archive::{Found, Reason, Role};
@@ -90,35 +91,6 @@ fn reason_text(reason: Reason) -> &'static [u8]
         Reason::LongLink => b"the path of its first name is too long for a link",
         Reason::BadName => b"the name is empty or has a slash",
     }
-}
-
-/// Appends bytes as a terminal can show them.
-pub(crate) fn push_escaped(text: &mut Vec<u8>, bytes: &[u8]) -> Result<(), AllocError>
-    ensures { OnOk result (text.new.items ≡ text.old.items ++ escaped bytes.now) }
-{
-    for byte in bytes {
-        push_escaped_byte(text, *byte)?;
-    }
-    Ok(())
-}
-
-/// Appends a byte as a terminal can show it.
-fn push_escaped_byte(text: &mut Vec<u8>, byte: u8) -> Result<(), AllocError>
-    ensures { OnOk result (text.new.items ≡ text.old.items ++ escaped_byte byte) }
-{
-    if byte == b'\\' {
-        return Ok(text.extend_from_slice(b"\\\\")?);
-    }
-    if byte >= 32 && byte < 127 {
-        return Ok(text.push(byte)?);
-    }
-    let digits = [
-        b'\\',
-        b'0' + byte / 64,
-        b'0' + byte / 8 % 8,
-        b'0' + byte % 8,
-    ];
-    Ok(text.extend_from_slice(&digits)?)
 }
 
 /// Appends the lines of blocks that two places of files name.

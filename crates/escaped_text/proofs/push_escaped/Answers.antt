@@ -1,8 +1,8 @@
 use Rattle.std.proofs.Common.{◌++◌, ap, ◌∙◌, arith}
 use Rattle.std.specs.List.{flat_map}
 use Rattle.std.proofs.lemmas.List.{take_all}
-use Rattle.image_commands.specs.Telling.{escaped, escaped_byte}
-use Rattle.image_commands.proofs.telling.push_escaped.Goals as goal
+use Rattle.escaped_text.specs.Escaping.{escaped, escaped_byte}
+use Rattle.escaped_text.proofs.push_escaped.Goals as goal
 
 pub returns : goal.returns
 unfolding escaped

@@ -1,7 +1,7 @@
 use Rattle.std.proofs.Common.{◌≡◌, ◌++◌, take}
 use Rattle.std.specs.List.{flat_map}
-use Rattle.image_commands.specs.Telling.{escaped_byte}
-use Rattle.image_commands.proofs.telling.push_escaped.Given as goal
+use Rattle.escaped_text.specs.Escaping.{escaped_byte}
+use Rattle.escaped_text.proofs.push_escaped.Given as goal
 
 -- the bytes so far are there
 abbrev pub invariant-loop-byte : goal.invariant-loop-byte

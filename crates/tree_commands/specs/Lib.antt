@@ -1,0 +1,6 @@
+pub mod Directories
+pub mod Editing
+pub mod Finding
+pub mod Importing
+pub mod Moving
+pub mod Telling

@@ -1,0 +1,66 @@
+//! The command that makes the members of an archive.
+ghost use Rattle.std.specs.Prelude.{◌≡◌};
+ghost use Rattle.std.specs.Io.KnownBytes.{Keeps};
+ghost use Rattle.vol_volume.specs.Volume.{reads_as};
+ghost use Rattle.vol_import.specs.Making.{calls_to_make};
+ghost use Rattle.vol_commands.specs.Faults.{Gets};
+ghost use Rattle.tree_commands.specs.Importing.{ImportsArchive, TellsFault};
+ghost use Rattle.tree_commands.specs.Telling.{IsRuled};
+
+use crate::telling::{line_of, status_of};
+use pdp_words::{Sink, write_all};
+use std::alloc::Global;
+use vol_commands::Answer;
+use vol_commands::answer::explain;
+use vol_commands::faults::Fault;
+use vol_commands::status::DONE;
+use vol_dir::Refusal;
+use vol_import::{ImportFault, import};
+use vol_layout::Edition;
+
+/// Makes the members of an archive below a path of a volume, all or none. Nothing is to be saved where the image isn't sound, the
+/// archive can't be read, a member can't be made, or a call is refused: the line tells the first of these that comes, with the rule,
+/// the byte of the archive, or the path, whose bytes are escaped that a terminal can't show.
+///
+/// Takes memory as [`vol_import::import`] does, and for the line.
+pub fn import_archive<O: Sink, E: Sink>(
+    alloc: Global,
+    edition: Edition,
+    image: Vec<u8>,
+    archive: &[u8],
+    path: &str,
+    now: u32,
+    _output: &mut O,
+    errors: &mut E,
+) -> Answer
+    ensures imported { ImportsArchive edition image.items (calls_to_make (reads_as edition image.items).tree archive.now path.now now)
+        (Gets (E.failed errors.new) (E.contents errors.old) (E.contents errors.new)) result }
+    ensures unprinted { Keeps (O.contents _output.old) (O.contents _output.new) }
+    ensures unused { O.failed _output.new ≡ O.failed _output.old }
+{
+    match import(alloc, edition, image, archive, path.as_bytes(), now) {
+        Ok(bytes) => Answer {
+            status: DONE,
+            image: Some(bytes),
+        },
+        Err(fault) => Answer {
+            status: tell(alloc, &fault, errors),
+            image: None,
+        },
+    }
+}
+
+/// Writes the line of why an archive isn't imported, and answers its status; or those of want of memory, where the line has none.
+/// Where it can't be written, the status tells.
+fn tell<E: Sink>(alloc: Global, fault: &ImportFault, errors: &mut E) -> u8
+    requires { IsRuled fault.now }
+    ensures { TellsFault fault.now (Gets (E.failed errors.new) (E.contents errors.old) (E.contents errors.new)) result }
+{
+    match line_of(alloc, fault) {
+        Ok(line) => {
+            let _ = write_all(errors, &line);
+            status_of(fault)
+        }
+        Err(_) => explain(Fault::Refused(Refusal::NoMemory), errors),
+    }
+}

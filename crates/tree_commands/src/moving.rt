@@ -1,0 +1,107 @@
+//! The command that gives a file another name.
+ghost use Rattle.std.specs.Prelude.{◌≡◌, IfOk, IfErr};
+ghost use Rattle.std.specs.Io.KnownBytes.{Keeps};
+ghost use Rattle.vol_volume.specs.Answer.{answer};
+ghost use Rattle.vol_volume.specs.Volume.{reads_as};
+ghost use Rattle.vol_volume.specs.declared.queries.Query.TheVariants as questions;
+ghost use Rattle.vol_commands.specs.Changing.{Makes, IsReason, ChangesVolume};
+ghost use Rattle.vol_commands.specs.Faults.{Gets, user};
+ghost use Rattle.vol_import.specs.Plan.{below};
+ghost use Rattle.tree_commands.specs.Finding.{found_by};
+ghost use Rattle.tree_commands.specs.Moving.{target_of, move_calls};
+
+use crate::finding::{Found, find, last_name};
+use crate::making::{USER, copy, make_calls, mount, push};
+use pdp_words::Sink;
+use std::alloc::{AllocError, Global};
+use vol_commands::Answer;
+use vol_commands::answer::conclude;
+use vol_commands::faults::Fault;
+use vol_layout::Edition;
+use vol_volume::{Bytes, Call, Volume};
+
+/// `mv`: gives a file a further name, and takes away the one that it had. Where `to` is a directory, the new name is the last of
+/// `from` in it. A directory isn't moved, which is refused as IsDirectory; and a name that is there, also one of the same file, is
+/// refused as Exists.
+pub fn mv<O: Sink, E: Sink>(
+    alloc: Global,
+    edition: Edition,
+    image: Vec<u8>,
+    from: &str,
+    to: &str,
+    now: u32,
+    _output: &mut O,
+    errors: &mut E,
+) -> Answer
+    ensures changed { ChangesVolume edition image.items (move_calls (reads_as edition image.items).tree now from.now to.now)
+        (Gets (E.failed errors.new) (E.contents errors.old) (E.contents errors.new)) result }
+    ensures unprinted { Keeps (O.contents _output.old) (O.contents _output.new) }
+    ensures unused { O.failed _output.new ≡ O.failed _output.old }
+{
+    conclude(move_file(alloc, edition, image, from, to, now), errors)
+}
+
+/// Makes the calls of `mv`.
+fn move_file(
+    alloc: Global,
+    edition: Edition,
+    image: Vec<u8>,
+    from: &str,
+    to: &str,
+    now: u32,
+) -> Result<Vec<u8>, Fault>
+    ensures made { IfOk result (λ bytes. Makes edition image.items (move_calls (reads_as edition image.items).tree now from.now to.now) bytes.items) }
+    ensures fault { IfErr result (IsReason edition image.items (move_calls (reads_as edition image.items).tree now from.now to.now)) }
+{
+    let mut volume = mount(alloc, edition, image)?;
+    let calls = move_calls(alloc, &volume, from.as_bytes(), to.as_bytes(), now)?;
+    make_calls(alloc, &mut volume, calls)?;
+    Ok(volume.unmount())
+}
+
+/// The calls of `mv`.
+fn move_calls(
+    alloc: Global,
+    volume: &Volume,
+    from: &[u8],
+    to: &[u8],
+    now: u32,
+) -> Result<Vec<Call>, AllocError>
+    ensures { IfOk result (λ calls. calls.items ≡ move_calls (reads_as volume.now.edition volume.now.image).tree now from.now to.now) }
+{
+    let link = Call::Link {
+        cred: USER,
+        now,
+        source: copy(alloc, from)?,
+        target: target_of(alloc, volume, from, to)?,
+    };
+    let unlink = Call::Unlink {
+        cred: USER,
+        now,
+        path: copy(alloc, from)?,
+    };
+    let mut calls = Vec::new(alloc);
+    push(&mut calls, link)?;
+    push(&mut calls, unlink)?;
+    Ok(calls)
+}
+
+/// The path of the new name of a file.
+fn target_of(alloc: Global, volume: &Volume, from: &[u8], to: &[u8]) -> Result<Bytes, AllocError>
+    ensures { IfOk result (λ target. target ≡ target_of (found_by (answer (reads_as volume.now.edition volume.now.image).tree (questions.Stat user to.now))) from.now to.now) }
+{
+    match find(alloc, volume, to)? {
+        Found::Directory => name_in(alloc, to, last_name(from)),
+        Found::File | Found::Nothing => copy(alloc, to),
+    }
+}
+
+/// The path of a name in a directory.
+fn name_in(alloc: Global, directory: &[u8], name: &[u8]) -> Result<Bytes, AllocError>
+    ensures { IfOk result (λ path. path ≡ below directory.now name.now) }
+{
+    let mut path = Vec::from_slice(alloc, directory)?;
+    path.push(b'/')?;
+    path.extend_from_slice(name)?;
+    Ok(Bytes::from_vec(path))
+}

@@ -72,8 +72,8 @@ pub struct Outcomes {
 /// any bytes.
 ///
 /// The time grows with the image's blocks and the slots of its directories, whatever they hold, and with sorting the names of
-/// each directory. The memory is a few bytes for each block, and the names of one directory at a time. An error only where memory
-/// is refused.
+/// each directory. The memory is a few bytes for each block and i-number, and the names of one directory at a time. An error only
+/// where memory is refused.
 pub fn check_rules(alloc: Global, edition: Edition, image: &Image) -> Result<Outcomes, AllocError>
     ensures { IfOk result (Tells edition image.now) }
 {

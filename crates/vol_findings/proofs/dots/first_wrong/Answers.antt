@@ -1,8 +1,16 @@
 use Rattle.std.proofs.Common.{◌+◌, arith}
-use Rattle.vol_judge.proofs.Deciding.{fails}
-use Rattle.vol_findings.proofs.Dotted.{keep_more, keep_all}
+use Rattle.vol_judge.proofs.Deciding.{holds, fails}
+use Rattle.vol_findings.proofs.Dotted.{each_keeps, keep_more, keep_all}
 use Rattle.vol_findings.proofs.dots.first_wrong.Goals as goal
 use Rattle.vol_findings.proofs.dots.first_wrong.Goals.{then-needs_dots+in_default, else-needs_dots}
+
+pub returns-in-Some : goal.returns-in-Some
+returns-in-Some c =
+    let needs = holds c.needs_dots.result c.needs_dots.ensures c.if-needs_dots.true in
+    let wrong = c.in-Some.ensures in (
+      record { d = c.loop-d.d; needs = needs; before = c.loop-d.invariant; wrong = wrong.0 },
+      λ rule. wrong.1 (each_keeps rule c.loop-d.d needs),
+    )
 
 pub loop-d-preserved : goal.loop-d-preserved
 loop-d-preserved c =

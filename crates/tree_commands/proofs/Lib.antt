@@ -1,2 +1,3 @@
 pub mod Imported
 pub mod Made
+pub mod Removed

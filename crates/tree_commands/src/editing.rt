@@ -6,6 +6,7 @@ use crate::directories::mkdir_all;
 use crate::edits::Edit;
 use crate::importing::import_archive;
 use crate::moving::mv;
+use crate::removing::rm_all;
 use pdp_words::Sink;
 use std::alloc::Global;
 use vol_commands::Answer;
@@ -41,5 +42,6 @@ pub fn edit<O: Sink, E: Sink>(
             mkdir_all(alloc, edition, image, path, now, output, errors)
         }
         Edit::Move { from, to, now } => mv(alloc, edition, image, from, to, now, output, errors),
+        Edit::RmAll { path, now } => rm_all(alloc, edition, image, path, now, output, errors),
     }
 }

@@ -20,4 +20,9 @@ pub enum Edit<'a> {
         to: &'a str,
         now: u32,
     },
+    /// Take away what a path leads to, and of a directory all that is below it.
+    RmAll {
+        path: &'a str,
+        now: u32,
+    },
 }

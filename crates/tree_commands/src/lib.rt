@@ -8,6 +8,7 @@ pub mod finding;
 pub mod importing;
 mod making;
 pub mod moving;
+pub mod removing;
 mod telling;
 
 pub use editing::edit;

@@ -11,3 +11,5 @@ mod fixtures;
 mod imports;
 #[cfg(test)]
 mod moves;
+#[cfg(test)]
+mod removals;

@@ -1,0 +1,65 @@
+//! The command that takes away what a path leads to, with all that is below it.
+ghost use Rattle.std.specs.Prelude.{◌≡◌, IfOk, IfErr};
+ghost use Rattle.std.specs.Io.KnownBytes.{Keeps};
+ghost use Rattle.vol_commands.specs.Faults.{Gets};
+ghost use Rattle.vol_removal.specs.Removing.{Removes};
+ghost use Rattle.tree_commands.specs.Removing.{fault_of, IsCause, RemovesTree};
+
+use pdp_words::Sink;
+use std::alloc::Global;
+use vol_commands::Answer;
+use vol_commands::answer::conclude;
+use vol_commands::faults::Fault;
+use vol_dir::Refusal;
+use vol_layout::Edition;
+use vol_removal::{RemovalFault, remove_all};
+
+/// `rm -r`: takes away what a path leads to, and of a directory all that is below it. All of it goes, or nothing is to be saved:
+/// where the image isn't sound, the path leads to nothing, or a call is refused. The last call is, for the root or for a path whose
+/// last name is `.` (Invalid) or `..` (NoEntry, since what leads there is gone by then).
+///
+/// Takes memory as [`vol_removal::remove_all`] does, and costs what that costs.
+pub fn rm_all<O: Sink, E: Sink>(
+    alloc: Global,
+    edition: Edition,
+    image: Vec<u8>,
+    path: &str,
+    now: u32,
+    _output: &mut O,
+    errors: &mut E,
+) -> Answer
+    ensures removed { RemovesTree edition image.items path.now now (Gets (E.failed errors.new) (E.contents errors.old) (E.contents errors.new)) result }
+    ensures unprinted { Keeps (O.contents _output.old) (O.contents _output.new) }
+    ensures unused { O.failed _output.new ≡ O.failed _output.old }
+{
+    conclude(remove(alloc, edition, image, path, now), errors)
+}
+
+/// Takes away what a path leads to, with all that is below it.
+fn remove(
+    alloc: Global,
+    edition: Edition,
+    image: Vec<u8>,
+    path: &str,
+    now: u32,
+) -> Result<Vec<u8>, Fault>
+    ensures removed { IfOk result (λ bytes. Removes edition image.items path.now now bytes.items) }
+    ensures fault { IfErr result (IsCause edition image.items path.now now) }
+{
+    match remove_all(alloc, edition, image, path.as_bytes(), now) {
+        Ok(bytes) => Ok(bytes),
+        Err(fault) => Err(fault_of(fault)),
+    }
+}
+
+/// The fault of a command where nothing is taken away for this reason.
+fn fault_of(fault: RemovalFault) -> Fault
+    ensures { result ≡ fault_of fault }
+{
+    match fault {
+        RemovalFault::Unsound(rule) => Fault::Unsound(rule),
+        RemovalFault::Missing(refusal) => Fault::Refused(refusal),
+        RemovalFault::Refused(refusal, _) => Fault::Refused(refusal),
+        RemovalFault::NoMemory => Fault::Refused(Refusal::NoMemory),
+    }
+}

@@ -35,29 +35,31 @@ reset() {
     fi
 }
 
-# microseconds FILE WORD..: runs a command, its output in FILE, and leaves the microseconds that it took in `taken`; its status
-# may be as high as `highest`
+# microseconds FILE WORD..: runs a command, its output in FILE, and leaves the microseconds that it took in `taken`; its standard
+# input is the file `input`, anew in each run, and its status may be as high as `highest`
+input=/dev/null
 highest=0
 microseconds() {
     local file=$1 begin end status
     shift
     begin=${EPOCHREALTIME/./}
-    "$@" > "$file"
+    "$@" < "$input" > "$file"
     status=$?
     end=${EPOCHREALTIME/./}
     [ "$status" -le "$highest" ] || exit 1
     taken=$((end - begin))
 }
 
-# kilobytes WORD..: runs a command, and leaves the greatest memory that was resident, in kilobytes, in `resident`
+# kilobytes WORD..: runs a command, its standard input the file `input`, and leaves the greatest memory that was resident, in
+# kilobytes, in `resident`
 kilobytes() {
     if [ -x /usr/bin/time ]; then
-        resident=$(/usr/bin/time -f %M "$@" 2>&1 > /dev/null | tail -n 1)
+        resident=$(/usr/bin/time -f %M "$@" 2>&1 < "$input" > /dev/null | tail -n 1)
     else
         resident=$(python3 -c 'import os, sys
 null = os.open(os.devnull, os.O_WRONLY)
 child = os.posix_spawn(sys.argv[1], sys.argv[1:], os.environ, file_actions=[(os.POSIX_SPAWN_DUP2, null, 1)])
-print(os.wait4(child, 0)[2].ru_maxrss)' "$@")
+print(os.wait4(child, 0)[2].ru_maxrss)' "$@" < "$input")
     fi
 }
 
@@ -137,10 +139,12 @@ quickest() {
 # checking CHECKER WORKERS IMAGE: the microseconds of ten checks of an image in memory, by so many workers, in `best`
 checking() {
     local once
-    quickest "$checks" 7 "$1" "$2" 1 < "$3"
+    input=$3
+    quickest "$checks" 7 "$1" "$2" 1
     once=$best
-    quickest "$checks" 7 "$1" "$2" 11 < "$3"
+    quickest "$checks" 7 "$1" "$2" 11
     best=$((best - once))
+    input=/dev/null
 }
 
 # asking JOB COUNT VIEWS BYTES: the microseconds of so many queries or calls on a shared volume in memory, in `best`; so many bytes

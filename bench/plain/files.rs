@@ -64,9 +64,13 @@ impl Volume {
         }
     }
 
-    /// The block of a logical block of a file: none for a hole, or where a number lies outside the zone.
+    /// The block of a logical block of a file: none for a hole, where a number lies outside the zone, or past the last address
+    /// of a small file.
     pub fn block(&self, ino: usize, is_large: bool, index: usize) -> Option<usize> {
         let (address, entries, steps) = self.way(is_large, index);
+        if address >= self.layout.address_count {
+            return None;
+        }
         let mut block = self.address(ino, address);
         for entry in &entries[..steps] {
             if !self.is_in_zone(block) {

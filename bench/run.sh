@@ -4,8 +4,8 @@
 # fourth crates/many_views.
 # It needs rustc, some 900 MB of disk, and a machine that does nothing else.
 # Times are the best of five runs of the whole command, by turns; memory is the greatest that was resident in a run.
-# For jobs that mount a volume, the last column is that memory by two copies of the image and one of the file that is put; for
-# the shared volume, how many images it takes more with a view.
+# The last column, where a row has it, is that memory by two copies of the image and one of the file that is put; for the shared
+# volume, how many images it takes more with a view.
 # A row ends with what it is above, where it is above what is wanted.
 # FOLDER names another place for the files than bench/out: one in memory shows the programs without the disk.
 set -uo pipefail
@@ -24,7 +24,7 @@ mkdir -p "$bench/out" "${FOLDER:=$bench/out}"
 plain=$bench/out/plain
 rustc -O --edition 2021 "$bench/plain/main.rs" -o "$plain" || exit 1
 cd "$FOLDER" || exit 1
-trap 'rm -f ours theirs output made.img work.img full.img six.img seven.img sparse.img plain.img wide.img big script.*' EXIT
+trap 'rm -f ours theirs output made.img work.img full.img six.img seven.img sparse.img plain.img wide.img big script.* archive.tar' EXIT
 
 # reset: puts the files back that a command changes; `base` names the image of which it is given a copy, if it is
 base=
@@ -89,7 +89,7 @@ compare() {
     kilobytes "$plain" "$@"
     awk -v label="$label" -v times="$times" -v copies="$copies" -v ours="$ours" -v theirs="$theirs" \
         -v a="$ours_resident" -v b="$resident" 'BEGIN {
-        printf "%-34s %9.1f %9.1f %6.2f %9.1f %9.1f %6.2f", label,
+        printf "%-38s %9.1f %9.1f %6.2f %9.1f %9.1f %6.2f", label,
             ours / 1000, theirs / 1000, ours / theirs, a / 1024, b / 1024, a / b
         if (copies > 0) printf " %6.2f", a * 1024 / copies
         if (times > 0 && ours > times * theirs) printf "  time above %s", times
@@ -101,7 +101,7 @@ compare() {
 # Rust's. The first is to be at most so many TIMES the second.
 row() {
     awk -v label="$1" -v times="$2" -v first="$3" -v second="$4" 'BEGIN {
-        printf "%-34s %9.1f %9.1f %6.2f", label, first / 1000, second / 1000, first / second
+        printf "%-38s %9.1f %9.1f %6.2f", label, first / 1000, second / 1000, first / second
         if (first > times * second) printf "  time above %s", times
         printf "\n" }'
 }
@@ -184,7 +184,7 @@ many() {
 }
 
 echo "load before: $(cut -d ' ' -f 1-3 /proc/loadavg)"
-printf '%-34s %9s %9s %6s %9s %9s %6s %6s\n' job 'ms' 'plain ms' ratio 'MiB' 'plain MiB' ratio copies
+printf '%-38s %9s %9s %6s %9s %9s %6s %6s\n' job 'ms' 'plain ms' ratio 'MiB' 'plain MiB' ratio copies
 
 # Calls on files of directories of 100 and of 5,000 names.
 many 100 100
@@ -233,6 +233,19 @@ base=full.img
 compare 'salvage, 10,000 files' 1.5 0 work.img salvage 7 work.img
 base=
 rm -f full.img ours theirs
+
+# An archive of 100 directories, each with 100 files of 10,000 bytes, from which an empty volume is filled; and all of that
+# volume as an archive again.
+"$plain" mkfs 7 wide.img 230000 1300 0 0 173750400 || exit 1
+"$plain" archive 100 100 10000 > archive.tar || exit 1
+base=wide.img
+input=archive.tar
+compare 'import 10,000 files, 100,000,000 bytes' 1.5 0 work.img import 7 work.img / 173750500
+input=/dev/null
+base=
+mv theirs wide.img
+compare 'export 10,000 files, 100,000,000 bytes' 1.5 0 output export 7 wide.img /
+rm -f wide.img archive.tar ours theirs
 
 # Paths through 10,000 directories one below the other, and a directory of 60,000 names.
 "$plain" deep 7 wide.img 20000 2000 10000 || exit 1
@@ -292,7 +305,7 @@ one=$resident
 kilobytes "$views" calls 1 0 200000 5
 awk -v with="$one" -v without="$resident" 'BEGIN {
     more = (with - without) * 1024 / (200000 * 512)
-    printf "%-34s %36.1f %9.1f %6.2f %6.2f", "a shared volume, with a view", with / 1024, without / 1024, with / without, more
+    printf "%-38s %36.1f %9.1f %6.2f %6.2f", "a shared volume, with a view", with / 1024, without / 1024, with / without, more
     if (more > 2.1) printf "  images above 2.1"
     printf "\n" }'
 echo "load after: $(cut -d ' ' -f 1-3 /proc/loadavg)"

@@ -1,11 +1,13 @@
 //! The jobs of `unixvol` in plain Rust, for `bench/run.sh`: what a programmer would write who wants them done, fast and
-//! with no proofs. It also makes the sample volumes.
+//! with no proofs. It also makes the sample volumes, scripts and archive.
 //!
 //! plain cat 6|7 IMAGE INO
 //! plain ls 6|7 IMAGE PATH
 //! plain mkfs 6|7 IMAGE FSIZE IBLOCKS UID GID NOW
 //! plain put 6|7 IMAGE PATH FILE NOW
 //! plain rm 6|7 IMAGE PATH NOW
+//! plain import 6|7 IMAGE PATH NOW < ARCHIVE
+//! plain export 6|7 IMAGE PATH > ARCHIVE
 //! plain icheck|dcheck|ncheck 6|7 IMAGE WORKERS      by one worker, however many are asked for
 //! plain salvage 6|7 IMAGE
 //! plain migrate OLD NEW FSIZE IBLOCKS NOW
@@ -13,12 +15,14 @@
 //! plain deep 6|7 IMAGE FSIZE IBLOCKS COUNT       a new volume with so many directories, one below the other
 //! plain names 6|7 IMAGE FSIZE IBLOCKS COUNT      a new volume whose directory /many has so many names of two files
 //! plain script FOLDER LINES half|whole           a script of so many calls below /FOLDER; if half, each second line is a query or is refused
+//! plain archive DIRECTORIES FILES BYTES          an archive of so many directories with so many files each, of so many bytes
 //! plain sample 6|7 IMAGE FSIZE IBLOCKS BYTES     a new volume with a file of so many bytes, the i-node after the root's
 //! plain fill 6|7 IMAGE FSIZE IBLOCKS FILES       a new volume with so many files of various sizes, half of them in /many
 //! plain calls DIRECTORIES NAMES create|write [image]     so many calls, as `many_calls` makes them
 //! plain sparse 6|7 IMAGE FSIZE IBLOCKS COUNT     a new volume with so many directories of the greatest size, nearly all holes
 //! plain hostile 6|7 IMAGE FSIZE IBLOCKS PATTERN  a volume, mostly not a sound one, on which a checker may work long (`hostile.rs`)
 
+mod archives;
 mod calls;
 mod checking;
 mod files;
@@ -37,7 +41,7 @@ use std::env;
 use std::error::Error;
 use std::fs::{self, File};
 use std::hint::black_box;
-use std::io::{self, BufWriter, Write};
+use std::io::{self, BufWriter, Read, Write};
 use std::os::fd::AsFd;
 use std::process::ExitCode;
 use volume::{Edition, Volume};
@@ -92,6 +96,13 @@ fn print(write: impl FnOnce(&mut BufWriter<File>) -> Outcome<()>) -> Outcome<()>
     Ok(())
 }
 
+/// All of standard input, not through the standard library's own buffer, which doesn't ask how long a file is.
+fn input() -> Outcome<Vec<u8>> {
+    let mut bytes = Vec::new();
+    File::from(io::stdin().as_fd().try_clone_to_owned()?).read_to_end(&mut bytes)?;
+    Ok(bytes)
+}
+
 fn run(words: &[String]) -> Outcome<()> {
     let words: Vec<&str> = words.iter().map(String::as_str).collect();
     match words[..] {
@@ -121,6 +132,29 @@ fn run(words: &[String]) -> Outcome<()> {
             let mut mounted = Mounted::new(open(edition, image)?)?;
             mounted.volume.unlink(path, now)?;
             mounted.save(image)
+        }
+        ["import", edition, image, path, now] => {
+            let now = now.parse()?;
+            let volume = open(edition, image)?;
+            let archive = input()?;
+            let mut mounted = Mounted::new(volume)?;
+            let journal = mounted.volume.import(&archive, path, now)?;
+            mounted.save(image)?;
+            black_box(&journal);
+            Ok(())
+        }
+        ["export", edition, image, path] => {
+            let volume = open(edition, image)?;
+            let mut left_out = 0;
+            print(|output| {
+                left_out = volume.export(path, output)?;
+                Ok(())
+            })?;
+            volume.judge()?;
+            match left_out {
+                0 => Ok(()),
+                _ => Err(format!("{left_out} entries are left out").into()),
+            }
         }
         ["icheck", edition, image, _workers] => {
             let volume = open(edition, image)?;
@@ -171,6 +205,9 @@ fn run(words: &[String]) -> Outcome<()> {
         ["script", folder, calls, answers] => {
             print(|output| samples::write_script(folder, calls.parse()?, answers == "half", output))
         }
+        ["archive", directories, files, size] => print(|output| {
+            samples::write_archive(directories.parse()?, files.parse()?, size.parse()?, output)
+        }),
         ["sample", edition, image, blocks, list_blocks, size] => {
             let mut volume = make(edition, [blocks, list_blocks, "0", "0", "0"])?;
             volume.put_file(size.parse()?)?;

@@ -111,7 +111,7 @@ impl Volume {
             Kind::Directory => "dir",
             _ => "special",
         };
-        let mode = self.word(self.inode(ino)) & 0o7777;
+        let mode = self.permissions(ino);
         let (links, size) = (self.links(ino), self.size(ino));
         Ok(format!("stat {ino} {kind} {mode:04o} {links} 0 0 {size}"))
     }

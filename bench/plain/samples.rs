@@ -1,5 +1,6 @@
-//! Sample volumes.
+//! Sample volumes, and scripts and an archive to go with them.
 
+use crate::archives::{padding, Header, DIRECTORY, FILE};
 use crate::volume::{Edition, Volume, BLOCK, SLOT};
 use crate::Outcome;
 use std::io::Write;
@@ -174,5 +175,43 @@ pub fn write_script(
             }
         }
     }
+    Ok(())
+}
+
+/// Writes an archive of so many directories with so many files each, of so many bytes. All are of a user and a group, and no
+/// two of one time.
+pub fn write_archive(
+    directories: usize,
+    files: usize,
+    size: usize,
+    output: &mut impl Write,
+) -> Outcome<()> {
+    let mut noise = Noise::new();
+    let mut body = vec![0; size];
+    let mut moment = MOMENT;
+    let mut header = |kind, permissions, size, path: String| {
+        moment += 1;
+        let header = Header {
+            kind,
+            permissions,
+            uid: 3,
+            gid: 1,
+            size,
+            modified: moment,
+            device: 0,
+        };
+        let bytes = header.bytes(path.as_bytes(), &[]);
+        bytes.ok_or("no room for the path")
+    };
+    for d in 0..directories {
+        output.write_all(&header(DIRECTORY, 0o755, 0, format!("d{d}/"))?)?;
+        for f in 0..files {
+            output.write_all(&header(FILE, 0o644, size, format!("d{d}/f{f}"))?)?;
+            noise.fill(&mut body);
+            output.write_all(&body)?;
+            output.write_all(&[0; BLOCK][..padding(size)])?;
+        }
+    }
+    output.write_all(&[0; 2 * BLOCK])?;
     Ok(())
 }

@@ -132,8 +132,15 @@ impl Volume {
         Ok(ino)
     }
 
-    /// Makes an empty file, where its directory hasn't the name: looks for the name and for a free slot in one pass.
+    /// Makes an empty file, where its directory hasn't the name.
     pub fn create(&mut self, path: &str, now: usize) -> Outcome<usize> {
+        let (dir, index, name) = self.new_place(path)?;
+        self.make_file_at(dir, index, name, now)
+    }
+
+    /// The directory of a path, the slot for a new entry, and its name, which the directory hasn't: looks for the name and for
+    /// a free slot in one pass.
+    fn new_place<'a>(&self, path: &'a str) -> Outcome<(usize, usize, &'a [u8])> {
         let names = components(path);
         let (name, above) = names.split_last().ok_or("17 Exists")?;
         let dir = self.directory(self.walk(above)?)?;
@@ -145,8 +152,37 @@ impl Volume {
                 return Err("17 Exists".into());
             }
         }
-        let index = free.unwrap_or(self.size(dir) / SLOT);
-        self.make_file_at(dir, index, name, now)
+        Ok((dir, free.unwrap_or(self.size(dir) / SLOT), name))
+    }
+
+    /// Gives a file a further name.
+    pub fn link(&mut self, source: &str, target: &str, now: usize) -> Outcome<()> {
+        let ino = self.find_path(source)?;
+        if self.kind(ino) == Kind::Directory {
+            return Err("21 IsDirectory".into());
+        }
+        let (dir, index, name) = self.new_place(target)?;
+        let links = self.links(ino);
+        if links >= self.layout.most_links {
+            return Err("31 TooManyLinks".into());
+        }
+        self.put_links(ino, links + 1);
+        self.touch_inode(ino, now);
+        self.enter_at(dir, index, name, ino, now)?;
+        self.put_time(now);
+        Ok(())
+    }
+
+    /// Gives a file or a directory to a user and a group.
+    pub fn chown(&mut self, path: &str, uid: usize, gid: usize, now: usize) -> Outcome<()> {
+        if uid > self.layout.most_id || gid > self.layout.most_id {
+            return Err("104 BadId".into());
+        }
+        let ino = self.find_path(path)?;
+        self.put_owner(ino, uid, gid);
+        self.touch_inode(ino, now);
+        self.put_time(now);
+        Ok(())
     }
 
     /// Makes an empty directory at a path.
@@ -156,6 +192,9 @@ impl Volume {
         let dir = self.directory(self.walk(above)?)?;
         if self.find(dir, name).is_some() {
             return Err("17 Exists".into());
+        }
+        if self.links(dir) >= self.layout.most_links {
+            return Err("31 TooManyLinks".into());
         }
         self.make_directory(dir, name, now)
     }

@@ -9,6 +9,9 @@ pub const FREE_HEAD: usize = 202;
 
 pub const SLOT: usize = 16;
 
+/// The permission bits of a mode, with set-uid, set-gid and sticky.
+const PERMISSIONS: usize = 0o7777;
+
 /// The large flag of the sixth edition.
 const LARGE: usize = 0o010000;
 
@@ -197,18 +200,12 @@ impl Volume {
 
     fn put_root(&mut self, uid: usize, gid: usize, now: usize) {
         let (root, start) = (self.layout.root, self.zone_start);
-        let place = self.inode(root);
-        match self.edition {
-            Edition::V6 => {
-                self.put_inode(root, 0o140777, 2, now);
-                self.bytes[place + 3..place + 5].copy_from_slice(&[uid as u8, gid as u8]);
-            }
-            Edition::V7 => {
-                self.put_inode(root, 0o040777, 2, now);
-                self.put_word(place + 4, uid);
-                self.put_word(place + 6, gid);
-            }
-        }
+        let mode = match self.edition {
+            Edition::V6 => 0o140777,
+            Edition::V7 => 0o040777,
+        };
+        self.put_inode(root, mode, 2, now);
+        self.put_owner(root, uid, gid);
         self.put_size(root, 2 * SLOT);
         self.put_address(root, 0, start);
         self.put_slot(start * BLOCK, root, b".");
@@ -316,6 +313,50 @@ impl Volume {
         match self.edition {
             Edition::V6 => self.bytes[place] = links as u8,
             Edition::V7 => self.put_word(place, links),
+        }
+    }
+
+    pub fn permissions(&self, ino: usize) -> usize {
+        self.word(self.inode(ino)) & PERMISSIONS
+    }
+
+    pub fn put_permissions(&mut self, ino: usize, permissions: usize) {
+        let place = self.inode(ino);
+        let mode = self.word(place) & !PERMISSIONS;
+        self.put_word(place, mode | permissions & PERMISSIONS);
+    }
+
+    /// The user and the group.
+    pub fn owner(&self, ino: usize) -> (usize, usize) {
+        let place = self.inode(ino);
+        match self.edition {
+            Edition::V6 => (
+                usize::from(self.bytes[place + 3]),
+                usize::from(self.bytes[place + 4]),
+            ),
+            Edition::V7 => (self.word(place + 4), self.word(place + 6)),
+        }
+    }
+
+    pub fn put_owner(&mut self, ino: usize, uid: usize, gid: usize) {
+        let place = self.inode(ino);
+        match self.edition {
+            Edition::V6 => {
+                self.bytes[place + 3..place + 5].copy_from_slice(&[uid as u8, gid as u8]);
+            }
+            Edition::V7 => {
+                self.put_word(place + 4, uid);
+                self.put_word(place + 6, gid);
+            }
+        }
+    }
+
+    /// The time when the body last changed.
+    pub fn modified(&self, ino: usize) -> usize {
+        let place = self.inode(ino);
+        match self.edition {
+            Edition::V6 => self.long(place + 28),
+            Edition::V7 => self.long(place + 56),
         }
     }
 

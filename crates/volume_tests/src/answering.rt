@@ -8,7 +8,7 @@ use std::alloc::Global;
 use std::process::Abort;
 use vol_dir::{Cred, Refusal};
 use vol_layout::{Edition, Kind};
-use vol_volume::{Query, Stat, Volume, ask};
+use vol_volume::{MountFault, Query, Stat, Volume, ask};
 
 /// What a file puts into a new volume of the sixth edition with 20 blocks: i-node 2 is a file `-` of the root's, with
 /// the bytes `hello`, that only its owner 3 may read.
@@ -112,4 +112,8 @@ fn volumes_are_asked_unmounted(rt: HostRuntime) {
     let query = Query::List { cred: ROOT, path };
     let answer = ask(alloc, Edition::V7, &image, &query).expect(&rt, "a sound volume");
     check_listed(&rt, alloc, answer, b".\x02..\x02");
+    let mut short = new_bytes(&rt, alloc, Edition::V7, 100, 2);
+    short.truncate(99 * 512);
+    let refused = ask(alloc, Edition::V7, &Image::from_bytes(short), &query);
+    assert_eq!(rt; refused.err(), Some(MountFault::Unsound(1)));
 }

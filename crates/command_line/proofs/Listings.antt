@@ -6,11 +6,15 @@ use Rattle.std.proofs.lemmas.Bool.{ne_eqb}
 use Rattle.std.proofs.lemmas.Slice.Eq.{bytes_eq-Decides}
 use Rattle.clap.proofs.OnLiterals.{clap_on_literals}
 use Rattle.clap.specs.Words.{Row}
-use Rattle.command_words.specs.Asking.{IsEditionNamed, IsGiven, Words, the_word, verb_of}
+use Rattle.command_words.specs.Asking.{AreLinesGiven, IsEditionNamed, IsGiven, Words, first_word, is_set, the_word, verb_of}
 use Rattle.command_words.specs.Verbs.{verb_name}
 use Rattle.command_words.specs.declared.invocation.Invocation.{Invocation}
-use Rattle.command_words.specs.declared.invocation.Invocation.TheVariants.{Cat, Mkfs, Migrate, OnVolume, OnThreads}
+use Rattle.command_words.specs.declared.invocation.Invocation.TheVariants.{Cat, Mkfs, Migrate, OnVolume, OnImage, OnTree, OnThreads}
 use Rattle.command_words.specs.declared.invocation.Work.TheVariants as works
+use Rattle.image_commands.specs.declared.looks.Lines.{Lines}
+use Rattle.image_commands.specs.declared.looks.Lines.TheVariants as lines
+use Rattle.image_commands.specs.declared.looks.Look.TheVariants as looks
+use Rattle.tree_commands.specs.declared.edits.Edit.TheVariants as edits
 use Rattle.vol_commands.specs.declared.jobs.Job.TheVariants as jobs
 use Rattle.vol_check.specs.declared.checker.Checker.TheVariants as checkers
 use Rattle.vol_layout.specs.declared.edition.Edition.{Edition}
@@ -46,13 +50,18 @@ at_names P holds editions are = go editions.ref_ptr editions.now are
 -- the name of the command that was met, and the words for the arguments of `ls`
 abbrev seen : Option (List ℕ × List Row) → List (List ℕ)
 seen None = []
-seen (Some met) = met.0 ∷ the_word (words_by met.1) (codes "EDITION") ∷ the_word (words_by met.1) (codes "IMAGE") ∷ the_word (words_by met.1) (codes "PATH") ∷ []
+seen (Some met) = met.0 ∷ the_word (words_by met.1) (codes "EDITION") ∷ the_word (words_by met.1) (codes "IMAGE") ∷ the_word (words_by met.1) (codes "PATH")
+    ∷ the_word (words_by met.1) (codes "long") ∷ the_word (words_by met.1) (codes "recursive") ∷ []
 
--- the command line takes the words of `ls`, and has them for its arguments
+-- the words of options that weren't given
+abbrev no_options : List (List ℕ)
+no_options = codes "false" ∷ codes "false" ∷ []
+
+-- the command line takes the words of `ls`, and has them for its arguments, and no options
 abbrev IsTaken : Bor (List (Bor (List ℕ))) → Edition → List ℕ → List ℕ → List ℕ → Type 0
 IsTaken editions edition program image path =
     (faults_of (unixvol_app editions) (program ∷ codes "ls" ∷ word_of edition ∷ image ∷ path ∷ []) ≡ [])
-    × (seen (command_in (unixvol_app editions) (program ∷ codes "ls" ∷ word_of edition ∷ image ∷ path ∷ [])) ≡ codes "ls" ∷ word_of edition ∷ image ∷ path ∷ [])
+    × (seen (command_in (unixvol_app editions) (program ∷ codes "ls" ∷ word_of edition ∷ image ∷ path ∷ [])) ≡ codes "ls" ∷ word_of edition ∷ image ∷ path ∷ no_options)
 
 -- the command line takes the words of `ls` where the file and the path begin with no hyphen
 taken : (p q r : ℕ × ℕ) (edition : Edition) (name image path : List ℕ) → IsPlainWord image → IsPlainWord path → IsTaken (names_at p q r) edition name image path
@@ -96,36 +105,79 @@ word_is : (edition : Edition) (word : List ℕ) → IsEditionNamed edition word 
 word_is V6 word named = named
 word_is V7 word named = named
 
+-- no option of `ls` was given
+record HasNoOptions (given : Words) : Type 0 where
+  long : first_word (given (codes "long")) ≡ codes "false"
+  below : first_word (given (codes "recursive")) ≡ codes "false"
+
+-- an option whose word says so was not given
+unset : (words : List (List ℕ)) → first_word words ≡ codes "false" → is_set words ≡ false
+unset words is = ap (λ (word : List ℕ). bytes_eq word (codes "true")) is
+
+-- where no option was given, the lines are plain ones
+plain : (given : Words) (form : Lines) → HasNoOptions given → AreLinesGiven given form → form ≡ lines.Plain
+plain given lines.Plain none are = refl
+plain given lines.Long none are = absurd (true≢false (sym are ∙ unset (given (codes "long")) none.long))
+
+plain_given : (given : Words) (form : Lines) → HasNoOptions given → form ≡ lines.Plain → AreLinesGiven given form
+plain_given given form none is =
+    subst (AreLinesGiven given) (sym is) (unset (given (codes "long")) none.long)
+
 -- what `ls` asks for, by the words for its arguments
 asks_listing : (clock : Option ℕ) (given : Words) (edition : Edition) (image path : List ℕ) (invocation : Invocation) → bytes_eq (codes "ls") (verb_name (verb_of invocation)) ≡ true
-    → the_word given (codes "EDITION") ≡ word_of edition → the_word given (codes "IMAGE") ≡ image → the_word given (codes "PATH") ≡ path → IsGiven clock given invocation → IsListing edition image path invocation
-asks_listing clock given edition image path (Cat volume ino) test e_is i_is p_is is = absurd (true≢false (sym test))
-asks_listing clock given edition image path (Mkfs i volume) test e_is i_is p_is is = absurd (true≢false (sym test))
-asks_listing clock given edition image path (Migrate old new migration) test e_is i_is p_is is = absurd (true≢false (sym test))
-asks_listing clock given edition image path (OnVolume volume (jobs.Ls directory)) test e_is i_is p_is is =
-    (edition_is volume.edition edition (subst (IsEditionNamed volume.edition) e_is is.0.0), is.0.1 ∙ i_is, is.1 ∙ p_is)
-asks_listing clock given edition image path (OnVolume volume (jobs.Get p)) test e_is i_is p_is is = absurd (true≢false (sym test))
-asks_listing clock given edition image path (OnVolume volume (jobs.Put p file now)) test e_is i_is p_is is = absurd (true≢false (sym test))
-asks_listing clock given edition image path (OnVolume volume (jobs.Rm p now)) test e_is i_is p_is is = absurd (true≢false (sym test))
-asks_listing clock given edition image path (OnVolume volume (jobs.Rmdir p now)) test e_is i_is p_is is = absurd (true≢false (sym test))
-asks_listing clock given edition image path (OnVolume volume (jobs.Mkdir p now)) test e_is i_is p_is is = absurd (true≢false (sym test))
-asks_listing clock given edition image path (OnVolume volume (jobs.Ln from to now)) test e_is i_is p_is is = absurd (true≢false (sym test))
-asks_listing clock given edition image path (OnVolume volume (jobs.Chmod p perm now)) test e_is i_is p_is is = absurd (true≢false (sym test))
-asks_listing clock given edition image path (OnVolume volume (jobs.Chown p uid gid now)) test e_is i_is p_is is = absurd (true≢false (sym test))
-asks_listing clock given edition image path (OnVolume volume jobs.Salvage) test e_is i_is p_is is = absurd (true≢false (sym test))
-asks_listing clock given edition image path (OnThreads volume (works.Check checkers.Blocks workers)) test e_is i_is p_is is = absurd (true≢false (sym test))
-asks_listing clock given edition image path (OnThreads volume (works.Check checkers.Entries workers)) test e_is i_is p_is is = absurd (true≢false (sym test))
-asks_listing clock given edition image path (OnThreads volume (works.Check checkers.Names workers)) test e_is i_is p_is is = absurd (true≢false (sym test))
-asks_listing clock given edition image path (OnThreads volume (works.Play scripts)) test e_is i_is p_is is = absurd (true≢false (sym test))
+    → the_word given (codes "EDITION") ≡ word_of edition → the_word given (codes "IMAGE") ≡ image → the_word given (codes "PATH") ≡ path → HasNoOptions given
+    → IsGiven clock given invocation → IsListing edition image path invocation
+asks_listing clock given edition image path (Cat volume ino) test e_is i_is p_is none is = absurd (true≢false (sym test))
+asks_listing clock given edition image path (Mkfs i volume) test e_is i_is p_is none is = absurd (true≢false (sym test))
+asks_listing clock given edition image path (Migrate old new migration) test e_is i_is p_is none is = absurd (true≢false (sym test))
+asks_listing clock given edition image path (OnVolume volume (jobs.Ls directory)) test e_is i_is p_is none is = absurd is.1
+asks_listing clock given edition image path (OnVolume volume (jobs.Get p)) test e_is i_is p_is none is = absurd (true≢false (sym test))
+asks_listing clock given edition image path (OnVolume volume (jobs.Put p file now)) test e_is i_is p_is none is = absurd (true≢false (sym test))
+asks_listing clock given edition image path (OnVolume volume (jobs.Rm p now)) test e_is i_is p_is none is = absurd (true≢false (sym test))
+asks_listing clock given edition image path (OnVolume volume (jobs.Rmdir p now)) test e_is i_is p_is none is = absurd (true≢false (sym test))
+asks_listing clock given edition image path (OnVolume volume (jobs.Mkdir p now)) test e_is i_is p_is none is = absurd (true≢false (sym test))
+asks_listing clock given edition image path (OnVolume volume (jobs.Ln from to now)) test e_is i_is p_is none is = absurd (true≢false (sym test))
+asks_listing clock given edition image path (OnVolume volume (jobs.Chmod p perm now)) test e_is i_is p_is none is = absurd (true≢false (sym test))
+asks_listing clock given edition image path (OnVolume volume (jobs.Chown p uid gid now)) test e_is i_is p_is none is = absurd (true≢false (sym test))
+asks_listing clock given edition image path (OnVolume volume jobs.Salvage) test e_is i_is p_is none is = absurd (true≢false (sym test))
+asks_listing clock given edition image path (OnImage volume (looks.Export p)) test e_is i_is p_is none is = absurd (true≢false (sym test))
+asks_listing clock given edition image path (OnImage volume (looks.Inode number form)) test e_is i_is p_is none is = absurd (true≢false (sym test))
+asks_listing clock given edition image path (OnImage volume (looks.Super form)) test e_is i_is p_is none is = absurd (true≢false (sym test))
+asks_listing clock given edition image path (OnImage volume (looks.Map picture)) test e_is i_is p_is none is = absurd (true≢false (sym test))
+asks_listing clock given edition image path (OnImage volume looks.Check) test e_is i_is p_is none is = absurd (true≢false (sym test))
+asks_listing clock given edition image path (OnImage volume (looks.List directory listing)) test e_is i_is p_is none is = (
+  edition_is volume.edition edition (subst (IsEditionNamed volume.edition) e_is is.0.0),
+  is.0.1 ∙ i_is,
+  is.1.0 ∙ p_is,
+  plain given listing.lines none is.1.1,
+  is.1.2 ∙ unset (given (codes "recursive")) none.below,
+)
+asks_listing clock given edition image path (OnTree volume (edits.Import p now)) test e_is i_is p_is none is = absurd (true≢false (sym test))
+asks_listing clock given edition image path (OnTree volume (edits.MkdirAll p now)) test e_is i_is p_is none is = absurd (true≢false (sym test))
+asks_listing clock given edition image path (OnTree volume (edits.RmAll p now)) test e_is i_is p_is none is = absurd (true≢false (sym test))
+asks_listing clock given edition image path (OnTree volume (edits.Move from to now)) test e_is i_is p_is none is = absurd (true≢false (sym test))
+asks_listing clock given edition image path (OnThreads volume (works.Check checkers.Blocks workers)) test e_is i_is p_is none is = absurd (true≢false (sym test))
+asks_listing clock given edition image path (OnThreads volume (works.Check checkers.Entries workers)) test e_is i_is p_is none is = absurd (true≢false (sym test))
+asks_listing clock given edition image path (OnThreads volume (works.Check checkers.Names workers)) test e_is i_is p_is none is = absurd (true≢false (sym test))
+asks_listing clock given edition image path (OnThreads volume (works.Play scripts)) test e_is i_is p_is none is = absurd (true≢false (sym test))
+
+-- no option was given, by what was seen
+no_options_by : (met : List ℕ × List Row) (edition : Edition) (image path : List ℕ) → seen (Some met) ≡ codes "ls" ∷ word_of edition ∷ image ∷ path ∷ no_options
+    → HasNoOptions (words_by met.1)
+no_options_by met edition image path is = record {
+  long = ap (λ (l : List (List ℕ)). slice_index_or l 4 []) is;
+  below = ap (λ (l : List (List ℕ)). slice_index_or l 5 []) is;
+}
 
 -- what `ls` asks for, by the command that was met and the rows of its words
-listed : (clock : Option ℕ) (met : Option (List ℕ × List Row)) (edition : Edition) (image path : List ℕ) (invocation : Invocation) → seen met ≡ codes "ls" ∷ word_of edition ∷ image ∷ path ∷ []
+listed : (clock : Option ℕ) (met : Option (List ℕ × List Row)) (edition : Edition) (image path : List ℕ) (invocation : Invocation) → seen met ≡ codes "ls" ∷ word_of edition ∷ image ∷ path ∷ no_options
     → MetAsks clock met invocation → IsListing edition image path invocation
 listed clock None edition image path invocation is asks = absurd asks
 listed clock (Some met) edition image path invocation is asks =
     let name : met.0 ≡ codes "ls" = ap (λ (l : List (List ℕ)). slice_index_or l 0 []) is in
     asks_listing clock (words_by met.1) edition image path invocation (same _ _ (sym name ∙ asks.0)) (ap (λ (l : List (List ℕ)). slice_index_or l 1 []) is)
-    (ap (λ (l : List (List ℕ)). slice_index_or l 2 []) is) (ap (λ (l : List (List ℕ)). slice_index_or l 3 []) is) asks.1
+    (ap (λ (l : List (List ℕ)). slice_index_or l 2 []) is) (ap (λ (l : List (List ℕ)). slice_index_or l 3 []) is)
+    (no_options_by met edition image path is) asks.1
 
 -- an edition is named by its word
 word_names : (edition : Edition) → IsEditionNamed edition (word_of edition)
@@ -134,25 +186,12 @@ word_names V7 = refl
 
 -- where the words of `ls` were met, they ask for that listing
 listing_asks : (clock : Option ℕ) (met : Option (List ℕ × List Row)) (edition : Edition) (image path : List ℕ) (invocation : Invocation)
-    → seen met ≡ codes "ls" ∷ word_of edition ∷ image ∷ path ∷ [] → IsListing edition image path invocation → MetAsks clock met invocation
+    → seen met ≡ codes "ls" ∷ word_of edition ∷ image ∷ path ∷ no_options → IsListing edition image path invocation → MetAsks clock met invocation
 listing_asks clock None edition image path invocation is listed = absurd (cc)
 listing_asks clock (Some met) edition image path (Cat volume ino) is listed = absurd listed
 listing_asks clock (Some met) edition image path (Mkfs i volume) is listed = absurd listed
 listing_asks clock (Some met) edition image path (Migrate old new migration) is listed = absurd listed
-listing_asks clock (Some met) edition image path (OnVolume volume (jobs.Ls directory)) is listed =
-    let name : met.0 ≡ codes "ls" = ap (λ (l : List (List ℕ)). slice_index_or l 0 []) is in
-    let word : the_word (words_by met.1) (codes "EDITION") ≡ word_of edition = ap (λ (l : List (List ℕ)). slice_index_or l 1 []) is in
-    let file : the_word (words_by met.1) (codes "IMAGE") ≡ image = ap (λ (l : List (List ℕ)). slice_index_or l 2 []) is in
-    let end : the_word (words_by met.1) (codes "PATH") ≡ path = ap (λ (l : List (List ℕ)). slice_index_or l 3 []) is in (
-      name,
-      (
-        (
-          subst (λ (e : Edition). IsEditionNamed e (the_word (words_by met.1) (codes "EDITION"))) (sym listed.0) (subst (IsEditionNamed edition) (sym word) (word_names edition)),
-          listed.1 ∙ sym file,
-        ),
-        listed.2 ∙ sym end,
-      ),
-    )
+listing_asks clock (Some met) edition image path (OnVolume volume (jobs.Ls directory)) is listed = absurd listed
 listing_asks clock (Some met) edition image path (OnVolume volume (jobs.Get p)) is listed = absurd listed
 listing_asks clock (Some met) edition image path (OnVolume volume (jobs.Put p file now)) is listed = absurd listed
 listing_asks clock (Some met) edition image path (OnVolume volume (jobs.Rm p now)) is listed = absurd listed
@@ -162,6 +201,31 @@ listing_asks clock (Some met) edition image path (OnVolume volume (jobs.Ln from 
 listing_asks clock (Some met) edition image path (OnVolume volume (jobs.Chmod p perm now)) is listed = absurd listed
 listing_asks clock (Some met) edition image path (OnVolume volume (jobs.Chown p uid gid now)) is listed = absurd listed
 listing_asks clock (Some met) edition image path (OnVolume volume jobs.Salvage) is listed = absurd listed
+listing_asks clock (Some met) edition image path (OnImage v (looks.Export p)) is listed = absurd listed
+listing_asks clock (Some met) edition image path (OnImage v (looks.Inode number form)) is listed = absurd listed
+listing_asks clock (Some met) edition image path (OnImage v (looks.Super form)) is listed = absurd listed
+listing_asks clock (Some met) edition image path (OnImage v (looks.Map picture)) is listed = absurd listed
+listing_asks clock (Some met) edition image path (OnImage v looks.Check) is listed = absurd listed
+listing_asks clock (Some met) edition image path (OnImage volume (looks.List directory listing)) is listed =
+    let name : met.0 ≡ codes "ls" = ap (λ (l : List (List ℕ)). slice_index_or l 0 []) is in
+    let word : the_word (words_by met.1) (codes "EDITION") ≡ word_of edition = ap (λ (l : List (List ℕ)). slice_index_or l 1 []) is in
+    let file : the_word (words_by met.1) (codes "IMAGE") ≡ image = ap (λ (l : List (List ℕ)). slice_index_or l 2 []) is in
+    let none = no_options_by met edition image path is in
+    let end : the_word (words_by met.1) (codes "PATH") ≡ path = ap (λ (l : List (List ℕ)). slice_index_or l 3 []) is in (
+      name,
+      (
+        (
+          subst (λ (e : Edition). IsEditionNamed e (the_word (words_by met.1) (codes "EDITION"))) (sym listed.0) (subst (IsEditionNamed edition) (sym word) (word_names edition)),
+          listed.1 ∙ sym file,
+        ),
+        (
+          listed.2 ∙ sym end,
+          plain_given (words_by met.1) listing.lines none listed.3,
+          listed.4 ∙ sym (unset (words_by met.1 (codes "recursive")) none.below),
+        ),
+      ),
+    )
+listing_asks clock (Some met) edition image path (OnTree v edit) is listed = absurd listed
 listing_asks clock (Some met) edition image path (OnThreads v work) is listed = absurd listed
 
 -- the words of `ls` ask for a listing, where they have its edition's word

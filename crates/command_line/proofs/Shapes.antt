@@ -83,6 +83,7 @@ unfolding need_rule
 need_simple name needs.Once = refl
 need_simple name needs.Maybe = refl
 need_simple name needs.Several = refl
+need_simple name (needs.Flag letter) = refl
 
 -- nor does what its words have to be
 kind_simple : (editions : Bor (List (Bor (List ℕ)))) (kind : Kind) (argument : Rule) → (kind_rule editions kind argument).is_simple ≡ argument.is_simple

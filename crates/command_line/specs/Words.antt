@@ -4,6 +4,7 @@ use Rattle.std.specs.Borrow.{Bor}
 use Rattle.clap.specs.Lexer.{usize_max}
 use Rattle.clap.specs.Simple.{new_shape}
 use Rattle.clap.specs.Words.{App, Kinds, Row, Rule, Shape, app_of, fault_of, new_rule, rule_of, shape_of, subcommand_of, with_subcommand}
+use Rattle.clap.specs.declared.builder.action.ArgAction.TheVariants as actions
 use Rattle.clap.specs.declared.builder.arg.Arg.{Arg}
 use Rattle.clap.specs.declared.builder.command.Command.{Command}
 use Rattle.clap.specs.declared.builder.value_parser.ValueParser.TheVariants as parsers
@@ -35,6 +36,7 @@ unfoldable pub need_rule : List ℕ → Need → Rule
 need_rule name needs.Once = record (new_rule name) { required = true }
 need_rule name needs.Maybe = new_rule name
 need_rule name needs.Several = record (new_rule name) { required = true; range = Some (record { start_inclusive = 1; end_inclusive = usize_max }) }
+need_rule name (needs.Flag letter) = record (new_rule name) { long = Some name; short = letter; action = Some actions.SetTrue }
 
 -- the argument, of which an edition's words are one of these texts (this project)
 abbrev pub kind_rule : Bor (List (Bor (List ℕ))) → Kind → Rule → Rule

@@ -1,10 +1,10 @@
 //! The command line, built from the table of commands.
-ghost use Rattle.std.specs.Prelude.{◌≡◌, IfOk};
+ghost use Rattle.std.specs.Prelude.{◌≡◌, None, IfOk};
 ghost use Rattle.command_words.specs.Verbs.{argument_of, verb_name};
 ghost use Rattle.command_words.specs.declared.parameters.Need.TheVariants as needs;
 ghost use Rattle.command_line.specs.Words.{AreEditions, app, argument_rule, named_shape, need_rule, program, rule, shape, unixvol_app, verb_shape};
 
-use clap::{Arg, Command};
+use clap::{Arg, ArgAction, Command};
 use command_words::parameters::EDITIONS;
 use command_words::{Kind, Need, Parameter, VERBS, Verb, texts};
 use std::alloc::{AllocError, Global};
@@ -94,6 +94,7 @@ fn needed<'a>(alloc: Global, name: &'a str, help: &'a str, need: Need) -> Arg<'a
         Need::Once => required(alloc, name, help),
         Need::Maybe => optional(alloc, name, help),
         Need::Several => several(alloc, name, help),
+        Need::Flag(letter) => flag(alloc, name, letter, help),
     }
 }
 
@@ -118,4 +119,27 @@ fn several<'a>(alloc: Global, name: &'a str, help: &'a str) -> Arg<'a>
     ensures { rule result ≡ need_rule name.entry.now needs.Several }
 {
     required(alloc, name, help).num_args(1..)
+}
+
+/// An option, with a letter of its own or without.
+#[tactic(auto, unfolding(crate::specs::Words::rule, crate::specs::Words::need_rule))]
+fn flag<'a>(alloc: Global, name: &'a str, letter: Option<char>, help: &'a str) -> Arg<'a>
+    ensures { rule result ≡ need_rule name.entry.now (needs.Flag letter) }
+{
+    let option = long_flag(alloc, name, help);
+    match letter {
+        Some(letter) => option.short(letter),
+        None => option,
+    }
+}
+
+/// An option without a letter.
+#[tactic(auto, unfolding(crate::specs::Words::rule, crate::specs::Words::need_rule))]
+fn long_flag<'a>(alloc: Global, name: &'a str, help: &'a str) -> Arg<'a>
+    ensures { rule result ≡ need_rule name.entry.now (needs.Flag None) }
+{
+    Arg::new(alloc, name)
+        .long(name)
+        .action(ArgAction::SetTrue)
+        .help(help)
 }

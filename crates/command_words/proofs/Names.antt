@@ -11,34 +11,48 @@ named text =
     cond (bytes_eq text (codes "cat")) verbs.Cat
     (cond (bytes_eq text (codes "ls")) verbs.Ls
     (cond (bytes_eq text (codes "get")) verbs.Get
+    (cond (bytes_eq text (codes "export")) verbs.Export
+    (cond (bytes_eq text (codes "inode")) verbs.Inode
+    (cond (bytes_eq text (codes "super")) verbs.Super
+    (cond (bytes_eq text (codes "map")) verbs.Map
+    (cond (bytes_eq text (codes "check")) verbs.Check
     (cond (bytes_eq text (codes "icheck")) verbs.Icheck
     (cond (bytes_eq text (codes "dcheck")) verbs.Dcheck
     (cond (bytes_eq text (codes "ncheck")) verbs.Ncheck
     (cond (bytes_eq text (codes "mkfs")) verbs.Mkfs
     (cond (bytes_eq text (codes "put")) verbs.Put
+    (cond (bytes_eq text (codes "import")) verbs.Import
     (cond (bytes_eq text (codes "rm")) verbs.Rm
     (cond (bytes_eq text (codes "rmdir")) verbs.Rmdir
     (cond (bytes_eq text (codes "mkdir")) verbs.Mkdir
     (cond (bytes_eq text (codes "ln")) verbs.Ln
+    (cond (bytes_eq text (codes "mv")) verbs.Mv
     (cond (bytes_eq text (codes "chmod")) verbs.Chmod
     (cond (bytes_eq text (codes "chown")) verbs.Chown
     (cond (bytes_eq text (codes "salvage")) verbs.Salvage
-    (cond (bytes_eq text (codes "play")) verbs.Play verbs.Migrate)))))))))))))))
+    (cond (bytes_eq text (codes "play")) verbs.Play verbs.Migrate))))))))))))))))))))))
 
 -- a command is found by its name
 named_by_its_name : (verb : Verb) → named (verb_name verb) ≡ verb
 named_by_its_name verbs.Cat = refl
 named_by_its_name verbs.Ls = refl
 named_by_its_name verbs.Get = refl
+named_by_its_name verbs.Export = refl
+named_by_its_name verbs.Inode = refl
+named_by_its_name verbs.Super = refl
+named_by_its_name verbs.Map = refl
+named_by_its_name verbs.Check = refl
 named_by_its_name verbs.Icheck = refl
 named_by_its_name verbs.Dcheck = refl
 named_by_its_name verbs.Ncheck = refl
 named_by_its_name verbs.Mkfs = refl
 named_by_its_name verbs.Put = refl
+named_by_its_name verbs.Import = refl
 named_by_its_name verbs.Rm = refl
 named_by_its_name verbs.Rmdir = refl
 named_by_its_name verbs.Mkdir = refl
 named_by_its_name verbs.Ln = refl
+named_by_its_name verbs.Mv = refl
 named_by_its_name verbs.Chmod = refl
 named_by_its_name verbs.Chown = refl
 named_by_its_name verbs.Salvage = refl

@@ -4,12 +4,14 @@ use Rattle.std.specs.Borrow.{Bor}
 use Rattle.std.proofs.lemmas.List.{length-map}
 use Rattle.vol_layout.specs.declared.edition.Edition.{Edition}
 use Rattle.vol_layout.specs.declared.edition.Edition.TheVariants.{V6, V7}
+use Rattle.image_commands.specs.declared.looks.Look.TheVariants as looks
+use Rattle.tree_commands.specs.declared.edits.Edit.TheVariants as edits
 use Rattle.vol_check.specs.declared.checker.Checker.TheVariants as checkers
 use Rattle.vol_commands.specs.declared.jobs.Job.TheVariants as jobs
 use Rattle.command_words.specs.Asking.{AreValues, IsEditionNamed, IsGiven, IsOneWrong, NameAsksFor, Words, verb_of}
 use Rattle.command_words.specs.Verbs.{Argument, IsNoCommand, arguments_of, verb_name}
 use Rattle.command_words.specs.declared.invocation.Invocation.{Invocation}
-use Rattle.command_words.specs.declared.invocation.Invocation.TheVariants.{Cat, Mkfs, Migrate, OnVolume, OnThreads}
+use Rattle.command_words.specs.declared.invocation.Invocation.TheVariants.{Cat, Mkfs, Migrate, OnVolume, OnImage, OnTree, OnThreads}
 use Rattle.command_words.specs.declared.invocation.Work.TheVariants as works
 use Rattle.command_words.specs.declared.verbs.Verb.{Verb}
 use Rattle.command_words.proofs.Names.{verb_name-injective}
@@ -37,13 +39,13 @@ values_given clock given (Mkfs image volume) is = (
   (tt, (is.1.1.0, (is.1.2.0, (is.1.3.0, (is.1.4.0, ((volume.now, is.1.5), tt)))))),
 )
 values_given clock given (Migrate old new migration) is = (tt, (tt, (is.2.0.0, (is.2.1.0, ((migration.now, is.2.2), tt)))))
-values_given clock given (OnVolume volume (jobs.Ls path)) is = (edition_value volume.edition _ is.0.0, (tt, (tt, tt)))
+values_given clock given (OnVolume volume (jobs.Ls path)) is = absurd is.1
 values_given clock given (OnVolume volume (jobs.Get path)) is = (edition_value volume.edition _ is.0.0, (tt, (tt, tt)))
 values_given clock given (OnVolume volume (jobs.Put path file now)) is =
     (edition_value volume.edition _ is.0.0, (tt, (tt, (tt, ((now, is.1.2), tt)))))
-values_given clock given (OnVolume volume (jobs.Rm path now)) is = (edition_value volume.edition _ is.0.0, (tt, (tt, ((now, is.1.1), tt))))
+values_given clock given (OnVolume volume (jobs.Rm path now)) is = (edition_value volume.edition _ is.0.0, (tt, (tt, ((now, is.1.1), (tt, tt)))))
 values_given clock given (OnVolume volume (jobs.Rmdir path now)) is = (edition_value volume.edition _ is.0.0, (tt, (tt, ((now, is.1.1), tt))))
-values_given clock given (OnVolume volume (jobs.Mkdir path now)) is = (edition_value volume.edition _ is.0.0, (tt, (tt, ((now, is.1.1), tt))))
+values_given clock given (OnVolume volume (jobs.Mkdir path now)) is = (edition_value volume.edition _ is.0.0, (tt, (tt, ((now, is.1.1), (tt, tt)))))
 values_given clock given (OnVolume volume (jobs.Ln from to now)) is =
     (edition_value volume.edition _ is.0.0, (tt, (tt, (tt, ((now, is.1.2), tt)))))
 values_given clock given (OnVolume volume (jobs.Chmod path perm now)) is =
@@ -51,6 +53,17 @@ values_given clock given (OnVolume volume (jobs.Chmod path perm now)) is =
 values_given clock given (OnVolume volume (jobs.Chown path uid gid now)) is =
     (edition_value volume.edition _ is.0.0, (tt, (tt, (is.1.1.0, (is.1.2.0, ((now, is.1.3), tt))))))
 values_given clock given (OnVolume volume jobs.Salvage) is = (edition_value volume.edition _ is.0.0, (tt, tt))
+values_given clock given (OnImage volume (looks.Export path)) is = (edition_value volume.edition _ is.0.0, (tt, (tt, tt)))
+values_given clock given (OnImage volume (looks.Inode number form)) is = (edition_value volume.edition _ is.0.0, (tt, (is.1.0.0, (tt, tt))))
+values_given clock given (OnImage volume (looks.Super form)) is = (edition_value volume.edition _ is.0.0, (tt, (tt, tt)))
+values_given clock given (OnImage volume (looks.Map picture)) is = (edition_value volume.edition _ is.0.0, (tt, (tt, tt)))
+values_given clock given (OnImage volume looks.Check) is = (edition_value volume.edition _ is.0.0, (tt, tt))
+values_given clock given (OnImage volume (looks.List path listing)) is = (edition_value volume.edition _ is.0.0, (tt, (tt, (tt, (tt, tt)))))
+values_given clock given (OnTree volume (edits.Import path now)) is = (edition_value volume.edition _ is.0.0, (tt, (tt, ((now, is.1.1), tt))))
+values_given clock given (OnTree volume (edits.MkdirAll path now)) is = (edition_value volume.edition _ is.0.0, (tt, (tt, ((now, is.1.1), (tt, tt)))))
+values_given clock given (OnTree volume (edits.RmAll path now)) is = (edition_value volume.edition _ is.0.0, (tt, (tt, ((now, is.1.1), (tt, tt)))))
+values_given clock given (OnTree volume (edits.Move from to now)) is =
+    (edition_value volume.edition _ is.0.0, (tt, (tt, (tt, ((now, is.1.2), tt)))))
 values_given clock given (OnThreads volume (works.Check checkers.Blocks workers)) is = (edition_value volume.edition _ is.0.0, (tt, (is.1.0, tt)))
 values_given clock given (OnThreads volume (works.Check checkers.Entries workers)) is = (edition_value volume.edition _ is.0.0, (tt, (is.1.0, tt)))
 values_given clock given (OnThreads volume (works.Check checkers.Names workers)) is = (edition_value volume.edition _ is.0.0, (tt, (is.1.0, tt)))

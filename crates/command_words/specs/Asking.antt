@@ -1,6 +1,7 @@
 -- What the words after a command ask for.
 use Rattle.std.specs.Prelude.{◌≡◌, ◌⊎◌, ◌∷◌, ◌≤◌, ℕ, List, [], length, map, Option, Some}
-use Rattle.std.specs.Prelude.{codes}
+use Rattle.std.specs.Prelude.{Bool, false, true, codes}
+use Rattle.std.specs.Str.{bytes_eq}
 use Rattle.vol_layout.specs.declared.edition.Edition.{Edition}
 use Rattle.vol_layout.specs.declared.edition.Edition.TheVariants.{V6, V7}
 use Rattle.word_values.specs.Decimal.{IsNumberUpTo, IsNumberGiven, IsThreads, IsThreadsGiven}
@@ -12,12 +13,22 @@ use Rattle.command_words.specs.declared.fault.Fault.TheVariants as faults
 use Rattle.command_words.specs.declared.parameters.Kind.{Kind}
 use Rattle.command_words.specs.declared.parameters.Kind.TheVariants as kinds
 use Rattle.command_words.specs.declared.invocation.Invocation.{Invocation}
-use Rattle.command_words.specs.declared.invocation.Invocation.TheVariants.{Cat, Mkfs, Migrate, OnVolume, OnThreads}
+use Rattle.command_words.specs.declared.invocation.Invocation.TheVariants.{Cat, Mkfs, Migrate, OnVolume, OnImage, OnTree, OnThreads}
 use Rattle.command_words.specs.declared.invocation.VolumeFile.{VolumeFile}
 use Rattle.command_words.specs.declared.invocation.Work.{Work}
 use Rattle.command_words.specs.declared.invocation.Work.TheVariants as works
 use Rattle.command_words.specs.declared.verbs.Verb.{Verb}
 use Rattle.command_words.specs.declared.verbs.Verb.TheVariants as verbs
+use Rattle.image_commands.specs.declared.looks.Form.{Form}
+use Rattle.image_commands.specs.declared.looks.Form.TheVariants as forms
+use Rattle.image_commands.specs.declared.looks.Lines.{Lines}
+use Rattle.image_commands.specs.declared.looks.Lines.TheVariants as lines
+use Rattle.image_commands.specs.declared.looks.Look.{Look}
+use Rattle.image_commands.specs.declared.looks.Look.TheVariants as looks
+use Rattle.image_commands.specs.declared.looks.Picture.{Picture}
+use Rattle.image_commands.specs.declared.looks.Picture.TheVariants as pictures
+use Rattle.tree_commands.specs.declared.edits.Edit.{Edit}
+use Rattle.tree_commands.specs.declared.edits.Edit.TheVariants as edits
 use Rattle.vol_check.specs.declared.checker.Checker.{Checker}
 use Rattle.vol_check.specs.declared.checker.Checker.TheVariants as checkers
 use Rattle.vol_commands.specs.declared.jobs.Job.{Job}
@@ -37,6 +48,10 @@ first_word (word ∷ more) = word
 -- the first word that was given for an argument, or the empty one (this project)
 abbrev pub the_word : Words → List ℕ → List ℕ
 the_word given name = first_word (given name)
+
+-- an option was given: its word says so (clap's SetTrue)
+abbrev pub is_set : List (List ℕ) → Bool
+is_set words = bytes_eq (first_word words) (codes "true")
 
 -- the word names this edition (this project)
 abbrev pub IsEditionNamed : Edition → List ℕ → Type 0
@@ -58,6 +73,7 @@ IsValue clock kinds.Permissions words = IsOctalUpTo 4095 (first_word words)
 IsValue clock kinds.Threads words = IsThreads (first_word words)
 IsValue clock kinds.Moment words = (now : ℕ) × IsMomentGiven clock words now
 IsValue clock kinds.Scripts words = (1 ≤ length words) × (length words ≤ 64)
+IsValue clock kinds.Flag words = Unit {0}
 
 -- the words that were given for each of these arguments are a value of it (this project)
 abbrev pub AreValues : Option ℕ → Words → List Argument → Type 0
@@ -93,12 +109,30 @@ job_verb (jobs.Chmod path perm now) = verbs.Chmod
 job_verb (jobs.Chown path uid gid now) = verbs.Chown
 job_verb jobs.Salvage = verbs.Salvage
 
+-- the command of what is looked at (this project)
+abbrev pub look_verb : Look → Verb
+look_verb (looks.Export path) = verbs.Export
+look_verb (looks.Inode number form) = verbs.Inode
+look_verb (looks.Super form) = verbs.Super
+look_verb (looks.Map picture) = verbs.Map
+look_verb looks.Check = verbs.Check
+look_verb (looks.List path listing) = verbs.Ls
+
+-- the command of a change by several calls (this project)
+abbrev pub edit_verb : Edit → Verb
+edit_verb (edits.Import path now) = verbs.Import
+edit_verb (edits.MkdirAll path now) = verbs.Mkdir
+edit_verb (edits.RmAll path now) = verbs.Rm
+edit_verb (edits.Move from to now) = verbs.Mv
+
 -- the command that asks for this (this project)
 abbrev pub verb_of : Invocation → Verb
 verb_of (Cat volume ino) = verbs.Cat
 verb_of (Mkfs image volume) = verbs.Mkfs
 verb_of (Migrate old new migration) = verbs.Migrate
 verb_of (OnVolume volume job) = job_verb job
+verb_of (OnImage volume look) = look_verb look
+verb_of (OnTree volume edit) = edit_verb edit
 verb_of (OnThreads volume work) = work_verb work
 
 -- the words name this volume (this project)
@@ -121,18 +155,18 @@ IsMigrationGiven clock given migration = IsNumberGiven 4294967295 (the_word give
     × IsNumberGiven 65535 (the_word given (codes "IBLOCKS")) migration.list_blocks
     × IsMomentGiven clock (given (codes "NOW")) migration.now
 
--- the words describe this job (this project)
+-- the words describe this job; none describe a listing, which is a look (this project)
 abbrev pub IsJobGiven : Option ℕ → Words → Job → Type 0
-IsJobGiven clock given (jobs.Ls path) = path.now ≡ the_word given (codes "PATH")
+IsJobGiven clock given (jobs.Ls path) = ⊥
 IsJobGiven clock given (jobs.Get path) = path.now ≡ the_word given (codes "PATH")
 IsJobGiven clock given (jobs.Put path file now) = (path.now ≡ the_word given (codes "PATH"))
     × (file.now ≡ the_word given (codes "FILE")) × IsMomentGiven clock (given (codes "NOW")) now
 IsJobGiven clock given (jobs.Rm path now) =
-    (path.now ≡ the_word given (codes "PATH")) × IsMomentGiven clock (given (codes "NOW")) now
+    (path.now ≡ the_word given (codes "PATH")) × IsMomentGiven clock (given (codes "NOW")) now × (is_set (given (codes "recursive")) ≡ false)
 IsJobGiven clock given (jobs.Rmdir path now) =
     (path.now ≡ the_word given (codes "PATH")) × IsMomentGiven clock (given (codes "NOW")) now
 IsJobGiven clock given (jobs.Mkdir path now) =
-    (path.now ≡ the_word given (codes "PATH")) × IsMomentGiven clock (given (codes "NOW")) now
+    (path.now ≡ the_word given (codes "PATH")) × IsMomentGiven clock (given (codes "NOW")) now × (is_set (given (codes "parents")) ≡ false)
 IsJobGiven clock given (jobs.Ln from to now) = (from.now ≡ the_word given (codes "FROM"))
     × (to.now ≡ the_word given (codes "TO")) × IsMomentGiven clock (given (codes "NOW")) now
 IsJobGiven clock given (jobs.Chmod path perm now) = (path.now ≡ the_word given (codes "PATH"))
@@ -141,6 +175,42 @@ IsJobGiven clock given (jobs.Chown path uid gid now) = (path.now ≡ the_word gi
     × IsNumberGiven 65535 (the_word given (codes "UID")) uid × IsNumberGiven 65535 (the_word given (codes "GID")) gid
     × IsMomentGiven clock (given (codes "NOW")) now
 IsJobGiven clock given jobs.Salvage = Unit {0}
+
+-- the words ask for a report of this form: JSON where they say so (this project)
+abbrev pub IsFormGiven : Words → Form → Type 0
+IsFormGiven given forms.Text = is_set (given (codes "json")) ≡ false
+IsFormGiven given forms.Json = is_set (given (codes "json")) ≡ true
+
+-- the words ask for a drawing of this form: SVG where they say so (this project)
+abbrev pub IsPictureGiven : Words → Picture → Type 0
+IsPictureGiven given pictures.Cells = is_set (given (codes "svg")) ≡ false
+IsPictureGiven given pictures.Svg = is_set (given (codes "svg")) ≡ true
+
+-- the words ask for lines of this form: long ones where they say so (this project)
+abbrev pub AreLinesGiven : Words → Lines → Type 0
+AreLinesGiven given lines.Plain = is_set (given (codes "long")) ≡ false
+AreLinesGiven given lines.Long = is_set (given (codes "long")) ≡ true
+
+-- the words describe what is looked at (this project)
+abbrev pub IsLookGiven : Words → Look → Type 0
+IsLookGiven given (looks.Export path) = path.now ≡ the_word given (codes "PATH")
+IsLookGiven given (looks.Inode number form) = IsNumberGiven 65535 (the_word given (codes "INO")) number × IsFormGiven given form
+IsLookGiven given (looks.Super form) = IsFormGiven given form
+IsLookGiven given (looks.Map picture) = IsPictureGiven given picture
+IsLookGiven given looks.Check = Unit {0}
+IsLookGiven given (looks.List path listing) = (path.now ≡ the_word given (codes "PATH")) × AreLinesGiven given listing.lines
+    × (listing.below ≡ is_set (given (codes "recursive")))
+
+-- the words describe a change by several calls (this project)
+abbrev pub IsEditGiven : Option ℕ → Words → Edit → Type 0
+IsEditGiven clock given (edits.Import path now) =
+    (path.now ≡ the_word given (codes "PATH")) × IsMomentGiven clock (given (codes "NOW")) now
+IsEditGiven clock given (edits.MkdirAll path now) =
+    (path.now ≡ the_word given (codes "PATH")) × IsMomentGiven clock (given (codes "NOW")) now × (is_set (given (codes "parents")) ≡ true)
+IsEditGiven clock given (edits.RmAll path now) =
+    (path.now ≡ the_word given (codes "PATH")) × IsMomentGiven clock (given (codes "NOW")) now × (is_set (given (codes "recursive")) ≡ true)
+IsEditGiven clock given (edits.Move from to now) = (from.now ≡ the_word given (codes "FROM"))
+    × (to.now ≡ the_word given (codes "TO")) × IsMomentGiven clock (given (codes "NOW")) now
 
 -- the words describe what several threads do (this project)
 abbrev pub IsWorkGiven : Words → Work → Type 0
@@ -155,6 +225,8 @@ IsGiven clock given (Mkfs image volume) = (image.now ≡ the_word given (codes "
 IsGiven clock given (Migrate old new migration) = (old.now ≡ the_word given (codes "OLD"))
     × (new.now ≡ the_word given (codes "NEW")) × IsMigrationGiven clock given migration
 IsGiven clock given (OnVolume volume job) = IsVolumeGiven given volume × IsJobGiven clock given job
+IsGiven clock given (OnTree volume edit) = IsVolumeGiven given volume × IsEditGiven clock given edit
+IsGiven clock given (OnImage volume look) = IsVolumeGiven given volume × IsLookGiven given look
 IsGiven clock given (OnThreads volume work) = IsVolumeGiven given volume × IsWorkGiven given work
 
 -- the command with the words for its arguments asks for this (this project)

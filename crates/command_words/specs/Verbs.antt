@@ -1,5 +1,5 @@
 -- The commands, and the words that each takes.
-use Rattle.std.specs.Prelude.{◌≢◌, ◌∷◌, ℕ, List, [], codes}
+use Rattle.std.specs.Prelude.{◌≢◌, ◌∷◌, ℕ, List, [], None, Some, codes}
 use Rattle.command_words.specs.declared.parameters.Kind.{Kind}
 use Rattle.command_words.specs.declared.parameters.Kind.TheVariants as kinds
 use Rattle.command_words.specs.declared.parameters.Need.{Need}
@@ -36,6 +36,18 @@ long_number name = (name, kinds.Long, needs.Once)
 abbrev pub moment : Argument
 moment = (codes "NOW", kinds.Moment, needs.Maybe)
 
+-- the argument `PATH`, which may be left out (this project)
+abbrev pub maybe_path : Argument
+maybe_path = (codes "PATH", kinds.Text, needs.Maybe)
+
+-- an option with a letter: its name, and the letter (this project)
+abbrev pub lettered : List ℕ → ℕ → Argument
+lettered name letter = (name, kinds.Flag, needs.Flag (Some letter))
+
+-- an option without a letter (this project)
+abbrev pub option : List ℕ → Argument
+option name = (name, kinds.Flag, needs.Flag None)
+
 -- the words of a command on a volume in a file: the edition, the file, and these (this project)
 abbrev pub on_volume : List Argument → List Argument
 on_volume more = edition ∷ word (codes "IMAGE") ∷ more
@@ -49,15 +61,22 @@ abbrev pub verb_name : Verb → List ℕ
 verb_name verbs.Cat = codes "cat"
 verb_name verbs.Ls = codes "ls"
 verb_name verbs.Get = codes "get"
+verb_name verbs.Export = codes "export"
+verb_name verbs.Inode = codes "inode"
+verb_name verbs.Super = codes "super"
+verb_name verbs.Map = codes "map"
+verb_name verbs.Check = codes "check"
 verb_name verbs.Icheck = codes "icheck"
 verb_name verbs.Dcheck = codes "dcheck"
 verb_name verbs.Ncheck = codes "ncheck"
 verb_name verbs.Mkfs = codes "mkfs"
 verb_name verbs.Put = codes "put"
+verb_name verbs.Import = codes "import"
 verb_name verbs.Rm = codes "rm"
 verb_name verbs.Rmdir = codes "rmdir"
 verb_name verbs.Mkdir = codes "mkdir"
 verb_name verbs.Ln = codes "ln"
+verb_name verbs.Mv = codes "mv"
 verb_name verbs.Chmod = codes "chmod"
 verb_name verbs.Chown = codes "chown"
 verb_name verbs.Salvage = codes "salvage"
@@ -67,18 +86,25 @@ verb_name verbs.Migrate = codes "migrate"
 -- the words of a command, in their order (this project)
 abbrev pub arguments_of : Verb → List Argument
 arguments_of verbs.Cat = on_volume (number (codes "INO") ∷ [])
-arguments_of verbs.Ls = on_volume (word (codes "PATH") ∷ [])
+arguments_of verbs.Ls = on_volume (maybe_path ∷ lettered (codes "long") 108 ∷ lettered (codes "recursive") 82 ∷ [])
 arguments_of verbs.Get = on_volume (word (codes "PATH") ∷ [])
+arguments_of verbs.Export = on_volume (maybe_path ∷ [])
+arguments_of verbs.Inode = on_volume (number (codes "INO") ∷ option (codes "json") ∷ [])
+arguments_of verbs.Super = on_volume (option (codes "json") ∷ [])
+arguments_of verbs.Map = on_volume (option (codes "svg") ∷ [])
+arguments_of verbs.Check = on_volume []
 arguments_of verbs.Icheck = of_checker
 arguments_of verbs.Dcheck = of_checker
 arguments_of verbs.Ncheck = of_checker
 arguments_of verbs.Mkfs =
     on_volume (long_number (codes "FSIZE") ∷ number (codes "IBLOCKS") ∷ number (codes "UID") ∷ number (codes "GID") ∷ moment ∷ [])
 arguments_of verbs.Put = on_volume (word (codes "PATH") ∷ word (codes "FILE") ∷ moment ∷ [])
-arguments_of verbs.Rm = on_volume (word (codes "PATH") ∷ moment ∷ [])
+arguments_of verbs.Import = on_volume (maybe_path ∷ moment ∷ [])
+arguments_of verbs.Rm = on_volume (word (codes "PATH") ∷ moment ∷ lettered (codes "recursive") 114 ∷ [])
 arguments_of verbs.Rmdir = on_volume (word (codes "PATH") ∷ moment ∷ [])
-arguments_of verbs.Mkdir = on_volume (word (codes "PATH") ∷ moment ∷ [])
+arguments_of verbs.Mkdir = on_volume (word (codes "PATH") ∷ moment ∷ lettered (codes "parents") 112 ∷ [])
 arguments_of verbs.Ln = on_volume (word (codes "FROM") ∷ word (codes "TO") ∷ moment ∷ [])
+arguments_of verbs.Mv = on_volume (word (codes "FROM") ∷ word (codes "TO") ∷ moment ∷ [])
 arguments_of verbs.Chmod = on_volume (word (codes "PATH") ∷ (codes "PERM", kinds.Permissions, needs.Once) ∷ moment ∷ [])
 arguments_of verbs.Chown = on_volume (word (codes "PATH") ∷ number (codes "UID") ∷ number (codes "GID") ∷ moment ∷ [])
 arguments_of verbs.Salvage = on_volume []
@@ -89,8 +115,9 @@ arguments_of verbs.Migrate =
 -- all commands, in the order in which the help lists them (this project)
 abbrev pub all_verbs : List Verb
 all_verbs =
-    verbs.Cat ∷ verbs.Ls ∷ verbs.Get ∷ verbs.Icheck ∷ verbs.Dcheck ∷ verbs.Ncheck ∷ verbs.Mkfs ∷ verbs.Put ∷ verbs.Rm ∷ verbs.Rmdir
-    ∷ verbs.Mkdir ∷ verbs.Ln ∷ verbs.Chmod ∷ verbs.Chown ∷ verbs.Salvage ∷ verbs.Play ∷ verbs.Migrate ∷ []
+    verbs.Cat ∷ verbs.Ls ∷ verbs.Get ∷ verbs.Export ∷ verbs.Inode ∷ verbs.Super ∷ verbs.Map ∷ verbs.Check ∷ verbs.Icheck ∷ verbs.Dcheck
+    ∷ verbs.Ncheck ∷ verbs.Mkfs ∷ verbs.Put ∷ verbs.Import ∷ verbs.Rm ∷ verbs.Rmdir ∷ verbs.Mkdir ∷ verbs.Ln ∷ verbs.Mv ∷ verbs.Chmod
+    ∷ verbs.Chown ∷ verbs.Salvage ∷ verbs.Play ∷ verbs.Migrate ∷ []
 
 -- the word names no command (this project)
 abbrev pub IsNoCommand : List ℕ → Type 0

@@ -2,7 +2,7 @@
 ghost use Rattle.std.specs.Prelude.{◌≡◌, ◌≤◌, ℕ, List, None, IfOk, IfErr, codes, length, map, option_map, slice_get};
 ghost use Rattle.word_values.specs.Decimal.{IsNumberUpTo, IsNumberGiven, IsThreads, IsThreadsGiven};
 ghost use Rattle.word_values.specs.Octal.{IsOctalUpTo, IsOctalGiven};
-ghost use Rattle.command_words.specs.Asking.{IsEditionNamed, IsMomentGiven, IsValue, IsWrong, TellsOf, the_word};
+ghost use Rattle.command_words.specs.Asking.{IsEditionNamed, IsMomentGiven, IsValue, IsWrong, TellsOf, is_set, the_word};
 ghost use Rattle.command_words.specs.declared.parameters.Kind.TheVariants as kinds;
 
 use crate::fault::{Fault, Said, WrongWord};
@@ -32,6 +32,16 @@ pub(crate) fn text_in<'a, G: Given<'a>>(given: &G, name: &str) -> &'a str
 {
     given.first(name).unwrap_or("")
 }
+
+/// Whether an option was given.
+pub(crate) fn flag_in<'a, G: Given<'a>>(given: &G, name: &str) -> bool
+    ensures { result ≡ is_set (G.words given.now name.now) }
+{
+    text_in(given, name) == SET
+}
+
+/// The word that stands for an option that was given.
+const SET: &str = "true";
 
 /// The edition that was given.
 pub(crate) fn edition_in<'a, G: Given<'a>>(given: &G) -> Result<Edition, Fault<'a>>

@@ -1,4 +1,6 @@
 //! What the user asks for.
+use image_commands::Look;
+use tree_commands::Edit;
 use vol_check::Checker;
 use vol_commands::{Job, Migration};
 use vol_layout::Edition;
@@ -45,6 +47,16 @@ pub enum Invocation<'a> {
     OnVolume {
         volume: VolumeFile<'a>,
         job: Job<'a>,
+    },
+    /// Look at the image in a file, sound or not.
+    OnImage {
+        volume: VolumeFile<'a>,
+        look: Look<'a>,
+    },
+    /// Change the volume in a file by several calls.
+    OnTree {
+        volume: VolumeFile<'a>,
+        edit: Edit<'a>,
     },
     /// Do something with the volume in a file, by several threads.
     OnThreads {

@@ -20,6 +20,8 @@ pub enum Kind {
     Moment,
     /// The names of 1 to 64 scripts.
     Scripts,
+    /// No word of its own: whether the option is there.
+    Flag,
 }
 
 /// How many words there are for an argument.
@@ -31,6 +33,8 @@ pub enum Need {
     Maybe,
     /// One or more.
     Several,
+    /// None: it is an option of this name, and of this letter, if there is one.
+    Flag(Option<char>),
 }
 
 /// An argument of a command.
@@ -203,6 +207,69 @@ const PERM: Parameter = Parameter {
     help: texts::PERM,
 };
 
+const BELOW: Parameter = Parameter {
+    name: "PATH",
+    kind: Kind::Text,
+    need: Need::Maybe,
+    help: texts::BELOW,
+};
+
+const LISTED: Parameter = Parameter {
+    name: "PATH",
+    kind: Kind::Text,
+    need: Need::Maybe,
+    help: texts::LISTED,
+};
+
+const IMPORTED: Parameter = Parameter {
+    name: "PATH",
+    kind: Kind::Text,
+    need: Need::Maybe,
+    help: texts::IMPORTED,
+};
+
+const LONG: Parameter = Parameter {
+    name: "long",
+    kind: Kind::Flag,
+    need: Need::Flag(Some('l')),
+    help: texts::LONG_LINES,
+};
+
+const ALL_BELOW: Parameter = Parameter {
+    name: "recursive",
+    kind: Kind::Flag,
+    need: Need::Flag(Some('R')),
+    help: texts::ALL_BELOW,
+};
+
+const RECURSIVE: Parameter = Parameter {
+    name: "recursive",
+    kind: Kind::Flag,
+    need: Need::Flag(Some('r')),
+    help: texts::RECURSIVE,
+};
+
+const PARENTS: Parameter = Parameter {
+    name: "parents",
+    kind: Kind::Flag,
+    need: Need::Flag(Some('p')),
+    help: texts::PARENTS,
+};
+
+const JSON: Parameter = Parameter {
+    name: "json",
+    kind: Kind::Flag,
+    need: Need::Flag(None),
+    help: texts::JSON,
+};
+
+const SVG: Parameter = Parameter {
+    name: "svg",
+    kind: Kind::Flag,
+    need: Need::Flag(None),
+    help: texts::SVG,
+};
+
 const SCRIPT: Parameter = Parameter {
     name: "SCRIPT",
     kind: Kind::Scripts,
@@ -228,13 +295,13 @@ const NEW: Parameter = Parameter {
 pub static CAT_WORDS: [Parameter; 3] = [EDITION, IMAGE, INO];
 
 /// The words of `ls`.
-pub static LS_WORDS: [Parameter; 3] = [EDITION, IMAGE, DIRECTORY];
+pub static LS_WORDS: [Parameter; 5] = [EDITION, IMAGE, LISTED, LONG, ALL_BELOW];
 
 /// The words of `get`.
 pub static GET_WORDS: [Parameter; 3] = [EDITION, IMAGE, REGULAR];
 
 /// The words of a checker.
-pub static CHECK_WORDS: [Parameter; 3] = [EDITION, IMAGE, WORKERS];
+pub static CHECKER_WORDS: [Parameter; 3] = [EDITION, IMAGE, WORKERS];
 
 /// The words of `mkfs`.
 pub static MKFS_WORDS: [Parameter; 7] = [
@@ -251,13 +318,16 @@ pub static MKFS_WORDS: [Parameter; 7] = [
 pub static PUT_WORDS: [Parameter; 5] = [EDITION, IMAGE, REGULAR, FILE, CALL_NOW];
 
 /// The words of `rm`.
-pub static RM_WORDS: [Parameter; 4] = [EDITION, IMAGE, NAMED, CALL_NOW];
+pub static RM_WORDS: [Parameter; 5] = [EDITION, IMAGE, NAMED, CALL_NOW, RECURSIVE];
 
-/// The words of `rmdir` and `mkdir`.
-pub static DIR_WORDS: [Parameter; 4] = [EDITION, IMAGE, DIRECTORY, CALL_NOW];
+/// The words of `rmdir`.
+pub static RMDIR_WORDS: [Parameter; 4] = [EDITION, IMAGE, DIRECTORY, CALL_NOW];
 
-/// The words of `ln`.
-pub static LN_WORDS: [Parameter; 5] = [EDITION, IMAGE, FROM, TO, CALL_NOW];
+/// The words of `mkdir`.
+pub static MKDIR_WORDS: [Parameter; 5] = [EDITION, IMAGE, DIRECTORY, CALL_NOW, PARENTS];
+
+/// The words of `ln` and `mv`.
+pub static NAMES_WORDS: [Parameter; 5] = [EDITION, IMAGE, FROM, TO, CALL_NOW];
 
 /// The words of `chmod`.
 pub static CHMOD_WORDS: [Parameter; 5] = [EDITION, IMAGE, OWNED, PERM, CALL_NOW];
@@ -265,11 +335,26 @@ pub static CHMOD_WORDS: [Parameter; 5] = [EDITION, IMAGE, OWNED, PERM, CALL_NOW]
 /// The words of `chown`.
 pub static CHOWN_WORDS: [Parameter; 6] = [EDITION, IMAGE, OWNED, NEW_UID, NEW_GID, CALL_NOW];
 
-/// The words of `salvage`.
-pub static SALVAGE_WORDS: [Parameter; 2] = [EDITION, IMAGE];
+/// The words of `salvage` and `check`.
+pub static VOLUME_WORDS: [Parameter; 2] = [EDITION, IMAGE];
 
 /// The words of `play`.
 pub static PLAY_WORDS: [Parameter; 3] = [EDITION, IMAGE, SCRIPT];
 
 /// The words of `migrate`.
 pub static MIGRATE_WORDS: [Parameter; 5] = [OLD, NEW, BLOCKS, LIST_BLOCKS, MIGRATED];
+
+/// The words of `import`.
+pub static IMPORT_WORDS: [Parameter; 4] = [EDITION, IMAGE, IMPORTED, CALL_NOW];
+
+/// The words of `export`.
+pub static EXPORT_WORDS: [Parameter; 3] = [EDITION, IMAGE, BELOW];
+
+/// The words of `inode`.
+pub static INODE_WORDS: [Parameter; 4] = [EDITION, IMAGE, INO, JSON];
+
+/// The words of `super`.
+pub static SUPER_WORDS: [Parameter; 3] = [EDITION, IMAGE, JSON];
+
+/// The words of `map`.
+pub static MAP_WORDS: [Parameter; 3] = [EDITION, IMAGE, SVG];

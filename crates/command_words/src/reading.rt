@@ -1,17 +1,20 @@
 //! What the words after a command ask for.
 ghost use Rattle.std.specs.Prelude.{◌≡◌, None, IfOk, IfErr, codes};
-ghost use Rattle.command_words.specs.Asking.{AsksFor, IsOneWrong, IsValue, IsVolumeGiven, TellsOf, checker_verb};
+ghost use Rattle.command_words.specs.Asking.{AreLinesGiven, AsksFor, IsFormGiven, IsOneWrong, IsPictureGiven, IsValue, IsVolumeGiven, TellsOf, checker_verb};
 ghost use Rattle.command_words.specs.Verbs.{arguments_of, of_checker};
 ghost use Rattle.command_words.specs.declared.parameters.Kind.TheVariants as kinds;
 ghost use Rattle.command_words.specs.declared.verbs.Verb.TheVariants as verbs;
 
 use crate::fault::Fault;
 use crate::given::{
-    Given, edition_in, long_in, moment_in, permissions_in, scripts_in, text_in, threads_in, word_in,
+    Given, edition_in, flag_in, long_in, moment_in, permissions_in, scripts_in, text_in,
+    threads_in, word_in,
 };
 use crate::invocation::{Invocation, VolumeFile, Work};
 use crate::verbs::Verb;
+use image_commands::{Form, Lines, Listing, Look, Picture};
 use std::alloc::Global;
+use tree_commands::Edit;
 use vol_check::Checker;
 use vol_commands::{Job, Migration};
 use vol_volume::NewVolume;
@@ -32,15 +35,22 @@ pub fn read<'a, G: Given<'a>>(
         Verb::Cat => read_cat(given),
         Verb::Ls => read_ls(given),
         Verb::Get => read_get(given),
-        Verb::Icheck => read_check(given, Checker::Blocks),
-        Verb::Dcheck => read_check(given, Checker::Entries),
-        Verb::Ncheck => read_check(given, Checker::Names),
+        Verb::Export => read_export(given),
+        Verb::Inode => read_inode(given),
+        Verb::Super => read_super(given),
+        Verb::Map => read_map(given),
+        Verb::Check => read_check(given),
+        Verb::Icheck => read_checker(given, Checker::Blocks),
+        Verb::Dcheck => read_checker(given, Checker::Entries),
+        Verb::Ncheck => read_checker(given, Checker::Names),
         Verb::Mkfs => read_mkfs(given, clock),
         Verb::Put => read_put(given, clock),
+        Verb::Import => read_import(given, clock),
         Verb::Rm => read_rm(given, clock),
         Verb::Rmdir => read_rmdir(given, clock),
         Verb::Mkdir => read_mkdir(given, clock),
         Verb::Ln => read_ln(given, clock),
+        Verb::Mv => read_mv(given, clock),
         Verb::Chmod => read_chmod(given, clock),
         Verb::Chown => read_chown(given, clock),
         Verb::Salvage => read_salvage(given),
@@ -66,10 +76,25 @@ fn read_ls<'a, G: Given<'a>>(given: &G) -> Result<Invocation<'a>, Fault<'a>>
 {
     let volume = volume_in(given)?;
     let path = text_in(given, "PATH");
-    Ok(Invocation::OnVolume {
+    let listing = Listing {
+        lines: lines_in(given),
+        below: flag_in(given, "recursive"),
+    };
+    Ok(Invocation::OnImage {
         volume,
-        job: Job::Ls { path },
+        look: Look::List { path, listing },
     })
+}
+
+/// What is to be told of each name.
+fn lines_in<'a, G: Given<'a>>(given: &G) -> Lines
+    ensures { AreLinesGiven (G.words given.now) result }
+{
+    if flag_in(given, "long") {
+        Lines::Long
+    } else {
+        Lines::Plain
+    }
 }
 
 /// Reads the words of `get`.
@@ -83,6 +108,93 @@ fn read_get<'a, G: Given<'a>>(given: &G) -> Result<Invocation<'a>, Fault<'a>>
         volume,
         job: Job::Get { path },
     })
+}
+
+/// Reads the words of `export`.
+fn read_export<'a, G: Given<'a>>(given: &G) -> Result<Invocation<'a>, Fault<'a>>
+    ensures read { IfOk result (AsksFor None verbs.Export (G.words given.now)) }
+    ensures refused { IfErr result (TellsOf (IsOneWrong None (G.words given.now) (arguments_of verbs.Export))) }
+{
+    let volume = volume_in(given)?;
+    let path = text_in(given, "PATH");
+    Ok(Invocation::OnImage {
+        volume,
+        look: Look::Export { path },
+    })
+}
+
+/// Reads the words of `inode`.
+fn read_inode<'a, G: Given<'a>>(given: &G) -> Result<Invocation<'a>, Fault<'a>>
+    ensures read { IfOk result (AsksFor None verbs.Inode (G.words given.now)) }
+    ensures refused { IfErr result (TellsOf (IsOneWrong None (G.words given.now) (arguments_of verbs.Inode))) }
+{
+    let volume = volume_in(given)?;
+    let number = word_in(given, "INO")?;
+    let form = form_in(given);
+    Ok(Invocation::OnImage {
+        volume,
+        look: Look::Inode { number, form },
+    })
+}
+
+/// Reads the words of `super`.
+fn read_super<'a, G: Given<'a>>(given: &G) -> Result<Invocation<'a>, Fault<'a>>
+    ensures read { IfOk result (AsksFor None verbs.Super (G.words given.now)) }
+    ensures refused { IfErr result (TellsOf (IsOneWrong None (G.words given.now) (arguments_of verbs.Super))) }
+{
+    let volume = volume_in(given)?;
+    let form = form_in(given);
+    Ok(Invocation::OnImage {
+        volume,
+        look: Look::Super { form },
+    })
+}
+
+/// Reads the words of `map`.
+fn read_map<'a, G: Given<'a>>(given: &G) -> Result<Invocation<'a>, Fault<'a>>
+    ensures read { IfOk result (AsksFor None verbs.Map (G.words given.now)) }
+    ensures refused { IfErr result (TellsOf (IsOneWrong None (G.words given.now) (arguments_of verbs.Map))) }
+{
+    let volume = volume_in(given)?;
+    let picture = picture_in(given);
+    Ok(Invocation::OnImage {
+        volume,
+        look: Look::Map { picture },
+    })
+}
+
+/// Reads the words of `check`.
+fn read_check<'a, G: Given<'a>>(given: &G) -> Result<Invocation<'a>, Fault<'a>>
+    ensures read { IfOk result (AsksFor None verbs.Check (G.words given.now)) }
+    ensures refused { IfErr result (TellsOf (IsOneWrong None (G.words given.now) (arguments_of verbs.Check))) }
+{
+    let volume = volume_in(given)?;
+    Ok(Invocation::OnImage {
+        volume,
+        look: Look::Check,
+    })
+}
+
+/// How a report is to be written.
+fn form_in<'a, G: Given<'a>>(given: &G) -> Form
+    ensures { IsFormGiven (G.words given.now) result }
+{
+    if flag_in(given, "json") {
+        Form::Json
+    } else {
+        Form::Text
+    }
+}
+
+/// How the uses of blocks are to be drawn.
+fn picture_in<'a, G: Given<'a>>(given: &G) -> Picture
+    ensures { IsPictureGiven (G.words given.now) result }
+{
+    if flag_in(given, "svg") {
+        Picture::Svg
+    } else {
+        Picture::Cells
+    }
 }
 
 /// Reads the words of `mkfs`.
@@ -139,6 +251,20 @@ fn read_put<'a, G: Given<'a>>(given: &G, clock: Option<u32>) -> Result<Invocatio
     })
 }
 
+/// Reads the words of `import`.
+fn read_import<'a, G: Given<'a>>(given: &G, clock: Option<u32>) -> Result<Invocation<'a>, Fault<'a>>
+    ensures read { IfOk result (AsksFor clock verbs.Import (G.words given.now)) }
+    ensures refused { IfErr result (TellsOf (IsOneWrong clock (G.words given.now) (arguments_of verbs.Import))) }
+{
+    let volume = volume_in(given)?;
+    let path = text_in(given, "PATH");
+    let now = moment_in(given, clock)?;
+    Ok(Invocation::OnTree {
+        volume,
+        edit: Edit::Import { path, now },
+    })
+}
+
 /// Reads the words of `rm`.
 fn read_rm<'a, G: Given<'a>>(given: &G, clock: Option<u32>) -> Result<Invocation<'a>, Fault<'a>>
     ensures read { IfOk result (AsksFor clock verbs.Rm (G.words given.now)) }
@@ -147,6 +273,12 @@ fn read_rm<'a, G: Given<'a>>(given: &G, clock: Option<u32>) -> Result<Invocation
     let volume = volume_in(given)?;
     let path = text_in(given, "PATH");
     let now = moment_in(given, clock)?;
+    if flag_in(given, "recursive") {
+        return Ok(Invocation::OnTree {
+            volume,
+            edit: Edit::RmAll { path, now },
+        });
+    }
     Ok(Invocation::OnVolume {
         volume,
         job: Job::Rm { path, now },
@@ -175,6 +307,12 @@ fn read_mkdir<'a, G: Given<'a>>(given: &G, clock: Option<u32>) -> Result<Invocat
     let volume = volume_in(given)?;
     let path = text_in(given, "PATH");
     let now = moment_in(given, clock)?;
+    if flag_in(given, "parents") {
+        return Ok(Invocation::OnTree {
+            volume,
+            edit: Edit::MkdirAll { path, now },
+        });
+    }
     Ok(Invocation::OnVolume {
         volume,
         job: Job::Mkdir { path, now },
@@ -193,6 +331,21 @@ fn read_ln<'a, G: Given<'a>>(given: &G, clock: Option<u32>) -> Result<Invocation
     Ok(Invocation::OnVolume {
         volume,
         job: Job::Ln { from, to, now },
+    })
+}
+
+/// Reads the words of `mv`.
+fn read_mv<'a, G: Given<'a>>(given: &G, clock: Option<u32>) -> Result<Invocation<'a>, Fault<'a>>
+    ensures read { IfOk result (AsksFor clock verbs.Mv (G.words given.now)) }
+    ensures refused { IfErr result (TellsOf (IsOneWrong clock (G.words given.now) (arguments_of verbs.Mv))) }
+{
+    let volume = volume_in(given)?;
+    let from = text_in(given, "FROM");
+    let to = text_in(given, "TO");
+    let now = moment_in(given, clock)?;
+    Ok(Invocation::OnTree {
+        volume,
+        edit: Edit::Move { from, to, now },
     })
 }
 
@@ -245,7 +398,7 @@ fn read_salvage<'a, G: Given<'a>>(given: &G) -> Result<Invocation<'a>, Fault<'a>
 }
 
 /// Reads the words of a checker's command.
-fn read_check<'a, G: Given<'a>>(given: &G, checker: Checker) -> Result<Invocation<'a>, Fault<'a>>
+fn read_checker<'a, G: Given<'a>>(given: &G, checker: Checker) -> Result<Invocation<'a>, Fault<'a>>
     ensures read { IfOk result (AsksFor None (checker_verb checker) (G.words given.now)) }
     ensures refused { IfErr result (TellsOf (IsOneWrong None (G.words given.now) of_checker)) }
 {

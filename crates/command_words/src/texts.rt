@@ -90,21 +90,32 @@ pub const LS_ABOUT: &str = "Lists the names in a directory of a volume.";
 pub const LS_MORE: &str = "\
 Example:
   unixvol ls 7 disk.img /usr
+  unixvol ls -l -R 7 disk.img
 
 It prints a line for each name, in ascending order of the names' bytes: the i-number, right-aligned in 5
-places, a space, and the name. `.` and `..` are among them.
+places, a space, and the name. `.` and `..` are among them. A PATH that leads to a file lists that alone.
+
+With -l the i-number is followed by the kind and the permissions, as in -rw-r--r--, the number of links, the user, the
+group, the size in bytes or the two numbers of a device, and the time of modification in UTC. With -R the directories
+below are listed too, each after a line with its path and a colon. On a terminal, bytes of names that are no printable ASCII are shown as a backslash and three octal digits.
 
 A path starts at the root, with or without a slash. Repeated slashes count as one, those at its end as none,
 and each name is cut to 14 bytes. The volume must be sound: its twelve rules are asked first.
 
 Status:
   0  the names were printed
-  1  `unixvol: unsound, rule N`: the volume breaks this rule, and none before it
+  1  `unixvol: unsound, rule N`: the volume breaks this rule, and none before it; `unixvol check` says what breaks it
      `unixvol: 2 NoEntry`: there is no such name
-     `unixvol: 20 NotDirectory`: PATH, or what it leads through, is no directory
+     `unixvol: 20 NotDirectory`: what PATH leads through is no directory
   2  the command line can't be read
   3  `unixvol: cannot read IMAGE`, or `unixvol: cannot write -`: standard output failed
   4  `unixvol: 12 NoMemory`";
+
+pub const LISTED: &str = "The path of a directory or file in the volume; left out, the root";
+
+pub const LONG_LINES: &str = "Tell what each i-node says";
+
+pub const ALL_BELOW: &str = "List the directories below too";
 
 pub const GET_ABOUT: &str = "Prints the bytes of a file of a volume, found by its path.";
 
@@ -119,10 +130,114 @@ and each name is cut to 14 bytes. The volume must be sound: its twelve rules are
 
 Status:
   0  the file was printed
-  1  `unixvol: unsound, rule N`: the volume breaks this rule, and none before it
+  1  `unixvol: unsound, rule N`: the volume breaks this rule, and none before it; `unixvol check` says what breaks it
      `unixvol: 2 NoEntry`: there is no such name
      `unixvol: 20 NotDirectory`: what PATH leads through is no directory
      `unixvol: 21 IsDirectory`, `unixvol: 102 NotRegular`: it is a directory, or a special file
+  2  the command line can't be read
+  3  `unixvol: cannot read IMAGE`, or `unixvol: cannot write -`: standard output failed
+  4  `unixvol: 12 NoMemory`";
+
+pub const EXPORT_ABOUT: &str =
+    "Writes all that is below a directory as a tar archive, of an image that isn't sound too.";
+
+pub const EXPORT_MORE: &str = "\
+Example:
+  unixvol export 7 disk.img /usr > usr.tar
+
+It writes a ustar archive of POSIX to standard output: files, directories and special files, with their permissions,
+owners and times of modification. The names of a file after its first one are links. Members stand in the order of
+their names, by paths from PATH on, and none stands twice.
+
+Of the volume's soundness only the image's size and its super-block's sizes are asked; what can be read is exported.
+Where that isn't all, or the volume isn't sound, each thing is told on a line of standard error, and the status is 1:
+an entry that is left out, with the reason; a block that two files name; and the least rule that the volume breaks.
+
+Status:
+  0  all was exported, and the volume is sound
+  1  what could be read was exported; or nothing was:
+     `unixvol: unsound, rule 1`, `unixvol: unsound, rule 2`: the image is too short, or the sizes don't fit one another
+     `unixvol: 2 NoEntry`: there is no such name
+     `unixvol: 20 NotDirectory`: PATH, or what it leads through, is no directory
+  2  the command line can't be read
+  3  `unixvol: cannot read IMAGE`, or `unixvol: cannot write -`: standard output failed, or is a terminal
+  4  `unixvol: 12 NoMemory`";
+
+pub const BELOW: &str = "The directory's path in the volume; left out, the root";
+
+pub const INODE_ABOUT: &str = "Shows an i-node: its fields, and what its blocks hold.";
+
+pub const INODE_MORE: &str = "\
+Example:
+  unixvol inode 7 disk.img 2
+
+It prints each field by its name in the manual, with the mode and its permissions in octal digits, and then a line for
+each range of blocks: the logical blocks that they hold, or, of an indirect block, from which logical block on it leads
+to blocks, through how many levels. A number that is no data block's is marked so. Of the volume's soundness only the
+image's size and its super-block's sizes are asked.
+
+Status:
+  0  the i-node was shown
+  1  `unixvol: unsound, rule 1`, `unixvol: unsound, rule 2`: the image is too short, or the sizes don't fit one another
+     `unixvol: 2 NoEntry`: there is no i-node of this number
+  2  the command line can't be read
+  3  `unixvol: cannot read IMAGE`, or `unixvol: cannot write -`: standard output failed
+  4  `unixvol: 12 NoMemory`";
+
+pub const JSON: &str = "Print it as JSON";
+
+pub const SUPER_ABOUT: &str = "Shows the super-block, and how many blocks and i-nodes are free.";
+
+pub const SUPER_MORE: &str = "\
+Example:
+  unixvol super 7 disk.img
+
+It prints each field by its name in the manual: the sizes, the front of the free list, the cache of free i-numbers, the
+flags and the time; and then how many data blocks and i-nodes there are, how many of them are free, and the fault at
+which the free list ends, if it has one. Of the volume's soundness only the image's size and its super-block's sizes are
+asked.
+
+Status:
+  0  the super-block was shown
+  1  `unixvol: unsound, rule 1`, `unixvol: unsound, rule 2`: the image is too short, or the sizes don't fit one another
+  2  the command line can't be read
+  3  `unixvol: cannot read IMAGE`, or `unixvol: cannot write -`: standard output failed
+  4  `unixvol: 12 NoMemory`";
+
+pub const MAP_ABOUT: &str = "Draws what each block of a volume is used for.";
+
+pub const MAP_MORE: &str = "\
+Example:
+  unixvol map 7 disk.img
+  unixvol map --svg 7 disk.img > disk.svg
+
+It draws a cell for each block, or for several where there are many, as a letter, with a legend below; on a terminal in
+colours, with as many in a row as COLUMNS says. A cell for several blocks shows the most telling of their uses: named
+twice, lost, super-block, boot, i-list, directory, pointer, file, chain (a block by which the free list goes on), free.
+Of the volume's soundness only the image's size and its super-block's sizes are asked.
+
+Status:
+  0  the blocks were drawn
+  1  `unixvol: unsound, rule 1`, `unixvol: unsound, rule 2`: the image is too short, or the sizes don't fit one another
+  2  the command line can't be read
+  3  `unixvol: cannot read IMAGE`, or `unixvol: cannot write -`: standard output failed
+  4  `unixvol: 12 NoMemory`";
+
+pub const SVG: &str = "Draw it as SVG, which browsers show";
+
+pub const CHECK_ABOUT: &str = "Tells which of the twelve rules of soundness a volume keeps.";
+
+pub const CHECK_MORE: &str = "\
+Example:
+  unixvol check 7 disk.img
+
+It prints a line for each rule, with what it asks and whether it holds; of one that doesn't, what breaks it first, with
+the i-number, the block, or the directory and its slot; or that it isn't asked, since a rule that it needs doesn't hold.
+Where rule 1 or 2 fails and the image could be one of the other edition, a last line says so. Nothing is changed.
+
+Status:
+  0  all rules hold: the volume is sound
+  1  some rule doesn't
   2  the command line can't be read
   3  `unixvol: cannot read IMAGE`, or `unixvol: cannot write -`: standard output failed
   4  `unixvol: 12 NoMemory`";
@@ -144,7 +259,7 @@ and each name is cut to 14 bytes. The volume must be sound: its twelve rules are
 
 Status:
   0  the file was put, and the volume saved
-  1  `unixvol: unsound, rule N`: the volume breaks this rule, and none before it
+  1  `unixvol: unsound, rule N`: the volume breaks this rule, and none before it; `unixvol check` says what breaks it
      `unixvol: 2 NoEntry`, `unixvol: 20 NotDirectory`: PATH doesn't lead to a directory and a name in it
      `unixvol: 21 IsDirectory`, `unixvol: 102 NotRegular`: it is a directory, or a special file
      `unixvol: 27 TooBig`: the edition has no file, or no directory, of that size
@@ -153,13 +268,44 @@ Status:
   3  `unixvol: cannot read IMAGE`, `unixvol: cannot read FILE`, `unixvol: cannot write IMAGE`
   4  `unixvol: 12 NoMemory`";
 
-pub const RM_ABOUT: &str = "Takes a name away from a file of a volume.";
+pub const IMPORT_ABOUT: &str = "Makes the files and directories of a tar archive in a volume.";
+
+pub const IMPORT_MORE: &str = "\
+Example:
+  unixvol import 7 disk.img /usr/src < src.tar
+  unixvol export 6 old.img | unixvol import 7 new.img
+
+It reads an archive from standard input, in the formats of ustar, GNU tar or pax, and makes its members below PATH:
+directories, files with their bytes, permissions, owners and times of modification, and further names of files. All
+are made, or none. A directory that is there stays as it is. A name of more than 14 bytes is refused and never
+cut, and so are special files and symbolic links, which no call of the systems makes. IMAGE is written only where all
+went well: a new file is written beside it and then takes its place.
+
+Status:
+  0  all members were made, and the volume was saved
+  1  `unixvol: unsound, rule N`: the volume breaks this rule, and none before it; `unixvol check` says what breaks it
+     `unixvol: archive, byte N: WHY`: the archive can't be read, from the header at this byte on
+     `unixvol: MEMBER: WHY`: this member can't be made
+     `unixvol: 17 Exists: MEMBER`: something has its path already that isn't the directory wanted
+     `unixvol: 28 NoSpace: MEMBER`, `unixvol: 103 NoInode: MEMBER`: too few blocks, or no i-node, are free; so
+     other refusals of a call, each with its number, its name and the member's path in the volume, where bytes
+     that a terminal can't show are a backslash and three octal digits
+  2  the command line can't be read
+  3  `unixvol: cannot read IMAGE`, `unixvol: cannot read -`: standard input; `unixvol: cannot write IMAGE`
+  4  `unixvol: 12 NoMemory`";
+
+pub const IMPORTED: &str =
+    "The path in the volume of the directory below which they are made; left out, the root";
+
+pub const RM_ABOUT: &str = "Takes a name away from a file of a volume, or with -r a whole tree.";
 
 pub const RM_MORE: &str = "\
 Example:
   unixvol rm 7 disk.img /etc/motd 173750400
+  unixvol rm -r 7 disk.img /usr/games
 
-The file is freed with its last name. Special files can be removed too, directories can't. IMAGE is written
+The file is freed with its last name. Special files can be removed too, directories can't, unless -r is given: then
+a directory is removed with all that is below it, or nothing is. IMAGE is written
 only where all went well: a new file is written beside it and then takes its place.
 
 A path starts at the root, with or without a slash. Repeated slashes count as one, those at its end as none,
@@ -167,13 +313,16 @@ and each name is cut to 14 bytes. The volume must be sound: its twelve rules are
 
 Status:
   0  the name is gone, and the volume was saved
-  1  `unixvol: unsound, rule N`: the volume breaks this rule, and none before it
+  1  `unixvol: unsound, rule N`: the volume breaks this rule, and none before it; `unixvol check` says what breaks it
      `unixvol: 2 NoEntry`: there is no such name
      `unixvol: 20 NotDirectory`: what PATH leads through is no directory
      `unixvol: 21 IsDirectory`: it is a directory, or no name
+     `unixvol: 22 Invalid`: with -r, PATH is the root, or ends in `.`; where it ends in `..`, it is 2 NoEntry
   2  the command line can't be read
   3  `unixvol: cannot read IMAGE`, `unixvol: cannot write IMAGE`
   4  `unixvol: 12 NoMemory`";
+
+pub const RECURSIVE: &str = "Remove a directory with all that is below it";
 
 pub const RMDIR_ABOUT: &str = "Removes an empty directory of a volume.";
 
@@ -189,7 +338,7 @@ and each name is cut to 14 bytes. The volume must be sound: its twelve rules are
 
 Status:
   0  the directory is gone, and the volume was saved
-  1  `unixvol: unsound, rule N`: the volume breaks this rule, and none before it
+  1  `unixvol: unsound, rule N`: the volume breaks this rule, and none before it; `unixvol check` says what breaks it
      `unixvol: 2 NoEntry`: there is no such name
      `unixvol: 20 NotDirectory`: it, or what PATH leads through, is no directory
      `unixvol: 22 Invalid`: PATH is the root, or ends in `.` or `..`
@@ -203,8 +352,9 @@ pub const MKDIR_ABOUT: &str = "Makes a directory in a volume.";
 pub const MKDIR_MORE: &str = "\
 Example:
   unixvol mkdir 7 disk.img /usr/src 173750400
+  unixvol mkdir -p 7 disk.img /usr/src/cmd
 
-It has permissions 0755, is of user 0 and group 0, and holds `.` and `..`. IMAGE is written only where all
+With -p, directories that are missing on the way to it are made too, and one that is there already is no fault. It has permissions 0755, is of user 0 and group 0, and holds `.` and `..`. IMAGE is written only where all
 went well: a new file is written beside it and then takes its place.
 
 A path starts at the root, with or without a slash. Repeated slashes count as one, those at its end as none,
@@ -212,15 +362,18 @@ and each name is cut to 14 bytes. The volume must be sound: its twelve rules are
 
 Status:
   0  the directory was made, and the volume saved
-  1  `unixvol: unsound, rule N`: the volume breaks this rule, and none before it
+  1  `unixvol: unsound, rule N`: the volume breaks this rule, and none before it; `unixvol check` says what breaks it
      `unixvol: 2 NoEntry`, `unixvol: 20 NotDirectory`: PATH doesn't lead to a directory and a name in it
-     `unixvol: 17 Exists`: the name is there already
+     `unixvol: 17 Exists`: the name is there already; with -p, it is that of a file
      `unixvol: 27 TooBig`: the directory above has the greatest size
      `unixvol: 28 NoSpace`, `unixvol: 103 NoInode`: too few blocks, or no i-node, are free
      `unixvol: 31 TooManyLinks`: the directory above has as many as it can
   2  the command line can't be read
   3  `unixvol: cannot read IMAGE`, `unixvol: cannot write IMAGE`
   4  `unixvol: 12 NoMemory`";
+
+pub const PARENTS: &str =
+    "Make what is missing on the way too; a directory that is there is no fault";
 
 pub const LN_ABOUT: &str = "Gives a file of a volume a further name.";
 
@@ -236,7 +389,7 @@ and each name is cut to 14 bytes. The volume must be sound: its twelve rules are
 
 Status:
   0  the name was made, and the volume saved
-  1  `unixvol: unsound, rule N`: the volume breaks this rule, and none before it
+  1  `unixvol: unsound, rule N`: the volume breaks this rule, and none before it; `unixvol check` says what breaks it
      `unixvol: 2 NoEntry`: there is no FROM, or TO doesn't lead to a directory
      `unixvol: 17 Exists`: TO is there already
      `unixvol: 20 NotDirectory`: what FROM or TO leads through is no directory
@@ -244,6 +397,32 @@ Status:
      `unixvol: 27 TooBig`: the directory above TO has the greatest size
      `unixvol: 28 NoSpace`: too few blocks are free for the directory above TO to grow
      `unixvol: 31 TooManyLinks`: the file has as many as it can
+  2  the command line can't be read
+  3  `unixvol: cannot read IMAGE`, `unixvol: cannot write IMAGE`
+  4  `unixvol: 12 NoMemory`";
+
+pub const MV_ABOUT: &str = "Gives a file of a volume another name.";
+
+pub const MV_MORE: &str = "\
+Example:
+  unixvol mv 7 disk.img /etc/motd /etc/motd.old
+
+The file gets the new name and loses the old one: it keeps its i-number. Where TO leads to a directory, the file goes
+there with its last name. A file that has the name TO is never replaced, and directories can't be moved: the systems
+had no call for it. IMAGE is written only where all went well: a new file is written beside it and then takes its place.
+
+A path starts at the root, with or without a slash. Repeated slashes count as one, those at its end as none,
+and each name is cut to 14 bytes. The volume must be sound: its twelve rules are asked first.
+
+Status:
+  0  the file has its new name, and the volume was saved
+  1  `unixvol: unsound, rule N`: the volume breaks this rule, and none before it; `unixvol check` says what breaks it
+     `unixvol: 2 NoEntry`: there is no FROM, or TO doesn't lead to a directory
+     `unixvol: 17 Exists`: the new name is there already, also where it is one of the same file
+     `unixvol: 20 NotDirectory`: what FROM or TO leads through is no directory
+     `unixvol: 21 IsDirectory`: FROM is a directory
+     `unixvol: 27 TooBig`, `unixvol: 28 NoSpace`: the directory of the new name can't grow
+     `unixvol: 31 TooManyLinks`: the file has as many names as it can, and the new one comes before the old one goes
   2  the command line can't be read
   3  `unixvol: cannot read IMAGE`, `unixvol: cannot write IMAGE`
   4  `unixvol: 12 NoMemory`";
@@ -264,7 +443,7 @@ and each name is cut to 14 bytes. The volume must be sound: its twelve rules are
 
 Status:
   0  the permissions are these, and the volume was saved
-  1  `unixvol: unsound, rule N`: the volume breaks this rule, and none before it
+  1  `unixvol: unsound, rule N`: the volume breaks this rule, and none before it; `unixvol check` says what breaks it
      `unixvol: 2 NoEntry`: there is no such name
      `unixvol: 20 NotDirectory`: what PATH leads through is no directory
   2  the command line can't be read
@@ -286,7 +465,7 @@ and each name is cut to 14 bytes. The volume must be sound: its twelve rules are
 
 Status:
   0  the user and the group are these, and the volume was saved
-  1  `unixvol: unsound, rule N`: the volume breaks this rule, and none before it
+  1  `unixvol: unsound, rule N`: the volume breaks this rule, and none before it; `unixvol check` says what breaks it
      `unixvol: 104 BadId`: UID or GID is above the edition's highest
      `unixvol: 2 NoEntry`: there is no such name
      `unixvol: 20 NotDirectory`: what PATH leads through is no directory
@@ -309,7 +488,7 @@ written beside it and then takes its place.
 Status:
   0  the free list was made, and the volume saved
   1  `unixvol: unsound, rule N`: the volume breaks this rule and none before it, leaving out what they ask
-     of the free list
+     of the free list; `unixvol check` says what breaks it
   2  the command line can't be read
   3  `unixvol: cannot read IMAGE`, `unixvol: cannot write IMAGE`
   4  `unixvol: 12 NoMemory`";
@@ -336,7 +515,7 @@ whatever was refused: a new file is written beside IMAGE and then takes its plac
 
 Status:
   0  all was played, and the volume saved
-  1  a line was refused; or `unixvol: unsound, rule N`: the volume breaks this rule, and none before it
+  1  a line was refused; or `unixvol: unsound, rule N`: the volume breaks this rule, and none before it; `unixvol check` says what breaks it
   2  `unixvol: script S line L`: this line can't be read, and nothing was played; or the command line can't be
   3  `unixvol: cannot read FILE`, `unixvol: cannot write IMAGE`, or `unixvol: cannot write -`: standard output failed
   4  `unixvol: 12 NoMemory`, or memory ran out for a line, or a view's line was not answered (`NotEntered`)";
@@ -360,7 +539,7 @@ written beside it and then takes its place. NEW must be another file than OLD.
 
 Status:
   0  the volume was made and saved
-  1  `unixvol: unsound, rule N`: the volume in OLD breaks this rule, and none before it
+  1  `unixvol: unsound, rule N`: the volume in OLD breaks this rule, and none before it; `unixvol check` says what breaks it
      `unixvol: bounds`: no volume of the seventh edition has these sizes: IBLOCKS is 1 to 8191, and FSIZE at least
      IBLOCKS + 3 and at most 16777216
      `unixvol: 105 HasDevice`: there is a special file

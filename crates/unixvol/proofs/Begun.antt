@@ -1,5 +1,5 @@
 -- What a run of the program comes to, from what its two streams held before.
-use Rattle.std.proofs.Common.{◌≡◌, Bool, false, ℕ, List, Option, subst}
+use Rattle.std.proofs.Common.{◌≡◌, ◌⊎◌, ◌∙◌, Bool, false, ℕ, List, Option, inl, inr, subst}
 use Rattle.vol_commands.specs.Faults.{Gets}
 use Rattle.vol_commands.specs.Jobs.{Streams}
 
@@ -15,3 +15,13 @@ begun P output errors old was had_failed new told failed untold held heard fresh
     subst (λ o. P (streams_of o new false failed errors told untold)) held
     (subst (λ e. P (streams_of old new false failed e told untold)) heard
     (subst (λ had. P (streams_of old new had failed was told untold)) fresh holds))
+
+-- the status at the end of a run that may have printed something is that of `finish_printed`
+pub ended_printed : (status finished end : ℕ) → end ≡ finished → (finished ≡ status) ⊎ (finished ≡ 3) → (end ≡ status) ⊎ (end ≡ 3)
+ended_printed status finished end is (inl same) = inl (is ∙ same)
+ended_printed status finished end is (inr file) = inr (is ∙ file)
+
+-- the status at the end of a run is that of `finish`
+pub ended : (status finished end : ℕ) → end ≡ finished → (finished ≡ status) ⊎ ((status ≡ 0) × (finished ≡ 3)) → (end ≡ status) ⊎ ((status ≡ 0) × (end ≡ 3))
+ended status finished end is (inl same) = inl (is ∙ same)
+ended status finished end is (inr kept) = inr (kept.0, is ∙ kept.1)

@@ -1,5 +1,5 @@
 -- How a run of `migrate` ends.
-use Rattle.std.proofs.Common.{◌≡◌, ◌⊎◌, ◌∙◌, true≢false, ℕ, ◌≤◌, List, [], Option, None, Some, IsSome, IfSome, inl, inr, refl, sym, subst, arith}
+use Rattle.std.proofs.Common.{◌≡◌, ◌∙◌, true≢false, ℕ, ◌≤◌, List, [], Option, None, Some, IsSome, IfSome, inl, inr, refl, sym, subst, arith}
 use Rattle.std.specs.Global.{Vec}
 use Rattle.std.specs.Io.KnownBytes.{Keeps}
 use Rattle.vol_commands.specs.Faults.{fault_status, unmounted}

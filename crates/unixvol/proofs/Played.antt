@@ -1,12 +1,9 @@
 -- How a play that runs ends.
-use Rattle.std.proofs.Common.{◌≡◌, ◌⊎◌, ◌∙◌, ℕ, ◌≤◌, List, [], ◌∷◌, map, fold, max, Option, Some, None, Ok, inl, inr, sym, subst, arith}
+use Rattle.std.proofs.Common.{◌≡◌, ◌∙◌, ℕ, ◌≤◌, List, [], ◌∷◌, map, fold, max, Option, Some, None, inl, inr, sym, subst, arith}
 use Rattle.std.specs.Global.{Vec}
 use Rattle.vol_commands.specs.Faults.{fault_status}
 use Rattle.vol_commands.specs.Jobs.{Streams}
 use Rattle.vol_commands.specs.declared.answer.Answer.{Answer}
-use Rattle.vol_commands.specs.declared.faults.Fault.{Fault}
-use Rattle.vol_commands.specs.declared.faults.Fault.TheVariants as faults
-use Rattle.vol_dir.specs.declared.refusal.Refusal.TheVariants as refusals
 use Rattle.vol_layout.specs.declared.edition.Edition.{Edition}
 use Rattle.vol_play.specs.Playing.{PlaysVolume}
 use Rattle.vol_receipts.specs.declared.finding.Confirmed.{Confirmed}
@@ -19,8 +16,9 @@ use Rattle.vol_scripts.specs.declared.played.Played.TheVariants as played
 use Rattle.vol_scripts.specs.declared.reading.ScriptsFault.{ScriptsFault}
 use Rattle.vol_scripts.specs.declared.reading.ScriptsFault.TheVariants as unread
 use Rattle.vol_volume.specs.Volume.{Mounted}
-use Rattle.unixvol.specs.Running.{EndsSaved, EndsWork, IsUnread, RunsPlay, host_files}
+use Rattle.unixvol.specs.Running.{EndsSaved, IsEnd, IsUnread, RunsPlay, host_files}
 use Rattle.unixvol.specs.declared.image_file.Stamp.{Stamp}
+use Rattle.unixvol.proofs.Statuses.{fault_few}
 
 max_few : (a b : ℕ) → a ≤ 4 → b ≤ 4 → max a b ≤ 4
 max_few a b one other = omega (arith, one, other)
@@ -49,26 +47,6 @@ scripts_few worst (script ∷ scripts) few =
 printed_few : (scripts : List (Vec Played)) (confirmed : Option Confirmed) → printed_status scripts confirmed ≤ 4
 printed_few scripts (Some confirmed) = scripts_few 0 scripts (omega arith)
 printed_few scripts None = omega arith
-
--- a fault has a status of 1 to 4
-fault_few : (fault : Fault) → (1 ≤ fault_status fault) × (fault_status fault ≤ 4)
-fault_few (faults.Unsound rule) = (omega arith, omega arith)
-fault_few faults.Output = (omega arith, omega arith)
-fault_few (faults.Refused refusals.NotOwner) = (omega arith, omega arith)
-fault_few (faults.Refused refusals.NoEntry) = (omega arith, omega arith)
-fault_few (faults.Refused refusals.NoMemory) = (omega arith, omega arith)
-fault_few (faults.Refused refusals.Access) = (omega arith, omega arith)
-fault_few (faults.Refused refusals.Exists) = (omega arith, omega arith)
-fault_few (faults.Refused refusals.NotDirectory) = (omega arith, omega arith)
-fault_few (faults.Refused refusals.IsDirectory) = (omega arith, omega arith)
-fault_few (faults.Refused refusals.Invalid) = (omega arith, omega arith)
-fault_few (faults.Refused refusals.TooBig) = (omega arith, omega arith)
-fault_few (faults.Refused refusals.NoSpace) = (omega arith, omega arith)
-fault_few (faults.Refused refusals.TooManyLinks) = (omega arith, omega arith)
-fault_few (faults.Refused refusals.NotEmpty) = (omega arith, omega arith)
-fault_few (faults.Refused refusals.NotRegular) = (omega arith, omega arith)
-fault_few (faults.Refused refusals.NoInode) = (omega arith, omega arith)
-fault_few (faults.Refused refusals.BadId) = (omega arith, omega arith)
 
 -- an answer ends: its status is at most 4; where it is 0, no output failed and no fault was told
 record Answered (streams : Streams) (answer : Answer) : Type 0 where
@@ -100,7 +78,7 @@ answered edition image scripts streams answer (inr (read, is, inl (silent, (faul
     answered_fault streams answer (fault_status fault) refused.ends (fault_few fault).0 (fault_few fault).1
 answered edition image scripts streams answer (inr (read, is, inr (last, came, plays, finishes))) = answered_finished streams answer last _ came finishes
 
-ends_saved : (streams : Streams) (taken : List ℕ → Type 0) (answer : Answer) (status : ℕ) → Answered streams answer → EndsSaved taken answer status → EndsWork streams status
+ends_saved : (streams : Streams) (taken : List ℕ → Type 0) (answer : Answer) (status : ℕ) → Answered streams answer → EndsSaved taken answer status → IsEnd streams status
 ends_saved streams taken answer status ends (inl own) = record {
   within = subst (λ n. n ≤ 4) (sym own.0) ends.within;
   whole = λ e. ends.whole (sym own.0 ∙ e);
@@ -110,13 +88,13 @@ ends_saved streams taken answer status ends (inr file) = record {
   whole = λ e. absurd (elim file.1 [ inl three ↦ omega (arith, three, e) | inr four ↦ omega (arith, four, e) ]);
 }
 
-ends_unread : {F : Type 0} (remaining : F → Option (List ℕ)) (streams : Streams) (status : ℕ) → IsUnread remaining status → EndsWork streams status
+ends_unread : {F : Type 0} (remaining : F → Option (List ℕ)) (streams : Streams) (status : ℕ) → IsUnread remaining status → IsEnd streams status
 ends_unread remaining streams status (inl is) = record { within = omega (arith, is); whole = λ e. absurd (omega (arith, is, e)) }
 ends_unread remaining streams status (inr memory) = record { within = omega (arith, memory.0); whole = λ e. absurd (omega (arith, memory.0, e)) }
 
 -- a play that runs ends with a status of at most 4, and with 0 only where all went out and no fault was told
 pub ends_played : {F : Type 0} (remaining contents : F → Option (List ℕ)) (had : F → Stamp → Type 0) (stood : Stamp → Type 0) (streams : Streams)
-    (edition : Edition) (count status : ℕ) → RunsPlay streams (host_files remaining contents had stood) edition count status → EndsWork streams status
+    (edition : Edition) (count status : ℕ) → RunsPlay streams (host_files remaining contents had stood) edition count status → IsEnd streams status
 ends_played remaining contents had stood streams edition count status (inl nothing) = ends_unread remaining streams status nothing.0
 ends_played remaining contents had stood streams edition count status (inr (image, stamp, scripts, answer, opened, given, same, plays, saved)) =
     ends_saved streams _ answer status (answered edition image scripts streams answer plays) saved.0

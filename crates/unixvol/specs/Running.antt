@@ -9,6 +9,12 @@ use Rattle.vol_volume.specs.Blank.{blank_of, IsMade}
 use Rattle.vol_volume.specs.Mkfs.{is_size}
 use Rattle.vol_volume.specs.Ids.{is_bad_id}
 use Rattle.pdp_words.specs.Devices.{IsReadWhole, LosesFront}
+use Rattle.image_commands.specs.Looking.{Looks}
+use Rattle.image_commands.specs.declared.looks.Look.{Look}
+use Rattle.image_commands.specs.declared.looks.Screen.{Screen}
+use Rattle.tree_commands.specs.Editing.{Edits}
+use Rattle.tree_commands.specs.declared.edits.Edit.{Edit}
+use Rattle.tree_commands.specs.declared.edits.Edit.TheVariants as edits
 use Rattle.vol_commands.specs.Checking.{Checks}
 use Rattle.vol_commands.specs.Cat.{PrintsFile, IsNoWriters, cat_status, file_of}
 use Rattle.vol_commands.specs.Faults.{Gets}
@@ -167,18 +173,53 @@ abbrev pub RunsWork : Streams → HostFiles → Edition → Work → ℕ → Typ
 RunsWork streams files edition (works.Check checker workers) status = RunsCheck streams files edition checker status
 RunsWork streams files edition (works.Play scripts) status = RunsPlay streams files edition (length scripts.items) status
 
--- what is asked for is done by one thread (this project)
-abbrev pub IsForOneThread : Invocation → Type 0
-IsForOneThread (invocations.OnThreads volume work) = ⊥
-IsForOneThread _ = Unit {0}
+-- an image is looked at: nothing is done; or what is looked at is shown of an image that a file gave (this project)
+abbrev pub RunsLook : Streams → HostFiles → Screen → Edition → Look → ℕ → Type 0
+RunsLook streams files screen edition look status =
+    RunsNothing streams files status ⊎ ((image : List ℕ) × files.given image × Looks edition image screen streams status look)
 
--- what the user asks for runs: what goes out, what files give and take, and the status (this project)
+-- what standard input does for the program: it couldn't be read, with this status; it gave these bytes (this project)
+pub record HostInput : Type 1 where
+  pub unread : ℕ → Type 0
+  pub given : List ℕ → Type 0
+
+-- what standard input does, by what is known of it (std::io::Read)
+abbrev pub host_input : {F : Type 0} → (F → Option (List ℕ)) → HostInput
+host_input remaining = record { unread = IsUnread remaining; given = GaveBytes remaining }
+
+-- nothing is done: standard input isn't read, and nothing goes out (this project)
+abbrev pub HearsNothing : Streams → HostInput → ℕ → Type 0
+HearsNothing streams input status =
+    input.unread status × Keeps streams.old streams.new × (streams.failed ≡ streams.had_failed) × streams.said []
+
+-- standard input gave the archive that a change imports; other changes import none (this project)
+abbrev pub IsHeardFor : (List ℕ → Type 0) → Edit → List ℕ → Type 0
+IsHeardFor given (edits.Import path now) bytes = given bytes
+IsHeardFor given _ bytes = Unit {0}
+
+-- a volume is changed by several calls: nothing is done; or they are made on an image that a file gave which may be changed, an archive is standard input's, and what the calls make is saved where a file still stood that had the stamp of the one that was read (this project)
+abbrev pub RunsEdit : Streams → HostFiles → HostInput → Edition → Edit → ℕ → Type 0
+RunsEdit streams files input edition edit status =
+    RunsNothing streams files status ⊎ (HearsNothing streams input status
+    ⊎ ((image : List ℕ) × (stamp : Stamp) × (bytes : List ℕ) × (answer : Answer) × files.opened image stamp × IsHeardFor input.given edit bytes
+    × Edits edition image bytes streams answer edit × EndsSaved (λ saved. files.taken saved × files.stood stamp) answer status))
+
+-- what is asked for is a plain command: no look at an image, no change by several calls, nothing for several threads (this project)
+abbrev pub IsPlainCommand : Invocation → Type 0
+IsPlainCommand (invocations.OnImage volume look) = ⊥
+IsPlainCommand (invocations.OnTree volume edit) = ⊥
+IsPlainCommand (invocations.OnThreads volume work) = ⊥
+IsPlainCommand _ = Unit {0}
+
+-- what a plain command asks for runs: what goes out, what files give and take, and the status; other things run elsewhere (this project)
 abbrev pub Runs : Streams → HostFiles → ℕ → Invocation → Type 0
 Runs streams files status (invocations.Cat volume i) = RunsCat streams files.given volume.edition i status
 Runs streams files status (invocations.Mkfs image volume) = RunsMkfs streams files.taken volume status
 Runs streams files status (invocations.Migrate old new migration) = RunsMigrate streams files migration status
 Runs streams files status (invocations.OnVolume volume job) = RunsJob streams files volume.edition job status
-Runs streams files status (invocations.OnThreads volume work) = RunsWork streams files volume.edition work status
+Runs streams files status (invocations.OnImage volume look) = ⊥
+Runs streams files status (invocations.OnTree volume edit) = ⊥
+Runs streams files status (invocations.OnThreads volume work) = ⊥
 
 -- what an error of the command line comes to: the status by its kind, which is 3 only where standard output failed, and no line of a command (this project)
 pub record Tells (streams : Streams) (kind : ErrorKind) (status : ℕ) : Type 0 where
@@ -207,8 +248,8 @@ RunsToEnd files output errors read end =
     × Ends (record { old = output; new = new; had_failed = false; failed = failed; said = Gets untold errors told }) status
     × ((end ≡ status) ⊎ ((status ≡ 0) × (end ≡ 3)))
 
--- a run by several threads ends: the status is at most 4; where it is 0, no output failed and no fault was told (this project)
-pub record EndsWork (streams : Streams) (status : ℕ) : Type 0 where
+-- a run ends that may have printed something whatever its status is: that is at most 4; where it is 0, no output failed and no fault was told (this project)
+pub record IsEnd (streams : Streams) (status : ℕ) : Type 0 where
   pub within : status ≤ 4
   pub whole : status ≡ 0 → (streams.failed ≡ streams.had_failed) × streams.said []
 
@@ -217,5 +258,21 @@ abbrev pub WorksToEnd : HostFiles → Option (List ℕ) → Option (List ℕ) �
 WorksToEnd files output errors edition work end =
     (new : Option (List ℕ)) × (failed : Bool) × (told : Option (List ℕ)) × (untold : Bool) × (status : ℕ)
     × RunsWork (record { old = output; new = new; had_failed = false; failed = failed; said = Gets untold errors told }) files edition work status
-    × EndsWork (record { old = output; new = new; had_failed = false; failed = failed; said = Gets untold errors told }) status
+    × IsEnd (record { old = output; new = new; had_failed = false; failed = failed; said = Gets untold errors told }) status
     × ((end ≡ status) ⊎ (end ≡ 3))
+
+-- a look at an image runs to its end, as what several threads do does (this project)
+abbrev pub LooksToEnd : HostFiles → Screen → Option (List ℕ) → Option (List ℕ) → Edition → Look → ℕ → Type 0
+LooksToEnd files screen output errors edition look end =
+    (new : Option (List ℕ)) × (failed : Bool) × (told : Option (List ℕ)) × (untold : Bool) × (status : ℕ)
+    × RunsLook (record { old = output; new = new; had_failed = false; failed = failed; said = Gets untold errors told }) files screen edition look status
+    × IsEnd (record { old = output; new = new; had_failed = false; failed = failed; said = Gets untold errors told }) status
+    × ((end ≡ status) ⊎ (end ≡ 3))
+
+-- a change by several calls runs to its end, as a plain command does (this project)
+abbrev pub EditsToEnd : HostFiles → HostInput → Option (List ℕ) → Option (List ℕ) → Edition → Edit → ℕ → Type 0
+EditsToEnd files input output errors edition edit end =
+    (new : Option (List ℕ)) × (failed : Bool) × (told : Option (List ℕ)) × (untold : Bool) × (status : ℕ)
+    × RunsEdit (record { old = output; new = new; had_failed = false; failed = failed; said = Gets untold errors told }) files input edition edit status
+    × Ends (record { old = output; new = new; had_failed = false; failed = failed; said = Gets untold errors told }) status
+    × ((end ≡ status) ⊎ ((status ≡ 0) × (end ≡ 3)))

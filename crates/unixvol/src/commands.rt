@@ -1,11 +1,11 @@
-//! The commands of the program that one thread does: what they open, and what they save.
+//! The commands of the program that one thread does and that print all or nothing: what they open, and what they save.
 ghost use Rattle.std.specs.Prelude.{◌≡◌, ◌≢◌, ◌⊎◌, [], ◌≤◌, ℕ, List, true, IfErr, IfOk, IfSome, IsErrAnd};
 ghost use Rattle.std.specs.Io.KnownBytes.{Keeps};
 ghost use Rattle.std.specs.Process.{exit_status};
 ghost use Rattle.vol_commands.specs.Cat.{IsNoWriters};
 ghost use Rattle.vol_commands.specs.Faults.{Gets};
 ghost use Rattle.vol_commands.specs.declared.cat.CatFault.TheVariants as faults;
-ghost use Rattle.unixvol.specs.Running.{IsForOneThread, GaveBytes, IsGivenFor, IsUnread, CatsGiven, PrintsBody, RunsChange, RunsJob, RunsMigrate, RunsMkfs, RunsQuery, Runs, RunsRead, RunsToEnd, Ends, host_files};
+ghost use Rattle.unixvol.specs.Running.{IsPlainCommand, GaveBytes, IsGivenFor, IsUnread, CatsGiven, PrintsBody, RunsChange, RunsJob, RunsMigrate, RunsMkfs, RunsQuery, Runs, RunsRead, RunsToEnd, Ends, host_files};
 ghost use Rattle.unixvol.specs.Saving.{IsTaken};
 
 use crate::explaining::{explain_cat, explain_command_line, finish};
@@ -34,7 +34,7 @@ pub fn run_to_end<R: ImageFiles + Clock + Eprint + AllocGlobal, O: Write + Drop,
     errors: E,
     read: Result<Invocation<'_>, Error>,
 ) -> ExitCode
-    requires { IfOk read IsForOneThread }
+    requires { IfOk read IsPlainCommand }
     ensures { RunsToEnd (host_files R.File.remaining R.File.contents R.had R.stood) (O.contents output) (E.contents errors) read.entry (exit_status result) }
 {
     let mut output = IntoWrite::new(output);
@@ -50,7 +50,7 @@ fn run<R: ImageFiles + Clock + Eprint + AllocGlobal, O: Sink, E: Sink>(
     errors: &mut E,
     read: Result<Invocation<'_>, Error>,
 ) -> u8
-    requires { IfOk read IsForOneThread }
+    requires { IfOk read IsPlainCommand }
     ensures runs { RunsRead (record {
       old = O.contents output.old;
       new = O.contents output.new;
@@ -79,7 +79,7 @@ fn carry_out<R: ImageFiles + Clock + Eprint + AllocGlobal, O: Sink, E: Sink>(
     errors: &mut E,
     invocation: Invocation<'_>,
 ) -> u8
-    requires { IsForOneThread invocation }
+    requires { IsPlainCommand invocation }
     ensures runs { Runs (record {
       old = O.contents output.old;
       new = O.contents output.new;
@@ -104,7 +104,9 @@ fn carry_out<R: ImageFiles + Clock + Eprint + AllocGlobal, O: Sink, E: Sink>(
             migration,
         } => run_migrate(rt, output, errors, old, new, migration),
         Invocation::OnVolume { volume, job } => run_job(rt, output, errors, volume, job),
-        Invocation::OnThreads { .. } => unreachable!(),
+        Invocation::OnImage { .. } | Invocation::OnTree { .. } | Invocation::OnThreads { .. } => {
+            unreachable!()
+        }
     }
 }
 

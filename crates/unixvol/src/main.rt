@@ -2,8 +2,10 @@
 #![tactic(auto)]
 
 mod commands;
+mod editing;
 mod explaining;
 mod image_file;
+mod looking;
 mod reading;
 mod saving;
 mod saving_file;
@@ -11,12 +13,13 @@ mod threads;
 
 use command_line::Invocation;
 use std::env::{self, Env};
-use std::io;
+use std::io::{self, IsTerminal};
 use std::process::ExitCode;
 use std::rt::Clock;
 use std::time::{SystemTime, UNIX_EPOCH};
 
-/// Reads the words of the command line, and goes on in one of two functions: only what several threads do may wait.
+/// Reads the words of the command line, and goes on in one of four functions: only what several threads do may wait, what looks at an
+/// image may print something and fail, and only what makes several calls reads standard input.
 fn main(rt: HostRuntime) -> ExitCode {
     let words = match words(&rt) {
         Ok(words) => words,
@@ -25,6 +28,14 @@ fn main(rt: HostRuntime) -> ExitCode {
     match command_line::read(rt.alloc(), moment(&rt), words.as_slice()) {
         Ok(Invocation::OnThreads { volume, work }) => {
             threads::run_to_end(&rt, rt.stdout(), rt.stderr(), volume, work)
+        }
+        Ok(Invocation::OnImage { volume, look }) => {
+            let output = rt.stdout();
+            let screen = looking::screen(&rt, output.is_terminal());
+            looking::run_to_end(&rt, screen, output, rt.stderr(), volume, look)
+        }
+        Ok(Invocation::OnTree { volume, edit }) => {
+            editing::run_to_end(&rt, rt.stdin(), rt.stdout(), rt.stderr(), volume, edit)
         }
         read => commands::run_to_end(&rt, rt.stdout(), rt.stderr(), read),
     }

@@ -3,7 +3,7 @@ ghost use Rattle.std.specs.Prelude.{◌≡◌, ◌⊎◌, ◌≤◌, length};
 ghost use Rattle.std.specs.Process.{exit_status};
 ghost use Rattle.command_words.specs.Asking.{IsWorkable};
 ghost use Rattle.vol_commands.specs.Faults.{Gets};
-ghost use Rattle.unixvol.specs.Running.{EndsWork, RunsCheck, RunsPlay, RunsWork, WorksToEnd, host_files};
+ghost use Rattle.unixvol.specs.Running.{IsEnd, RunsCheck, RunsPlay, RunsWork, WorksToEnd, host_files};
 
 use crate::explaining::finish_printed;
 use crate::image_file::ImageFiles;
@@ -55,7 +55,7 @@ fn run<R: ImageFiles + Clock + Eprint + AllocGlobal + Threads + Wait + Sync, O: 
       failed = O.failed output.new;
       said = Gets (E.failed errors.new) (E.contents errors.old) (E.contents errors.new);
     }) (host_files R.File.remaining R.File.contents R.had R.stood) volume.entry.edition work.entry result }
-    ensures ends { EndsWork (record {
+    ensures ends { IsEnd (record {
       old = O.contents output.old;
       new = O.contents output.new;
       had_failed = O.failed output.old;

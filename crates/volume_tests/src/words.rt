@@ -1,7 +1,9 @@
 // The words of the command line.
 use command_line::{Invocation, VolumeFile, Work, read};
+use image_commands::{Form, Lines, Listing, Look, Picture};
 use std::alloc::{AllocError, Global};
 use std::process::Abort;
+use tree_commands::Edit;
 use vol_check::Checker;
 use vol_commands::{Job, Migration};
 use vol_layout::Edition;
@@ -17,8 +19,7 @@ const VOLUME: VolumeFile<'static> = VolumeFile {
 type Row = (&'static [&'static str], Job<'static>);
 
 /// One row for each command.
-static ROWS: [Row; 10] = [
-    (&["ls", "7", "disk", "/d"], Job::Ls { path: "/d" }),
+static ROWS: [Row; 9] = [
     (&["get", "7", "disk", "/d/f"], Job::Get { path: "/d/f" }),
     (
         &["put", "7", "disk", "/d/f", "file", "4294967295"],
@@ -69,6 +70,107 @@ static ROWS: [Row; 10] = [
         },
     ),
     (&["salvage", "7", "disk"], Job::Salvage),
+];
+
+/// The words of a command that makes several calls, and what they ask for.
+static EDITS: [(&[&str], Edit<'static>); 6] = [
+    (&["import", "7", "disk"], Edit::Import { path: "", now: 7 }),
+    (
+        &["import", "7", "disk", "/d", "8"],
+        Edit::Import { path: "/d", now: 8 },
+    ),
+    (
+        &["mkdir", "-p", "7", "disk", "/d/e", "8"],
+        Edit::MkdirAll {
+            path: "/d/e",
+            now: 8,
+        },
+    ),
+    (
+        &["rm", "7", "disk", "/d", "--recursive"],
+        Edit::RmAll { path: "/d", now: 7 },
+    ),
+    (
+        &["rm", "-r", "7", "disk", "/d", "8"],
+        Edit::RmAll { path: "/d", now: 8 },
+    ),
+    (
+        &["mv", "7", "disk", "/from", "/to", "8"],
+        Edit::Move {
+            from: "/from",
+            to: "/to",
+            now: 8,
+        },
+    ),
+];
+
+/// The words of a listing: the path, what is told of each name, and whether the directories below are listed too.
+type Listed = (&'static [&'static str], &'static str, Lines, bool);
+
+static LISTINGS: [Listed; 5] = [
+    (&["ls", "7", "disk", "/d"], "/d", Lines::Plain, false),
+    (&["ls", "7", "disk"], "", Lines::Plain, false),
+    (&["ls", "-l", "7", "disk", "/d"], "/d", Lines::Long, false),
+    (&["ls", "7", "-lR", "disk"], "", Lines::Long, true),
+    (
+        &["ls", "7", "disk", "--recursive", "/d"],
+        "/d",
+        Lines::Plain,
+        true,
+    ),
+];
+
+/// The words of a command that looks at an image, and what they ask for.
+static LOOKS: [(&[&str], Look<'static>); 10] = [
+    (&["check", "7", "disk"], Look::Check),
+    (&["export", "7", "disk", "/d"], Look::Export { path: "/d" }),
+    (&["export", "7", "disk"], Look::Export { path: "" }),
+    (
+        &["inode", "7", "disk", "017"],
+        Look::Inode {
+            number: 17,
+            form: Form::Text,
+        },
+    ),
+    (
+        &["inode", "--json", "7", "disk", "0"],
+        Look::Inode {
+            number: 0,
+            form: Form::Json,
+        },
+    ),
+    (&["super", "7", "disk"], Look::Super { form: Form::Text }),
+    (
+        &["super", "7", "disk", "--json"],
+        Look::Super { form: Form::Json },
+    ),
+    (
+        &["map", "7", "disk"],
+        Look::Map {
+            picture: Picture::Cells,
+        },
+    ),
+    (
+        &["map", "7", "--svg", "disk"],
+        Look::Map {
+            picture: Picture::Svg,
+        },
+    ),
+    (
+        &["map", "7", "disk", "--"],
+        Look::Map {
+            picture: Picture::Cells,
+        },
+    ),
+];
+
+/// Words of such commands that are refused, and what is told of them.
+static NO_LOOKS: [(&[&str], &str); 5] = [
+    (&["inode", "7", "disk"], "<INO>"),
+    (&["inode", "7", "disk", "65536"], "for '<INO>'"),
+    (&["super", "--svg", "7", "disk"], "--svg"),
+    (&["map", "--json", "7", "disk"], "--json"),
+    (&["map", "--svg", "--svg", "7", "disk"], "--svg"),
 ];
 
 /// The commands of the checkers.
@@ -164,6 +266,47 @@ fn commands_on_volumes_are_read(rt: HostRuntime) {
             job: *job,
         };
         check(&rt, rt.alloc(), rest, wanted);
+    }
+}
+
+#[test]
+fn words_of_looks_are_read(rt: HostRuntime) {
+    for (rest, look) in &LOOKS {
+        let wanted = Invocation::OnImage {
+            volume: VOLUME,
+            look: *look,
+        };
+        check(&rt, rt.alloc(), rest, wanted);
+    }
+}
+
+#[test]
+fn words_of_listings_are_read(rt: HostRuntime) {
+    for &(rest, path, lines, below) in &LISTINGS {
+        let listing = Listing { lines, below };
+        let wanted = Invocation::OnImage {
+            volume: VOLUME,
+            look: Look::List { path, listing },
+        };
+        check(&rt, rt.alloc(), rest, wanted);
+    }
+}
+
+#[test]
+fn words_of_several_calls_are_read(rt: HostRuntime) {
+    for (rest, edit) in &EDITS {
+        let wanted = Invocation::OnTree {
+            volume: VOLUME,
+            edit: *edit,
+        };
+        check_at(&rt, rt.alloc(), Some(7), rest, wanted);
+    }
+}
+
+#[test]
+fn other_words_ask_for_no_look(rt: HostRuntime) {
+    for (rest, told) in &NO_LOOKS {
+        refuse_at(&rt, rt.alloc(), None, rest, told);
     }
 }
 

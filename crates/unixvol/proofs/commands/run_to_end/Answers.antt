@@ -1,13 +1,7 @@
-use Rattle.std.proofs.Common.{◌≡◌, ◌⊎◌, ◌∙◌, ℕ, inl, inr}
 use Rattle.std.specs.Process.{exit_status}
 use Rattle.unixvol.specs.Running.{RunsRead, Ends, host_files}
-use Rattle.unixvol.proofs.Begun.{begun}
+use Rattle.unixvol.proofs.Begun.{begun, ended}
 use Rattle.unixvol.proofs.commands.run_to_end.Goals as goal
-
--- the status at the end is that of `finish`
-ended : (status finished end : ℕ) → end ≡ finished → (finished ≡ status) ⊎ ((status ≡ 0) × (finished ≡ 3)) → (end ≡ status) ⊎ ((status ≡ 0) × (end ≡ 3))
-ended status finished end is (inl same) = inl (is ∙ same)
-ended status finished end is (inr kept) = inr (kept.0, is ∙ kept.1)
 
 pub returns : goal.returns
 returns g c =

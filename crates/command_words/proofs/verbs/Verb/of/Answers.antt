@@ -11,24 +11,31 @@ use Rattle.command_words.specs.declared.verbs.Verb.TheVariants as verbs
 use Rattle.command_words.proofs.verbs.Verb.of.Goals as goal
 
 -- what holds of each command in the list holds of each command
-each : (text : List ℕ) → AllWithin (λ (verb : Verb). text ≢ verb_name verb) all_verbs 0 17 → (verb : Verb) → text ≢ verb_name verb
+each : (text : List ℕ) → AllWithin (λ (verb : Verb). text ≢ verb_name verb) all_verbs 0 24 → (verb : Verb) → text ≢ verb_name verb
 each text none verbs.Cat = none 0 verbs.Cat (omega arith) (omega arith)
 each text none verbs.Ls = none 1 verbs.Cat (omega arith) (omega arith)
 each text none verbs.Get = none 2 verbs.Cat (omega arith) (omega arith)
-each text none verbs.Icheck = none 3 verbs.Cat (omega arith) (omega arith)
-each text none verbs.Dcheck = none 4 verbs.Cat (omega arith) (omega arith)
-each text none verbs.Ncheck = none 5 verbs.Cat (omega arith) (omega arith)
-each text none verbs.Mkfs = none 6 verbs.Cat (omega arith) (omega arith)
-each text none verbs.Put = none 7 verbs.Cat (omega arith) (omega arith)
-each text none verbs.Rm = none 8 verbs.Cat (omega arith) (omega arith)
-each text none verbs.Rmdir = none 9 verbs.Cat (omega arith) (omega arith)
-each text none verbs.Mkdir = none 10 verbs.Cat (omega arith) (omega arith)
-each text none verbs.Ln = none 11 verbs.Cat (omega arith) (omega arith)
-each text none verbs.Chmod = none 12 verbs.Cat (omega arith) (omega arith)
-each text none verbs.Chown = none 13 verbs.Cat (omega arith) (omega arith)
-each text none verbs.Salvage = none 14 verbs.Cat (omega arith) (omega arith)
-each text none verbs.Play = none 15 verbs.Cat (omega arith) (omega arith)
-each text none verbs.Migrate = none 16 verbs.Cat (omega arith) (omega arith)
+each text none verbs.Export = none 3 verbs.Cat (omega arith) (omega arith)
+each text none verbs.Inode = none 4 verbs.Cat (omega arith) (omega arith)
+each text none verbs.Super = none 5 verbs.Cat (omega arith) (omega arith)
+each text none verbs.Map = none 6 verbs.Cat (omega arith) (omega arith)
+each text none verbs.Check = none 7 verbs.Cat (omega arith) (omega arith)
+each text none verbs.Icheck = none 8 verbs.Cat (omega arith) (omega arith)
+each text none verbs.Dcheck = none 9 verbs.Cat (omega arith) (omega arith)
+each text none verbs.Ncheck = none 10 verbs.Cat (omega arith) (omega arith)
+each text none verbs.Mkfs = none 11 verbs.Cat (omega arith) (omega arith)
+each text none verbs.Put = none 12 verbs.Cat (omega arith) (omega arith)
+each text none verbs.Import = none 13 verbs.Cat (omega arith) (omega arith)
+each text none verbs.Rm = none 14 verbs.Cat (omega arith) (omega arith)
+each text none verbs.Rmdir = none 15 verbs.Cat (omega arith) (omega arith)
+each text none verbs.Mkdir = none 16 verbs.Cat (omega arith) (omega arith)
+each text none verbs.Ln = none 17 verbs.Cat (omega arith) (omega arith)
+each text none verbs.Mv = none 18 verbs.Cat (omega arith) (omega arith)
+each text none verbs.Chmod = none 19 verbs.Cat (omega arith) (omega arith)
+each text none verbs.Chown = none 20 verbs.Cat (omega arith) (omega arith)
+each text none verbs.Salvage = none 21 verbs.Cat (omega arith) (omega arith)
+each text none verbs.Play = none 22 verbs.Cat (omega arith) (omega arith)
+each text none verbs.Migrate = none 23 verbs.Cat (omega arith) (omega arith)
 
 pub returns-clause-none : goal.returns-clause-none
 returns-clause-none c none =

@@ -1,0 +1,20 @@
+use Rattle.std.specs.Process.{exit_status}
+use Rattle.unixvol.specs.Running.{RunsLook, IsEnd, host_files}
+use Rattle.unixvol.proofs.Begun.{begun, ended_printed}
+use Rattle.unixvol.proofs.looking.run_to_end.Goals as goal
+
+pub returns : goal.returns
+returns g c =
+    let files = host_files g.R.File.Read.remaining g.R.File.Write.contents g.R.ImageFiles.had g.R.ImageFiles.stood in
+    let status = c.run-status.result in (
+      _,
+      _,
+      _,
+      _,
+      status,
+      begun (λ streams. RunsLook streams files c.args.screen c.args.volume.edition c.args.look status) (g.O.Write.contents c.args.output) (g.E.Write.contents c.args.errors) _ _ _ _ _ _ _
+          c.new-output.ensures.bytes c.new-errors.ensures.bytes c.new-output.ensures.fresh c.run-status.ensures.runs,
+      begun (λ streams. IsEnd streams status) (g.O.Write.contents c.args.output) (g.E.Write.contents c.args.errors) _ _ _ _ _ _ _
+          c.new-output.ensures.bytes c.new-errors.ensures.bytes c.new-output.ensures.fresh c.run-status.ensures.ends,
+      ended_printed status c.finish_printed.result (exit_status c.from.result) c.from.ensures c.finish_printed.ensures,
+    )

@@ -1,0 +1,101 @@
+//! The commands that change a volume by several calls, all or nothing: what they open, and what they save.
+ghost use Rattle.std.specs.Prelude.{◌≡◌, IfErr, IfOk};
+ghost use Rattle.std.specs.Process.{exit_status};
+ghost use Rattle.vol_commands.specs.Faults.{Gets};
+ghost use Rattle.unixvol.specs.Running.{EditsToEnd, Ends, GaveBytes, IsHeardFor, IsUnread, RunsEdit, host_files, host_input};
+
+use crate::explaining::finish;
+use crate::image_file::ImageFiles;
+use crate::reading::{ReadFile, read_image, read_open};
+use crate::saving::save_answer;
+use command_line::VolumeFile;
+use pdp_words::{IntoWrite, Sink};
+use std::io::{Read, Write};
+use std::process::ExitCode;
+use std::rt::Clock;
+use tree_commands::{Edit, edit};
+
+/// What the line of a fault calls standard input.
+const STANDARD_INPUT: &str = "-";
+
+/// Changes the volume in a file by several calls, and answers how the program ends. An archive is read from `input`, which is
+/// standard input; a fault is one line on standard error. `errors` writes to standard error too. Nothing goes to `output`,
+/// which is standard output.
+pub fn run_to_end<
+    R: ImageFiles + Clock + Eprint + AllocGlobal,
+    I: Read + Drop,
+    O: Write + Drop,
+    E: Write + Drop,
+>(rt: &R, input: I, output: O, errors: E, volume: VolumeFile<'_>, edit: Edit<'_>) -> ExitCode
+    ensures { EditsToEnd (host_files R.File.remaining R.File.contents R.had R.stood) (host_input I.remaining) (O.contents output) (E.contents errors)
+        volume.entry.edition edit.entry (exit_status result) }
+{
+    let mut output = IntoWrite::new(output);
+    let mut errors = IntoWrite::new(errors);
+    let status = run(rt, input, &mut output, &mut errors, volume, edit);
+    ExitCode::from(finish(rt, output.into_inner(), status))
+}
+
+/// Changes the volume in a file by several calls, saves it, and answers the status to end with.
+fn run<R: ImageFiles + Clock + Eprint + AllocGlobal, I: Read + Drop, O: Sink, E: Sink>(
+    rt: &R,
+    input: I,
+    output: &mut O,
+    errors: &mut E,
+    volume: VolumeFile<'_>,
+    asked: Edit<'_>,
+) -> u8
+    ensures runs { RunsEdit (record {
+      old = O.contents output.old;
+      new = O.contents output.new;
+      had_failed = O.failed output.old;
+      failed = O.failed output.new;
+      said = Gets (E.failed errors.new) (E.contents errors.old) (E.contents errors.new);
+    }) (host_files R.File.remaining R.File.contents R.had R.stood) (host_input I.remaining) volume.entry.edition asked.entry result }
+    ensures ends { Ends (record {
+      old = O.contents output.old;
+      new = O.contents output.new;
+      had_failed = O.failed output.old;
+      failed = O.failed output.new;
+      said = Gets (E.failed errors.new) (E.contents errors.old) (E.contents errors.new);
+    }) result }
+{
+    let (read, stamp) = match read_image(rt, volume.image) {
+        Ok(read) => read,
+        Err(status) => return status,
+    };
+    // Its file stays open, and so locked, until what is made of it is saved.
+    let ReadFile {
+        bytes: image,
+        file: _locked,
+    } = read;
+    let archive = match archive_for(rt, input, asked) {
+        Ok(archive) => archive,
+        Err(status) => return status,
+    };
+    let answer = edit(
+        rt.alloc(),
+        volume.edition,
+        image,
+        archive,
+        asked,
+        output,
+        errors,
+    );
+    save_answer(rt, volume.image, stamp, &answer)
+}
+
+/// The bytes of the archive that is imported, or none.
+fn archive_for<R: Eprint + AllocGlobal, I: Read + Drop>(
+    rt: &R,
+    input: I,
+    edit: Edit<'_>,
+) -> Result<Vec<u8>, u8>
+    ensures given { IfOk result (λ archive. IsHeardFor (GaveBytes I.remaining) edit.entry archive.items) }
+    ensures fault { IfErr result (IsUnread I.remaining) }
+{
+    match edit {
+        Edit::Import { .. } => Ok(read_open(rt, STANDARD_INPUT, input)?.bytes),
+        _ => Ok(Vec::new(rt.alloc())),
+    }
+}

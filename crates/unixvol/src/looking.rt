@@ -1,0 +1,88 @@
+//! The commands that look at an image, sound or not. They may have printed something whatever their status is.
+ghost use Rattle.std.specs.Prelude.{◌≡◌};
+ghost use Rattle.std.specs.Process.{exit_status};
+ghost use Rattle.vol_commands.specs.Faults.{Gets};
+ghost use Rattle.unixvol.specs.Running.{IsEnd, LooksToEnd, RunsLook, host_files};
+
+use crate::explaining::finish_printed;
+use crate::image_file::ImageFiles;
+use crate::reading::read_file;
+use command_line::VolumeFile;
+use image_commands::{Look, Screen, look};
+use pdp_words::{IntoWrite, Sink};
+use std::env::{self, Env};
+use std::io::Write;
+use std::process::ExitCode;
+
+/// How many columns a terminal has where COLUMNS doesn't say it.
+const COLUMNS: u16 = 80;
+
+/// What shows standard output: a terminal, with as many columns as the variable COLUMNS says, or no terminal.
+pub fn screen<R: Env + AllocGlobal>(rt: &R, is_terminal: bool) -> Screen {
+    if !is_terminal {
+        return Screen::Stream;
+    }
+    let columns = match env::var(rt, "COLUMNS") {
+        Ok(text) => text.parse().unwrap_or(COLUMNS),
+        Err(_) => COLUMNS,
+    };
+    Screen::Terminal { columns }
+}
+
+/// Shows what is asked for of the image in a file, and answers how the program ends. What it prints goes to `output`, which is
+/// standard output, as `screen` shows it; a fault is one line on standard error. `errors` writes to standard error too.
+pub fn run_to_end<R: ImageFiles + Eprint + AllocGlobal, O: Write + Drop, E: Write + Drop>(
+    rt: &R,
+    screen: Screen,
+    output: O,
+    errors: E,
+    volume: VolumeFile<'_>,
+    look: Look<'_>,
+) -> ExitCode
+    ensures { LooksToEnd (host_files R.File.remaining R.File.contents R.had R.stood) screen (O.contents output) (E.contents errors)
+        volume.entry.edition look.entry (exit_status result) }
+{
+    let mut output = IntoWrite::new(output);
+    let mut errors = IntoWrite::new(errors);
+    let status = run(rt, screen, &mut output, &mut errors, volume, look);
+    ExitCode::from(finish_printed(rt, output.into_inner(), status))
+}
+
+/// Shows what is asked for of the image in a file, and answers the status to end with, if [`finish_printed`] goes well.
+fn run<R: ImageFiles + Eprint + AllocGlobal, O: Sink, E: Sink>(
+    rt: &R,
+    screen: Screen,
+    output: &mut O,
+    errors: &mut E,
+    volume: VolumeFile<'_>,
+    asked: Look<'_>,
+) -> u8
+    ensures runs { RunsLook (record {
+      old = O.contents output.old;
+      new = O.contents output.new;
+      had_failed = O.failed output.old;
+      failed = O.failed output.new;
+      said = Gets (E.failed errors.new) (E.contents errors.old) (E.contents errors.new);
+    }) (host_files R.File.remaining R.File.contents R.had R.stood) screen volume.entry.edition asked.entry result }
+    ensures ends { IsEnd (record {
+      old = O.contents output.old;
+      new = O.contents output.new;
+      had_failed = O.failed output.old;
+      failed = O.failed output.new;
+      said = Gets (E.failed errors.new) (E.contents errors.old) (E.contents errors.new);
+    }) result }
+{
+    let image = match read_file(rt, volume.image) {
+        Ok(image) => image,
+        Err(status) => return status,
+    };
+    look(
+        rt.alloc(),
+        volume.edition,
+        image,
+        asked,
+        screen,
+        output,
+        errors,
+    )
+}

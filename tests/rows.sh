@@ -1,0 +1,101 @@
+# What the rows of the program's tests have in common. It is read by `.`, in a folder of the test's own; `program` is the program.
+passed=0
+failed=0
+
+# image FILE BYTES: a file of so many zeros
+image() { head -c "$2" /dev/zero > "$1"; }
+
+# put FILE AT HEX: these bytes from byte AT of FILE on
+put() {
+    local escaped
+    escaped=$(sed 's/../\\x&/g' <<< "${3// /}")
+    printf '%b' "$escaped" | dd of="$1" bs=1 seek="$2" conv=notrunc status=none
+}
+
+# changed FROM TO AT HEX: TO is FROM with these bytes from byte AT on
+changed() {
+    cp "$1" "$2"
+    put "$2" "$3" "$4"
+}
+
+# wants LABEL STATUS OUTPUT ERROR: compares what the last run left in status, output and error; OUTPUT and ERROR are files
+wants() {
+    if [ "$(cat status)" = "$2" ] && cmp -s output "$3" && cmp -s error "$4"; then
+        passed=$((passed + 1))
+    else
+        failed=$((failed + 1))
+        echo "failed: $1: status $(cat status), wanted $2; output $(wc -c < output) bytes; error: $(head -c 300 error)"
+    fi
+}
+
+# runs WORD..: runs the program
+runs() {
+    "$program" "$@" > output 2> error < /dev/null
+    echo $? > status
+}
+
+# runs_within SECONDS WORD..: runs the program, and ends it once so many seconds are over
+runs_within() {
+    timeout "$1" "$program" "${@:2}" > output 2> error < /dev/null
+    echo $? > status
+}
+
+# prints FILE WORD..: the program prints the bytes of FILE, and nothing else, with status 0
+prints() {
+    local file=$1
+    shift
+    runs "$@"
+    wants "$*" 0 "$file" none
+}
+
+# refuses STATUS LINE WORD..: the program prints this line on standard error, and nothing else
+refuses() {
+    local status=$1
+    printf '%s\n' "$2" > line
+    shift 2
+    runs "$@"
+    wants "$*" "$status" none line
+}
+
+# misread TEXT WORD..: the command line is at fault: status 2, no output, and an error that begins with TEXT
+misread() {
+    local text=$1
+    shift
+    runs "$@"
+    if [ "$(head -c ${#text} error)" = "$text" ]; then
+        cp error line
+    else
+        printf '%s\n' "$text" > line
+    fi
+    wants "$*" 2 none line
+}
+
+# helps WORD..: the program prints a help that begins with a sentence and has a usage, with status 0
+helps() {
+    runs "$@"
+    cp output help
+    grep -q '^Usage: unixvol' help || echo 'no usage' > help
+    wants "$*" 0 help none
+}
+
+# saves LABEL FILE WANTED: FILE has the bytes of WANTED, and no new file is left over in its folder
+saves() {
+    if cmp -s "$2" "$3" && [ -z "$(find "$(dirname "$2")" -maxdepth 1 -name '.unixvol-*')" ]; then
+        passed=$((passed + 1))
+    else
+        failed=$((failed + 1))
+        echo "failed: $1: $2 isn't as it was to be saved"
+    fi
+}
+
+# has LABEL WANTED TEXT: the two texts are equal
+has() {
+    if [ "$2" = "$3" ]; then
+        passed=$((passed + 1))
+    else
+        failed=$((failed + 1))
+        echo "failed: $1: $3, wanted $2"
+    fi
+}
+
+: > none

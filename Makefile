@@ -29,6 +29,8 @@ test:
 	$(RT) ci
 	cp -f crates/unixvol/out/unixvol unixvol
 	tests/program.sh ./unixvol
+	tests/looks.sh ./unixvol
+	tests/trees.sh ./unixvol
 	tests/manual.sh ./unixvol
 
 bench: build

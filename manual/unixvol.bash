@@ -17,22 +17,29 @@ _unixvol() {
     local -a given=()
     COMPREPLY=()
     if [ "$COMP_CWORD" -eq 1 ]; then
-        mapfile -t COMPREPLY < <(compgen -W 'cat ls get icheck dcheck ncheck mkfs put rm rmdir mkdir ln chmod chown salvage play migrate help --help --version' -- "$current")
+        mapfile -t COMPREPLY < <(compgen -W 'cat ls get export inode super map check icheck dcheck ncheck mkfs put import rm rmdir mkdir ln mv chmod chown salvage play migrate help --help --version' -- "$current")
         return
     fi
     case $command in
         cat) kinds='edition file any' options='-h --help' ;;
-        ls) kinds='edition file path' options='-h --help' ;;
+        ls) kinds='edition file path' options='-l --long -R --recursive -h --help' ;;
         get) kinds='edition file path' options='-h --help' ;;
+        export) kinds='edition file path' options='-h --help' ;;
+        inode) kinds='edition file any' options='--json -h --help' ;;
+        super) kinds='edition file' options='--json -h --help' ;;
+        map) kinds='edition file' options='--svg -h --help' ;;
+        check) kinds='edition file' options='-h --help' ;;
         icheck) kinds='edition file any' options='-h --help' ;;
         dcheck) kinds='edition file any' options='-h --help' ;;
         ncheck) kinds='edition file any' options='-h --help' ;;
         mkfs) kinds='edition file any any any any any' options='-h --help' ;;
         put) kinds='edition file path file any' options='-h --help' ;;
-        rm) kinds='edition file path any' options='-h --help' ;;
+        import) kinds='edition file path any' options='-h --help' ;;
+        rm) kinds='edition file path any' options='-r --recursive -h --help' ;;
         rmdir) kinds='edition file path any' options='-h --help' ;;
-        mkdir) kinds='edition file path any' options='-h --help' ;;
+        mkdir) kinds='edition file path any' options='-p --parents -h --help' ;;
         ln) kinds='edition file path path any' options='-h --help' ;;
+        mv) kinds='edition file path path any' options='-h --help' ;;
         chmod) kinds='edition file path any any' options='-h --help' ;;
         chown) kinds='edition file path any any any' options='-h --help' ;;
         salvage) kinds='edition file' options='-h --help' ;;

@@ -49,6 +49,8 @@ completes 'disk.img' ls 7 disk
 completes '/etc/motd' get 7 disk.img /etc/m
 completes 'etc/empty etc/motd etc/passwd' get 7 disk.img etc/
 completes '--help' rm --he
+completes '--recursive' rm --re
+completes '--svg' map --s
 completes '' rm 7 disk.img /etc/motd 1
 
 echo "$passed passed, $failed failed"

@@ -4,89 +4,12 @@
 set -uo pipefail
 program=$(realpath "${1:?usage: tests/program.sh PROGRAM}")
 samples=$(realpath "$(dirname "$0")/../samples")
+rows=$(realpath "$(dirname "$0")/rows.sh")
 folder=$(mktemp -d)
 trap 'rm -rf "$folder"' EXIT
 cd "$folder" || exit 1
-passed=0
-failed=0
+. "$rows"
 
-# image FILE BYTES: a file of so many zeros
-image() { head -c "$2" /dev/zero > "$1"; }
-
-# put FILE AT HEX: these bytes from byte AT of FILE on
-put() {
-    local escaped
-    escaped=$(sed 's/../\\x&/g' <<< "${3// /}")
-    printf '%b' "$escaped" | dd of="$1" bs=1 seek="$2" conv=notrunc status=none
-}
-
-# changed FROM TO AT HEX: TO is FROM with these bytes from byte AT on
-changed() {
-    cp "$1" "$2"
-    put "$2" "$3" "$4"
-}
-
-# wants LABEL STATUS OUTPUT ERROR: compares what the last run left in status, output and error; OUTPUT and ERROR are files
-wants() {
-    if [ "$(cat status)" = "$2" ] && cmp -s output "$3" && cmp -s error "$4"; then
-        passed=$((passed + 1))
-    else
-        failed=$((failed + 1))
-        echo "failed: $1: status $(cat status), wanted $2; output $(wc -c < output) bytes; error: $(head -c 300 error)"
-    fi
-}
-
-# runs WORD..: runs the program
-runs() {
-    "$program" "$@" > output 2> error < /dev/null
-    echo $? > status
-}
-
-# runs_within SECONDS WORD..: runs the program, and ends it once so many seconds are over
-runs_within() {
-    timeout "$1" "$program" "${@:2}" > output 2> error < /dev/null
-    echo $? > status
-}
-
-# prints FILE WORD..: the program prints the bytes of FILE, and nothing else, with status 0
-prints() {
-    local file=$1
-    shift
-    runs "$@"
-    wants "$*" 0 "$file" none
-}
-
-# refuses STATUS LINE WORD..: the program prints this line on standard error, and nothing else
-refuses() {
-    local status=$1
-    printf '%s\n' "$2" > line
-    shift 2
-    runs "$@"
-    wants "$*" "$status" none line
-}
-
-# misread TEXT WORD..: the command line is at fault: status 2, no output, and an error that begins with TEXT
-misread() {
-    local text=$1
-    shift
-    runs "$@"
-    if [ "$(head -c ${#text} error)" = "$text" ]; then
-        cp error line
-    else
-        printf '%s\n' "$text" > line
-    fi
-    wants "$*" 2 none line
-}
-
-# helps WORD..: the program prints a help that begins with a sentence and has a usage, with status 0
-helps() {
-    runs "$@"
-    cp output help
-    grep -q '^Usage: unixvol' help || echo 'no usage' > help
-    wants "$*" 0 help none
-}
-
-: > none
 printf hello > hello
 head -c 5 /dev/zero > zeros
 { cat hello; head -c 515 /dev/zero; } > long_hello
@@ -298,26 +221,6 @@ put root 0 '01 00 2E'
 put root 16 '01 00 2E 2E'
 twenty=(20 2 0 0 168496141)
 
-# saves LABEL FILE WANTED: FILE has the bytes of WANTED, and no new file is left over in its folder
-saves() {
-    if cmp -s "$2" "$3" && [ -z "$(find "$(dirname "$2")" -maxdepth 1 -name '.unixvol-*')" ]; then
-        passed=$((passed + 1))
-    else
-        failed=$((failed + 1))
-        echo "failed: $1: $2 isn't as it was to be saved"
-    fi
-}
-
-# has LABEL WANTED TEXT: the two texts are equal
-has() {
-    if [ "$2" = "$3" ]; then
-        passed=$((passed + 1))
-    else
-        failed=$((failed + 1))
-        echo "failed: $1: $3, wanted $2"
-    fi
-}
-
 mkdir volumes
 prints none mkfs 6 volumes/a "${twenty[@]}"
 saves 'a new file' volumes/a made
@@ -489,9 +392,10 @@ saves 'a file whose command line was misread' volumes/kept hello
 for command in 'ls /' 'get /a' 'put /a hello 1' 'rm /a 1' 'rmdir /a 1' 'mkdir /a 1' 'ln /a /b 1' 'chmod /a 644 1' 'chown /a 1 2 1'; do
     read -r -a given <<< "$command"
     misread "error: invalid value '8'" "${given[0]}" 8 volumes/a "${given[@]:1}"
-    misread 'error: the following required arguments were not provided' "${given[0]}" 6 volumes/a
+    [ "${given[0]}" = ls ] || misread 'error: the following required arguments were not provided' "${given[0]}" 6 volumes/a
     misread 'error: unexpected argument' "${given[0]}" 6 volumes/a "${given[@]:1}" 2
 done
+misread 'error: the following required arguments were not provided' ls 6
 misread "error: invalid value '8'" salvage 8 volumes/a
 misread 'error: the following required arguments were not provided' salvage 6
 misread 'error: unexpected argument' salvage 6 volumes/a 2
@@ -549,7 +453,8 @@ for numbers in '6 1 32 31' '7 2 16 15'; do
     cp "$tree" before
     # What is refused leaves the image as it was.
     refuses 1 'unixvol: 2 NoEntry' ls "$edition" "$tree" /none
-    refuses 1 'unixvol: 20 NotDirectory' ls "$edition" "$tree" /hello
+    refuses 1 'unixvol: 20 NotDirectory' ls "$edition" "$tree" /hello/none
+    lists "$tree" /hello "   $first /hello"
     refuses 1 'unixvol: 2 NoEntry' get "$edition" "$tree" /none
     refuses 1 'unixvol: 20 NotDirectory' get "$edition" "$tree" /hello/none
     refuses 1 'unixvol: 21 IsDirectory' get "$edition" "$tree" /d
@@ -1404,7 +1309,7 @@ helps --help
 helps help
 helps cat --help
 helps help cat
-for command in mkfs ls get icheck dcheck ncheck put rm mkdir rmdir ln chmod chown salvage play migrate; do
+for command in mkfs ls get export inode super map check icheck dcheck ncheck put import rm mkdir rmdir ln mv chmod chown salvage play migrate; do
     helps "$command" --help
     helps help "$command"
 done

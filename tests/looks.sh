@@ -1,0 +1,145 @@
+#!/usr/bin/env bash
+# Runs the commands of the built program that look at an image, sound or not, and compares what they print with what GNU tar, Python and
+# od make of the same.
+# Usage: tests/looks.sh PROGRAM. It prints a line for each row that fails, and ends with 'N passed, N failed'.
+set -uo pipefail
+program=$(realpath "${1:?usage: tests/looks.sh PROGRAM}")
+samples=$(realpath "$(dirname "$0")/../samples")
+rows=$(realpath "$(dirname "$0")/rows.sh")
+folder=$(mktemp -d)
+trap 'rm -rf "$folder"' EXIT
+cd "$folder" || exit 1
+. "$rows"
+linux="$samples/linux_made.v7"
+
+# exports STATUS FILE WORD..: the program writes an archive to FILE, with this status; what it tells stands in `error`
+exports() {
+    "$program" export "${@:3}" > "$2" 2> error < /dev/null
+    has "the status of export ${*:3}" "$1" $?
+}
+
+# A volume that Linux wrote, as an archive: GNU tar finds the names that Linux told of, and the bytes.
+exports 0 linux.tar 7 "$linux"
+sed -n '2,/^[0-9a-f]\{32\} /p' "$samples/linux_made.txt" | grep '^\./' | sed 's,^\./,,' | LC_ALL=C sort > wanted
+tar -tf linux.tar 2> /dev/null | sed 's,/$,,' > names
+LC_ALL=C sort names | cmp -s - wanted
+has 'the names in an archive' 0 $?
+mkdir out
+tar -xf linux.tar -C out 2> error
+has 'what GNU tar tells of an archive' '' "$(cat error)"
+while read -r sum path; do
+    has "the bytes of $path, extracted" "$sum" "$(md5sum < "out/$path" | cut -c 1-32)"
+done < <(grep -E '^[0-9a-f]{32} ' "$samples/linux_made.txt")
+has 'a further name, extracted' "$(stat -c %i out/etc/passwd)" "$(stat -c %i out/usr/games/passwd.link)"
+has 'permissions in an archive' 'drwxr-xr-x -rw-------' "$(tar -tvf linux.tar | awk '$6 == "etc/" || $6 == "etc/passwd" { print $1 }' | paste -s -d ' ' -)"
+exports 0 below.tar 7 "$linux" /etc
+has 'the names below a directory' 'empty motd passwd' "$(tar -tf below.tar | paste -s -d ' ' -)"
+exports 0 below.tar 7 "$linux" usr/games/..
+tar -xOf below.tar numbers > numbers
+"$program" get 7 "$linux" /usr/numbers > wanted
+cmp -s numbers wanted
+has 'the bytes of a file below a directory' 0 $?
+for word in / '' //; do
+    exports 0 again.tar 7 "$linux" "$word"
+    cmp -s again.tar linux.tar
+    has "an archive of all by '$word'" 0 $?
+done
+
+# Both editions: holes, further names, empty files, names of 14 bytes.
+for edition in 6 7; do
+    "$program" mkfs "$edition" disk.img 400 10 0 0 1000
+    head -c 300 /dev/zero | tr '\0' x > letters
+    printf hello > hello
+    "$program" mkdir "$edition" disk.img /d 1001
+    "$program" put "$edition" disk.img /d/fourteen-bytes letters 1002
+    "$program" put "$edition" disk.img /none none 1003
+    "$program" ln "$edition" disk.img /d/fourteen-bytes /again 1004
+    "$program" chmod "$edition" disk.img /none 4755 1005
+    printf '5 0 0 create /hole 600\n6 0 0 write /hole 5000 6161\n' > script
+    "$program" play "$edition" disk.img script > play
+    exports 0 all.tar "$edition" disk.img
+    has 'members ascend' 'again d/ d/fourteen-bytes hole none' "$(tar -tf all.tar | paste -s -d ' ' -)"
+    rm -rf out
+    mkdir out
+    tar -xpf all.tar -C out
+    cmp -s out/d/fourteen-bytes letters && cmp -s out/again letters && [ ! -s out/none ]
+    has 'the files of an archive' 0 $?
+    { head -c 5000 /dev/zero && printf aa; } | cmp -s - out/hole
+    has 'the holes of a file' 0 $?
+    has 'permissions and time of a file' '4755 1003' "$(stat -c '%a %Y' out/none)"
+    has 'the time of a directory' 1002 "$(stat -c %Y out/d)"
+
+    # An image that isn't sound is exported as far as it can be read, and what is wrong is told.
+    cp disk.img broken.img
+    at=$((edition == 6 ? 1024 + 2 : 1024 + 64 + 2))
+    put broken.img "$at" '09'
+    exports 1 broken.tar "$edition" broken.img
+    echo 'unixvol: unsound, rule 12' | cmp -s - error
+    has 'what is told of a wrong link count' 0 $?
+    cmp -s broken.tar all.tar
+    has 'the archive of a volume with a wrong link count' 0 $?
+    refuses 1 'unixvol: unsound, rule 12' ls "$edition" broken.img /
+    refuses 1 'unixvol: 2 NoEntry' export "$edition" disk.img /x
+    refuses 1 'unixvol: 20 NotDirectory' export "$edition" disk.img /none
+    refuses 1 'unixvol: 20 NotDirectory' export "$edition" disk.img /none/x
+done
+
+# Standard output.
+refuses 3 'unixvol: cannot read missing' export 7 missing
+"$program" export 7 "$linux" > /dev/full 2> error
+has 'export to a full device' '3 unixvol: cannot write -' "$? $(cat error)"
+head -c 600 "$linux" > short
+for command in export super map; do refuses 1 'unixvol: unsound, rule 1' "$command" 7 short; done
+refuses 1 'unixvol: unsound, rule 1' inode 7 short 2
+
+# An i-node, as od reads it.
+field() { od -An -tu2 -j $((1024 + 64 * 91 + $1)) -N 2 "$linux" | tr -d ' '; }
+runs inode 7 "$linux" 92
+has 'the lines of an i-node' "i-node 92
+mode 0$(printf %o "$(field 0)") file 0644
+nlink $(field 2)
+uid $(field 4)
+gid $(field 6)
+size $(field 10)" "$(head -n 6 output)"
+has 'the times of an i-node' "mtime $(($(field 56) * 65536 + $(field 58)))" "$(grep '^mtime' output)"
+block=$(sed -n 's/^addr \([0-9]*\) .*/\1/p' output)
+has 'the block of an i-node' "block $block: logical 0" "$(tail -n 1 output)"
+dd if="$linux" bs=512 skip="$block" count=1 status=none | head -c "$(field 10)" > body
+"$program" get 7 "$linux" /etc/motd > wanted
+cmp -s body wanted
+has 'the bytes in the block of an i-node' 0 $?
+runs inode 7 "$linux" --json 92
+has 'an i-node as JSON' "92 file $(field 10) $block" "$(python3 -c 'import json, sys; it = json.load(sys.stdin); print(it["i-node"], it["kind"], it["size"], it["addr"][0])' < output)"
+refuses 1 'unixvol: 2 NoEntry' inode 7 "$linux" 97
+refuses 1 'unixvol: 2 NoEntry' inode 7 "$linux" 0
+
+# The super-block, as od reads it.
+word() { od -An -tu2 -j "$1" -N 2 "$linux" | tr -d ' '; }
+runs super 7 "$linux"
+has 'the sizes in the super-block' "isize $(word 512)
+fsize $(($(word 514) * 65536 + $(word 516)))
+nfree $(word 518)" "$(head -n 3 output)"
+"$program" icheck 7 "$linux" 1 > report
+has 'how many blocks are free' "$(sed -n 's/^free //p' report)" "$(sed -n 's/^data blocks [0-9]*, free //p' output)"
+runs super --json 7 "$linux"
+has 'the super-block as JSON' "$(word 512) $(word 518)" "$(python3 -c 'import json, sys; it = json.load(sys.stdin); print(it["isize"], it["nfree"])' < output)"
+
+# A map.
+runs map 7 "$linux"
+has 'the scale of a map' '240 blocks, 1 in each cell' "$(head -n 1 output)"
+sed -n '3,/^$/p' output | tr -d '\n' > cells
+has 'the cells of a map' 240 "$(wc -c < cells)"
+has 'the cells of free blocks' "$(sed -n 's/^free //p' report)" "$(tr -cd oc < cells | wc -c)"
+has 'the cells of used blocks' "$(sed -n 's/^used //p' report)" "$(tr -cd dfp < cells | wc -c)"
+runs map --svg 7 "$linux"
+has 'a map as SVG' 'http://www.w3.org/2000/svg 250' "$(python3 -c '
+import sys, xml.etree.ElementTree as tree
+root = tree.parse(sys.stdin).getroot()
+print(root.tag[1:].split("}")[0], sum(it.tag.endswith("path") for it in root))' < output)"
+misread "error: unexpected argument '--json'" map --json 7 "$linux"
+misread "error: unexpected argument '--svg'" super --svg 7 "$linux"
+misread "error: invalid value '65536' for '<INO>'" inode 7 "$linux" 65536
+misread 'error: the following required arguments' inode 7 "$linux"
+
+echo "$passed passed, $failed failed"
+[ "$failed" = 0 ]

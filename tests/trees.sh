@@ -1,0 +1,151 @@
+#!/usr/bin/env bash
+# Runs the commands of the built program that show a tree or change it by several calls, and compares what they make with GNU tar and Python.
+# Usage: tests/trees.sh PROGRAM. It prints a line for each row that fails, and ends with 'N passed, N failed'.
+set -uo pipefail
+program=$(realpath "${1:?usage: tests/trees.sh PROGRAM}")
+samples=$(realpath "$(dirname "$0")/../samples")
+rows=$(realpath "$(dirname "$0")/rows.sh")
+folder=$(mktemp -d)
+trap 'rm -rf "$folder"' EXIT
+cd "$folder" || exit 1
+. "$rows"
+linux="$samples/linux_made.v7"
+
+# imports FILE WORD..: the program imports the archive in FILE, without a word
+imports() {
+    "$program" import "${@:2}" < "$1" > output 2> error
+    echo $? > status
+    wants "import ${*:2}" 0 none none
+}
+
+# A tree outside: directories, files of several sizes, a further name, names of 14 bytes, an empty file.
+mkdir -p src/cmd/empty src/man
+printf 'main() {}\n' > src/cmd/a.c
+head -c 5000 /dev/zero | tr '\0' b > src/cmd/fourteen-bytes
+: > src/none
+ln src/cmd/a.c src/man/again
+chmod 750 src/cmd
+chmod 4711 src/cmd/fourteen-bytes
+find src -exec touch -d @100000000 {} +
+for format in ustar gnu pax; do
+    tar --format="$format" --owner=3 --group=1 --numeric-owner -cf "$format.tar" -C src .
+done
+
+for edition in 6 7; do
+    "$program" mkfs "$edition" disk.img 400 10 0 0 1000
+    cp disk.img new.img
+    for format in ustar gnu pax; do
+        cp new.img disk.img
+        imports "$format.tar" "$edition" disk.img / 100000500
+        rm -rf out
+        mkdir out
+        "$program" export "$edition" disk.img | tar -xpf - -C out 2> error
+        diff -r src out > differences
+        has "the tree of a $format archive" '' "$(cat differences)"
+        has "permissions, time and links of a $format archive" '750 100000000 4711 100000000 2' \
+            "$(stat -c '%a' out/cmd) $(stat -c '%Y' out/cmd/a.c) $(stat -c '%a %Y' out/cmd/fourteen-bytes) $(stat -c %h out/man/again)"
+        has "the owner in a $format archive" 3/1 "$("$program" export "$edition" disk.img | tar --numeric-owner -tvf - none | awk '{ print $2 }')"
+        "$program" icheck "$edition" disk.img 1 > report
+        has "a volume into which a $format archive was imported" 0 $?
+    done
+    # An export that is imported is exported alike.
+    "$program" export "$edition" disk.img > one.tar
+    cp new.img other.img
+    imports one.tar "$edition" other.img
+    "$program" export "$edition" other.img > other.tar
+    cmp -s one.tar other.tar
+    has 'an export of an import of an export' 0 $?
+    # Below a directory, and once more into what is there.
+    prints none mkdir -p "$edition" other.img /usr/src 5
+    imports ustar.tar "$edition" other.img /usr/src 6
+    "$program" get "$edition" other.img /usr/src/cmd/a.c > output
+    cmp -s output src/cmd/a.c
+    has 'a file below a directory' 0 $?
+
+    # What isn't imported.
+    : > fifteen-bytes-n
+    tar --format=ustar -cf long.tar fifteen-bytes-n
+    cp other.img before
+    "$program" import "$edition" other.img / 7 < long.tar > output 2> error
+    has 'the status of an import of a long name' 1 $?
+    grep -q fifteen-bytes-n error
+    has 'the line of a long name has its path' 0 $?
+    saves 'an image without the long name' other.img before
+    head -c 700 ustar.tar > cut.tar
+    "$program" import "$edition" other.img / 7 < cut.tar > output 2> error
+    has 'the status of an import of a cut archive' '1 1' "$? $(wc -l < error)"
+    saves 'an image without the cut archive' other.img before
+    ln -sf a.c link
+    tar --format=ustar -cf symbolic.tar link
+    "$program" import "$edition" other.img / 7 < symbolic.tar > output 2> error
+    has 'the status of an import of a symbolic link' '1 1' "$? $(wc -l < error)"
+    saves 'an image without the symbolic link' other.img before
+
+    # Directories on the way, other names, and what is below a directory.
+    prints none mkdir -p "$edition" other.img /p/q/r 8
+    prints none mkdir -p "$edition" other.img /p/q/r 9
+    prints none mkdir -p "$edition" other.img /p/q/s 9
+    printf '%s\n' q > wanted
+    "$program" ls "$edition" other.img /p | awk '$2 !~ /^\./ { print $2 }' | cmp -s - wanted
+    has 'the directories on the way' 0 $?
+    refuses 1 'unixvol: 20 NotDirectory' mkdir -p "$edition" other.img /none/x/y 10
+    prints none mv "$edition" other.img /none /p/some 11
+    refuses 1 'unixvol: 2 NoEntry' get "$edition" other.img /none
+    prints none get "$edition" other.img /p/some
+    prints none mv "$edition" other.img /p/some /p/q 12
+    prints none get "$edition" other.img /p/q/some
+    cp other.img before
+    refuses 1 'unixvol: 17 Exists' mv "$edition" other.img /p/q/some /cmd/a.c 13
+    refuses 1 'unixvol: 21 IsDirectory' mv "$edition" other.img /p/q /p/t 13
+    refuses 1 'unixvol: 2 NoEntry' mv "$edition" other.img /x /y 13
+    refuses 1 'unixvol: 21 IsDirectory' rm "$edition" other.img /p 13
+    refuses 1 'unixvol: 22 Invalid' rm -r "$edition" other.img / 13
+    refuses 1 'unixvol: 2 NoEntry' rm -r "$edition" other.img /x 13
+    saves 'an image of which all was refused' other.img before
+    prints none rm -r "$edition" other.img /p 14
+    prints none rm -r "$edition" other.img /usr 15
+    prints none rm --recursive "$edition" other.img /cmd 16
+    prints none rm -r "$edition" other.img /man/again 17
+    prints none rm -r "$edition" other.img /man 18
+    printf '. ..\n' > wanted
+    "$program" ls "$edition" other.img | awk '{ print $2 }' | paste -s -d ' ' - | cmp -s - wanted
+    has 'a volume of which all was removed' 0 $?
+    "$program" icheck "$edition" other.img 1 > report
+    "$program" icheck "$edition" new.img 1 | cmp -s - report
+    has 'the blocks of a volume of which all was removed' 0 $?
+
+    # Listings.
+    "$program" ls "$edition" disk.img / > plain
+    prints plain ls "$edition" disk.img
+    runs ls -l "$edition" disk.img /cmd
+    has 'a long line' '-rws--x--x 1 3 1 5000 1973-03-03 09:46:40 fourteen-bytes' "$(grep fourteen output | awk '{ $1 = ""; print substr($0, 2) }')"
+    has 'the long line of a directory' 'drwxr-xr-x 2 3 1' "$(grep ' empty$' output | awk '{ print $2, $3, $4, $5 }')"
+    runs ls "$edition" disk.img /cmd/a.c
+    has 'a file that is listed' 'a.c 1' "$(awk '{ print $2 }' output | sed 's,.*/,,') $(wc -l < output)"
+    runs ls -R "$edition" disk.img
+    has 'directories below' '/cmd: /cmd/empty: /man:' "$(grep ':$' output | sed 's,^,/,; s,^//*,/,' | grep -v '^/:$' | paste -s -d ' ' -)"
+done
+
+# A terminal is shown control bytes escaped; a pipe gets them as they are.
+cp "$linux" odd.img
+printf 'x' > letter
+"$program" put 7 odd.img "/$(printf 'a\033b')" letter 5
+"$program" ls 7 odd.img / | grep -q "$(printf 'a\033b')"
+has 'a control byte in a pipe' 0 $?
+script -qec "$program ls 7 odd.img /" /dev/null < /dev/null > typescript 2>&1
+grep -qF 'a\033b' typescript
+has 'a control byte on a terminal' 0 $?
+
+# Rules.
+runs check 7 "$linux"
+has 'the rules of a sound volume' '12 12 0' "$(wc -l < output) $(grep -c ': holds$' output) $(cat status)"
+cp "$linux" broken.img
+put broken.img 1090 '09'
+runs check 7 broken.img
+has 'the rule that is broken' '1 12' "$(cat status) $(grep -vn ': holds$' output | cut -d: -f1 | paste -s -d ' ' -)"
+runs check 6 "$linux"
+has 'the status of a volume of the other edition' 1 "$(cat status)"
+refuses 3 'unixvol: cannot read missing' check 7 missing
+
+echo "$passed passed, $failed failed"
+[ "$failed" = 0 ]

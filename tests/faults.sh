@@ -39,6 +39,10 @@ cp wanted/old damaged
 printf '\0\0' | dd of=damaged bs=1 seek=518 conv=notrunc status=none
 printf '5 0 0 create /a 644\n5 0 0 write /a 0 616263\n5 0 0 stat /a\n' > script
 
+# What is imported: standard input of each run.
+"$program" export 7 wanted/old /d1 > archive || exit 1
+"$program" mkdir 7 wanted/old /d7/new 4 || exit 1
+
 # commands: the words of each command, of which `image` is a copy of the volume that its label names before the colon
 commands=(
     'old: ls 7 image /d1'
@@ -52,6 +56,16 @@ commands=(
     'old: ln 7 image /d1/file /d2/other 5'
     'old: chmod 7 image /d1/file 600 5'
     'old: mkfs 7 image 6000 50 0 0 5'
+    'old: ls -l -R 7 image'
+    'old: export 7 image'
+    'old: inode 7 image 2'
+    'old: super 7 image'
+    'old: map 7 image'
+    'old: check 7 image'
+    'old: import 7 image /d7/new 5'
+    'old: mkdir -p 7 image /d1/a/b 5'
+    'old: mv 7 image /d5/file /d1/moved 5'
+    'old: rm -r 7 image /d6 5'
     'damaged: salvage 7 image'
 )
 for optional in 'old: dcheck 7 image 2' 'old: ncheck 7 image 2' 'old: play 7 image script' 'old_six: migrate six image 9000 200 5'; do
@@ -68,7 +82,7 @@ for number in "${!commands[@]}"; do
     read -r label words <<< "${commands[number]}"
     cp "wanted/${label%:}" image
     # shellcheck disable=SC2086
-    "$program" $words > "wanted/$number.output" 2> error
+    "$program" $words > "wanted/$number.output" 2> error < archive
     status=$?
     if [ "$status" != 0 ]; then
         echo "faults: $words ends with $status where nothing fails it: $(head -c 200 error)" >&2
@@ -156,7 +170,7 @@ limited() {
         fi
         for number in "${!commands[@]}"; do
             lay "$number"
-            (cd work && exec bash -c "$first; ulimit $flag $limit; exec \"\$@\"" limited "$program" "${words[@]}") > output 2> error < /dev/null
+            (cd work && exec bash -c "$first; ulimit $flag $limit; exec \"\$@\"" limited "$program" "${words[@]}") > output 2> error < archive
             status=$?
             [ "$status" -gt 4 ] && ended=$((ended + 1))
             judge "$label $limit KB" "$number" "$status" "$signal" 1
@@ -174,7 +188,7 @@ signalled() {
     while [ "$run" -lt "$runs" ]; do
         number=$((run % ${#commands[@]}))
         lay "$number"
-        (cd work && exec "$program" "${words[@]}") > output 2> error < /dev/null &
+        (cd work && exec "$program" "${words[@]}") > output 2> error < archive &
         child=$!
         sleep "0.0$(printf '%03d' $((RANDOM % 300)))"
         kill -s "$name" "$child" 2> /dev/null
@@ -195,8 +209,8 @@ closed() {
         lay "$number"
         case $((run / ${#commands[@]} % 4)) in
             0) (cd work && exec "$program" "${words[@]}" > ../output 2> ../error <&-) ;;
-            1) (cd work && exec "$program" "${words[@]}" >&- 2> ../error < /dev/null) ;;
-            2) (cd work && exec "$program" "${words[@]}" > ../output 2>&- < /dev/null) ;;
+            1) (cd work && exec "$program" "${words[@]}" >&- 2> ../error < ../archive) ;;
+            2) (cd work && exec "$program" "${words[@]}" > ../output 2>&- < ../archive) ;;
             3) (cd work && exec "$program" "${words[@]}" >&- 2>&- <&-) ;;
         esac
         status=$?
@@ -231,7 +245,7 @@ full() {
         rm -f full/ballast
         head -c "$((20 * 1024 * 1024))" /dev/zero > full/ballast 2> /dev/null
         truncate -s "$(($(stat -c %s full/ballast) - spare))" full/ballast
-        (cd full && exec "$program" "${words[@]}") > output 2> error < /dev/null
+        (cd full && exec "$program" "${words[@]}") > output 2> error < archive
         status=$?
         rm -f full/ballast
         judge "a disk with $spare bytes left" "$number" "$status" 0 1
@@ -255,7 +269,7 @@ refused() {
         while [ "$allocation" = 0 ] || [ -s met ]; do
             allocation=$((allocation + 1))
             lay "$number"
-            (cd work && exec env REFUSED="$allocation" LD_PRELOAD="$folder/refusing.so" "$program" "${words[@]}") > output 2> error < /dev/null 9> met
+            (cd work && exec env REFUSED="$allocation" LD_PRELOAD="$folder/refusing.so" "$program" "${words[@]}") > output 2> error < archive 9> met
             status=$?
             judge "refused allocation $allocation" "$number" "$status" 0 1
             run=$((run + 1))
@@ -286,7 +300,7 @@ shut() {
         lay "$number"
         chmod 644 work/*
         chmod 555 work
-        (cd work && exec "${by[@]}" "$program" "${words[@]}") > output 2> error < /dev/null
+        (cd work && exec "${by[@]}" "$program" "${words[@]}") > output 2> error < archive
         status=$?
         judge 'a folder that can not be written' "$number" "$status" 0 1
         run=$((run + 1))

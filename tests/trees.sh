@@ -122,6 +122,12 @@ for edition in 6 7; do
     has 'the long line of a directory' 'drwxr-xr-x 2 3 1' "$(grep ' empty$' output | awk '{ print $2, $3, $4, $5 }')"
     runs ls "$edition" disk.img /cmd/a.c
     has 'a file that is listed' 'a.c 1' "$(awk '{ print $2 }' output | sed 's,.*/,,') $(wc -l < output)"
+    runs ls --json "$edition" disk.img /cmd
+    has 'a listing as JSON' '5000 2505' "$(python3 -c '
+import json, sys
+for it in json.load(sys.stdin):
+    if it["path"].endswith("fourteen-bytes"):
+        print(it["size"], it["permissions"])' < output)"
     runs ls -R "$edition" disk.img
     has 'directories below' '/cmd: /cmd/empty: /man:' "$(grep ':$' output | sed 's,^,/,; s,^//*,/,' | grep -v '^/:$' | paste -s -d ' ' -)"
 done

@@ -51,11 +51,11 @@ at_names P holds editions are = go editions.ref_ptr editions.now are
 abbrev seen : Option (List ℕ × List Row) → List (List ℕ)
 seen None = []
 seen (Some met) = met.0 ∷ the_word (words_by met.1) (codes "EDITION") ∷ the_word (words_by met.1) (codes "IMAGE") ∷ the_word (words_by met.1) (codes "PATH")
-    ∷ the_word (words_by met.1) (codes "long") ∷ the_word (words_by met.1) (codes "recursive") ∷ []
+    ∷ the_word (words_by met.1) (codes "json") ∷ the_word (words_by met.1) (codes "long") ∷ the_word (words_by met.1) (codes "recursive") ∷ []
 
 -- the words of options that weren't given
 abbrev no_options : List (List ℕ)
-no_options = codes "false" ∷ codes "false" ∷ []
+no_options = codes "false" ∷ codes "false" ∷ codes "false" ∷ []
 
 -- the command line takes the words of `ls`, and has them for its arguments, and no options
 abbrev IsTaken : Bor (List (Bor (List ℕ))) → Edition → List ℕ → List ℕ → List ℕ → Type 0
@@ -107,6 +107,7 @@ word_is V7 word named = named
 
 -- no option of `ls` was given
 record HasNoOptions (given : Words) : Type 0 where
+  json : first_word (given (codes "json")) ≡ codes "false"
   long : first_word (given (codes "long")) ≡ codes "false"
   below : first_word (given (codes "recursive")) ≡ codes "false"
 
@@ -117,11 +118,12 @@ unset words is = ap (λ (word : List ℕ). bytes_eq word (codes "true")) is
 -- where no option was given, the lines are plain ones
 plain : (given : Words) (form : Lines) → HasNoOptions given → AreLinesGiven given form → form ≡ lines.Plain
 plain given lines.Plain none are = refl
-plain given lines.Long none are = absurd (true≢false (sym are ∙ unset (given (codes "long")) none.long))
+plain given lines.Long none are = absurd (true≢false (sym are.1 ∙ unset (given (codes "long")) none.long))
+plain given lines.Json none are = absurd (true≢false (sym are ∙ unset (given (codes "json")) none.json))
 
 plain_given : (given : Words) (form : Lines) → HasNoOptions given → form ≡ lines.Plain → AreLinesGiven given form
 plain_given given form none is =
-    subst (AreLinesGiven given) (sym is) (unset (given (codes "long")) none.long)
+    subst (AreLinesGiven given) (sym is) (unset (given (codes "json")) none.json, unset (given (codes "long")) none.long)
 
 -- what `ls` asks for, by the words for its arguments
 asks_listing : (clock : Option ℕ) (given : Words) (edition : Edition) (image path : List ℕ) (invocation : Invocation) → bytes_eq (codes "ls") (verb_name (verb_of invocation)) ≡ true
@@ -165,8 +167,9 @@ asks_listing clock given edition image path (OnThreads volume (works.Play script
 no_options_by : (met : List ℕ × List Row) (edition : Edition) (image path : List ℕ) → seen (Some met) ≡ codes "ls" ∷ word_of edition ∷ image ∷ path ∷ no_options
     → HasNoOptions (words_by met.1)
 no_options_by met edition image path is = record {
-  long = ap (λ (l : List (List ℕ)). slice_index_or l 4 []) is;
-  below = ap (λ (l : List (List ℕ)). slice_index_or l 5 []) is;
+  json = ap (λ (l : List (List ℕ)). slice_index_or l 4 []) is;
+  long = ap (λ (l : List (List ℕ)). slice_index_or l 5 []) is;
+  below = ap (λ (l : List (List ℕ)). slice_index_or l 6 []) is;
 }
 
 -- what `ls` asks for, by the command that was met and the rows of its words

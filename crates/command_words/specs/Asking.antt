@@ -186,10 +186,11 @@ abbrev pub IsPictureGiven : Words → Picture → Type 0
 IsPictureGiven given pictures.Cells = is_set (given (codes "svg")) ≡ false
 IsPictureGiven given pictures.Svg = is_set (given (codes "svg")) ≡ true
 
--- the words ask for lines of this form: long ones where they say so (this project)
+-- the words ask for lines of this form: JSON where they say so, else long ones where they say so (this project)
 abbrev pub AreLinesGiven : Words → Lines → Type 0
-AreLinesGiven given lines.Plain = is_set (given (codes "long")) ≡ false
-AreLinesGiven given lines.Long = is_set (given (codes "long")) ≡ true
+AreLinesGiven given lines.Plain = (is_set (given (codes "json")) ≡ false) × (is_set (given (codes "long")) ≡ false)
+AreLinesGiven given lines.Long = (is_set (given (codes "json")) ≡ false) × (is_set (given (codes "long")) ≡ true)
+AreLinesGiven given lines.Json = is_set (given (codes "json")) ≡ true
 
 -- the words describe what is looked at (this project)
 abbrev pub IsLookGiven : Words → Look → Type 0

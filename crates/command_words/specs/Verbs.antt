@@ -86,7 +86,7 @@ verb_name verbs.Migrate = codes "migrate"
 -- the words of a command, in their order (this project)
 abbrev pub arguments_of : Verb → List Argument
 arguments_of verbs.Cat = on_volume (number (codes "INO") ∷ [])
-arguments_of verbs.Ls = on_volume (maybe_path ∷ lettered (codes "long") 108 ∷ lettered (codes "recursive") 82 ∷ [])
+arguments_of verbs.Ls = on_volume (maybe_path ∷ lettered (codes "long") 108 ∷ lettered (codes "recursive") 82 ∷ option (codes "json") ∷ [])
 arguments_of verbs.Get = on_volume (word (codes "PATH") ∷ [])
 arguments_of verbs.Export = on_volume (maybe_path ∷ [])
 arguments_of verbs.Inode = on_volume (number (codes "INO") ∷ option (codes "json") ∷ [])

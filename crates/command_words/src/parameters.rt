@@ -295,7 +295,7 @@ const NEW: Parameter = Parameter {
 pub static CAT_WORDS: [Parameter; 3] = [EDITION, IMAGE, INO];
 
 /// The words of `ls`.
-pub static LS_WORDS: [Parameter; 5] = [EDITION, IMAGE, LISTED, LONG, ALL_BELOW];
+pub static LS_WORDS: [Parameter; 6] = [EDITION, IMAGE, LISTED, LONG, ALL_BELOW, JSON];
 
 /// The words of `get`.
 pub static GET_WORDS: [Parameter; 3] = [EDITION, IMAGE, REGULAR];

@@ -90,7 +90,9 @@ fn read_ls<'a, G: Given<'a>>(given: &G) -> Result<Invocation<'a>, Fault<'a>>
 fn lines_in<'a, G: Given<'a>>(given: &G) -> Lines
     ensures { AreLinesGiven (G.words given.now) result }
 {
-    if flag_in(given, "long") {
+    if flag_in(given, "json") {
+        Lines::Json
+    } else if flag_in(given, "long") {
         Lines::Long
     } else {
         Lines::Plain

@@ -97,7 +97,8 @@ places, a space, and the name. `.` and `..` are among them. A PATH that leads to
 
 With -l the i-number is followed by the kind and the permissions, as in -rw-r--r--, the number of links, the user, the
 group, the size in bytes or the two numbers of a device, and the time of modification in UTC. With -R the directories
-below are listed too, each after a line with its path and a colon. On a terminal, bytes of names that are no printable ASCII are shown as a backslash and three octal digits.
+below are listed too, each after a line with its path and a colon. With --json it prints one array, with an object for
+each name. On a terminal, bytes of names that are no printable ASCII are shown as a backslash and three octal digits.
 
 A path starts at the root, with or without a slash. Repeated slashes count as one, those at its end as none,
 and each name is cut to 14 bytes. The volume must be sound: its twelve rules are asked first.

@@ -4,6 +4,7 @@ pub mod Columns
 pub mod Descents
 pub mod Exported
 pub mod InOrder
+pub mod ListingValues
 pub mod Mapped
 pub mod NodesRead
 pub mod Printed

@@ -5,6 +5,7 @@ pub mod Faults
 pub mod Json
 pub mod Lines
 pub mod Listing
+pub mod ListingJson
 pub mod LongLines
 pub mod Looking
 pub mod Mapping

@@ -11,6 +11,7 @@ use Rattle.vol_layout.specs.declared.edition.Edition.{Edition}
 use Rattle.vol_commands.specs.Faults.{user}
 use Rattle.vol_commands.specs.Jobs.{Streams}
 use Rattle.vol_commands.specs.Showing.{answer_of, IsObstacle}
+use Rattle.image_commands.specs.ListingJson.{json_text}
 use Rattle.image_commands.specs.Lines.{lines_text}
 use Rattle.image_commands.specs.Places.{AllBelow}
 use Rattle.image_commands.specs.Printing.{PrintsOne}
@@ -24,6 +25,7 @@ use Rattle.image_commands.specs.declared.places.Place.{Place}
 abbrev pub listing_text : Lines → Bool → Screen → Tree → Place → List Place → List ℕ
 listing_text lines.Plain below screen tree place places = lines_text (record { is_long = false; screen = screen }) tree below place places
 listing_text lines.Long below screen tree place places = lines_text (record { is_long = true; screen = screen }) tree below place places
+listing_text lines.Json below screen tree place places = json_text tree place places
 
 -- the path by which a listing begins: that of the root is a slash, where it has no bytes (this project)
 abbrev pub shown_path : List ℕ → List ℕ

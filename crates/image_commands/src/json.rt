@@ -29,7 +29,7 @@ pub(crate) fn super_json(alloc: Global, report: &SuperReport) -> Result<String, 
 }
 
 /// The text of a value in which no number is a float, and a newline.
-fn line(alloc: Global, value: &Value) -> Result<String, AllocError>
+pub(crate) fn line(alloc: Global, value: &Value) -> Result<String, AllocError>
     requires { has_float (view value.now) ≡ false }
     ensures { IfOk result (λ text. string_bytes text ≡ compact_text (view value.now) ++ codes "\n") }
 {
@@ -195,7 +195,7 @@ fn put_cache(
 }
 
 /// Puts a number into an object.
-fn put_count(
+pub(crate) fn put_count(
     alloc: Global,
     object: &mut Map<String, Value>,
     key: &str,

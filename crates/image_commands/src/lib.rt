@@ -9,6 +9,7 @@ mod faults;
 mod json;
 mod lines;
 pub mod listing;
+mod listing_json;
 mod long_lines;
 pub mod looking;
 pub mod looks;

@@ -11,6 +11,7 @@ ghost use Rattle.image_commands.specs.Listing.{shown_path, IsBelow, IsFound, IsL
 
 use crate::directories::USER;
 use crate::lines::{Style, lines_text};
+use crate::listing_json::json_text;
 use crate::looks::{Lines, Listing, Screen};
 use crate::places::{Place, all_below};
 use crate::printing::finish_bytes;
@@ -23,11 +24,11 @@ use vol_volume::{Bytes, Query, Reply, ask_image};
 
 /// Lists what stands at a path of a sound image: the names in a directory, in ascending order of their bytes, each on a line with its
 /// i-number, and where asked for with what its i-node says; then, where asked for, those of each directory below. What is no directory
-/// has a line of its own. Answers the status: 0; 1 where the image isn't sound, or the path leads nowhere; 3 where `output` failed, 4
-/// where memory ran out. Nothing goes out before all is known. A terminal gets the names escaped.
+/// has a line of its own. Or the same as JSON, with names escaped, as a terminal gets them. Answers the status: 0; 1 where the image
+/// isn't sound, or the path leads nowhere; 3 where `output` failed, 4 where memory ran out. Nothing goes out before all is known.
 ///
-/// Costs what [`examine`] costs, a look at each i-node that is told of, and sorting the names of each directory. Takes memory for that
-/// and for the text.
+/// Costs what [`examine`] costs, a look at each i-node that is told of, and for each directory the walk of its path and sorting its
+/// names. Takes memory for that and for the text.
 pub fn list<O: Sink, E: Sink>(
     alloc: Global,
     edition: Edition,
@@ -146,6 +147,10 @@ fn list_place(
     let below = listing.below;
     let places = places_below(alloc, image, geometry, start, below)?;
     let is_long = match listing.lines {
+        Lines::Json => {
+            let text = json_text(alloc, image, geometry, start, &places)?;
+            return Ok(text.into_bytes());
+        }
         Lines::Plain => false,
         Lines::Long => true,
     };

@@ -33,6 +33,8 @@ pub enum Lines {
     Plain,
     /// What its i-node says, on a line.
     Long,
+    /// What its i-node says, as an object of one JSON array.
+    Json,
 }
 
 /// How a report is written.

@@ -107,7 +107,13 @@ static EDITS: [(&[&str], Edit<'static>); 6] = [
 /// The words of a listing: the path, what is told of each name, and whether the directories below are listed too.
 type Listed = (&'static [&'static str], &'static str, Lines, bool);
 
-static LISTINGS: [Listed; 5] = [
+static LISTINGS: [Listed; 6] = [
+    (
+        &["ls", "--long", "--json", "7", "disk", "/d"],
+        "/d",
+        Lines::Json,
+        false,
+    ),
     (&["ls", "7", "disk", "/d"], "/d", Lines::Plain, false),
     (&["ls", "7", "disk"], "", Lines::Plain, false),
     (&["ls", "-l", "7", "disk", "/d"], "/d", Lines::Long, false),

@@ -88,9 +88,9 @@ words() {
     done < <(section Arguments "$1" | awk '{ print $1 }')
 }
 
-# options COMMAND: the command's options, a line each; what stands for the value of one that takes a value is behind it
+# options [COMMAND]: the options of the command, or of the program, a line each; what stands for the value of one that takes a value is behind it
 options() {
-    section Options "$1" | sed -E -e 's/^ +//' -e 's/  .*//' | awk -F ', ' '
+    section Options "$@" | sed -E -e 's/^ +//' -e 's/  .*//' | awk -F ', ' '
         { value = ""; if (match($0, /<[A-Z]+>/)) value = " " substr($0, RSTART + 1, RLENGTH - 2) }
         { for (i = 1; i <= NF; i++) { sub(/ .*/, "", $i); print $i value } }'
 }
@@ -115,12 +115,15 @@ _unixvol_paths() {
 }
 
 _unixvol() {
-    local current=${COMP_WORDS[COMP_CWORD]} command=${COMP_WORDS[1]} options='' kinds='' word expected=''
-    local -a given=()
+    local current=${COMP_WORDS[COMP_CWORD]} command='' options='' kinds='' word expected=''
+    local -a before=("${COMP_WORDS[@]:1:COMP_CWORD-1}") given=()
     COMPREPLY=()
-    if [ "$COMP_CWORD" -eq 1 ]; then
+    # Options of the program stand before the command.
+    while [[ ${before[0]:-} == -* ]]; do before=("${before[@]:1}"); done
+    command=${before[0]:-}
+    if [ -z "$command" ]; then
 END
-    echo "        mapfile -t COMPREPLY < <(compgen -W '$(commands | one_line) help --help --version' -- \"\$current\")"
+    echo "        mapfile -t COMPREPLY < <(compgen -W '$(commands | one_line) help $(options | grep '^--' | one_line)' -- \"\$current\")"
     cat << 'END'
         return
     fi
@@ -135,7 +138,7 @@ END
         mapfile -t COMPREPLY < <(compgen -W "$options" -- "$current")
         return
     fi
-    for word in "${COMP_WORDS[@]:2:COMP_CWORD-2}"; do
+    for word in "${before[@]:1}"; do
         [[ $word == -* ]] || given+=("$word")
     done
     read -r -a kinds <<< "$kinds"
@@ -194,6 +197,11 @@ zsh_completion() {
         echo "    '$command:$(about "$command" | quoted)'"
     done
     echo ')'
+    echo '# The option of all commands may stand before the command.'
+    echo 'if (( CURRENT > 2 )) && [[ $words[2] == --explain ]]; then'
+    echo '    words=("$words[1]" "${(@)words[3,-1]}")'
+    echo '    (( CURRENT -= 1 ))'
+    echo 'fi'
     echo 'if (( CURRENT == 2 )); then'
     echo '    _describe command commands'
     echo '    return'

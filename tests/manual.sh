@@ -52,6 +52,10 @@ completes '--help' rm --he
 completes '--recursive' rm --re
 completes '--svg' map --s
 completes '' rm 7 disk.img /etc/motd 1
+completes '--explain' --ex
+completes '--explain' rm 7 --ex
+completes 'mkfs mkdir' --explain mk
+completes '/etc/motd' --explain get 7 disk.img /etc/m
 
 echo "$passed passed, $failed failed"
 [ "$failed" -eq 0 ]

@@ -206,7 +206,7 @@ misread 'error: the following required arguments were not provided' cat 6 six
 misread 'error: unexpected argument' cat 6 six 1 2
 misread 'error: unrecognized subcommand' dog 6 six 1
 misread 'Works on disk images'
-misread 'error: a word of the command line is not UTF-8 text' cat 6 $'\xff' 1
+misread 'error: word 3 of the command line is not UTF-8 text' cat 6 $'\xff' 1
 
 # New volumes. `made` is the volume of twenty blocks of the sixth edition, two of them the i-list, at 0x0A0B0C0D.
 image made 10240

@@ -21,7 +21,7 @@ use Rattle.vol_layout.specs.declared.edition.Edition.{Edition}
 use Rattle.vol_layout.specs.declared.edition.Edition.TheVariants.{V6, V7}
 use Rattle.command_line.specs.CommandLine.{MetAsks, words_by}
 use Rattle.command_line.specs.Laws.{IsListing, IsPlainWord, ReadsListing}
-use Rattle.command_line.specs.Words.{AreEditions, argument_rule, command_in, faults_of, named_shape, need_rule, program, unixvol_app, verb_shape, with_argument, with_command}
+use Rattle.command_line.specs.Words.{AreEditions, argument_rule, bare_program, command_in, explain_rule, faults_of, named_shape, need_rule, program, unixvol_app, verb_shape, with_argument, with_command}
 
 -- the word of an edition
 abbrev word_of : Edition → List ℕ
@@ -65,7 +65,7 @@ IsTaken editions edition program image path =
 
 -- the command line takes the words of `ls` where the file and the path begin with no hyphen
 taken : (p q r : ℕ × ℕ) (edition : Edition) (name image path : List ℕ) → IsPlainWord image → IsPlainWord path → IsTaken (names_at p q r) edition name image path
-unfolding clap_on_literals faults_of command_in unixvol_app program with_command verb_shape with_argument named_shape argument_rule need_rule
+unfolding clap_on_literals faults_of command_in unixvol_app program bare_program explain_rule with_command verb_shape with_argument named_shape argument_rule need_rule
 taken p q r V6 name [] [] image path = (refl, refl)
 taken p q r V6 name (x ∷ xs) [] image path =
     let e : (x == 45) ≡ false = ne_eqb _ _ image in

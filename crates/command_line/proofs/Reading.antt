@@ -22,17 +22,17 @@ use Rattle.command_words.specs.declared.invocation.Work.{Work}
 use Rattle.command_words.specs.declared.invocation.Work.TheVariants as works
 use Rattle.command_words.proofs.Values.{no_command, no_value}
 use Rattle.command_line.specs.CommandLine.{AsksNothing, IsNoValue, IsRead, IsRefused, MetAsks, TellsOf, words_by, words_of}
-use Rattle.command_line.specs.Words.{AreEditions, app, argument_rule, command_in, faults_of, named_shape, need_rule, program, unixvol_app, verb_shape, with_argument, with_command}
+use Rattle.command_line.specs.Words.{AreEditions, app, argument_rule, bare_program, command_in, explain_rule, faults_of, named_shape, need_rule, program, unixvol_app, verb_shape, with_argument, with_command}
 use Rattle.command_line.proofs.FoundWords.{words_same}
 
 -- clap's contract gives what a parse of this command line finds
 pub simple : (editions : Bor (List (Bor (List ℕ)))) → is_simple (unixvol_app editions) ≡ true
-unfolding unixvol_app program with_command verb_shape with_argument named_shape argument_rule need_rule
+unfolding unixvol_app program bare_program explain_rule with_command verb_shape with_argument named_shape argument_rule need_rule
 simple editions = refl
 
 -- clap's contract gives what a parse of this command line refuses
 pub simple_and_free : (editions : Bor (List (Bor (List ℕ)))) → is_simple_and_free (unixvol_app editions) ≡ true
-unfolding unixvol_app program with_command verb_shape with_argument named_shape argument_rule need_rule
+unfolding unixvol_app program bare_program explain_rule with_command verb_shape with_argument named_shape argument_rule need_rule
 simple_and_free editions = refl
 
 -- a command that was met, by its name and the rows of its words

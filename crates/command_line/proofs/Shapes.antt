@@ -1,5 +1,5 @@
 -- What the steps add by which the command line is built.
-use Rattle.std.proofs.Common.{Bool, codes, map, take, length, get_or, Option, Some, None, IsSomeAnd, ◌&&◌, not, is_some, ◌≡◌, ◌<◌, ◌+◌, ◌∙◌, ℕ, true, false, List, ◌∷◌, ◌++◌, [], refl, sym, ap, ap₂}
+use Rattle.std.proofs.Common.{Bool, codes, map, take, length, get_or, Option, Some, None, IsSomeAnd, Result, Ok, Err, IfOk, ◌&&◌, not, is_some, ◌≡◌, ◌<◌, ◌+◌, ◌∙◌, ℕ, true, false, List, ◌∷◌, ◌++◌, [], refl, sym, ap, ap₂}
 use Rattle.std.specs.Borrow.{Bor}
 use Rattle.std.proofs.lemmas.Grind.{fold-append}
 use Rattle.std.proofs.lemmas.List.{map-append, take_more}
@@ -8,7 +8,7 @@ use Rattle.clap.specs.declared.builder.range.ValueRange.{ValueRange}
 use Rattle.clap.specs.declared.builder.value_parser.ValueParser.{ValueParser}
 use Rattle.clap.specs.declared.builder.value_parser.ValueParser.TheVariants as parsers
 use Rattle.clap.specs.Walk.{Rule, is_empty, is_simple_arg}
-use Rattle.clap.specs.Simple.{App, Shape, app_of_fields, shape_of_fields}
+use Rattle.clap.specs.Simple.{App, Shape, app_of_fields, shape_of_fields, with_rule}
 use Rattle.clap.specs.Words.{AddsArg, AddsSubcommand, app_of, new_app, rule_of, shape_of, with_subcommand}
 use Rattle.clap.specs.declared.builder.arg.Arg.{Arg}
 use Rattle.clap.specs.declared.builder.command.Command.{Command}
@@ -23,7 +23,7 @@ use Rattle.command_words.specs.declared.parameters.Need.{Need}
 use Rattle.command_words.specs.declared.parameters.Need.TheVariants as needs
 use Rattle.command_words.specs.declared.parameters.Parameter.{Parameter}
 use Rattle.command_words.specs.declared.verbs.Verb.{Verb}
-use Rattle.command_line.specs.Words.{app, argument_rule, kind_rule, named_shape, need_rule, program, rule, shape, verb_shape, with_argument, with_arguments, with_command, with_commands}
+use Rattle.command_line.specs.Words.{app, argument_rule, bare_program, explain_rule, kind_rule, named_shape, need_rule, program, rule, shape, verb_shape, with_argument, with_arguments, with_command, with_commands}
 
 -- the last of ten tests that pass passes
 last : (a b c d e f g h i j : Bool) → (a && (b && (c && (d && (e && (f && (g && (h && (i && j))))))))) ≡ true → j ≡ true
@@ -115,6 +115,28 @@ adds_argument old new argument editions begun parameters i other inside added kn
     ∙ (ap (λ (s : Shape). with_argument s (argument_rule editions (argument_of parameter))) was
     ∙ sym (more_arguments editions begun parameters i other inside))
 
+-- the option of all commands changes nothing of how words are read
+explain_simple : explain_rule.is_simple ≡ true
+unfolding explain_rule
+explain_simple = need_simple (codes "explain") (needs.Flag None)
+
+-- a command with the option of all commands
+pub adds_option : {E : Type 0} (old : Command) (result : Result Command E) (option : Arg) (known : Shape) → IfOk result (λ new. AddsArg old option new)
+    → rule option ≡ explain_rule → shape old ≡ known → IfOk result (λ new. shape new ≡ with_argument known explain_rule)
+unfolding rule
+adds_option old (Ok new) option known added is was =
+    adds_rule old new option explain_rule added is explain_simple ∙ ap (λ (s : Shape). with_argument s explain_rule) was
+adds_option old (Err e) option known added is was = tt
+
+-- the program with the option of all commands
+pub adds_option_to_program : {E : Type 0} (old : Command) (result : Result Command E) (option : Arg) → IfOk result (λ new. AddsArg old option new)
+    → rule option ≡ explain_rule → app old ≡ bare_program → IfOk result (λ new. app new ≡ program)
+unfolding rule app program with_argument
+adds_option_to_program old (Ok new) option added is was =
+    let simple_option : is_simple_arg option ≡ true = ap (λ (r : Rule). r.is_simple) is ∙ explain_simple in
+    added.shape (local option simple_option) ∙ ap₂ with_rule was is
+adds_option_to_program old (Err e) option added is was = tt
+
 -- a command with its texts, and no argument
 pub starts : (new texts more : Command) (about after_help : Bor (List ℕ)) (name : List ℕ) → app_of new ≡ new_app name
     → out-Command texts ≡ record (out-Command new) { about = Some about } → out-Command more ≡ record (out-Command texts) { after_help = Some after_help }
@@ -134,7 +156,7 @@ arguments_plain editions before [] plain = plain
 arguments_plain editions before (argument ∷ rest) plain = arguments_plain editions (with_argument before (argument_rule editions argument)) rest plain
 
 verb_plain : (editions : Bor (List (Bor (List ℕ)))) (verb : Verb) → (verb_shape editions verb).is_plain ≡ true
-unfolding verb_shape named_shape
+unfolding verb_shape named_shape with_argument
 verb_plain editions verb = arguments_plain editions (named_shape (verb_name verb)) (arguments_of verb) refl
 
 -- one more command
@@ -159,15 +181,15 @@ adds_verb old command new editions begun verbs i other inside added known was =
     adds_command old command new (with_commands editions begun (take i verbs)) (verb_shape editions verb) added known (verb_plain editions verb) was
     ∙ sym (more_commands editions begun verbs i other inside)
 
--- the program with its texts, and no command
+-- the program with its texts, and no command or option
 pub starts_program : (new versioned about more asking whole : Command) (version about_text after_help : Bor (List ℕ)) → app_of new ≡ new_app (codes "unixvol")
     → out-Command versioned ≡ record (out-Command new) { version = Some version }
     → out-Command about ≡ record (out-Command versioned) { about = Some about_text }
     → out-Command more ≡ record (out-Command about) { after_help = Some after_help }
     → out-Command asking ≡ record (out-Command more) { subcommand_required = true }
     → out-Command whole ≡ record (out-Command asking) { arg_required_else_help = true }
-    → app whole ≡ program
-unfolding app program
+    → app whole ≡ bare_program
+unfolding app bare_program
 starts_program new versioned about more asking whole version about_text after_help is version_is about_is more_is asking_is whole_is =
     ap app_of_fields whole_is
     ∙ (ap (λ (f : Command-F Command). app_of_fields (record f { arg_required_else_help = true })) asking_is

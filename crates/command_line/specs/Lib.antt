@@ -1,3 +1,4 @@
 pub mod CommandLine
+pub mod Explaining
 pub mod Laws
 pub mod Words

@@ -1,5 +1,5 @@
 -- The command line as clap sees it: its commands, and the words that each takes.
-use Rattle.std.specs.Prelude.{◌≡◌, ◌∷◌, ◌++◌, ℕ, List, [], Option, Some, true, codes, fold, map}
+use Rattle.std.specs.Prelude.{◌≡◌, ◌∷◌, ◌++◌, ℕ, List, [], Option, Some, None, true, codes, fold, map}
 use Rattle.std.specs.Borrow.{Bor}
 use Rattle.clap.specs.Lexer.{usize_max}
 use Rattle.clap.specs.Simple.{new_shape}
@@ -59,16 +59,24 @@ with_argument command argument = record command { rules = command.rules ++ argum
 abbrev pub with_arguments : Bor (List (Bor (List ℕ))) → Shape → List Argument → Shape
 with_arguments editions = fold (λ command argument. with_argument command (argument_rule editions argument))
 
--- a command with its arguments (this project)
-unfoldable pub verb_shape : Bor (List (Bor (List ℕ))) → Verb → Shape
-verb_shape editions verb = with_arguments editions (named_shape (verb_name verb)) (arguments_of verb)
+-- the option of the program and of all commands that asks for a second line where something fails (this project)
+unfoldable pub explain_rule : Rule
+explain_rule = need_rule (codes "explain") (needs.Flag None)
 
--- the program without its commands: it has a version and asks for a command (this project)
-unfoldable pub program : App
-program = record {
+-- a command with its arguments, behind which is the option of all commands (this project)
+unfoldable pub verb_shape : Bor (List (Bor (List ℕ))) → Verb → Shape
+verb_shape editions verb = with_argument (with_arguments editions (named_shape (verb_name verb)) (arguments_of verb)) explain_rule
+
+-- the program without its commands and its option: it has a version and asks for a command (this project)
+unfoldable pub bare_program : App
+bare_program = record {
   top = record (new_shape (codes "unixvol")) { has_version = true; subcommand_required = true; arg_required_else_help = true };
   subs = [];
 }
+
+-- the program without its commands, with the option of all commands (this project)
+unfoldable pub program : App
+program = record bare_program { top = with_argument bare_program.top explain_rule }
 
 -- a program with one more command, the last (clap's contract)
 unfoldable pub with_command : App → Shape → App

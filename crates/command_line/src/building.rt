@@ -1,8 +1,8 @@
 //! The command line, built from the table of commands.
 ghost use Rattle.std.specs.Prelude.{◌≡◌, None, IfOk};
-ghost use Rattle.command_words.specs.Verbs.{argument_of, verb_name};
+ghost use Rattle.command_words.specs.Verbs.{argument_of, arguments_of, verb_name};
 ghost use Rattle.command_words.specs.declared.parameters.Need.TheVariants as needs;
-ghost use Rattle.command_line.specs.Words.{AreEditions, app, argument_rule, named_shape, need_rule, program, rule, shape, unixvol_app, verb_shape};
+ghost use Rattle.command_line.specs.Words.{AreEditions, app, argument_rule, bare_program, explain_rule, named_shape, need_rule, program, rule, shape, unixvol_app, verb_shape, with_arguments};
 
 use clap::{Arg, ArgAction, Command};
 use command_words::parameters::EDITIONS;
@@ -33,16 +33,23 @@ impl<'a> Builder<'a> {
     pub(crate) fn command_line(self) -> Result<Command<'a>, AllocError>
         ensures { IfOk result (λ command. app command ≡ unixvol_app self.entry.editions) }
     {
-        let mut whole = bare(self.alloc);
+        let mut whole = program(self.alloc)?;
         for verb in &VERBS {
             whole = whole.subcommand(self.command(*verb)?)?;
         }
         Ok(whole)
     }
 
-    /// A command with its texts and its arguments.
+    /// A command with its texts, its arguments, and the option of all commands.
     pub(crate) fn command(self, verb: Verb) -> Result<Command<'a>, AllocError>
         ensures { IfOk result (λ command. shape command ≡ verb_shape self.entry.editions verb) }
+    {
+        self.bare_command(verb)?.arg(explain_option(self.alloc))
+    }
+
+    /// A command with its texts and the arguments of its table.
+    fn bare_command(self, verb: Verb) -> Result<Command<'a>, AllocError>
+        ensures { IfOk result (λ command. shape command ≡ with_arguments self.entry.editions (named_shape (verb_name verb)) (arguments_of verb)) }
     {
         let parameters = verb.parameters();
         let mut command = named(self.alloc, verb);
@@ -64,9 +71,16 @@ impl<'a> Builder<'a> {
     }
 }
 
-/// The program with its texts, and no command.
-fn bare<'a>(alloc: Global) -> Command<'a>
-    ensures { app result ≡ program }
+/// The program with its texts and the option of all commands, and no command.
+fn program<'a>(alloc: Global) -> Result<Command<'a>, AllocError>
+    ensures { IfOk result (λ command. app command ≡ program) }
+{
+    bare_program(alloc).arg(explain_option(alloc))
+}
+
+/// The program with its texts, and no command or option.
+fn bare_program<'a>(alloc: Global) -> Command<'a>
+    ensures { app result ≡ bare_program }
 {
     Command::new(alloc, "unixvol")
         .version("0.1.0")
@@ -84,6 +98,14 @@ fn named<'a>(alloc: Global, verb: Verb) -> Command<'a>
     let about: &'a str = verb.about();
     let more: &'a str = verb.more();
     Command::new(alloc, name).about(about).after_help(more)
+}
+
+/// The option that asks for a second line where something fails.
+#[tactic(auto, unfolding(crate::specs::Words::explain_rule))]
+fn explain_option<'a>(alloc: Global) -> Arg<'a>
+    ensures { rule result ≡ explain_rule }
+{
+    long_flag(alloc, "explain", texts::EXPLAIN)
 }
 
 /// An argument of this name for so many words.

@@ -14,11 +14,13 @@ use command_words::{Fault, Said, Verb, WrongWord, reading};
 use std::alloc::{AllocError, Global};
 
 mod building;
+mod explaining;
 mod found;
 pub mod laws;
 
 use building::Builder;
 pub use command_words::{Invocation, VolumeFile, Work};
+pub use explaining::asks_to_explain;
 use found::Found;
 
 /// Reads the words of the command line, of which the first is the program's own name. `clock` is the moment of the

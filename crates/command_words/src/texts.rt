@@ -5,7 +5,11 @@ pub const ABOUT: &str = "Works on disk images of Sixth and Seventh Edition Unix.
 pub const STATUSES: &str = "\
 A fault is one line on standard error; one of the command line says what is wrong, mostly with the usage
 below it. The status is 0 where all went well, 1 for a refusal, 2 for a fault of the command line, 3 where a
-file can't be read or written, and 4 for want of memory.";
+file can't be read or written, and 4 for want of memory.
+With --explain, before or after a command, a second line says what the first means, what it is about, and the
+system's own reason where a file failed.";
+
+pub const EXPLAIN: &str = "Say in a second line what the line of a fault means";
 
 pub const CAT_ABOUT: &str =
     "Prints the bytes of a file or directory of a volume, found by its i-number.";

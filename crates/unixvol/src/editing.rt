@@ -4,19 +4,20 @@ ghost use Rattle.std.specs.Process.{exit_status};
 ghost use Rattle.vol_commands.specs.Faults.{Gets};
 ghost use Rattle.unixvol.specs.Running.{EditsToEnd, Ends, GaveBytes, IsHeardFor, IsUnread, RunsEdit, host_files, host_input};
 
-use crate::explaining::finish;
+use crate::explaining::{Named, explain_line, finish};
+use crate::heard::heard_writer;
+use crate::host::Host;
 use crate::image_file::ImageFiles;
+use crate::noted::noted_writer;
 use crate::reading::{ReadFile, read_image, read_open};
 use crate::saving::save_answer;
+use crate::subject::Subject;
 use command_line::VolumeFile;
-use pdp_words::{IntoWrite, Sink};
+use pdp_words::Sink;
 use std::io::{Read, Write};
 use std::process::ExitCode;
 use std::rt::Clock;
 use tree_commands::{Edit, edit};
-
-/// What the line of a fault calls standard input.
-const STANDARD_INPUT: &str = "-";
 
 /// Changes the volume in a file by several calls, and answers how the program ends. An archive is read from `input`, which is
 /// standard input; a fault is one line on standard error. `errors` writes to standard error too. Nothing goes to `output`,
@@ -26,19 +27,28 @@ pub fn run_to_end<
     I: Read + Drop,
     O: Write + Drop,
     E: Write + Drop,
->(rt: &R, input: I, output: O, errors: E, volume: VolumeFile<'_>, edit: Edit<'_>) -> ExitCode
+>(
+    host: &Host<'_, R>,
+    input: I,
+    output: O,
+    errors: E,
+    volume: VolumeFile<'_>,
+    edit: Edit<'_>,
+) -> ExitCode
     ensures { EditsToEnd (host_files R.File.remaining R.File.contents R.had R.stood) (host_input I.remaining) (O.contents output) (E.contents errors)
         volume.entry.edition edit.entry (exit_status result) }
 {
-    let mut output = IntoWrite::new(output);
-    let mut errors = IntoWrite::new(errors);
-    let status = run(rt, input, &mut output, &mut errors, volume, edit);
-    ExitCode::from(finish(rt, output.into_inner(), status))
+    let mut output = noted_writer(output);
+    let mut errors = heard_writer(errors);
+    let status = run(host, input, &mut output, &mut errors, volume, edit);
+    let subject = Subject::of_edit(volume.image, edit);
+    explain_line(host, errors.last_line(), output.error(), Some(subject), &[]);
+    ExitCode::from(finish(host, output.into_inner().into_inner(), status))
 }
 
 /// Changes the volume in a file by several calls, saves it, and answers the status to end with.
 fn run<R: ImageFiles + Clock + Eprint + AllocGlobal, I: Read + Drop, O: Sink, E: Sink>(
-    rt: &R,
+    host: &Host<'_, R>,
     input: I,
     output: &mut O,
     errors: &mut E,
@@ -60,7 +70,7 @@ fn run<R: ImageFiles + Clock + Eprint + AllocGlobal, I: Read + Drop, O: Sink, E:
       said = Gets (E.failed errors.new) (E.contents errors.old) (E.contents errors.new);
     }) result }
 {
-    let (read, stamp) = match read_image(rt, volume.image) {
+    let (read, stamp) = match read_image(host, volume.image) {
         Ok(read) => read,
         Err(status) => return status,
     };
@@ -69,12 +79,12 @@ fn run<R: ImageFiles + Clock + Eprint + AllocGlobal, I: Read + Drop, O: Sink, E:
         bytes: image,
         file: _locked,
     } = read;
-    let archive = match archive_for(rt, input, asked) {
+    let archive = match archive_for(host, input, asked) {
         Ok(archive) => archive,
         Err(status) => return status,
     };
     let answer = edit(
-        rt.alloc(),
+        host.rt.alloc(),
         volume.edition,
         image,
         archive,
@@ -82,12 +92,12 @@ fn run<R: ImageFiles + Clock + Eprint + AllocGlobal, I: Read + Drop, O: Sink, E:
         output,
         errors,
     );
-    save_answer(rt, volume.image, stamp, &answer)
+    save_answer(host, volume.image, stamp, &answer)
 }
 
 /// The bytes of the archive that is imported, or none.
 fn archive_for<R: Eprint + AllocGlobal, I: Read + Drop>(
-    rt: &R,
+    host: &Host<'_, R>,
     input: I,
     edit: Edit<'_>,
 ) -> Result<Vec<u8>, u8>
@@ -95,7 +105,7 @@ fn archive_for<R: Eprint + AllocGlobal, I: Read + Drop>(
     ensures fault { IfErr result (IsUnread I.remaining) }
 {
     match edit {
-        Edit::Import { .. } => Ok(read_open(rt, STANDARD_INPUT, input)?.bytes),
-        _ => Ok(Vec::new(rt.alloc())),
+        Edit::Import { .. } => Ok(read_open(host, Named::Input, input)?.bytes),
+        _ => Ok(Vec::new(host.rt.alloc())),
     }
 }

@@ -8,41 +8,132 @@ ghost use Rattle.clap.specs.declared.error.kind.ErrorKind.TheVariants as clap_ki
 ghost use Rattle.vol_commands.specs.Cat.{cat_status};
 ghost use Rattle.unixvol.specs.Running.{IsStatusOfFileOrMemory};
 
+use crate::host::Host;
+use crate::meanings::{meaning_of, shown};
+use crate::subject::Subject;
 use clap::error::ErrorKind;
 use pdp_words::{Sink, write_all};
 use std::io::{self, Write};
 use vol_commands::CatFault;
 use vol_commands::status::{BAD_COMMAND_LINE, BAD_FILE, DONE, NO_MEMORY};
 
-/// What the line of a fault calls standard output.
-const STANDARD_OUTPUT: &str = "-";
+/// What the line of a fault calls standard output and standard input.
+const STREAM: &str = "-";
+
+/// A file, or a stream that the program has from the beginning.
+#[derive(Clone, Copy, Debug, PartialEq, Eq)]
+pub enum Named<'a> {
+    /// The file at a path.
+    File(&'a str),
+    /// Standard input.
+    Input,
+    /// Standard output.
+    Output,
+}
+
+impl<'a> Named<'a> {
+    /// What the line of a fault calls it.
+    fn name(self) -> &'a str {
+        match self {
+            Named::File(path) => path,
+            Named::Input | Named::Output => STREAM,
+        }
+    }
+
+    /// What the second line calls it.
+    fn in_words(self) -> &'a str {
+        match self {
+            Named::File(path) => path,
+            Named::Input => "standard input",
+            Named::Output => "standard output",
+        }
+    }
+}
 
 /// Prints that a file can't be read, and answers the status.
-pub fn explain_unread(rt: &impl Eprint, path: &str) -> u8
+pub fn explain_unread<R: Eprint + AllocGlobal>(
+    host: &Host<'_, R>,
+    file: Named<'_>,
+    why: io::Error,
+) -> u8
     ensures { result ≡ 3 }
 {
-    let _ = eprintln!(rt; "unixvol: cannot read {path}");
+    let name = file.name();
+    let _ = eprintln!(host.rt; "unixvol: cannot read {name}");
+    tell_why(host, file, why);
     BAD_FILE
 }
 
 /// Prints that a file can't be written, and answers the status.
-pub fn explain_unwritten(rt: &impl Eprint, path: &str) -> u8
+pub fn explain_unwritten<R: Eprint + AllocGlobal>(
+    host: &Host<'_, R>,
+    file: Named<'_>,
+    why: io::Error,
+) -> u8
     ensures { result ≡ 3 }
 {
-    let _ = eprintln!(rt; "unixvol: cannot write {path}");
+    let name = file.name();
+    let _ = eprintln!(host.rt; "unixvol: cannot write {name}");
+    tell_why(host, file, why);
     BAD_FILE
 }
 
-/// Prints the line of a fault of `cat`, and answers its status.
-pub fn explain_cat(rt: &impl Eprint, fault: CatFault, image: &str) -> u8
+/// Why a device failed: its last error, if that is known.
+pub fn reason_of(error: Option<io::Error>) -> io::Error {
+    error.unwrap_or(io::Error::from(io::ErrorKind::Other))
+}
+
+/// Prints the second line of a file that failed, if it is wanted.
+fn tell_why<R: Eprint + AllocGlobal>(host: &Host<'_, R>, file: Named<'_>, why: io::Error) {
+    if !host.explains {
+        return;
+    }
+    if let Ok(name) = shown(host.rt.alloc(), file.in_words()) {
+        let _ = eprintln!(host.rt; "unixvol: {name}: {why}");
+    }
+}
+
+/// Prints the second line of the line that a command printed last, if it is wanted; `scripts` are the files that it plays. It is that of standard output, where this answered
+/// an error, or else what the line means. A line that says in words what is wrong has none, and where there is no memory for it,
+/// it is left out.
+pub fn explain_line<R: Eprint + AllocGlobal>(
+    host: &Host<'_, R>,
+    line: &[u8],
+    output: Option<io::Error>,
+    subject: Option<Subject<'_>>,
+    scripts: &[&str],
+) {
+    if !host.explains {
+        return;
+    }
+    if let Some(why) = output {
+        return tell_why(host, Named::Output, why);
+    }
+    let Some(subject) = subject else {
+        return;
+    };
+    if let Ok(Some(meaning)) = meaning_of(host.rt.alloc(), line, subject, scripts) {
+        let _ = eprintln!(host.rt; "unixvol: {meaning}");
+    }
+}
+
+/// Prints the line of a fault of `cat`, and answers its status. `error` is that of the image's file, where this failed. Standard
+/// output gets its second line once the run has ended.
+pub fn explain_cat<R: Eprint + AllocGlobal>(
+    host: &Host<'_, R>,
+    fault: CatFault,
+    error: Option<io::Error>,
+    subject: Subject<'_>,
+) -> u8
     ensures { result ≡ cat_status fault }
 {
     match fault {
-        CatFault::Device => explain_unread(rt, image),
+        CatFault::Device => explain_unread(host, Named::File(subject.image), reason_of(error)),
         _ => {
             // Where standard error can't be written either, the status tells.
             let line = fault.line();
-            let _ = eprint!(rt; "{line}");
+            let _ = eprint!(host.rt; "{line}");
+            explain_line(host, line.trim_end().as_bytes(), None, Some(subject), &[]);
             fault.status()
         }
     }
@@ -51,7 +142,7 @@ pub fn explain_cat(rt: &impl Eprint, fault: CatFault, image: &str) -> u8
 /// Prints the text of a command line that asks for nothing that can be done, or the help that it
 /// asks for, and answers its status.
 pub fn explain_command_line<R: Eprint + AllocGlobal, O: Sink>(
-    rt: &R,
+    host: &Host<'_, R>,
     output: &mut O,
     error: &clap::Error,
 ) -> u8
@@ -66,58 +157,99 @@ pub fn explain_command_line<R: Eprint + AllocGlobal, O: Sink>(
     ensures whole { result ≡ 0 → O.failed output.new ≡ O.failed output.old }
 {
     if error.kind() == ErrorKind::OutOfMemory {
-        return explain_no_memory(rt);
+        return explain_no_memory(host);
     }
     if error.use_stderr() {
-        let _ = rt.eprint(error);
+        let _ = host.rt.eprint(error);
         return BAD_COMMAND_LINE;
     }
-    let Ok(text) = format!(in rt.alloc(); "{error}") else {
-        return explain_no_memory(rt);
+    let Ok(text) = format!(in host.rt.alloc(); "{error}") else {
+        return explain_no_memory(host);
     };
     match write_all(output, text.as_bytes()) {
         Ok(()) => DONE,
-        Err(_) => explain_unwritten(rt, STANDARD_OUTPUT),
+        Err(_) => explain_unshown(host),
     }
 }
 
+/// Prints that standard output can't be written, and answers the status. Its second line comes once the run has ended.
+fn explain_unshown<R: Eprint>(host: &Host<'_, R>) -> u8
+    ensures { result ≡ 3 }
+{
+    let _ = eprintln!(host.rt; "unixvol: cannot write {STREAM}");
+    BAD_FILE
+}
+
 /// Sees to what standard output may have kept back, and answers the status of a run that would end with `status`.
-pub fn finish<W: Write + Drop>(rt: &impl Eprint, mut output: W, status: u8) -> u8
+pub fn finish<R: Eprint + AllocGlobal, W: Write + Drop>(
+    host: &Host<'_, R>,
+    output: W,
+    status: u8,
+) -> u8
     ensures { (result ≡ status) ⊎ ((status ≡ 0) × (result ≡ 3)) }
 {
-    if status == DONE && output.flush().is_err() {
-        return explain_unwritten(rt, STANDARD_OUTPUT);
+    if status == DONE {
+        return flush(host, output, status);
     }
     status
 }
 
 /// As [`finish`] does, of a run that may have printed something whatever its status is.
-pub fn finish_printed<W: Write + Drop>(rt: &impl Eprint, mut output: W, status: u8) -> u8
+pub fn finish_printed<R: Eprint + AllocGlobal, W: Write + Drop>(
+    host: &Host<'_, R>,
+    output: W,
+    status: u8,
+) -> u8
     ensures { (result ≡ status) ⊎ (result ≡ 3) }
 {
-    if status != BAD_FILE && output.flush().is_err() {
-        return explain_unwritten(rt, STANDARD_OUTPUT);
+    if status != BAD_FILE {
+        return flush(host, output, status);
     }
     status
 }
 
-/// Prints why the words of the command line can't be had, and answers the status.
-pub fn explain_words(rt: &impl Eprint, error: &io::Error) -> u8
+/// Writes what standard output has kept back, and answers `status`, or that of a failure.
+fn flush<R: Eprint + AllocGlobal, W: Write + Drop>(
+    host: &Host<'_, R>,
+    mut output: W,
+    status: u8,
+) -> u8
+    ensures { (result ≡ status) ⊎ (result ≡ 3) }
+{
+    match output.flush() {
+        Ok(()) => status,
+        Err(why) => explain_unwritten(host, Named::Output, why),
+    }
+}
+
+/// Prints why the words of the command line can't be had, and answers the status. `place` is that of the word that isn't UTF-8, if
+/// it is known: 1 is the first word after the program's name.
+pub fn explain_words(rt: &impl Eprint, error: &io::Error, place: Option<usize>) -> u8
     ensures memory { error_kind error.now ≡ io_kinds.OutOfMemory → result ≡ 4 }
     ensures mistake { error_kind error.now ≢ io_kinds.OutOfMemory → result ≡ 2 }
     ensures status { (result ≡ 2) ⊎ (result ≡ 4) }
 {
     if error.kind() == io::ErrorKind::OutOfMemory {
-        return explain_no_memory(rt);
+        let _ = eprintln!(rt; "{NO_MEMORY_LINE}");
+        return NO_MEMORY;
     }
-    let _ = eprintln!(rt; "error: a word of the command line is not UTF-8 text");
+    let _ = match place {
+        Some(place) => eprintln!(rt; "error: word {place} of the command line is not UTF-8 text"),
+        None => eprintln!(rt; "error: a word of the command line is not UTF-8 text"),
+    };
     BAD_COMMAND_LINE
 }
 
+/// The line of want of memory.
+const NO_MEMORY_LINE: &str = "unixvol: 12 NoMemory";
+
 /// Prints that memory ran out, and answers the status.
-pub fn explain_no_memory(rt: &impl Eprint) -> u8
+pub fn explain_no_memory<R: Eprint>(host: &Host<'_, R>) -> u8
     ensures { result ≡ 4 }
 {
-    let _ = eprintln!(rt; "unixvol: 12 NoMemory");
+    let _ = eprintln!(host.rt; "{NO_MEMORY_LINE}");
+    if host.explains {
+        let _ = eprintln!(host.rt; "unixvol: there was too little memory for this");
+    }
     NO_MEMORY
 }

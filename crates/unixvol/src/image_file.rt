@@ -137,16 +137,22 @@ impl ImageFiles for HostRuntime {
     }
 }
 
-/// Why the file of an image can't be changed.
-#[derive(Clone, Copy, Debug, PartialEq, Eq)]
+/// Why the file of an image can't be changed, with the reason in words.
+#[derive(Clone, Copy, Debug)]
 pub enum OpenFault {
     /// It can't be opened.
-    Unread,
+    Unread(io::Error),
     /// It is a pipe, a socket or a terminal.
-    Stream,
+    Stream(io::Error),
     /// Another program has had it locked for half a minute.
-    Locked,
+    Locked(io::Error),
 }
+
+/// What is told of a file that is a pipe, a socket or a terminal.
+const STREAM: &str = "it is a pipe, a socket or a terminal, which keeps nothing to be changed";
+
+/// What is told of a file that another program has locked.
+const LOCKED: &str = "another program has had it locked for half a minute";
 
 /// What one try to open the file of an image comes to.
 enum Try<F> {
@@ -166,12 +172,12 @@ pub fn open_image<R: ImageFiles + Clock>(rt: &R, path: &str) -> Result<(R::File,
     for _ in 0..TRIES {
         match try_open(rt, path) {
             Ok(Try::Open(file, stamp)) => return Ok((file, stamp)),
-            Ok(Try::Stream) => return Err(OpenFault::Stream),
+            Ok(Try::Stream) => return Err(OpenFault::Stream(io::Error::other(STREAM))),
             Ok(Try::Busy) => thread::sleep(rt, Duration::from_millis(PAUSE)),
-            Err(_) => return Err(OpenFault::Unread),
+            Err(why) => return Err(OpenFault::Unread(why)),
         }
     }
-    Err(OpenFault::Locked)
+    Err(OpenFault::Locked(io::Error::other(LOCKED)))
 }
 
 /// Tries once to open and lock the file of an image. A pipe isn't opened, since that could wait for its other end.

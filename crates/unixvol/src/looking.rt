@@ -4,12 +4,16 @@ ghost use Rattle.std.specs.Process.{exit_status};
 ghost use Rattle.vol_commands.specs.Faults.{Gets};
 ghost use Rattle.unixvol.specs.Running.{IsEnd, LooksToEnd, RunsLook, host_files};
 
-use crate::explaining::finish_printed;
+use crate::explaining::{explain_line, finish_printed};
+use crate::heard::heard_writer;
+use crate::host::Host;
 use crate::image_file::ImageFiles;
+use crate::noted::noted_writer;
 use crate::reading::read_file;
+use crate::subject::Subject;
 use command_line::VolumeFile;
 use image_commands::{Look, Screen, look};
-use pdp_words::{IntoWrite, Sink};
+use pdp_words::Sink;
 use std::env::{self, Env};
 use std::io::Write;
 use std::process::ExitCode;
@@ -32,7 +36,7 @@ pub fn screen<R: Env + AllocGlobal>(rt: &R, is_terminal: bool) -> Screen {
 /// Shows what is asked for of the image in a file, and answers how the program ends. What it prints goes to `output`, which is
 /// standard output, as `screen` shows it; a fault is one line on standard error. `errors` writes to standard error too.
 pub fn run_to_end<R: ImageFiles + Eprint + AllocGlobal, O: Write + Drop, E: Write + Drop>(
-    rt: &R,
+    host: &Host<'_, R>,
     screen: Screen,
     output: O,
     errors: E,
@@ -42,15 +46,17 @@ pub fn run_to_end<R: ImageFiles + Eprint + AllocGlobal, O: Write + Drop, E: Writ
     ensures { LooksToEnd (host_files R.File.remaining R.File.contents R.had R.stood) screen (O.contents output) (E.contents errors)
         volume.entry.edition look.entry (exit_status result) }
 {
-    let mut output = IntoWrite::new(output);
-    let mut errors = IntoWrite::new(errors);
-    let status = run(rt, screen, &mut output, &mut errors, volume, look);
-    ExitCode::from(finish_printed(rt, output.into_inner(), status))
+    let mut output = noted_writer(output);
+    let mut errors = heard_writer(errors);
+    let status = run(host, screen, &mut output, &mut errors, volume, look);
+    let subject = Subject::of_look(volume.image, look);
+    explain_line(host, errors.last_line(), output.error(), Some(subject), &[]);
+    ExitCode::from(finish_printed(host, output.into_inner().into_inner(), status))
 }
 
 /// Shows what is asked for of the image in a file, and answers the status to end with, if [`finish_printed`] goes well.
 fn run<R: ImageFiles + Eprint + AllocGlobal, O: Sink, E: Sink>(
-    rt: &R,
+    host: &Host<'_, R>,
     screen: Screen,
     output: &mut O,
     errors: &mut E,
@@ -72,12 +78,12 @@ fn run<R: ImageFiles + Eprint + AllocGlobal, O: Sink, E: Sink>(
       said = Gets (E.failed errors.new) (E.contents errors.old) (E.contents errors.new);
     }) result }
 {
-    let image = match read_file(rt, volume.image) {
+    let image = match read_file(host, volume.image) {
         Ok(image) => image,
         Err(status) => return status,
     };
     look(
-        rt.alloc(),
+        host.rt.alloc(),
         volume.edition,
         image,
         asked,

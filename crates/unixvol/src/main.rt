@@ -4,16 +4,22 @@
 mod commands;
 mod editing;
 mod explaining;
+mod heard;
+mod host;
 mod image_file;
 mod looking;
+mod meanings;
+mod noted;
 mod reading;
 mod saving;
 mod saving_file;
+mod subject;
 mod threads;
+mod words;
 
 use command_line::Invocation;
-use std::env::{self, Env};
-use std::io::{self, IsTerminal};
+use host::Host;
+use std::io::IsTerminal;
 use std::process::ExitCode;
 use std::rt::Clock;
 use std::time::{SystemTime, UNIX_EPOCH};
@@ -21,29 +27,31 @@ use std::time::{SystemTime, UNIX_EPOCH};
 /// Reads the words of the command line, and goes on in one of four functions: only what several threads do may wait, what looks at an
 /// image may print something and fail, and only what makes several calls reads standard input.
 fn main(rt: HostRuntime) -> ExitCode {
-    let words = match words(&rt) {
+    let words = match words::words(&rt) {
         Ok(words) => words,
-        Err(error) => return ExitCode::from(explaining::explain_words(&rt, &error)),
+        Err(error) => {
+            let place = words::place_of_no_text(&rt);
+            return ExitCode::from(explaining::explain_words(&rt, &error, place));
+        }
+    };
+    let host = Host {
+        rt: &rt,
+        explains: command_line::asks_to_explain(words.as_slice()),
     };
     match command_line::read(rt.alloc(), moment(&rt), words.as_slice()) {
         Ok(Invocation::OnThreads { volume, work }) => {
-            threads::run_to_end(&rt, rt.stdout(), rt.stderr(), volume, work)
+            threads::run_to_end(&host, rt.stdout(), rt.stderr(), volume, work)
         }
         Ok(Invocation::OnImage { volume, look }) => {
             let output = rt.stdout();
             let screen = looking::screen(&rt, output.is_terminal());
-            looking::run_to_end(&rt, screen, output, rt.stderr(), volume, look)
+            looking::run_to_end(&host, screen, output, rt.stderr(), volume, look)
         }
         Ok(Invocation::OnTree { volume, edit }) => {
-            editing::run_to_end(&rt, rt.stdin(), rt.stdout(), rt.stderr(), volume, edit)
+            editing::run_to_end(&host, rt.stdin(), rt.stdout(), rt.stderr(), volume, edit)
         }
-        read => commands::run_to_end(&rt, rt.stdout(), rt.stderr(), read),
+        read => commands::run_to_end(&host, rt.stdout(), rt.stderr(), read),
     }
-}
-
-/// The words of the command line, of which the first is the program's own name.
-fn words<R: Env + AllocGlobal>(rt: &R) -> io::Result<Vec<String>> {
-    Ok(env::args(rt)?.collect(rt.alloc())?)
 }
 
 /// The moment of the clock, in seconds since the beginning of 1970. `None` where the clock can't be read, or tells a moment

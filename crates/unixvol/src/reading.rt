@@ -4,11 +4,13 @@ ghost use Rattle.pdp_words.specs.Devices.{IsReadWhole, LosesFront};
 ghost use Rattle.unixvol.specs.Opening.{IsOpened};
 ghost use Rattle.unixvol.specs.Running.{GaveBytes, IsStatusOfFileOrMemory, IsUnread};
 
-use crate::explaining::{explain_no_memory, explain_unread, explain_unwritten};
+use crate::explaining::{Named, explain_no_memory, explain_unread, explain_unwritten, reason_of};
+use crate::host::Host;
 use crate::image_file::{ImageFiles, OpenFault, Stamp, open_image};
-use pdp_words::{FromRead, LoadFault, Source, load};
+use crate::noted::{Noted, noted_reader};
+use pdp_words::{LoadFault, Source, load};
 use std::fs::{self, Files};
-use std::io::Read;
+use std::io::{self, Read};
 use std::rt::Clock;
 
 /// A file that was read to its end.
@@ -21,30 +23,34 @@ pub struct ReadFile<F> {
 }
 
 /// The bytes of a file. Where it can't be read, prints so, and answers the status.
-pub fn read_file<R: Files + Eprint + AllocGlobal>(rt: &R, path: &str) -> Result<Vec<u8>, u8>
+pub fn read_file<R: Files + Eprint + AllocGlobal>(
+    host: &Host<'_, R>,
+    path: &str,
+) -> Result<Vec<u8>, u8>
     ensures given { IfOk result (λ bytes. GaveBytes R.File.remaining bytes.items) }
     ensures fault { IfErr result (IsUnread R.File.remaining) }
 {
-    match fs::open(rt, path) {
-        Ok(file) => Ok(read_open(rt, path, file)?.bytes),
-        Err(_) => Err(explain_unread(rt, path)),
+    let named = Named::File(path);
+    match fs::open(host.rt, path) {
+        Ok(file) => Ok(read_open(host, named, file)?.bytes),
+        Err(why) => Err(explain_unread(host, named, why)),
     }
 }
 
 /// The bytes of several files, in the order of their paths. Where one can't be read, prints so, and answers the status.
 pub fn read_files<R: Files + Eprint + AllocGlobal>(
-    rt: &R,
+    host: &Host<'_, R>,
     paths: &[&str],
 ) -> Result<Vec<Vec<u8>>, u8>
     ensures given { IfOk result (λ files. All (λ file. GaveBytes R.File.remaining file.items) files.items) }
     ensures count { IfOk result (λ files. length files.items ≡ length paths.now) }
     ensures fault { IfErr result (IsUnread R.File.remaining) }
 {
-    let mut files = Vec::new(rt.alloc());
+    let mut files = Vec::new(host.rt.alloc());
     'files: for path in paths {
-        let bytes = read_file(rt, path)?;
+        let bytes = read_file(host, path)?;
         let Ok(()) = files.push(bytes) else {
-            return Err(explain_no_memory(rt));
+            return Err(explain_no_memory(host));
         };
     }
     Ok(files)
@@ -52,71 +58,79 @@ pub fn read_files<R: Files + Eprint + AllocGlobal>(
 
 /// The bytes of a file, and its stamp. Where it can't be read, prints so, and answers the status.
 pub fn read_stamped<R: ImageFiles + Eprint + AllocGlobal>(
-    rt: &R,
+    host: &Host<'_, R>,
     path: &str,
 ) -> Result<(Vec<u8>, Stamp), u8>
     ensures given { IfOk result (λ read. GaveBytes R.File.remaining read.0.items) }
     ensures fault { IfErr result (IsUnread R.File.remaining) }
 {
-    let Ok(file) = fs::open(rt, path) else {
-        return Err(explain_unread(rt, path));
-    };
-    let Ok(stamp) = rt.stamp_of(&file) else {
-        return Err(explain_unread(rt, path));
-    };
-    Ok((read_open(rt, path, file)?.bytes, stamp))
+    let named = Named::File(path);
+    match open_stamped(host.rt, path) {
+        Ok((file, stamp)) => Ok((read_open(host, named, file)?.bytes, stamp)),
+        Err(why) => Err(explain_unread(host, named, why)),
+    }
+}
+
+/// Opens a file, and answers its stamp too.
+fn open_stamped<R: ImageFiles>(rt: &R, path: &str) -> io::Result<(R::File, Stamp)> {
+    let file = fs::open(rt, path)?;
+    let stamp = rt.stamp_of(&file)?;
+    Ok((file, stamp))
 }
 
 /// The image that a command is to change, and its stamp. Where it can't be read, or isn't to be changed, prints so,
 /// and answers the status.
 pub fn read_image<R: ImageFiles + Clock + Eprint + AllocGlobal>(
-    rt: &R,
+    host: &Host<'_, R>,
     path: &str,
 ) -> Result<(ReadFile<R::File>, Stamp), u8>
     ensures given { IfOk result (λ image. IsOpened R.File.remaining R.had image.0.bytes.items image.1) }
     ensures fault { IfErr result (IsUnread R.File.remaining) }
 {
-    match open_image(rt, path) {
-        Ok((file, stamp)) => Ok((read_open(rt, path, file)?, stamp)),
-        Err(OpenFault::Unread) => Err(explain_unread(rt, path)),
-        Err(OpenFault::Stream | OpenFault::Locked) => Err(explain_unwritten(rt, path)),
+    let named = Named::File(path);
+    match open_image(host.rt, path) {
+        Ok((file, stamp)) => Ok((read_open(host, named, file)?, stamp)),
+        Err(OpenFault::Unread(why)) => Err(explain_unread(host, named, why)),
+        Err(OpenFault::Stream(why) | OpenFault::Locked(why)) => {
+            Err(explain_unwritten(host, named, why))
+        }
     }
 }
 
 /// Reads an open file to its end. Where it can't be read, prints so, and answers the status.
 pub fn read_open<R: Eprint + AllocGlobal, F: Read + Drop>(
-    rt: &R,
-    path: &str,
+    host: &Host<'_, R>,
+    named: Named<'_>,
     file: F,
 ) -> Result<ReadFile<F>, u8>
     ensures given { IfOk result (λ read. IsReadWhole (F.remaining file) (F.remaining read.file) read.bytes.items) }
     ensures fault { IfErr result (IsUnread F.remaining) }
 {
-    let mut source = FromRead::new(file);
-    let bytes = read_source(rt, path, &mut source)?;
+    let mut source = noted_reader(file);
+    let bytes = read_source(host, named, &mut source)?;
     Ok(ReadFile {
         bytes,
-        file: source.into_inner(),
+        file: source.into_inner().into_inner(),
     })
 }
 
 /// Reads all that a source has left. Where it can't be read, prints so, and answers the status: that of a file only where
 /// the source failed, that of memory only where it didn't.
 fn read_source<R: Eprint + AllocGlobal, S: Source>(
-    rt: &R,
-    path: &str,
-    source: &mut S,
+    host: &Host<'_, R>,
+    named: Named<'_>,
+    source: &mut Noted<S>,
 ) -> Result<Vec<u8>, u8>
-    requires { S.failed source.old ≡ false }
-    ensures given { IfOk result (λ bytes. IsReadWhole (S.remaining source.old) (S.remaining source.new) bytes.items) }
-    ensures front { OnErr result (LosesFront (S.remaining source.old) (S.remaining source.new)) }
-    ensures device { IsErrOf result 3 → S.failed source.new ≡ true }
-    ensures memory { IsErrOf result 4 → S.failed source.new ≡ false }
+    requires { ⟦<Noted<S> as Source>⟧.failed source.old ≡ false }
+    ensures given { IfOk result (λ bytes. IsReadWhole (⟦<Noted<S> as Source>⟧.remaining source.old) (⟦<Noted<S> as Source>⟧.remaining source.new) bytes.items) }
+    ensures front { OnErr result (LosesFront (⟦<Noted<S> as Source>⟧.remaining source.old) (⟦<Noted<S> as Source>⟧.remaining source.new)) }
+    ensures device { IsErrOf result 3 → ⟦<Noted<S> as Source>⟧.failed source.new ≡ true }
+    ensures memory { IsErrOf result 4 → ⟦<Noted<S> as Source>⟧.failed source.new ≡ false }
     ensures fault { IfErr result IsStatusOfFileOrMemory }
 {
-    match load(rt.alloc(), source) {
+    match load(host.rt.alloc(), source) {
         Ok(image) => Ok(image.into_bytes()),
-        Err(LoadFault::Device) => Err(explain_unread(rt, path)),
-        Err(LoadFault::NoMemory) => Err(explain_no_memory(rt)),
+        Err(LoadFault::Device) => Err(explain_unread(host, named, reason_of(source.error()))),
+        Err(LoadFault::NoMemory) => Err(explain_no_memory(host)),
     }
 }

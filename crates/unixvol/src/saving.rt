@@ -3,7 +3,8 @@ ghost use Rattle.std.specs.Prelude.{◌≡◌, ◌⊎◌, IfErr, IfSome};
 ghost use Rattle.unixvol.specs.Running.{IsStatusOfFileOrMemory, EndsPlayed, EndsSaved, MadeSaved};
 ghost use Rattle.unixvol.specs.Saving.{IsTaken, Saves};
 
-use crate::explaining::{explain_no_memory, explain_unwritten};
+use crate::explaining::{Named, explain_no_memory, explain_unwritten};
+use crate::host::Host;
 use crate::image_file::{ImageFiles, Kind, OpenFault, Stamp, open_image};
 use crate::saving_file::{Content, save_file};
 use std::io;
@@ -11,10 +12,13 @@ use std::rt::Clock;
 use vol_commands::status::BAD_FILE;
 use vol_commands::{Answer, Made};
 
+/// What is told of a file that holds the volume which is migrated.
+const OLD_VOLUME: &str = "it holds the old volume, which is kept";
+
 /// Saves what a command made in the file `image`, if it made anything and the file still has the stamp `read`, and
 /// answers the status to end with.
 pub fn save_answer<R: ImageFiles + Eprint + AllocGlobal>(
-    rt: &R,
+    host: &Host<'_, R>,
     image: &str,
     read: Stamp,
     answer: &Answer,
@@ -22,7 +26,13 @@ pub fn save_answer<R: ImageFiles + Eprint + AllocGlobal>(
     ensures { EndsSaved (λ bytes. IsTaken R.File.contents bytes × R.stood read) answer.now result }
 {
     match &answer.image {
-        Some(bytes) => save(rt, image, Some(read), Content::Bytes(bytes), answer.status),
+        Some(bytes) => save(
+            host,
+            image,
+            Some(read),
+            Content::Bytes(bytes),
+            answer.status,
+        ),
         None => answer.status,
     }
 }
@@ -30,7 +40,7 @@ pub fn save_answer<R: ImageFiles + Eprint + AllocGlobal>(
 /// Saves the volume on which scripts were played in the file `image`, as [`save_answer`] does. Where standard output failed,
 /// the status to end with is that of this, whatever comes of the saving, and its line is the only one.
 pub fn save_played<R: ImageFiles + Eprint + AllocGlobal>(
-    rt: &R,
+    host: &Host<'_, R>,
     image: &str,
     read: Stamp,
     answer: &Answer,
@@ -38,10 +48,10 @@ pub fn save_played<R: ImageFiles + Eprint + AllocGlobal>(
     ensures { EndsPlayed (λ bytes. IsTaken R.File.contents bytes × R.stood read) answer.now result }
 {
     if answer.status != BAD_FILE {
-        return save_answer(rt, image, read, answer);
+        return save_answer(host, image, read, answer);
     }
     if let Some(bytes) = &answer.image {
-        let _ = save_file(rt, image, Some(read), Content::Bytes(bytes));
+        let _ = save_file(host.rt, image, Some(read), Content::Bytes(bytes));
     }
     BAD_FILE
 }
@@ -49,7 +59,7 @@ pub fn save_played<R: ImageFiles + Eprint + AllocGlobal>(
 /// Saves what `mkfs` made in the file `image`, if it made anything, and answers the status to end with. A regular file
 /// that is there is locked meanwhile, if it can be opened.
 pub fn save_made<R: ImageFiles + Clock + Eprint + AllocGlobal>(
-    rt: &R,
+    host: &Host<'_, R>,
     image: &str,
     made: &Made,
 ) -> u8
@@ -58,18 +68,18 @@ pub fn save_made<R: ImageFiles + Clock + Eprint + AllocGlobal>(
     let Some(volume) = &made.volume else {
         return made.status;
     };
-    let _locked = match lock_replaced(rt, image) {
+    let _locked = match lock_replaced(host, image) {
         Ok(locked) => locked,
         Err(status) => return status,
     };
-    save(rt, image, None, Content::Volume(volume), made.status)
+    save(host, image, None, Content::Volume(volume), made.status)
 }
 
 /// Saves what `migrate` made in the file `path`, if it made anything, and answers the status to end with. The file with
 /// the stamp `old`, out of which it was made, isn't replaced, whatever its path. A regular file that is there is locked
 /// meanwhile, if it can be opened.
 pub fn save_migrated<R: ImageFiles + Clock + Eprint + AllocGlobal>(
-    rt: &R,
+    host: &Host<'_, R>,
     path: &str,
     old: Stamp,
     answer: &Answer,
@@ -79,14 +89,14 @@ pub fn save_migrated<R: ImageFiles + Clock + Eprint + AllocGlobal>(
     let Some(bytes) = &answer.image else {
         return answer.status;
     };
-    if stands_at(rt, path, old) {
-        return explain_unwritten(rt, path);
+    if stands_at(host.rt, path, old) {
+        return explain_unwritten(host, Named::File(path), io::Error::other(OLD_VOLUME));
     }
-    let _locked = match lock_replaced(rt, path) {
+    let _locked = match lock_replaced(host, path) {
         Ok(locked) => locked,
         Err(status) => return status,
     };
-    save(rt, path, None, Content::Bytes(bytes), answer.status)
+    save(host, path, None, Content::Bytes(bytes), answer.status)
 }
 
 /// Whether the file of a stamp stands at `path`, or at the end of the links that begin there.
@@ -99,12 +109,15 @@ fn stands_at<R: ImageFiles>(rt: &R, path: &str, stamp: Stamp) -> bool {
 
 /// Locks the regular file that is to be replaced, if there is one that can be opened. Where another program has it
 /// locked for half a minute, prints that it can't be written, and answers the status.
-fn lock_replaced<R: ImageFiles + Clock + Eprint>(rt: &R, path: &str) -> Result<Option<R::File>, u8>
+fn lock_replaced<R: ImageFiles + Clock + Eprint + AllocGlobal>(
+    host: &Host<'_, R>,
+    path: &str,
+) -> Result<Option<R::File>, u8>
     ensures { IfErr result IsStatusOfFileOrMemory }
 {
-    match open_image(rt, path) {
+    match open_image(host.rt, path) {
         Ok((file, stamp)) if stamp.kind == Kind::Regular => Ok(Some(file)),
-        Err(OpenFault::Locked) => Err(explain_unwritten(rt, path)),
+        Err(OpenFault::Locked(why)) => Err(explain_unwritten(host, Named::File(path), why)),
         _ => Ok(None),
     }
 }
@@ -112,7 +125,7 @@ fn lock_replaced<R: ImageFiles + Clock + Eprint>(rt: &R, path: &str) -> Result<O
 /// Saves a content in the file `path`, if that still has the stamp `read`, where one is given, and answers the status
 /// to end with: `status`, where it is saved.
 fn save<R: ImageFiles + Eprint + AllocGlobal>(
-    rt: &R,
+    host: &Host<'_, R>,
     path: &str,
     read: Option<Stamp>,
     content: Content<'_>,
@@ -120,9 +133,9 @@ fn save<R: ImageFiles + Eprint + AllocGlobal>(
 ) -> u8
     ensures { ((result ≡ status) × Saves R.File.contents content.entry × IfSome read R.stood) ⊎ IsStatusOfFileOrMemory result }
 {
-    match save_file(rt, path, read, content) {
+    match save_file(host.rt, path, read, content) {
         Ok(()) => status,
-        Err(error) if error.kind() == io::ErrorKind::OutOfMemory => explain_no_memory(rt),
-        Err(_) => explain_unwritten(rt, path),
+        Err(error) if error.kind() == io::ErrorKind::OutOfMemory => explain_no_memory(host),
+        Err(why) => explain_unwritten(host, Named::File(path), why),
     }
 }

@@ -4,7 +4,8 @@ ghost use Rattle.std.specs.Path.{path_bytes, path_buf_bytes};
 ghost use Rattle.unixvol.specs.Saving.{IsBeside, Grows, Saves};
 
 use crate::image_file::{ImageFiles, Stamp};
-use pdp_words::{IntoWrite, SaveFault, Sink, write_all};
+use crate::noted::noted_writer;
+use pdp_words::{SaveFault, Sink, write_all};
 use std::fs::{self, Files, Metadata, OpenFile, OpenOptions};
 use std::io::{self, ErrorKind, Write};
 use std::os::unix::fs::{MetadataExt, OpenOptionsExt, chown};
@@ -16,6 +17,15 @@ const TRIES: u32 = 1000;
 
 /// How many symbolic links are followed, one after another: as many as the system follows.
 const MOST_LINKS: u32 = 40;
+
+/// What is told of a file that has another stamp than when it was read.
+const CHANGED: &str = "it has changed since it was read";
+
+/// What is told of a path at which too many symbolic links begin.
+const TOO_MANY_LINKS: &str = "more than 40 symbolic links lead on from it";
+
+/// What is told of a file beside which no new one can be made.
+const NO_NAME: &str = "beside it .unixvol-0 to .unixvol-999 are all there";
 
 /// Permissions of a new file that is to have those of an old one: until then it is nobody else's.
 const PRIVATE: u32 = 0o600;
@@ -50,8 +60,7 @@ impl Content<'_> {
 /// Where the content was made out of what the file had, `read` is the stamp that it then had: it must have that still,
 /// just before the new file takes its place or the first byte is written.
 ///
-/// The error is the system's where a file can't be opened, synchronised or renamed; `WriteZero` where not all
-/// bytes could be written; `ResourceBusy` where the stamp is another; `FilesystemLoop` past 40 symbolic links;
+/// The error is the system's where a file can't be opened, written, synchronised or renamed; `ResourceBusy` where the stamp is another; `FilesystemLoop` past 40 symbolic links;
 /// `AlreadyExists` where a thousand names of new files were taken; `OutOfMemory` where an allocation was refused.
 pub fn save_file<R: ImageFiles + AllocGlobal>(
     rt: &R,
@@ -87,7 +96,10 @@ fn expect_unchanged<R: ImageFiles>(rt: &R, path: &str, read: Option<Stamp>) -> i
     ensures { OnOk result (IfSome read R.stood) }
 {
     match read {
-        Some(read) if rt.stamp_at(path)? != read => Err(io::Error::from(ErrorKind::ResourceBusy)),
+        Some(read) if rt.stamp_at(path)? != read => Err(io::Error::new(
+            ErrorKind::ResourceBusy,
+            CHANGED,
+        )),
         _ => Ok(()),
     }
 }
@@ -102,7 +114,7 @@ fn end_of_links<R: Files + AllocGlobal>(rt: &R, path: &str) -> io::Result<PathBu
             Err(error) => return Err(error),
         }
     }
-    Err(io::Error::from(ErrorKind::FilesystemLoop))
+    Err(io::Error::new(ErrorKind::FilesystemLoop, TOO_MANY_LINKS))
 }
 
 /// Puts a new file with this content in the place of `path`, which is no symbolic link, and still has the stamp `read`, if one is given.
@@ -162,7 +174,7 @@ fn new_file<R: Files + AllocGlobal>(
             Err(error) => return Err(error),
         }
     }
-    Err(io::Error::from(ErrorKind::AlreadyExists))
+    Err(io::Error::new(ErrorKind::AlreadyExists, NO_NAME))
 }
 
 /// Fills the new file `file`, whose path is `beside`, sees its bytes on the disk, and answers the file.
@@ -202,9 +214,17 @@ fn write_in_place<F: Write + OpenFile + Drop>(file: F, content: Content<'_>) -> 
 fn write<F: Write + Drop>(file: F, content: Content<'_>) -> io::Result<F>
     ensures { IfOk result (λ written. Grows content.entry (F.contents file) (F.contents written)) }
 {
-    let mut sink = IntoWrite::new(file);
+    let mut sink = noted_writer(file);
     match content.write_to(&mut sink) {
-        Ok(()) => Ok(sink.into_inner()),
-        Err(_) => Err(io::Error::from(ErrorKind::WriteZero)),
+        Ok(()) => Ok(sink.into_inner().into_inner()),
+        Err(_) => Err(unwritten(sink.error())),
+    }
+}
+
+/// The error of a file that didn't take all bytes: the system's, unless that is of the kind that tells of the program's memory.
+fn unwritten(error: Option<io::Error>) -> io::Error {
+    match error {
+        Some(error) if error.kind() != ErrorKind::OutOfMemory => error,
+        _ => io::Error::from(ErrorKind::WriteZero),
     }
 }

@@ -5,14 +5,18 @@ ghost use Rattle.command_words.specs.Asking.{IsWorkable};
 ghost use Rattle.vol_commands.specs.Faults.{Gets};
 ghost use Rattle.unixvol.specs.Running.{IsEnd, RunsCheck, RunsPlay, RunsWork, WorksToEnd, host_files};
 
-use crate::explaining::finish_printed;
+use crate::explaining::{explain_line, finish_printed};
+use crate::heard::heard_writer;
+use crate::host::Host;
 use crate::image_file::ImageFiles;
+use crate::noted::noted_writer;
 use crate::reading::{ReadFile, read_file, read_files, read_image};
 use crate::saving::save_played;
+use crate::subject::Subject;
 use command_line::{VolumeFile, Work};
-use pdp_words::{IntoWrite, Sink};
+use pdp_words::Sink;
 use std::fs::Files;
-use std::io::Write;
+use std::io::{self, Write};
 use std::process::ExitCode;
 use std::rt::Clock;
 use std::sync::Wait;
@@ -27,34 +31,61 @@ pub fn run_to_end<
     R: ImageFiles + Clock + Eprint + AllocGlobal + Threads + Wait + Sync,
     O: Write + Drop,
     E: Write + Drop,
->(rt: &R, output: O, errors: E, volume: VolumeFile<'_>, work: Work<'_>) -> ExitCode
+>(host: &Host<'_, R>, output: O, errors: E, volume: VolumeFile<'_>, work: Work<'_>) -> ExitCode
     requires { IsWorkable work }
     ensures { WorksToEnd (host_files R.File.remaining R.File.contents R.had R.stood) (O.contents output) (E.contents errors)
         volume.entry.edition work.entry (exit_status result) }
 {
-    let mut output = IntoWrite::new(output);
-    let mut errors = IntoWrite::new(errors);
-    let status = run(rt, &mut output, &mut errors, volume, work);
-    ExitCode::from(finish_printed(rt, output.into_inner(), status))
+    let mut output = noted_writer(output);
+    let mut errors = heard_writer(errors);
+    let status = run(host, &mut output, &mut errors, volume, &work);
+    explain_work(
+        host,
+        errors.last_line(),
+        output.error(),
+        volume.image,
+        &work,
+    );
+    ExitCode::from(finish_printed(host, output.into_inner().into_inner(), status))
+}
+
+/// Prints the second line of the line that was printed last, if it is wanted.
+fn explain_work<R: Eprint + AllocGlobal>(
+    host: &Host<'_, R>,
+    line: &[u8],
+    output: Option<io::Error>,
+    image: &str,
+    work: &Work<'_>,
+) {
+    match work {
+        Work::Check { checker, .. } => {
+            let subject = Subject::of_check(image, *checker);
+            explain_line(host, line, output, Some(subject), &[]);
+        }
+        Work::Play { scripts } => {
+            let subject = Subject::of_play(image);
+            explain_line(host, line, output, Some(subject), scripts);
+        }
+    }
 }
 
 /// Does with the volume in a file what several threads are asked for, and answers the status to end with, if
 /// [`finish_printed`] goes well.
 fn run<R: ImageFiles + Clock + Eprint + AllocGlobal + Threads + Wait + Sync, O: Sink, E: Sink>(
-    rt: &R,
+    host: &Host<'_, R>,
     output: &mut O,
     errors: &mut E,
     volume: VolumeFile<'_>,
-    work: Work<'_>,
+    work: &Work<'_>,
 ) -> u8
-    requires { IsWorkable work }
+    requires { IsWorkable work.now }
     ensures runs { RunsWork (record {
       old = O.contents output.old;
       new = O.contents output.new;
       had_failed = O.failed output.old;
       failed = O.failed output.new;
       said = Gets (E.failed errors.new) (E.contents errors.old) (E.contents errors.new);
-    }) (host_files R.File.remaining R.File.contents R.had R.stood) volume.entry.edition work.entry result }
+    }) (host_files R.File.remaining R.File.contents R.had R.stood) volume.entry.edition work.now result }
     ensures ends { IsEnd (record {
       old = O.contents output.old;
       new = O.contents output.new;
@@ -65,15 +96,15 @@ fn run<R: ImageFiles + Clock + Eprint + AllocGlobal + Threads + Wait + Sync, O: 
 {
     match work {
         Work::Check { checker, workers } => {
-            run_check(rt, output, errors, volume, checker, workers)
+            run_check(host, output, errors, volume, *checker, *workers)
         }
-        Work::Play { scripts } => run_play(rt, output, errors, volume, &scripts),
+        Work::Play { scripts } => run_play(host, output, errors, volume, scripts),
     }
 }
 
 /// Prints what a checker finds in the volume in a file, by so many threads, and answers the status to end with.
 fn run_check<R: ImageFiles + Eprint + AllocGlobal + Threads + Wait + Sync, O: Sink, E: Sink>(
-    rt: &R,
+    host: &Host<'_, R>,
     output: &mut O,
     errors: &mut E,
     volume: VolumeFile<'_>,
@@ -90,13 +121,13 @@ fn run_check<R: ImageFiles + Eprint + AllocGlobal + Threads + Wait + Sync, O: Si
       said = Gets (E.failed errors.new) (E.contents errors.old) (E.contents errors.new);
     }) (host_files R.File.remaining R.File.contents R.had R.stood) volume.entry.edition checker result }
 {
-    let image = match read_file(rt, volume.image) {
+    let image = match read_file(host, volume.image) {
         Ok(image) => image,
         Err(status) => return status,
     };
     check(
-        rt,
-        rt.alloc(),
+        host.rt,
+        host.rt.alloc(),
         volume.edition,
         image,
         checker,
@@ -109,7 +140,7 @@ fn run_check<R: ImageFiles + Eprint + AllocGlobal + Threads + Wait + Sync, O: Si
 /// Plays the scripts in some files on the volume in a file, each by a thread of its own, saves the volume, and answers the
 /// status to end with.
 fn run_play<R: ImageFiles + Clock + Eprint + AllocGlobal + Threads + Wait + Sync, O: Sink, E: Sink>(
-    rt: &R,
+    host: &Host<'_, R>,
     output: &mut O,
     errors: &mut E,
     volume: VolumeFile<'_>,
@@ -125,7 +156,7 @@ fn run_play<R: ImageFiles + Clock + Eprint + AllocGlobal + Threads + Wait + Sync
       said = Gets (E.failed errors.new) (E.contents errors.old) (E.contents errors.new);
     }) (host_files R.File.remaining R.File.contents R.had R.stood) volume.entry.edition (length scripts.now) result }
 {
-    let (read, stamp) = match read_image(rt, volume.image) {
+    let (read, stamp) = match read_image(host, volume.image) {
         Ok(read) => read,
         Err(status) => return status,
     };
@@ -134,13 +165,13 @@ fn run_play<R: ImageFiles + Clock + Eprint + AllocGlobal + Threads + Wait + Sync
         bytes: image,
         file: _locked,
     } = read;
-    let files = match read_files(rt, scripts) {
+    let files = match read_files(host, scripts) {
         Ok(files) => files,
         Err(status) => return status,
     };
     let answer = play(
-        rt,
-        rt.alloc(),
+        host.rt,
+        host.rt.alloc(),
         volume.edition,
         image,
         &files,
@@ -148,5 +179,5 @@ fn run_play<R: ImageFiles + Clock + Eprint + AllocGlobal + Threads + Wait + Sync
         output,
         errors,
     );
-    save_played(rt, volume.image, stamp, &answer)
+    save_played(host, volume.image, stamp, &answer)
 }

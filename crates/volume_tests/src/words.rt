@@ -1,5 +1,5 @@
 // The words of the command line.
-use command_line::{Invocation, VolumeFile, Work, read};
+use command_line::{Invocation, VolumeFile, Work, asks_to_explain, read};
 use image_commands::{Form, Lines, Listing, Look, Picture};
 use std::alloc::{AllocError, Global};
 use std::process::Abort;
@@ -179,6 +179,30 @@ static NO_LOOKS: [(&[&str], &str); 5] = [
     (&["map", "--svg", "--svg", "7", "disk"], "--svg"),
 ];
 
+/// Words of `super` and of `play`, and whether they ask for second lines.
+static EXPLAINED: [(&[&str], bool); 9] = [
+    (&["super", "7", "disk"], false),
+    (&["--explain", "super", "7", "disk"], true),
+    (&["super", "--explain", "7", "disk"], true),
+    (&["super", "7", "disk", "--explain"], true),
+    (&["--explain", "super", "7", "disk", "--explain"], true),
+    (&["super", "7", "--explain", "--", "disk"], true),
+    (&["super", "7", "--", "disk"], false),
+    (&["play", "7", "disk", "one", "two", "--explain"], true),
+    (&["play", "7", "disk", "one", "--", "--explain"], false),
+];
+
+/// Words that are refused, and what is told of them.
+static NO_EXPLAINED: [(&[&str], &str); 4] = [
+    (&["--explain"], "subcommand"),
+    (
+        &["super", "--explain", "7", "disk", "--explain"],
+        "--explain",
+    ),
+    (&["--explain=yes", "super", "7", "disk"], "--explain"),
+    (&["super", "7", "disk", "--explained"], "--explained"),
+];
+
 /// The commands of the checkers.
 static CHECKERS: [(&str, Checker); 3] = [
     ("icheck", Checker::Blocks),
@@ -314,6 +338,25 @@ fn other_words_ask_for_no_look(rt: HostRuntime) {
     for (rest, told) in &NO_LOOKS {
         refuse_at(&rt, rt.alloc(), None, rest, told);
     }
+}
+
+#[test]
+fn second_lines_are_asked_for(rt: HostRuntime) {
+    let alloc = rt.alloc();
+    for (rest, wanted) in &EXPLAINED {
+        let words = words(alloc, rest).expect(&rt, "memory for the words");
+        assert!(rt; read(alloc, None, words.as_slice()).is_ok());
+        assert_eq!(rt; asks_to_explain(words.as_slice()), *wanted);
+    }
+}
+
+#[test]
+fn other_words_ask_for_no_second_line(rt: HostRuntime) {
+    for (rest, told) in &NO_EXPLAINED {
+        refuse_at(&rt, rt.alloc(), None, rest, told);
+    }
+    let none = words(rt.alloc(), &[]).expect(&rt, "memory for the words");
+    assert!(rt; !asks_to_explain(none.as_slice()));
 }
 
 #[test]

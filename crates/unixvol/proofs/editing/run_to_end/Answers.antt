@@ -14,8 +14,8 @@ returns g c =
       _,
       status,
       begun (λ streams. RunsEdit streams files input c.args.volume.edition c.args.edit status) (g.O.Write.contents c.args.output) (g.E.Write.contents c.args.errors) _ _ _ _ _ _ _
-          c.new-output.ensures.bytes c.new-errors.ensures.bytes c.new-output.ensures.fresh c.run-status.ensures.runs,
+          c.noted_writer-output.ensures.bytes c.heard_writer-errors.ensures.bytes c.noted_writer-output.ensures.fresh c.run-status.ensures.runs,
       begun (λ streams. Ends streams status) (g.O.Write.contents c.args.output) (g.E.Write.contents c.args.errors) _ _ _ _ _ _ _
-          c.new-output.ensures.bytes c.new-errors.ensures.bytes c.new-output.ensures.fresh c.run-status.ensures.ends,
+          c.noted_writer-output.ensures.bytes c.heard_writer-errors.ensures.bytes c.noted_writer-output.ensures.fresh c.run-status.ensures.ends,
       ended status c.finish.result (exit_status c.from.result) c.from.ensures c.finish.ensures,
     )

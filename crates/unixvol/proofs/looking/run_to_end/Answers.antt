@@ -13,8 +13,8 @@ returns g c =
       _,
       status,
       begun (λ streams. RunsLook streams files c.args.screen c.args.volume.edition c.args.look status) (g.O.Write.contents c.args.output) (g.E.Write.contents c.args.errors) _ _ _ _ _ _ _
-          c.new-output.ensures.bytes c.new-errors.ensures.bytes c.new-output.ensures.fresh c.run-status.ensures.runs,
+          c.noted_writer-output.ensures.bytes c.heard_writer-errors.ensures.bytes c.noted_writer-output.ensures.fresh c.run-status.ensures.runs,
       begun (λ streams. IsEnd streams status) (g.O.Write.contents c.args.output) (g.E.Write.contents c.args.errors) _ _ _ _ _ _ _
-          c.new-output.ensures.bytes c.new-errors.ensures.bytes c.new-output.ensures.fresh c.run-status.ensures.ends,
+          c.noted_writer-output.ensures.bytes c.heard_writer-errors.ensures.bytes c.noted_writer-output.ensures.fresh c.run-status.ensures.ends,
       ended_printed status c.finish_printed.result (exit_status c.from.result) c.from.ensures c.finish_printed.ensures,
     )

@@ -7,7 +7,7 @@ use Rattle.command_line.proofs.building.Builder.command_line.Goals as goal
 
 pub loop-verb-preserved : goal.loop-verb-preserved
 loop-verb-preserved c =
-    adds_verb _ _ _ c.args.self.editions program all_verbs c.loop-verb.verb-index _ (omega arith) c.in_ok-whole.ensures c.in_ok-command.ensures
+    adds_verb _ _ _ c.args.self.editions program all_verbs c.loop-verb.verb-index _ (omega arith) c.in_ok-whole-2.ensures c.in_ok-command.ensures
     c.loop-verb.invariant
 
 pub returns : goal.returns

@@ -1,5 +1,5 @@
 use Rattle.command_line.proofs.Shapes.{starts_program}
-use Rattle.command_line.proofs.building.bare.Goals as goal
+use Rattle.command_line.proofs.building.bare_program.Goals as goal
 
 pub returns : goal.returns
 returns c =

@@ -1,7 +1,7 @@
 use Rattle.std.proofs.Common.{◌≡◌, map, take}
 use Rattle.command_words.specs.Verbs.{argument_of, verb_name}
 use Rattle.command_line.specs.Words.{named_shape, shape, with_arguments}
-use Rattle.command_line.proofs.building.Builder.command.Given as goal
+use Rattle.command_line.proofs.building.Builder.bare_command.Given as goal
 
 -- the arguments so far are there
 abbrev pub invariant-loop-parameter : goal.invariant-loop-parameter

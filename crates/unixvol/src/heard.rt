@@ -1,0 +1,109 @@
+//! A sink that keeps the last line that it took.
+ghost use Rattle.std.specs.Prelude.{◌≡◌, false};
+
+use pdp_words::{IntoWrite, Sink};
+use std::io::{self, Write};
+
+/// The bytes that are kept of a line: more than a line of a fault has that is explained, but for the path of a member.
+const KEPT: usize = 256;
+
+/// A sink that hands all on to another, and keeps the last line that it took.
+#[derive(Drop)]
+pub struct Heard<S> {
+    sink: S,
+    line: LastLine,
+}
+
+/// The front of a line, without its newline.
+#[derive(Clone, Copy)]
+struct LastLine {
+    bytes: [u8; KEPT],
+    length: usize,
+    is_ended: bool,
+}
+
+impl LastLine {
+    /// No line.
+    fn none() -> LastLine {
+        LastLine {
+            bytes: [0; KEPT],
+            length: 0,
+            is_ended: false,
+        }
+    }
+
+    /// The line with one more byte; after its end the first byte of the next.
+    fn with(self, byte: u8) -> LastLine {
+        let line = if self.is_ended {
+            LastLine::none()
+        } else {
+            self
+        };
+        if byte == b'\n' {
+            return LastLine {
+                is_ended: true,
+                ..line
+            };
+        }
+        if line.length >= KEPT {
+            return line;
+        }
+        let mut bytes = line.bytes;
+        bytes[line.length] = byte;
+        LastLine {
+            bytes,
+            length: line.length + 1,
+            ..line
+        }
+    }
+
+    /// The line after some bytes more.
+    fn after(self, bytes: &[u8]) -> LastLine {
+        let mut line = self;
+        for byte in bytes {
+            line = line.with(*byte);
+        }
+        line
+    }
+
+    /// What is kept of the line.
+    fn as_bytes(&self) -> &[u8] {
+        &self.bytes[..self.length.min(KEPT)]
+    }
+}
+
+/// A sink into `writer`, after the bytes that it holds, as [`IntoWrite::new`] is one. It has not failed, and has taken no line.
+pub fn heard_writer<W: Write>(writer: W) -> Heard<IntoWrite<W>>
+    ensures bytes { ⟦<Heard<IntoWrite<W>> as Sink>⟧.contents result ≡ W.contents writer }
+    ensures fresh { ⟦<Heard<IntoWrite<W>> as Sink>⟧.failed result ≡ false }
+{
+    Heard {
+        sink: IntoWrite::new(writer),
+        line: LastLine::none(),
+    }
+}
+
+impl<S> Heard<S> {
+    /// The last line that it took, without its newline, of a longer one the front; empty where it took none.
+    pub fn last_line(&self) -> &[u8] {
+        self.line.as_bytes()
+    }
+}
+
+impl<S: Sink> Sink for Heard<S> {
+    ghost contents = { λ heard. S.contents heard.sink };
+
+    ghost failed = { λ heard. S.failed heard.sink };
+
+    fn write(&mut self, buf: &[u8]) -> io::Result<usize> {
+        let result = self.sink.write(buf);
+        if let Ok(count) = result {
+            self.line = self.line.after(&buf[..count]);
+        }
+        result
+    }
+
+    fn failed(&self) -> bool {
+        self.sink.failed()
+    }
+}

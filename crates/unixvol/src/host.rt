@@ -1,0 +1,10 @@
+//! The system that the program runs on, with what the user wants to be told.
+
+/// The system that the program runs on, with what the user wants to be told of faults.
+#[derive(Clone, Copy)]
+pub struct Host<'a, R> {
+    /// The system.
+    pub rt: &'a R,
+    /// Whether a second line says what the line of a fault means.
+    pub explains: bool,
+}

@@ -1,0 +1,84 @@
+//! A device that keeps the system's reason where it failed.
+ghost use Rattle.std.specs.Prelude.{◌≡◌, false};
+
+use pdp_words::{FromRead, IntoWrite, Sink, Source};
+use std::io::{self, Read, Write};
+
+/// A source or a sink that hands all on to another, and keeps its last error.
+#[derive(Drop)]
+pub struct Noted<D> {
+    device: D,
+    error: Option<io::Error>,
+}
+
+/// A source of the bytes that `reader` has left, as [`FromRead::new`] is one. It has not failed.
+pub fn noted_reader<R: Read>(reader: R) -> Noted<FromRead<R>>
+    ensures bytes { ⟦<Noted<FromRead<R>> as Source>⟧.remaining result ≡ R.remaining reader }
+    ensures fresh { ⟦<Noted<FromRead<R>> as Source>⟧.failed result ≡ false }
+{
+    Noted {
+        device: FromRead::new(reader),
+        error: None,
+    }
+}
+
+/// A sink into `writer`, after the bytes that it holds, as [`IntoWrite::new`] is one. It has not failed.
+pub fn noted_writer<W: Write>(writer: W) -> Noted<IntoWrite<W>>
+    ensures bytes { ⟦<Noted<IntoWrite<W>> as Sink>⟧.contents result ≡ W.contents writer }
+    ensures fresh { ⟦<Noted<IntoWrite<W>> as Sink>⟧.failed result ≡ false }
+{
+    Noted {
+        device: IntoWrite::new(writer),
+        error: None,
+    }
+}
+
+impl<D> Noted<D> {
+    /// The device in it.
+    pub fn into_inner(self) -> D
+        ensures { result ≡ self.device }
+    {
+        self.device
+    }
+
+    /// The error that it answered last, if it answered one.
+    pub fn error(&self) -> Option<io::Error> {
+        self.error
+    }
+}
+
+impl<D: Source> Source for Noted<D> {
+    ghost remaining = { λ noted. D.remaining noted.device };
+
+    ghost failed = { λ noted. D.failed noted.device };
+
+    fn read(&mut self, buf: &mut [u8]) -> io::Result<usize> {
+        let result = self.device.read(buf);
+        if let Err(error) = result {
+            self.error = Some(error);
+        }
+        result
+    }
+
+    fn failed(&self) -> bool {
+        self.device.failed()
+    }
+}
+
+impl<D: Sink> Sink for Noted<D> {
+    ghost contents = { λ noted. D.contents noted.device };
+
+    ghost failed = { λ noted. D.failed noted.device };
+
+    fn write(&mut self, buf: &[u8]) -> io::Result<usize> {
+        let result = self.device.write(buf);
+        if let Err(error) = result {
+            self.error = Some(error);
+        }
+        result
+    }
+
+    fn failed(&self) -> bool {
+        self.device.failed()
+    }
+}

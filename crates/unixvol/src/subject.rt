@@ -1,0 +1,138 @@
+//! What a command is about.
+
+use command_line::Invocation;
+use command_words::Verb;
+use image_commands::Look;
+use tree_commands::Edit;
+use vol_check::Checker;
+use vol_commands::Job;
+
+/// What a command is about: what the second line of a fault names.
+#[derive(Clone, Copy)]
+pub struct Subject<'a> {
+    /// The command.
+    pub verb: Verb,
+    /// The file of the image that it reads, or else of the one that it makes.
+    pub image: &'a str,
+    /// What it does its work on.
+    pub about: About<'a>,
+}
+
+/// What a command does its work on.
+#[derive(Clone, Copy)]
+pub enum About<'a> {
+    /// The image as a whole.
+    Image,
+    /// What a path leads to; where it is empty, the root.
+    Path(&'a str),
+    /// A file by its path, and a new name by its own.
+    Names { from: &'a str, to: &'a str },
+    /// An i-node by its number.
+    Inode(u16),
+}
+
+impl<'a> Subject<'a> {
+    /// What was read of the command line is about this, as [`Subject::of_plain`] tells it.
+    pub fn of_read<E>(read: &Result<Invocation<'a>, E>) -> Option<Subject<'a>> {
+        match read {
+            Ok(invocation) => Subject::of_plain(invocation),
+            Err(_) => None,
+        }
+    }
+
+    /// The commands that one thread does and that print all or nothing are about this; `None` of the others, and of `cat`, which
+    /// tells its faults itself.
+    fn of_plain(invocation: &Invocation<'a>) -> Option<Subject<'a>> {
+        match invocation {
+            Invocation::Mkfs { image, .. } => Some(Subject {
+                verb: Verb::Mkfs,
+                image,
+                about: About::Image,
+            }),
+            Invocation::Migrate { old, new, .. } => Some(Subject {
+                verb: Verb::Migrate,
+                image: old,
+                about: About::Path(new),
+            }),
+            Invocation::OnVolume { volume, job } => Some(Subject::of_job(volume.image, *job)),
+            _ => None,
+        }
+    }
+
+    /// The body of an i-node of the volume in a file is about this.
+    pub fn of_cat(image: &'a str, ino: u16) -> Subject<'a> {
+        Subject {
+            verb: Verb::Cat,
+            image,
+            about: About::Inode(ino),
+        }
+    }
+
+    /// A job with the volume in a file is about this.
+    fn of_job(image: &'a str, job: Job<'a>) -> Subject<'a> {
+        let (verb, about) = match job {
+            Job::Ls { path } => (Verb::Ls, About::Path(path)),
+            Job::Get { path } => (Verb::Get, About::Path(path)),
+            Job::Put { path, .. } => (Verb::Put, About::Path(path)),
+            Job::Rm { path, .. } => (Verb::Rm, About::Path(path)),
+            Job::Rmdir { path, .. } => (Verb::Rmdir, About::Path(path)),
+            Job::Mkdir { path, .. } => (Verb::Mkdir, About::Path(path)),
+            Job::Ln { from, to, .. } => (Verb::Ln, About::Names { from, to }),
+            Job::Chmod { path, .. } => (Verb::Chmod, About::Path(path)),
+            Job::Chown { path, .. } => (Verb::Chown, About::Path(path)),
+            Job::Salvage => (Verb::Salvage, About::Image),
+        };
+        Subject { verb, image, about }
+    }
+
+    /// A look at the image in a file is about this.
+    pub fn of_look(image: &'a str, look: Look<'a>) -> Subject<'a> {
+        let (verb, about) = match look {
+            Look::Export { path } => (Verb::Export, About::Path(path)),
+            Look::Inode { number, .. } => (Verb::Inode, About::Inode(number)),
+            Look::Super { .. } => (Verb::Super, About::Image),
+            Look::Map { .. } => (Verb::Map, About::Image),
+            Look::Check => (Verb::Check, About::Image),
+            Look::List { path, .. } => (Verb::Ls, About::Path(path)),
+        };
+        Subject { verb, image, about }
+    }
+
+    /// A change of the volume in a file by several calls is about this.
+    pub fn of_edit(image: &'a str, edit: Edit<'a>) -> Subject<'a> {
+        let (verb, about) = match edit {
+            Edit::Import { path, .. } => (Verb::Import, About::Path(path)),
+            Edit::MkdirAll { path, .. } => (Verb::Mkdir, About::Path(path)),
+            Edit::Move { from, to, .. } => (Verb::Mv, About::Names { from, to }),
+            Edit::RmAll { path, .. } => (Verb::Rm, About::Path(path)),
+        };
+        Subject { verb, image, about }
+    }
+
+    /// A checker of the image in a file is about this.
+    pub fn of_check(image: &'a str, checker: Checker) -> Subject<'a> {
+        Subject {
+            verb: verb_of(checker),
+            image,
+            about: About::Image,
+        }
+    }
+
+    /// Scripts that are played on the volume in a file are about this.
+    pub fn of_play(image: &'a str) -> Subject<'a> {
+        Subject {
+            verb: Verb::Play,
+            image,
+            about: About::Image,
+        }
+    }
+}
+
+/// The command of a checker.
+fn verb_of(checker: Checker) -> Verb {
+    match checker {
+        Checker::Blocks => Verb::Icheck,
+        Checker::Entries => Verb::Dcheck,
+        Checker::Names => Verb::Ncheck,
+    }
+}

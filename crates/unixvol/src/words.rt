@@ -1,0 +1,41 @@
+//! The words of the command line, as the system gives them.
+
+use std::alloc::{AllocError, Global};
+use std::env::{self, Env, FillError};
+use std::io;
+
+/// The words of the command line, of which the first is the program's own name. The error is `OutOfMemory` where an allocation
+/// was refused, and `InvalidData` where a word isn't UTF-8.
+pub fn words<R: Env + AllocGlobal>(rt: &R) -> io::Result<Vec<String>> {
+    Ok(env::args(rt)?.collect(rt.alloc())?)
+}
+
+/// The place of the first word that isn't UTF-8, where the program's own name has place 0. `None` where there is none, or
+/// memory ran out.
+pub fn place_of_no_text<R: Env + AllocGlobal>(rt: &R) -> Option<usize> {
+    for place in 0..usize::MAX {
+        match is_text(rt, rt.alloc(), place) {
+            Ok(Some(true)) => {}
+            Ok(Some(false)) => return Some(place),
+            Ok(None) | Err(_) => return None,
+        }
+    }
+    None
+}
+
+/// Bytes of the first buffer that a word is read into.
+const ROOM: usize = 256;
+
+/// Whether the word at a place is UTF-8. `None` where there is no word.
+fn is_text<R: Env>(rt: &R, alloc: Global, place: usize) -> Result<Option<bool>, AllocError> {
+    let mut room = ROOM;
+    for _ in 0..usize::BITS {
+        let mut word = vec![in alloc; 0u8; room]?;
+        match rt.arg(place, &mut word) {
+            Ok(count) => return Ok(Some(str::from_utf8(&word[..count]).is_ok())),
+            Err(FillError::NotPresent) => return Ok(None),
+            Err(FillError::TooLong) => room = room.saturating_mul(2),
+        }
+    }
+    Err(AllocError)
+}

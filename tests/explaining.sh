@@ -1,0 +1,162 @@
+#!/usr/bin/env bash
+# Asks the built program for the second line of its faults, by `--explain`, and compares what it prints; without it there is one line.
+# Usage: tests/explaining.sh PROGRAM. It prints a line for each row that fails, and ends with 'N passed, N failed'.
+set -uo pipefail
+program=$(realpath "${1:?usage: tests/explaining.sh PROGRAM}")
+samples=$(realpath "$(dirname "$0")/../samples")
+rows=$(realpath "$(dirname "$0")/rows.sh")
+folder=$(mktemp -d)
+trap 'rm -rf "$folder"' EXIT
+cd "$folder" || exit 1
+. "$rows"
+linux="$samples/linux_made.v7"
+
+# explains STATUS FIRST SECOND WORD..: without `--explain` the program prints FIRST on standard error; with it, before or after the
+# words, SECOND too; the status is the same
+explains() {
+    local status=$1 first=$2 second=$3
+    shift 3
+    refuses "$status" "$first" "$@"
+    refuses "$status" "$first"$'\n'"$second" --explain "$@"
+    refuses "$status" "$first"$'\n'"$second" "$@" --explain
+    refuses "$status" "$first"$'\n'"$second" --explain "$@" --explain
+}
+
+# A volume with a file, a directory in it, and one with a wrong link count.
+for edition in 6 7; do
+    "$program" mkfs "$edition" "disk.v$edition" 400 10 0 0 1000
+    echo hello > hello
+    "$program" mkdir "$edition" "disk.v$edition" /d 1001
+    "$program" put "$edition" "disk.v$edition" /d/f hello 1002
+    cp "disk.v$edition" "broken.v$edition"
+    put "broken.v$edition" $((edition == 6 ? 1024 + 2 : 1024 + 64 + 2)) 09
+done
+image=disk.v6
+cp "$image" before
+
+# Refusals, each with the path that it is about.
+explains 1 'unixvol: 2 NoEntry' 'unixvol: /usr/x: no file or directory has this name' get 6 "$image" /usr/x
+explains 1 'unixvol: 2 NoEntry' 'unixvol: none: no file or directory has this name' ls 6 "$image" none
+explains 1 'unixvol: 2 NoEntry' "unixvol: /none/a: a directory on the way to it isn't there" put 6 "$image" /none/a hello
+explains 1 'unixvol: 2 NoEntry' "unixvol: /none/a: a directory on the way to it isn't there" mkdir 6 "$image" /none/a
+explains 1 'unixvol: 2 NoEntry' 'unixvol: i-node 99: there is no i-node of this number, or it is free' cat 6 "$image" 99
+explains 1 'unixvol: 2 NoEntry' 'unixvol: i-node 9999: there is no i-node of this number' inode 6 "$image" 9999
+explains 1 'unixvol: 2 NoEntry' "unixvol: /x to /y: the first path leads to nothing, or the directory for the second name isn't there" mv 6 "$image" /x /y
+explains 1 'unixvol: 2 NoEntry' "unixvol: /x to /y: the first path leads to nothing, or the directory for the second name isn't there" ln 6 "$image" /x /y
+explains 1 'unixvol: 2 NoEntry' 'unixvol: /x: no file or directory has this name' rm -r 6 "$image" /x
+explains 1 'unixvol: 17 Exists' 'unixvol: /d: a file or directory has this name already' mkdir 6 "$image" /d
+explains 1 'unixvol: 17 Exists' 'unixvol: /d/f: a file or directory has this name already' mkdir -p 6 "$image" /d/f
+explains 1 'unixvol: 17 Exists' 'unixvol: /d/f to /d: the second name is there already' ln 6 "$image" /d/f /d
+explains 1 'unixvol: 17 Exists' 'unixvol: /d/f to /d: the new name is there already, and mv replaces no file' mv 6 "$image" /d/f /d
+explains 1 'unixvol: 20 NotDirectory' 'unixvol: /d/f/x: something on the way to it is no directory' get 6 "$image" /d/f/x
+explains 1 'unixvol: 20 NotDirectory' 'unixvol: /d/f: it, or something on the way to it, is no directory' rmdir 6 "$image" /d/f
+explains 1 'unixvol: 20 NotDirectory' 'unixvol: /d/f: it, or something on the way to it, is no directory' export 6 "$image" /d/f
+explains 1 'unixvol: 21 IsDirectory' 'unixvol: /d: it is a directory, whose names `unixvol ls` lists' get 6 "$image" /d
+explains 1 'unixvol: 21 IsDirectory' 'unixvol: /d: it is a directory: rmdir removes an empty one, and rm -r one with all below it' rm 6 "$image" /d
+explains 1 'unixvol: 21 IsDirectory' 'unixvol: /d to /e: the first path leads to a directory, and only files get other names' ln 6 "$image" /d /e
+explains 1 'unixvol: 22 Invalid' "unixvol: /d/..: the root, and what . or .. names, can't be removed" rmdir 6 "$image" /d/..
+explains 1 'unixvol: 22 Invalid' "unixvol: /: the root, and what . or .. names, can't be removed" rm -r 6 "$image" /
+head -c 300000 /dev/zero > great
+explains 1 'unixvol: 28 NoSpace' 'unixvol: /great: more blocks are needed than are free' put 6 "$image" /great great
+explains 1 'unixvol: 101 NotEmpty' 'unixvol: /d: there are names in it beside . and ..' rmdir 6 "$image" /d
+explains 1 'unixvol: 104 BadId' "unixvol: /d: the user or the group is above the edition's highest, 255 in the sixth and 32767 in the seventh" chown 6 "$image" /d 256 0
+saves 'an image on which commands were refused' "$image" before
+
+# A path with control characters is escaped, and another isn't.
+explains 1 'unixvol: 2 NoEntry' 'unixvol: /\033[31m\012: no file or directory has this name' get 6 "$image" $'/\e[31m\n'
+explains 1 'unixvol: 2 NoEntry' 'unixvol: /grüße\: no file or directory has this name' get 6 "$image" '/grüße\'
+
+# Rules that images break, in the words of `check`.
+explains 1 'unixvol: unsound, rule 12' 'unixvol: broken.v6: it breaks rule 12, that each link count is the number of entries; `unixvol check` says what breaks it' ls 6 broken.v6
+explains 1 'unixvol: unsound, rule 12' 'unixvol: broken.v7: it breaks rule 12, that each link count is the number of entries; `unixvol check` says what breaks it' rm 7 broken.v7 /d/f
+explains 1 'unixvol: unsound, rule 1' 'unixvol: hello: it breaks rule 1, that the image has all blocks of the volume; perhaps it is of the other edition' super 6 hello
+explains 1 'unixvol: unsound, rule 1' 'unixvol: hello: it breaks rule 1, that the image has all blocks of the volume; perhaps it is of the other edition' cat 6 hello 1
+grep -q 'each link count is the number of entries' <("$program" check 6 broken.v6)
+has 'the sentence of a rule is the one of check' 0 $?
+"$program" export 6 broken.v6 --explain > archive 2> error
+has 'what is told last of an archive' 'unixvol: broken.v6: it breaks rule 12, that each link count is the number of entries; `unixvol check` says what breaks it' "$(tail -n 1 error)"
+
+# New volumes.
+explains 1 'unixvol: bounds' 'unixvol: new.img: no volume of the edition has these sizes' mkfs 6 new.img 9 9 0 0
+explains 1 'unixvol: 104 BadId' "unixvol: new.img: the user or the group is above the edition's highest, 255 in the sixth and 32767 in the seventh" mkfs 6 new.img 400 10 256 0
+explains 1 'unixvol: bounds' 'unixvol: new.img: no volume of the edition has these sizes' migrate disk.v6 new.img 9 9
+explains 1 'unixvol: 28 NoSpace' 'unixvol: new.img: the files need more blocks than the new volume has for them' migrate disk.v6 new.img 17 14
+explains 1 'unixvol: 103 NoInode' 'unixvol: new.img: the i-list of the new volume has no room for the highest i-number' migrate disk.v6 new.img 400 1
+has 'no volume was made' '' "$(ls new.img 2> error)"
+
+# Scripts: the file and the line.
+printf '5 0 0 create /a 644\n' > first
+printf '5 0 0 create /b 644\nnonsense\n' > second
+explains 2 'unixvol: script 2 line 2' 'unixvol: second: line 2 is no call or query; `unixvol play --help` has their forms' play 6 "$image" first second
+
+# Files that fail, with the system's reason.
+explains 3 'unixvol: cannot read none.img' 'unixvol: none.img: No such file or directory (os error 2)' ls 6 none.img
+explains 3 'unixvol: cannot read none.img' 'unixvol: none.img: No such file or directory (os error 2)' rm 6 none.img /a
+explains 3 'unixvol: cannot read none.img' 'unixvol: none.img: No such file or directory (os error 2)' cat 6 none.img 1
+explains 3 'unixvol: cannot read none.img' 'unixvol: none.img: No such file or directory (os error 2)' migrate none.img new.img 400 10
+explains 3 'unixvol: cannot read none.img' 'unixvol: none.img: No such file or directory (os error 2)' check 6 none.img
+explains 3 'unixvol: cannot read none.img' 'unixvol: none.img: No such file or directory (os error 2)' icheck 6 none.img 1
+explains 3 'unixvol: cannot read third' 'unixvol: third: No such file or directory (os error 2)' play 6 "$image" first third
+explains 3 'unixvol: cannot read third' 'unixvol: third: No such file or directory (os error 2)' put 6 "$image" /a third
+explains 3 'unixvol: cannot read .' 'unixvol: .: Is a directory (os error 21)' ls 6 .
+explains 3 'unixvol: cannot read .' 'unixvol: .: Is a directory (os error 21)' cat 6 . 1
+explains 3 'unixvol: cannot write missing/new.img' 'unixvol: missing/new.img: No such file or directory (os error 2)' mkfs 6 missing/new.img 400 10 0 0
+explains 3 'unixvol: cannot write disk.v6' 'unixvol: disk.v6: it holds the old volume, which is kept' migrate disk.v6 disk.v6 400 20
+mkfifo pipe
+explains 3 'unixvol: cannot write pipe' 'unixvol: pipe: it is a pipe, a socket or a terminal, which keeps nothing to be changed' rm 6 pipe /a
+"$program" import 6 "$image" --explain < . > output 2> error
+has 'standard input that fails' '3 unixvol: cannot read - unixvol: standard input: Is a directory (os error 21)' "$? $(paste -s -d ' ' error)"
+for words in "ls 6 $image" "cat 6 $image 1" 'get 6 disk.v6 /d/f' 'check 6 disk.v6' 'icheck 6 disk.v6 1' '--help'; do
+    # shellcheck disable=SC2086
+    "$program" --explain $words > /dev/full 2> error
+    has "$words to a full device" '3 unixvol: cannot write - unixvol: standard output: No space left on device (os error 28)' "$? $(paste -s -d ' ' error)"
+done
+mkdir full
+if mount -t tmpfs -o size=64k tmpfs full 2> error; then
+    "$program" mkfs 6 full/disk.img 400 10 0 0 --explain > output 2> error
+    has 'a file on a full disk' '3 unixvol: cannot write full/disk.img unixvol: full/disk.img: No space left on device (os error 28)' "$? $(paste -s -d ' ' error)"
+    umount full
+fi
+if command -v script > /dev/null; then
+    script -qec "'$program' export 6 $image --explain" /dev/null < /dev/null > typescript
+    has 'an archive to a terminal' "unixvol: cannot write - unixvol: standard output: it is a terminal, which gets no archive" "$(tr -d '\r' < typescript | paste -s -d ' ' -)"
+fi
+
+# A refused allocation has its line too: memory is kept too small for the image.
+truncate -s 100M large
+(ulimit -v 60000 && "$program" ls 6 large --explain) > output 2> error
+has 'want of memory' '4 unixvol: 12 NoMemory unixvol: there was too little memory for this' "$? $(paste -s -d ' ' error)"
+
+# Lines that say in words what is wrong have no second one; a refusal of a member has one.
+: > fifteen-bytes-n
+tar --format=ustar -cf long.tar fifteen-bytes-n
+"$program" import 6 "$image" --explain < long.tar > output 2> error
+has 'a member with a long name' '1 unixvol: fifteen-bytes-n: a name above 14 bytes' "$? $(paste -s -d ' ' error)"
+head -c 100 long.tar > cut.tar
+"$program" import 6 "$image" --explain < cut.tar > output 2> error
+has 'an archive that is cut' '1 unixvol: archive, byte 0: cut off' "$? $(paste -s -d ' ' error)"
+: > d
+tar --format=ustar -cf file.tar d
+"$program" import 6 "$image" --explain < file.tar > output 2> error
+has 'a member whose path is taken' "1 unixvol: 17 Exists: /d unixvol: this member: something has its path already that isn't the directory wanted" "$? $(paste -s -d ' ' error)"
+
+# A file called `--explain`, behind `--`; and a command that goes well, with the option or without.
+refuses 1 'unixvol: 2 NoEntry' get 6 "$image" -- --explain
+refuses 1 $'unixvol: 2 NoEntry\nunixvol: --explain: no file or directory has this name' --explain get 6 "$image" -- --explain
+refuses 1 $'unixvol: 2 NoEntry\nunixvol: --explain: no file or directory has this name' get --explain 6 "$image" -- --explain
+"$program" get 6 "$image" /d/f --explain | cmp -s - hello
+has 'a file with --explain' 0 $?
+
+# The command line says itself what is wrong with it, with its place where it is no text.
+misread "error: invalid value '8'" --explain ls 8 "$image"
+misread 'error: ' --explain
+misread 'error: ' ls 6 "$image" --explain --explain
+misread 'error: word 1 of the command line is not UTF-8 text' $'\xff'
+misread 'error: word 4 of the command line is not UTF-8 text' --explain cat 6 $'a\xff' 1
+misread 'error: word 2 of the command line is not UTF-8 text' ls $'\xff' $'\xff'
+misread 'error: word 3 of the command line is not UTF-8 text' ls 6 "$(head -c 1000 /dev/zero | tr '\0' a)"$'\xff'
+helps --explain --help
+helps --explain ls --help
+
+echo "$passed passed, $failed failed"
+[ "$failed" -eq 0 ]

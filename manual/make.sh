@@ -17,8 +17,8 @@ commands() { help | awk '/^Commands:/ { on = 1; next } /^$/ { on = 0 } on && $1 
 # about WORD..: the first line of the help
 about() { help "$@" | head -n 1; }
 
-# usage WORD..: the line of the usage, without the word `Usage:`, where the program has its own name
-usage() { help "$@" | sed -n 's/^Usage: [^ ]*/unixvol/p'; }
+# usage WORD..: the lines of the usage, without the word `Usage:`, where the program has its own name
+usage() { help "$@" | awk '/^Usage:/ { on = 1; sub(/^Usage:/, "") } /^$/ { on = 0 } on { sub(/^ *[^ ]*/, "unixvol"); print }'; }
 
 # section NAME WORD..: the lines of a section of the help, from after its heading to the next empty line
 section() {
@@ -52,8 +52,7 @@ manual_page() {
     echo "unixvol \\- $(about | sed -e 's/\.$//' | escaped)"
     echo .SH SYNOPSIS
     for command in $(commands); do
-        echo .br
-        usage "$command" | escaped
+        usage "$command" | escaped | sed 's/^/.br\n/'
     done
     echo .SH COMMANDS
     for command in $(commands); do
@@ -95,8 +94,32 @@ options() {
         { for (i = 1; i <= NF; i++) { sub(/ .*/, "", $i); print $i value } }'
 }
 
+# valued COMMAND: the options of the command that take a value, each with what stands for that
+valued() {
+    local option name
+    options "$1" | while read -r option name; do
+        [ -z "$name" ] || echo "$option=$(kind "$name")"
+    done
+}
+
+# words_with_option COMMAND: the kinds of the command's words where an option with a value is given, by the second line of its usage
+words_with_option() {
+    local name dots
+    usage "$1" | sed -n 2p | sed -E -e 's/ \[OPTIONS\]//' -e 's/ -. <[A-Z]+>//' | tr ' ' '\n' | tail -n +3 | while read -r name; do
+        dots=
+        [[ $name == *... ]] && dots=...
+        echo "$(kind "$(tr -d '<>[].' <<< "$name")")$dots"
+        [ -z "$dots" ] || break
+    done
+}
+
 # one_line: standard input in one line
 one_line() { paste -s -d ' ' -; }
+
+# with_values COMMAND: what the completion for bash has to know of the options that take a value, if there are any
+with_values() {
+    [ -z "$(valued "$1")" ] || echo " valued='$(valued "$1" | one_line)' others='$(words_with_option "$1" | one_line)'"
+}
 
 bash_completion() {
     cat << 'END'
@@ -115,7 +138,7 @@ _unixvol_paths() {
 }
 
 _unixvol() {
-    local current=${COMP_WORDS[COMP_CWORD]} command='' options='' kinds='' word expected=''
+    local current=${COMP_WORDS[COMP_CWORD]} command='' options='' kinds='' valued='' others='' word previous='' expected=''
     local -a before=("${COMP_WORDS[@]:1:COMP_CWORD-1}") given=()
     COMPREPLY=()
     # Options of the program stand before the command.
@@ -130,7 +153,7 @@ END
     case $command in
 END
     for command in $(commands); do
-        echo "        $command) kinds='$(words "$command" | one_line)' options='$(options "$command" | awk '{ print $1 }' | one_line)' ;;"
+        echo "        $command) kinds='$(words "$command" | one_line)' options='$(options "$command" | awk '{ print $1 }' | one_line)'$(with_values "$command") ;;"
     done
     cat << 'END'
     esac
@@ -139,11 +162,21 @@ END
         return
     fi
     for word in "${before[@]:1}"; do
+        # The value of an option is none of the words.
+        if [[ " $valued " == *" $previous="* ]]; then
+            kinds=$others previous=''
+            continue
+        fi
+        previous=$word
         [[ $word == -* ]] || given+=("$word")
     done
     read -r -a kinds <<< "$kinds"
     expected=${kinds[${#given[@]}]:-}
     [[ -z $expected && ${#kinds[@]} -gt 0 && ${kinds[-1]} == *... ]] && expected=${kinds[-1]}
+    if [[ " $valued " == *" $previous="* ]]; then
+        expected=${valued#*"$previous="}
+        expected=${expected%% *}
+    fi
     case ${expected%...} in
         edition) mapfile -t COMPREPLY < <(compgen -W '6 7' -- "$current") ;;
         file) mapfile -t COMPREPLY < <(compgen -f -- "$current") ;;

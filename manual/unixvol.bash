@@ -13,49 +13,62 @@ _unixvol_paths() {
 }
 
 _unixvol() {
-    local current=${COMP_WORDS[COMP_CWORD]} command=${COMP_WORDS[1]} options='' kinds='' word expected=''
-    local -a given=()
+    local current=${COMP_WORDS[COMP_CWORD]} command='' options='' kinds='' valued='' others='' word previous='' expected=''
+    local -a before=("${COMP_WORDS[@]:1:COMP_CWORD-1}") given=()
     COMPREPLY=()
-    if [ "$COMP_CWORD" -eq 1 ]; then
-        mapfile -t COMPREPLY < <(compgen -W 'cat ls get export inode super map check icheck dcheck ncheck mkfs put import rm rmdir mkdir ln mv chmod chown salvage play migrate help --help --version' -- "$current")
+    # Options of the program stand before the command.
+    while [[ ${before[0]:-} == -* ]]; do before=("${before[@]:1}"); done
+    command=${before[0]:-}
+    if [ -z "$command" ]; then
+        mapfile -t COMPREPLY < <(compgen -W 'cat ls get export inode super map check icheck dcheck ncheck mkfs put import rm rmdir mkdir ln mv chmod chown salvage play migrate help --explain --help --version' -- "$current")
         return
     fi
     case $command in
-        cat) kinds='edition file any' options='-h --help' ;;
-        ls) kinds='edition file path' options='-l --long -R --recursive -h --help' ;;
-        get) kinds='edition file path' options='-h --help' ;;
-        export) kinds='edition file path' options='-h --help' ;;
-        inode) kinds='edition file any' options='--json -h --help' ;;
-        super) kinds='edition file' options='--json -h --help' ;;
-        map) kinds='edition file' options='--svg -h --help' ;;
-        check) kinds='edition file' options='-h --help' ;;
-        icheck) kinds='edition file any' options='-h --help' ;;
-        dcheck) kinds='edition file any' options='-h --help' ;;
-        ncheck) kinds='edition file any' options='-h --help' ;;
-        mkfs) kinds='edition file any any any any any' options='-h --help' ;;
-        put) kinds='edition file path file any' options='-h --help' ;;
-        import) kinds='edition file path any' options='-h --help' ;;
-        rm) kinds='edition file path any' options='-r --recursive -h --help' ;;
-        rmdir) kinds='edition file path any' options='-h --help' ;;
-        mkdir) kinds='edition file path any' options='-p --parents -h --help' ;;
-        ln) kinds='edition file path path any' options='-h --help' ;;
-        mv) kinds='edition file path path any' options='-h --help' ;;
-        chmod) kinds='edition file path any any' options='-h --help' ;;
-        chown) kinds='edition file path any any any' options='-h --help' ;;
-        salvage) kinds='edition file' options='-h --help' ;;
-        play) kinds='edition file file...' options='-h --help' ;;
-        migrate) kinds='file file any any any' options='-h --help' ;;
+        cat) kinds='edition file any' options='--explain -h --help' ;;
+        ls) kinds='edition file path' options='-l --long -R --recursive --json --explain -h --help' ;;
+        get) kinds='edition file path any...' options='-o --output --explain -h --help' valued='-o=file --output=file' others='edition file path...' ;;
+        export) kinds='edition file path' options='--explain -h --help' ;;
+        inode) kinds='edition file any' options='--json --explain -h --help' ;;
+        super) kinds='edition file' options='--json --explain -h --help' ;;
+        map) kinds='edition file' options='--svg --explain -h --help' ;;
+        check) kinds='edition file' options='--explain -h --help' ;;
+        icheck) kinds='edition file any' options='--explain -h --help' ;;
+        dcheck) kinds='edition file any' options='--explain -h --help' ;;
+        ncheck) kinds='edition file any' options='--explain -h --help' ;;
+        mkfs) kinds='edition file any any any any any' options='--explain -h --help' ;;
+        put) kinds='edition file path file any any...' options='-t --target-directory --explain -h --help' valued='-t=path --target-directory=path' others='edition file file...' ;;
+        import) kinds='edition file path any' options='--explain -h --help' ;;
+        rm) kinds='edition file path any' options='-r --recursive --explain -h --help' ;;
+        rmdir) kinds='edition file path any' options='--explain -h --help' ;;
+        mkdir) kinds='edition file path any' options='-p --parents --explain -h --help' ;;
+        ln) kinds='edition file path path any' options='--explain -h --help' ;;
+        mv) kinds='edition file path path any' options='--explain -h --help' ;;
+        chmod) kinds='edition file path any any' options='--explain -h --help' ;;
+        chown) kinds='edition file path any any any' options='--explain -h --help' ;;
+        salvage) kinds='edition file' options='--explain -h --help' ;;
+        play) kinds='edition file file...' options='--explain -h --help' ;;
+        migrate) kinds='file file any any any' options='--explain -h --help' ;;
     esac
     if [[ $current == -* ]]; then
         mapfile -t COMPREPLY < <(compgen -W "$options" -- "$current")
         return
     fi
-    for word in "${COMP_WORDS[@]:2:COMP_CWORD-2}"; do
+    for word in "${before[@]:1}"; do
+        # The value of an option is none of the words.
+        if [[ " $valued " == *" $previous="* ]]; then
+            kinds=$others previous=''
+            continue
+        fi
+        previous=$word
         [[ $word == -* ]] || given+=("$word")
     done
     read -r -a kinds <<< "$kinds"
     expected=${kinds[${#given[@]}]:-}
     [[ -z $expected && ${#kinds[@]} -gt 0 && ${kinds[-1]} == *... ]] && expected=${kinds[-1]}
+    if [[ " $valued " == *" $previous="* ]]; then
+        expected=${valued#*"$previous="}
+        expected=${expected%% *}
+    fi
     case ${expected%...} in
         edition) mapfile -t COMPREPLY < <(compgen -W '6 7' -- "$current") ;;
         file) mapfile -t COMPREPLY < <(compgen -f -- "$current") ;;

@@ -101,7 +101,7 @@ explains 3 'unixvol: cannot read third' 'unixvol: third: No such file or directo
 explains 3 'unixvol: cannot read .' 'unixvol: .: Is a directory (os error 21)' ls 6 .
 explains 3 'unixvol: cannot read .' 'unixvol: .: Is a directory (os error 21)' cat 6 . 1
 explains 3 'unixvol: cannot write missing/new.img' 'unixvol: missing/new.img: No such file or directory (os error 2)' mkfs 6 missing/new.img 400 10 0 0
-explains 3 'unixvol: cannot write disk.v6' 'unixvol: disk.v6: it holds the old volume, which is kept' migrate disk.v6 disk.v6 400 20
+explains 3 'unixvol: cannot write disk.v6' 'unixvol: disk.v6: it holds the volume that was read, which is kept' migrate disk.v6 disk.v6 400 20
 mkfifo pipe
 explains 3 'unixvol: cannot write pipe' 'unixvol: pipe: it is a pipe, a socket or a terminal, which keeps nothing to be changed' rm 6 pipe /a
 "$program" import 6 "$image" --explain < . > output 2> error
@@ -139,6 +139,12 @@ has 'an archive that is cut' '1 unixvol: archive, byte 0: cut off' "$? $(paste -
 tar --format=ustar -cf file.tar d
 "$program" import 6 "$image" --explain < file.tar > output 2> error
 has 'a member whose path is taken' "1 unixvol: 17 Exists: /d unixvol: this member: something has its path already that isn't the directory wanted" "$? $(paste -s -d ' ' error)"
+
+# Several files: a refusal of one has the line of its path.
+explains 1 'unixvol: 2 NoEntry: /none/hello' "unixvol: this file: a directory on the way to it isn't there" put 6 "$image" -t /none hello
+explains 1 'unixvol: 21 IsDirectory: d' 'unixvol: this file: it is a directory, whose names `unixvol ls` lists' get 6 "$image" -o . /d/f d
+explains 3 'unixvol: cannot write missing/f' 'unixvol: missing/f: No such file or directory (os error 2)' get 6 "$image" -o missing /d/f
+refuses 1 'unixvol: fifteen-bytes-n: a name above 14 bytes' put 6 "$image" -t /d fifteen-bytes-n --explain
 
 # A file called `--explain`, behind `--`; and a command that goes well, with the option or without.
 refuses 1 'unixvol: 2 NoEntry' get 6 "$image" -- --explain

@@ -43,6 +43,7 @@ done
 cd "$folder" || exit 1
 source "$manual/unixvol.bash"
 cp "$samples/linux_made.v7" disk.img
+mkdir away
 completes 'mkfs mkdir' mk
 completes '6 7' ls ''
 completes 'disk.img' ls 7 disk
@@ -52,6 +53,13 @@ completes '--help' rm --he
 completes '--recursive' rm --re
 completes '--svg' map --s
 completes '' rm 7 disk.img /etc/motd 1
+completes '/etc' put 7 disk.img -t /et
+completes 'disk.img' put 7 disk.img -t /etc disk
+completes 'disk.img' put 7 disk.img -t /etc one two disk
+completes 'away' get 7 disk.img -o aw
+completes '/etc/motd' get -o away 7 disk.img /etc/m
+completes 'etc/motd' get 7 disk.img -o away /etc/passwd etc/m
+completes '--target-directory' put 7 disk.img --t
 completes '--explain' --ex
 completes '--explain' rm 7 --ex
 completes 'mkfs mkdir' --explain mk

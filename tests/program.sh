@@ -393,7 +393,11 @@ for command in 'ls /' 'get /a' 'put /a hello 1' 'rm /a 1' 'rmdir /a 1' 'mkdir /a
     read -r -a given <<< "$command"
     misread "error: invalid value '8'" "${given[0]}" 8 volumes/a "${given[@]:1}"
     [ "${given[0]}" = ls ] || misread 'error: the following required arguments were not provided' "${given[0]}" 6 volumes/a
-    misread 'error: unexpected argument' "${given[0]}" 6 volumes/a "${given[@]:1}" 2
+    case ${given[0]} in
+        # These take further words, with an option.
+        get | put) misread "error: invalid value '2' for '<MORE>'" "${given[0]}" 6 volumes/a "${given[@]:1}" 2 ;;
+        *) misread 'error: unexpected argument' "${given[0]}" 6 volumes/a "${given[@]:1}" 2 ;;
+    esac
 done
 misread 'error: the following required arguments were not provided' ls 6
 misread "error: invalid value '8'" salvage 8 volumes/a

@@ -114,6 +114,50 @@ for edition in 6 7; do
     "$program" icheck "$edition" new.img 1 | cmp -s - report
     has 'the blocks of a volume of which all was removed' 0 $?
 
+    # Several files at once, into a directory and out of one.
+    cp new.img several.img
+    printf one > first
+    printf two > second
+    : > 1975
+    prints none mkdir "$edition" several.img /in 5
+    prints none put "$edition" several.img -t /in first "$folder/second" ./1975 100000500
+    has 'the moment of files that are put' '1973-03-03 09:55:00' "$("$program" ls -l "$edition" several.img /in | awk '$NF == "second" { print $7, $8 }')"
+    rm -rf away
+    mkdir away
+    prints none get "$edition" several.img -o away /in/first in/second //in/1975/
+    for file in first second 1975; do
+        cmp -s "$file" "away/$file"
+        has "the file $file, put and got" 0 $?
+    done
+    printf three > first
+    prints none put "$edition" several.img --target-directory=/in first
+    prints first get "$edition" several.img /in/first
+    prints none get -o away "$edition" several.img in/first
+    cmp -s first away/first
+    has 'a file that was there, got again' 0 $?
+    cp several.img before
+    refuses 1 'unixvol: fifteen-bytes-n: a name above 14 bytes' put "$edition" several.img -t /in second fifteen-bytes-n 6
+    refuses 1 'unixvol: 2 NoEntry: /none/first' put "$edition" several.img -t /none first second 6
+    refuses 1 'unixvol: 20 NotDirectory: /in/first/second' put "$edition" several.img -t /in/first second
+    refuses 3 'unixvol: cannot read missing' put "$edition" several.img -t /in first missing 6
+    misread 'error: ' put "$edition" several.img -t /in first away/first
+    misread 'error: ' put "$edition" several.img /in/first
+    misread 'error: ' put "$edition" several.img /in/first first 6 second
+    saves 'an image into which nothing was put' several.img before
+    rm away/*
+    refuses 1 'unixvol: 2 NoEntry: /in/none' get "$edition" several.img -o away /in/first /in/none
+    refuses 1 'unixvol: 21 IsDirectory: /in' get "$edition" several.img -o away /in/first /in
+    misread 'error: ' get "$edition" several.img -o away /in/first first
+    misread 'error: ' get "$edition" several.img /in/first /in/second
+    has 'files that were not got' '' "$(ls away)"
+    refuses 3 'unixvol: cannot write missing/first' get "$edition" several.img -o missing /in/first
+    printf five > before
+    prints none put "$edition" several.img -t / before 7
+    mv several.img before
+    cp before same
+    refuses 3 'unixvol: cannot write ./before' get "$edition" before -o . /before
+    saves 'the image, which is not replaced by a file of its own' before same
+
     # Listings.
     "$program" ls "$edition" disk.img / > plain
     prints plain ls "$edition" disk.img

@@ -9,7 +9,8 @@ use Rattle.clap.specs.Words.{Row}
 use Rattle.command_words.specs.Asking.{AreLinesGiven, IsEditionNamed, IsGiven, Words, first_word, is_set, the_word, verb_of}
 use Rattle.command_words.specs.Verbs.{verb_name}
 use Rattle.command_words.specs.declared.invocation.Invocation.{Invocation}
-use Rattle.command_words.specs.declared.invocation.Invocation.TheVariants.{Cat, Mkfs, Migrate, OnVolume, OnImage, OnTree, OnThreads}
+use Rattle.command_words.specs.declared.invocation.Invocation.TheVariants.{Cat, Mkfs, Migrate, OnVolume, OnImage, OnTree, OnFiles, OnThreads}
+use Rattle.command_words.specs.declared.invocation.Copying.TheVariants as copies
 use Rattle.command_words.specs.declared.invocation.Work.TheVariants as works
 use Rattle.image_commands.specs.declared.looks.Lines.{Lines}
 use Rattle.image_commands.specs.declared.looks.Lines.TheVariants as lines
@@ -158,6 +159,8 @@ asks_listing clock given edition image path (OnTree volume (edits.Import p now))
 asks_listing clock given edition image path (OnTree volume (edits.MkdirAll p now)) test e_is i_is p_is none is = absurd (true≢false (sym test))
 asks_listing clock given edition image path (OnTree volume (edits.RmAll p now)) test e_is i_is p_is none is = absurd (true≢false (sym test))
 asks_listing clock given edition image path (OnTree volume (edits.Move from to now)) test e_is i_is p_is none is = absurd (true≢false (sym test))
+asks_listing clock given edition image path (OnFiles volume (copies.Put directory files now)) test e_is i_is p_is none is = absurd (true≢false (sym test))
+asks_listing clock given edition image path (OnFiles volume (copies.Get folder paths)) test e_is i_is p_is none is = absurd (true≢false (sym test))
 asks_listing clock given edition image path (OnThreads volume (works.Check checkers.Blocks workers)) test e_is i_is p_is none is = absurd (true≢false (sym test))
 asks_listing clock given edition image path (OnThreads volume (works.Check checkers.Entries workers)) test e_is i_is p_is none is = absurd (true≢false (sym test))
 asks_listing clock given edition image path (OnThreads volume (works.Check checkers.Names workers)) test e_is i_is p_is none is = absurd (true≢false (sym test))
@@ -229,6 +232,7 @@ listing_asks clock (Some met) edition image path (OnImage volume (looks.List dir
       ),
     )
 listing_asks clock (Some met) edition image path (OnTree v edit) is listed = absurd listed
+listing_asks clock (Some met) edition image path (OnFiles v copying) is listed = absurd listed
 listing_asks clock (Some met) edition image path (OnThreads v work) is listed = absurd listed
 
 -- the words of `ls` ask for a listing, where they have its edition's word

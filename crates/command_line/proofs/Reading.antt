@@ -11,17 +11,18 @@ use Rattle.clap.specs.Words.{App, HasKind, HasMatchesOf, Row, app_of, fault_of, 
 use Rattle.clap.specs.declared.parser.matches.ArgMatches.{ArgMatches}
 use Rattle.clap.specs.declared.parser.matches.ArgMatches.TheViews.{out-ArgMatches, out-SubCommand}
 use Rattle.clap.specs.declared.parser.matches.SubCommand.{SubCommand}
-use Rattle.command_words.specs.Asking.{IsWorkGiven, IsWorkable, IsWrong, NameAsksFor, TellsOf as IsToldBy, Words}
+use Rattle.command_words.specs.Asking.{AsksForNothing, IsWorkGiven, IsWorkable, IsWrong, NameAsksFor, TellsOf as IsToldBy, Words}
 use Rattle.command_words.specs.declared.fault.Fault.{Fault}
 use Rattle.command_words.specs.declared.fault.Fault.TheVariants as faults
-use Rattle.command_words.specs.Verbs.{IsNoCommand}
+use Rattle.command_words.specs.Verbs.{IsNoCommand, verb_name}
 use Rattle.command_words.specs.declared.invocation.Invocation.{Invocation}
 use Rattle.command_words.specs.declared.invocation.Invocation.TheVariants.{OnThreads}
 use Rattle.command_words.specs.declared.invocation.VolumeFile.{VolumeFile}
 use Rattle.command_words.specs.declared.invocation.Work.{Work}
 use Rattle.command_words.specs.declared.invocation.Work.TheVariants as works
-use Rattle.command_words.proofs.Values.{no_command, no_value}
-use Rattle.command_line.specs.CommandLine.{AsksNothing, IsNoValue, IsRead, IsRefused, MetAsks, TellsOf, words_by, words_of}
+use Rattle.command_words.specs.declared.verbs.Verb.{Verb}
+use Rattle.command_words.proofs.Values.{names_nothing, no_command}
+use Rattle.command_line.specs.CommandLine.{AsksNothing, IsRead, IsRefused, MetAsks, NameAsksForNothing, TellsOf, words_by, words_of}
 use Rattle.command_line.specs.Words.{AreEditions, app, argument_rule, bare_program, command_in, explain_rule, faults_of, named_shape, need_rule, program, unixvol_app, verb_shape, with_argument, with_command}
 use Rattle.command_line.proofs.FoundWords.{words_same}
 
@@ -57,15 +58,18 @@ asked_by_rows clock matches values name invocation named rows_are asks =
     subst (λ (given : Words). NameAsksFor clock name given invocation) (sym (words_same values))
     (rw (met (out-ArgMatches matches).subcommand name (rows_of (found_of values)) named rows_are) at asks)
 
--- where one of the words is no value of the argument of the command of this name, nothing is asked for
-no_value_of : (clock : Option ℕ) (name : List ℕ) (given : Words) → IsNoValue clock name given → (invocation : Invocation) → NameAsksFor clock name given invocation → ⊥
-no_value_of clock name given none invocation asks =
-    no_value clock none.0 given none.2 invocation (subst (λ (n : List ℕ). NameAsksFor clock n given invocation) none.1 asks)
-
 -- a fault that is not want of memory tells of what is wrong
 pub told_wrong : (wrong : Type 0) (fault : Fault) → IsToldBy wrong fault → IsWrong fault → wrong
 told_wrong wrong faults.NoMemory tells is = absurd is
 told_wrong wrong (faults.Wrong word) tells is = tells
+
+-- where a command asks for nothing, as a fault tells, its name asks for nothing
+pub told_nothing : (clock : Option ℕ) (given : Words) (name : List ℕ) (verb : Verb) (fault : Fault) → name ≡ verb_name verb
+    → IsToldBy (AsksForNothing clock verb given) fault → IsWrong fault → NameAsksForNothing clock name given
+unfolding NameAsksForNothing
+told_nothing clock given name verb fault is tells wrong = λ invocation asks.
+    names_nothing clock verb given (told_wrong (AsksForNothing clock verb given) fault tells wrong) invocation
+    (subst (λ (n : List ℕ). NameAsksFor clock n given invocation) is asks)
 
 -- what a parse found asks for what its command asks for
 pub asked : {E : Type 0} (clock : Option ℕ) (matches values : ArgMatches) (name : List ℕ) (result : Result (Option Invocation) E) → Some name ≡ subcommand_name_of matches
@@ -84,17 +88,16 @@ missed clock matches values name (Ok found) named rows_are none = λ is invocati
     no_command clock name (words_of values) (none is) invocation (asked_by_rows clock matches values name invocation (sym named) (sym rows_are) asks)
 missed clock matches values name (Err e) named rows_are none = tt
 
--- what a parse found asks for nothing where one of the words is no value
+-- what a parse found asks for nothing where the command does that it met
 pub refused : {T : Type 0} (clock : Option ℕ) (matches values : ArgMatches) (name : List ℕ) (result : Result T Error) → Some name ≡ subcommand_name_of matches
     → Some (rows_of (found_of values)) ≡ option_map (λ p. p.1) (subcommand_rows_of matches)
-    → IfErr result (TellsOf (IsNoValue clock name (words_of values))) → IfErr result (TellsOf (AsksNothing clock (subcommand_rows_of matches)))
-unfolding AsksNothing
+    → IfErr result (TellsOf (NameAsksForNothing clock name (words_of values))) → IfErr result (TellsOf (AsksNothing clock (subcommand_rows_of matches)))
+unfolding AsksNothing NameAsksForNothing
 refused clock matches values name (Ok found) named rows_are tells = tt
 refused clock matches values name (Err e) named rows_are (inl memory) = inl memory
 refused clock matches values name (Err e) named rows_are (inr (kind, none)) = inr (
   kind,
-  λ invocation asks.
-      no_value_of clock name (words_of values) none invocation (asked_by_rows clock matches values name invocation (sym named) (sym rows_are) asks),
+  λ invocation asks. none invocation (asked_by_rows clock matches values name invocation (sym named) (sym rows_are) asks),
 )
 
 -- a parse that met no command asks for nothing

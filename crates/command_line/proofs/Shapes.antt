@@ -63,6 +63,19 @@ pub takes_words : (old new : Arg) (name : List ℕ) → rule old ≡ need_rule n
     → IsSomeAnd new.num_vals (λ r. r ≡ record { start_inclusive = 1; end_inclusive = usize_max }) → rule new ≡ need_rule name needs.Several
 takes_words old new name before same is = ap rule same ∙ ranged old new.num_vals name before is
 
+-- an argument for a word that may be left out, once it may have so many values
+ranged_maybe : (old : Arg) (range : Option ValueRange) (name : List ℕ) → rule old ≡ need_rule name needs.Maybe
+    → IsSomeAnd range (λ r. r ≡ record { start_inclusive = 1; end_inclusive = usize_max }) → rule (record old { num_vals = range }) ≡ need_rule name needs.Any
+unfolding rule need_rule
+ranged_maybe old None name before is = absurd is
+ranged_maybe old (Some range) name before is =
+    ap (λ (r : Rule). record r { range = Some range }) before ∙ ap (λ (r : ValueRange). record (need_rule name needs.Maybe) { range = Some r }) is
+
+-- an argument for any number of words, out of one for a word that may be left out
+pub takes_any : (old new : Arg) (name : List ℕ) → rule old ≡ need_rule name needs.Maybe → new ≡ record old { num_vals = new.num_vals }
+    → IsSomeAnd new.num_vals (λ r. r ≡ record { start_inclusive = 1; end_inclusive = usize_max }) → rule new ≡ need_rule name needs.Any
+takes_any old new name before same is = ap rule same ∙ ranged_maybe old new.num_vals name before is
+
 -- an argument whose words are the names of editions
 pub takes_editions : (old new : Arg) (editions : Bor (List (Bor (List ℕ)))) (before : Rule) → rule old ≡ before → new ≡ record old { value_parser = new.value_parser }
     → new.value_parser ≡ Some (parsers.Names editions) → rule new ≡ record before { parser = Some (parsers.Names editions) }
@@ -83,7 +96,9 @@ unfolding need_rule
 need_simple name needs.Once = refl
 need_simple name needs.Maybe = refl
 need_simple name needs.Several = refl
+need_simple name needs.Any = refl
 need_simple name (needs.Flag letter) = refl
+need_simple name (needs.Value letter value) = refl
 
 -- nor does what its words have to be
 kind_simple : (editions : Bor (List (Bor (List ℕ)))) (kind : Kind) (argument : Rule) → (kind_rule editions kind argument).is_simple ≡ argument.is_simple
@@ -143,6 +158,11 @@ pub starts : (new texts more : Command) (about after_help : Bor (List ℕ)) (nam
     → shape more ≡ named_shape name
 unfolding shape named_shape
 starts new texts more about after_help name is texts_are more_are = ap shape_of_fields more_are ∙ (ap shape_of_fields texts_are ∙ ap (λ (a : App). a.top) is)
+
+-- a text of the usage changes nothing of how words are read
+pub shows_usage : (old new : Command) (usage : Bor (List ℕ)) → out-Command new ≡ record (out-Command old) { usage_str = Some usage } → shape new ≡ shape old
+unfolding shape
+shows_usage old new usage is = ap shape_of_fields is
 
 -- a command whose arguments change nothing of how words are read has none that its subcommands take
 no_globals : (command : Command) → (shape_of command).is_plain ≡ true → (out-Command command).has_globals ≡ false

@@ -5,10 +5,8 @@ use Rattle.clap.specs.Words.{App, HasKind, Row, all_of, found_of, kind_of, match
 use Rattle.clap.specs.declared.error.Error.{Error}
 use Rattle.clap.specs.declared.error.kind.ErrorKind.TheVariants as kinds
 use Rattle.clap.specs.declared.parser.matches.ArgMatches.{ArgMatches}
-use Rattle.command_words.specs.Asking.{IsOneWrong, NameAsksFor, Words}
-use Rattle.command_words.specs.Verbs.{arguments_of, verb_name}
+use Rattle.command_words.specs.Asking.{NameAsksFor, Words}
 use Rattle.command_words.specs.declared.invocation.Invocation.{Invocation}
-use Rattle.command_words.specs.declared.verbs.Verb.{Verb}
 use Rattle.command_line.specs.Words.{AreEditions, command_in, faults_of, unixvol_app}
 
 -- all words that a parse found for an argument (this project)
@@ -19,11 +17,11 @@ words_of values name = unwrap_or (option_map raw_values (matched_of (found_of va
 abbrev pub words_by : List Row → Words
 words_by rows name = unwrap_or (all_of name rows) []
 
--- one of the words of the command of this name is no value of its argument (this project)
-abbrev pub IsNoValue : Option ℕ → List ℕ → Words → Type 0
-IsNoValue clock name given = (verb : Verb) × (name ≡ verb_name verb) × IsOneWrong clock given (arguments_of verb)
+-- the command of this name with the words for its arguments asks for nothing (this project)
+unfoldable pub NameAsksForNothing : Option ℕ → List ℕ → Words → Type 0
+NameAsksForNothing clock name given = (invocation : Invocation) → NameAsksFor clock name given invocation → ⊥
 
--- memory ran out, or the error tells of a word that is no value, of which this holds (this project)
+-- memory ran out, or the error tells of a word that is wrong, of which this holds (this project)
 abbrev pub TellsOf : Type 0 → Error → Type 0
 TellsOf wrong error = (kind_of error ≡ kinds.OutOfMemory) ⊎ ((kind_of error ≡ kinds.ValueValidation) × wrong)
 

@@ -36,7 +36,9 @@ unfoldable pub need_rule : List ℕ → Need → Rule
 need_rule name needs.Once = record (new_rule name) { required = true }
 need_rule name needs.Maybe = new_rule name
 need_rule name needs.Several = record (new_rule name) { required = true; range = Some (record { start_inclusive = 1; end_inclusive = usize_max }) }
+need_rule name needs.Any = record (new_rule name) { range = Some (record { start_inclusive = 1; end_inclusive = usize_max }) }
 need_rule name (needs.Flag letter) = record (new_rule name) { long = Some name; short = letter; action = Some actions.SetTrue }
+need_rule name (needs.Value letter value) = record (new_rule name) { long = Some name; short = Some letter; value_names = 1 }
 
 -- the argument, of which an edition's words are one of these texts (this project)
 abbrev pub kind_rule : Bor (List (Bor (List ℕ))) → Kind → Rule → Rule

@@ -6,7 +6,7 @@ ghost use Rattle.command_line.specs.Words.{AreEditions, app, argument_rule, bare
 
 use clap::{Arg, ArgAction, Command};
 use command_words::parameters::EDITIONS;
-use command_words::{Kind, Need, Parameter, VERBS, Verb, texts};
+use command_words::{Kind, Need, Parameter, VERBS, ValueName, Verb, texts};
 use std::alloc::{AllocError, Global};
 
 /// What the command line is built with.
@@ -97,7 +97,11 @@ fn named<'a>(alloc: Global, verb: Verb) -> Command<'a>
     let name: &'a str = verb.name();
     let about: &'a str = verb.about();
     let more: &'a str = verb.more();
-    Command::new(alloc, name).about(about).after_help(more)
+    let command = Command::new(alloc, name).about(about).after_help(more);
+    match verb.usage() {
+        Some(usage) => command.override_usage(usage),
+        None => command,
+    }
 }
 
 /// The option that asks for a second line where something fails.
@@ -116,7 +120,9 @@ fn needed<'a>(alloc: Global, name: &'a str, help: &'a str, need: Need) -> Arg<'a
         Need::Once => required(alloc, name, help),
         Need::Maybe => optional(alloc, name, help),
         Need::Several => several(alloc, name, help),
+        Need::Any => any(alloc, name, help),
         Need::Flag(letter) => flag(alloc, name, letter, help),
+        Need::Value(letter, value) => valued(alloc, name, letter, value, help),
     }
 }
 
@@ -141,6 +147,32 @@ fn several<'a>(alloc: Global, name: &'a str, help: &'a str) -> Arg<'a>
     ensures { rule result ≡ need_rule name.entry.now needs.Several }
 {
     required(alloc, name, help).num_args(1..)
+}
+
+/// An argument for any number of words.
+fn any<'a>(alloc: Global, name: &'a str, help: &'a str) -> Arg<'a>
+    ensures { rule result ≡ need_rule name.entry.now needs.Any }
+{
+    optional(alloc, name, help).num_args(1..)
+}
+
+/// An option with a value.
+#[tactic(auto, unfolding(crate::specs::Words::rule, crate::specs::Words::need_rule))]
+fn valued<'a>(
+    alloc: Global,
+    name: &'a str,
+    letter: char,
+    value: ValueName,
+    help: &'a str,
+) -> Arg<'a>
+    ensures { rule result ≡ need_rule name.entry.now (needs.Value letter value) }
+{
+    let value_name: &'a str = value.text();
+    Arg::new(alloc, name)
+        .short(letter)
+        .long(name)
+        .value_name(value_name)
+        .help(help)
 }
 
 /// An option, with a letter of its own or without.

@@ -6,7 +6,7 @@ ghost use Rattle.clap.specs.Words.{kind_of, subcommand_rows_of};
 ghost use Rattle.clap.specs.declared.error.kind.ErrorKind.TheVariants as clap_kinds;
 ghost use Rattle.command_words.specs.Asking.{IsWrong, NameAsksFor};
 ghost use Rattle.command_words.specs.Verbs.{IsNoCommand};
-ghost use Rattle.command_line.specs.CommandLine.{AsksNothing, IsNoValue, IsRead, IsRefused, MetAsks, TellsOf, words_of};
+ghost use Rattle.command_line.specs.CommandLine.{AsksNothing, IsRead, IsRefused, MetAsks, NameAsksForNothing, TellsOf, words_of};
 
 use clap::error::ErrorKind;
 use clap::{ArgMatches, Error};
@@ -19,14 +19,14 @@ mod found;
 pub mod laws;
 
 use building::Builder;
-pub use command_words::{Invocation, VolumeFile, Work};
+pub use command_words::{Copying, Invocation, VolumeFile, Work};
 pub use explaining::asks_to_explain;
 use found::Found;
 
 /// Reads the words of the command line, of which the first is the program's own name. `clock` is the moment of the
 /// program's clock, in seconds since the beginning of 1970, if it tells one; a command whose moment was left out means
 /// it. The error is clap's, with its text, its stream and its status: of the kind `ValueValidation` where a word is no
-/// value of its argument or no moment is given or told, `MissingSubcommand` where there is no command, `OutOfMemory`
+/// value of its argument, no moment is given or told, or the words of several files don't fit one another, `MissingSubcommand` where there is no command, `OutOfMemory`
 /// where an allocation was refused, and else what clap itself tells of the words.
 pub fn read<'a>(
     alloc: Global,
@@ -68,7 +68,7 @@ fn read_command<'a>(
     values: &ArgMatches<'a>,
 ) -> Result<Option<Invocation<'a>>, Error>
     ensures read { IfOk result (λ found. IfSome found (NameAsksFor clock name.now (words_of values.now))) }
-    ensures refused { IfErr result (TellsOf (IsNoValue clock name.now (words_of values.now))) }
+    ensures refused { IfErr result (TellsOf (NameAsksForNothing clock name.now (words_of values.now))) }
     ensures missing { IfOk result (λ found. found ≡ None → IsNoCommand name.now) }
 {
     let Some(verb) = Verb::of(name) else {

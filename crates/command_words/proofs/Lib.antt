@@ -1,3 +1,6 @@
+pub mod Copies
+pub mod Faults
+pub mod FileWords
 pub mod Moments
 pub mod Names
 pub mod Values

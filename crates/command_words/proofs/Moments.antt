@@ -14,7 +14,7 @@ written clock [] word first now given = cc
 written clock (other ∷ more) word first now given = let same : word ≡ other = cc in subst (λ (w : List ℕ). IsMomentOf w now) (sym same) given
 
 -- a fault tells of what is wrong
-tells : (wrong : Type 0) (fault : Fault) → wrong → TellsOf wrong fault
+pub tells : (wrong : Type 0) (fault : Fault) → wrong → TellsOf wrong fault
 tells wrong faults.NoMemory is = tt
 tells wrong (faults.Wrong word) is = is
 

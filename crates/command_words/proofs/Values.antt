@@ -1,5 +1,5 @@
 -- What is asked for was given by words that are values: a word that is none asks for nothing.
-use Rattle.std.proofs.Common.{◌≡◌, ◌⊎◌, ◌∙◌, ◌≤◌, ◌∷◌, ℕ, List, [], Option, codes, length, map, sym, ap, subst, inl, inr}
+use Rattle.std.proofs.Common.{◌≡◌, ◌⊎◌, ◌∙◌, ◌≤◌, ◌∷◌, ℕ, List, [], Option, codes, length, map, sym, ap, subst, inl, inr, Result, Ok, Err, IfErr}
 use Rattle.std.specs.Borrow.{Bor}
 use Rattle.std.proofs.lemmas.List.{length-map}
 use Rattle.vol_layout.specs.declared.edition.Edition.{Edition}
@@ -8,10 +8,13 @@ use Rattle.image_commands.specs.declared.looks.Look.TheVariants as looks
 use Rattle.tree_commands.specs.declared.edits.Edit.TheVariants as edits
 use Rattle.vol_check.specs.declared.checker.Checker.TheVariants as checkers
 use Rattle.vol_commands.specs.declared.jobs.Job.TheVariants as jobs
-use Rattle.command_words.specs.Asking.{AreValues, IsEditionNamed, IsGiven, IsOneWrong, NameAsksFor, Words, verb_of}
+use Rattle.command_words.specs.Asking.{AreValues, AsksForNothing, IsEditionNamed, IsGiven, IsOneWrong, NameAsksFor, TellsOf, Words, verb_of}
 use Rattle.command_words.specs.Verbs.{Argument, IsNoCommand, arguments_of, verb_name}
+use Rattle.command_words.specs.declared.fault.Fault.{Fault}
+use Rattle.command_words.specs.declared.fault.Fault.TheVariants as faults
+use Rattle.command_words.specs.declared.invocation.Copying.TheVariants as copies
 use Rattle.command_words.specs.declared.invocation.Invocation.{Invocation}
-use Rattle.command_words.specs.declared.invocation.Invocation.TheVariants.{Cat, Mkfs, Migrate, OnVolume, OnImage, OnTree, OnThreads}
+use Rattle.command_words.specs.declared.invocation.Invocation.TheVariants.{Cat, Mkfs, Migrate, OnVolume, OnImage, OnTree, OnFiles, OnThreads}
 use Rattle.command_words.specs.declared.invocation.Work.TheVariants as works
 use Rattle.command_words.specs.declared.verbs.Verb.{Verb}
 use Rattle.command_words.proofs.Names.{verb_name-injective}
@@ -40,9 +43,8 @@ values_given clock given (Mkfs image volume) is = (
 )
 values_given clock given (Migrate old new migration) is = (tt, (tt, (is.2.0.0, (is.2.1.0, ((migration.now, is.2.2), tt)))))
 values_given clock given (OnVolume volume (jobs.Ls path)) is = absurd is.1
-values_given clock given (OnVolume volume (jobs.Get path)) is = (edition_value volume.edition _ is.0.0, (tt, (tt, tt)))
-values_given clock given (OnVolume volume (jobs.Put path file now)) is =
-    (edition_value volume.edition _ is.0.0, (tt, (tt, (tt, ((now, is.1.2), tt)))))
+values_given clock given (OnVolume volume (jobs.Get path)) is = (edition_value volume.edition _ is.0.0, (tt, (tt, (tt, (tt, tt)))))
+values_given clock given (OnVolume volume (jobs.Put path file now)) is = (edition_value volume.edition _ is.0.0, (tt, (tt, (tt, (tt, (tt, (tt, tt)))))))
 values_given clock given (OnVolume volume (jobs.Rm path now)) is = (edition_value volume.edition _ is.0.0, (tt, (tt, ((now, is.1.1), (tt, tt)))))
 values_given clock given (OnVolume volume (jobs.Rmdir path now)) is = (edition_value volume.edition _ is.0.0, (tt, (tt, ((now, is.1.1), tt))))
 values_given clock given (OnVolume volume (jobs.Mkdir path now)) is = (edition_value volume.edition _ is.0.0, (tt, (tt, ((now, is.1.1), (tt, tt)))))
@@ -64,6 +66,8 @@ values_given clock given (OnTree volume (edits.MkdirAll path now)) is = (edition
 values_given clock given (OnTree volume (edits.RmAll path now)) is = (edition_value volume.edition _ is.0.0, (tt, (tt, ((now, is.1.1), (tt, tt)))))
 values_given clock given (OnTree volume (edits.Move from to now)) is =
     (edition_value volume.edition _ is.0.0, (tt, (tt, (tt, ((now, is.1.2), tt)))))
+values_given clock given (OnFiles volume (copies.Put directory files now)) is = (edition_value volume.edition _ is.0.0, (tt, (tt, (tt, (tt, (tt, (tt, tt)))))))
+values_given clock given (OnFiles volume (copies.Get folder paths)) is = (edition_value volume.edition _ is.0.0, (tt, (tt, (tt, (tt, tt)))))
 values_given clock given (OnThreads volume (works.Check checkers.Blocks workers)) is = (edition_value volume.edition _ is.0.0, (tt, (is.1.0, tt)))
 values_given clock given (OnThreads volume (works.Check checkers.Entries workers)) is = (edition_value volume.edition _ is.0.0, (tt, (is.1.0, tt)))
 values_given clock given (OnThreads volume (works.Check checkers.Names workers)) is = (edition_value volume.edition _ is.0.0, (tt, (is.1.0, tt)))
@@ -77,11 +81,29 @@ none_wrong clock given (argument ∷ rest) are (inl wrong) = wrong are.0
 none_wrong clock given (argument ∷ rest) are (inr wrong) = none_wrong clock given rest are.1 wrong
 
 -- where one of the words is no value, nothing is asked for
-pub no_value : (clock : Option ℕ) (verb : Verb) (given : Words) → IsOneWrong clock given (arguments_of verb) → (invocation : Invocation)
-    → NameAsksFor clock (verb_name verb) given invocation → ⊥
-no_value clock verb given wrong invocation asks =
+pub no_value : (clock : Option ℕ) (verb : Verb) (given : Words) → IsOneWrong clock given (arguments_of verb) → AsksForNothing clock verb given
+unfolding AsksForNothing
+no_value clock verb given wrong = λ invocation asks.
     none_wrong clock given (arguments_of (verb_of invocation)) (values_given clock given invocation asks.1)
-    (subst (λ (other : Verb). IsOneWrong clock given (arguments_of other)) (verb_name-injective verb (verb_of invocation) asks.0) wrong)
+    (subst (λ (other : Verb). IsOneWrong clock given (arguments_of other)) asks.0 wrong)
+
+-- a fault that tells of a word that is no value tells that nothing is asked for
+tells_nothing : (clock : Option ℕ) (verb : Verb) (given : Words) (fault : Fault) → TellsOf (IsOneWrong clock given (arguments_of verb)) fault
+    → TellsOf (AsksForNothing clock verb given) fault
+tells_nothing clock verb given faults.NoMemory tells = tt
+tells_nothing clock verb given (faults.Wrong word) tells = no_value clock verb given tells
+
+-- the same of an outcome
+pub refuses_value : {T : Type 0} (clock : Option ℕ) (verb : Verb) (given : Words) (result : Result T Fault)
+    → IfErr result (TellsOf (IsOneWrong clock given (arguments_of verb))) → IfErr result (TellsOf (AsksForNothing clock verb given))
+refuses_value clock verb given (Ok value) tells = tt
+refuses_value clock verb given (Err fault) tells = tells_nothing clock verb given fault tells
+
+-- where a command asks for nothing, its name does
+pub names_nothing : (clock : Option ℕ) (verb : Verb) (given : Words) → AsksForNothing clock verb given → (invocation : Invocation)
+    → NameAsksFor clock (verb_name verb) given invocation → ⊥
+unfolding AsksForNothing
+names_nothing clock verb given none invocation asks = none invocation (verb_name-injective verb (verb_of invocation) asks.0, asks.1)
 
 -- where the name is that of no command, nothing is asked for
 pub no_command : (clock : Option ℕ) (name : List ℕ) (given : Words) → IsNoCommand name → (invocation : Invocation) → NameAsksFor clock name given invocation → ⊥

@@ -1,6 +1,8 @@
 -- What the words after a command ask for.
-use Rattle.std.specs.Prelude.{◌≡◌, ◌⊎◌, ◌∷◌, ◌≤◌, ℕ, List, [], length, map, Option, Some}
-use Rattle.std.specs.Prelude.{Bool, false, true, codes}
+use Rattle.std.specs.Prelude.{◌≡◌, ◌⊎◌, ◌∷◌, ◌≤◌, ◌-◌, ◌&&◌, ℕ, List, [], length, map, take, get_or, slice_get, flat_map, Option, Some, None}
+use Rattle.std.specs.Prelude.{Bool, false, true, not, codes}
+use Rattle.std.specs.List.{list_any}
+use Rattle.std.specs.Path.{path_file_name}
 use Rattle.std.specs.Str.{bytes_eq}
 use Rattle.vol_layout.specs.declared.edition.Edition.{Edition}
 use Rattle.vol_layout.specs.declared.edition.Edition.TheVariants.{V6, V7}
@@ -12,8 +14,10 @@ use Rattle.command_words.specs.declared.fault.Fault.{Fault}
 use Rattle.command_words.specs.declared.fault.Fault.TheVariants as faults
 use Rattle.command_words.specs.declared.parameters.Kind.{Kind}
 use Rattle.command_words.specs.declared.parameters.Kind.TheVariants as kinds
+use Rattle.command_words.specs.declared.invocation.Copying.{Copying}
+use Rattle.command_words.specs.declared.invocation.Copying.TheVariants as copies
 use Rattle.command_words.specs.declared.invocation.Invocation.{Invocation}
-use Rattle.command_words.specs.declared.invocation.Invocation.TheVariants.{Cat, Mkfs, Migrate, OnVolume, OnImage, OnTree, OnThreads}
+use Rattle.command_words.specs.declared.invocation.Invocation.TheVariants.{Cat, Mkfs, Migrate, OnVolume, OnImage, OnTree, OnFiles, OnThreads}
 use Rattle.command_words.specs.declared.invocation.VolumeFile.{VolumeFile}
 use Rattle.command_words.specs.declared.invocation.Work.{Work}
 use Rattle.command_words.specs.declared.invocation.Work.TheVariants as works
@@ -48,6 +52,14 @@ first_word (word ∷ more) = word
 -- the first word that was given for an argument, or the empty one (this project)
 abbrev pub the_word : Words → List ℕ → List ℕ
 the_word given name = first_word (given name)
+
+-- this is the first word that was given for an argument (this project)
+abbrev pub IsFirstWord : Words → List ℕ → List ℕ → Type 0
+IsFirstWord given name word = slice_get (given name) 0 ≡ Some word
+
+-- no word was given for an argument (this project)
+abbrev pub IsLeftOut : Words → List ℕ → Type 0
+IsLeftOut given name = slice_get (given name) 0 ≡ None
 
 -- an option was given: its word says so (clap's SetTrue)
 abbrev pub is_set : List (List ℕ) → Bool
@@ -125,6 +137,11 @@ edit_verb (edits.MkdirAll path now) = verbs.Mkdir
 edit_verb (edits.RmAll path now) = verbs.Rm
 edit_verb (edits.Move from to now) = verbs.Mv
 
+-- the command that copies files (this project)
+abbrev pub copying_verb : Copying → Verb
+copying_verb (copies.Put directory files now) = verbs.Put
+copying_verb (copies.Get folder paths) = verbs.Get
+
 -- the command that asks for this (this project)
 abbrev pub verb_of : Invocation → Verb
 verb_of (Cat volume ino) = verbs.Cat
@@ -133,6 +150,7 @@ verb_of (Migrate old new migration) = verbs.Migrate
 verb_of (OnVolume volume job) = job_verb job
 verb_of (OnImage volume look) = look_verb look
 verb_of (OnTree volume edit) = edit_verb edit
+verb_of (OnFiles volume copying) = copying_verb copying
 verb_of (OnThreads volume work) = work_verb work
 
 -- the words name this volume (this project)
@@ -158,9 +176,10 @@ IsMigrationGiven clock given migration = IsNumberGiven 4294967295 (the_word give
 -- the words describe this job; none describe a listing, which is a look (this project)
 abbrev pub IsJobGiven : Option ℕ → Words → Job → Type 0
 IsJobGiven clock given (jobs.Ls path) = ⊥
-IsJobGiven clock given (jobs.Get path) = path.now ≡ the_word given (codes "PATH")
-IsJobGiven clock given (jobs.Put path file now) = (path.now ≡ the_word given (codes "PATH"))
-    × (file.now ≡ the_word given (codes "FILE")) × IsMomentGiven clock (given (codes "NOW")) now
+IsJobGiven clock given (jobs.Get path) =
+    (path.now ≡ the_word given (codes "PATH")) × IsLeftOut given (codes "MORE") × IsLeftOut given (codes "output")
+IsJobGiven clock given (jobs.Put path file now) = (path.now ≡ the_word given (codes "PATH")) × IsFirstWord given (codes "FILE") file.now
+    × IsMomentGiven clock (given (codes "NOW")) now × IsLeftOut given (codes "MORE") × IsLeftOut given (codes "target-directory")
 IsJobGiven clock given (jobs.Rm path now) =
     (path.now ≡ the_word given (codes "PATH")) × IsMomentGiven clock (given (codes "NOW")) now × (is_set (given (codes "recursive")) ≡ false)
 IsJobGiven clock given (jobs.Rmdir path now) =
@@ -213,6 +232,57 @@ IsEditGiven clock given (edits.RmAll path now) =
 IsEditGiven clock given (edits.Move from to now) = (from.now ≡ the_word given (codes "FROM"))
     × (to.now ≡ the_word given (codes "TO")) × IsMomentGiven clock (given (codes "NOW")) now
 
+-- the words of `put` for several files, in their order (this project)
+abbrev pub put_words : Words → List (List ℕ)
+put_words given = flat_map given (codes "PATH" ∷ codes "FILE" ∷ codes "NOW" ∷ codes "MORE" ∷ [])
+
+-- the words of `get` for several files, in their order (this project)
+abbrev pub get_words : Words → List (List ℕ)
+get_words given = flat_map given (codes "PATH" ∷ codes "MORE" ∷ [])
+
+-- a name, if there is one, before others (this project)
+abbrev pub with_name : Option (List ℕ) → List (List ℕ) → List (List ℕ)
+with_name None names = names
+with_name (Some name) names = name ∷ names
+
+-- the last names of the paths that have one: `/` and what ends in `..` have none (std's Path::file_name)
+abbrev pub last_names : List (List ℕ) → List (List ℕ)
+last_names [] = []
+last_names (path ∷ more) = with_name (path_file_name path) (last_names more)
+
+-- no two names are the same (this project)
+abbrev pub are_distinct : List (List ℕ) → Bool
+are_distinct [] = true
+are_distinct (name ∷ more) = not (list_any (λ other. bytes_eq other name) more) && are_distinct more
+
+-- no two paths have the same last name (this project)
+abbrev pub are_apart : List (List ℕ) → Bool
+are_apart paths = are_distinct (last_names paths)
+
+-- the last of two words or more writes this moment (this project)
+abbrev pub EndsInMoment : List (List ℕ) → ℕ → Type 0
+EndsInMoment words now = (2 ≤ length words) × IsMomentOf (get_or words (length words - 1) []) now
+
+-- the words are these files, and then the moment where the last of two words or more writes one; else the moment is the clock's (this project)
+abbrev pub IsMomentAfter : Option ℕ → List (List ℕ) → List (List ℕ) → ℕ → Type 0
+IsMomentAfter clock words files now = (EndsInMoment words now × (files ≡ take (length words - 1) words))
+    ⊎ (((moment : ℕ) → EndsInMoment words moment → ⊥) × (files ≡ words) × (clock ≡ Some now))
+
+-- the words are these files, one or more and no two of one last name, and the moment that is meant (this project)
+abbrev pub AreFilesGiven : Option ℕ → List (List ℕ) → List (List ℕ) → ℕ → Type 0
+AreFilesGiven clock words files now = (1 ≤ length files) × (are_apart files ≡ true) × IsMomentAfter clock words files now
+
+-- the words are these paths, one or more and no two of one last name (this project)
+abbrev pub ArePathsGiven : List (List ℕ) → List (List ℕ) → Type 0
+ArePathsGiven words paths = (1 ≤ length paths) × (are_apart paths ≡ true) × (paths ≡ words)
+
+-- the words describe what is copied (this project)
+abbrev pub IsCopyGiven : Option ℕ → Words → Copying → Type 0
+IsCopyGiven clock given (copies.Put directory files now) = IsFirstWord given (codes "target-directory") directory.now
+    × AreFilesGiven clock (put_words given) (map (λ file. file.now) files.items) now
+IsCopyGiven clock given (copies.Get folder paths) = IsFirstWord given (codes "output") folder.now
+    × ArePathsGiven (get_words given) (map (λ path. path.now) paths.items)
+
 -- the words describe what several threads do (this project)
 abbrev pub IsWorkGiven : Words → Work → Type 0
 IsWorkGiven given (works.Check checker workers) = IsThreadsGiven (the_word given (codes "WORKERS")) workers
@@ -228,11 +298,16 @@ IsGiven clock given (Migrate old new migration) = (old.now ≡ the_word given (c
 IsGiven clock given (OnVolume volume job) = IsVolumeGiven given volume × IsJobGiven clock given job
 IsGiven clock given (OnTree volume edit) = IsVolumeGiven given volume × IsEditGiven clock given edit
 IsGiven clock given (OnImage volume look) = IsVolumeGiven given volume × IsLookGiven given look
+IsGiven clock given (OnFiles volume copying) = IsVolumeGiven given volume × IsCopyGiven clock given copying
 IsGiven clock given (OnThreads volume work) = IsVolumeGiven given volume × IsWorkGiven given work
 
 -- the command with the words for its arguments asks for this (this project)
 abbrev pub AsksFor : Option ℕ → Verb → Words → Invocation → Type 0
 AsksFor clock verb given invocation = (verb ≡ verb_of invocation) × IsGiven clock given invocation
+
+-- the command with the words for its arguments asks for nothing (this project)
+unfoldable pub AsksForNothing : Option ℕ → Verb → Words → Type 0
+AsksForNothing clock verb given = (invocation : Invocation) → AsksFor clock verb given invocation → ⊥
 
 -- the command of this name with the words for its arguments asks for this (this project)
 abbrev pub NameAsksFor : Option ℕ → List ℕ → Words → Invocation → Type 0

@@ -5,6 +5,8 @@ use Rattle.command_words.specs.declared.parameters.Kind.TheVariants as kinds
 use Rattle.command_words.specs.declared.parameters.Need.{Need}
 use Rattle.command_words.specs.declared.parameters.Need.TheVariants as needs
 use Rattle.command_words.specs.declared.parameters.Parameter.{Parameter}
+use Rattle.command_words.specs.declared.parameters.ValueName.{ValueName}
+use Rattle.command_words.specs.declared.parameters.ValueName.TheVariants as values
 use Rattle.command_words.specs.declared.verbs.Verb.{Verb}
 use Rattle.command_words.specs.declared.verbs.Verb.TheVariants as verbs
 
@@ -39,6 +41,18 @@ moment = (codes "NOW", kinds.Moment, needs.Maybe)
 -- the argument `PATH`, which may be left out (this project)
 abbrev pub maybe_path : Argument
 maybe_path = (codes "PATH", kinds.Text, needs.Maybe)
+
+-- an argument for any word, which may be left out (this project)
+abbrev pub maybe_word : List ℕ → Argument
+maybe_word name = (name, kinds.Text, needs.Maybe)
+
+-- the argument `MORE`, for any number of words (this project)
+abbrev pub more_words : Argument
+more_words = (codes "MORE", kinds.Text, needs.Any)
+
+-- an option with a value: its name, its letter, and what the help calls the value (this project)
+abbrev pub valued : List ℕ → ℕ → ValueName → Argument
+valued name letter value = (name, kinds.Text, needs.Value letter value)
 
 -- an option with a letter: its name, and the letter (this project)
 abbrev pub lettered : List ℕ → ℕ → Argument
@@ -87,7 +101,7 @@ verb_name verbs.Migrate = codes "migrate"
 abbrev pub arguments_of : Verb → List Argument
 arguments_of verbs.Cat = on_volume (number (codes "INO") ∷ [])
 arguments_of verbs.Ls = on_volume (maybe_path ∷ lettered (codes "long") 108 ∷ lettered (codes "recursive") 82 ∷ option (codes "json") ∷ [])
-arguments_of verbs.Get = on_volume (word (codes "PATH") ∷ [])
+arguments_of verbs.Get = on_volume (word (codes "PATH") ∷ more_words ∷ valued (codes "output") 111 values.Folder ∷ [])
 arguments_of verbs.Export = on_volume (maybe_path ∷ [])
 arguments_of verbs.Inode = on_volume (number (codes "INO") ∷ option (codes "json") ∷ [])
 arguments_of verbs.Super = on_volume (option (codes "json") ∷ [])
@@ -98,7 +112,8 @@ arguments_of verbs.Dcheck = of_checker
 arguments_of verbs.Ncheck = of_checker
 arguments_of verbs.Mkfs =
     on_volume (long_number (codes "FSIZE") ∷ number (codes "IBLOCKS") ∷ number (codes "UID") ∷ number (codes "GID") ∷ moment ∷ [])
-arguments_of verbs.Put = on_volume (word (codes "PATH") ∷ word (codes "FILE") ∷ moment ∷ [])
+arguments_of verbs.Put = on_volume (word (codes "PATH") ∷ maybe_word (codes "FILE") ∷ maybe_word (codes "NOW") ∷ more_words
+    ∷ valued (codes "target-directory") 116 values.Directory ∷ [])
 arguments_of verbs.Import = on_volume (maybe_path ∷ moment ∷ [])
 arguments_of verbs.Rm = on_volume (word (codes "PATH") ∷ moment ∷ lettered (codes "recursive") 114 ∷ [])
 arguments_of verbs.Rmdir = on_volume (word (codes "PATH") ∷ moment ∷ [])

@@ -99,11 +99,7 @@ pub(crate) fn moment_in<'a, G: Given<'a>>(given: &G, clock: Option<u32>) -> Resu
 {
     match given.first("NOW") {
         Some(text) => moment_of(text).ok_or(wrong("NOW", text, texts::MOMENT)),
-        None => clock.ok_or(Fault::Wrong(WrongWord {
-            name: "NOW",
-            said: Said::Nothing,
-            wanted: texts::NO_CLOCK,
-        })),
+        None => clock.ok_or(missing("NOW", texts::NO_CLOCK)),
     }
 }
 
@@ -130,8 +126,19 @@ pub(crate) fn scripts_in<'a, G: Given<'a>>(
     Ok(scripts)
 }
 
+/// The fault where there is no word for the argument `name`.
+pub(crate) fn missing<'a>(name: &'a str, wanted: &'a str) -> Fault<'a>
+    ensures { IsWrong result }
+{
+    Fault::Wrong(WrongWord {
+        name,
+        said: Said::Nothing,
+        wanted,
+    })
+}
+
 /// The fault of a word that is no value of the argument `name`.
-fn wrong<'a>(name: &'a str, word: &'a str, wanted: &'a str) -> Fault<'a>
+pub(crate) fn wrong<'a>(name: &'a str, word: &'a str, wanted: &'a str) -> Fault<'a>
     ensures { IsWrong result }
 {
     Fault::Wrong(WrongWord {

@@ -24,6 +24,23 @@ pub enum Work<'a> {
     Play { scripts: Vec<&'a str> },
 }
 
+/// What is copied between files outside a volume and the volume.
+#[derive(Debug, PartialEq, Eq, Drop)]
+pub enum Copying<'a> {
+    /// Put files into a directory of the volume, each under its last name; `now` is the moment of the calls, in
+    /// seconds since the beginning of 1970.
+    Put {
+        directory: &'a str,
+        files: Vec<&'a str>,
+        now: u32,
+    },
+    /// Write files of the volume into a folder, each under its last name.
+    Get {
+        folder: &'a str,
+        paths: Vec<&'a str>,
+    },
+}
+
 /// What the user asks for.
 #[derive(Debug, PartialEq, Eq, Drop)]
 pub enum Invocation<'a> {
@@ -57,6 +74,11 @@ pub enum Invocation<'a> {
     OnTree {
         volume: VolumeFile<'a>,
         edit: Edit<'a>,
+    },
+    /// Copy several files into the volume in a file, or out of it.
+    OnFiles {
+        volume: VolumeFile<'a>,
+        copying: Copying<'a>,
     },
     /// Do something with the volume in a file, by several threads.
     OnThreads {

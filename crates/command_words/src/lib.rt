@@ -6,12 +6,13 @@ pub mod given;
 pub mod invocation;
 pub mod parameters;
 pub mod reading;
+mod several;
 pub mod texts;
 pub mod verbs;
 
 pub use fault::{Fault, Said, WrongWord};
 pub use given::Given;
-pub use invocation::{Invocation, VolumeFile, Work};
-pub use parameters::{Kind, Need, Parameter};
+pub use invocation::{Copying, Invocation, VolumeFile, Work};
+pub use parameters::{Kind, Need, Parameter, ValueName};
 pub use reading::read;
 pub use verbs::{VERBS, Verb};

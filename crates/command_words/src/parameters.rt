@@ -33,8 +33,31 @@ pub enum Need {
     Maybe,
     /// One or more.
     Several,
+    /// Any number.
+    Any,
     /// None: it is an option of this name, and of this letter, if there is one.
     Flag(Option<char>),
+    /// One or none: it is the value of an option of this name and of this letter.
+    Value(char, ValueName),
+}
+
+/// What the help calls the value of an option.
+#[derive(Clone, Copy, Debug, PartialEq, Eq)]
+pub enum ValueName {
+    /// A directory of a volume.
+    Directory,
+    /// A folder outside it.
+    Folder,
+}
+
+impl ValueName {
+    /// The name, as the help shows it.
+    pub fn text(self) -> &'static str {
+        match self {
+            ValueName::Directory => "DIR",
+            ValueName::Folder => "FOLDER",
+        }
+    }
 }
 
 /// An argument of a command.
@@ -179,11 +202,53 @@ const OWNED: Parameter = Parameter {
     help: texts::OWNED,
 };
 
+const FIRST_PUT: Parameter = Parameter {
+    name: "PATH",
+    kind: Kind::Text,
+    need: Need::Once,
+    help: texts::FIRST_PUT,
+};
+
 const FILE: Parameter = Parameter {
     name: "FILE",
     kind: Kind::Text,
-    need: Need::Once,
+    need: Need::Maybe,
     help: texts::FILE,
+};
+
+const PUT_NOW: Parameter = Parameter {
+    name: "NOW",
+    kind: Kind::Text,
+    need: Need::Maybe,
+    help: texts::CALL_NOW,
+};
+
+const MORE_PUT: Parameter = Parameter {
+    name: "MORE",
+    kind: Kind::Text,
+    need: Need::Any,
+    help: texts::MORE_PUT,
+};
+
+const TARGET: Parameter = Parameter {
+    name: "target-directory",
+    kind: Kind::Text,
+    need: Need::Value('t', ValueName::Directory),
+    help: texts::TARGET,
+};
+
+const MORE_GOT: Parameter = Parameter {
+    name: "MORE",
+    kind: Kind::Text,
+    need: Need::Any,
+    help: texts::MORE_GOT,
+};
+
+const OUTPUT: Parameter = Parameter {
+    name: "output",
+    kind: Kind::Text,
+    need: Need::Value('o', ValueName::Folder),
+    help: texts::OUTPUT,
 };
 
 const FROM: Parameter = Parameter {
@@ -298,7 +363,7 @@ pub static CAT_WORDS: [Parameter; 3] = [EDITION, IMAGE, INO];
 pub static LS_WORDS: [Parameter; 6] = [EDITION, IMAGE, LISTED, LONG, ALL_BELOW, JSON];
 
 /// The words of `get`.
-pub static GET_WORDS: [Parameter; 3] = [EDITION, IMAGE, REGULAR];
+pub static GET_WORDS: [Parameter; 5] = [EDITION, IMAGE, REGULAR, MORE_GOT, OUTPUT];
 
 /// The words of a checker.
 pub static CHECKER_WORDS: [Parameter; 3] = [EDITION, IMAGE, WORKERS];
@@ -315,7 +380,7 @@ pub static MKFS_WORDS: [Parameter; 7] = [
 ];
 
 /// The words of `put`.
-pub static PUT_WORDS: [Parameter; 5] = [EDITION, IMAGE, REGULAR, FILE, CALL_NOW];
+pub static PUT_WORDS: [Parameter; 7] = [EDITION, IMAGE, FIRST_PUT, FILE, PUT_NOW, MORE_PUT, TARGET];
 
 /// The words of `rm`.
 pub static RM_WORDS: [Parameter; 5] = [EDITION, IMAGE, NAMED, CALL_NOW, RECURSIVE];

@@ -1,6 +1,6 @@
 //! What the words after a command ask for.
-ghost use Rattle.std.specs.Prelude.{◌≡◌, None, IfOk, IfErr, codes};
-ghost use Rattle.command_words.specs.Asking.{AreLinesGiven, AsksFor, IsFormGiven, IsOneWrong, IsPictureGiven, IsValue, IsVolumeGiven, TellsOf, checker_verb};
+ghost use Rattle.std.specs.Prelude.{◌≡◌, ℕ, None, Option, IfOk, IfErr, codes};
+ghost use Rattle.command_words.specs.Asking.{AreLinesGiven, AsksFor, AsksForNothing, IsFormGiven, IsOneWrong, IsPictureGiven, IsValue, IsVolumeGiven, TellsOf, checker_verb};
 ghost use Rattle.command_words.specs.Verbs.{arguments_of, of_checker};
 ghost use Rattle.command_words.specs.declared.parameters.Kind.TheVariants as kinds;
 ghost use Rattle.command_words.specs.declared.verbs.Verb.TheVariants as verbs;
@@ -10,7 +10,9 @@ use crate::given::{
     Given, edition_in, flag_in, long_in, moment_in, permissions_in, scripts_in, text_in,
     threads_in, word_in,
 };
-use crate::invocation::{Invocation, VolumeFile, Work};
+use crate::invocation::{Copying, Invocation, VolumeFile, Work};
+use crate::several::{PutFiles, file_in, files_in, no_more, paths_in};
+use crate::texts;
 use crate::verbs::Verb;
 use image_commands::{Form, Lines, Listing, Look, Picture};
 use std::alloc::Global;
@@ -20,8 +22,9 @@ use vol_commands::{Job, Migration};
 use vol_volume::NewVolume;
 
 /// Reads the words after a command. `clock` is the moment of the program's clock, in seconds since the beginning of 1970,
-/// if it tells one; a command whose moment was left out means it. Where a word is no value of its argument, or no
-/// moment is given or told, the fault says so.
+/// if it tells one; a command whose moment was left out means it. Where a word is no value of its argument, or a word
+/// is missing or one too many, or no moment is given or told, or two files that are copied have the same last name,
+/// the fault says so.
 pub fn read<'a, G: Given<'a>>(
     alloc: Global,
     verb: Verb,
@@ -29,12 +32,12 @@ pub fn read<'a, G: Given<'a>>(
     clock: Option<u32>,
 ) -> Result<Invocation<'a>, Fault<'a>>
     ensures read { IfOk result (AsksFor clock verb (G.words given.now)) }
-    ensures refused { IfErr result (TellsOf (IsOneWrong clock (G.words given.now) (arguments_of verb))) }
+    ensures refused { IfErr result (TellsOf (AsksForNothing clock verb (G.words given.now))) }
 {
     match verb {
         Verb::Cat => read_cat(given),
         Verb::Ls => read_ls(given),
-        Verb::Get => read_get(given),
+        Verb::Get => read_get(alloc, given),
         Verb::Export => read_export(given),
         Verb::Inode => read_inode(given),
         Verb::Super => read_super(given),
@@ -44,7 +47,7 @@ pub fn read<'a, G: Given<'a>>(
         Verb::Dcheck => read_checker(given, Checker::Entries),
         Verb::Ncheck => read_checker(given, Checker::Names),
         Verb::Mkfs => read_mkfs(given, clock),
-        Verb::Put => read_put(given, clock),
+        Verb::Put => read_put(alloc, given, clock),
         Verb::Import => read_import(given, clock),
         Verb::Rm => read_rm(given, clock),
         Verb::Rmdir => read_rmdir(given, clock),
@@ -100,16 +103,24 @@ fn lines_in<'a, G: Given<'a>>(given: &G) -> Lines
 }
 
 /// Reads the words of `get`.
-fn read_get<'a, G: Given<'a>>(given: &G) -> Result<Invocation<'a>, Fault<'a>>
+fn read_get<'a, G: Given<'a>>(alloc: Global, given: &G) -> Result<Invocation<'a>, Fault<'a>>
     ensures read { IfOk result (AsksFor None verbs.Get (G.words given.now)) }
-    ensures refused { IfErr result (TellsOf (IsOneWrong None (G.words given.now) (arguments_of verbs.Get))) }
+    ensures refused { (clock : Option ℕ) → IfErr result (TellsOf (AsksForNothing clock verbs.Get (G.words given.now))) }
 {
     let volume = volume_in(given)?;
-    let path = text_in(given, "PATH");
-    Ok(Invocation::OnVolume {
-        volume,
-        job: Job::Get { path },
-    })
+    match given.first("output") {
+        Some(folder) => {
+            let paths = paths_in(alloc, given)?;
+            let copying = Copying::Get { folder, paths };
+            Ok(Invocation::OnFiles { volume, copying })
+        }
+        None => {
+            let path = text_in(given, "PATH");
+            no_more(given, texts::WANTS_OUTPUT)?;
+            let job = Job::Get { path };
+            Ok(Invocation::OnVolume { volume, job })
+        }
+    }
 }
 
 /// Reads the words of `export`.
@@ -239,18 +250,34 @@ fn read_migrate<'a, G: Given<'a>>(
 }
 
 /// Reads the words of `put`.
-fn read_put<'a, G: Given<'a>>(given: &G, clock: Option<u32>) -> Result<Invocation<'a>, Fault<'a>>
+fn read_put<'a, G: Given<'a>>(
+    alloc: Global,
+    given: &G,
+    clock: Option<u32>,
+) -> Result<Invocation<'a>, Fault<'a>>
     ensures read { IfOk result (AsksFor clock verbs.Put (G.words given.now)) }
-    ensures refused { IfErr result (TellsOf (IsOneWrong clock (G.words given.now) (arguments_of verbs.Put))) }
+    ensures refused { IfErr result (TellsOf (AsksForNothing clock verbs.Put (G.words given.now))) }
 {
     let volume = volume_in(given)?;
-    let path = text_in(given, "PATH");
-    let file = text_in(given, "FILE");
-    let now = moment_in(given, clock)?;
-    Ok(Invocation::OnVolume {
-        volume,
-        job: Job::Put { path, file, now },
-    })
+    match given.first("target-directory") {
+        Some(directory) => {
+            let PutFiles { files, now } = files_in(alloc, given, clock)?;
+            let copying = Copying::Put {
+                directory,
+                files,
+                now,
+            };
+            Ok(Invocation::OnFiles { volume, copying })
+        }
+        None => {
+            let path = text_in(given, "PATH");
+            let file = file_in(given)?;
+            no_more(given, texts::WANTS_TARGET)?;
+            let now = moment_in(given, clock)?;
+            let job = Job::Put { path, file, now };
+            Ok(Invocation::OnVolume { volume, job })
+        }
+    }
 }
 
 /// Reads the words of `import`.

@@ -122,26 +122,44 @@ pub const LONG_LINES: &str = "Tell what each i-node says";
 
 pub const ALL_BELOW: &str = "List the directories below too";
 
-pub const GET_ABOUT: &str = "Prints the bytes of a file of a volume, found by its path.";
+pub const GET_ABOUT: &str =
+    "Prints a file of a volume, found by its path, or writes several into a folder.";
+
+pub const GET_USAGE: &str = "\
+unixvol get [OPTIONS] <EDITION> <IMAGE> <PATH>
+       unixvol get [OPTIONS] <EDITION> <IMAGE> -o <FOLDER> <PATH>...";
 
 pub const GET_MORE: &str = "\
 Example:
   unixvol get 7 disk.img /etc/passwd > passwd
+  unixvol get 7 disk.img -o out /etc/passwd /etc/group
 
 It prints the file to standard output, byte for byte, with zeros where a block is missing.
+
+With -o, each file is written into FOLDER, which must be there, under the last name of its path; no two may have the
+same. Nothing is written before all files were read from the volume. A file that is there is replaced without asking:
+a new one is written beside it and then takes its place, so each is written whole or not at all.
 
 A path starts at the root, with or without a slash. Repeated slashes count as one, those at its end as none,
 and each name is cut to 14 bytes. The volume must be sound: its twelve rules are asked first.
 
 Status:
-  0  the file was printed
+  0  the file was printed, or all files were written
   1  `unixvol: unsound, rule N`: the volume breaks this rule, and none before it; `unixvol check` says what breaks it
      `unixvol: 2 NoEntry`: there is no such name
      `unixvol: 20 NotDirectory`: what PATH leads through is no directory
      `unixvol: 21 IsDirectory`, `unixvol: 102 NotRegular`: it is a directory, or a special file
+     With -o, each of these lines but the first ends with the path, as in `unixvol: 2 NoEntry: /etc/group`
   2  the command line can't be read
-  3  `unixvol: cannot read IMAGE`, or `unixvol: cannot write -`: standard output failed
+  3  `unixvol: cannot read IMAGE`, or `unixvol: cannot write -`: standard output failed; with -o,
+     `unixvol: cannot write FILE`: this file of FOLDER can't be written, and those before it were
   4  `unixvol: 12 NoMemory`";
+
+pub const MORE_GOT: &str = "With -o, further files";
+
+pub const OUTPUT: &str = "Write the files into this folder, each under its last name";
+
+pub const WANTS_OUTPUT: &str = "several files are written into a folder, by -o FOLDER";
 
 pub const EXPORT_ABOUT: &str =
     "Writes all that is below a directory as a tar archive, of an image that isn't sound too.";
@@ -247,11 +265,16 @@ Status:
   3  `unixvol: cannot read IMAGE`, or `unixvol: cannot write -`: standard output failed
   4  `unixvol: 12 NoMemory`";
 
-pub const PUT_ABOUT: &str = "Puts a file into a volume.";
+pub const PUT_ABOUT: &str = "Puts a file into a volume, or several into a directory of it.";
+
+pub const PUT_USAGE: &str = "\
+unixvol put [OPTIONS] <EDITION> <IMAGE> <PATH> <FILE> [NOW]
+       unixvol put [OPTIONS] <EDITION> <IMAGE> -t <DIR> <FILE>... [NOW]";
 
 pub const PUT_MORE: &str = "\
 Example:
   unixvol put 7 disk.img /etc/motd motd 173750400
+  unixvol put 7 disk.img -t /usr/src a.c b.c c.c
 
 A name that is missing is made, with permissions 0644, of user 0 and group 0; a file that is there is made
 empty first, and keeps its i-number, links and permissions. PATH is the one in the volume, and comes before
@@ -259,19 +282,39 @@ FILE, the one outside it. IMAGE is written only where all went well: a new file 
 takes its place, with its permissions. Where IMAGE is a device, the bytes are written into it; it can't be a
 pipe or a terminal.
 
+With -t, each file is put into DIR, a directory of the volume, under its last name; no two may have the same, and a
+last name above 14 bytes is refused and never cut. A file that is there gets the new bytes, as above. The image is
+saved once: with all files or with none. The last of two words or more is NOW where it is a number or a date; a file
+of such a name is written with a slash, as ./123.
+
 A path starts at the root, with or without a slash. Repeated slashes count as one, those at its end as none,
 and each name is cut to 14 bytes. The volume must be sound: its twelve rules are asked first.
 
 Status:
-  0  the file was put, and the volume saved
+  0  the file was put, or all files were, and the volume saved
   1  `unixvol: unsound, rule N`: the volume breaks this rule, and none before it; `unixvol check` says what breaks it
      `unixvol: 2 NoEntry`, `unixvol: 20 NotDirectory`: PATH doesn't lead to a directory and a name in it
      `unixvol: 21 IsDirectory`, `unixvol: 102 NotRegular`: it is a directory, or a special file
      `unixvol: 27 TooBig`: the edition has no file, or no directory, of that size
      `unixvol: 28 NoSpace`, `unixvol: 103 NoInode`: too few blocks, or no i-node, are free
+     With -t, each of these lines but the first ends with the path in the volume, as in
+     `unixvol: 28 NoSpace: /src/a.c`; and `unixvol: PATH: WHY`: no file can have this name
   2  the command line can't be read
   3  `unixvol: cannot read IMAGE`, `unixvol: cannot read FILE`, `unixvol: cannot write IMAGE`
   4  `unixvol: 12 NoMemory`";
+
+pub const FIRST_PUT: &str = "The file's path in the volume; with -t, the first file";
+
+pub const MORE_PUT: &str = "With -t, further files, and then the moment";
+
+pub const TARGET: &str =
+    "Put the files into this directory of the volume, each under its last name";
+
+pub const WANTS_TARGET: &str = "several files are put into a directory, by -t DIR";
+
+pub const NO_FILE: &str = "a file is missing";
+
+pub const SAME_NAME: &str = "two files have this last name, and one would replace the other";
 
 pub const IMPORT_ABOUT: &str = "Makes the files and directories of a tar archive in a volume.";
 
@@ -647,7 +690,8 @@ pub const NAMED: &str = "The path of the file's name in the volume";
 
 pub const NEW_NAME: &str = "The path of the new name in the volume";
 
-pub const FILE: &str = "The file whose bytes are put into the volume";
+pub const FILE: &str =
+    "The file whose bytes are put into the volume; only with -t may it be left out";
 
 pub const CALL_NOW: &str =
     "The moment of the change: seconds since 1970, or a date as 2026-11-23T12:00:00Z; left out, now";

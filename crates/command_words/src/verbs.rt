@@ -135,6 +135,15 @@ impl Verb {
         }
     }
 
+    /// How the command is called, where there is more than one form of it.
+    pub fn usage(self) -> Option<&'static str> {
+        match self {
+            Verb::Get => Some(texts::GET_USAGE),
+            Verb::Put => Some(texts::PUT_USAGE),
+            _ => None,
+        }
+    }
+
     /// What the command does, in a line of the help.
     pub fn about(self) -> &'static str {
         match self {

@@ -1,6 +1,7 @@
 -- What the import of an archive comes to, by what making its members came to.
-use Rattle.std.proofs.Common.{◌≡◌, ◌⊎◌, ℕ, List, None, Result, IsSome, true, true≢false, inl, inr, sym, subst, ◌∙◌, arith}
-use Rattle.vol_import.specs.Making.{IsReason}
+use Rattle.std.proofs.Common.{◌≡◌, ◌⊎◌, ℕ, List, [], None, Some, Ok, Err, IfOk, IfErr, Result, IsSome, Option, is_some, true, false, true≢false, inl, inr, refl, sym, subst, ◌∙◌, arith}
+use Rattle.std.specs.Global.{Vec}
+use Rattle.vol_import.specs.Making.{Imports, IsReason}
 use Rattle.vol_dir.specs.declared.refusal.Refusal.{Refusal}
 use Rattle.vol_dir.specs.declared.refusal.Refusal.TheVariants as refusals
 use Rattle.vol_layout.specs.declared.edition.Edition.{Edition}
@@ -26,8 +27,13 @@ reason_ruled edition image wanted (faults.Member path cause) reason = tt
 reason_ruled edition image wanted (faults.Refused refusal call) reason = tt
 reason_ruled edition image wanted faults.NoMemory reason = tt
 
+pub outcome_ruled : (edition : Edition) (image : List ℕ) (wanted : Result (List Call) ImportFault) (outcome : Result (Vec ℕ) ImportFault)
+    → IfErr outcome (IsReason edition image wanted) → IfErr outcome IsRuled
+outcome_ruled edition image wanted (Ok bytes) reason = tt
+outcome_ruled edition image wanted (Err fault) reason = reason_ruled edition image wanted fault reason
+
 -- a refusal has no status 0
-refusal_fails : (refusal : Refusal) → fault_status (commands.Refused refusal) ≡ 0 → ⊥
+pub refusal_fails : (refusal : Refusal) → fault_status (commands.Refused refusal) ≡ 0 → ⊥
 refusal_fails refusals.NotOwner is = omega (arith, is)
 refusal_fails refusals.NoEntry is = omega (arith, is)
 refusal_fails refusals.NoMemory is = omega (arith, is)
@@ -73,7 +79,7 @@ told_reason edition image wanted fault told reason (inl is) = subst (IsReason ed
 told_reason edition image wanted fault told reason (inr is) = subst (IsReason edition image wanted) (sym is) (no_memory edition image wanted)
 
 -- the answer where an archive isn't imported
-pub not_imported : (edition : Edition) (image : List ℕ) (wanted : Result (List Call) ImportFault) (said : List ℕ → Type 0) (fault : ImportFault) (answer : Answer)
+not_imported : (edition : Edition) (image : List ℕ) (wanted : Result (List Call) ImportFault) (said : List ℕ → Type 0) (fault : ImportFault) (answer : Answer)
     → IsReason edition image wanted fault → answer.image ≡ None → TellsFault fault said answer.status
     → ImportsArchive edition image wanted said answer
 not_imported edition image wanted said fault answer reason none tells = record {
@@ -81,3 +87,17 @@ not_imported edition image wanted said fault answer reason none tells = record {
   made = rw none tt;
   refused = λ _. (tells.0, told_reason edition image wanted fault tells.0 reason tells.1, tells.2, tells.3);
 }
+
+-- the answer to an outcome is the bytes, or the status and the line of a reason
+pub concluded : (edition : Edition) (image : List ℕ) (wanted : Result (List Call) ImportFault) (said : List ℕ → Type 0) (outcome : Result (Vec ℕ) ImportFault)
+    (answer : Answer) → IfOk outcome (λ bytes. Imports edition image wanted bytes.items) → IfErr outcome (IsReason edition image wanted)
+    → IfOk outcome (λ bytes. (answer.image ≡ Some bytes) × (answer.status ≡ 0) × said [])
+    → IfErr outcome (λ fault. (answer.image ≡ None) × TellsFault fault said answer.status)
+    → ImportsArchive edition image wanted said answer
+concluded edition image wanted said (Ok bytes) answer made reason done told = record {
+  saved = (λ e. subst IsSome (sym done.0) refl, λ some. done.1);
+  made = rw done.0 (made, done.2);
+  refused = λ none. absurd (true≢false (subst (λ (image : Option (Vec ℕ)). is_some image ≡ false) done.0 none));
+}
+concluded edition image wanted said (Err fault) answer made reason done told =
+    not_imported edition image wanted said fault answer reason told.0 told.1

@@ -62,9 +62,13 @@ path_of (calls.Chown cred now path uid gid) = path
 abbrev pub unended : List ℕ → List ℕ
 unended line = take (length line - 1) line
 
+-- the line of a refusal, with a path (this project)
+abbrev pub path_line : Refusal → List ℕ → List ℕ
+path_line refusal path = unended (line_of_refusal refusal) ++ codes ": " ++ escaped path ++ codes "\n"
+
 -- the line of a refused call: that of the refusal, with the call's path (this project)
 abbrev pub call_line : Refusal → Call → List ℕ
-call_line refusal call = unended (line_of_refusal refusal) ++ codes ": " ++ escaped (path_of call) ++ codes "\n"
+call_line refusal call = path_line refusal (path_of call)
 
 -- the status that the program ends with where an archive can't be read: 1, or 4 for memory (this project)
 abbrev pub archive_status : ArchiveFault → ℕ

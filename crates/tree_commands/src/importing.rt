@@ -1,5 +1,5 @@
 //! The command that makes the members of an archive.
-ghost use Rattle.std.specs.Prelude.{◌≡◌};
+ghost use Rattle.std.specs.Prelude.{◌≡◌, IfErr, IfOk, None, Some, []};
 ghost use Rattle.std.specs.Io.KnownBytes.{Keeps};
 ghost use Rattle.vol_volume.specs.Volume.{reads_as};
 ghost use Rattle.vol_import.specs.Making.{calls_to_make};
@@ -38,7 +38,23 @@ pub fn import_archive<O: Sink, E: Sink>(
     ensures unprinted { Keeps (O.contents _output.old) (O.contents _output.new) }
     ensures unused { O.failed _output.new ≡ O.failed _output.old }
 {
-    match import(alloc, edition, image, archive, path.as_bytes(), now) {
+    let outcome = import(alloc, edition, image, archive, path.as_bytes(), now);
+    conclude(alloc, outcome, errors)
+}
+
+/// The answer where all members were made, whose bytes are to be saved, or where there was a fault, which is told on `errors`.
+pub(crate) fn conclude<E: Sink>(
+    alloc: Global,
+    outcome: Result<Vec<u8>, ImportFault>,
+    errors: &mut E,
+) -> Answer
+    requires { IfErr outcome IsRuled }
+    ensures made { IfOk outcome (λ bytes. (result.image ≡ Some bytes) × (result.status ≡ 0)
+        × Gets (E.failed errors.new) (E.contents errors.old) (E.contents errors.new) []) }
+    ensures fault { IfErr outcome (λ fault. (result.image ≡ None)
+        × TellsFault fault (Gets (E.failed errors.new) (E.contents errors.old) (E.contents errors.new)) result.status) }
+{
+    match outcome {
         Ok(bytes) => Answer {
             status: DONE,
             image: Some(bytes),

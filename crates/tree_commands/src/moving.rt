@@ -97,7 +97,7 @@ fn target_of(alloc: Global, volume: &Volume, from: &[u8], to: &[u8]) -> Result<B
 }
 
 /// The path of a name in a directory.
-fn name_in(alloc: Global, directory: &[u8], name: &[u8]) -> Result<Bytes, AllocError>
+pub(crate) fn name_in(alloc: Global, directory: &[u8], name: &[u8]) -> Result<Bytes, AllocError>
     ensures { IfOk result (λ path. path ≡ below directory.now name.now) }
 {
     let mut path = Vec::from_slice(alloc, directory)?;

@@ -1,7 +1,7 @@
 //! What is told of an archive that isn't imported.
 ghost use Rattle.std.specs.Prelude.{◌≡◌, ◌++◌, IfOk, OnOk};
 ghost use Rattle.vol_commands.specs.Faults.{fault_line, IsRuled as IsRuledFault};
-ghost use Rattle.tree_commands.specs.Telling.{header_text, line_at, archive_line, cause_text, member_line, path_of, unended, call_line, archive_status, import_status, import_line, IsRuled};
+ghost use Rattle.tree_commands.specs.Telling.{header_text, line_at, archive_line, cause_text, member_line, path_line, path_of, unended, call_line, archive_status, import_status, import_line, IsRuled};
 
 use escaped_text::push_escaped;
 use std::alloc::{AllocError, Global};
@@ -51,7 +51,7 @@ pub(crate) fn line_of(alloc: Global, fault: &ImportFault) -> Result<Vec<u8>, All
 }
 
 /// The line of a fault that other commands have too.
-fn line_of_fault(alloc: Global, fault: Fault) -> Result<Vec<u8>, AllocError>
+pub(crate) fn line_of_fault(alloc: Global, fault: Fault) -> Result<Vec<u8>, AllocError>
     requires { IsRuledFault fault }
     ensures { IfOk result (λ line. line.items ≡ fault_line fault) }
 {
@@ -124,9 +124,16 @@ fn cause_text(cause: MemberFault) -> &'static [u8]
 fn call_line(alloc: Global, refusal: Refusal, call: &Call) -> Result<Vec<u8>, AllocError>
     ensures { IfOk result (λ line. line.items ≡ call_line refusal call.now) }
 {
+    path_line(alloc, refusal, path_of(call).as_slice())
+}
+
+/// The line of a refusal, with a path.
+pub(crate) fn path_line(alloc: Global, refusal: Refusal, path: &[u8]) -> Result<Vec<u8>, AllocError>
+    ensures { IfOk result (λ line. line.items ≡ path_line refusal path.now) }
+{
     let mut line = Vec::from_slice(alloc, unended(Fault::Refused(refusal).line().as_bytes()))?;
     line.extend_from_slice(b": ")?;
-    push_escaped(&mut line, path_of(call).as_slice())?;
+    push_escaped(&mut line, path)?;
     line.push(b'\n')?;
     Ok(line)
 }

@@ -4,6 +4,8 @@
 #[cfg(test)]
 mod archives;
 #[cfg(test)]
+mod copies;
+#[cfg(test)]
 mod directories;
 #[cfg(test)]
 mod fixtures;

@@ -1,6 +1,7 @@
 pub mod Asked
 pub mod Begun
 pub mod Checked
+pub mod Copied
 pub mod Looked
 pub mod MadeVolumes
 pub mod Migrated

@@ -1,3 +1,4 @@
+pub mod Copying
 pub mod Opening
 pub mod Running
 pub mod Saving

@@ -204,10 +204,11 @@ RunsEdit streams files input edition edit status =
     ⊎ ((image : List ℕ) × (stamp : Stamp) × (bytes : List ℕ) × (answer : Answer) × files.opened image stamp × IsHeardFor input.given edit bytes
     × Edits edition image bytes streams answer edit × EndsSaved (λ saved. files.taken saved × files.stood stamp) answer status))
 
--- what is asked for is a plain command: no look at an image, no change by several calls, nothing for several threads (this project)
+-- what is asked for is a plain command: no look at an image, no change by several calls, no copies of several files, nothing for several threads (this project)
 abbrev pub IsPlainCommand : Invocation → Type 0
 IsPlainCommand (invocations.OnImage volume look) = ⊥
 IsPlainCommand (invocations.OnTree volume edit) = ⊥
+IsPlainCommand (invocations.OnFiles volume copying) = ⊥
 IsPlainCommand (invocations.OnThreads volume work) = ⊥
 IsPlainCommand _ = Unit {0}
 
@@ -219,6 +220,7 @@ Runs streams files status (invocations.Migrate old new migration) = RunsMigrate 
 Runs streams files status (invocations.OnVolume volume job) = RunsJob streams files volume.edition job status
 Runs streams files status (invocations.OnImage volume look) = ⊥
 Runs streams files status (invocations.OnTree volume edit) = ⊥
+Runs streams files status (invocations.OnFiles volume copying) = ⊥
 Runs streams files status (invocations.OnThreads volume work) = ⊥
 
 -- what an error of the command line comes to: the status by its kind, which is 3 only where standard output failed, and no line of a command (this project)

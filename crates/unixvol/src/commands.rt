@@ -45,7 +45,7 @@ pub fn run_to_end<R: ImageFiles + Clock + Eprint + AllocGlobal, O: Write + Drop,
     let mut errors = heard_writer(errors);
     let subject = Subject::of_read(&read);
     let status = run(host, &mut output, &mut errors, read);
-    explain_line(host, errors.last_line(), output.error(), subject, &[]);
+    explain_line(host, errors.last_line(), output.error(), subject);
     ExitCode::from(finish(host, output.into_inner().into_inner(), status))
 }
 
@@ -110,9 +110,10 @@ fn carry_out<R: ImageFiles + Clock + Eprint + AllocGlobal, O: Sink, E: Sink>(
             migration,
         } => run_migrate(host, output, errors, old, new, migration),
         Invocation::OnVolume { volume, job } => run_job(host, output, errors, volume, job),
-        Invocation::OnImage { .. } | Invocation::OnTree { .. } | Invocation::OnThreads { .. } => {
-            unreachable!()
-        }
+        Invocation::OnImage { .. }
+        | Invocation::OnTree { .. }
+        | Invocation::OnFiles { .. }
+        | Invocation::OnThreads { .. } => unreachable!(),
     }
 }
 

@@ -42,7 +42,7 @@ pub fn run_to_end<
     let mut errors = heard_writer(errors);
     let status = run(host, input, &mut output, &mut errors, volume, edit);
     let subject = Subject::of_edit(volume.image, edit);
-    explain_line(host, errors.last_line(), output.error(), Some(subject), &[]);
+    explain_line(host, errors.last_line(), output.error(), Some(subject));
     ExitCode::from(finish(host, output.into_inner().into_inner(), status))
 }
 

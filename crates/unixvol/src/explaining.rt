@@ -93,7 +93,7 @@ fn tell_why<R: Eprint + AllocGlobal>(host: &Host<'_, R>, file: Named<'_>, why: i
     }
 }
 
-/// Prints the second line of the line that a command printed last, if it is wanted; `scripts` are the files that it plays. It is that of standard output, where this answered
+/// Prints the second line of the line that a command printed last, if it is wanted: that of standard output, where this answered
 /// an error, or else what the line means. A line that says in words what is wrong has none, and where there is no memory for it,
 /// it is left out.
 pub fn explain_line<R: Eprint + AllocGlobal>(
@@ -101,7 +101,6 @@ pub fn explain_line<R: Eprint + AllocGlobal>(
     line: &[u8],
     output: Option<io::Error>,
     subject: Option<Subject<'_>>,
-    scripts: &[&str],
 ) {
     if !host.explains {
         return;
@@ -112,7 +111,7 @@ pub fn explain_line<R: Eprint + AllocGlobal>(
     let Some(subject) = subject else {
         return;
     };
-    if let Ok(Some(meaning)) = meaning_of(host.rt.alloc(), line, subject, scripts) {
+    if let Ok(Some(meaning)) = meaning_of(host.rt.alloc(), line, subject) {
         let _ = eprintln!(host.rt; "unixvol: {meaning}");
     }
 }
@@ -133,7 +132,7 @@ pub fn explain_cat<R: Eprint + AllocGlobal>(
             // Where standard error can't be written either, the status tells.
             let line = fault.line();
             let _ = eprint!(host.rt; "{line}");
-            explain_line(host, line.trim_end().as_bytes(), None, Some(subject), &[]);
+            explain_line(host, line.trim_end().as_bytes(), None, Some(subject));
             fault.status()
         }
     }

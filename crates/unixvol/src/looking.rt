@@ -50,7 +50,7 @@ pub fn run_to_end<R: ImageFiles + Eprint + AllocGlobal, O: Write + Drop, E: Writ
     let mut errors = heard_writer(errors);
     let status = run(host, screen, &mut output, &mut errors, volume, look);
     let subject = Subject::of_look(volume.image, look);
-    explain_line(host, errors.last_line(), output.error(), Some(subject), &[]);
+    explain_line(host, errors.last_line(), output.error(), Some(subject));
     ExitCode::from(finish_printed(host, output.into_inner().into_inner(), status))
 }
 

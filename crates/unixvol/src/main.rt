@@ -2,6 +2,7 @@
 #![tactic(auto)]
 
 mod commands;
+mod copying;
 mod editing;
 mod explaining;
 mod heard;
@@ -24,8 +25,9 @@ use std::process::ExitCode;
 use std::rt::Clock;
 use std::time::{SystemTime, UNIX_EPOCH};
 
-/// Reads the words of the command line, and goes on in one of four functions: only what several threads do may wait, what looks at an
-/// image may print something and fail, and only what makes several calls reads standard input.
+/// Reads the words of the command line, and goes on in one of five functions: only what several threads do may wait, what looks at an
+/// image may print something and fail, only what makes several calls reads standard input, and only what copies files of a volume to the
+/// host saves several files.
 fn main(rt: HostRuntime) -> ExitCode {
     let words = match words::words(&rt) {
         Ok(words) => words,
@@ -49,6 +51,9 @@ fn main(rt: HostRuntime) -> ExitCode {
         }
         Ok(Invocation::OnTree { volume, edit }) => {
             editing::run_to_end(&host, rt.stdin(), rt.stdout(), rt.stderr(), volume, edit)
+        }
+        Ok(Invocation::OnFiles { volume, copying }) => {
+            copying::run_to_end(&host, rt.stdout(), rt.stderr(), volume, copying)
         }
         read => commands::run_to_end(&host, rt.stdout(), rt.stderr(), read),
     }

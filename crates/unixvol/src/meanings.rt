@@ -6,7 +6,7 @@ use escaped_text::push_escaped;
 use std::alloc::{AllocError, Global};
 use vol_findings::Rule;
 
-/// The rules of soundness.
+/// What an image lacks that breaks the rules: all of them, in the order of their numbers.
 static RULES: [Rule; 12] = [
     Rule::Whole,
     Rule::Bounded,
@@ -22,13 +22,12 @@ static RULES: [Rule; 12] = [
     Rule::Links,
 ];
 
-/// What a command's line on standard error means, and what it is about; `scripts` are the files that it plays. `None` of a line that
-/// says in words what is wrong, as those of `export` and `import` do of entries and members.
+/// What a command's line on standard error means, and what it is about. `None` of a line that says in words what is wrong, as
+/// those of `export` and `import` do of entries and members.
 pub fn meaning_of(
     alloc: Global,
     line: &[u8],
     subject: Subject<'_>,
-    scripts: &[&str],
 ) -> Result<Option<String>, AllocError> {
     let Some(said) = said_in(line) else {
         return Ok(None);
@@ -37,11 +36,13 @@ pub fn meaning_of(
         return rule_meaning(alloc, number, subject);
     }
     if let Some(place) = said.strip_prefix("script ") {
-        return script_meaning(alloc, place, scripts);
+        return script_meaning(alloc, place, subject);
     }
     match said.split_once(": ") {
-        // The path of a call has a slash, and no reason in words has one.
-        Some((refusal, path)) if path.contains('/') => member_meaning(alloc, refusal, subject),
+        // The path of a call has a slash, and no reason in words has one; the lines of `get` have no such reasons.
+        Some((refusal, path)) if path.contains('/') || subject.verb == Verb::Get => {
+            named_meaning(alloc, refusal, subject)
+        }
         _ => refusal_meaning(alloc, said, subject),
     }
 }
@@ -80,15 +81,16 @@ fn rule_meaning(
 fn script_meaning(
     alloc: Global,
     place: &str,
-    scripts: &[&str],
+    subject: Subject<'_>,
 ) -> Result<Option<String>, AllocError> {
-    let Some((number, line)) = place.split_once(" line ") else {
+    let Some((script, line)) = place.split_once(" line ") else {
         return Ok(None);
     };
-    let Some(index) = index_of(number) else {
-        return Ok(None);
+    let script = match subject.about {
+        About::Scripts(scripts) => script_at(scripts, script),
+        _ => None,
     };
-    let Some(script) = scripts.get(index) else {
+    let Some(script) = script else {
         return Ok(None);
     };
     let script = shown(alloc, script)?;
@@ -98,19 +100,24 @@ fn script_meaning(
     Ok(Some(text))
 }
 
-/// The index of a script by its number, of which the first is 1.
-fn index_of(number: &str) -> Option<usize> {
-    number.parse::<usize>().ok()?.checked_sub(1)
+/// The script of a number, of which the first is 1.
+fn script_at<'a>(scripts: &'a [&'a str], number: &str) -> Option<&'a str> {
+    let number = number.parse::<usize>().ok()?;
+    scripts.get(number.checked_sub(1)?).copied()
 }
 
-/// What a refusal of a member means, which the line names itself.
-fn member_meaning(
+/// What a refusal means that is about a member or a file, which the line names itself.
+fn named_meaning(
     alloc: Global,
     refusal: &str,
     subject: Subject<'_>,
 ) -> Result<Option<String>, AllocError> {
+    let named = match subject.verb {
+        Verb::Import => "this member",
+        _ => "this file",
+    };
     match words_of(refusal, subject.verb) {
-        Some(words) => Ok(Some(format!(in alloc; "this member: {words}")?)),
+        Some(words) => Ok(Some(format!(in alloc; "{named}: {words}")?)),
         None => Ok(None),
     }
 }
@@ -135,7 +142,7 @@ fn refusal_meaning(
 /// What a command does its work on, as the second line names it.
 fn about_in(alloc: Global, subject: Subject<'_>) -> Result<String, AllocError> {
     match subject.about {
-        About::Image => shown(alloc, subject.image),
+        About::Image | About::Scripts(_) => shown(alloc, subject.image),
         About::Path("") => shown(alloc, "/"),
         About::Path(path) => shown(alloc, path),
         About::Names { from, to } => {

@@ -12,8 +12,8 @@ use std::rt::Clock;
 use vol_commands::status::BAD_FILE;
 use vol_commands::{Answer, Made};
 
-/// What is told of a file that holds the volume which is migrated.
-const OLD_VOLUME: &str = "it holds the old volume, which is kept";
+/// What is told of a file that holds the volume out of which another file is made.
+const OLD_VOLUME: &str = "it holds the volume that was read, which is kept";
 
 /// Saves what a command made in the file `image`, if it made anything and the file still has the stamp `read`, and
 /// answers the status to end with.
@@ -75,9 +75,7 @@ pub fn save_made<R: ImageFiles + Clock + Eprint + AllocGlobal>(
     save(host, image, None, Content::Volume(volume), made.status)
 }
 
-/// Saves what `migrate` made in the file `path`, if it made anything, and answers the status to end with. The file with
-/// the stamp `old`, out of which it was made, isn't replaced, whatever its path. A regular file that is there is locked
-/// meanwhile, if it can be opened.
+/// Saves what `migrate` made in the file `path`, if it made anything, as [`save_new`] does, and answers the status to end with.
 pub fn save_migrated<R: ImageFiles + Clock + Eprint + AllocGlobal>(
     host: &Host<'_, R>,
     path: &str,
@@ -86,9 +84,24 @@ pub fn save_migrated<R: ImageFiles + Clock + Eprint + AllocGlobal>(
 ) -> u8
     ensures { EndsSaved (IsTaken R.File.contents) answer.now result }
 {
-    let Some(bytes) = &answer.image else {
-        return answer.status;
-    };
+    match &answer.image {
+        Some(bytes) => save_new(host, path, old, bytes, answer.status),
+        None => answer.status,
+    }
+}
+
+/// Saves bytes in the file `path`, and answers the status to end with: `status`, where they are saved. The file with the stamp `old`,
+/// out of which they were made, isn't replaced, whatever its path. A regular file that is there is locked meanwhile, if it can be
+/// opened.
+pub fn save_new<R: ImageFiles + Clock + Eprint + AllocGlobal>(
+    host: &Host<'_, R>,
+    path: &str,
+    old: Stamp,
+    bytes: &[u8],
+    status: u8,
+) -> u8
+    ensures { ((result ≡ status) × IsTaken R.File.contents bytes.now) ⊎ IsStatusOfFileOrMemory result }
+{
     if stands_at(host.rt, path, old) {
         return explain_unwritten(host, Named::File(path), io::Error::other(OLD_VOLUME));
     }
@@ -96,7 +109,7 @@ pub fn save_migrated<R: ImageFiles + Clock + Eprint + AllocGlobal>(
         Ok(locked) => locked,
         Err(status) => return status,
     };
-    save(host, path, None, Content::Bytes(bytes), answer.status)
+    save(host, path, None, Content::Bytes(bytes), status)
 }
 
 /// Whether the file of a stamp stands at `path`, or at the end of the links that begin there.

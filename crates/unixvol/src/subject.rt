@@ -1,6 +1,6 @@
 //! What a command is about.
 
-use command_line::Invocation;
+use command_line::{Copying, Invocation, Work};
 use command_words::Verb;
 use image_commands::Look;
 use tree_commands::Edit;
@@ -29,6 +29,8 @@ pub enum About<'a> {
     Names { from: &'a str, to: &'a str },
     /// An i-node by its number.
     Inode(u16),
+    /// Files that hold scripts.
+    Scripts(&'a [&'a str]),
 }
 
 impl<'a> Subject<'a> {
@@ -109,22 +111,22 @@ impl<'a> Subject<'a> {
         Subject { verb, image, about }
     }
 
-    /// A checker of the image in a file is about this.
-    pub fn of_check(image: &'a str, checker: Checker) -> Subject<'a> {
-        Subject {
-            verb: verb_of(checker),
-            image,
-            about: About::Image,
-        }
+    /// The copying of several files is about this; a line that is about one of them names it itself.
+    pub fn of_copying(image: &'a str, copying: &Copying<'a>) -> Subject<'a> {
+        let (verb, about) = match copying {
+            Copying::Put { directory, .. } => (Verb::Put, About::Path(directory)),
+            Copying::Get { .. } => (Verb::Get, About::Image),
+        };
+        Subject { verb, image, about }
     }
 
-    /// Scripts that are played on the volume in a file are about this.
-    pub fn of_play(image: &'a str) -> Subject<'a> {
-        Subject {
-            verb: Verb::Play,
-            image,
-            about: About::Image,
-        }
+    /// What several threads do with the volume in a file is about this.
+    pub fn of_work(image: &'a str, work: &'a Work<'a>) -> Subject<'a> {
+        let (verb, about) = match work {
+            Work::Check { checker, .. } => (verb_of(*checker), About::Image),
+            Work::Play { scripts } => (Verb::Play, About::Scripts(scripts)),
+        };
+        Subject { verb, image, about }
     }
 }
 

@@ -16,7 +16,7 @@ use crate::subject::Subject;
 use command_line::{VolumeFile, Work};
 use pdp_words::Sink;
 use std::fs::Files;
-use std::io::{self, Write};
+use std::io::Write;
 use std::process::ExitCode;
 use std::rt::Clock;
 use std::sync::Wait;
@@ -39,34 +39,9 @@ pub fn run_to_end<
     let mut output = noted_writer(output);
     let mut errors = heard_writer(errors);
     let status = run(host, &mut output, &mut errors, volume, &work);
-    explain_work(
-        host,
-        errors.last_line(),
-        output.error(),
-        volume.image,
-        &work,
-    );
+    let subject = Subject::of_work(volume.image, &work);
+    explain_line(host, errors.last_line(), output.error(), Some(subject));
     ExitCode::from(finish_printed(host, output.into_inner().into_inner(), status))
-}
-
-/// Prints the second line of the line that was printed last, if it is wanted.
-fn explain_work<R: Eprint + AllocGlobal>(
-    host: &Host<'_, R>,
-    line: &[u8],
-    output: Option<io::Error>,
-    image: &str,
-    work: &Work<'_>,
-) {
-    match work {
-        Work::Check { checker, .. } => {
-            let subject = Subject::of_check(image, *checker);
-            explain_line(host, line, output, Some(subject), &[]);
-        }
-        Work::Play { scripts } => {
-            let subject = Subject::of_play(image);
-            explain_line(host, line, output, Some(subject), scripts);
-        }
-    }
 }
 
 /// Does with the volume in a file what several threads are asked for, and answers the status to end with, if

@@ -24,7 +24,7 @@ use Rattle.vol_import.specs.declared.planning.PlanFault.TheVariants as plans
 use Rattle.vol_import.specs.declared.reading.Member.{Member}
 
 -- a fault that a plan may have
-abbrev IsPlans : ImportFault → Type 0
+abbrev pub IsPlans : ImportFault → Type 0
 IsPlans (faults.Archive fault) = Unit {0}
 IsPlans (faults.Member path cause) = Unit {0}
 IsPlans faults.NoMemory = Unit {0}
@@ -43,7 +43,7 @@ unread_plans (archives.Header at fault) = tt
 unread_plans (archives.Records at) = tt
 unread_plans (archives.Unsupported at) = tt
 
-told_plans : (plan : Result (List Call) PlanFault) (fault : ImportFault) → told plan ≡ Err fault → IsPlans fault
+pub told_plans : (plan : Result (List Call) PlanFault) (fault : ImportFault) → told plan ≡ Err fault → IsPlans fault
 told_plans (Ok calls) fault e = absurd (cc)
 told_plans (Err why) fault e = let same : unplanned why ≡ fault = cc in subst IsPlans same (unplanned_plans why)
 
@@ -53,7 +53,7 @@ planned_plans tree base now (Ok all) fault e = told_plans (plan tree base now al
 planned_plans tree base now (Err why) fault e = let same : unread why ≡ fault = cc in subst IsPlans same (unread_plans why)
 
 -- a fault of the calls that were to be made is a reason
-planned_reason : (edition : Edition) (image : List ℕ) (wanted : Result (List Call) ImportFault) (fault : ImportFault) → IsSound edition image
+pub planned_reason : (edition : Edition) (image : List ℕ) (wanted : Result (List Call) ImportFault) (fault : ImportFault) → IsSound edition image
     → ((told : ImportFault) → wanted ≡ Err told → IsPlans told) → Tells wanted fault → IsReason edition image wanted fault
 unfolding IsReason
 planned_reason edition image wanted (faults.Unsound rule) sound plans tells = absurd (plans (faults.Unsound rule) (tells (λ same. cc)))
@@ -84,7 +84,7 @@ unfolding IsUnmounted
 no_volume edition image wanted fault is = subst (IsReason edition image wanted) (sym is.1) (unmounted_reason edition image wanted is.0 is.2)
 
 -- a refused call is told
-stop_reason : (edition : Edition) (image : List ℕ) (calls : List Call) (new : Mounted) (fault : ImportFault) → IsSound edition image
+pub stop_reason : (edition : Edition) (image : List ℕ) (calls : List Call) (new : Mounted) (fault : ImportFault) → IsSound edition image
     → IsStop (mounted edition image) calls new fault → IsReason edition image (Ok calls) fault
 unfolding IsStop IsReason
 stop_reason edition image calls new (faults.Unsound rule) sound is = absurd is

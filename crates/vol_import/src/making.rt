@@ -59,8 +59,10 @@ pub fn import(
     }
 }
 
-/// Mounts the volume in some bytes.
-fn mount(alloc: Global, edition: Edition, image: Vec<u8>) -> Result<Volume, ImportFault>
+/// Mounts the volume in some bytes. Where it isn't sound, or memory runs out, the fault says so.
+///
+/// Takes memory and costs what [`Volume::mount`] does.
+pub fn mount(alloc: Global, edition: Edition, image: Vec<u8>) -> Result<Volume, ImportFault>
     ensures mounted { IfOk result (λ volume. volume ≡ mounted edition image.items) }
     ensures sound { OnOk result (IsSound edition image.items) }
     ensures fault { IfErr result (IsUnmounted edition image.items) }
@@ -96,7 +98,7 @@ fn unread(fault: ArchiveFault) -> ImportFault
 }
 
 /// There are no calls that make the members of an archive, for this reason.
-fn unplanned(fault: PlanFault) -> ImportFault
+pub fn unplanned(fault: PlanFault) -> ImportFault
     ensures { result ≡ unplanned fault }
 {
     match fault {
@@ -140,7 +142,7 @@ fn calls_for(
 }
 
 /// Makes calls on a volume, and tells as an import does which of them is refused.
-fn make(alloc: Global, volume: &mut Volume, calls: Vec<Call>) -> Result<(), ImportFault>
+pub fn make(alloc: Global, volume: &mut Volume, calls: Vec<Call>) -> Result<(), ImportFault>
     ensures made { OnOk result (AreMade volume.old calls.items volume.new) }
     ensures fault { IfErr result (IsStop volume.old calls.items volume.new) }
 {

@@ -1,5 +1,5 @@
 // The words of the command line.
-use command_line::{Invocation, VolumeFile, Work, asks_to_explain, read};
+use command_line::{Copying, Invocation, VolumeFile, Work, asks_to_explain, read};
 use image_commands::{Form, Lines, Listing, Look, Picture};
 use std::alloc::{AllocError, Global};
 use std::process::Abort;
@@ -203,6 +203,126 @@ static NO_EXPLAINED: [(&[&str], &str); 4] = [
     (&["super", "7", "disk", "--explained"], "--explained"),
 ];
 
+/// The words of `put` for several files, the files, and the moment that is meant where the clock tells 7.
+type Put = (&'static [&'static str], &'static [&'static str], u32);
+
+static PUTS: [Put; 11] = [
+    (&["put", "7", "disk", "-t", "/d", "a"], &["a"], 7),
+    (&["put", "-t", "/d", "7", "disk", "a", "b"], &["a", "b"], 7),
+    (
+        &["put", "7", "disk", "a", "x/b", "y/c", "d", "-t/d"],
+        &["a", "x/b", "y/c", "d"],
+        7,
+    ),
+    (
+        &["put", "7", "disk", "--target-directory", "/d", "a", "8"],
+        &["a"],
+        8,
+    ),
+    (
+        &["put", "7", "disk", "a", "b", "c", "8", "-t", "/d"],
+        &["a", "b", "c"],
+        8,
+    ),
+    (
+        &[
+            "put",
+            "7",
+            "disk",
+            "--target-directory=/d",
+            "a",
+            "b",
+            "1970-01-01T00:00:09Z",
+        ],
+        &["a", "b"],
+        9,
+    ),
+    (&["put", "-t", "/d", "7", "disk", "123"], &["123"], 7),
+    (
+        &["put", "-t", "/d", "7", "disk", "a", "./123"],
+        &["a", "./123"],
+        7,
+    ),
+    (
+        &["put", "-t", "/d", "7", "disk", "123", "456", "8"],
+        &["123", "456"],
+        8,
+    ),
+    (
+        &["put", "-t", "/d", "7", "disk", "a", "notamoment"],
+        &["a", "notamoment"],
+        7,
+    ),
+    (
+        &["put", "-t", "/d", "7", "disk", "--", "-a", "b.."],
+        &["-a", "b.."],
+        7,
+    ),
+];
+
+/// The words of `get` for several files, and the files.
+static GETS: [(&[&str], &[&str]); 3] = [
+    (&["get", "7", "disk", "-o", "out", "/d/f"], &["/d/f"]),
+    (
+        &["get", "-o", "out", "7", "disk", "/d/f", "g", "/h", "8"],
+        &["/d/f", "g", "/h", "8"],
+    ),
+    (
+        &["get", "7", "disk", "/d/f", "--output=out", "/d/g"],
+        &["/d/f", "/d/g"],
+    ),
+];
+
+/// Words of `put` and `get` that are refused, where the clock tells 7, and what is told of them.
+static NO_COPIES: [(&[&str], &str); 13] = [
+    (
+        &["put", "7", "disk", "/d/f"],
+        "no value for '<FILE>': a file is missing",
+    ),
+    (
+        &["put", "7", "disk", "/d/f", "a", "notamoment"],
+        "invalid value 'notamoment' for '<NOW>': not a number from 0",
+    ),
+    (
+        &["put", "7", "disk", "/d/f", "a", "8", "b"],
+        "invalid value 'b' for '<MORE>': several files are put into a directory, by -t DIR",
+    ),
+    (&["put", "7", "disk", "-t", "/d"], "<PATH>"),
+    (
+        &["put", "7", "disk", "a", "-t"],
+        "a value is required for '--target-directory <DIR>'",
+    ),
+    (
+        &["put", "7", "disk", "-t", "/d", "-t", "/d", "a"],
+        "'--target-directory <DIR>' cannot be used multiple times",
+    ),
+    (
+        &["put", "7", "disk", "-t", "/d", "x/a", "b", "y/a"],
+        "invalid value 'a' for '<FILE>': two files have this last name",
+    ),
+    (
+        &["put", "7", "disk", "-t", "/d", "a", "a/.", "8"],
+        "invalid value 'a' for '<FILE>'",
+    ),
+    (
+        &["put", "7", "disk", "-o", "/d", "a"],
+        "unexpected argument '-o'",
+    ),
+    (
+        &["get", "7", "disk", "/d/f", "/d/g"],
+        "invalid value '/d/g' for '<MORE>': several files are written into a folder, by -o FOLDER",
+    ),
+    (&["get", "7", "disk", "-o", "out"], "<PATH>"),
+    (
+        &["get", "7", "disk", "-o", "out", "-o", "out", "/d/f"],
+        "'--output <FOLDER>' cannot be used multiple times",
+    ),
+    (
+        &["get", "7", "disk", "-o", "out", "/d/f", "/e/f/"],
+        "invalid value 'f' for '<PATH>': two files have this last name",
+    ),
+];
+
 /// The commands of the checkers.
 static CHECKERS: [(&str, Checker); 3] = [
     ("icheck", Checker::Blocks),
@@ -331,6 +451,53 @@ fn words_of_several_calls_are_read(rt: HostRuntime) {
         };
         check_at(&rt, rt.alloc(), Some(7), rest, wanted);
     }
+}
+
+#[test]
+fn words_of_several_files_to_put_are_read(rt: HostRuntime) {
+    let alloc = rt.alloc();
+    for &(rest, files, now) in &PUTS {
+        let copying = Copying::Put {
+            directory: "/d",
+            files: Vec::from_slice(alloc, files).expect(&rt, "memory for the files"),
+            now,
+        };
+        let wanted = Invocation::OnFiles {
+            volume: VOLUME,
+            copying,
+        };
+        check_at(&rt, alloc, Some(7), rest, wanted);
+    }
+}
+
+#[test]
+fn words_of_several_files_to_get_are_read(rt: HostRuntime) {
+    let alloc = rt.alloc();
+    for &(rest, paths) in &GETS {
+        let copying = Copying::Get {
+            folder: "out",
+            paths: Vec::from_slice(alloc, paths).expect(&rt, "memory for the paths"),
+        };
+        let wanted = Invocation::OnFiles {
+            volume: VOLUME,
+            copying,
+        };
+        check(&rt, alloc, rest, wanted);
+    }
+}
+
+#[test]
+fn other_words_ask_for_no_copies(rt: HostRuntime) {
+    for (rest, told) in &NO_COPIES {
+        refuse_at(&rt, rt.alloc(), Some(7), rest, told);
+    }
+}
+
+#[test]
+fn several_files_want_a_moment(rt: HostRuntime) {
+    let told = "no value for '<NOW>': the clock tells no moment from 1970 to 2106";
+    let rest = ["put", "7", "disk", "-t", "/d", "a", "b"];
+    refuse_at(&rt, rt.alloc(), None, &rest, told);
 }
 
 #[test]

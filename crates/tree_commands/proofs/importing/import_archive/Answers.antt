@@ -1,16 +1,17 @@
-use Rattle.std.proofs.Common.{List, ℕ, refl, subst}
+use Rattle.std.proofs.Common.{List, ℕ, IfErr, IfOk, subst}
 use Rattle.vol_volume.specs.Volume.{reads_as}
-use Rattle.vol_import.specs.Making.{calls_to_make, IsReason}
-use Rattle.tree_commands.proofs.Imported.{reason_ruled, not_imported}
+use Rattle.vol_import.specs.Making.{Imports, IsReason, calls_to_make}
+use Rattle.tree_commands.proofs.Imported.{concluded, outcome_ruled}
 use Rattle.tree_commands.proofs.importing.import_archive.Goals as goal
 
-pub tell-requires : goal.tell-requires
-tell-requires g c = reason_ruled _ _ _ _ c.in-Err.ensures.fault
+pub conclude-requires : goal.conclude-requires
+conclude-requires g c = outcome_ruled _ _ _ _ c.import-outcome.ensures.fault
 
-pub returns-in-Err-clause-imported : goal.returns-in-Err-clause-imported
-returns-in-Err-clause-imported g c =
-    not_imported _ _ _ _ _ _
-    (subst (λ (path : List ℕ). IsReason c.args.edition c.args.image.items
-    (calls_to_make (reads_as c.args.edition c.args.image.items).tree c.args.archive.now path c.args.now) c.in-Err.fault)
-    c.as_bytes.ensures.value c.in-Err.ensures.fault)
-    refl c.tell.ensures
+pub returns-clause-imported : goal.returns-clause-imported
+returns-clause-imported g c =
+    concluded _ _ _ _ _ _
+    (subst (λ (path : List ℕ). IfOk c.import-outcome.result (λ bytes. Imports c.args.edition c.args.image.items
+    (calls_to_make (reads_as c.args.edition c.args.image.items).tree c.args.archive.now path c.args.now) bytes.items)) c.as_bytes.ensures.value c.import-outcome.ensures.made)
+    (subst (λ (path : List ℕ). IfErr c.import-outcome.result (IsReason c.args.edition c.args.image.items
+    (calls_to_make (reads_as c.args.edition c.args.image.items).tree c.args.archive.now path c.args.now))) c.as_bytes.ensures.value c.import-outcome.ensures.fault)
+    c.conclude.ensures.made c.conclude.ensures.fault

@@ -1,0 +1,159 @@
+-- What `put` and `get` are asked for: of one file, or of several.
+use Rattle.std.proofs.Common.{◌≡◌, ◌⊎◌, ℕ, List, Option, Some, None, Bool, true, false, true≢false, codes, map, sym, ap, inl, inr}
+use Rattle.command_words.specs.Asking.{AreFilesGiven, ArePathsGiven, AsksForNothing, IsFirstWord, IsGiven, IsLeftOut, IsMomentGiven, IsValue, Words, get_words, put_words, verb_of}
+use Rattle.command_words.specs.declared.invocation.Copying.TheVariants as copies
+use Rattle.command_words.specs.declared.invocation.Invocation.{Invocation}
+use Rattle.command_words.specs.declared.invocation.Invocation.TheVariants.{Cat, Mkfs, Migrate, OnVolume, OnImage, OnTree, OnFiles, OnThreads}
+use Rattle.command_words.specs.declared.invocation.Work.TheVariants as works
+use Rattle.command_words.specs.declared.parameters.Kind.TheVariants as kinds
+use Rattle.command_words.specs.declared.verbs.Verb.{Verb}
+use Rattle.command_words.specs.declared.verbs.Verb.TheVariants as verbs
+use Rattle.image_commands.specs.declared.looks.Look.TheVariants as looks
+use Rattle.tree_commands.specs.declared.edits.Edit.TheVariants as edits
+use Rattle.vol_check.specs.declared.checker.Checker.TheVariants as checkers
+use Rattle.vol_commands.specs.declared.jobs.Job.TheVariants as jobs
+use Rattle.command_words.proofs.Values.{no_value}
+
+-- one file is put, or several are
+abbrev IsPut : Option ℕ → Words → Type 0
+IsPut clock given = ((file : List ℕ) × (now : ℕ) × IsFirstWord given (codes "FILE") file × IsMomentGiven clock (given (codes "NOW")) now
+    × IsLeftOut given (codes "MORE") × IsLeftOut given (codes "target-directory"))
+    ⊎ ((directory : List ℕ) × (files : List (List ℕ)) × (now : ℕ) × IsFirstWord given (codes "target-directory") directory
+    × AreFilesGiven clock (put_words given) files now)
+
+-- one file is got, or several are
+abbrev IsGot : Words → Type 0
+IsGot given = (IsLeftOut given (codes "MORE") × IsLeftOut given (codes "output"))
+    ⊎ ((folder : List ℕ) × (paths : List (List ℕ)) × IsFirstWord given (codes "output") folder × ArePathsGiven (get_words given) paths)
+
+-- the command is `put`
+is_put : Verb → Bool
+is_put verbs.Put = true
+is_put _ = false
+
+-- the command is `get`
+is_get : Verb → Bool
+is_get verbs.Get = true
+is_get _ = false
+
+-- what `put` is asked for
+puts : (clock : Option ℕ) (given : Words) (invocation : Invocation) → is_put (verb_of invocation) ≡ true → IsGiven clock given invocation → IsPut clock given
+unfolding is_put
+puts clock given (OnVolume volume (jobs.Put path file now)) put is = inl (file.now, now, is.1.1, is.1.2, is.1.3, is.1.4)
+puts clock given (OnFiles volume (copies.Put directory files now)) put is = inr (directory.now, map (λ file. file.now) files.items, now, is.1.0, is.1.1)
+puts clock given (OnVolume volume job) put is = absurd (true≢false (sym put))
+puts clock given (OnFiles volume copying) put is = absurd (true≢false (sym put))
+puts clock given (OnThreads volume (works.Check checkers.Blocks workers)) put is = absurd (true≢false (sym put))
+puts clock given (OnThreads volume (works.Check checkers.Entries workers)) put is = absurd (true≢false (sym put))
+puts clock given (OnThreads volume (works.Check checkers.Names workers)) put is = absurd (true≢false (sym put))
+puts clock given (OnThreads volume (works.Play scripts)) put is = absurd (true≢false (sym put))
+puts clock given (OnImage volume (looks.Export path)) put is = absurd (true≢false (sym put))
+puts clock given (OnImage volume (looks.Inode number form)) put is = absurd (true≢false (sym put))
+puts clock given (OnImage volume (looks.Super form)) put is = absurd (true≢false (sym put))
+puts clock given (OnImage volume (looks.Map picture)) put is = absurd (true≢false (sym put))
+puts clock given (OnImage volume looks.Check) put is = absurd (true≢false (sym put))
+puts clock given (OnImage volume (looks.List path listing)) put is = absurd (true≢false (sym put))
+puts clock given (OnTree volume (edits.Import path now)) put is = absurd (true≢false (sym put))
+puts clock given (OnTree volume (edits.MkdirAll path now)) put is = absurd (true≢false (sym put))
+puts clock given (OnTree volume (edits.RmAll path now)) put is = absurd (true≢false (sym put))
+puts clock given (OnTree volume (edits.Move from to now)) put is = absurd (true≢false (sym put))
+puts clock given (Cat volume ino) put is = absurd (true≢false (sym put))
+puts clock given (Mkfs i volume) put is = absurd (true≢false (sym put))
+puts clock given (Migrate old new migration) put is = absurd (true≢false (sym put))
+
+-- what `get` is asked for
+gets : (clock : Option ℕ) (given : Words) (invocation : Invocation) → is_get (verb_of invocation) ≡ true → IsGiven clock given invocation → IsGot given
+unfolding is_get
+gets clock given (OnVolume volume (jobs.Get path)) got is = inl (is.1.1, is.1.2)
+gets clock given (OnFiles volume (copies.Get folder paths)) got is = inr (folder.now, map (λ path. path.now) paths.items, is.1.0, is.1.1)
+gets clock given (OnVolume volume job) got is = absurd (true≢false (sym got))
+gets clock given (OnFiles volume copying) got is = absurd (true≢false (sym got))
+gets clock given (OnThreads volume (works.Check checkers.Blocks workers)) got is = absurd (true≢false (sym got))
+gets clock given (OnThreads volume (works.Check checkers.Entries workers)) got is = absurd (true≢false (sym got))
+gets clock given (OnThreads volume (works.Check checkers.Names workers)) got is = absurd (true≢false (sym got))
+gets clock given (OnThreads volume (works.Play scripts)) got is = absurd (true≢false (sym got))
+gets clock given (OnImage volume (looks.Export path)) got is = absurd (true≢false (sym got))
+gets clock given (OnImage volume (looks.Inode number form)) got is = absurd (true≢false (sym got))
+gets clock given (OnImage volume (looks.Super form)) got is = absurd (true≢false (sym got))
+gets clock given (OnImage volume (looks.Map picture)) got is = absurd (true≢false (sym got))
+gets clock given (OnImage volume looks.Check) got is = absurd (true≢false (sym got))
+gets clock given (OnImage volume (looks.List path listing)) got is = absurd (true≢false (sym got))
+gets clock given (OnTree volume (edits.Import path now)) got is = absurd (true≢false (sym got))
+gets clock given (OnTree volume (edits.MkdirAll path now)) got is = absurd (true≢false (sym got))
+gets clock given (OnTree volume (edits.RmAll path now)) got is = absurd (true≢false (sym got))
+gets clock given (OnTree volume (edits.Move from to now)) got is = absurd (true≢false (sym got))
+gets clock given (Cat volume ino) got is = absurd (true≢false (sym got))
+gets clock given (Mkfs i volume) got is = absurd (true≢false (sym got))
+gets clock given (Migrate old new migration) got is = absurd (true≢false (sym got))
+
+-- where neither one file nor several are put, nothing is asked for
+no_put : (clock : Option ℕ) (given : Words) → (IsPut clock given → ⊥) → AsksForNothing clock verbs.Put given
+unfolding AsksForNothing is_put
+no_put clock given none = λ invocation asks. none (puts clock given invocation (sym (ap is_put asks.0)) asks.1)
+
+-- where neither one file nor several are got, nothing is asked for
+no_get : (clock : Option ℕ) (given : Words) → (IsGot given → ⊥) → AsksForNothing clock verbs.Get given
+unfolding AsksForNothing is_get
+no_get clock given none = λ invocation asks. none (gets clock given invocation (sym (ap is_get asks.0)) asks.1)
+
+-- a word that is there wasn't left out
+both : (first : Option (List ℕ)) (word : List ℕ) → first ≡ Some word → first ≡ None → ⊥
+both first word some none = absurd (cc)
+
+-- where the option is there and the words are no files with a moment, `put` asks for nothing
+pub no_files : (clock : Option ℕ) (given : Words) (directory : List ℕ) → IsFirstWord given (codes "target-directory") directory
+    → ((files : List (List ℕ)) (now : ℕ) → AreFilesGiven clock (put_words given) files now → ⊥) → AsksForNothing clock verbs.Put given
+no_files clock given directory is none = no_put clock given go
+  where
+    go : IsPut clock given → ⊥
+    go (inl one) = both _ directory is one.5
+    go (inr several) = none several.1 several.2 several.4
+
+-- where the option isn't there and no one file is put, `put` asks for nothing
+no_one : (clock : Option ℕ) (given : Words) → IsLeftOut given (codes "target-directory")
+    → ((file : List ℕ) (now : ℕ) → IsFirstWord given (codes "FILE") file → IsMomentGiven clock (given (codes "NOW")) now → IsLeftOut given (codes "MORE") → ⊥)
+    → AsksForNothing clock verbs.Put given
+no_one clock given left none = no_put clock given go
+  where
+    go : IsPut clock given → ⊥
+    go (inl one) = none one.0 one.1 one.2 one.3 one.4
+    go (inr several) = both _ several.0 several.3 left
+
+-- where neither the option nor the file is there, `put` asks for nothing
+pub no_file : (clock : Option ℕ) (given : Words) → IsLeftOut given (codes "target-directory") → IsLeftOut given (codes "FILE") → AsksForNothing clock verbs.Put given
+no_file clock given left none = no_one clock given left (λ file now first moment more. both _ file first none)
+
+-- where the option isn't there, and further words are, `put` asks for nothing
+pub too_many_put : (clock : Option ℕ) (given : Words) → IsLeftOut given (codes "target-directory") → (IsLeftOut given (codes "MORE") → ⊥)
+    → AsksForNothing clock verbs.Put given
+too_many_put clock given left many = no_one clock given left (λ file now first moment more. many more)
+
+-- where the option isn't there, and no moment is meant, `put` asks for nothing
+pub no_moment : (clock : Option ℕ) (given : Words) → IsLeftOut given (codes "target-directory") → (IsValue clock kinds.Moment (given (codes "NOW")) → ⊥)
+    → AsksForNothing clock verbs.Put given
+no_moment clock given left none = no_one clock given left (λ file now first moment more. none (now, moment))
+
+-- where the option is there and the words are no paths, `get` asks for nothing
+pub no_paths : (clock : Option ℕ) (given : Words) (folder : List ℕ) → IsFirstWord given (codes "output") folder
+    → ((paths : List (List ℕ)) → ArePathsGiven (get_words given) paths → ⊥) → AsksForNothing clock verbs.Get given
+no_paths clock given folder is none = no_get clock given go
+  where
+    go : IsGot given → ⊥
+    go (inl one) = both _ folder is one.1
+    go (inr several) = none several.1 several.3
+
+-- where the option isn't there, and further words are, `get` asks for nothing
+pub too_many_got : (clock : Option ℕ) (given : Words) → IsLeftOut given (codes "output") → (IsLeftOut given (codes "MORE") → ⊥)
+    → AsksForNothing clock verbs.Get given
+too_many_got clock given left many = no_get clock given go
+  where
+    go : IsGot given → ⊥
+    go (inl one) = many one.0
+    go (inr several) = both _ several.0 several.2 left
+
+-- where the edition is none, a command on a volume asks for nothing
+pub no_edition_put : (clock : Option ℕ) (given : Words) → (IsValue None kinds.Edition (given (codes "EDITION")) → ⊥) → AsksForNothing clock verbs.Put given
+no_edition_put clock given none = no_value clock verbs.Put given (inl none)
+
+pub no_edition_get : (clock : Option ℕ) (given : Words) → (IsValue None kinds.Edition (given (codes "EDITION")) → ⊥) → AsksForNothing clock verbs.Get given
+no_edition_get clock given none = no_value clock verbs.Get given (inl none)

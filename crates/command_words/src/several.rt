@@ -1,0 +1,174 @@
+//! The words of several files that are copied.
+ghost use Rattle.std.specs.Prelude.{◌≡◌, ◌≤◌, ◌-◌, ◌∷◌, [], None, ℕ, List, Some, false, true, IfErr, IfOk, IfSome, codes, flat_map, length, map, take};
+ghost use Rattle.command_words.specs.Asking.{AreFilesGiven, ArePathsGiven, EndsInMoment, IsFirstWord, IsLeftOut, IsMomentAfter, TellsOf, are_apart, are_distinct, get_words, last_names, put_words};
+
+use crate::fault::{Fault, Said, WrongWord};
+use crate::given::{Given, missing, wrong};
+use crate::texts;
+use std::alloc::{AllocError, Global};
+use std::path::Path;
+use word_values::moment::moment_of;
+
+/// Files that are put, and the moment of that.
+#[derive(Drop)]
+pub(crate) struct PutFiles<'a> {
+    /// The files.
+    pub files: Vec<&'a str>,
+    /// The moment, in seconds since the beginning of 1970.
+    pub now: u32,
+}
+
+/// The one file that is put.
+pub(crate) fn file_in<'a, G: Given<'a>>(given: &G) -> Result<&'a str, Fault<'a>>
+    ensures read { IfOk result (λ file. IsFirstWord (G.words given.now) (codes "FILE") file.now) }
+    ensures refused { IfErr result (TellsOf (IsLeftOut (G.words given.now) (codes "FILE"))) }
+{
+    match given.first("FILE") {
+        Some(file) => Ok(file),
+        None => Err(missing("FILE", texts::NO_FILE)),
+    }
+}
+
+/// That there is no further word, where the option that `wanted` speaks of was left out.
+pub(crate) fn no_more<'a, G: Given<'a>>(given: &G, wanted: &'a str) -> Result<(), Fault<'a>>
+    ensures none { IfOk result (λ _. IsLeftOut (G.words given.now) (codes "MORE")) }
+    ensures refused { IfErr result (TellsOf (IsLeftOut (G.words given.now) (codes "MORE") → ⊥)) }
+{
+    match given.first("MORE") {
+        Some(word) => Err(wrong("MORE", word, wanted)),
+        None => Ok(()),
+    }
+}
+
+/// The arguments of `put` whose words are files, where several are put.
+const PUT_FILES: [&str; 4] = ["PATH", "FILE", "NOW", "MORE"];
+
+/// The arguments of `get` whose words are paths, where several files are got.
+const GET_PATHS: [&str; 2] = ["PATH", "MORE"];
+
+/// The several files that are put, and the moment that was given after them, or that of the program's clock.
+pub(crate) fn files_in<'a, G: Given<'a>>(
+    alloc: Global,
+    given: &G,
+    clock: Option<u32>,
+) -> Result<PutFiles<'a>, Fault<'a>>
+    ensures read { IfOk result (λ found. AreFilesGiven clock (put_words (G.words given.now)) (map (λ file. file.now) found.files.items) found.now) }
+    ensures refused { IfErr result (TellsOf ((files : List (List ℕ)) (now : ℕ)
+        → AreFilesGiven clock (put_words (G.words given.now)) files now → ⊥)) }
+{
+    let words = words_in(alloc, given, &PUT_FILES)?;
+    let found = with_moment(words, clock)?;
+    one_or_more("FILE", &found.files)?;
+    apart(alloc, "FILE", &found.files)?;
+    Ok(found)
+}
+
+/// The several files of the volume that are got.
+pub(crate) fn paths_in<'a, G: Given<'a>>(
+    alloc: Global,
+    given: &G,
+) -> Result<Vec<&'a str>, Fault<'a>>
+    ensures read { IfOk result (λ paths. ArePathsGiven (get_words (G.words given.now)) (map (λ path. path.now) paths.items)) }
+    ensures refused { IfErr result (TellsOf ((paths : List (List ℕ)) → ArePathsGiven (get_words (G.words given.now)) paths → ⊥)) }
+{
+    let paths = words_in(alloc, given, &GET_PATHS)?;
+    one_or_more("PATH", &paths)?;
+    apart(alloc, "PATH", &paths)?;
+    Ok(paths)
+}
+
+/// All words that were given for these arguments, one argument's after another's.
+fn words_in<'a, G: Given<'a>>(
+    alloc: Global,
+    given: &G,
+    names: &[&str],
+) -> Result<Vec<&'a str>, AllocError>
+    ensures { IfOk result (λ found. map (λ word. word.now) found.items ≡ flat_map (G.words given.now) (map (λ name. name.now) names.now)) }
+{
+    let mut words = Vec::new(alloc);
+    for name in names {
+        let more = given.all(alloc, name)?;
+        words.extend_from_slice(&more)?;
+    }
+    Ok(words)
+}
+
+/// The files of some words, and the moment after them, or that of the program's clock.
+fn with_moment<'a>(words: Vec<&'a str>, clock: Option<u32>) -> Result<PutFiles<'a>, Fault<'a>>
+    ensures read { IfOk result (λ found. IsMomentAfter clock (map (λ word. word.now) words.entry.items) (map (λ file. file.now) found.files.items) found.now) }
+    ensures refused { IfErr result (TellsOf ((files : List (List ℕ)) (now : ℕ)
+        → IsMomentAfter clock (map (λ word. word.now) words.entry.items) files now → ⊥)) }
+{
+    let mut files = words;
+    match moment_after(&files) {
+        Some(now) => {
+            files.pop();
+            Ok(PutFiles { files, now })
+        }
+        None => match clock {
+            Some(now) => Ok(PutFiles { files, now }),
+            None => Err(missing("NOW", texts::NO_CLOCK)),
+        },
+    }
+}
+
+/// The moment that the last of two words or more writes.
+fn moment_after(words: &[&str]) -> Option<u32>
+    ensures some { IfSome result (EndsInMoment (map (λ word. word.now) words.now)) }
+    ensures none { result ≡ None → (now : ℕ) → EndsInMoment (map (λ word. word.now) words.now) now → ⊥ }
+{
+    if words.len() < 2 {
+        return None;
+    }
+    moment_of(words[words.len() - 1])
+}
+
+/// That there is one at least.
+fn one_or_more<'a>(name: &'a str, paths: &[&'a str]) -> Result<(), Fault<'a>>
+    ensures some { IfOk result (λ _. 1 ≤ length paths.now) }
+    ensures refused { IfErr result (TellsOf (length paths.now ≡ 0)) }
+{
+    if paths.is_empty() {
+        return Err(missing(name, texts::NO_FILE));
+    }
+    Ok(())
+}
+
+/// That no two paths have the same last name, by which they are copied.
+fn apart<'a>(alloc: Global, name: &'a str, paths: &[&'a str]) -> Result<(), Fault<'a>>
+    ensures apart { IfOk result (λ _. are_apart (map (λ path. path.now) paths.now) ≡ true) }
+    ensures refused { IfErr result (TellsOf (are_apart (map (λ path. path.now) paths.now) ≡ false)) }
+{
+    let names = last_names(alloc, paths)?;
+    match repeated(&names) {
+        Some(last_name) => Err(wrong(name, last_name, texts::SAME_NAME)),
+        None => Ok(()),
+    }
+}
+
+/// The last names of the paths that have one.
+fn last_names<'a>(alloc: Global, paths: &[&'a str]) -> Result<Vec<&'a str>, AllocError>
+    ensures { IfOk result (λ names. map (λ name. name.now) names.items ≡ last_names (map (λ path. path.now) paths.now)) }
+{
+    let mut names = Vec::new(alloc);
+    for path in paths {
+        if let Some(name) = Path::new(*path).file_name() {
+            names.push(name)?;
+        }
+    }
+    Ok(names)
+}
+
+/// The first of the names that stands among those after it.
+fn repeated<'a>(names: &[&'a str]) -> Option<&'a str>
+    ensures some { IfSome result (λ _. are_distinct (map (λ name. name.now) names.now) ≡ false) }
+    ensures none { result ≡ None → are_distinct (map (λ name. name.now) names.now) ≡ true }
+{
+    for i in 0..names.len() {
+        let name = names[i];
+        if names[i + 1..].contains(&name) {
+            return Some(name);
+        }
+    }
+    None
+}

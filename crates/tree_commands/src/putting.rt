@@ -1,0 +1,177 @@
+//! The command that puts several files into a directory.
+ghost use Rattle.std.specs.Prelude.{◌≡◌, ◌++◌, [], IfOk, IfErr, OnOk, Ok};
+ghost use Rattle.std.specs.Io.KnownBytes.{Keeps};
+ghost use Rattle.vol_volume.specs.Answer.{answer};
+ghost use Rattle.vol_volume.specs.Volume.{reads_as};
+ghost use Rattle.vol_volume.specs.declared.queries.Query.TheVariants as questions;
+ghost use Rattle.vol_import.specs.Making.{Imports, IsReason, told};
+ghost use Rattle.vol_import.specs.Plan.{Tells};
+ghost use Rattle.vol_commands.specs.Changing.{emptying_by};
+ghost use Rattle.vol_commands.specs.Faults.{Gets, user};
+ghost use Rattle.tree_commands.specs.Importing.{ImportsArchive};
+ghost use Rattle.tree_commands.specs.Putting.{calls_to_put, file_calls, onto, put_onto};
+
+use crate::importing::conclude;
+use crate::making::{USER, copy, push};
+use crate::moving::name_in;
+use pdp_words::Sink;
+use std::alloc::{AllocError, Global};
+use vol_commands::Answer;
+use vol_dir::Refusal;
+use vol_import::making::{make, mount, unplanned};
+use vol_import::{ImportFault, MemberFault, PlanFault};
+use vol_layout::Edition;
+use vol_layout::slot::NAME;
+use vol_volume::{Bytes, Call, Query, Volume};
+
+/// Permissions of a new file.
+const PERMISSIONS: u16 = 0o644;
+
+/// A file that is put into a directory of a volume.
+#[derive(Debug, Drop)]
+pub struct NewFile<'a> {
+    /// Its name there, at most 14 bytes.
+    pub name: &'a str,
+    /// Its bytes.
+    pub bytes: Vec<u8>,
+}
+
+/// `put -t`: puts files into a directory, each as `put` does: one that is missing is made with permissions 0644, one that is
+/// there is made empty, and then the bytes are written. All are put, or nothing is to be saved, and the line tells why: the rule
+/// that the image breaks, the first name above 14 bytes, or the refusal of a call with its path. Of two files of one name the
+/// second is refused as Exists where the name is new, and else has the last word.
+///
+/// The bytes of the files go into the calls. Takes memory to mount the image and for two paths a file, and walks the path of each.
+pub fn put_all<O: Sink, E: Sink>(
+    alloc: Global,
+    edition: Edition,
+    image: Vec<u8>,
+    directory: &str,
+    files: Vec<NewFile<'_>>,
+    now: u32,
+    _output: &mut O,
+    errors: &mut E,
+) -> Answer
+    ensures put { ImportsArchive edition image.items (told (calls_to_put (reads_as edition image.items).tree now directory.now files.entry.items))
+        (Gets (E.failed errors.new) (E.contents errors.old) (E.contents errors.new)) result }
+    ensures unprinted { Keeps (O.contents _output.old) (O.contents _output.new) }
+    ensures unused { O.failed _output.new ≡ O.failed _output.old }
+{
+    let outcome = put_files(alloc, edition, image, directory.as_bytes(), files, now);
+    conclude(alloc, outcome, errors)
+}
+
+/// Makes the calls of `put -t`.
+fn put_files(
+    alloc: Global,
+    edition: Edition,
+    image: Vec<u8>,
+    directory: &[u8],
+    files: Vec<NewFile<'_>>,
+    now: u32,
+) -> Result<Vec<u8>, ImportFault>
+    ensures made { IfOk result (λ bytes. Imports edition image.items (told (calls_to_put (reads_as edition image.items).tree now directory.now files.entry.items)) bytes.items) }
+    ensures fault { IfErr result (IsReason edition image.items (told (calls_to_put (reads_as edition image.items).tree now directory.now files.entry.items))) }
+{
+    let mut volume = match mount(alloc, edition, image) {
+        Ok(volume) => volume,
+        Err(fault) => return Err(fault),
+    };
+    let calls = match calls_to_put(alloc, &volume, directory, files, now) {
+        Ok(calls) => calls,
+        Err(fault) => return Err(unplanned(fault)),
+    };
+    match make(alloc, &mut volume, calls) {
+        Ok(()) => Ok(volume.unmount()),
+        Err(fault) => Err(fault),
+    }
+}
+
+/// The calls of `put -t`.
+fn calls_to_put(
+    alloc: Global,
+    volume: &Volume,
+    directory: &[u8],
+    files: Vec<NewFile<'_>>,
+    now: u32,
+) -> Result<Vec<Call>, PlanFault>
+    ensures ok { IfOk result (λ calls. calls_to_put (reads_as volume.now.edition volume.now.image).tree now directory.now files.entry.items ≡ Ok calls.items) }
+    ensures fault { IfErr result (Tells (calls_to_put (reads_as volume.now.edition volume.now.image).tree now directory.now files.entry.items)) }
+{
+    let mut calls = Vec::new(alloc);
+    let mut left = files;
+    left.reverse();
+    'files: while let Some(file) = left.pop() {
+        push_file(alloc, volume, directory, file, now, &mut calls)?;
+    }
+    Ok(calls)
+}
+
+/// Appends the calls that put a file, whose name has to have room in a directory.
+fn push_file(
+    alloc: Global,
+    volume: &Volume,
+    directory: &[u8],
+    file: NewFile<'_>,
+    now: u32,
+    calls: &mut Vec<Call>,
+) -> Result<(), PlanFault>
+    ensures ok { OnOk result (onto (reads_as volume.now.edition volume.now.image).tree now directory.now calls.old.items file.entry ≡ Ok calls.new.items) }
+    ensures fault { IfErr result (Tells (onto (reads_as volume.now.edition volume.now.image).tree now directory.now calls.old.items file.entry)) }
+{
+    if file.name.len() > NAME {
+        let name = copy(alloc, file.name.as_bytes())?;
+        return Err(PlanFault::Member(name, MemberFault::LongName));
+    }
+    push_calls(alloc, volume, directory, file, now, calls)?;
+    Ok(())
+}
+
+/// Appends the calls that put a file.
+fn push_calls(
+    alloc: Global,
+    volume: &Volume,
+    directory: &[u8],
+    file: NewFile<'_>,
+    now: u32,
+    calls: &mut Vec<Call>,
+) -> Result<(), AllocError>
+    ensures { OnOk result (calls.new.items ≡ calls.old.items ++ file_calls (reads_as volume.now.edition volume.now.image).tree now directory.now file.entry) }
+{
+    let path = name_in(alloc, directory, file.name.as_bytes())?;
+    let empty = emptying_call(alloc, volume, path.as_slice(), now)?;
+    let write = Call::Write {
+        cred: USER,
+        now,
+        path,
+        offset: 0,
+        bytes: Bytes::from_vec(file.bytes),
+    };
+    push(calls, empty)?;
+    push(calls, write)
+}
+
+/// The call that makes a file empty, or makes an empty one where it is missing. Costs a walk.
+fn emptying_call(alloc: Global, volume: &Volume, path: &[u8], now: u32) -> Result<Call, AllocError>
+    ensures { IfOk result (λ call. call ≡ emptying_by (answer (reads_as volume.now.edition volume.now.image).tree (questions.Stat user path.now)) now path.now) }
+{
+    let query = Query::Stat {
+        cred: USER,
+        path: copy(alloc, path)?,
+    };
+    let path = copy(alloc, path)?;
+    match volume.ask(alloc, &query) {
+        Err(Refusal::NoEntry) => Ok(Call::Create {
+            cred: USER,
+            now,
+            path,
+            perm: PERMISSIONS,
+        }),
+        _ => Ok(Call::Truncate {
+            cred: USER,
+            now,
+            path,
+            length: 0,
+        }),
+    }
+}

@@ -1,0 +1,46 @@
+-- Copies of several files: their names, and what saving them comes to.
+use Rattle.std.proofs.Common.{◌≡◌, ◌⊎◌, ◌∙◌, ◌<◌, ◌+◌, ◌++◌, ℕ, List, [], ◌∷◌, length, map, take, get_or, Option, Some, IsSome, IfSome, inl, inr, refl, sym, ap, subst, arith}
+use Rattle.std.specs.Borrow.{Bor}
+use Rattle.std.specs.Global.{Vec}
+use Rattle.std.proofs.lemmas.List.{map-append, take_more}
+use Rattle.tree_commands.specs.declared.getting.FileRead.{FileRead}
+use Rattle.tree_commands.specs.declared.getting.FilesRead.{FilesRead}
+use Rattle.tree_commands.specs.declared.putting.NewFile.{NewFile}
+use Rattle.unixvol.specs.Copying.{AreSaved, ReadSaved, name_of}
+use Rattle.unixvol.specs.Running.{IsStatusOfFileOrMemory}
+
+-- the name of a new file
+abbrev file_name : NewFile → List ℕ
+file_name file = file.name.now
+
+-- the last name of a path
+abbrev path_name : Bor (List ℕ) → List ℕ
+path_name path = name_of path.now
+
+-- the names of one file more
+pub names_more : (paths : List (Bor (List ℕ))) (k : ℕ) (d : Bor (List ℕ)) (old new : List NewFile) (file : NewFile) → k < length paths
+    → map file_name old ≡ map path_name (take k paths) → new ≡ old ++ file ∷ [] → file.name.now ≡ name_of (get_or paths k d).now
+    → map file_name new ≡ map path_name (take (k + 1) paths)
+names_more paths k d old new file within was is named =
+    ap (map file_name) is ∙ map-append file_name old (file ∷ [])
+    ∙ ap (λ (names : List (List ℕ)). names ++ file.name.now ∷ []) was
+    ∙ ap (λ (name : List ℕ). map path_name (take k paths) ++ name ∷ []) named
+    ∙ sym (ap (map path_name) (take_more paths k d within) ∙ map-append path_name (take k paths) (get_or paths k d ∷ []))
+
+-- what was saved, where the status says so
+pub saved_one : (status : ℕ) (P : Type 0) → ((status ≡ 0) × P) ⊎ IsStatusOfFileOrMemory status → status ≡ 0 → P
+saved_one status P (inl own) is = own.1
+saved_one status P (inr (inl three)) is = absurd (omega (arith, three, is))
+saved_one status P (inr (inr four)) is = absurd (omega (arith, four, is))
+
+-- the status after files that were read were saved
+pub read_saved : (taken : List ℕ → Type 0) (read : FilesRead) (files : Vec FileRead) (given : List FileRead) (status : ℕ) → read.files ≡ Some files
+    → given ≡ files.items → (IsSome read.files → read.status ≡ 0) → ((status ≡ 0) × AreSaved taken given) ⊎ IsStatusOfFileOrMemory status
+    → ReadSaved taken read status
+read_saved taken read files given status is same zero (inl saved) =
+    let some : IsSome read.files = subst IsSome (sym is) refl in
+    inl (
+      saved.0 ∙ sym (zero some),
+      subst (λ (found : Option (Vec FileRead)). IfSome found (λ files. AreSaved taken files.items)) (sym is) (subst (AreSaved taken) same saved.1),
+    )
+read_saved taken read files given status is same zero (inr file) = inr (subst IsSome (sym is) refl, file)

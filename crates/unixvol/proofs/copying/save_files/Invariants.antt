@@ -1,0 +1,8 @@
+use Rattle.std.proofs.Common.{take}
+use Rattle.unixvol.specs.Copying.{AreSaved}
+use Rattle.unixvol.specs.Saving.{IsTaken}
+use Rattle.unixvol.proofs.copying.save_files.Given as goal
+
+-- the files so far are saved
+abbrev pub invariant-files : goal.invariant-files
+invariant-files g l = AreSaved (IsTaken g.R.File.Write.contents) (take l.file-index l.files)

@@ -1,0 +1,67 @@
+-- What copying several files between the host and a volume comes to.
+use Rattle.std.specs.Prelude.{All, ◌≡◌, ◌⊎◌, ℕ, List, [], map, Option, IsSome, IfSome, Bool, false, unwrap_or}
+use Rattle.std.specs.Io.KnownBytes.{Keeps}
+use Rattle.std.specs.Path.{path_file_name}
+use Rattle.vol_import.specs.Making.{told}
+use Rattle.vol_volume.specs.Volume.{reads_as}
+use Rattle.vol_commands.specs.Faults.{Gets}
+use Rattle.vol_commands.specs.Jobs.{Streams}
+use Rattle.vol_commands.specs.declared.answer.Answer.{Answer}
+use Rattle.vol_layout.specs.declared.edition.Edition.{Edition}
+use Rattle.command_words.specs.declared.invocation.Copying.{Copying}
+use Rattle.command_words.specs.declared.invocation.Copying.TheVariants as copyings
+use Rattle.tree_commands.specs.Getting.{GetsFiles}
+use Rattle.tree_commands.specs.Importing.{ImportsArchive}
+use Rattle.tree_commands.specs.Putting.{calls_to_put}
+use Rattle.tree_commands.specs.declared.getting.FileRead.{FileRead}
+use Rattle.tree_commands.specs.declared.getting.FilesRead.{FilesRead}
+use Rattle.tree_commands.specs.declared.putting.NewFile.{NewFile}
+use Rattle.unixvol.specs.Running.{Ends, EndsSaved, HostFiles, IsStatusOfFileOrMemory, RunsNothing}
+use Rattle.unixvol.specs.declared.image_file.Stamp.{Stamp}
+
+-- the last name of a path; none of a path that ends in `..` or has no names (std::path)
+abbrev pub name_of : List ℕ → List ℕ
+name_of path = unwrap_or (path_file_name path) []
+
+-- files gave the bytes of new files, which have these names (this project)
+abbrev pub AreGiven : (List ℕ → Type 0) → List (List ℕ) → List NewFile → Type 0
+AreGiven given names news =
+    All (λ (file : NewFile). given file.bytes.items) news × (map (λ (file : NewFile). file.name.now) news ≡ names)
+
+-- files of these names are put into a directory: nothing is done; or files gave their bytes, and they are put into an image that a file gave which may be changed, and what the calls make is saved where a file still stood that had the stamp of the one that was read (this project)
+abbrev pub RunsPut : Streams → HostFiles → Edition → List ℕ → List (List ℕ) → ℕ → ℕ → Type 0
+RunsPut streams files edition directory names now status =
+    RunsNothing streams files status
+    ⊎ ((image : List ℕ) × (stamp : Stamp) × (news : List NewFile) × (answer : Answer) × files.opened image stamp × AreGiven files.given names news
+    × ImportsArchive edition image (told (calls_to_put (reads_as edition image).tree now directory news)) streams.said answer
+    × Keeps streams.old streams.new × (streams.failed ≡ streams.had_failed) × EndsSaved (λ saved. files.taken saved × files.stood stamp) answer status)
+
+-- each of these files was saved: a file of the host took its bytes, all of them (this project)
+abbrev pub AreSaved : (List ℕ → Type 0) → List FileRead → Type 0
+AreSaved taken files = All (λ (file : FileRead). taken file.bytes.items) files
+
+-- the status after files of a volume were read: its own, where all were saved, if they were read, or that of a file (this project)
+abbrev pub ReadSaved : (List ℕ → Type 0) → FilesRead → ℕ → Type 0
+ReadSaved taken read status =
+    ((status ≡ read.status) × IfSome read.files (λ files. AreSaved taken files.items)) ⊎ (IsSome read.files × IsStatusOfFileOrMemory status)
+
+-- the files at these paths of a volume are copied to the host: nothing is done; or those of an image that a file gave are read, nothing goes out, and each is saved once all are read (this project)
+abbrev pub RunsGet : Streams → HostFiles → Edition → List (List ℕ) → ℕ → Type 0
+RunsGet streams files edition paths status =
+    RunsNothing streams files status
+    ⊎ ((image : List ℕ) × (read : FilesRead) × files.given image × GetsFiles edition image paths streams.said read
+    × Keeps streams.old streams.new × (streams.failed ≡ streams.had_failed) × ReadSaved files.taken read status)
+
+-- several files are copied (this project)
+abbrev pub RunsCopy : Streams → HostFiles → Edition → Copying → ℕ → Type 0
+RunsCopy streams files edition (copyings.Put directory paths now) status =
+    RunsPut streams files edition directory.now (map (λ path. name_of path.now) paths.items) now status
+RunsCopy streams files edition (copyings.Get folder paths) status = RunsGet streams files edition (map (λ path. path.now) paths.items) status
+
+-- the copying of several files runs to its end, as a plain command does (this project)
+abbrev pub CopiesToEnd : HostFiles → Option (List ℕ) → Option (List ℕ) → Edition → Copying → ℕ → Type 0
+CopiesToEnd files output errors edition copying end =
+    (new : Option (List ℕ)) × (failed : Bool) × (told : Option (List ℕ)) × (untold : Bool) × (status : ℕ)
+    × RunsCopy (record { old = output; new = new; had_failed = false; failed = failed; said = Gets untold errors told }) files edition copying status
+    × Ends (record { old = output; new = new; had_failed = false; failed = failed; said = Gets untold errors told }) status
+    × ((end ≡ status) ⊎ ((status ≡ 0) × (end ≡ 3)))

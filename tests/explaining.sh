@@ -1,14 +1,7 @@
 #!/usr/bin/env bash
 # Asks the built program for the second line of its faults, by `--explain`, and compares what it prints; without it there is one line.
 # Usage: tests/explaining.sh PROGRAM. It prints a line for each row that fails, and ends with 'N passed, N failed'.
-set -uo pipefail
-program=$(realpath "${1:?usage: tests/explaining.sh PROGRAM}")
-samples=$(realpath "$(dirname "$0")/../samples")
-rows=$(realpath "$(dirname "$0")/rows.sh")
-folder=$(mktemp -d)
-trap 'rm -rf "$folder"' EXIT
-cd "$folder" || exit 1
-. "$rows"
+. "$(dirname "$0")/rows.sh"
 linux="$samples/linux_made.v7"
 
 # explains STATUS FIRST SECOND WORD..: without `--explain` the program prints FIRST on standard error; with it, before or after the

@@ -2,14 +2,7 @@
 # Runs the commands of the built program that look at an image, sound or not, and compares what they print with what GNU tar, Python and
 # od make of the same.
 # Usage: tests/looks.sh PROGRAM. It prints a line for each row that fails, and ends with 'N passed, N failed'.
-set -uo pipefail
-program=$(realpath "${1:?usage: tests/looks.sh PROGRAM}")
-samples=$(realpath "$(dirname "$0")/../samples")
-rows=$(realpath "$(dirname "$0")/rows.sh")
-folder=$(mktemp -d)
-trap 'rm -rf "$folder"' EXIT
-cd "$folder" || exit 1
-. "$rows"
+. "$(dirname "$0")/rows.sh"
 linux="$samples/linux_made.v7"
 
 # exports STATUS FILE WORD..: the program writes an archive to FILE, with this status; what it tells stands in `error`

@@ -1,14 +1,7 @@
 #!/usr/bin/env bash
 # Runs the built program from the shell, and compares its output, its standard error and its status, byte by byte.
 # Usage: tests/program.sh PROGRAM. It prints a line for each row that fails, and ends with 'N passed, N failed'.
-set -uo pipefail
-program=$(realpath "${1:?usage: tests/program.sh PROGRAM}")
-samples=$(realpath "$(dirname "$0")/../samples")
-rows=$(realpath "$(dirname "$0")/rows.sh")
-folder=$(mktemp -d)
-trap 'rm -rf "$folder"' EXIT
-cd "$folder" || exit 1
-. "$rows"
+. "$(dirname "$0")/rows.sh"
 
 printf hello > hello
 head -c 5 /dev/zero > zeros

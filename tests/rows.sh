@@ -1,4 +1,12 @@
-# What the rows of the program's tests have in common. It is read by `.`, in a folder of the test's own; `program` is the program.
+# What the rows of the program's tests have in common. It is read by `.`, with the program as the first word, and goes on in a folder of the
+# test's own: `program` is the program, `samples` the folder of the samples.
+set -uo pipefail
+: "${1:?usage: $0 PROGRAM}"
+program=$(realpath "$1")
+samples=$(realpath "$(dirname "${BASH_SOURCE[0]}")/../samples")
+folder=$(mktemp -d)
+trap 'rm -rf "$folder"' EXIT
+cd "$folder" || exit 1
 passed=0
 failed=0
 

@@ -1,14 +1,7 @@
 #!/usr/bin/env bash
 # Runs the commands of the built program that show a tree or change it by several calls, and compares what they make with GNU tar and Python.
 # Usage: tests/trees.sh PROGRAM. It prints a line for each row that fails, and ends with 'N passed, N failed'.
-set -uo pipefail
-program=$(realpath "${1:?usage: tests/trees.sh PROGRAM}")
-samples=$(realpath "$(dirname "$0")/../samples")
-rows=$(realpath "$(dirname "$0")/rows.sh")
-folder=$(mktemp -d)
-trap 'rm -rf "$folder"' EXIT
-cd "$folder" || exit 1
-. "$rows"
+. "$(dirname "$0")/rows.sh"
 linux="$samples/linux_made.v7"
 
 # imports FILE WORD..: the program imports the archive in FILE, without a word

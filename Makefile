@@ -31,6 +31,7 @@ test:
 	tests/program.sh ./unixvol
 	tests/looks.sh ./unixvol
 	tests/trees.sh ./unixvol
+	tests/many_trees.sh ./unixvol
 	tests/explaining.sh ./unixvol
 	tests/manual.sh ./unixvol
 

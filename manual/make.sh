@@ -193,6 +193,7 @@ completer() {
     case $1 in
         edition) echo '(6 7)' ;;
         file) echo _files ;;
+        path) echo _unixvol_paths ;;
         *) echo ' ' ;;
     esac
 }
@@ -200,48 +201,99 @@ completer() {
 # quoted: standard input as the text within an argument of zsh's `_arguments`
 quoted() { sed -e "s/'/'\\\\''/g" -e 's/\[/(/g' -e 's/\]/)/g' -e 's/:/\\:/g'; }
 
-# arguments COMMAND: the arguments of zsh's `_arguments` for a command, a line each
-arguments() {
-    local name text place star value
-    while IFS=$'\t' read -r name text; do
+# option_arguments COMMAND: the options of a command for zsh's `_arguments`, a line each
+option_arguments() {
+    local names text value
+    while IFS=$'\t' read -r names text; do
         value=
-        [[ $name == *'<'* ]] && value=":$(grep -o '<[A-Z]*>' <<< "$name" | tr -d '<>'):$(completer "$(kind "$(grep -o '<[A-Z]*>' <<< "$name" | tr -d '<>')")")"
-        for name in $(sed -e 's/,//g' -e 's/<[A-Z]*>//' <<< "$name"); do
+        [[ $names =~ \<([A-Z]+)\> ]] && value=":${BASH_REMATCH[1]}:$(completer "$(kind "${BASH_REMATCH[1]}")")"
+        for name in $(sed -e 's/,//g' -e 's/<[A-Z]*>//' <<< "$names"); do
             echo "'${name}[$(quoted <<< "$text")]$value'"
         done
     done < <(section Options "$1" | sed -E -e 's/^ +//' -e 's/  +/\t/')
-    place=2
+}
+
+# word_arguments COMMAND: the words of a command for zsh's `_arguments`, a line each; of a command with an option that takes a value
+# those that it has without this option
+word_arguments() {
+    local name text count=1 place
     while IFS=$'\t' read -r name text; do
-        star=$place
-        [[ $name == *... ]] && star='*'
+        count=$((count + 1))
+        place=$count
+        if [[ $name == *... ]]; then
+            [ -z "$(valued "$1")" ] || break
+            place='*'
+        fi
         name=$(tr -d '<>[].' <<< "$name")
-        echo "'$star:$name -- $(quoted <<< "$text"):$(completer "$(kind "$name")")'"
-        place=$((place + 1))
+        echo "'$place:$name -- $(quoted <<< "$text"):$(completer "$(kind "$name")")'"
     done < <(section Arguments "$1" | sed -E -e 's/^ +//' -e 's/  +/\t/')
 }
 
+# repeated_argument COMMAND: the word that a command takes several times where an option with a value is given, for zsh's `_arguments`
+repeated_argument() {
+    local repeated
+    repeated=$(words_with_option "$1" | tail -n 1)
+    echo "'*: :$(completer "${repeated%...}")'"
+}
+
+# zsh_arguments COMMAND: how zsh completes the words of a command
+zsh_arguments() {
+    local options words given
+    options="_arguments '1: :' $(option_arguments "$1" | one_line)"
+    words=$(word_arguments "$1" | one_line)
+    given=$(valued "$1" | sed 's/=.*//' | paste -s -d '|' -)
+    if [ -z "$given" ]; then
+        echo "        $options $words"
+        return
+    fi
+    echo "        if (( \$words[(I)($given)] )); then"
+    echo "            $options $(word_arguments "$1" | head -n 2 | one_line) $(repeated_argument "$1")"
+    echo "        else"
+    echo "            $options $words"
+    echo "        fi"
+}
+
 zsh_completion() {
-    echo '#compdef unixvol'
-    echo '# Completion for zsh. Made by manual/make.sh.'
-    echo
+    cat << 'END'
+#compdef unixvol
+# Completion for zsh. Made by manual/make.sh.
+
+# The names in a directory of the volume, as far as the path's directory leads there.
+_unixvol_paths() {
+    local given=${(Q)PREFIX} folder= name
+    local -a paths
+    [[ $given == */* ]] && folder=${given%/*}
+    for name in "${(@f)$(unixvol ls -- "${(Q)line[2]}" "${(Q)line[3]}" "$folder/" 2> /dev/null)}"; do
+        name=${name[7,-1]}
+        [[ -z $name || $name == (.|..) ]] || paths+=("$folder/$name")
+    done
+    [[ $given == /* ]] || paths=("${(@)paths#/}")
+    compadd -S '' -a paths
+}
+
+END
     echo 'local -a commands'
     echo 'commands=('
     for command in $(commands); do
         echo "    '$command:$(about "$command" | quoted)'"
     done
-    echo ')'
-    echo '# The option of all commands may stand before the command.'
-    echo 'if (( CURRENT > 2 )) && [[ $words[2] == --explain ]]; then'
-    echo '    words=("$words[1]" "${(@)words[3,-1]}")'
-    echo '    (( CURRENT -= 1 ))'
-    echo 'fi'
-    echo 'if (( CURRENT == 2 )); then'
-    echo '    _describe command commands'
-    echo '    return'
-    echo 'fi'
-    echo "case \$words[2] in"
+    cat << 'END'
+)
+# The option of all commands may stand before the command.
+if (( CURRENT > 2 )) && [[ $words[2] == --explain ]]; then
+    words=("$words[1]" "${(@)words[3,-1]}")
+    (( CURRENT -= 1 ))
+fi
+if (( CURRENT == 2 )); then
+    _describe command commands
+    return
+fi
+case $words[2] in
+END
     for command in $(commands); do
-        echo "    $command) _arguments '1: :' $(arguments "$command" | one_line) ;;"
+        echo "    $command)"
+        zsh_arguments "$command"
+        echo "        ;;"
     done
     echo 'esac'
 }

@@ -32,38 +32,25 @@ impl LastLine {
         }
     }
 
-    /// The line with one more byte; after its end the first byte of the next.
-    fn with(self, byte: u8) -> LastLine {
-        let line = if self.is_ended {
-            LastLine::none()
-        } else {
-            self
-        };
-        if byte == b'\n' {
-            return LastLine {
-                is_ended: true,
-                ..line
-            };
-        }
-        if line.length >= KEPT {
-            return line;
-        }
-        let mut bytes = line.bytes;
-        bytes[line.length] = byte;
-        LastLine {
-            bytes,
-            length: line.length + 1,
-            ..line
+    /// Takes some bytes more.
+    fn take(&mut self, bytes: &[u8]) {
+        for byte in bytes {
+            self.take_byte(*byte);
         }
     }
 
-    /// The line after some bytes more.
-    fn after(self, bytes: &[u8]) -> LastLine {
-        let mut line = self;
-        for byte in bytes {
-            line = line.with(*byte);
+    /// Takes one byte more, or after its end the first of the next line.
+    fn take_byte(&mut self, byte: u8) {
+        if self.is_ended {
+            self.length = 0;
+            self.is_ended = false;
         }
-        line
+        if byte == b'\n' {
+            self.is_ended = true;
+        } else if self.length < KEPT {
+            self.bytes[self.length] = byte;
+            self.length += 1;
+        }
     }
 
     /// What is kept of the line.
@@ -98,7 +85,7 @@ impl<S: Sink> Sink for Heard<S> {
     fn write(&mut self, buf: &[u8]) -> io::Result<usize> {
         let result = self.sink.write(buf);
         if let Ok(count) = result {
-            self.line = self.line.after(&buf[..count]);
+            self.line.take(&buf[..count]);
         }
         result
     }

@@ -9,7 +9,7 @@ ghost use Rattle.vol_commands.specs.Cat.{cat_status};
 ghost use Rattle.unixvol.specs.Running.{IsStatusOfFileOrMemory};
 
 use crate::host::Host;
-use crate::meanings::{meaning_of, shown};
+use crate::meanings::{self, meaning_of, shown};
 use crate::subject::Subject;
 use clap::error::ErrorKind;
 use pdp_words::{Sink, write_all};
@@ -248,7 +248,8 @@ pub fn explain_no_memory<R: Eprint>(host: &Host<'_, R>) -> u8
 {
     let _ = eprintln!(host.rt; "{NO_MEMORY_LINE}");
     if host.explains {
-        let _ = eprintln!(host.rt; "unixvol: there was too little memory for this");
+        let words = meanings::NO_MEMORY;
+        let _ = eprintln!(host.rt; "unixvol: {words}");
     }
     NO_MEMORY
 }

@@ -12,6 +12,7 @@ mod looking;
 mod meanings;
 mod noted;
 mod reading;
+mod said;
 mod saving;
 mod saving_file;
 mod subject;

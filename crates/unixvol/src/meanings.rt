@@ -1,26 +1,19 @@
 //! What the lines of faults mean, in words.
 
+use crate::said::Said;
 use crate::subject::{About, Subject};
 use command_words::Verb;
 use escaped_text::push_escaped;
 use std::alloc::{AllocError, Global};
+use vol_dir::Refusal;
 use vol_findings::Rule;
 
-/// What an image lacks that breaks the rules: all of them, in the order of their numbers.
-static RULES: [Rule; 12] = [
-    Rule::Whole,
-    Rule::Bounded,
-    Rule::Kinds,
-    Rule::Sizes,
-    Rule::Zoned,
-    Rule::Listed,
-    Rule::Apart,
-    Rule::Covered,
-    Rule::Entries,
-    Rule::Dots,
-    Rule::Tree,
-    Rule::Links,
-];
+/// What want of memory means.
+pub const NO_MEMORY: &str = "there was too little memory for this";
+
+/// What BadId means.
+const BAD_ID: &str =
+    "the user or the group is above the edition's highest, 255 in the sixth and 32767 in the seventh";
 
 /// What a command's line on standard error means, and what it is about. `None` of a line that says in words what is wrong, as
 /// those of `export` and `import` do of entries and members.
@@ -29,45 +22,45 @@ pub fn meaning_of(
     line: &[u8],
     subject: Subject<'_>,
 ) -> Result<Option<String>, AllocError> {
-    let Some(said) = said_in(line) else {
-        return Ok(None);
-    };
-    if let Some(number) = said.strip_prefix("unsound, rule ") {
-        return rule_meaning(alloc, number, subject);
-    }
-    if let Some(place) = said.strip_prefix("script ") {
-        return script_meaning(alloc, place, subject);
-    }
-    match said.split_once(": ") {
-        // The path of a call has a slash, and no reason in words has one; the lines of `get` have no such reasons.
-        Some((refusal, path)) if path.contains('/') || subject.verb == Verb::Get => {
-            named_meaning(alloc, refusal, subject)
+    match Said::in_line(line, subject.verb) {
+        Some(Said::Unsound(rule)) => rule_meaning(alloc, rule, subject),
+        Some(Said::BadLine { script, line }) => script_meaning(alloc, script, line, subject),
+        Some(Said::Refused(refusal)) => refusal_meaning(alloc, refusal, subject),
+        Some(Said::RefusedAt(refusal)) => named_meaning(alloc, refusal, subject),
+        Some(Said::Bounds) => {
+            let about = about_in(alloc, subject)?;
+            meaning(alloc, about, "no volume of the edition has these sizes")
         }
-        _ => refusal_meaning(alloc, said, subject),
+        Some(Said::HasDevice) => {
+            let image = shown(alloc, subject.image)?;
+            meaning(
+                alloc,
+                image,
+                "the volume has a special file, and migrate makes none",
+            )
+        }
+        // Where standard output failed, the system's reason is told in the place of this.
+        Some(Said::Unwritten) if subject.verb == Verb::Export => {
+            let output = shown(alloc, "standard output")?;
+            meaning(alloc, output, "it is a terminal, which gets no archive")
+        }
+        Some(Said::Unwritten) | None => Ok(None),
     }
 }
 
-/// What stands in a line behind the program's name. `None` of another program's line, or of none.
-fn said_in(line: &[u8]) -> Option<&str> {
-    match str::from_utf8(line) {
-        Ok(text) => text.strip_prefix("unixvol: "),
-        Err(_) => None,
-    }
+/// The second line of a fault, without the program's name: what it is about, and what it means.
+fn meaning(alloc: Global, about: String, words: &str) -> Result<Option<String>, AllocError> {
+    Ok(Some(format!(in alloc; "{about}: {words}")?))
 }
 
-/// What it means that an image breaks the rule of a number.
+/// What it means that an image breaks a rule.
 fn rule_meaning(
     alloc: Global,
-    number: &str,
+    rule: Rule,
     subject: Subject<'_>,
 ) -> Result<Option<String>, AllocError> {
-    let Ok(number) = number.parse::<u8>() else {
-        return Ok(None);
-    };
-    let Some(rule) = RULES.iter().find(|rule| rule.number() == number) else {
-        return Ok(None);
-    };
     let image = shown(alloc, subject.image)?;
+    let number = rule.number();
     let sentence = rule.sentence();
     let more = match rule {
         Rule::Whole | Rule::Bounded => "; perhaps it is of the other edition",
@@ -77,15 +70,13 @@ fn rule_meaning(
     Ok(Some(text))
 }
 
-/// What it means that a line of a script can't be read, by the numbers of both, as in `2 line 7`.
+/// What it means that a line of a script can't be read.
 fn script_meaning(
     alloc: Global,
-    place: &str,
+    script: usize,
+    line: &str,
     subject: Subject<'_>,
 ) -> Result<Option<String>, AllocError> {
-    let Some((script, line)) = place.split_once(" line ") else {
-        return Ok(None);
-    };
     let script = match subject.about {
         About::Scripts(scripts) => script_at(scripts, script),
         _ => None,
@@ -101,42 +92,35 @@ fn script_meaning(
 }
 
 /// The script of a number, of which the first is 1.
-fn script_at<'a>(scripts: &'a [&'a str], number: &str) -> Option<&'a str> {
-    let number = number.parse::<usize>().ok()?;
+fn script_at<'a>(scripts: &'a [&'a str], number: usize) -> Option<&'a str> {
     scripts.get(number.checked_sub(1)?).copied()
 }
 
 /// What a refusal means that is about a member or a file, which the line names itself.
 fn named_meaning(
     alloc: Global,
-    refusal: &str,
+    refusal: Refusal,
     subject: Subject<'_>,
 ) -> Result<Option<String>, AllocError> {
     let named = match subject.verb {
         Verb::Import => "this member",
         _ => "this file",
     };
-    match words_of(refusal, subject.verb) {
-        Some(words) => Ok(Some(format!(in alloc; "{named}: {words}")?)),
-        None => Ok(None),
-    }
+    let words = words_of(refusal, subject.verb);
+    Ok(Some(format!(in alloc; "{named}: {words}")?))
 }
 
 /// What a refusal means, and what it is about.
 fn refusal_meaning(
     alloc: Global,
-    refusal: &str,
+    refusal: Refusal,
     subject: Subject<'_>,
 ) -> Result<Option<String>, AllocError> {
-    let Some(words) = words_of(refusal, subject.verb) else {
-        return Ok(None);
-    };
     let about = match refusal {
-        "12 NoMemory" | "105 HasDevice" => shown(alloc, subject.image)?,
-        "cannot write -" => shown(alloc, "standard output")?,
+        Refusal::NoMemory => shown(alloc, subject.image)?,
         _ => about_in(alloc, subject)?,
     };
-    Ok(Some(format!(in alloc; "{about}: {words}")?))
+    meaning(alloc, about, words_of(refusal, subject.verb))
 }
 
 /// What a command does its work on, as the second line names it.
@@ -170,33 +154,24 @@ pub fn shown(alloc: Global, word: &str) -> Result<String, AllocError> {
     Ok(text)
 }
 
-/// What BadId means.
-const BAD_ID: &str =
-    "the user or the group is above the edition's highest, 255 in the sixth and 32767 in the seventh";
-
-/// What a refusal means for a command, in words. `None` of what is no refusal.
-fn words_of(refusal: &str, verb: Verb) -> Option<&'static str> {
+/// What a refusal means for a command, in words.
+fn words_of(refusal: Refusal, verb: Verb) -> &'static str {
     match refusal {
-        "1 NotOwner" => Some("only its owner and user 0 may do this"),
-        "2 NoEntry" => Some(no_entry(verb)),
-        "12 NoMemory" => Some("there was too little memory for this"),
-        "13 Access" => Some("the permissions don't allow it"),
-        "17 Exists" => Some(exists(verb)),
-        "20 NotDirectory" => Some(not_directory(verb)),
-        "21 IsDirectory" => Some(is_directory(verb)),
-        "22 Invalid" => Some("the root, and what . or .. names, can't be removed"),
-        "27 TooBig" => Some(too_big(verb)),
-        "28 NoSpace" => Some(no_space(verb)),
-        "31 TooManyLinks" => Some(too_many_links(verb)),
-        "101 NotEmpty" => Some("there are names in it beside . and .."),
-        "102 NotRegular" => Some(not_regular(verb)),
-        "103 NoInode" => Some(no_inode(verb)),
-        "104 BadId" => Some(BAD_ID),
-        "105 HasDevice" => Some("the volume has a special file, and migrate makes none"),
-        "bounds" => Some("no volume of the edition has these sizes"),
-        // Where standard output failed, the system's reason is told in the place of this.
-        "cannot write -" if verb == Verb::Export => Some("it is a terminal, which gets no archive"),
-        _ => None,
+        Refusal::NotOwner => "only its owner and user 0 may do this",
+        Refusal::NoEntry => no_entry(verb),
+        Refusal::NoMemory => NO_MEMORY,
+        Refusal::Access => "the permissions don't allow it",
+        Refusal::Exists => exists(verb),
+        Refusal::NotDirectory => not_directory(verb),
+        Refusal::IsDirectory => is_directory(verb),
+        Refusal::Invalid => "the root, and what . or .. names, can't be removed",
+        Refusal::TooBig => too_big(verb),
+        Refusal::NoSpace => no_space(verb),
+        Refusal::TooManyLinks => too_many_links(verb),
+        Refusal::NotEmpty => "there are names in it beside . and ..",
+        Refusal::NotRegular => not_regular(verb),
+        Refusal::NoInode => no_inode(verb),
+        Refusal::BadId => BAD_ID,
     }
 }
 

@@ -29,7 +29,7 @@ const NOT_ASKED: [Found; 11] = [
 ];
 
 /// Images, and what is found of the rules that don't hold.
-static ROWS: [(Made, &[Found]); 21] = [
+static ROWS: [(Made, &[Found]); 23] = [
     // New volumes, of the sixth edition and of the seventh.
     (Made { ..SIXTH }, &[]),
     (Made { ..SEVENTH }, &[]),
@@ -72,13 +72,33 @@ static ROWS: [(Made, &[Found]); 21] = [
         },
         &[(5, "no data block: i-node 1, number 99"), (7, "not asked")],
     ),
-    // The free list meets a block twice; what is lost isn't asked.
+    // The free list meets a block twice; what is used twice and what is lost isn't asked.
     (
         Made {
             pieces: &[(544, &[6, 0])],
             ..SIXTH
         },
-        &[(6, "free repeat: 6"), (8, "not asked")],
+        &[(6, "free repeat: 6"), (7, "not asked"), (8, "not asked")],
+    ),
+    // The same, where the root names a block that the list met before.
+    (
+        Made {
+            pieces: &[(544, &[6, 0]), (1034, &[5, 0])],
+            ..SIXTH
+        },
+        &[(6, "free repeat: 6"), (7, "not asked"), (8, "not asked")],
+    ),
+    // The same, where the root names its block twice: that is found all the same.
+    (
+        Made {
+            pieces: &[(544, &[6, 0]), (1034, &[4, 0])],
+            ..SIXTH
+        },
+        &[
+            (6, "free repeat: 6"),
+            (7, "named twice: i-node 1, block 4"),
+            (8, "not asked"),
+        ],
     ),
     // The root names its block twice.
     (

@@ -1,7 +1,8 @@
 -- All twelve rules hold exactly where each is said to.
-use Rattle.std.proofs.Common.{◌≡◌, ℕ, ◌&&◌, Bool, true, false, inr, IsTrue, ◌↔◌, List, None, refl}
+use Rattle.std.proofs.Common.{◌≡◌, ◌⊎◌, ℕ, ◌&&◌, Bool, true, false, inl, inr, IsTrue, ◌↔◌, List, None, refl}
 use Rattle.vol_layout.specs.Geometry.{geometry_of}
 use Rattle.vol_layout.specs.declared.edition.Edition.{Edition}
+use Rattle.vol_file.specs.Rules.{IsApart}
 use Rattle.vol_judge.specs.Sound.{Rule, IsSound}
 use Rattle.vol_judge.proofs.Numbering.{judged}
 use Rattle.vol_findings.specs.Dots.{IsFirstDots}
@@ -23,7 +24,7 @@ use Rattle.vol_findings.specs.declared.outcome.Outcomes.{Outcomes}
 
 -- a rule that is said to hold holds
 held : (rule : Type 0) (first : Finding → Type 0) (reason : Type 0) (outcome : Outcome) → Says rule first reason outcome → is_held outcome ≡ true → rule
-held rule first reason Holds says is = says
+held rule first reason Holds says is = says.0
 held rule first reason (Broken finding) says is = absurd (cc)
 held rule first reason NotAsked says is = absurd (cc)
 
@@ -33,6 +34,17 @@ said_held : (rule : Type 0) (first : Finding → Type 0) (reason : Type 0) (outc
 said_held rule first reason Holds says holds asked = refl
 said_held rule first reason (Broken finding) says holds asked = absurd (says.1 holds)
 said_held rule first reason NotAsked says holds asked = absurd (asked says)
+
+-- why rule 7 isn't asked
+abbrev TwiceUnasked : Edition → List ℕ → Type 0
+TwiceUnasked edition image =
+    (HasGeometry edition image × Keeps edition image 5 → ⊥) ⊎ (IsApart (geometry_of edition image) image × (Keeps edition image 6 → ⊥))
+
+-- it is asked where rules 5 and 6 hold
+twice_asked : (edition : Edition) (image : List ℕ) → HasGeometry edition image → Keeps edition image 5 → Keeps edition image 6
+    → TwiceUnasked edition image → ⊥
+twice_asked edition image read zoned listed (inl fails) = fails (read, zoned)
+twice_asked edition image read zoned listed (inr fails) = fails.1 listed
 
 -- both of two tests
 both_true : (a b : Bool) → (a && b) ≡ true → (a ≡ true) × (b ≡ true)
@@ -78,7 +90,7 @@ module _ (edition : Edition) (image : List ℕ) (found : Outcomes) (tells : Tell
                   inr (
                     held (Keeps edition image 6) (IsFirstFault g image) Unread found.listed tells.listed listed.0,
                     inr (
-                      held (Keeps edition image 7) (IsFirstTwice g image) (HasGeometry edition image × Keeps edition image 5 → ⊥) found.apart tells.apart apart.0,
+                      held (Keeps edition image 7) (IsFirstTwice g image) (TwiceUnasked edition image) found.apart tells.apart apart.0,
                       inr (
                         held (Keeps edition image 8) (IsFirstUncovered g image) (HasGeometry edition image × Keeps edition image 6 → ⊥) found.covered tells.covered covered.0,
                         inr (
@@ -124,8 +136,8 @@ module _ (edition : Edition) (image : List ℕ) (found : Outcomes) (tells : Tell
       and_true (is_held found.listed) _
       (said_held (Keeps edition image 6) (IsFirstFault g image) Unread found.listed tells.listed (sound 6) (λ no. no read)) (
       and_true (is_held found.apart) _
-      (said_held (Keeps edition image 7) (IsFirstTwice g image) (HasGeometry edition image × Keeps edition image 5 → ⊥) found.apart tells.apart (sound 7)
-      (λ no. no (read, sound 5))) (
+      (said_held (Keeps edition image 7) (IsFirstTwice g image) (TwiceUnasked edition image) found.apart tells.apart (sound 7)
+      (twice_asked edition image read (sound 5) (sound 6))) (
       and_true (is_held found.covered) _
       (said_held (Keeps edition image 8) (IsFirstUncovered g image) (HasGeometry edition image × Keeps edition image 6 → ⊥) found.covered tells.covered
       (sound 8) (λ no. no (read, sound 6))) (

@@ -1,12 +1,12 @@
 -- What is said of each rule, by what was found.
-use Rattle.std.proofs.Common.{◌≡◌, ℕ, Bool, true, false, if◌then◌else◌, List, Option, None, Some, Result, Ok, Err, IfOk, refl, sym, subst}
+use Rattle.std.proofs.Common.{◌≡◌, ◌⊎◌, inl, inr, ℕ, Bool, true, false, if◌then◌else◌, List, Option, None, Some, Result, Ok, Err, IfOk, refl, sym, subst}
 use Rattle.std.specs.declared.alloc.AllocError.{AllocError}
 use Rattle.vol_layout.specs.Geometry.{geometry_of, geometry_read, is_whole, is_bounded}
 use Rattle.vol_layout.specs.declared.edition.Edition.{Edition}
 use Rattle.vol_layout.specs.declared.geometry.Geometry.{Geometry}
 use Rattle.vol_layout.specs.declared.geometry.GeometryFault.TheVariants.{Short, Bounds}
 use Rattle.vol_free.specs.Stack.{HasStack}
-use Rattle.vol_file.specs.Rules.{HasKinds, HasSizes, IsZoned}
+use Rattle.vol_file.specs.Rules.{HasKinds, HasSizes, IsZoned, IsApart}
 use Rattle.vol_dir.specs.Entries.{HasEntries}
 use Rattle.vol_judge.specs.Directories.{HasDots, IsTree, HasLinks}
 use Rattle.vol_judge.specs.Sound.{Rule, IsNoneLost}
@@ -20,29 +20,35 @@ use Rattle.vol_findings.specs.Sharing.{IsUsedOnce, IsFirstTwice}
 use Rattle.vol_findings.specs.Tree.{IsFirstTree}
 use Rattle.vol_findings.specs.Zones.{IsFirstOutside}
 use Rattle.vol_findings.specs.Finds.{Finds}
-use Rattle.vol_findings.specs.Outcomes.{Says, outcome_of, TellsVolume, Tells, Keeps, HasGeometry}
+use Rattle.vol_findings.specs.Outcomes.{Says, outcome_of, IsTwiceUnasked, TellsVolume, Tells, Keeps, HasGeometry}
 use Rattle.vol_findings.specs.declared.finding.Finding.{Finding}
 use Rattle.vol_findings.specs.declared.finding.Finding.TheVariants.{TooShort, BadSizes}
 use Rattle.vol_findings.specs.declared.outcome.Outcome.{Outcome}
 use Rattle.vol_findings.specs.declared.outcome.Outcome.TheVariants.{Holds, Broken, NotAsked}
 use Rattle.vol_findings.specs.declared.outcome.Outcomes.{Outcomes}
 
--- what a search answers is said of the rule
-said : (rule : Type 0) (first : Finding → Type 0) (reason : Type 0) (found : Option Finding) → Finds rule first found → Says rule first reason (outcome_of found)
-said rule first reason None finds = finds
-said rule first reason (Some finding) finds = finds
+-- what a search answers is said of the rule, where it is asked
+said : (rule : Type 0) (first : Finding → Type 0) (reason : Type 0) (found : Option Finding) → (reason → ⊥) → Finds rule first found
+    → Says rule first reason (outcome_of found)
+said rule first reason None asked finds = (finds, asked)
+said rule first reason (Some finding) asked finds = (finds.0, finds.1, asked)
 
 -- the same, where it is handed on
-pub said_as : (rule : Type 0) (first : Finding → Type 0) (reason : Type 0) (found : Option Finding) (outcome : Outcome) → Finds rule first found
-    → outcome ≡ outcome_of found → Says rule first reason outcome
-said_as rule first reason found outcome finds is = subst (Says rule first reason) (sym is) (said rule first reason found finds)
+pub said_as : (rule : Type 0) (first : Finding → Type 0) (reason : Type 0) (found : Option Finding) (outcome : Outcome) → (reason → ⊥)
+    → Finds rule first found → outcome ≡ outcome_of found → Says rule first reason outcome
+said_as rule first reason found outcome asked finds is = subst (Says rule first reason) (sym is) (said rule first reason found asked finds)
 
--- a reason for another
-said_for : (rule : Type 0) (first : Finding → Type 0) (reason other : Type 0) (outcome : Outcome) → (reason → other) → Says rule first reason outcome
-    → Says rule first other outcome
-said_for rule first reason other Holds from says = says
-said_for rule first reason other (Broken finding) from says = says
-said_for rule first reason other NotAsked from says = from says
+-- a reason for another that is there in the same cases
+said_for : (rule : Type 0) (first : Finding → Type 0) (reason other : Type 0) (outcome : Outcome) → (reason → other) → (other → reason)
+    → Says rule first reason outcome → Says rule first other outcome
+said_for rule first reason other Holds from back says = (says.0, λ there. says.1 (back there))
+said_for rule first reason other (Broken finding) from back says = (says.0, says.1, λ there. says.2 (back there))
+said_for rule first reason other NotAsked from back says = from says
+
+-- one of two reasons for another
+first_for : (one other second : Type 0) → (one → other) → one ⊎ second → other ⊎ second
+first_for one other second from (inl there) = inl (from there)
+first_for one other second from (inr there) = inr there
 
 -- what is chosen by two tests is one of three
 chosen_short : (w b : Bool) (g : Geometry) → (if w then (if b then Ok g else Err Bounds) else Err Short) ≡ Err Short → w ≡ true → ⊥
@@ -85,13 +91,13 @@ unfolding geometry_read Rule
 tells_short edition image e =
     let fails = chosen_short (is_whole edition image) (is_bounded edition image) (geometry_of edition image) e in
     record {
-      whole = (refl, fails);
+      whole = (refl, fails, λ none. none);
       bounded = fails;
       kinds = λ has. fails has.0;
       sizes = λ has. fails has.0;
       zoned = λ has. fails has.0;
       listed = λ has. fails has.0;
-      apart = λ has. fails has.0.0;
+      apart = inl (λ has. fails has.0.0);
       covered = λ has. fails has.0.0;
       entries = λ has. fails has.0;
       dots = λ has. fails has.0.0;
@@ -105,13 +111,13 @@ unfolding geometry_read Rule
 tells_bounds edition image e =
     let chosen = chosen_bounds (is_whole edition image) (is_bounded edition image) (geometry_of edition image) e in
     record {
-      whole = chosen.0;
-      bounded = (refl, chosen.1);
+      whole = (chosen.0, λ none. none);
+      bounded = (refl, chosen.1, λ fails. fails chosen.0);
       kinds = λ has. chosen.1 has.1;
       sizes = λ has. chosen.1 has.1;
       zoned = λ has. chosen.1 has.1;
       listed = λ has. chosen.1 has.1;
-      apart = λ has. chosen.1 has.0.1;
+      apart = inl (λ has. chosen.1 has.0.1);
       covered = λ has. chosen.1 has.0.1;
       entries = λ has. chosen.1 has.1;
       dots = λ has. chosen.1 has.0.1;
@@ -126,22 +132,29 @@ unfolding Rule
 tells_own edition image found whole bounded volume =
     let g = geometry_of edition image in
     let Unread : Type 0 = HasGeometry edition image → ⊥ in
+    let read : HasGeometry edition image = (whole, bounded) in
+    let asked : Unread → ⊥ = λ unread. unread read in
     record {
-      whole = subst (Says (is_whole edition image ≡ true) (λ finding. finding ≡ TooShort) ⊥) (sym volume.whole) whole;
-      bounded = subst (Says (is_bounded edition image ≡ true) (λ finding. finding ≡ BadSizes) (is_whole edition image ≡ true → ⊥)) (sym volume.bounded) bounded;
-      kinds = said_for (HasKinds g image) (IsFirstKind g image) ⊥ Unread found.kinds (λ none. absurd none) volume.kinds;
-      sizes = said_for (HasSizes g image) (IsFirstSize g image) ⊥ Unread found.sizes (λ none. absurd none) volume.sizes;
-      zoned = said_for (IsZoned g image) (IsFirstOutside g image) ⊥ Unread found.zoned (λ none. absurd none) volume.zoned;
-      listed = said_for (HasStack g image) (IsFirstFault g image) ⊥ Unread found.listed (λ none. absurd none) volume.listed;
-      apart = said_for (IsUsedOnce g image) (IsFirstTwice g image) (IsZoned g image → ⊥) (HasGeometry edition image × Keeps edition image 5 → ⊥)
-          found.apart (λ fails has. fails has.1) volume.apart;
+      whole = subst (Says (is_whole edition image ≡ true) (λ finding. finding ≡ TooShort) ⊥) (sym volume.whole) (whole, λ none. none);
+      bounded = subst (Says (is_bounded edition image ≡ true) (λ finding. finding ≡ BadSizes) (is_whole edition image ≡ true → ⊥)) (sym volume.bounded)
+          (bounded, λ fails. fails whole);
+      kinds = said_for (HasKinds g image) (IsFirstKind g image) ⊥ Unread found.kinds (λ none. absurd none) asked volume.kinds;
+      sizes = said_for (HasSizes g image) (IsFirstSize g image) ⊥ Unread found.sizes (λ none. absurd none) asked volume.sizes;
+      zoned = said_for (IsZoned g image) (IsFirstOutside g image) ⊥ Unread found.zoned (λ none. absurd none) asked volume.zoned;
+      listed = said_for (HasStack g image) (IsFirstFault g image) ⊥ Unread found.listed (λ none. absurd none) asked volume.listed;
+      apart = said_for (IsUsedOnce g image) (IsFirstTwice g image) (IsTwiceUnasked g image)
+          ((HasGeometry edition image × Keeps edition image 5 → ⊥) ⊎ (IsApart g image × (Keeps edition image 6 → ⊥))) found.apart
+          (first_for (IsZoned g image → ⊥) (HasGeometry edition image × Keeps edition image 5 → ⊥) (IsApart g image × (HasStack g image → ⊥))
+          (λ fails has. fails has.1))
+          (first_for (HasGeometry edition image × Keeps edition image 5 → ⊥) (IsZoned g image → ⊥) (IsApart g image × (HasStack g image → ⊥))
+          (λ fails zoned. fails (read, zoned))) volume.apart;
       covered = said_for (IsNoneLost g image) (IsFirstUncovered g image) (HasStack g image → ⊥) (HasGeometry edition image × Keeps edition image 6 → ⊥)
-          found.covered (λ fails has. fails has.1) volume.covered;
-      entries = said_for (HasEntries g image) (IsFirstEntry g image) ⊥ Unread found.entries (λ none. absurd none) volume.entries;
+          found.covered (λ fails has. fails has.1) (λ fails stack. fails (read, stack)) volume.covered;
+      entries = said_for (HasEntries g image) (IsFirstEntry g image) ⊥ Unread found.entries (λ none. absurd none) asked volume.entries;
       dots = said_for (HasDots g image) (IsFirstDots g image) (HasEntries g image → ⊥) (HasGeometry edition image × Keeps edition image 9 → ⊥) found.dots
-          (λ fails has. fails has.1) volume.dots;
-      tree = said_for (IsTree g image) (IsFirstTree g image) ⊥ Unread found.tree (λ none. absurd none) volume.tree;
-      links = said_for (HasLinks g image) (IsFirstLink g image) ⊥ Unread found.links (λ none. absurd none) volume.links;
+          (λ fails has. fails has.1) (λ fails entries. fails (read, entries)) volume.dots;
+      tree = said_for (IsTree g image) (IsFirstTree g image) ⊥ Unread found.tree (λ none. absurd none) asked volume.tree;
+      links = said_for (HasLinks g image) (IsFirstLink g image) ⊥ Unread found.links (λ none. absurd none) asked volume.links;
     }
 
 pub tells_volume : (edition : Edition) (image : List ℕ) (g : Geometry) (found : Outcomes) → geometry_read edition image ≡ Ok g

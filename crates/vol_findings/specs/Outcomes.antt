@@ -1,8 +1,8 @@
 -- What is found of each rule.
-use Rattle.std.specs.Prelude.{◌≡◌, ℕ, true, List, Option, None, Some}
+use Rattle.std.specs.Prelude.{◌≡◌, ◌⊎◌, ℕ, true, List, Option, None, Some}
 use Rattle.vol_layout.specs.Geometry.{geometry_of}
 use Rattle.vol_free.specs.Stack.{HasStack}
-use Rattle.vol_file.specs.Rules.{HasKinds, HasSizes, IsZoned}
+use Rattle.vol_file.specs.Rules.{HasKinds, HasSizes, IsZoned, IsApart}
 use Rattle.vol_dir.specs.Entries.{HasEntries}
 use Rattle.vol_judge.specs.Directories.{HasDots, IsTree, HasLinks}
 use Rattle.vol_judge.specs.Sound.{Rule, IsNoneLost}
@@ -23,10 +23,10 @@ use Rattle.vol_findings.specs.declared.outcome.Outcome.{Outcome}
 use Rattle.vol_findings.specs.declared.outcome.Outcome.TheVariants.{Holds, Broken, NotAsked}
 use Rattle.vol_findings.specs.declared.outcome.Outcomes.{Outcomes}
 
--- what is said of a rule: that it holds, what breaks it first, or that it isn't asked, for a reason (this project)
+-- what is said of a rule: that it isn't asked, exactly where there is a reason; else that it holds, or what breaks it first (this project)
 abbrev pub Says : Type 0 → (Finding → Type 0) → Type 0 → Outcome → Type 0
-Says rule first reason Holds = rule
-Says rule first reason (Broken finding) = first finding × (rule → ⊥)
+Says rule first reason Holds = rule × (reason → ⊥)
+Says rule first reason (Broken finding) = first finding × (rule → ⊥) × (reason → ⊥)
 Says rule first reason NotAsked = reason
 
 -- what a search answers, as what is said of the rule (this project)
@@ -34,7 +34,11 @@ abbrev pub outcome_of : Option Finding → Outcome
 outcome_of None = Holds
 outcome_of (Some finding) = Broken finding
 
--- what is said of the rules of a volume whose geometry is known: rule 7 isn't asked where 5 fails, nor 8 where 6 does, nor 10 where 9 does (this project)
+-- why rule 7 isn't asked: rule 5 fails, or rule 6 does and no two places name one block (this project)
+abbrev pub IsTwiceUnasked : Geometry → List ℕ → Type 0
+IsTwiceUnasked geometry image = (IsZoned geometry image → ⊥) ⊎ (IsApart geometry image × (HasStack geometry image → ⊥))
+
+-- what is said of the rules of a volume whose geometry is known: 7 isn't asked for the reason above, 8 where 6 fails, 10 where 9 does (this project)
 pub record TellsVolume (geometry : Geometry) (image : List ℕ) (found : Outcomes) : Type 0 where
   pub whole : found.whole ≡ Holds
   pub bounded : found.bounded ≡ Holds
@@ -42,7 +46,7 @@ pub record TellsVolume (geometry : Geometry) (image : List ℕ) (found : Outcome
   pub sizes : Says (HasSizes geometry image) (IsFirstSize geometry image) ⊥ found.sizes
   pub zoned : Says (IsZoned geometry image) (IsFirstOutside geometry image) ⊥ found.zoned
   pub listed : Says (HasStack geometry image) (IsFirstFault geometry image) ⊥ found.listed
-  pub apart : Says (IsUsedOnce geometry image) (IsFirstTwice geometry image) (IsZoned geometry image → ⊥) found.apart
+  pub apart : Says (IsUsedOnce geometry image) (IsFirstTwice geometry image) (IsTwiceUnasked geometry image) found.apart
   pub covered : Says (IsNoneLost geometry image) (IsFirstUncovered geometry image) (HasStack geometry image → ⊥) found.covered
   pub entries : Says (HasEntries geometry image) (IsFirstEntry geometry image) ⊥ found.entries
   pub dots : Says (HasDots geometry image) (IsFirstDots geometry image) (HasEntries geometry image → ⊥) found.dots
@@ -57,7 +61,8 @@ Keeps edition image n = Rule true edition image n
 abbrev pub HasGeometry : Edition → List ℕ → Type 0
 HasGeometry edition image = Keeps edition image 1 × Keeps edition image 2
 
--- what is said of the twelve rules of an image: a rule isn't asked where one that it needs fails (this project)
+-- what is said of the twelve rules of an image: a rule isn't asked where one that it needs fails, and only there; 7 needs 6 only where no two
+-- places name one block (this project)
 pub record Tells (edition : Edition) (image : List ℕ) (found : Outcomes) : Type 0 where
   pub whole : Says (Keeps edition image 1) (λ finding. finding ≡ TooShort) ⊥ found.whole
   pub bounded : Says (Keeps edition image 2) (λ finding. finding ≡ BadSizes) (Keeps edition image 1 → ⊥) found.bounded
@@ -66,7 +71,8 @@ pub record Tells (edition : Edition) (image : List ℕ) (found : Outcomes) : Typ
   pub zoned : Says (Keeps edition image 5) (IsFirstOutside (geometry_of edition image) image) (HasGeometry edition image → ⊥) found.zoned
   pub listed : Says (Keeps edition image 6) (IsFirstFault (geometry_of edition image) image) (HasGeometry edition image → ⊥) found.listed
   pub apart : Says (Keeps edition image 7) (IsFirstTwice (geometry_of edition image) image)
-      (HasGeometry edition image × Keeps edition image 5 → ⊥) found.apart
+      ((HasGeometry edition image × Keeps edition image 5 → ⊥)
+      ⊎ (IsApart (geometry_of edition image) image × (Keeps edition image 6 → ⊥))) found.apart
   pub covered : Says (Keeps edition image 8) (IsFirstUncovered (geometry_of edition image) image)
       (HasGeometry edition image × Keeps edition image 6 → ⊥) found.covered
   pub entries : Says (Keeps edition image 9) (IsFirstEntry (geometry_of edition image) image) (HasGeometry edition image → ⊥) found.entries

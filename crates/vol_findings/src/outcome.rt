@@ -12,7 +12,7 @@ ghost use Rattle.vol_findings.specs.FreeList.{IsFirstFault};
 ghost use Rattle.vol_findings.specs.Lost.{IsFirstUncovered};
 ghost use Rattle.vol_findings.specs.Sharing.{IsUsedOnce, IsFirstTwice};
 ghost use Rattle.vol_findings.specs.Zones.{IsFirstOutside};
-ghost use Rattle.vol_findings.specs.Outcomes.{Says, TellsVolume, Tells, outcome_of};
+ghost use Rattle.vol_findings.specs.Outcomes.{Says, IsTwiceUnasked, TellsVolume, Tells, outcome_of};
 
 use crate::dots::find_dots;
 use crate::entries::find_entry;
@@ -54,7 +54,7 @@ pub struct Outcomes {
     pub zoned: Outcome,
     /// Rule 6: the free list is a stack.
     pub listed: Outcome,
-    /// Rule 7: no block is used twice. Needs rule 5.
+    /// Rule 7: no block is used twice. Needs rule 5, and where no two places of files name one block, rule 6.
     pub apart: Outcome,
     /// Rule 8: no block is lost. Needs rule 6.
     pub covered: Outcome,
@@ -147,7 +147,7 @@ fn check_volume(alloc: Global, image: &Image, geometry: &Geometry) -> Result<Out
     let sizes = Outcome::of(find_size(image, geometry));
     let zoned = Outcome::of(find_outside(alloc, image, geometry)?);
     let listed = Outcome::of(find_fault(alloc, image, geometry)?);
-    let apart = check_apart(alloc, image, geometry, zoned)?;
+    let apart = check_apart(alloc, image, geometry, zoned, listed)?;
     let covered = check_covered(alloc, image, geometry, listed)?;
     let entries = Outcome::of(find_entry(alloc, image, geometry)?);
     let dots = check_dots(alloc, image, geometry, entries)?;
@@ -169,19 +169,27 @@ fn check_volume(alloc: Global, image: &Image, geometry: &Geometry) -> Result<Out
     })
 }
 
-/// What is found of rule 7, by what is found of rule 5.
+/// What is found of rule 7, by what is found of rules 5 and 6. Two places that name one block break it even if the free list is broken.
 fn check_apart(
     alloc: Global,
     image: &Image,
     geometry: &Geometry,
     zoned: Outcome,
+    listed: Outcome,
 ) -> Result<Outcome, AllocError>
     requires fits { Fits geometry.now image.now }
     requires zoned { Says (IsZoned geometry.now image.now) (IsFirstOutside geometry.now image.now) ⊥ zoned }
-    ensures { IfOk result (Says (IsUsedOnce geometry.now image.now) (IsFirstTwice geometry.now image.now) (IsZoned geometry.now image.now → ⊥)) }
+    requires listed { Says (HasStack geometry.now image.now) (IsFirstFault geometry.now image.now) ⊥ listed }
+    ensures { IfOk result (Says (IsUsedOnce geometry.now image.now) (IsFirstTwice geometry.now image.now) (IsTwiceUnasked geometry.now image.now)) }
 {
     match zoned {
-        Outcome::Holds => Ok(Outcome::of(find_twice(alloc, image, geometry)?)),
+        Outcome::Holds => match find_twice(alloc, image, geometry)? {
+            Some(finding) => Ok(Outcome::Broken(finding)),
+            None => match listed {
+                Outcome::Holds => Ok(Outcome::Holds),
+                Outcome::Broken(_) | Outcome::NotAsked => Ok(Outcome::NotAsked),
+            },
+        },
         Outcome::Broken(_) | Outcome::NotAsked => Ok(Outcome::NotAsked),
     }
 }

@@ -23,7 +23,7 @@ use vol_layout::i_list::{address, mode};
 use vol_layout::{Form, Geometry, number};
 
 /// What breaks rule 7 first, where rule 5 holds: a block that two places of files name, by i-number and in the order of the
-/// places; then one that is named and stands in the free list, if that is a stack.
+/// places; then one that is named and stands in the free list, if that is a stack. If it isn't, `None` speaks of files alone.
 ///
 /// Costs a read of each i-node, at most two of each entry of the indirect blocks, and reading the free list. Takes two bytes for each
 /// block, and four for each free one.

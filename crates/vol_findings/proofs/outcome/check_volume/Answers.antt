@@ -16,20 +16,21 @@ pub returns : goal.returns
 returns c =
     let g = c.args.geometry.now in
     let image = c.args.image.now in
+    let asked : ⊥ → ⊥ = λ none. none in
     record {
       whole = refl;
       bounded = refl;
-      kinds = said_as (HasKinds g image) (IsFirstKind g image) ⊥ c.find_kind.result c.of-kinds.result c.find_kind.ensures c.of-kinds.ensures;
-      sizes = said_as (HasSizes g image) (IsFirstSize g image) ⊥ c.find_size.result c.of-sizes.result c.find_size.ensures c.of-sizes.ensures;
-      zoned = said_as (IsZoned g image) (IsFirstOutside g image) ⊥ c.in_ok-find_outside.field-0 c.of-zoned.result
+      kinds = said_as (HasKinds g image) (IsFirstKind g image) ⊥ c.find_kind.result c.of-kinds.result asked c.find_kind.ensures c.of-kinds.ensures;
+      sizes = said_as (HasSizes g image) (IsFirstSize g image) ⊥ c.find_size.result c.of-sizes.result asked c.find_size.ensures c.of-sizes.ensures;
+      zoned = said_as (IsZoned g image) (IsFirstOutside g image) ⊥ c.in_ok-find_outside.field-0 c.of-zoned.result asked
           c.in_ok-find_outside.ensures c.of-zoned.ensures;
-      listed = said_as (HasStack g image) (IsFirstFault g image) ⊥ c.in_ok-find_fault.field-0 c.of-listed.result
+      listed = said_as (HasStack g image) (IsFirstFault g image) ⊥ c.in_ok-find_fault.field-0 c.of-listed.result asked
           c.in_ok-find_fault.ensures c.of-listed.ensures;
       apart = c.in_ok-apart.ensures;
       covered = c.in_ok-covered.ensures;
-      entries = said_as (HasEntries g image) (IsFirstEntry g image) ⊥ c.in_ok-find_entry.field-0 c.of-entries.result
+      entries = said_as (HasEntries g image) (IsFirstEntry g image) ⊥ c.in_ok-find_entry.field-0 c.of-entries.result asked
           c.in_ok-find_entry.ensures c.of-entries.ensures;
       dots = c.in_ok-dots.ensures;
-      tree = said_as (IsTree g image) (IsFirstTree g image) ⊥ c.in_ok-find_tree.field-0 c.of-tree.result c.in_ok-find_tree.ensures c.of-tree.ensures;
-      links = said_as (HasLinks g image) (IsFirstLink g image) ⊥ c.in_ok-find_link.field-0 c.of-links.result c.in_ok-find_link.ensures c.of-links.ensures;
+      tree = said_as (IsTree g image) (IsFirstTree g image) ⊥ c.in_ok-find_tree.field-0 c.of-tree.result asked c.in_ok-find_tree.ensures c.of-tree.ensures;
+      links = said_as (HasLinks g image) (IsFirstLink g image) ⊥ c.in_ok-find_link.field-0 c.of-links.result asked c.in_ok-find_link.ensures c.of-links.ensures;
     }

@@ -2,6 +2,8 @@
 #![tactic(auto)]
 
 #[cfg(test)]
+mod directories;
+#[cfg(test)]
 mod extended;
 #[cfg(test)]
 mod fixtures;
@@ -15,3 +17,5 @@ mod refused;
 mod refusing;
 #[cfg(test)]
 mod returning;
+#[cfg(test)]
+mod ways;

@@ -1,9 +1,14 @@
 //! Archives that aren't imported.
-use crate::fixtures::{NOW, archive, blank, imported};
+use crate::fixtures::{NOW, archive, blank, imported, mount, read, stat};
 use crate::plain::{PLAIN, PLAIN_LENGTH};
 use crate::refused::{
     FIFO, FIFO_LENGTH, LONG, LONG_LENGTH, OK, OK_LENGTH, OLD, OLD_LENGTH, OWNER, OWNER_LENGTH,
     PARENT, PARENT_LENGTH, SYMBOLIC, SYMBOLIC_LENGTH,
+};
+use crate::ways::{
+    BROKEN, BROKEN_LENGTH, COMMENTED, COMMENTED_LENGTH, GIVEN_OWNER, GIVEN_OWNER_LENGTH,
+    GIVEN_PATHS, GIVEN_PATHS_LENGTH, GUEST, GUEST_LENGTH, LONG_LINK, LONG_LINK_LENGTH, PARENT_LINK,
+    PARENT_LINK_LENGTH,
 };
 use std::alloc::Global;
 use std::process::Abort;
@@ -26,6 +31,57 @@ fn members_that_no_call_makes_are_named(rt: HostRuntime) {
     check_member(&rt, alloc, &parent, b"../ok", MemberFault::DotDot);
     let owner = archive(&rt, alloc, OWNER_LENGTH, &OWNER);
     check_member(&rt, alloc, &owner, b"ok", MemberFault::Owner);
+    let long = archive(&rt, alloc, LONG_LINK_LENGTH, &LONG_LINK);
+    check_member(&rt, alloc, &long, b"b", MemberFault::LongLink);
+    let parent = archive(&rt, alloc, PARENT_LINK_LENGTH, &PARENT_LINK);
+    check_member(&rt, alloc, &parent, b"b", MemberFault::DotDotLink);
+}
+
+#[test]
+fn owners_are_those_of_the_edition(rt: HostRuntime) {
+    let alloc = rt.alloc();
+    let guest = archive(&rt, alloc, GUEST_LENGTH, &GUEST);
+    let bytes = imported(&rt, alloc, Edition::V7, &guest).expect(&rt, "an import");
+    let volume = mount(&rt, alloc, Edition::V7, bytes);
+    assert_eq!(rt; stat(&rt, alloc, &volume, b"/ok").uid, 1000);
+    match imported(&rt, alloc, Edition::V6, &guest) {
+        Err(ImportFault::Member(path, why)) => {
+            assert_eq!(rt; path.as_slice(), b"ok".as_slice());
+            assert_eq!(rt; why, MemberFault::Owner);
+        }
+        _ => panic!(rt; "an owner of the sixth edition"),
+    }
+}
+
+#[test]
+fn records_that_are_none_or_cannot_be_followed_are_refused(rt: HostRuntime) {
+    let alloc = rt.alloc();
+    let broken = archive(&rt, alloc, BROKEN_LENGTH, &BROKEN);
+    check_archive(&rt, alloc, &broken, ArchiveFault::Records(0));
+    let owner = archive(&rt, alloc, GIVEN_OWNER_LENGTH, &GIVEN_OWNER);
+    check_archive(&rt, alloc, &owner, ArchiveFault::Unsupported(0));
+    let paths = archive(&rt, alloc, GIVEN_PATHS_LENGTH, &GIVEN_PATHS);
+    check_archive(&rt, alloc, &paths, ArchiveFault::Unsupported(0));
+}
+
+/// An archive can't be read.
+fn check_archive(rt: &impl Abort, alloc: Global, archive: &[u8], wanted: ArchiveFault) {
+    match imported(rt, alloc, Edition::V7, archive) {
+        Err(ImportFault::Archive(fault)) => assert_eq!(rt; fault, wanted),
+        _ => panic!(rt; "{wanted:?}"),
+    }
+}
+
+#[test]
+fn a_comment_on_all_members_is_passed_over(rt: HostRuntime) {
+    let alloc = rt.alloc();
+    let archive = archive(&rt, alloc, COMMENTED_LENGTH, &COMMENTED);
+    for edition in [Edition::V6, Edition::V7] {
+        let bytes = imported(&rt, alloc, edition, &archive).expect(&rt, "an import");
+        let volume = mount(&rt, alloc, edition, bytes);
+        let ok = read(&rt, alloc, &volume, b"/ok");
+        assert_eq!(rt; ok.as_slice(), b"x\n".as_slice());
+    }
 }
 
 /// A member can't be made.

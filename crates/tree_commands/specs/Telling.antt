@@ -40,7 +40,9 @@ abbrev pub cause_text : MemberFault → List ℕ
 cause_text members.Kind = codes "neither a file, a directory nor a hard link"
 cause_text members.LongName = codes "a name above 14 bytes"
 cause_text members.DotDot = codes "a name .."
-cause_text members.Owner = codes "an owner or a group above 65535"
+cause_text members.LongLink = codes "a link to a path with a name above 14 bytes"
+cause_text members.DotDotLink = codes "a link to a path with a name .."
+cause_text members.Owner = codes "an owner or a group above the edition's highest"
 
 -- the line of a member of an archive that no calls make (this project)
 abbrev pub member_line : List ℕ → MemberFault → List ℕ

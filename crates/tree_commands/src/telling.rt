@@ -116,7 +116,9 @@ fn cause_text(cause: MemberFault) -> &'static [u8]
         MemberFault::Kind => b"neither a file, a directory nor a hard link",
         MemberFault::LongName => b"a name above 14 bytes",
         MemberFault::DotDot => b"a name ..",
-        MemberFault::Owner => b"an owner or a group above 65535",
+        MemberFault::LongLink => b"a link to a path with a name above 14 bytes",
+        MemberFault::DotDotLink => b"a link to a path with a name ..",
+        MemberFault::Owner => b"an owner or a group above the edition's highest",
     }
 }
 

@@ -3,3 +3,4 @@ pub mod MadeCalls
 pub mod MemberRuns
 pub mod PlanRuns
 pub mod RecordRuns
+pub mod Steps

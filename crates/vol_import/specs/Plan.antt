@@ -1,17 +1,24 @@
 -- The calls that make the members of an archive.
-use Rattle.std.specs.Prelude.{◌≡◌, ◌≢◌, ℕ, ◌-◌, ◌%◌, ◌==◌, ◌&&◌, Bool, true, false, nat_lt, if◌then◌else◌, List, [], ◌∷◌, ◌++◌, length, slice_index, codes, Result, Ok, Err}
-use Rattle.std.specs.List.{list_any, slice_split}
+use Rattle.std.specs.Prelude.{◌≡◌, ◌≢◌, ℕ, ◌-◌, ◌%◌, ◌==◌, ◌&&◌, Bool, true, false, not, nat_lt, if◌then◌else◌, List, [], ◌∷◌, ◌++◌, length, take, filter, slice_index, codes, Result, Ok, Err}
+use Rattle.std.specs.BTreeMap.{is_at}
+use Rattle.std.specs.BTreeSet.{insert_key}
+use Rattle.std.specs.Cmp.Lexicographic.{slice_cmp}
+use Rattle.std.specs.List.{flat_map, list_any, slice_split}
+use Rattle.std.specs.Ordering.{nat_cmp}
 use Rattle.std.specs.Str.{bytes_eq}
 use Rattle.ustar.specs.declared.header.MemberKind.TheVariants as members
 use Rattle.ustar.specs.declared.reading.ReadHeader.{ReadHeader}
 use Rattle.ustar.specs.declared.reading.TypeFlag.{TypeFlag}
 use Rattle.ustar.specs.declared.reading.TypeFlag.TheVariants as flags
 use Rattle.vol_dir.specs.Tree.{Tree}
+use Rattle.vol_dir.specs.Walk.{components}
 use Rattle.vol_dir.specs.declared.cred.Cred.{Cred}
 use Rattle.vol_dir.specs.declared.refusal.Refusal.{Refusal}
+use Rattle.vol_layout.specs.declared.edition.Edition.{Edition}
 use Rattle.vol_layout.specs.declared.mode.Kind.{Kind}
 use Rattle.vol_layout.specs.declared.mode.Kind.TheVariants as kinds
 use Rattle.vol_volume.specs.Answer.{answer}
+use Rattle.vol_volume.specs.Ids.{is_bad_id}
 use Rattle.vol_volume.specs.declared.calls.Call.{Call}
 use Rattle.vol_volume.specs.declared.calls.Call.TheVariants as calls
 use Rattle.vol_volume.specs.declared.queries.Query.TheVariants as queries
@@ -21,6 +28,7 @@ use Rattle.vol_import.specs.declared.checking.Made.{Made}
 use Rattle.vol_import.specs.declared.checking.Made.TheVariants.{File, Directory, Link}
 use Rattle.vol_import.specs.declared.checking.MemberFault.{MemberFault}
 use Rattle.vol_import.specs.declared.checking.MemberFault.TheVariants as faults
+use Rattle.vol_import.specs.declared.drafting.Draft.{Draft}
 use Rattle.vol_import.specs.declared.planning.PlanFault.{PlanFault}
 use Rattle.vol_import.specs.declared.planning.PlanFault.TheVariants as plans
 use Rattle.vol_import.specs.declared.reading.Member.{Member}
@@ -73,25 +81,28 @@ made_as flags.Extended path = Err faults.Kind
 made_as flags.Global path = Err faults.Kind
 made_as (flags.Other c) path = Err faults.Kind
 
--- the path that a member leads to, if it is a link, can be walked (this project)
+-- the path that a member leads to, if it is a link, can be walked: no name of it is above 14 bytes, and none is `..` (this project)
 abbrev pub check_link : Made → List ℕ → Result (Unit {0}) MemberFault
-check_link Link link = check_path link
+check_link Link link =
+    if list_any is_long (names_of link) then Err faults.LongLink
+    else if list_any is_dot_dot (names_of link) then Err faults.DotDotLink
+    else Ok tt
 check_link File link = Ok tt
 check_link Directory link = Ok tt
 
--- the owner and the group of a member, where a call has room for their numbers (this project)
-abbrev pub owner_of : ReadHeader → Result Cred MemberFault
-owner_of header =
-    if nat_lt header.uid 65536 && nat_lt header.gid 65536 then Ok (record { uid = header.uid; gid = header.gid }) else Err faults.Owner
+-- the owner and the group of a member, where they are numbers of the edition (manual section 5, file system)
+abbrev pub owner_of : Edition → ReadHeader → Result Cred MemberFault
+owner_of edition header =
+    if is_bad_id edition header.uid header.gid then Err faults.Owner else Ok (record { uid = header.uid; gid = header.gid })
 
--- what a member is made as, and for whom, or the first thing that speaks against it: its kind, its path, the path that it leads to, its
--- owner (this project)
-unfoldable pub check : Member → Result (Made × Cred) MemberFault
-check member =
+-- what a member is made as in a volume of an edition, and for whom, or the first thing that speaks against it: its kind, its path, the
+-- path that it leads to, its owner (this project)
+unfoldable pub check : Edition → Member → Result (Made × Cred) MemberFault
+check edition member =
     and_then (made_as member.header.flag member.path) (λ made.
     and_then (check_path member.path) (λ _.
     and_then (check_link made member.link) (λ _.
-    and_then (owner_of member.header) (λ owner. Ok (made, owner)))))
+    and_then (owner_of edition member.header) (λ owner. Ok (made, owner)))))
 
 -- the path of a member below another path (this project)
 abbrev pub below : List ℕ → List ℕ → List ℕ
@@ -135,44 +146,104 @@ is_directory (Ok (replies.Bytes bytes)) = false
 is_directory (Ok (replies.Names names)) = false
 is_directory (Err refusal) = false
 
--- the calls that make a directory: none where it is there (this project)
-abbrev pub directory_calls : Tree → ℕ → List ℕ → ℕ → Cred → List Call
-directory_calls tree moment path perm owner =
-    if is_directory (answer tree (queries.Stat user path)) then []
-    else calls.Mkdir user moment path perm ∷ [] ++ owner_calls moment path owner
+-- a draft of a plan: the paths of directories that are there, or that the calls make, in order, and the calls (this project)
+abbrev pub Drafted : Type 0
+Drafted = List (List ℕ) × List Call
 
--- the calls that make a member as something, for its owner (this project)
-abbrev pub calls_as : Made → Tree → List ℕ → ℕ → Member → Cred → List Call
-calls_as File tree base now member owner =
-    file_calls (moment_of member.header now) (below base member.path) (permissions_of member.header) owner member.content
-calls_as Directory tree base now member owner =
-    directory_calls tree (moment_of member.header now) (below base member.path) (permissions_of member.header) owner
-calls_as Link tree base now member owner =
-    calls.Link user (moment_of member.header now) (below base member.link) (below base member.path) ∷ []
+-- paths in order, with one more unless it is among them (std's BTreeSet)
+abbrev pub with_path : List (List ℕ) → List ℕ → List (List ℕ)
+with_path known path = insert_key (slice_cmp nat_cmp) known path
 
--- the calls that make a member below a path, at its own moment or now (this project)
-abbrev pub calls_of : Tree → List ℕ → ℕ → Member → Result (List Call) MemberFault
-calls_of tree base now member = and_then (check member) (λ (made : Made × Cred). Ok (calls_as made.0 tree base now member made.1))
+-- whether a path is among paths in order (std's BTreeSet)
+abbrev pub is_known : List (List ℕ) → List ℕ → Bool
+is_known known path = list_any (is_at (slice_cmp nat_cmp path)) known
 
--- calls, and then those that make a member; or why the member can't be made (this project)
-abbrev pub onto : List Call → Member → Result (List Call) MemberFault → Result (List Call) PlanFault
-onto front member (Ok calls) = Ok (front ++ calls)
-onto front member (Err cause) = Err (plans.Member member.path cause)
+-- whether a directory is missing at a path below another: it isn't known, and is not there (this project)
+abbrev pub is_missing : Tree → List ℕ → List (List ℕ) → List ℕ → Bool
+is_missing tree base known path = not (is_known known path) && not (is_directory (answer tree (queries.Stat user (base ++ path))))
+
+-- a draft with the calls that make a directory at a path below another, where it is missing; it is known then (this project)
+abbrev pub with_directory : Tree → List ℕ → List ℕ → List Call → Drafted → Drafted
+with_directory tree base path more drafted =
+    (with_path drafted.0 path, drafted.1 ++ (if is_missing tree base drafted.0 path then more else []))
+
+-- the call that makes a directory on the way to a member, with permissions 0755 (this project)
+abbrev pub way_call : ℕ → List ℕ → Call
+way_call now path = calls.Mkdir user now path 0o755
+
+-- a draft with a directory on the way to a member (this project)
+abbrev pub with_way_directory : Tree → List ℕ → ℕ → List ℕ → Drafted → Drafted
+with_way_directory tree base now path drafted = with_directory tree base path (way_call now (base ++ path) ∷ []) drafted
+
+-- whether a name leads on: `.` leads nowhere else (manual section 5, directories)
+abbrev pub is_step : List ℕ → Bool
+is_step name = not (bytes_eq name (codes "."))
+
+-- the steps of a path: its components but for `.` (Lions on namei)
+abbrev pub steps_of : List ℕ → List (List ℕ)
+steps_of path = filter is_step (components path)
+
+-- the steps but for the last: those on the way (this project)
+abbrev pub way_of : List (List ℕ) → List (List ℕ)
+way_of steps = take (length steps - 1) steps
+
+-- a path of steps, each behind a slash (Lions on namei)
+abbrev pub joined : List (List ℕ) → List ℕ
+joined steps = flat_map (λ step. 47 ∷ step) steps
+
+-- a draft with the directories that steps go through, from a path below another on, each in turn (this project)
+unfoldable pub with_way : Tree → List ℕ → ℕ → List ℕ → List (List ℕ) → Drafted → Drafted
+with_way tree base now path [] drafted = drafted
+with_way tree base now path (step ∷ steps) drafted =
+    with_way tree base now (path ++ 47 ∷ step) steps (with_way_directory tree base now (path ++ 47 ∷ step) drafted)
+
+-- a draft with calls at its end (this project)
+abbrev pub with_calls : Drafted → List Call → Drafted
+with_calls drafted more = (drafted.0, drafted.1 ++ more)
+
+-- the calls that make a directory, and give it to its owner (this project)
+abbrev pub directory_calls : ℕ → List ℕ → ℕ → Cred → List Call
+directory_calls moment path perm owner = calls.Mkdir user moment path perm ∷ [] ++ owner_calls moment path owner
+
+-- a draft with the calls that make a member as something, for its owner, after the directories on the way to it (this project)
+abbrev pub with_made : Made → Tree → List ℕ → ℕ → Member → Cred → Drafted → Drafted
+with_made File tree base now member owner drafted =
+    with_calls drafted (file_calls (moment_of member.header now) (below base member.path) (permissions_of member.header) owner member.content)
+with_made Directory tree base now member owner drafted =
+    with_directory tree base (joined (steps_of member.path))
+    (directory_calls (moment_of member.header now) (below base member.path) (permissions_of member.header) owner) drafted
+with_made Link tree base now member owner drafted =
+    with_calls drafted (calls.Link user (moment_of member.header now) (below base member.link) (below base member.path) ∷ [])
+
+-- a draft with the directories on the way to a member, and the member made as something, for its owner (this project)
+abbrev pub with_member : Tree → List ℕ → ℕ → Member → Drafted → Made × Cred → Drafted
+with_member tree base now member drafted made =
+    with_made made.0 tree base now member made.1 (with_way tree base now [] (way_of (steps_of member.path)) drafted)
+
+-- a draft with a member, which may be made as something; or why it can't be made (this project)
+abbrev pub onto : Tree → List ℕ → ℕ → Drafted → Member → Result (Made × Cred) MemberFault → Result Drafted PlanFault
+onto tree base now drafted member (Ok made) = Ok (with_member tree base now member drafted made)
+onto tree base now drafted member (Err cause) = Err (plans.Member member.path cause)
 
 -- what comes after an Ok; a fault ends it (this project)
 abbrev pub and_next : {X Y : Type 0} → Result X PlanFault → (X → Result Y PlanFault) → Result Y PlanFault
 and_next (Ok x) next = next x
 and_next (Err fault) next = Err fault
 
--- calls, and then those that make members, each in turn (this project)
-unfoldable pub plan_onto : Tree → List ℕ → ℕ → List Call → List Member → Result (List Call) PlanFault
-plan_onto tree base now front [] = Ok front
-plan_onto tree base now front (member ∷ rest) =
-    and_next (onto front member (calls_of tree base now member)) (λ front. plan_onto tree base now front rest)
+-- a draft, and then the calls that make members, each in turn: the calls then (this project)
+unfoldable pub plan_onto : Tree → List ℕ → ℕ → Drafted → List Member → Result (List Call) PlanFault
+plan_onto tree base now drafted [] = Ok drafted.1
+plan_onto tree base now drafted (member ∷ rest) =
+    and_next (onto tree base now drafted member (check tree.geometry.edition member)) (λ next. plan_onto tree base now next rest)
 
--- the calls that make the members of an archive below a path, each in turn; or the first member that can't be made, and why (this project)
+-- the calls that make the members of an archive below a path, each in turn, after the directories on the way to it that are missing; or
+-- the first member that can't be made, and why (this project)
 abbrev pub plan : Tree → List ℕ → ℕ → List Member → Result (List Call) PlanFault
-plan tree base now all = plan_onto tree base now [] all
+plan tree base now all = plan_onto tree base now ([], []) all
+
+-- a draft, as it stands (this project)
+abbrev pub drafted : Draft → Drafted
+drafted draft = (draft.known.keys, draft.calls.items)
 
 -- a fault is the one that is to be told, or want of memory (this project)
 abbrev pub Tells : {X : Type 0} → Result X PlanFault → PlanFault → Type 0

@@ -7,6 +7,7 @@ use crate::reading::Member;
 use thiserror::Error;
 use ustar::{MemberKind, ReadHeader, TypeFlag};
 use vol_dir::Cred;
+use vol_layout::Edition;
 use vol_layout::slot::NAME;
 
 /// What a member is made as.
@@ -26,28 +27,34 @@ pub enum MemberFault {
     /// It is a special file, a symbolic link, or of a kind that isn't known.
     #[error("no call makes its kind")]
     Kind,
-    /// A name of its path, or of the path that it leads to, is above 14 bytes.
+    /// A name of its path is above 14 bytes.
     #[error("a name is above 14 bytes")]
     LongName,
-    /// Its path, or the path that it leads to, has a name `..`.
+    /// Its path has a name `..`.
     #[error("its path leads up by ..")]
     DotDot,
-    /// The number of its owner or of its group is above 16 bits.
-    #[error("no number of a user")]
+    /// It is a link, and a name of the path that it leads to is above 14 bytes.
+    #[error("it links to a name above 14 bytes")]
+    LongLink,
+    /// It is a link, and the path that it leads to has a name `..`.
+    #[error("it links to a path that leads up by ..")]
+    DotDotLink,
+    /// The number of its owner or of its group is above the edition's highest: 255 in the sixth, 32,767 in the seventh.
+    #[error("no user or group of the edition")]
     Owner,
 }
 
-/// What a member is made as, and for whom, or the first thing that speaks against it: its kind, its path, the path that it leads
-/// to, its owner.
+/// What a member is made as in a volume of an edition, and for whom, or the first thing that speaks against it: its kind, its path,
+/// the path that it leads to, its owner.
 #[tactic(auto, unfolding(crate::specs::Plan::check))]
-pub fn check(member: &Member) -> Result<(Made, Cred), MemberFault>
-    ensures { result ≡ check member.now }
+pub fn check(edition: Edition, member: &Member) -> Result<(Made, Cred), MemberFault>
+    ensures { result ≡ check edition member.now }
 {
     let path = member.path.as_slice();
     let made = made_as(member.header.flag, path)?;
     check_path(path)?;
     check_link(made, member.link.as_slice())?;
-    let owner = owner_of(&member.header)?;
+    let owner = owner_of(edition, &member.header)?;
     Ok((made, owner))
 }
 
@@ -107,21 +114,22 @@ fn check_link(made: Made, link: &[u8]) -> Result<(), MemberFault>
     ensures { result ≡ check_link made link.now }
 {
     match made {
-        Made::Link => check_path(link),
-        Made::File | Made::Directory => Ok(()),
+        Made::Link if has_long_name(link) => Err(MemberFault::LongLink),
+        Made::Link if has_dot_dot(link) => Err(MemberFault::DotDotLink),
+        Made::Link | Made::File | Made::Directory => Ok(()),
     }
 }
 
-/// The owner and the group of a member, where a call has room for their numbers.
-fn owner_of(header: &ReadHeader) -> Result<Cred, MemberFault>
-    ensures { result ≡ owner_of header.now }
+/// The owner and the group of a member, where they are numbers of the edition.
+fn owner_of(edition: Edition, header: &ReadHeader) -> Result<Cred, MemberFault>
+    ensures { result ≡ owner_of edition header.now }
 {
-    let (uid, gid) = (header.uid, header.gid);
-    if uid >= 65536 || gid >= 65536 {
+    let limit = u64::from(edition.constants().id_limit);
+    if header.uid > limit || header.gid > limit {
         return Err(MemberFault::Owner);
     }
     Ok(Cred {
-        uid: uid as u16,
-        gid: gid as u16,
+        uid: header.uid as u16,
+        gid: header.gid as u16,
     })
 }

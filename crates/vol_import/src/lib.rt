@@ -2,6 +2,7 @@
 #![tactic(auto)]
 
 pub mod checking;
+mod drafting;
 pub mod entries;
 pub mod faults;
 pub mod long_names;
@@ -9,6 +10,7 @@ pub mod making;
 pub mod planning;
 pub mod reading;
 mod records;
+mod step_path;
 
 pub use checking::{Made, MemberFault, check};
 pub use entries::{Entry, entry_at};

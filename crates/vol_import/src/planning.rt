@@ -1,21 +1,16 @@
 //! The calls that make the members of an archive.
-ghost use Rattle.std.specs.Prelude.{◌≡◌, ◌++◌, ◌∷◌, [], ◌==◌, IfOk, IfErr, OnOk, Ok};
-ghost use Rattle.vol_volume.specs.Answer.{answer};
+ghost use Rattle.std.specs.Prelude.{◌≡◌, [], IfOk, IfErr, OnOk, Ok};
 ghost use Rattle.vol_volume.specs.Volume.{reads_as};
-ghost use Rattle.vol_volume.specs.declared.queries.Query.TheVariants as questions;
-ghost use Rattle.vol_import.specs.Plan.{user, below, permissions_of, moment_of, owner_calls, write_calls, file_calls, is_directory_kind, is_directory, directory_calls, calls_as, calls_of, onto, plan, Tells, no_memory};
+ghost use Rattle.vol_import.specs.Plan.{below, check, permissions_of, moment_of, owner_calls, write_calls, file_calls, directory_calls, way_of, steps_of, with_way, with_calls, with_made, drafted, onto, plan, Tells, no_memory};
 
 use crate::checking::{Made, MemberFault, check};
+use crate::drafting::{Draft, USER, is_missing, joined, push_way, steps_of};
 use crate::long_names::copy;
 use crate::reading::Member;
 use std::alloc::{AllocError, Global};
 use ustar::ReadHeader;
 use vol_dir::Cred;
-use vol_layout::Kind;
-use vol_volume::{Bytes, Call, Query, Reply, Volume};
-
-/// Who makes the calls: user 0, who passes every test.
-const USER: Cred = Cred { uid: 0, gid: 0 };
+use vol_volume::{Bytes, Call, Volume};
 
 /// Times below this have room in a volume.
 const TIMES: u64 = 4_294_967_296;
@@ -41,10 +36,12 @@ impl From<AllocError> for PlanFault {
 
 /// The calls that make the members of an archive below the path `base` of a volume, as user 0, each member's in turn: a regular
 /// file is made, written if it has bytes, and given to its owner if that isn't user 0 of group 0; a directory is made so, if it
-/// isn't there; a link becomes a further name. A call is made at the moment of its member's last change, or `now` where that
-/// has no 32 bits. Where no calls make a member, its path and the reason are told.
+/// isn't there, and no member before it made it; a link becomes a further name. A call is made at the moment of its member's last
+/// change, or `now` where that has no 32 bits. Before a member each directory on the way to it that is missing is made, at `now`, with
+/// permissions 0755; that at `base` isn't. Where no calls make a member, its path and the reason are told.
 ///
-/// The bytes of the members go into the calls. Takes memory for the calls and a path each, and costs a walk for each directory.
+/// The bytes of the members go into the calls. Takes memory for the calls and up to three paths each, and for the path of each
+/// directory; costs a walk for each directory, and as much as sorting their paths.
 pub fn plan(
     alloc: Global,
     volume: &Volume,
@@ -55,13 +52,13 @@ pub fn plan(
     ensures ok { IfOk result (λ calls. plan (reads_as volume.now.edition volume.now.image).tree base.now now members.items ≡ Ok calls.items) }
     ensures fault { IfErr result (Tells (plan (reads_as volume.now.edition volume.now.image).tree base.now now members.items)) }
 {
-    let mut calls = Vec::new(alloc);
+    let mut draft = Draft::new(alloc);
     let mut left = members;
     left.reverse();
     'members: while let Some(member) = left.pop() {
-        push_member(alloc, volume, base, now, member, &mut calls)?;
+        push_member(alloc, volume, base, now, member, &mut draft)?;
     }
-    Ok(calls)
+    Ok(draft.into_calls())
 }
 
 /// Appends the calls that make a member.
@@ -71,18 +68,35 @@ fn push_member(
     base: &[u8],
     now: u32,
     member: Member,
-    calls: &mut Vec<Call>,
+    draft: &mut Draft,
 ) -> Result<(), PlanFault>
-    ensures ok { OnOk result (onto calls.old.items member (calls_of (reads_as volume.now.edition volume.now.image).tree base.now now member) ≡ Ok calls.new.items) }
-    ensures fault { IfErr result (Tells (onto calls.old.items member (calls_of (reads_as volume.now.edition volume.now.image).tree base.now now member))) }
+    ensures ok { OnOk result (onto (reads_as volume.now.edition volume.now.image).tree base.now now (drafted draft.old) member (check volume.now.edition member) ≡ Ok (drafted draft.new)) }
+    ensures fault { IfErr result (Tells (onto (reads_as volume.now.edition volume.now.image).tree base.now now (drafted draft.old) member (check volume.now.edition member))) }
 {
-    match check(&member) {
+    match check(volume.edition(), &member) {
         Ok((made, owner)) => {
-            push_made(alloc, volume, base, now, member, made, owner, calls)?;
+            push_way_to(alloc, volume, base, now, member.path.as_slice(), draft)?;
+            push_made(alloc, volume, base, now, member, made, owner, draft)?;
             Ok(())
         }
         Err(cause) => Err(PlanFault::Member(member.path, cause)),
     }
+}
+
+/// Appends the calls that make the directories on the way to a path, where they are missing.
+fn push_way_to(
+    alloc: Global,
+    volume: &Volume,
+    base: &[u8],
+    now: u32,
+    path: &[u8],
+    draft: &mut Draft,
+) -> Result<(), AllocError>
+    ensures { OnOk result (drafted draft.new ≡ with_way (reads_as volume.now.edition volume.now.image).tree base.now now [] (way_of (steps_of path.now)) (drafted draft.old)) }
+{
+    let steps = steps_of(alloc, path)?;
+    let way = &steps[..steps.len().saturating_sub(1)];
+    push_way(alloc, volume, base, now, way, draft)
 }
 
 /// Appends the calls that make a member as something, for its owner.
@@ -94,35 +108,29 @@ fn push_made(
     member: Member,
     made: Made,
     owner: Cred,
-    calls: &mut Vec<Call>,
+    draft: &mut Draft,
 ) -> Result<(), AllocError>
-    ensures { OnOk result (calls.new.items ≡ calls.old.items ++ calls_as made (reads_as volume.now.edition volume.now.image).tree base.now now member owner) }
+    ensures { OnOk result (drafted draft.new ≡ with_made made (reads_as volume.now.edition volume.now.image).tree base.now now member owner (drafted draft.old)) }
 {
     let moment = moment_of(&member.header, now);
     let perm = permissions_of(&member.header);
     let path = below(alloc, base, member.path.as_slice())?;
     match made {
-        Made::File => push_file(alloc, moment, path, perm, owner, member.content, calls),
-        Made::Directory => push_directory(alloc, volume, moment, path, perm, owner, calls),
-        Made::Link => {
-            let source = below(alloc, base, member.link.as_slice())?;
-            let call = Call::Link {
-                cred: USER,
-                now: moment,
-                source,
-                target: path,
-            };
-            push(calls, call)
+        Made::File => push_file(alloc, moment, path, perm, owner, member.content, draft),
+        Made::Directory => {
+            let steps = joined(alloc, &steps_of(alloc, member.path.as_slice())?)?;
+            if is_missing(alloc, volume, base, &steps, &mut draft.known)? {
+                push_directory(alloc, moment, path, perm, owner, draft)?;
+            }
+            Ok(())
         }
+        Made::Link => draft.push(Call::Link {
+            cred: USER,
+            now: moment,
+            source: below(alloc, base, member.link.as_slice())?,
+            target: path,
+        }),
     }
-}
-
-/// Appends a call.
-fn push(calls: &mut Vec<Call>, call: Call) -> Result<(), AllocError>
-    ensures { OnOk result (calls.new.items ≡ calls.old.items ++ call ∷ []) }
-{
-    calls.push(call)?;
-    Ok(())
 }
 
 /// The path of a member below another path.
@@ -155,47 +163,41 @@ fn moment_of(header: &ReadHeader, now: u32) -> u32
 }
 
 /// Appends the call that gives a file or a directory to its owner: none where that is user 0 of group 0.
-fn push_owner(
-    moment: u32,
-    path: Bytes,
-    owner: Cred,
-    calls: &mut Vec<Call>,
-) -> Result<(), AllocError>
-    ensures { OnOk result (calls.new.items ≡ calls.old.items ++ owner_calls moment path owner) }
+fn push_owner(moment: u32, path: Bytes, owner: Cred, draft: &mut Draft) -> Result<(), AllocError>
+    ensures { OnOk result (drafted draft.new ≡ with_calls (drafted draft.old) (owner_calls moment path owner)) }
 {
     if owner.uid == 0 && owner.gid == 0 {
         return Ok(());
     }
-    let call = Call::Chown {
+    draft.push(Call::Chown {
         cred: USER,
         now: moment,
         path,
         uid: owner.uid,
         gid: owner.gid,
-    };
-    push(calls, call)
+    })
 }
 
 /// Appends the call that writes the bytes of a file, if it has any.
 fn push_write(
+    alloc: Global,
     moment: u32,
-    path: Bytes,
+    path: &[u8],
     content: Bytes,
-    calls: &mut Vec<Call>,
+    draft: &mut Draft,
 ) -> Result<(), AllocError>
-    ensures { OnOk result (calls.new.items ≡ calls.old.items ++ write_calls moment path content) }
+    ensures { OnOk result (drafted draft.new ≡ with_calls (drafted draft.old) (write_calls moment path.now content)) }
 {
     if content.as_slice().is_empty() {
         return Ok(());
     }
-    let call = Call::Write {
+    draft.push(Call::Write {
         cred: USER,
         now: moment,
-        path,
+        path: copy(alloc, path)?,
         offset: 0,
         bytes: content,
-    };
-    push(calls, call)
+    })
 }
 
 /// Appends the calls that make a regular file.
@@ -206,63 +208,36 @@ fn push_file(
     perm: u16,
     owner: Cred,
     content: Bytes,
-    calls: &mut Vec<Call>,
+    draft: &mut Draft,
 ) -> Result<(), AllocError>
-    ensures { OnOk result (calls.new.items ≡ calls.old.items ++ file_calls moment path perm owner content) }
+    ensures { OnOk result (drafted draft.new ≡ with_calls (drafted draft.old) (file_calls moment path perm owner content)) }
 {
-    let call = Call::Create {
+    draft.push(Call::Create {
         cred: USER,
         now: moment,
         path: copy(alloc, path.as_slice())?,
         perm,
-    };
-    push(calls, call)?;
-    push_write(moment, copy(alloc, path.as_slice())?, content, calls)?;
-    push_owner(moment, path, owner, calls)
+    })?;
+    push_write(alloc, moment, path.as_slice(), content, draft)?;
+    push_owner(moment, path, owner, draft)
 }
 
-/// Appends the calls that make a directory: none where it is there.
+/// Appends the calls that make a directory.
 fn push_directory(
     alloc: Global,
-    volume: &Volume,
     moment: u32,
     path: Bytes,
     perm: u16,
     owner: Cred,
-    calls: &mut Vec<Call>,
+    draft: &mut Draft,
 ) -> Result<(), AllocError>
-    ensures { OnOk result (calls.new.items ≡ calls.old.items ++ directory_calls (reads_as volume.now.edition volume.now.image).tree moment path perm owner) }
+    ensures { OnOk result (drafted draft.new ≡ with_calls (drafted draft.old) (directory_calls moment path perm owner)) }
 {
-    if is_there(alloc, volume, copy(alloc, path.as_slice())?) {
-        return Ok(());
-    }
-    let call = Call::Mkdir {
+    draft.push(Call::Mkdir {
         cred: USER,
         now: moment,
         path: copy(alloc, path.as_slice())?,
         perm,
-    };
-    push(calls, call)?;
-    push_owner(moment, path, owner, calls)
-}
-
-/// Whether a path leads to a directory.
-fn is_there(alloc: Global, volume: &Volume, path: Bytes) -> bool
-    ensures { result ≡ is_directory (answer (reads_as volume.now.edition volume.now.image).tree (questions.Stat user path)) }
-{
-    match volume.ask(alloc, &Query::Stat { cred: USER, path }) {
-        Ok(Reply::Stat(stat)) => is_directory_kind(stat.kind),
-        Ok(_) => false,
-        Err(_) => false,
-    }
-}
-
-/// Whether a node is a directory.
-fn is_directory_kind(kind: Kind) -> bool
-    ensures { result ≡ is_directory_kind kind }
-{
-    match kind {
-        Kind::Directory => true,
-        Kind::Free | Kind::Regular | Kind::Special | Kind::Odd => false,
-    }
+    })?;
+    push_owner(moment, path, owner, draft)
 }

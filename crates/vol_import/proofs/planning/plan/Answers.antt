@@ -1,17 +1,20 @@
-use Rattle.std.proofs.Common.{◌≡◌, [], rules}
+use Rattle.std.proofs.Common.{◌≡◌, ◌∙◌, [], Ok, ap, rules, sym}
 use Rattle.std.proofs.lemmas.Result.{err_from_is_err_and}
+use Rattle.vol_dir.specs.Tree as trees
 use Rattle.vol_import.proofs.PlanRuns.{on_member, on_fault, on_end}
 use Rattle.vol_import.proofs.planning.plan.Goals as goal
 
 pub returns-in_err-push_member-clause-fault : goal.returns-in_err-push_member-clause-fault
+unfolding trees.tree
 returns-in_err-push_member-clause-fault c =
     let p = err_from_is_err_and c.from_residual.result c.from_residual.ensures.1 in
     rw (p.1, p.2) (λ other. on_fault _ _ _ _ _ _ _ _ _ c.members.invariant c.in-Some.ensures.items (c.in_err-push_member.ensures.fault other))
 
 pub members-preserved : goal.members-preserved
+unfolding trees.tree
 members-preserved c = on_member _ _ _ _ _ _ _ _ _ c.members.invariant c.in-Some.ensures.items c.in_ok-push_member.ensures.ok
 
 pub returns-clause-ok : goal.returns-clause-ok
 returns-clause-ok c =
     let none : c.members.left.items ≡ [] = search rules in
-    on_end _ _ _ _ _ _ c.members.invariant none
+    on_end _ _ _ _ _ _ c.members.invariant none ∙ ap Ok (sym c.into_calls.ensures)

@@ -1,0 +1,190 @@
+//! A plan that is being made, and the directories on the way to its members.
+ghost use Rattle.std.specs.Prelude.{◌≡◌, ◌++◌, ◌∷◌, [], IfOk, OnOk, map};
+ghost use Rattle.vol_volume.specs.Answer.{answer};
+ghost use Rattle.vol_volume.specs.Volume.{reads_as};
+ghost use Rattle.vol_volume.specs.declared.queries.Query.TheVariants as questions;
+ghost use Rattle.vol_import.specs.Plan.{user, is_directory_kind, is_directory, with_path, is_missing, way_call, with_way_directory, is_step, steps_of, joined, with_way, with_calls, drafted};
+
+use crate::long_names::copy;
+use crate::step_path::StepPath;
+use std::alloc::{AllocError, Global};
+use std::collections::BTreeSet;
+use vol_dir::{Cred, split_component};
+use vol_layout::Kind;
+use vol_volume::{Bytes, Call, Query, Reply, Volume};
+
+/// Who makes the calls: user 0, who passes every test.
+pub(crate) const USER: Cred = Cred { uid: 0, gid: 0 };
+
+/// Permissions of a directory on the way to a member.
+const PERMISSIONS: u16 = 0o755;
+
+/// A plan that is being made.
+#[derive(Drop)]
+pub(crate) struct Draft {
+    /// The paths of directories that are there, or that the calls make.
+    pub(crate) known: BTreeSet<StepPath>,
+    /// The calls.
+    pub(crate) calls: Vec<Call>,
+}
+
+impl Draft {
+    /// A plan without calls.
+    pub(crate) fn new(alloc: Global) -> Draft
+        ensures { drafted result ≡ ([], []) }
+    {
+        Draft {
+            known: BTreeSet::new(alloc),
+            calls: Vec::new(alloc),
+        }
+    }
+
+    /// Appends a call.
+    pub(crate) fn push(&mut self, call: Call) -> Result<(), AllocError>
+        ensures { OnOk result (drafted self.new ≡ with_calls (drafted self.old) (call ∷ [])) }
+    {
+        self.calls.push(call)?;
+        Ok(())
+    }
+
+    /// The calls.
+    pub(crate) fn into_calls(self) -> Vec<Call>
+        ensures { result.items ≡ self.calls.items }
+    {
+        let Draft { known, calls } = self;
+        drop(known);
+        calls
+    }
+}
+
+/// Whether the directory at a path below another is missing: it isn't known, and is not there. It is known then.
+///
+/// Costs a walk where it isn't known.
+pub(crate) fn is_missing(
+    alloc: Global,
+    volume: &Volume,
+    base: &[u8],
+    path: &[u8],
+    known: &mut BTreeSet<StepPath>,
+) -> Result<bool, AllocError>
+    ensures missing { IfOk result (λ missing. missing ≡ is_missing (reads_as volume.now.edition volume.now.image).tree base.now known.old.keys path.now) }
+    ensures known { OnOk result (known.new.keys ≡ with_path known.old.keys path.now) }
+{
+    if !known.insert(StepPath::from_vec(Vec::from_slice(alloc, path)?))? {
+        return Ok(false);
+    }
+    Ok(!is_there(alloc, volume, behind(alloc, base, path)?))
+}
+
+/// A path behind another.
+fn behind(alloc: Global, base: &[u8], path: &[u8]) -> Result<Bytes, AllocError>
+    ensures { IfOk result (λ whole. whole ≡ base.now ++ path.now) }
+{
+    let mut bytes = Vec::from_slice(alloc, base)?;
+    bytes.extend_from_slice(path)?;
+    Ok(Bytes::from_vec(bytes))
+}
+
+/// Whether a path leads to a directory.
+fn is_there(alloc: Global, volume: &Volume, path: Bytes) -> bool
+    ensures { result ≡ is_directory (answer (reads_as volume.now.edition volume.now.image).tree (questions.Stat user path)) }
+{
+    match volume.ask(alloc, &Query::Stat { cred: USER, path }) {
+        Ok(Reply::Stat(stat)) => is_directory_kind(stat.kind),
+        Ok(_) => false,
+        Err(_) => false,
+    }
+}
+
+/// Whether a node is a directory.
+fn is_directory_kind(kind: Kind) -> bool
+    ensures { result ≡ is_directory_kind kind }
+{
+    match kind {
+        Kind::Directory => true,
+        Kind::Free | Kind::Regular | Kind::Special | Kind::Odd => false,
+    }
+}
+
+/// The steps of a path: its components but for `.`, which leads nowhere else.
+pub(crate) fn steps_of<'a>(alloc: Global, path: &'a [u8]) -> Result<Vec<&'a [u8]>, AllocError>
+    ensures { IfOk result (λ steps. map (λ step. step.now) steps.items ≡ steps_of path.now) }
+{
+    let mut steps = Vec::new(alloc);
+    let mut left = path;
+    while let Some((step, rest)) = split_component(left) {
+        if is_step(step) {
+            steps.push(step)?;
+        }
+        left = rest;
+    }
+    Ok(steps)
+}
+
+/// Whether a name leads on.
+fn is_step(name: &[u8]) -> bool
+    ensures { result ≡ is_step name.now }
+{
+    name != b".".as_slice()
+}
+
+/// The path of steps, each behind a slash.
+pub(crate) fn joined(alloc: Global, steps: &[&[u8]]) -> Result<Vec<u8>, AllocError>
+    ensures { IfOk result (λ path. path.items ≡ joined (map (λ step. step.now) steps.now)) }
+{
+    let mut path = Vec::new(alloc);
+    for step in steps {
+        push_step(&mut path, step)?;
+    }
+    Ok(path)
+}
+
+/// Appends a step to a path.
+fn push_step(path: &mut Vec<u8>, step: &[u8]) -> Result<(), AllocError>
+    ensures { OnOk result (path.new.items ≡ path.old.items ++ 47 ∷ step.now) }
+{
+    path.push(b'/')?;
+    path.extend_from_slice(step)?;
+    Ok(())
+}
+
+/// Appends the calls that make the directories which steps go through, where they are missing, each in turn.
+pub(crate) fn push_way(
+    alloc: Global,
+    volume: &Volume,
+    base: &[u8],
+    now: u32,
+    steps: &[&[u8]],
+    draft: &mut Draft,
+) -> Result<(), AllocError>
+    ensures { OnOk result (drafted draft.new ≡ with_way (reads_as volume.now.edition volume.now.image).tree base.now now [] (map (λ step. step.now) steps.now) (drafted draft.old)) }
+{
+    let mut path = Vec::new(alloc);
+    for step in steps {
+        push_step(&mut path, step)?;
+        push_way_directory(alloc, volume, base, now, &path, draft)?;
+    }
+    Ok(())
+}
+
+/// Appends the call that makes a directory on the way to a member, where it is missing.
+fn push_way_directory(
+    alloc: Global,
+    volume: &Volume,
+    base: &[u8],
+    now: u32,
+    path: &[u8],
+    draft: &mut Draft,
+) -> Result<(), AllocError>
+    ensures { OnOk result (drafted draft.new ≡ with_way_directory (reads_as volume.now.edition volume.now.image).tree base.now now path.now (drafted draft.old)) }
+{
+    if is_missing(alloc, volume, base, path, &mut draft.known)? {
+        draft.push(Call::Mkdir {
+            cred: USER,
+            now,
+            path: behind(alloc, base, path)?,
+            perm: PERMISSIONS,
+        })?;
+    }
+    Ok(())
+}

@@ -36,7 +36,8 @@ explains 1 'unixvol: 2 NoEntry' 'unixvol: i-node 99: there is no i-node of this 
 explains 1 'unixvol: 2 NoEntry' 'unixvol: i-node 9999: there is no i-node of this number' inode 6 "$image" 9999
 explains 1 'unixvol: 2 NoEntry' "unixvol: /x to /y: the first path leads to nothing, or the directory for the second name isn't there" mv 6 "$image" /x /y
 explains 1 'unixvol: 2 NoEntry' "unixvol: /x to /y: the first path leads to nothing, or the directory for the second name isn't there" ln 6 "$image" /x /y
-explains 1 'unixvol: 2 NoEntry' 'unixvol: /x: no file or directory has this name' rm -r 6 "$image" /x
+explains 1 'unixvol: 2 NoEntry' 'unixvol: /x: no file or directory has this name; or, with -r, it ends in .., or leads through what is to be removed' rm -r 6 "$image" /x
+explains 1 'unixvol: 2 NoEntry' 'unixvol: /d/..: no file or directory has this name; or, with -r, it ends in .., or leads through what is to be removed' rm -r 6 "$image" /d/..
 explains 1 'unixvol: 17 Exists' 'unixvol: /d: a file or directory has this name already' mkdir 6 "$image" /d
 explains 1 'unixvol: 17 Exists' 'unixvol: /d/f: a file or directory has this name already' mkdir -p 6 "$image" /d/f
 explains 1 'unixvol: 17 Exists' 'unixvol: /d/f to /d: the second name is there already' ln 6 "$image" /d/f /d
@@ -113,6 +114,10 @@ fi
 if command -v script > /dev/null; then
     script -qec "'$program' export 6 $image --explain" /dev/null < /dev/null > typescript
     has 'an archive to a terminal' "unixvol: cannot write - unixvol: standard output: it is a terminal, which gets no archive" "$(tr -d '\r' < typescript | paste -s -d ' ' -)"
+    for volume in "$image" none.img; do
+        script -qec "'$program' import 6 $volume --explain" /dev/null < /dev/null > typescript
+        has "an archive from a terminal into $volume" "3 unixvol: cannot read - unixvol: standard input: it is a terminal, which gives no archive" "$? $(tr -d '\r' < typescript | paste -s -d ' ' -)"
+    done
 fi
 
 # A refused allocation has its line too: memory is kept too small for the image.
@@ -133,11 +138,24 @@ tar --format=ustar -cf file.tar d
 "$program" import 6 "$image" --explain < file.tar > output 2> error
 has 'a member whose path is taken' "1 unixvol: 17 Exists: /d unixvol: this member: something has its path already that isn't the directory wanted" "$? $(paste -s -d ' ' error)"
 
+for number in $(seq 130); do ln hello "$number"; done
+tar --format=ustar -cf linked.tar hello $(seq 130)
+"$program" import 6 "$image" --explain < linked.tar > output 2> error
+has 'a member whose file has too many links' "1 unixvol: 31 TooManyLinks: /127 unixvol: this member: the file, or the directory above, has as many links as the edition lets it have" "$? $(paste -s -d ' ' error)"
+rm $(seq 130)
+ln hello further
+tar --format=ustar -cf linked.tar hello further
+tar --delete -f linked.tar hello
+"$program" import 6 "$image" --explain < linked.tar > output 2> error
+has 'a member that is a link to nothing' "1 unixvol: 2 NoEntry: /further unixvol: this member: a directory on the way to it, or the file that it is a link to, isn't there" "$? $(paste -s -d ' ' error)"
+
 # Several files: a refusal of one has the line of its path.
 explains 1 'unixvol: 2 NoEntry: /none/hello' "unixvol: this file: a directory on the way to it isn't there" put 6 "$image" -t /none hello
 explains 1 'unixvol: 21 IsDirectory: d' 'unixvol: this file: it is a directory, whose names `unixvol ls` lists' get 6 "$image" -o . /d/f d
 explains 3 'unixvol: cannot write missing/f' 'unixvol: missing/f: No such file or directory (os error 2)' get 6 "$image" -o missing /d/f
 refuses 1 'unixvol: fifteen-bytes-n: a name above 14 bytes' put 6 "$image" -t /d fifteen-bytes-n --explain
+: > 1975
+refuses 2 'unixvol: 1975: a moment, and a file too: write ./1975, or the moment in another form' put 6 "$image" -t /d hello 1975 --explain
 
 # A file called `--explain`, behind `--`; and a command that goes well, with the option or without.
 refuses 1 'unixvol: 2 NoEntry' get 6 "$image" -- --explain

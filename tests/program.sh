@@ -288,7 +288,7 @@ ln -s circle volumes/circle
 refuses 3 'unixvol: cannot write volumes/circle' mkfs 6 volumes/circle "${twenty[@]}"
 has 'a symbolic link that leads to itself' circle "$(readlink volumes/circle)"
 # In a folder so deep that the system can't name it from the root: a file at the end of a link is made all the same,
-# and an old one stays. A failure leaves no new file.
+# and an old one is replaced.
 # deep WORD..: runs the program in that folder
 long_name=$(printf 'd%.0s' $(seq 250))
 deep() {
@@ -299,15 +299,14 @@ descend() {
     local depth
     for depth in $(seq 17); do { [ -d "$long_name" ] || mkdir "$long_name"; } && cd -P "$long_name" || return 9; done
 }
-(descend && ln -s nothing link && cp "$folder/hello" kept)
+(descend && ln -s nothing link && ln -s old to_old && cp "$folder/hello" old)
 deep mkfs 6 link "${twenty[@]}"
 wants 'mkfs at the end of a link in a deep folder' 0 none none
 has 'a file at the end of a link in a deep folder' same "$(descend && cmp -s nothing "$folder/made" && echo same)"
-deep mkfs 6 kept "${twenty[@]}"
-echo 'unixvol: cannot write kept' > line
-wants 'mkfs of an old file in a deep folder' 3 none line
-has 'the files of a deep folder' 'kept link nothing' "$(descend && echo *)"
-has 'an old file in a deep folder' hello "$(descend && cat kept)"
+deep mkfs 6 to_old "${twenty[@]}"
+wants 'mkfs of an old file at the end of a link in a deep folder' 0 none none
+has 'an old file at the end of a link in a deep folder' same "$(descend && cmp -s old "$folder/made" && echo same)"
+has 'the files of a deep folder' 'link nothing old to_old .unixvol-*' "$(descend && echo * .unixvol-*)"
 (umask 027; runs mkfs 6 volumes/masked "${twenty[@]}")
 has 'the permissions of a new file' 640 "$(stat -c %a volumes/masked)"
 cat pipe > piped &

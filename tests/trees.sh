@@ -55,7 +55,26 @@ for edition in 6 7; do
     cmp -s output src/cmd/a.c
     has 'a file below a directory' 0 $?
 
+    # Files whose directories are no members, and directories that come twice.
+    cp new.img ways.img
+    tar --format=ustar --owner=0 --group=0 -cf ways.tar -C src cmd/a.c ./man/again
+    imports ways.tar "$edition" ways.img / 100000500
+    "$program" get "$edition" ways.img /man/again > output
+    cmp -s output src/cmd/a.c
+    has 'a file whose directory is no member' 0 $?
+    cp new.img ways.img
+    tar --format=ustar --owner=0 --group=0 -cf twice.tar -C src man cmd
+    tar --format=ustar --owner=0 --group=0 --no-recursion -rf twice.tar -C src man cmd/empty
+    imports twice.tar "$edition" ways.img / 100000500
+    "$program" dcheck "$edition" ways.img 1 > report
+    has 'a volume into which an archive was imported that has a directory twice' 0 $?
+
     # What isn't imported.
+    tar --format=ustar --owner=40000 --group=0 -cf owner.tar -C src cmd/a.c
+    cp other.img before
+    "$program" import "$edition" other.img / 7 < owner.tar > output 2> error
+    has 'an import of an owner that the edition has not' "1 unixvol: cmd/a.c: an owner or a group above the edition's highest" "$? $(cat error)"
+    saves 'an image without the owner' other.img before
     : > fifteen-bytes-n
     tar --format=ustar -cf long.tar fifteen-bytes-n
     cp other.img before
@@ -128,6 +147,19 @@ for edition in 6 7; do
     prints none get -o away "$edition" several.img in/first
     cmp -s first away/first
     has 'a file that was there, got again' 0 $?
+    # A last word that is a moment and a file too: nothing is opened. With a slash it is a file, and where no file has that name, a moment.
+    printf nine > 9
+    mkdir -p 2026-11-23T12:00:00Z
+    cp several.img before
+    refuses 2 'unixvol: 9: a moment, and a file too: write ./9, or the moment in another form' put "$edition" several.img -t /in first 9
+    refuses 2 'unixvol: 9: a moment, and a file too: write ./9, or the moment in another form' put -t /in "$edition" none.img missing 9
+    refuses 2 'unixvol: 2026-11-23T12:00:00Z: a moment, and a file too: write ./2026-11-23T12:00:00Z, or the moment in another form' put "$edition" several.img -t /in first 2026-11-23T12:00:00Z
+    saves 'an image into which nothing was put at a moment' several.img before
+    prints none put "$edition" several.img -t /in first ./9 100000500
+    prints 9 get "$edition" several.img /in/9
+    rm 9
+    prints none put "$edition" several.img -t /in first 9
+    has 'the moment that is no file' '1970-01-01 00:00:09' "$("$program" ls -l "$edition" several.img /in | awk '$NF == "first" { print $7, $8 }')"
     cp several.img before
     refuses 1 'unixvol: fifteen-bytes-n: a name above 14 bytes' put "$edition" several.img -t /in second fifteen-bytes-n 6
     refuses 1 'unixvol: 2 NoEntry: /none/first' put "$edition" several.img -t /none first second 6
@@ -136,11 +168,15 @@ for edition in 6 7; do
     misread 'error: ' put "$edition" several.img -t /in first away/first
     misread 'error: ' put "$edition" several.img /in/first
     misread 'error: ' put "$edition" several.img /in/first first 6 second
+    misread "error: invalid value '' for '<DIR>'" put "$edition" several.img -t '' first
+    misread "error: invalid value '' for '<DIR>'" put --target-directory= "$edition" several.img first 6
     saves 'an image into which nothing was put' several.img before
     rm away/*
     refuses 1 'unixvol: 2 NoEntry: /in/none' get "$edition" several.img -o away /in/first /in/none
     refuses 1 'unixvol: 21 IsDirectory: /in' get "$edition" several.img -o away /in/first /in
     misread 'error: ' get "$edition" several.img -o away /in/first first
+    misread "error: invalid value '' for '<FOLDER>'" get "$edition" several.img -o '' /in/first
+    misread "error: invalid value '' for '<FOLDER>'" get --output= "$edition" several.img /in/first
     misread 'error: ' get "$edition" several.img /in/first /in/second
     has 'files that were not got' '' "$(ls away)"
     refuses 3 'unixvol: cannot write missing/first' get "$edition" several.img -o missing /in/first
@@ -150,6 +186,18 @@ for edition in 6 7; do
     cp before same
     refuses 3 'unixvol: cannot write ./before' get "$edition" before -o . /before
     saves 'the image, which is not replaced by a file of its own' before same
+    ln before away/before
+    refuses 3 'unixvol: cannot write away/before' get "$edition" before -o away /before
+    ln -sf ../before away/before
+    refuses 3 'unixvol: cannot write away/before' get "$edition" before -o away /before
+    saves 'the image, whatever path leads to it' before same
+    rm away/before
+    mkdir away/second
+    refuses 3 'unixvol: cannot write away/second' get "$edition" before -o away /in/first /in/second
+    cmp -s first away/first
+    has 'the file before one that is not written' 0 $?
+    has 'files that were begun' '' "$(find away -name '.unixvol*')"
+    rmdir away/second
 
     # Listings.
     "$program" ls "$edition" disk.img / > plain

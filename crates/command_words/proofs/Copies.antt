@@ -1,6 +1,6 @@
 -- What `put` and `get` are asked for: of one file, or of several.
-use Rattle.std.proofs.Common.{◌≡◌, ◌⊎◌, ℕ, List, Option, Some, None, Bool, true, false, true≢false, codes, map, sym, ap, inl, inr}
-use Rattle.command_words.specs.Asking.{AreFilesGiven, ArePathsGiven, AsksForNothing, IsFirstWord, IsGiven, IsLeftOut, IsMomentGiven, IsValue, Words, get_words, put_words, verb_of}
+use Rattle.std.proofs.Common.{◌≡◌, ◌⊎◌, ◌∙◌, ℕ, List, [], Option, Some, None, Bool, true, false, true≢false, codes, map, option_map, sym, ap, inl, inr}
+use Rattle.command_words.specs.Asking.{AreFilesGiven, ArePathsGiven, AsksForNothing, IsFirstWord, IsGiven, IsLeftOut, IsMomentGiven, IsNonEmptyWord, IsValue, Words, get_words, put_words, verb_of}
 use Rattle.command_words.specs.declared.invocation.Copying.TheVariants as copies
 use Rattle.command_words.specs.declared.invocation.Invocation.{Invocation}
 use Rattle.command_words.specs.declared.invocation.Invocation.TheVariants.{Cat, Mkfs, Migrate, OnVolume, OnImage, OnTree, OnFiles, OnThreads}
@@ -18,13 +18,13 @@ use Rattle.command_words.proofs.Values.{no_value}
 abbrev IsPut : Option ℕ → Words → Type 0
 IsPut clock given = ((file : List ℕ) × (now : ℕ) × IsFirstWord given (codes "FILE") file × IsMomentGiven clock (given (codes "NOW")) now
     × IsLeftOut given (codes "MORE") × IsLeftOut given (codes "target-directory"))
-    ⊎ ((directory : List ℕ) × (files : List (List ℕ)) × (now : ℕ) × IsFirstWord given (codes "target-directory") directory
-    × AreFilesGiven clock (put_words given) files now)
+    ⊎ ((directory : List ℕ) × (files : List (List ℕ)) × (now : ℕ) × (word : Option (List ℕ)) × IsNonEmptyWord given (codes "target-directory") directory
+    × AreFilesGiven clock (put_words given) files now word)
 
 -- one file is got, or several are
 abbrev IsGot : Words → Type 0
 IsGot given = (IsLeftOut given (codes "MORE") × IsLeftOut given (codes "output"))
-    ⊎ ((folder : List ℕ) × (paths : List (List ℕ)) × IsFirstWord given (codes "output") folder × ArePathsGiven (get_words given) paths)
+    ⊎ ((folder : List ℕ) × (paths : List (List ℕ)) × IsNonEmptyWord given (codes "output") folder × ArePathsGiven (get_words given) paths)
 
 -- the command is `put`
 is_put : Verb → Bool
@@ -40,7 +40,8 @@ is_get _ = false
 puts : (clock : Option ℕ) (given : Words) (invocation : Invocation) → is_put (verb_of invocation) ≡ true → IsGiven clock given invocation → IsPut clock given
 unfolding is_put
 puts clock given (OnVolume volume (jobs.Put path file now)) put is = inl (file.now, now, is.1.1, is.1.2, is.1.3, is.1.4)
-puts clock given (OnFiles volume (copies.Put directory files now)) put is = inr (directory.now, map (λ file. file.now) files.items, now, is.1.0, is.1.1)
+puts clock given (OnFiles volume (copies.Put directory files now)) put is =
+    inr (directory.now, map (λ file. file.now) files.items, now.seconds, option_map (λ word. word.now) now.word, is.1.0, is.1.1)
 puts clock given (OnVolume volume job) put is = absurd (true≢false (sym put))
 puts clock given (OnFiles volume copying) put is = absurd (true≢false (sym put))
 puts clock given (OnThreads volume (works.Check checkers.Blocks workers)) put is = absurd (true≢false (sym put))
@@ -100,14 +101,28 @@ no_get clock given none = λ invocation asks. none (gets clock given invocation 
 both : (first : Option (List ℕ)) (word : List ℕ) → first ≡ Some word → first ≡ None → ⊥
 both first word some none = absurd (cc)
 
+-- the first word is one word
+one_word : (first : Option (List ℕ)) (one other : List ℕ) → first ≡ Some one → first ≡ Some other → one ≡ other
+one_word first one other is other_is = cc
+
 -- where the option is there and the words are no files with a moment, `put` asks for nothing
 pub no_files : (clock : Option ℕ) (given : Words) (directory : List ℕ) → IsFirstWord given (codes "target-directory") directory
-    → ((files : List (List ℕ)) (now : ℕ) → AreFilesGiven clock (put_words given) files now → ⊥) → AsksForNothing clock verbs.Put given
+    → ((files : List (List ℕ)) (now : ℕ) (word : Option (List ℕ)) → AreFilesGiven clock (put_words given) files now word → ⊥)
+    → AsksForNothing clock verbs.Put given
 no_files clock given directory is none = no_put clock given go
   where
     go : IsPut clock given → ⊥
     go (inl one) = both _ directory is one.5
-    go (inr several) = none several.1 several.2 several.4
+    go (inr several) = none several.1 several.2 several.3 several.5
+
+-- where the option is there and its word is empty, `put` asks for nothing
+pub empty_target : (clock : Option ℕ) (given : Words) (directory : List ℕ) → IsFirstWord given (codes "target-directory") directory → directory ≡ []
+    → AsksForNothing clock verbs.Put given
+empty_target clock given directory is empty = no_put clock given go
+  where
+    go : IsPut clock given → ⊥
+    go (inl one) = both _ directory is one.5
+    go (inr several) = several.4.1 (one_word _ several.0 directory several.4.0 is ∙ empty)
 
 -- where the option isn't there and no one file is put, `put` asks for nothing
 no_one : (clock : Option ℕ) (given : Words) → IsLeftOut given (codes "target-directory")
@@ -117,7 +132,7 @@ no_one clock given left none = no_put clock given go
   where
     go : IsPut clock given → ⊥
     go (inl one) = none one.0 one.1 one.2 one.3 one.4
-    go (inr several) = both _ several.0 several.3 left
+    go (inr several) = both _ several.0 several.4.0 left
 
 -- where neither the option nor the file is there, `put` asks for nothing
 pub no_file : (clock : Option ℕ) (given : Words) → IsLeftOut given (codes "target-directory") → IsLeftOut given (codes "FILE") → AsksForNothing clock verbs.Put given
@@ -142,6 +157,15 @@ no_paths clock given folder is none = no_get clock given go
     go (inl one) = both _ folder is one.1
     go (inr several) = none several.1 several.3
 
+-- where the option is there and its word is empty, `get` asks for nothing
+pub empty_output : (clock : Option ℕ) (given : Words) (folder : List ℕ) → IsFirstWord given (codes "output") folder → folder ≡ []
+    → AsksForNothing clock verbs.Get given
+empty_output clock given folder is empty = no_get clock given go
+  where
+    go : IsGot given → ⊥
+    go (inl one) = both _ folder is one.1
+    go (inr several) = several.2.1 (one_word _ several.0 folder several.2.0 is ∙ empty)
+
 -- where the option isn't there, and further words are, `get` asks for nothing
 pub too_many_got : (clock : Option ℕ) (given : Words) → IsLeftOut given (codes "output") → (IsLeftOut given (codes "MORE") → ⊥)
     → AsksForNothing clock verbs.Get given
@@ -149,7 +173,7 @@ too_many_got clock given left many = no_get clock given go
   where
     go : IsGot given → ⊥
     go (inl one) = many one.0
-    go (inr several) = both _ several.0 several.2 left
+    go (inr several) = both _ several.0 several.2.0 left
 
 -- where the edition is none, a command on a volume asks for nothing
 pub no_edition_put : (clock : Option ℕ) (given : Words) → (IsValue None kinds.Edition (given (codes "EDITION")) → ⊥) → AsksForNothing clock verbs.Put given

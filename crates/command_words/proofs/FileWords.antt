@@ -1,11 +1,20 @@
 -- The words of several files, and their last names.
-use Rattle.std.proofs.Common.{◌≡◌, ◌∙◌, ◌≤◌, ◌<◌, ◌+◌, ◌-◌, ◌∷◌, ◌++◌, ◌&&◌, ◌||◌, not, ℕ, List, [], Option, Some, None, Bool, true, false, true≢false, length, map, take, drop, get_or, refl, sym, ap, ap₂, subst, inl, inr, arith}
+use Rattle.std.proofs.Common.{◌≡◌, ◌∙◌, ◌≤◌, ◌<◌, ◌+◌, ◌-◌, ◌∷◌, ◌++◌, ◌&&◌, ◌||◌, not, ℕ, List, [], Option, Some, None, Bool, true, false, true≢false, Ordering, length, map, option_map, take, drop, get_or, slice_get, cond, refl, sym, ap, ap₂, subst, inl, inr, arith}
 use Rattle.std.specs.Borrow.{Bor}
+use Rattle.std.specs.BTreeMap.{is_at}
+use Rattle.std.specs.BTreeSet.{BTreeSet, Updates, contains}
+use Rattle.std.specs.Cmp.Lexicographic.{slice_cmp}
 use Rattle.std.specs.List.{flat_map, list_any}
+use Rattle.std.specs.Ordering.{nat_cmp}
 use Rattle.std.specs.Path.{path_file_name}
 use Rattle.std.specs.Str.{bytes_eq}
+use Rattle.std.proofs.lemmas.Bool.{cases_Bool}
 use Rattle.std.proofs.lemmas.Grind.{flat_map-append}
-use Rattle.std.proofs.lemmas.List.{at_drop_more, get_or-map, length-map, map-append, take_more}
+use Rattle.std.proofs.lemmas.List.{get_or-map, length-map, map-append, take-append-drop, take-map, take_more}
+use Rattle.std.proofs.lemmas.List.Folds.{list_any-append}
+use Rattle.std.proofs.lemmas.Map.Text.{is_eq-slice_cmp}
+use Rattle.std.proofs.lemmas.Option.{slice_get-get_or, slice_get-map}
+use Rattle.std.proofs.lemmas.Slice.Eq.{bytes_eq-Decides}
 use Rattle.command_words.specs.Asking.{AreFilesGiven, EndsInMoment, IsMomentAfter, are_apart, are_distinct, last_names, with_name}
 
 -- the texts behind references
@@ -65,36 +74,107 @@ pub names_stay : (names : List (Bor (List ℕ))) (paths : List (Bor (List ℕ)))
 names_stay names paths i other inside were is =
     were ∙ (sym (append_nil (last_names (texts (take i paths)))) ∙ (ap (λ (o : Option (List ℕ)). last_names (texts (take i paths)) ++ with_name o []) is ∙ sym (names_at paths i other inside)))
 
--- a name is among texts where it is among the references to them
-any_text : (name : List ℕ) (words : List (Bor (List ℕ))) → list_any (λ word. bytes_eq word.now name) words ≡ list_any (λ other. bytes_eq other name) (texts words)
-any_text name [] = refl
-any_text name (word ∷ words) = ap (λ (b : Bool). bytes_eq word.now name || b) (any_text name words)
+-- a reference to nothing, where one is asked for that isn't used
+abbrev pub no_name : Bor (List ℕ)
+no_name = record { ref_ptr = (0, 0); now = [] }
 
--- whether names are distinct, by the first and those after it
-distinct_at : (names : List (Bor (List ℕ))) (i : ℕ) (other : Bor (List ℕ)) → i < length names
-    → are_distinct (texts (drop i names))
-    ≡ (not (list_any (λ word. bytes_eq word.now (get_or names i other).now) (drop (i + 1) names)) && are_distinct (texts (drop (i + 1) names)))
-distinct_at names i other inside =
-    at_drop_more (λ (l : List (Bor (List ℕ))). are_distinct (texts l)) names i other inside
-    ∙ ap (λ (b : Bool). not b && are_distinct (texts (drop (i + 1) names))) (sym (any_text (get_or names i other).now (drop (i + 1) names)))
+-- the order of texts, by references
+abbrev pub text_cmp : Bor (List ℕ) → Bor (List ℕ) → Ordering
+text_cmp one other = slice_cmp nat_cmp one.now other.now
 
--- where a name isn't among those after it, the rest tells whether names are distinct
-pub distinct_more : (names : List (Bor (List ℕ))) (i : ℕ) (name : Bor (List ℕ)) (rest : List (Bor (List ℕ))) (is_there : Bool) (other : Bor (List ℕ)) → i < length names
-    → name ≡ get_or names i other → rest ≡ drop (i + 1) names → is_there ≡ list_any (λ word. bytes_eq word.now name.now) rest → is_there ≡ false
-    → are_distinct (texts names) ≡ are_distinct (texts (drop i names)) → are_distinct (texts names) ≡ are_distinct (texts (drop (i + 1) names))
-distinct_more names i name rest is_there other inside is rest_is tells none so_far =
-    let same : list_any (λ word. bytes_eq word.now (get_or names i other).now) (drop (i + 1) names) ≡ is_there =
-    ap₂ (λ (x : Bor (List ℕ)) (l : List (Bor (List ℕ))). list_any (λ word. bytes_eq word.now x.now) l) (sym is) (sym rest_is) ∙ sym tells in
-    so_far ∙ (distinct_at names i other inside ∙ ap (λ (b : Bool). not b && are_distinct (texts (drop (i + 1) names))) (same ∙ none))
+-- a set holds exactly these names
+abbrev pub HoldsNames : BTreeSet (Bor (List ℕ)) → List (List ℕ) → Type 0
+HoldsNames seen names = (name : Bor (List ℕ)) → contains text_cmp seen name ≡ list_any (λ other. bytes_eq name.now other) names
 
--- where a name is among those after it, names aren't distinct
-pub not_distinct : (names : List (Bor (List ℕ))) (i : ℕ) (name : Bor (List ℕ)) (rest : List (Bor (List ℕ))) (is_there : Bool) (other : Bor (List ℕ)) → i < length names
-    → name ≡ get_or names i other → rest ≡ drop (i + 1) names → is_there ≡ list_any (λ word. bytes_eq word.now name.now) rest → is_there ≡ true
-    → are_distinct (texts names) ≡ are_distinct (texts (drop i names)) → are_distinct (texts names) ≡ false
-not_distinct names i name rest is_there other inside is rest_is tells some so_far =
-    let same : list_any (λ word. bytes_eq word.now (get_or names i other).now) (drop (i + 1) names) ≡ is_there =
-    ap₂ (λ (x : Bor (List ℕ)) (l : List (Bor (List ℕ))). list_any (λ word. bytes_eq word.now x.now) l) (sym is) (sym rest_is) ∙ sym tells in
-    so_far ∙ (distinct_at names i other inside ∙ ap (λ (b : Bool). not b && are_distinct (texts (drop (i + 1) names))) (same ∙ some))
+-- two tests, and two more, in another order
+reordered : (a b c d : Bool) → (not (a || (b || false)) && (not c && d)) ≡ (not (b || c) && (not a && d))
+reordered true true c d = refl
+reordered true false true d = refl
+reordered true false false d = refl
+reordered false true c d = refl
+reordered false false true d = refl
+reordered false false false d = refl
+
+-- whether names are distinct, with one name more after them
+distinct_after : (names : List (List ℕ)) (name : List ℕ) → are_distinct (names ++ name ∷ []) ≡ (not (list_any (λ other. bytes_eq name other) names) && are_distinct names)
+distinct_after [] name = refl
+distinct_after (first ∷ names) name =
+    ap₂ (λ (a b : Bool). not a && b) (list_any-append (λ (other : List ℕ). bytes_eq other first) names (name ∷ [])) (distinct_after names name)
+    ∙ reordered (list_any (λ other. bytes_eq other first) names) (bytes_eq name first) (list_any (λ other. bytes_eq name other) names) (are_distinct names)
+
+-- a test that fails with one more test
+either_fails : (a more b with_more : Bool) → (not a && b) ≡ false → (b ≡ false → with_more ≡ false) → (not (a || more) && with_more) ≡ false
+either_fails true more b with_more fails then = refl
+either_fails false true b with_more fails then = refl
+either_fails false false b with_more fails then = then fails
+
+-- names that aren't distinct aren't with more names after them
+not_distinct_before : (names more : List (List ℕ)) → are_distinct names ≡ false → are_distinct (names ++ more) ≡ false
+not_distinct_before [] more fails = absurd (true≢false fails)
+not_distinct_before (name ∷ names) more fails =
+    ap (λ (b : Bool). not b && are_distinct (names ++ more)) (list_any-append (λ (other : List ℕ). bytes_eq other name) names more)
+    ∙ either_fails (list_any (λ other. bytes_eq other name) names) (list_any (λ other. bytes_eq other name) more) (are_distinct names) (are_distinct (names ++ more)) fails
+    (not_distinct_before names more)
+
+-- a text is the same as another exactly where the other is the same as it
+same_both_ways : (one other : List ℕ) → bytes_eq one other ≡ bytes_eq other one
+same_both_ways one other =
+    elim (cases_Bool (bytes_eq one other)) [
+      | inl same ↦ rw ((bytes_eq-Decides one other).0 same) refl
+      | inr apart ↦ elim (cases_Bool (bytes_eq other one)) [
+        | inl same ↦ rw ((bytes_eq-Decides other one).0 same) refl
+        | inr apart' ↦ apart ∙ sym apart'
+      ]
+    ]
+
+-- whether a name is the one that was put into a set, or was there
+put_or_there : (is_it was : Bool) → cond is_it true was ≡ (was || (is_it || false))
+put_or_there true true = refl
+put_or_there true false = refl
+put_or_there false true = refl
+put_or_there false false = refl
+
+-- a set with one name more
+pub holds_more : (seen new : BTreeSet (Bor (List ℕ))) (names : List (List ℕ)) (name : Bor (List ℕ)) → HoldsNames seen names
+    → Updates text_cmp seen new name true → HoldsNames new (names ++ name.now ∷ [])
+holds_more seen new names name holds updates other =
+    updates.0 other
+    ∙ ap₂ (λ (a b : Bool). cond a true b) (is_eq-slice_cmp name.now other.now ∙ same_both_ways name.now other.now) (holds other)
+    ∙ put_or_there (bytes_eq other.now name.now) (list_any (λ earlier. bytes_eq other.now earlier) names)
+    ∙ sym (list_any-append (λ (earlier : List ℕ). bytes_eq other.now earlier) names (name.now ∷ []))
+
+-- names are distinct with one more that the set of them has not
+pub distinct_more : (seen : BTreeSet (Bor (List ℕ))) (names : List (List ℕ)) (name : Bor (List ℕ)) → HoldsNames seen names → contains text_cmp seen name ≡ false
+    → are_distinct names ≡ true → are_distinct (names ++ name.now ∷ []) ≡ true
+distinct_more seen names name holds new distinct =
+    distinct_after names name.now ∙ ap₂ (λ (a b : Bool). not a && b) (sym (holds name) ∙ new) distinct
+
+-- where the set of some names has the one after them, the names aren't distinct
+pub not_distinct : (seen : BTreeSet (Bor (List ℕ))) (names : List (Bor (List ℕ))) (i : ℕ) (other : Bor (List ℕ)) → i < length names
+    → HoldsNames seen (texts (take i names)) → contains text_cmp seen (get_or names i other) ≡ true → are_distinct (texts names) ≡ false
+not_distinct seen names i other inside holds old =
+    let name : Bor (List ℕ) = get_or names i other in
+    let first : are_distinct (texts (take (i + 1) names)) ≡ false =
+    ap are_distinct (texts_more names i other inside)
+    ∙ (distinct_after (texts (take i names)) name.now
+    ∙ ap (λ (b : Bool). not b && are_distinct (texts (take i names))) (sym (holds name) ∙ old)) in
+    let whole : texts names ≡ texts (take (i + 1) names) ++ texts (drop (i + 1) names) =
+    ap texts (sym (take-append-drop (i + 1) names)) ∙ map-append (λ (word : Bor (List ℕ)). word.now) (take (i + 1) names) (drop (i + 1) names) in
+    ap are_distinct whole ∙ not_distinct_before (texts (take (i + 1) names)) (texts (drop (i + 1) names)) first
+
+-- a set without keys holds no names
+pub holds_none : (seen : BTreeSet (Bor (List ℕ))) → seen.keys ≡ [] → HoldsNames seen []
+holds_none seen empty name = ap (list_any (is_at (text_cmp name))) empty
+
+-- what an answer says that is the opposite
+pub not_false : (answer there : Bool) → answer ≡ not there → answer ≡ false → there ≡ true
+not_false answer true is refused = refl
+not_false answer false is refused = absurd (true≢false (sym is ∙ refused))
+
+-- and the same of the other answer
+pub not_true : (answer there : Bool) → answer ≡ not there → answer ≡ true → there ≡ false
+not_true answer true is granted = absurd (true≢false (sym granted ∙ is))
+not_true answer false is granted = refl
 
 -- the last of some words
 pub last_text : (words : List (Bor (List ℕ))) (other : Bor (List ℕ)) → 1 ≤ length words
@@ -105,9 +185,28 @@ last_text words other some =
 
 -- all words are files where the last writes no moment
 pub all_files : (clock : Option ℕ) (passed words : List (Bor (List ℕ))) (now : ℕ) → passed ≡ words
-    → ((moment : ℕ) → EndsInMoment (texts passed) moment → ⊥) → clock ≡ Some now → IsMomentAfter clock (texts words) (texts words) now
+    → ((moment : ℕ) → EndsInMoment (texts passed) moment → ⊥) → clock ≡ Some now → IsMomentAfter clock (texts words) (texts words) now None
 all_files clock passed words now same none told =
-    inr (subst (λ (l : List (Bor (List ℕ))). (moment : ℕ) → EndsInMoment (texts l) moment → ⊥) same none, refl, told)
+    inr (subst (λ (l : List (Bor (List ℕ))). (moment : ℕ) → EndsInMoment (texts l) moment → ⊥) same none, refl, told, refl)
+
+-- the last word is the moment where it writes one, and the words before it are files
+pub files_before : (clock : Option ℕ) (passed words files : List (Bor (List ℕ))) (now count : ℕ) (word : Option (Bor (List ℕ))) → passed ≡ words
+    → count ≡ length words → EndsInMoment (texts passed) now → files ≡ take (count - 1) words
+    → ((other : Bor (List ℕ)) → 0 < count → word ≡ Some (get_or words (count - 1) other))
+    → IsMomentAfter clock (texts words) (texts files) now (option_map (λ (text : Bor (List ℕ)). text.now) word)
+files_before clock passed words files now count word same counted ends before last =
+    let said : EndsInMoment (texts words) now = subst (λ (l : List (Bor (List ℕ))). EndsInMoment (texts l) now) same ends in
+    let same_length : length (texts words) ≡ length words = length-map words (λ (text : Bor (List ℕ)). text.now) in
+    let place : count - 1 ≡ length (texts words) - 1 = omega (arith, counted, same_length) in
+    let within : count - 1 < length words = omega (arith, counted, same_length, said.0) in
+    let is : word ≡ slice_get words (count - 1) =
+    last no_name (omega (arith, counted, same_length, said.0)) ∙ sym (slice_get-get_or words (count - 1) no_name within) in
+    inl (
+      said,
+      ap texts before ∙ (sym (take-map (λ (text : Bor (List ℕ)). text.now) (count - 1) words) ∙ ap (λ (n : ℕ). take n (texts words)) place),
+      ap (option_map (λ (text : Bor (List ℕ)). text.now)) is
+          ∙ (sym (slice_get-map (λ (text : Bor (List ℕ)). text.now) words (count - 1)) ∙ ap (slice_get (texts words)) place),
+    )
 
 -- the moment of a clock that tells none isn't told
 untold : (clock : Option ℕ) (now : ℕ) → clock ≡ None → clock ≡ Some now → ⊥
@@ -115,51 +214,56 @@ untold clock now none told = absurd (cc)
 
 -- where the last word writes no moment and the clock tells none, there are no files
 pub none_told : (clock : Option ℕ) (passed words : List (Bor (List ℕ))) → passed ≡ words → ((moment : ℕ) → EndsInMoment (texts passed) moment → ⊥)
-    → clock ≡ None → (files : List (List ℕ)) (now : ℕ) → IsMomentAfter clock (texts words) files now → ⊥
-none_told clock passed words same none is files now (inl ends) =
+    → clock ≡ None → (files : List (List ℕ)) (now : ℕ) (word : Option (List ℕ)) → IsMomentAfter clock (texts words) files now word → ⊥
+none_told clock passed words same none is files now word (inl ends) =
     none now (subst (λ (l : List (Bor (List ℕ))). EndsInMoment (texts l) now) (sym same) ends.0)
-none_told clock passed words same none is files now (inr all) = untold clock now is all.2
+none_told clock passed words same none is files now word (inr all) = untold clock now is all.2
 
 -- some words have one beginning that is the files
-files_same : (clock : Option ℕ) (words one other : List (List ℕ)) (now then_ : ℕ) → IsMomentAfter clock words one now → IsMomentAfter clock words other then_ → one ≡ other
-files_same clock words one other now then_ (inl a) (inl b) = a.1 ∙ sym b.1
-files_same clock words one other now then_ (inl a) (inr b) = absurd (b.0 now a.0)
-files_same clock words one other now then_ (inr a) (inl b) = absurd (a.0 then_ b.0)
-files_same clock words one other now then_ (inr a) (inr b) = a.1 ∙ sym b.1
+files_same : (clock : Option ℕ) (words one other : List (List ℕ)) (now then_ : ℕ) (word another : Option (List ℕ)) → IsMomentAfter clock words one now word
+    → IsMomentAfter clock words other then_ another → one ≡ other
+files_same clock words one other now then_ word another (inl a) (inl b) = a.1 ∙ sym b.1
+files_same clock words one other now then_ word another (inl a) (inr b) = absurd (b.0 now a.0)
+files_same clock words one other now then_ word another (inr a) (inl b) = absurd (a.0 then_ b.0)
+files_same clock words one other now then_ word another (inr a) (inr b) = a.1 ∙ sym b.1
 
 -- where no files come before a moment, none are given
 pub none_after : (clock : Option ℕ) (words given : List (List ℕ)) → words ≡ given
-    → ((files : List (List ℕ)) (now : ℕ) → IsMomentAfter clock words files now → ⊥) → (files : List (List ℕ)) (now : ℕ) → AreFilesGiven clock given files now → ⊥
-none_after clock words given same none files now are =
-    none files now (subst (λ (w : List (List ℕ)). IsMomentAfter clock w files now) (sym same) are.2)
+    → ((files : List (List ℕ)) (now : ℕ) (word : Option (List ℕ)) → IsMomentAfter clock words files now word → ⊥)
+    → (files : List (List ℕ)) (now : ℕ) (word : Option (List ℕ)) → AreFilesGiven clock given files now word → ⊥
+none_after clock words given same none files now word are =
+    none files now word (subst (λ (w : List (List ℕ)). IsMomentAfter clock w files now word) (sym same) are.2)
 
 -- the files that are given are those that were found
-given_found : (clock : Option ℕ) (words given found files : List (List ℕ)) (now then_ : ℕ) → words ≡ given → IsMomentAfter clock words found now
-    → AreFilesGiven clock given files then_ → files ≡ found
-given_found clock words given found files now then_ same is are =
-    files_same clock given files found then_ now are.2 (subst (λ (w : List (List ℕ)). IsMomentAfter clock w found now) same is)
+given_found : (clock : Option ℕ) (words given found files : List (List ℕ)) (now then_ : ℕ) (word another : Option (List ℕ)) → words ≡ given
+    → IsMomentAfter clock words found now word → AreFilesGiven clock given files then_ another → files ≡ found
+given_found clock words given found files now then_ word another same is are =
+    files_same clock given files found then_ now another word are.2 (subst (λ (w : List (List ℕ)). IsMomentAfter clock w found now word) same is)
 
 -- where none were found, none are given
-pub none_found : (clock : Option ℕ) (words given : List (List ℕ)) (found passed : List (Bor (List ℕ))) (now : ℕ) → words ≡ given → passed ≡ found
-    → IsMomentAfter clock words (texts found) now → length passed ≡ 0 → (files : List (List ℕ)) (then_ : ℕ) → AreFilesGiven clock given files then_ → ⊥
-none_found clock words given found passed now same passed_is is none files then_ are =
-    let files_are = given_found clock words given (texts found) files now then_ same is are in
+pub none_found : (clock : Option ℕ) (words given : List (List ℕ)) (found passed : List (Bor (List ℕ))) (now : ℕ) (word : Option (List ℕ)) → words ≡ given
+    → passed ≡ found → IsMomentAfter clock words (texts found) now word → length passed ≡ 0
+    → (files : List (List ℕ)) (then_ : ℕ) (another : Option (List ℕ)) → AreFilesGiven clock given files then_ another → ⊥
+none_found clock words given found passed now word same passed_is is none files then_ another are =
+    let files_are = given_found clock words given (texts found) files now then_ word another same is are in
     let no_files : length files ≡ 0 = ap length files_are ∙ (length-map found (λ (word : Bor (List ℕ)). word.now) ∙ (ap length (sym passed_is) ∙ none)) in
     let some : 1 ≤ length files = are.0 in
     absurd (omega arith)
 
 -- where two that were found have one last name, none are given
-pub none_apart : (clock : Option ℕ) (words given : List (List ℕ)) (found passed : List (Bor (List ℕ))) (now : ℕ) → words ≡ given → passed ≡ found
-    → IsMomentAfter clock words (texts found) now → are_apart (texts passed) ≡ false → (files : List (List ℕ)) (then_ : ℕ) → AreFilesGiven clock given files then_ → ⊥
-none_apart clock words given found passed now same passed_is is none files then_ are =
-    let files_are = given_found clock words given (texts found) files now then_ same is are in
+pub none_apart : (clock : Option ℕ) (words given : List (List ℕ)) (found passed : List (Bor (List ℕ))) (now : ℕ) (word : Option (List ℕ)) → words ≡ given
+    → passed ≡ found → IsMomentAfter clock words (texts found) now word → are_apart (texts passed) ≡ false
+    → (files : List (List ℕ)) (then_ : ℕ) (another : Option (List ℕ)) → AreFilesGiven clock given files then_ another → ⊥
+none_apart clock words given found passed now word same passed_is is none files then_ another are =
+    let files_are = given_found clock words given (texts found) files now then_ word another same is are in
     true≢false (sym are.1 ∙ (ap are_apart files_are ∙ (ap (λ (l : List (Bor (List ℕ))). are_apart (texts l)) (sym passed_is) ∙ none)))
 
 -- the files that were found are given
-pub found_given : (clock : Option ℕ) (words given : List (List ℕ)) (found passed again : List (Bor (List ℕ))) (now : ℕ) → words ≡ given → passed ≡ found → again ≡ found
-    → IsMomentAfter clock words (texts found) now → 1 ≤ length passed → are_apart (texts again) ≡ true → AreFilesGiven clock given (texts found) now
-found_given clock words given found passed again now same passed_is again_is is some apart = (
+pub found_given : (clock : Option ℕ) (words given : List (List ℕ)) (found passed again : List (Bor (List ℕ))) (now : ℕ) (word : Option (List ℕ)) → words ≡ given
+    → passed ≡ found → again ≡ found → IsMomentAfter clock words (texts found) now word → 1 ≤ length passed → are_apart (texts again) ≡ true
+    → AreFilesGiven clock given (texts found) now word
+found_given clock words given found passed again now word same passed_is again_is is some apart = (
   subst (λ (n : ℕ). 1 ≤ n) (sym (length-map found (λ (word : Bor (List ℕ)). word.now))) (subst (λ (l : List (Bor (List ℕ))). 1 ≤ length l) passed_is some),
   ap (λ (l : List (Bor (List ℕ))). are_apart (texts l)) (sym again_is) ∙ apart,
-  subst (λ (w : List (List ℕ)). IsMomentAfter clock w (texts found) now) same is,
+  subst (λ (w : List (List ℕ)). IsMomentAfter clock w (texts found) now word) same is,
 )

@@ -1,5 +1,5 @@
 -- What the words after a command ask for.
-use Rattle.std.specs.Prelude.{◌≡◌, ◌⊎◌, ◌∷◌, ◌≤◌, ◌-◌, ◌&&◌, ℕ, List, [], length, map, take, get_or, slice_get, flat_map, Option, Some, None}
+use Rattle.std.specs.Prelude.{◌≡◌, ◌≢◌, ◌⊎◌, ◌∷◌, ◌≤◌, ◌-◌, ◌&&◌, ℕ, List, [], length, map, take, get_or, slice_get, flat_map, Option, Some, None, option_map}
 use Rattle.std.specs.Prelude.{Bool, false, true, not, codes}
 use Rattle.std.specs.List.{list_any}
 use Rattle.std.specs.Path.{path_file_name}
@@ -56,6 +56,10 @@ the_word given name = first_word (given name)
 -- this is the first word that was given for an argument (this project)
 abbrev pub IsFirstWord : Words → List ℕ → List ℕ → Type 0
 IsFirstWord given name word = slice_get (given name) 0 ≡ Some word
+
+-- this is the first word that was given for an argument, and it isn't empty (this project)
+abbrev pub IsNonEmptyWord : Words → List ℕ → List ℕ → Type 0
+IsNonEmptyWord given name word = IsFirstWord given name word × (word ≢ [])
 
 -- no word was given for an argument (this project)
 abbrev pub IsLeftOut : Words → List ℕ → Type 0
@@ -263,14 +267,15 @@ are_apart paths = are_distinct (last_names paths)
 abbrev pub EndsInMoment : List (List ℕ) → ℕ → Type 0
 EndsInMoment words now = (2 ≤ length words) × IsMomentOf (get_or words (length words - 1) []) now
 
--- the words are these files, and then the moment where the last of two words or more writes one; else the moment is the clock's (this project)
-abbrev pub IsMomentAfter : Option ℕ → List (List ℕ) → List (List ℕ) → ℕ → Type 0
-IsMomentAfter clock words files now = (EndsInMoment words now × (files ≡ take (length words - 1) words))
-    ⊎ (((moment : ℕ) → EndsInMoment words moment → ⊥) × (files ≡ words) × (clock ≡ Some now))
+-- the words are these files, and then the moment where the last of two words or more writes one, which is the moment's word; else the moment is the clock's, and has no word (this project)
+abbrev pub IsMomentAfter : Option ℕ → List (List ℕ) → List (List ℕ) → ℕ → Option (List ℕ) → Type 0
+IsMomentAfter clock words files now word =
+    (EndsInMoment words now × (files ≡ take (length words - 1) words) × (word ≡ slice_get words (length words - 1)))
+    ⊎ (((moment : ℕ) → EndsInMoment words moment → ⊥) × (files ≡ words) × (clock ≡ Some now) × (word ≡ None))
 
--- the words are these files, one or more and no two of one last name, and the moment that is meant (this project)
-abbrev pub AreFilesGiven : Option ℕ → List (List ℕ) → List (List ℕ) → ℕ → Type 0
-AreFilesGiven clock words files now = (1 ≤ length files) × (are_apart files ≡ true) × IsMomentAfter clock words files now
+-- the words are these files, one or more and no two of one last name, and the moment that is meant, with its word, if it has one (this project)
+abbrev pub AreFilesGiven : Option ℕ → List (List ℕ) → List (List ℕ) → ℕ → Option (List ℕ) → Type 0
+AreFilesGiven clock words files now word = (1 ≤ length files) × (are_apart files ≡ true) × IsMomentAfter clock words files now word
 
 -- the words are these paths, one or more and no two of one last name (this project)
 abbrev pub ArePathsGiven : List (List ℕ) → List (List ℕ) → Type 0
@@ -278,9 +283,9 @@ ArePathsGiven words paths = (1 ≤ length paths) × (are_apart paths ≡ true) �
 
 -- the words describe what is copied (this project)
 abbrev pub IsCopyGiven : Option ℕ → Words → Copying → Type 0
-IsCopyGiven clock given (copies.Put directory files now) = IsFirstWord given (codes "target-directory") directory.now
-    × AreFilesGiven clock (put_words given) (map (λ file. file.now) files.items) now
-IsCopyGiven clock given (copies.Get folder paths) = IsFirstWord given (codes "output") folder.now
+IsCopyGiven clock given (copies.Put directory files now) = IsNonEmptyWord given (codes "target-directory") directory.now
+    × AreFilesGiven clock (put_words given) (map (λ file. file.now) files.items) now.seconds (option_map (λ word. word.now) now.word)
+IsCopyGiven clock given (copies.Get folder paths) = IsNonEmptyWord given (codes "output") folder.now
     × ArePathsGiven (get_words given) (map (λ path. path.now) paths.items)
 
 -- the words describe what several threads do (this project)

@@ -24,15 +24,23 @@ pub enum Work<'a> {
     Play { scripts: Vec<&'a str> },
 }
 
+/// A moment, and where it was read.
+#[derive(Clone, Copy, Debug, PartialEq, Eq)]
+pub struct Moment<'a> {
+    /// The moment, in seconds since the beginning of 1970.
+    pub seconds: u32,
+    /// The word that writes it, which may have been meant as a file's name; `None` where the clock told it.
+    pub word: Option<&'a str>,
+}
+
 /// What is copied between files outside a volume and the volume.
 #[derive(Debug, PartialEq, Eq, Drop)]
 pub enum Copying<'a> {
-    /// Put files into a directory of the volume, each under its last name; `now` is the moment of the calls, in
-    /// seconds since the beginning of 1970.
+    /// Put files into a directory of the volume, each under its last name; `now` is the moment of the calls.
     Put {
         directory: &'a str,
         files: Vec<&'a str>,
-        now: u32,
+        now: Moment<'a>,
     },
     /// Write files of the volume into a folder, each under its last name.
     Get {

@@ -11,7 +11,7 @@ use crate::given::{
     threads_in, word_in,
 };
 use crate::invocation::{Copying, Invocation, VolumeFile, Work};
-use crate::several::{PutFiles, file_in, files_in, no_more, paths_in};
+use crate::several::{PutFiles, file_in, files_in, no_more, not_empty, paths_in};
 use crate::texts;
 use crate::verbs::Verb;
 use image_commands::{Form, Lines, Listing, Look, Picture};
@@ -23,8 +23,8 @@ use vol_volume::NewVolume;
 
 /// Reads the words after a command. `clock` is the moment of the program's clock, in seconds since the beginning of 1970,
 /// if it tells one; a command whose moment was left out means it. Where a word is no value of its argument, or a word
-/// is missing or one too many, or no moment is given or told, or two files that are copied have the same last name,
-/// the fault says so.
+/// is missing or one too many, or no moment is given or told, or two files that are copied have the same last name, or
+/// the place that they are copied to is the empty word, the fault says so.
 pub fn read<'a, G: Given<'a>>(
     alloc: Global,
     verb: Verb,
@@ -110,6 +110,7 @@ fn read_get<'a, G: Given<'a>>(alloc: Global, given: &G) -> Result<Invocation<'a>
     let volume = volume_in(given)?;
     match given.first("output") {
         Some(folder) => {
+            not_empty("FOLDER", folder, texts::EMPTY_FOLDER)?;
             let paths = paths_in(alloc, given)?;
             let copying = Copying::Get { folder, paths };
             Ok(Invocation::OnFiles { volume, copying })
@@ -261,6 +262,7 @@ fn read_put<'a, G: Given<'a>>(
     let volume = volume_in(given)?;
     match given.first("target-directory") {
         Some(directory) => {
+            not_empty("DIR", directory, texts::EMPTY_TARGET)?;
             let PutFiles { files, now } = files_in(alloc, given, clock)?;
             let copying = Copying::Put {
                 directory,

@@ -1,11 +1,13 @@
 //! The words of several files that are copied.
-ghost use Rattle.std.specs.Prelude.{◌≡◌, ◌≤◌, ◌-◌, ◌∷◌, [], None, ℕ, List, Some, false, true, IfErr, IfOk, IfSome, codes, flat_map, length, map, take};
+ghost use Rattle.std.specs.Prelude.{◌≡◌, ◌≢◌, ◌≤◌, ◌-◌, ◌∷◌, [], None, ℕ, List, Option, Some, false, true, IfErr, IfOk, IfSome, codes, flat_map, length, map, option_map, take};
 ghost use Rattle.command_words.specs.Asking.{AreFilesGiven, ArePathsGiven, EndsInMoment, IsFirstWord, IsLeftOut, IsMomentAfter, TellsOf, are_apart, are_distinct, get_words, last_names, put_words};
 
 use crate::fault::{Fault, Said, WrongWord};
 use crate::given::{Given, missing, wrong};
+use crate::invocation::Moment;
 use crate::texts;
 use std::alloc::{AllocError, Global};
+use std::collections::BTreeSet;
 use std::path::Path;
 use word_values::moment::moment_of;
 
@@ -14,8 +16,8 @@ use word_values::moment::moment_of;
 pub(crate) struct PutFiles<'a> {
     /// The files.
     pub files: Vec<&'a str>,
-    /// The moment, in seconds since the beginning of 1970.
-    pub now: u32,
+    /// The moment.
+    pub now: Moment<'a>,
 }
 
 /// The one file that is put.
@@ -52,9 +54,10 @@ pub(crate) fn files_in<'a, G: Given<'a>>(
     given: &G,
     clock: Option<u32>,
 ) -> Result<PutFiles<'a>, Fault<'a>>
-    ensures read { IfOk result (λ found. AreFilesGiven clock (put_words (G.words given.now)) (map (λ file. file.now) found.files.items) found.now) }
-    ensures refused { IfErr result (TellsOf ((files : List (List ℕ)) (now : ℕ)
-        → AreFilesGiven clock (put_words (G.words given.now)) files now → ⊥)) }
+    ensures read { IfOk result (λ found. AreFilesGiven clock (put_words (G.words given.now)) (map (λ file. file.now) found.files.items)
+        found.now.seconds (option_map (λ word. word.now) found.now.word)) }
+    ensures refused { IfErr result (TellsOf ((files : List (List ℕ)) (now : ℕ) (word : Option (List ℕ))
+        → AreFilesGiven clock (put_words (G.words given.now)) files now word → ⊥)) }
 {
     let words = words_in(alloc, given, &PUT_FILES)?;
     let found = with_moment(words, clock)?;
@@ -95,18 +98,26 @@ fn words_in<'a, G: Given<'a>>(
 
 /// The files of some words, and the moment after them, or that of the program's clock.
 fn with_moment<'a>(words: Vec<&'a str>, clock: Option<u32>) -> Result<PutFiles<'a>, Fault<'a>>
-    ensures read { IfOk result (λ found. IsMomentAfter clock (map (λ word. word.now) words.entry.items) (map (λ file. file.now) found.files.items) found.now) }
-    ensures refused { IfErr result (TellsOf ((files : List (List ℕ)) (now : ℕ)
-        → IsMomentAfter clock (map (λ word. word.now) words.entry.items) files now → ⊥)) }
+    ensures read { IfOk result (λ found. IsMomentAfter clock (map (λ word. word.now) words.entry.items) (map (λ file. file.now) found.files.items)
+        found.now.seconds (option_map (λ word. word.now) found.now.word)) }
+    ensures refused { IfErr result (TellsOf ((files : List (List ℕ)) (now : ℕ) (word : Option (List ℕ))
+        → IsMomentAfter clock (map (λ word. word.now) words.entry.items) files now word → ⊥)) }
 {
     let mut files = words;
     match moment_after(&files) {
-        Some(now) => {
-            files.pop();
+        Some(seconds) => {
+            let word = files.pop();
+            let now = Moment { seconds, word };
             Ok(PutFiles { files, now })
         }
         None => match clock {
-            Some(now) => Ok(PutFiles { files, now }),
+            Some(seconds) => {
+                let now = Moment {
+                    seconds,
+                    word: None,
+                };
+                Ok(PutFiles { files, now })
+            }
             None => Err(missing("NOW", texts::NO_CLOCK)),
         },
     }
@@ -121,6 +132,17 @@ fn moment_after(words: &[&str]) -> Option<u32>
         return None;
     }
     moment_of(words[words.len() - 1])
+}
+
+/// That the word for an option isn't empty.
+pub(crate) fn not_empty<'a>(name: &'a str, word: &'a str, wanted: &'a str) -> Result<(), Fault<'a>>
+    ensures some { IfOk result (λ _. word.now ≢ []) }
+    ensures refused { IfErr result (TellsOf (word.now ≡ [])) }
+{
+    if word.is_empty() {
+        return Err(wrong(name, word, wanted));
+    }
+    Ok(())
 }
 
 /// That there is one at least.
@@ -140,7 +162,7 @@ fn apart<'a>(alloc: Global, name: &'a str, paths: &[&'a str]) -> Result<(), Faul
     ensures refused { IfErr result (TellsOf (are_apart (map (λ path. path.now) paths.now) ≡ false)) }
 {
     let names = last_names(alloc, paths)?;
-    match repeated(&names) {
+    match repeated(alloc, &names)? {
         Some(last_name) => Err(wrong(name, last_name, texts::SAME_NAME)),
         None => Ok(()),
     }
@@ -159,16 +181,18 @@ fn last_names<'a>(alloc: Global, paths: &[&'a str]) -> Result<Vec<&'a str>, Allo
     Ok(names)
 }
 
-/// The first of the names that stands among those after it.
-fn repeated<'a>(names: &[&'a str]) -> Option<&'a str>
-    ensures some { IfSome result (λ _. are_distinct (map (λ name. name.now) names.now) ≡ false) }
-    ensures none { result ≡ None → are_distinct (map (λ name. name.now) names.now) ≡ true }
+/// The first of the names that stands among those before it.
+///
+/// Costs as much as sorting the names.
+fn repeated<'a>(alloc: Global, names: &[&'a str]) -> Result<Option<&'a str>, AllocError>
+    ensures some { IfOk result (λ found. IfSome found (λ _. are_distinct (map (λ name. name.now) names.now) ≡ false)) }
+    ensures none { IfOk result (λ found. found ≡ None → are_distinct (map (λ name. name.now) names.now) ≡ true) }
 {
-    for i in 0..names.len() {
-        let name = names[i];
-        if names[i + 1..].contains(&name) {
-            return Some(name);
+    let mut seen = BTreeSet::new(alloc);
+    for &name in names {
+        if !seen.insert(name)? {
+            return Ok(Some(name));
         }
     }
-    None
+    Ok(None)
 }

@@ -102,7 +102,8 @@ places, a space, and the name. `.` and `..` are among them. A PATH that leads to
 With -l the i-number is followed by the kind and the permissions, as in -rw-r--r--, the number of links, the user, the
 group, the size in bytes or the two numbers of a device, and the time of modification in UTC. With -R the directories
 below are listed too, each after a line with its path and a colon. With --json it prints one array, with an object for
-each name. On a terminal, bytes of names that are no printable ASCII are shown as a backslash and three octal digits.
+each name. Bytes of names and paths that are no printable ASCII are shown as a backslash and three octal digits, as text
+on a terminal only, in JSON always.
 
 A path starts at the root, with or without a slash. Repeated slashes count as one, those at its end as none,
 and each name is cut to 14 bytes. The volume must be sound: its twelve rules are asked first.
@@ -160,6 +161,8 @@ pub const MORE_GOT: &str = "With -o, further files";
 pub const OUTPUT: &str = "Write the files into this folder, each under its last name";
 
 pub const WANTS_OUTPUT: &str = "several files are written into a folder, by -o FOLDER";
+
+pub const EMPTY_FOLDER: &str = "it is empty, and no folder; the one where the program runs is .";
 
 pub const EXPORT_ABOUT: &str =
     "Writes all that is below a directory as a tar archive, of an image that isn't sound too.";
@@ -284,8 +287,8 @@ pipe or a terminal.
 
 With -t, each file is put into DIR, a directory of the volume, under its last name; no two may have the same, and a
 last name above 14 bytes is refused and never cut. A file that is there gets the new bytes, as above. The image is
-saved once: with all files or with none. The last of two words or more is NOW where it is a number or a date; a file
-of such a name is written with a slash, as ./123.
+saved once: with all files or with none. The last of two words or more is NOW where it is a number or a date, and where
+a file has that name too, nothing is put; a file of such a name is written with a slash, as ./123.
 
 A path starts at the root, with or without a slash. Repeated slashes count as one, those at its end as none,
 and each name is cut to 14 bytes. The volume must be sound: its twelve rules are asked first.
@@ -298,8 +301,8 @@ Status:
      `unixvol: 27 TooBig`: the edition has no file, or no directory, of that size
      `unixvol: 28 NoSpace`, `unixvol: 103 NoInode`: too few blocks, or no i-node, are free
      With -t, each of these lines but the first ends with the path in the volume, as in
-     `unixvol: 28 NoSpace: /src/a.c`; and `unixvol: PATH: WHY`: no file can have this name
-  2  the command line can't be read
+     `unixvol: 28 NoSpace: /src/a.c`; and `unixvol: NAME: a name above 14 bytes`, by the last name of a file
+  2  the command line can't be read; or `unixvol: WORD: a moment, and a file too`: write ./WORD, or another NOW
   3  `unixvol: cannot read IMAGE`, `unixvol: cannot read FILE`, `unixvol: cannot write IMAGE`
   4  `unixvol: 12 NoMemory`";
 
@@ -312,6 +315,8 @@ pub const TARGET: &str =
 
 pub const WANTS_TARGET: &str = "several files are put into a directory, by -t DIR";
 
+pub const EMPTY_TARGET: &str = "it is empty, and no directory; the root is /";
+
 pub const NO_FILE: &str = "a file is missing";
 
 pub const SAME_NAME: &str = "two files have this last name, and one would replace the other";
@@ -323,23 +328,28 @@ Example:
   unixvol import 7 disk.img /usr/src < src.tar
   unixvol export 6 old.img | unixvol import 7 new.img
 
-It reads an archive from standard input, in the formats of ustar, GNU tar or pax, and makes its members below PATH:
-directories, files with their bytes, permissions, owners and times of modification, and further names of files. All
-are made, or none. A directory that is there stays as it is. A name of more than 14 bytes is refused and never
-cut, and so are special files and symbolic links, which no call of the systems makes. IMAGE is written only where all
-went well: a new file is written beside it and then takes its place.
+It reads an archive from standard input, which can't be a terminal, in the formats of ustar, GNU tar or pax, and makes
+its members below PATH: directories and files with their permissions and owners, the bytes and times of modification of
+files, and further names of files. All are made, or none. PATH has to be there. A directory on the way to a member that
+is missing is made too, with permissions 0755, of user 0 and group 0; one that is there stays as it is. A name of more
+than 14 bytes is refused and never cut, and so are special and sparse files and symbolic links, which no call of the
+systems makes. IMAGE is written only where all went well: a new file is written beside it and then takes its place.
 
 Status:
   0  all members were made, and the volume was saved
   1  `unixvol: unsound, rule N`: the volume breaks this rule, and none before it; `unixvol check` says what breaks it
      `unixvol: archive, byte N: WHY`: the archive can't be read, from the header at this byte on
-     `unixvol: MEMBER: WHY`: this member can't be made
-     `unixvol: 17 Exists: MEMBER`: something has its path already that isn't the directory wanted
+     `unixvol: MEMBER: WHY`: this member can't be made as it is: its kind, a name of it or of what it is a link to, or
+     an owner or a group above the edition's highest, 255 in the sixth and 32767 in the seventh
+     `unixvol: 17 Exists: MEMBER`: something that isn't the directory wanted has its path already, or that of a
+     directory on the way
+     `unixvol: 2 NoEntry: MEMBER`: PATH isn't there, or the file that it is a link to
      `unixvol: 28 NoSpace: MEMBER`, `unixvol: 103 NoInode: MEMBER`: too few blocks, or no i-node, are free; so
      other refusals of a call, each with its number, its name and the member's path in the volume, where bytes
      that a terminal can't show are a backslash and three octal digits
   2  the command line can't be read
-  3  `unixvol: cannot read IMAGE`, `unixvol: cannot read -`: standard input; `unixvol: cannot write IMAGE`
+  3  `unixvol: cannot read IMAGE`, `unixvol: cannot write IMAGE`, or `unixvol: cannot read -`: standard input failed,
+     or is a terminal
   4  `unixvol: 12 NoMemory`";
 
 pub const IMPORTED: &str =
@@ -353,8 +363,8 @@ Example:
   unixvol rm -r 7 disk.img /usr/games
 
 The file is freed with its last name. Special files can be removed too, directories can't, unless -r is given: then
-a directory is removed with all that is below it, or nothing is. IMAGE is written
-only where all went well: a new file is written beside it and then takes its place.
+a directory is removed with all that is below it, or nothing is. IMAGE is written only where all went well: a new file
+is written beside it and then takes its place.
 
 A path starts at the root, with or without a slash. Repeated slashes count as one, those at its end as none,
 and each name is cut to 14 bytes. The volume must be sound: its twelve rules are asked first.
@@ -362,10 +372,11 @@ and each name is cut to 14 bytes. The volume must be sound: its twelve rules are
 Status:
   0  the name is gone, and the volume was saved
   1  `unixvol: unsound, rule N`: the volume breaks this rule, and none before it; `unixvol check` says what breaks it
-     `unixvol: 2 NoEntry`: there is no such name
+     `unixvol: 2 NoEntry`: there is no such name; with -r also where PATH ends in `..`, or leads through what is to be
+     removed, as /d/b/../../d does through /d
      `unixvol: 20 NotDirectory`: what PATH leads through is no directory
      `unixvol: 21 IsDirectory`: it is a directory, or no name
-     `unixvol: 22 Invalid`: with -r, PATH is the root, or ends in `.`; where it ends in `..`, it is 2 NoEntry
+     `unixvol: 22 Invalid`: with -r, PATH is the root, or ends in `.`
   2  the command line can't be read
   3  `unixvol: cannot read IMAGE`, `unixvol: cannot write IMAGE`
   4  `unixvol: 12 NoMemory`";
@@ -402,8 +413,9 @@ Example:
   unixvol mkdir 7 disk.img /usr/src 173750400
   unixvol mkdir -p 7 disk.img /usr/src/cmd
 
-With -p, directories that are missing on the way to it are made too, and one that is there already is no fault. It has permissions 0755, is of user 0 and group 0, and holds `.` and `..`. IMAGE is written only where all
-went well: a new file is written beside it and then takes its place.
+A directory that is made has permissions 0755, is of user 0 and group 0, and holds `.` and `..`. With -p, those that are
+missing on the way to it are made too, and one that is there already is no fault, and stays as it is. IMAGE is written
+only where all went well: a new file is written beside it and then takes its place.
 
 A path starts at the root, with or without a slash. Repeated slashes count as one, those at its end as none,
 and each name is cut to 14 bytes. The volume must be sound: its twelve rules are asked first.

@@ -1,5 +1,6 @@
 -- What copying several files between the host and a volume comes to.
-use Rattle.std.specs.Prelude.{All, ◌≡◌, ◌⊎◌, ℕ, List, [], map, Option, IsSome, IfSome, Bool, false, unwrap_or}
+use Rattle.std.specs.Prelude.{All, ◌≡◌, ◌⊎◌, ℕ, List, [], map, Option, Some, IsSome, IfSome, Bool, true, false, unwrap_or}
+use Rattle.std.specs.Borrow.{Bor}
 use Rattle.std.specs.Io.KnownBytes.{Keeps}
 use Rattle.std.specs.Path.{path_file_name}
 use Rattle.vol_import.specs.Making.{told}
@@ -10,6 +11,7 @@ use Rattle.vol_commands.specs.declared.answer.Answer.{Answer}
 use Rattle.vol_layout.specs.declared.edition.Edition.{Edition}
 use Rattle.command_words.specs.declared.invocation.Copying.{Copying}
 use Rattle.command_words.specs.declared.invocation.Copying.TheVariants as copyings
+use Rattle.command_words.specs.declared.invocation.Moment.{Moment}
 use Rattle.tree_commands.specs.Getting.{GetsFiles}
 use Rattle.tree_commands.specs.Importing.{ImportsArchive}
 use Rattle.tree_commands.specs.Putting.{calls_to_put}
@@ -28,13 +30,37 @@ abbrev pub AreGiven : (List ℕ → Type 0) → List (List ℕ) → List NewFile
 AreGiven given names news =
     All (λ (file : NewFile). given file.bytes.items) news × (map (λ (file : NewFile). file.name.now) news ≡ names)
 
+-- what the system said of a path: whether something stands there (this project)
+abbrev pub Standing : Type 1
+Standing = List ℕ → Bool → Type 0
+
+-- the word that was read as the moment, if one was, is no file's path: the system said that nothing stands there (this project)
+abbrev pub IsMomentAlone : Standing → Moment → Type 0
+IsMomentAlone stands now = IfSome now.word (λ word. stands word.now false)
+
+-- this word was read as the moment, and is the path of a file too: the system said that something stands there (this project)
+abbrev pub IsFileToo : Standing → Moment → Bor (List ℕ) → Type 0
+IsFileToo stands now word = (now.word ≡ Some word) × stands word.now true
+
+-- nothing is done, with the status of words that can't be read: one of them was read as the moment, and may be meant as one of the files; and nothing goes out (this project)
+abbrev pub LeavesMoment : Streams → Standing → Moment → ℕ → Type 0
+LeavesMoment streams stands now status =
+    (status ≡ 2) × ((word : Bor (List ℕ)) × IsFileToo stands now word)
+    × Keeps streams.old streams.new × (streams.failed ≡ streams.had_failed) × streams.said []
+
 -- files of these names are put into a directory: nothing is done; or files gave their bytes, and they are put into an image that a file gave which may be changed, and what the calls make is saved where a file still stood that had the stamp of the one that was read (this project)
-abbrev pub RunsPut : Streams → HostFiles → Edition → List ℕ → List (List ℕ) → ℕ → ℕ → Type 0
-RunsPut streams files edition directory names now status =
+abbrev pub PutsFiles : Streams → HostFiles → Edition → List ℕ → List (List ℕ) → ℕ → ℕ → Type 0
+PutsFiles streams files edition directory names now status =
     RunsNothing streams files status
     ⊎ ((image : List ℕ) × (stamp : Stamp) × (news : List NewFile) × (answer : Answer) × files.opened image stamp × AreGiven files.given names news
     × ImportsArchive edition image (told (calls_to_put (reads_as edition image).tree now directory news)) streams.said answer
     × Keeps streams.old streams.new × (streams.failed ≡ streams.had_failed) × EndsSaved (λ saved. files.taken saved × files.stood stamp) answer status)
+
+-- several files are to be put at a moment: where the word that was read as it is a file's path too, nothing is done; else they are put (this project)
+abbrev pub RunsPut : Streams → HostFiles → Standing → Edition → List ℕ → List (List ℕ) → Moment → ℕ → Type 0
+RunsPut streams files stands edition directory names now status =
+    LeavesMoment streams stands now status
+    ⊎ (IsMomentAlone stands now × PutsFiles streams files edition directory names now.seconds status)
 
 -- each of these files was saved: a file of the host took its bytes, all of them (this project)
 abbrev pub AreSaved : (List ℕ → Type 0) → List FileRead → Type 0
@@ -53,15 +79,15 @@ RunsGet streams files edition paths status =
     × Keeps streams.old streams.new × (streams.failed ≡ streams.had_failed) × ReadSaved files.taken read status)
 
 -- several files are copied (this project)
-abbrev pub RunsCopy : Streams → HostFiles → Edition → Copying → ℕ → Type 0
-RunsCopy streams files edition (copyings.Put directory paths now) status =
-    RunsPut streams files edition directory.now (map (λ path. name_of path.now) paths.items) now status
-RunsCopy streams files edition (copyings.Get folder paths) status = RunsGet streams files edition (map (λ path. path.now) paths.items) status
+abbrev pub RunsCopy : Streams → HostFiles → Standing → Edition → Copying → ℕ → Type 0
+RunsCopy streams files stands edition (copyings.Put directory paths now) status =
+    RunsPut streams files stands edition directory.now (map (λ path. name_of path.now) paths.items) now status
+RunsCopy streams files stands edition (copyings.Get folder paths) status = RunsGet streams files edition (map (λ path. path.now) paths.items) status
 
 -- the copying of several files runs to its end, as a plain command does (this project)
-abbrev pub CopiesToEnd : HostFiles → Option (List ℕ) → Option (List ℕ) → Edition → Copying → ℕ → Type 0
-CopiesToEnd files output errors edition copying end =
+abbrev pub CopiesToEnd : HostFiles → Standing → Option (List ℕ) → Option (List ℕ) → Edition → Copying → ℕ → Type 0
+CopiesToEnd files stands output errors edition copying end =
     (new : Option (List ℕ)) × (failed : Bool) × (told : Option (List ℕ)) × (untold : Bool) × (status : ℕ)
-    × RunsCopy (record { old = output; new = new; had_failed = false; failed = failed; said = Gets untold errors told }) files edition copying status
+    × RunsCopy (record { old = output; new = new; had_failed = false; failed = failed; said = Gets untold errors told }) files stands edition copying status
     × Ends (record { old = output; new = new; had_failed = false; failed = failed; said = Gets untold errors told }) status
     × ((end ≡ status) ⊎ ((status ≡ 0) × (end ≡ 3)))

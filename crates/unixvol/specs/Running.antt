@@ -12,6 +12,7 @@ use Rattle.pdp_words.specs.Devices.{IsReadWhole, LosesFront}
 use Rattle.image_commands.specs.Looking.{Looks}
 use Rattle.image_commands.specs.declared.looks.Look.{Look}
 use Rattle.image_commands.specs.declared.looks.Screen.{Screen}
+use Rattle.image_commands.specs.declared.looks.Screen.TheVariants as screens
 use Rattle.tree_commands.specs.Editing.{Edits}
 use Rattle.tree_commands.specs.declared.edits.Edit.{Edit}
 use Rattle.tree_commands.specs.declared.edits.Edit.TheVariants as edits
@@ -173,6 +174,13 @@ abbrev pub RunsWork : Streams → HostFiles → Edition → Work → ℕ → Typ
 RunsWork streams files edition (works.Check checker workers) status = RunsCheck streams files edition checker status
 RunsWork streams files edition (works.Play scripts) status = RunsPlay streams files edition (length scripts.items) status
 
+-- what shows standard output is a terminal with one column or more, where the system says that it is a terminal, and else none (this project)
+abbrev pub IsShownBy : Bool → Screen → Type 0
+IsShownBy true (screens.Terminal columns) = 1 ≤ columns
+IsShownBy true screens.Stream = ⊥
+IsShownBy false (screens.Terminal columns) = ⊥
+IsShownBy false screens.Stream = Unit {0}
+
 -- an image is looked at: nothing is done; or what is looked at is shown of an image that a file gave (this project)
 abbrev pub RunsLook : Streams → HostFiles → Screen → Edition → Look → ℕ → Type 0
 RunsLook streams files screen edition look status =
@@ -197,12 +205,27 @@ abbrev pub IsHeardFor : (List ℕ → Type 0) → Edit → List ℕ → Type 0
 IsHeardFor given (edits.Import path now) bytes = given bytes
 IsHeardFor given _ bytes = Unit {0}
 
+-- whether a change imports an archive from standard input, and this is a terminal, which gives none (this project)
+abbrev pub wants_terminal : Bool → Edit → Bool
+wants_terminal is_terminal (edits.Import path now) = is_terminal
+wants_terminal is_terminal _ = false
+
+-- nothing is done, since an archive is wanted of a terminal: the status is that of a file that can't be read, and nothing goes out (this project)
+abbrev pub LeavesTerminal : Streams → ℕ → Type 0
+LeavesTerminal streams status = (status ≡ 3) × Keeps streams.old streams.new × (streams.failed ≡ streams.had_failed) × streams.said []
+
 -- a volume is changed by several calls: nothing is done; or they are made on an image that a file gave which may be changed, an archive is standard input's, and what the calls make is saved where a file still stood that had the stamp of the one that was read (this project)
-abbrev pub RunsEdit : Streams → HostFiles → HostInput → Edition → Edit → ℕ → Type 0
-RunsEdit streams files input edition edit status =
+abbrev pub EditsVolume : Streams → HostFiles → HostInput → Edition → Edit → ℕ → Type 0
+EditsVolume streams files input edition edit status =
     RunsNothing streams files status ⊎ (HearsNothing streams input status
     ⊎ ((image : List ℕ) × (stamp : Stamp) × (bytes : List ℕ) × (answer : Answer) × files.opened image stamp × IsHeardFor input.given edit bytes
     × Edits edition image bytes streams answer edit × EndsSaved (λ saved. files.taken saved × files.stood stamp) answer status))
+
+-- several calls are to be made on a volume: where an archive is wanted of a terminal, nothing is done; else they are made (this project)
+abbrev pub RunsEdit : Streams → HostFiles → HostInput → Bool → Edition → Edit → ℕ → Type 0
+RunsEdit streams files input is_terminal edition edit status =
+    ((wants_terminal is_terminal edit ≡ true) × LeavesTerminal streams status)
+    ⊎ ((wants_terminal is_terminal edit ≡ false) × EditsVolume streams files input edition edit status)
 
 -- what is asked for is a plain command: no look at an image, no change by several calls, no copies of several files, nothing for several threads (this project)
 abbrev pub IsPlainCommand : Invocation → Type 0
@@ -272,9 +295,9 @@ LooksToEnd files screen output errors edition look end =
     × ((end ≡ status) ⊎ (end ≡ 3))
 
 -- a change by several calls runs to its end, as a plain command does (this project)
-abbrev pub EditsToEnd : HostFiles → HostInput → Option (List ℕ) → Option (List ℕ) → Edition → Edit → ℕ → Type 0
-EditsToEnd files input output errors edition edit end =
+abbrev pub EditsToEnd : HostFiles → HostInput → Bool → Option (List ℕ) → Option (List ℕ) → Edition → Edit → ℕ → Type 0
+EditsToEnd files input is_terminal output errors edition edit end =
     (new : Option (List ℕ)) × (failed : Bool) × (told : Option (List ℕ)) × (untold : Bool) × (status : ℕ)
-    × RunsEdit (record { old = output; new = new; had_failed = false; failed = failed; said = Gets untold errors told }) files input edition edit status
+    × RunsEdit (record { old = output; new = new; had_failed = false; failed = failed; said = Gets untold errors told }) files input is_terminal edition edit status
     × Ends (record { old = output; new = new; had_failed = false; failed = failed; said = Gets untold errors told }) status
     × ((end ≡ status) ⊎ ((status ≡ 0) × (end ≡ 3)))

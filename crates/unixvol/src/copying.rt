@@ -1,12 +1,12 @@
 //! The commands that copy several files between the host and a volume: what they open, and what they save.
-ghost use Rattle.std.specs.Prelude.{◌≡◌, ◌≢◌, ◌⊎◌, All, IfErr, IfOk, map};
+ghost use Rattle.std.specs.Prelude.{◌≡◌, ◌≢◌, ◌⊎◌, All, IfErr, IfOk, IfSome, None, map};
 ghost use Rattle.std.specs.Process.{exit_status};
 ghost use Rattle.vol_commands.specs.Faults.{Gets};
-ghost use Rattle.unixvol.specs.Copying.{AreSaved, CopiesToEnd, RunsCopy, RunsGet, RunsPut, name_of};
+ghost use Rattle.unixvol.specs.Copying.{AreSaved, CopiesToEnd, IsFileToo, IsMomentAlone, RunsCopy, RunsGet, RunsPut, name_of};
 ghost use Rattle.unixvol.specs.Running.{Ends, GaveBytes, IsStatusOfFileOrMemory, IsUnread, host_files};
 ghost use Rattle.unixvol.specs.Saving.{IsTaken};
 
-use crate::explaining::{explain_line, explain_no_memory, finish};
+use crate::explaining::{explain_line, explain_moment, explain_no_memory, finish};
 use crate::heard::heard_writer;
 use crate::host::Host;
 use crate::image_file::{ImageFiles, Stamp};
@@ -15,6 +15,7 @@ use crate::reading::{ReadFile, read_file, read_image, read_stamped};
 use crate::saving::{save_answer, save_new};
 use crate::subject::Subject;
 use command_line::{Copying, VolumeFile};
+use command_words::Moment;
 use pdp_words::Sink;
 use std::fs::Files;
 use std::io::Write;
@@ -33,7 +34,7 @@ pub fn run_to_end<R: ImageFiles + Clock + Eprint + AllocGlobal, O: Write + Drop,
     volume: VolumeFile<'_>,
     copying: Copying<'_>,
 ) -> ExitCode
-    ensures { CopiesToEnd (host_files R.File.remaining R.File.contents R.had R.stood) (O.contents output) (E.contents errors)
+    ensures { CopiesToEnd (host_files R.File.remaining R.File.contents R.had R.stood) R.stands (O.contents output) (E.contents errors)
         volume.entry.edition copying.entry (exit_status result) }
 {
     let mut output = noted_writer(output);
@@ -58,7 +59,7 @@ fn run<R: ImageFiles + Clock + Eprint + AllocGlobal, O: Sink, E: Sink>(
       had_failed = O.failed output.old;
       failed = O.failed output.new;
       said = Gets (E.failed errors.new) (E.contents errors.old) (E.contents errors.new);
-    }) (host_files R.File.remaining R.File.contents R.had R.stood) volume.entry.edition copying.entry result }
+    }) (host_files R.File.remaining R.File.contents R.had R.stood) R.stands volume.entry.edition copying.entry result }
     ensures ends { Ends (record {
       old = O.contents output.old;
       new = O.contents output.new;
@@ -77,7 +78,8 @@ fn run<R: ImageFiles + Clock + Eprint + AllocGlobal, O: Sink, E: Sink>(
     }
 }
 
-/// Puts the files at some paths into a directory of the volume in a file, saves the volume, and answers the status to end with.
+/// Puts the files at some paths into a directory of the volume in a file, saves the volume, and answers the status to end with. Where
+/// something stands at the word that was read as the moment, it may be one of the files: then nothing is opened.
 fn run_put<R: ImageFiles + Clock + Eprint + AllocGlobal, O: Sink, E: Sink>(
     host: &Host<'_, R>,
     output: &mut O,
@@ -85,7 +87,7 @@ fn run_put<R: ImageFiles + Clock + Eprint + AllocGlobal, O: Sink, E: Sink>(
     volume: VolumeFile<'_>,
     directory: &str,
     paths: &[&str],
-    now: u32,
+    now: Moment<'_>,
 ) -> u8
     ensures runs { RunsPut (record {
       old = O.contents output.old;
@@ -93,7 +95,8 @@ fn run_put<R: ImageFiles + Clock + Eprint + AllocGlobal, O: Sink, E: Sink>(
       had_failed = O.failed output.old;
       failed = O.failed output.new;
       said = Gets (E.failed errors.new) (E.contents errors.old) (E.contents errors.new);
-    }) (host_files R.File.remaining R.File.contents R.had R.stood) volume.entry.edition directory.now (map (λ path. name_of path.now) paths.now) now result }
+    }) (host_files R.File.remaining R.File.contents R.had R.stood) R.stands volume.entry.edition directory.now
+        (map (λ path. name_of path.now) paths.now) now.entry result }
     ensures ends { Ends (record {
       old = O.contents output.old;
       new = O.contents output.new;
@@ -102,6 +105,9 @@ fn run_put<R: ImageFiles + Clock + Eprint + AllocGlobal, O: Sink, E: Sink>(
       said = Gets (E.failed errors.new) (E.contents errors.old) (E.contents errors.new);
     }) result }
 {
+    if let Some(word) = moment_file(host.rt, now) {
+        return explain_moment(host, word);
+    }
     let (read, stamp) = match read_image(host, volume.image) {
         Ok(read) => read,
         Err(status) => return status,
@@ -121,11 +127,23 @@ fn run_put<R: ImageFiles + Clock + Eprint + AllocGlobal, O: Sink, E: Sink>(
         image,
         directory,
         files,
-        now,
+        now.seconds,
         output,
         errors,
     );
     save_answer(host, volume.image, stamp, &answer)
+}
+
+/// The word that was read as the moment, where something stands at it as a path.
+fn moment_file<'a, R: ImageFiles>(rt: &R, now: Moment<'a>) -> Option<&'a str>
+    ensures some { IfSome result (IsFileToo R.stands now.entry) }
+    ensures none { result ≡ None → IsMomentAlone R.stands now.entry }
+{
+    let word = now.word?;
+    match rt.stamp_at(word) {
+        Ok(_) => Some(word),
+        Err(_) => None,
+    }
 }
 
 /// The files at some paths, in their order, each with the last name of its path. Where one can't be read, prints so, and answers the

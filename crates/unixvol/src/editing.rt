@@ -2,9 +2,9 @@
 ghost use Rattle.std.specs.Prelude.{◌≡◌, IfErr, IfOk};
 ghost use Rattle.std.specs.Process.{exit_status};
 ghost use Rattle.vol_commands.specs.Faults.{Gets};
-ghost use Rattle.unixvol.specs.Running.{EditsToEnd, Ends, GaveBytes, IsHeardFor, IsUnread, RunsEdit, host_files, host_input};
+ghost use Rattle.unixvol.specs.Running.{EditsToEnd, Ends, GaveBytes, IsHeardFor, IsUnread, RunsEdit, host_files, host_input, wants_terminal};
 
-use crate::explaining::{Named, explain_line, finish};
+use crate::explaining::{Named, explain_line, explain_unread, finish};
 use crate::heard::heard_writer;
 use crate::host::Host;
 use crate::image_file::ImageFiles;
@@ -14,14 +14,17 @@ use crate::saving::save_answer;
 use crate::subject::Subject;
 use command_line::VolumeFile;
 use pdp_words::Sink;
-use std::io::{Read, Write};
+use std::io::{self, Read, Write};
 use std::process::ExitCode;
 use std::rt::Clock;
 use tree_commands::{Edit, edit};
 
+/// What is told of standard input that is a terminal, where an archive is wanted.
+const TERMINAL: &str = "it is a terminal, which gives no archive";
+
 /// Changes the volume in a file by several calls, and answers how the program ends. An archive is read from `input`, which is
-/// standard input; a fault is one line on standard error. `errors` writes to standard error too. Nothing goes to `output`,
-/// which is standard output.
+/// standard input; where this is a terminal, nothing is opened. A fault is one line on standard error. `errors` writes to
+/// standard error too. Nothing goes to `output`, which is standard output.
 pub fn run_to_end<
     R: ImageFiles + Clock + Eprint + AllocGlobal,
     I: Read + Drop,
@@ -30,17 +33,26 @@ pub fn run_to_end<
 >(
     host: &Host<'_, R>,
     input: I,
+    is_terminal: bool,
     output: O,
     errors: E,
     volume: VolumeFile<'_>,
     edit: Edit<'_>,
 ) -> ExitCode
-    ensures { EditsToEnd (host_files R.File.remaining R.File.contents R.had R.stood) (host_input I.remaining) (O.contents output) (E.contents errors)
+    ensures { EditsToEnd (host_files R.File.remaining R.File.contents R.had R.stood) (host_input I.remaining) is_terminal (O.contents output) (E.contents errors)
         volume.entry.edition edit.entry (exit_status result) }
 {
     let mut output = noted_writer(output);
     let mut errors = heard_writer(errors);
-    let status = run(host, input, &mut output, &mut errors, volume, edit);
+    let status = run(
+        host,
+        input,
+        is_terminal,
+        &mut output,
+        &mut errors,
+        volume,
+        edit,
+    );
     let subject = Subject::of_edit(volume.image, edit);
     explain_line(host, errors.last_line(), output.error(), Some(subject));
     ExitCode::from(finish(host, output.into_inner().into_inner(), status))
@@ -50,6 +62,7 @@ pub fn run_to_end<
 fn run<R: ImageFiles + Clock + Eprint + AllocGlobal, I: Read + Drop, O: Sink, E: Sink>(
     host: &Host<'_, R>,
     input: I,
+    is_terminal: bool,
     output: &mut O,
     errors: &mut E,
     volume: VolumeFile<'_>,
@@ -61,7 +74,7 @@ fn run<R: ImageFiles + Clock + Eprint + AllocGlobal, I: Read + Drop, O: Sink, E:
       had_failed = O.failed output.old;
       failed = O.failed output.new;
       said = Gets (E.failed errors.new) (E.contents errors.old) (E.contents errors.new);
-    }) (host_files R.File.remaining R.File.contents R.had R.stood) (host_input I.remaining) volume.entry.edition asked.entry result }
+    }) (host_files R.File.remaining R.File.contents R.had R.stood) (host_input I.remaining) is_terminal volume.entry.edition asked.entry result }
     ensures ends { Ends (record {
       old = O.contents output.old;
       new = O.contents output.new;
@@ -70,6 +83,9 @@ fn run<R: ImageFiles + Clock + Eprint + AllocGlobal, I: Read + Drop, O: Sink, E:
       said = Gets (E.failed errors.new) (E.contents errors.old) (E.contents errors.new);
     }) result }
 {
+    if wants_terminal(is_terminal, asked) {
+        return explain_unread(host, Named::Input, io::Error::other(TERMINAL));
+    }
     let (read, stamp) = match read_image(host, volume.image) {
         Ok(read) => read,
         Err(status) => return status,
@@ -93,6 +109,16 @@ fn run<R: ImageFiles + Clock + Eprint + AllocGlobal, I: Read + Drop, O: Sink, E:
         errors,
     );
     save_answer(host, volume.image, stamp, &answer)
+}
+
+/// Whether an archive is wanted of standard input, and this is a terminal.
+fn wants_terminal(is_terminal: bool, edit: Edit<'_>) -> bool
+    ensures { result ≡ wants_terminal is_terminal edit.entry }
+{
+    match edit {
+        Edit::Import { .. } => is_terminal,
+        _ => false,
+    }
 }
 
 /// The bytes of the archive that is imported, or none.

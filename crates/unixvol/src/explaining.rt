@@ -78,6 +78,16 @@ pub fn explain_unwritten<R: Eprint + AllocGlobal>(
     BAD_FILE
 }
 
+/// Prints that the word which was read as the moment is the path of a file too, and answers the status.
+pub fn explain_moment<R: Eprint>(host: &Host<'_, R>, word: &str) -> u8
+    ensures { result ≡ 2 }
+{
+    let _ = eprintln!(host.rt;
+        "unixvol: {word}: a moment, and a file too: write ./{word}, or the moment in another form"
+    );
+    BAD_COMMAND_LINE
+}
+
 /// Why a device failed: its last error, if that is known.
 pub fn reason_of(error: Option<io::Error>) -> io::Error {
     error.unwrap_or(io::Error::from(io::ErrorKind::Other))

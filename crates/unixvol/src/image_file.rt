@@ -1,5 +1,5 @@
 //! The file of an image that a command changes: of which kind it is, whether it is still as it was read, and its lock.
-ghost use Rattle.std.specs.Prelude.{◌≡◌, ◌≢◌, ◌↔◌, ◌==◌, ◌&&◌, IfOk};
+ghost use Rattle.std.specs.Prelude.{◌≡◌, ◌≢◌, ◌↔◌, ◌==◌, ◌&&◌, ℕ, List, Bool, true, false, IfErr, IfOk};
 ghost use Rattle.std.specs.Fs.{IsDir, IsFile, file_type, metadata_len};
 ghost use Rattle.unixvol.specs.declared.image_file.Stamp.{Stamp};
 ghost use Rattle.unixvol.specs.Opening.{IsOpenTo, OpensTo};
@@ -100,13 +100,18 @@ pub trait ImageFiles: Files {
     /// The system said of what stands at a path that this was its stamp.
     ghost stood: { Stamp → Type 0 };
 
+    /// The system said of a path whether something stands there, which has a stamp then.
+    ghost stands: { List ℕ → Bool → Type 0 };
+
     /// The stamp that an open file has now; a terminal is a stream.
     fn stamp_of(&self, file: &Self::File) -> io::Result<Stamp>
         ensures { IfOk result (had file.now) };
 
     /// The stamp that the file at `path` has now. A symbolic link is followed; a terminal counts as a device.
     fn stamp_at(&self, path: &str) -> io::Result<Stamp>
-        ensures { IfOk result stood };
+        ensures stamp { IfOk result stood }
+        ensures there { IfOk result (λ _. stands path.now true) }
+        ensures absent { IfErr result (λ _. stands path.now false) };
 
     /// Locks an open file for this program alone, until all its handles are closed. False where another
     /// program has it locked; true too where the file's system has no such locks.
@@ -117,6 +122,8 @@ impl ImageFiles for HostRuntime {
     ghost had = { λ _ _. Unit {0} };
 
     ghost stood = { λ _. Unit {0} };
+
+    ghost stands = { λ _ _. Unit {0} };
 
     fn stamp_of(&self, file: &File) -> io::Result<Stamp> {
         let stamp = Stamp::of(&file.metadata()?);

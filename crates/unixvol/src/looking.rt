@@ -1,8 +1,8 @@
 //! The commands that look at an image, sound or not. They may have printed something whatever their status is.
-ghost use Rattle.std.specs.Prelude.{◌≡◌};
+ghost use Rattle.std.specs.Prelude.{◌≡◌, ◌≤◌};
 ghost use Rattle.std.specs.Process.{exit_status};
 ghost use Rattle.vol_commands.specs.Faults.{Gets};
-ghost use Rattle.unixvol.specs.Running.{IsEnd, LooksToEnd, RunsLook, host_files};
+ghost use Rattle.unixvol.specs.Running.{IsEnd, IsShownBy, LooksToEnd, RunsLook, host_files};
 
 use crate::explaining::{explain_line, finish_printed};
 use crate::heard::heard_writer;
@@ -22,15 +22,26 @@ use std::process::ExitCode;
 const COLUMNS: u16 = 80;
 
 /// What shows standard output: a terminal, with as many columns as the variable COLUMNS says, or no terminal.
-pub fn screen<R: Env + AllocGlobal>(rt: &R, is_terminal: bool) -> Screen {
+pub fn screen<R: Env + AllocGlobal>(rt: &R, is_terminal: bool) -> Screen
+    ensures { IsShownBy is_terminal result }
+{
     if !is_terminal {
         return Screen::Stream;
     }
+    Screen::Terminal {
+        columns: terminal_width(rt),
+    }
+}
+
+/// How many columns the variable COLUMNS says that the terminal has; 80 where it says no number, or 0.
+fn terminal_width<R: Env + AllocGlobal>(rt: &R) -> u16
+    ensures { 1 ≤ result }
+{
     let columns = match env::var(rt, "COLUMNS") {
-        Ok(text) => text.parse().unwrap_or(COLUMNS),
-        Err(_) => COLUMNS,
+        Ok(text) => text.parse().unwrap_or(0),
+        Err(_) => 0,
     };
-    Screen::Terminal { columns }
+    if columns == 0 { COLUMNS } else { columns }
 }
 
 /// Shows what is asked for of the image in a file, and answers how the program ends. What it prints goes to `output`, which is

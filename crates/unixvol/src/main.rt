@@ -5,6 +5,7 @@ mod commands;
 mod copying;
 mod editing;
 mod explaining;
+mod fault_line;
 mod heard;
 mod host;
 mod image_file;
@@ -12,7 +13,6 @@ mod looking;
 mod meanings;
 mod noted;
 mod reading;
-mod said;
 mod saving;
 mod saving_file;
 mod subject;
@@ -51,7 +51,17 @@ fn main(rt: HostRuntime) -> ExitCode {
             looking::run_to_end(&host, screen, output, rt.stderr(), volume, look)
         }
         Ok(Invocation::OnTree { volume, edit }) => {
-            editing::run_to_end(&host, rt.stdin(), rt.stdout(), rt.stderr(), volume, edit)
+            let input = rt.stdin();
+            let is_terminal = input.is_terminal();
+            editing::run_to_end(
+                &host,
+                input,
+                is_terminal,
+                rt.stdout(),
+                rt.stderr(),
+                volume,
+                edit,
+            )
         }
         Ok(Invocation::OnFiles { volume, copying }) => {
             copying::run_to_end(&host, rt.stdout(), rt.stderr(), volume, copying)

@@ -1,6 +1,6 @@
 //! What the lines of faults mean, in words.
 
-use crate::said::Said;
+use crate::fault_line::FaultLine;
 use crate::subject::{About, Subject};
 use command_words::Verb;
 use escaped_text::push_escaped;
@@ -22,16 +22,16 @@ pub fn meaning_of(
     line: &[u8],
     subject: Subject<'_>,
 ) -> Result<Option<String>, AllocError> {
-    match Said::in_line(line, subject.verb) {
-        Some(Said::Unsound(rule)) => rule_meaning(alloc, rule, subject),
-        Some(Said::BadLine { script, line }) => script_meaning(alloc, script, line, subject),
-        Some(Said::Refused(refusal)) => refusal_meaning(alloc, refusal, subject),
-        Some(Said::RefusedAt(refusal)) => named_meaning(alloc, refusal, subject),
-        Some(Said::Bounds) => {
+    match FaultLine::read(line, subject.verb) {
+        Some(FaultLine::Unsound(rule)) => rule_meaning(alloc, rule, subject),
+        Some(FaultLine::BadLine { script, line }) => script_meaning(alloc, script, line, subject),
+        Some(FaultLine::Refused(refusal)) => refusal_meaning(alloc, refusal, subject),
+        Some(FaultLine::RefusedAt(refusal)) => named_meaning(alloc, refusal, subject),
+        Some(FaultLine::Bounds) => {
             let about = about_in(alloc, subject)?;
             meaning(alloc, about, "no volume of the edition has these sizes")
         }
-        Some(Said::HasDevice) => {
+        Some(FaultLine::HasDevice) => {
             let image = shown(alloc, subject.image)?;
             meaning(
                 alloc,
@@ -40,11 +40,11 @@ pub fn meaning_of(
             )
         }
         // Where standard output failed, the system's reason is told in the place of this.
-        Some(Said::Unwritten) if subject.verb == Verb::Export => {
+        Some(FaultLine::Unwritten) if subject.verb == Verb::Export => {
             let output = shown(alloc, "standard output")?;
             meaning(alloc, output, "it is a terminal, which gets no archive")
         }
-        Some(Said::Unwritten) | None => Ok(None),
+        Some(FaultLine::Unwritten) | None => Ok(None),
     }
 }
 
@@ -180,7 +180,12 @@ fn no_entry(verb: Verb) -> &'static str {
     match verb {
         Verb::Cat => "there is no i-node of this number, or it is free",
         Verb::Inode => "there is no i-node of this number",
-        Verb::Put | Verb::Mkdir | Verb::Import => "a directory on the way to it isn't there",
+        Verb::Put | Verb::Mkdir => "a directory on the way to it isn't there",
+        Verb::Import => {
+            "a directory on the way to it, or the file that it is a link to, isn't there"
+        }
+        Verb::Rm =>
+            "no file or directory has this name; or, with -r, it ends in .., or leads through what is to be removed",
         Verb::Ln | Verb::Mv => {
             "the first path leads to nothing, or the directory for the second name isn't there"
         }
@@ -241,6 +246,9 @@ fn no_space(verb: Verb) -> &'static str {
 fn too_many_links(verb: Verb) -> &'static str {
     match verb {
         Verb::Ln | Verb::Mv => "the file has as many names as the edition lets it have",
+        Verb::Import => {
+            "the file, or the directory above, has as many links as the edition lets it have"
+        }
         _ => "the directory above has as many directories as the edition lets it have",
     }
 }

@@ -73,10 +73,10 @@ pub fn save_file<R: ImageFiles + AllocGlobal>(
 {
     match OpenOptions::new().write(true).open(rt, path) {
         Ok(file) => {
-            let metadata = file.metadata()?;
-            if metadata.is_file() {
-                let place = fs::canonicalize(rt, path)?;
-                replace(rt, place.as_path(), Some(&metadata), read, content)
+            if file.metadata()?.is_file() {
+                let place = end_of_links(rt, path)?;
+                let old = fs::metadata(rt, place.as_path())?;
+                replace(rt, place.as_path(), Some(&old), read, content)
             } else {
                 expect_unchanged(rt, path, read)?;
                 write_in_place(file, content)?;
@@ -104,17 +104,22 @@ fn expect_unchanged<R: ImageFiles>(rt: &R, path: &str, read: Option<Stamp>) -> i
     }
 }
 
-/// Where the symbolic links end that begin at `path` and lead to no file; `path` itself, where no link is.
+/// Where the symbolic links end that begin at `path`, at a file or at nothing; `path` itself, where no link is.
 fn end_of_links<R: Files + AllocGlobal>(rt: &R, path: &str) -> io::Result<PathBuf> {
     let mut place = PathBuf::from_str(rt.alloc(), path)?;
-    for _ in 0..MOST_LINKS {
+    for _ in 0..=MOST_LINKS {
         match fs::read_link(rt, place.as_path()) {
             Ok(target) => place = place.with_file_name(rt.alloc(), target.as_str())?,
-            Err(error) if error.kind() == ErrorKind::NotFound => return Ok(place),
+            Err(error) if is_end(error) => return Ok(place),
             Err(error) => return Err(error),
         }
     }
     Err(io::Error::new(ErrorKind::FilesystemLoop, TOO_MANY_LINKS))
+}
+
+/// Whether the system answered so of a link because none is there: what stands there is another file, or nothing does.
+fn is_end(error: io::Error) -> bool {
+    matches!(error.kind(), ErrorKind::InvalidInput | ErrorKind::NotFound)
 }
 
 /// Puts a new file with this content in the place of `path`, which is no symbolic link, and still has the stamp `read`, if one is given.

@@ -1,5 +1,6 @@
 // The words of the command line.
 use command_line::{Copying, Invocation, VolumeFile, Work, asks_to_explain, read};
+use command_words::Moment;
 use image_commands::{Form, Lines, Listing, Look, Picture};
 use std::alloc::{AllocError, Global};
 use std::process::Abort;
@@ -203,26 +204,52 @@ static NO_EXPLAINED: [(&[&str], &str); 4] = [
     (&["super", "7", "disk", "--explained"], "--explained"),
 ];
 
-/// The words of `put` for several files, the files, and the moment that is meant where the clock tells 7.
-type Put = (&'static [&'static str], &'static [&'static str], u32);
+/// The words of `put` for several files, the files, and the moment that is meant where the clock tells 7, with the word that writes it.
+type Put = (
+    &'static [&'static str],
+    &'static [&'static str],
+    Moment<'static>,
+);
+
+/// The moment that the clock tells.
+const OF_CLOCK: Moment<'static> = Moment {
+    seconds: 7,
+    word: None,
+};
+
+/// The moment that the word 8 writes.
+const EIGHT: Moment<'static> = Moment {
+    seconds: 8,
+    word: Some("8"),
+};
+
+/// A moment that is written as a date.
+const DATE: Moment<'static> = Moment {
+    seconds: 9,
+    word: Some("1970-01-01T00:00:09Z"),
+};
 
 static PUTS: [Put; 11] = [
-    (&["put", "7", "disk", "-t", "/d", "a"], &["a"], 7),
-    (&["put", "-t", "/d", "7", "disk", "a", "b"], &["a", "b"], 7),
+    (&["put", "7", "disk", "-t", "/d", "a"], &["a"], OF_CLOCK),
+    (
+        &["put", "-t", "/d", "7", "disk", "a", "b"],
+        &["a", "b"],
+        OF_CLOCK,
+    ),
     (
         &["put", "7", "disk", "a", "x/b", "y/c", "d", "-t/d"],
         &["a", "x/b", "y/c", "d"],
-        7,
+        OF_CLOCK,
     ),
     (
         &["put", "7", "disk", "--target-directory", "/d", "a", "8"],
         &["a"],
-        8,
+        EIGHT,
     ),
     (
         &["put", "7", "disk", "a", "b", "c", "8", "-t", "/d"],
         &["a", "b", "c"],
-        8,
+        EIGHT,
     ),
     (
         &[
@@ -235,28 +262,28 @@ static PUTS: [Put; 11] = [
             "1970-01-01T00:00:09Z",
         ],
         &["a", "b"],
-        9,
+        DATE,
     ),
-    (&["put", "-t", "/d", "7", "disk", "123"], &["123"], 7),
+    (&["put", "-t", "/d", "7", "disk", "123"], &["123"], OF_CLOCK),
     (
         &["put", "-t", "/d", "7", "disk", "a", "./123"],
         &["a", "./123"],
-        7,
+        OF_CLOCK,
     ),
     (
         &["put", "-t", "/d", "7", "disk", "123", "456", "8"],
         &["123", "456"],
-        8,
+        EIGHT,
     ),
     (
         &["put", "-t", "/d", "7", "disk", "a", "notamoment"],
         &["a", "notamoment"],
-        7,
+        OF_CLOCK,
     ),
     (
         &["put", "-t", "/d", "7", "disk", "--", "-a", "b.."],
         &["-a", "b.."],
-        7,
+        OF_CLOCK,
     ),
 ];
 
@@ -274,7 +301,15 @@ static GETS: [(&[&str], &[&str]); 3] = [
 ];
 
 /// Words of `put` and `get` that are refused, where the clock tells 7, and what is told of them.
-static NO_COPIES: [(&[&str], &str); 13] = [
+static NO_COPIES: [(&[&str], &str); 15] = [
+    (
+        &["put", "7", "disk", "-t", "", "a"],
+        "invalid value '' for '<DIR>': it is empty",
+    ),
+    (
+        &["get", "7", "disk", "--output=", "/d/f"],
+        "invalid value '' for '<FOLDER>': it is empty",
+    ),
     (
         &["put", "7", "disk", "/d/f"],
         "no value for '<FILE>': a file is missing",

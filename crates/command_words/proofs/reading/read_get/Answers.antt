@@ -1,5 +1,5 @@
 use Rattle.std.proofs.Common.{sym}
-use Rattle.command_words.proofs.Copies.{no_edition_get, no_paths, too_many_got}
+use Rattle.command_words.proofs.Copies.{empty_output, no_edition_get, no_paths, too_many_got}
 use Rattle.command_words.proofs.Faults.{hands_on}
 use Rattle.command_words.proofs.reading.read_get.Goals as goal
 
@@ -15,3 +15,8 @@ pub returns-in_err-no_more-in-None-clause-refused : goal.returns-in_err-no_more-
 returns-in_err-no_more-in-None-clause-refused g c = λ clock.
     hands_on _ _ _ _ c.from_residual-in_err-no_more-in-None.ensures.1 c.in_err-no_more-in-None.ensures.refused
     (too_many_got clock (g.G.Given.words c.args.given.now) (sym c.in-None.ensures))
+
+pub returns-in_err-not_empty-in-Some-clause-refused : goal.returns-in_err-not_empty-in-Some-clause-refused
+returns-in_err-not_empty-in-Some-clause-refused g c = λ clock.
+    hands_on _ _ _ _ c.from_residual-in_err-not_empty-in-Some.ensures.1 c.in_err-not_empty-in-Some.ensures.refused
+    (empty_output clock (g.G.Given.words c.args.given.now) c.in-Some.folder.now (sym c.in-Some.ensures))

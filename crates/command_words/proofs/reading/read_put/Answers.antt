@@ -1,5 +1,5 @@
 use Rattle.std.proofs.Common.{sym}
-use Rattle.command_words.proofs.Copies.{no_edition_put, no_file, no_files, no_moment, too_many_put}
+use Rattle.command_words.proofs.Copies.{empty_target, no_edition_put, no_file, no_files, no_moment, too_many_put}
 use Rattle.command_words.proofs.Faults.{hands_on}
 use Rattle.command_words.proofs.reading.read_put.Goals as goal
 
@@ -25,3 +25,8 @@ pub returns-in_err-now-in-None-clause-refused : goal.returns-in_err-now-in-None-
 returns-in_err-now-in-None-clause-refused g c =
     hands_on _ _ _ _ c.from_residual-in_err-now-in-None.ensures.1 c.in_err-now-in-None.ensures.refused
     (no_moment c.args.clock (g.G.Given.words c.args.given.now) (sym c.in-None.ensures))
+
+pub returns-in_err-not_empty-in-Some-clause-refused : goal.returns-in_err-not_empty-in-Some-clause-refused
+returns-in_err-not_empty-in-Some-clause-refused g c =
+    hands_on _ _ _ _ c.from_residual-in_err-not_empty-in-Some.ensures.1 c.in_err-not_empty-in-Some.ensures.refused
+    (empty_target c.args.clock (g.G.Given.words c.args.given.now) c.in-Some.directory.now (sym c.in-Some.ensures))

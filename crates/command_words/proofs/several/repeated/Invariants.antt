@@ -1,7 +1,11 @@
-use Rattle.std.proofs.Common.{◌≡◌, drop, map}
+use Rattle.std.proofs.Common.{◌≡◌, take, true}
 use Rattle.command_words.specs.Asking.{are_distinct}
+use Rattle.command_words.proofs.FileWords.{HoldsNames, texts}
 use Rattle.command_words.proofs.several.repeated.Given as goal
 
--- those that are left tell whether all are distinct
-abbrev pub invariant-loop-i : goal.invariant-loop-i
-invariant-loop-i l = are_distinct (map (λ name. name.now) l.names) ≡ are_distinct (map (λ name. name.now) (drop l.i l.names))
+-- those before this one are distinct, and are seen
+abbrev pub invariant-loop-name : goal.invariant-loop-name
+invariant-loop-name l = record {
+  distinct : are_distinct (texts (take l.name-index l.names)) ≡ true;
+  seen : HoldsNames l.seen (texts (take l.name-index l.names));
+}

@@ -13,7 +13,7 @@ returns g c =
       _,
       _,
       status,
-      begun (λ streams. RunsCopy streams files c.args.volume.edition c.args.copying status) (g.O.Write.contents c.args.output) (g.E.Write.contents c.args.errors) _ _ _ _ _ _ _
+      begun (λ streams. RunsCopy streams files g.R.ImageFiles.stands c.args.volume.edition c.args.copying status) (g.O.Write.contents c.args.output) (g.E.Write.contents c.args.errors) _ _ _ _ _ _ _
           c.noted_writer-output.ensures.bytes c.heard_writer-errors.ensures.bytes c.noted_writer-output.ensures.fresh c.run-status.ensures.runs,
       begun (λ streams. Ends streams status) (g.O.Write.contents c.args.output) (g.E.Write.contents c.args.errors) _ _ _ _ _ _ _
           c.noted_writer-output.ensures.bytes c.heard_writer-errors.ensures.bytes c.noted_writer-output.ensures.fresh c.run-status.ensures.ends,

@@ -1,4 +1,4 @@
-//! What the line of a fault says.
+//! The line of a fault, read back.
 
 use command_words::Verb;
 use vol_commands::faults::Fault;
@@ -46,7 +46,7 @@ static REFUSALS: [Refusal; 15] = [
 
 /// What the line of a fault says.
 #[derive(Clone, Copy, Debug, PartialEq, Eq)]
-pub enum Said<'a> {
+pub enum FaultLine<'a> {
     /// The image breaks a rule.
     Unsound(Rule),
     /// A line of a script can't be read. The number of the script, of which the first is 1, and that of the line.
@@ -63,46 +63,46 @@ pub enum Said<'a> {
     Unwritten,
 }
 
-impl<'a> Said<'a> {
+impl<'a> FaultLine<'a> {
     /// What a command's line on standard error says. `None` of a line that says in words what is wrong, as those of `export` and
     /// `import` do of entries and members, and of none.
-    pub fn in_line(line: &'a [u8], verb: Verb) -> Option<Said<'a>> {
+    pub fn read(line: &'a [u8], verb: Verb) -> Option<FaultLine<'a>> {
         let said = str::from_utf8(line).ok()?.strip_prefix(PROGRAM)?;
         if let Some(number) = said.strip_prefix("unsound, rule ") {
-            return Some(Said::Unsound(rule_of(number)?));
+            return Some(FaultLine::Unsound(rule_of(number)?));
         }
         if let Some(place) = said.strip_prefix("script ") {
-            return Said::in_place(place);
+            return FaultLine::in_place(place);
         }
         match said.split_once(": ") {
             // The path of a call has a slash, and no reason in words has one; the lines of `get` have no such reasons.
             Some((refusal, path)) if path.contains('/') || verb == Verb::Get => {
-                Some(Said::RefusedAt(refusal_of(refusal)?))
+                Some(FaultLine::RefusedAt(refusal_of(refusal)?))
             }
-            _ => Said::in_whole(said),
+            _ => FaultLine::in_whole(said),
         }
     }
 
     /// What the place of a line in a script says, as in `2 line 7`.
-    fn in_place(place: &'a str) -> Option<Said<'a>> {
+    fn in_place(place: &'a str) -> Option<FaultLine<'a>> {
         let (script, line) = place.split_once(" line ")?;
         let script = script.parse::<usize>().ok()?;
-        Some(Said::BadLine { script, line })
+        Some(FaultLine::BadLine { script, line })
     }
 
     /// What a line without a path says behind the program's name.
-    fn in_whole(said: &str) -> Option<Said<'a>> {
+    fn in_whole(said: &str) -> Option<FaultLine<'a>> {
         if let Some(refusal) = refusal_of(said) {
-            return Some(Said::Refused(refusal));
+            return Some(FaultLine::Refused(refusal));
         }
         if said == text_of(MigrateFault::Bounds.line()) {
-            return Some(Said::Bounds);
+            return Some(FaultLine::Bounds);
         }
         if said == text_of(MigrateFault::HasDevice.line()) {
-            return Some(Said::HasDevice);
+            return Some(FaultLine::HasDevice);
         }
         if said == text_of(Fault::Output.line()) {
-            return Some(Said::Unwritten);
+            return Some(FaultLine::Unwritten);
         }
         None
     }

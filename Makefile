@@ -13,7 +13,8 @@ help:
 	@echo 'make faults                 refuses each allocation in turn, of the libraries and of the program, and runs the program 10,000 times where memory, the stack,'
 	@echo '                            the disk or a descriptor fails it, or a signal ends it; needs rustc, and some minutes'
 	@echo 'make build                  proves and builds the program, and leaves it as ./unixvol'
-	@echo 'make install PREFIX=FOLDER  builds the program and copies it to FOLDER/bin, with its manual page and completions (to /usr/local without PREFIX)'
+	@echo 'make install PREFIX=FOLDER  copies the program to FOLDER/bin, with its manual page and completions (to /usr/local without PREFIX); builds it first'
+	@echo '                            where ./unixvol is missing'
 	@echo 'make manual                 builds the program, and makes the manual page and the completions anew from what it says of itself'
 
 # The program is built only where it is proved. The words after `--` are its own: it is run once.
@@ -51,7 +52,11 @@ faults: build
 manual: build
 	manual/make.sh ./unixvol manual
 
-install: build
+# Built only where it is missing, since whoever installs may be somebody else, without the toolchain; `make build` builds it anew.
+unixvol:
+	$(MAKE) build
+
+install: unixvol
 	install -D -m 755 unixvol $(DESTDIR)$(PREFIX)/bin/unixvol
 	install -D -m 644 manual/unixvol.1 $(DESTDIR)$(PREFIX)/share/man/man1/unixvol.1
 	install -D -m 644 manual/unixvol.bash $(DESTDIR)$(PREFIX)/share/bash-completion/completions/unixvol

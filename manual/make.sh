@@ -14,6 +14,9 @@ help() { "$program" "$@" --help; }
 # commands: the name of each command but `help`, a line each
 commands() { help | awk '/^Commands:/ { on = 1; next } /^$/ { on = 0 } on && $1 != "help" { print $1 }'; }
 
+# about_help: what the program says of its command `help`
+about_help() { help | awk '/^Commands:/ { on = 1 } /^$/ { on = 0 } on && $1 == "help" { sub(/^ *help +/, ""); print }'; }
+
 # about WORD..: the first line of the help
 about() { help "$@" | head -n 1; }
 
@@ -54,6 +57,10 @@ manual_page() {
     for command in $(commands); do
         usage "$command" | escaped | sed 's/^/.br\n/'
     done
+    echo .br
+    echo "unixvol help [COMMAND]"
+    echo .SH OPTIONS
+    section Options | table
     echo .SH COMMANDS
     for command in $(commands); do
         echo ".SS $command"
@@ -63,6 +70,8 @@ manual_page() {
         echo .PP
         rest "$command" | verbatim
     done
+    echo ".SS help"
+    about_help | escaped
     echo ".SH EXIT STATUS"
     rest | verbatim
 }
@@ -132,9 +141,17 @@ _unixvol_paths() {
     while IFS= read -r name; do
         name=${name:6}
         [[ $name == . || $name == .. ]] || COMPREPLY+=("$folder/$name")
-    done < <(unixvol ls "$1" "$2" "$folder/" 2> /dev/null)
+    done < <(unixvol ls -- "$(_unixvol_plain "$1")" "$(_unixvol_plain "$2")" "$folder/" 2> /dev/null)
     [[ $3 == /* ]] || COMPREPLY=("${COMPREPLY[@]#/}")
     mapfile -t COMPREPLY < <(compgen -W "$(printf '%q ' "${COMPREPLY[@]}")" -- "$3")
+    # A directory's path is gone on with.
+    compopt -o nospace 2> /dev/null
+}
+
+# A word of the line without quotes, and with the home directory for a tilde.
+_unixvol_plain() {
+    local word=${1//[\"\'\\]/}
+    printf '%s' "${word/#\~\//"$HOME"/}"
 }
 
 _unixvol() {
@@ -146,7 +163,7 @@ _unixvol() {
     command=${before[0]:-}
     if [ -z "$command" ]; then
 END
-    echo "        mapfile -t COMPREPLY < <(compgen -W '$(commands | one_line) help $(options | grep '^--' | one_line)' -- \"\$current\")"
+    echo "        mapfile -t COMPREPLY < <(compgen -W '$(commands | one_line) help $(options | one_line)' -- \"\$current\")"
     cat << 'END'
         return
     fi
@@ -162,6 +179,8 @@ END
         return
     fi
     for word in "${before[@]:1}"; do
+        # An equals sign between an option and its value is a word to bash.
+        [[ $word == = ]] && continue
         # The value of an option is none of the words.
         if [[ " $valued " == *" $previous="* ]]; then
             kinds=$others previous=''
@@ -236,6 +255,16 @@ repeated_argument() {
     echo "'*: :$(completer "${repeated%...}")'"
 }
 
+# own_options: the options of the program for zsh's `_describe`, a line each
+own_options() {
+    local names text
+    while IFS=$'\t' read -r names text; do
+        for name in $(sed -e 's/,//g' <<< "$names"); do
+            echo "    '$name:$(quoted <<< "$text")'"
+        done
+    done < <(section Options | sed -E -e 's/^ +//' -e 's/  +/\t/')
+}
+
 # zsh_arguments COMMAND: how zsh completes the words of a command
 zsh_arguments() {
     local options words given
@@ -277,6 +306,11 @@ END
     for command in $(commands); do
         echo "    '$command:$(about "$command" | quoted)'"
     done
+    echo "    'help:$(about_help | quoted)'"
+    echo ')'
+    echo 'local -a own_options'
+    echo 'own_options=('
+    own_options
     cat << 'END'
 )
 # The option of all commands may stand before the command.
@@ -285,7 +319,11 @@ if (( CURRENT > 2 )) && [[ $words[2] == --explain ]]; then
     (( CURRENT -= 1 ))
 fi
 if (( CURRENT == 2 )); then
-    _describe command commands
+    if [[ $PREFIX == -* ]]; then
+        _describe -o option own_options
+    else
+        _describe command commands
+    fi
     return
 fi
 case $words[2] in

@@ -7,9 +7,17 @@ _unixvol_paths() {
     while IFS= read -r name; do
         name=${name:6}
         [[ $name == . || $name == .. ]] || COMPREPLY+=("$folder/$name")
-    done < <(unixvol ls "$1" "$2" "$folder/" 2> /dev/null)
+    done < <(unixvol ls -- "$(_unixvol_plain "$1")" "$(_unixvol_plain "$2")" "$folder/" 2> /dev/null)
     [[ $3 == /* ]] || COMPREPLY=("${COMPREPLY[@]#/}")
     mapfile -t COMPREPLY < <(compgen -W "$(printf '%q ' "${COMPREPLY[@]}")" -- "$3")
+    # A directory's path is gone on with.
+    compopt -o nospace 2> /dev/null
+}
+
+# A word of the line without quotes, and with the home directory for a tilde.
+_unixvol_plain() {
+    local word=${1//[\"\'\\]/}
+    printf '%s' "${word/#\~\//"$HOME"/}"
 }
 
 _unixvol() {
@@ -20,7 +28,7 @@ _unixvol() {
     while [[ ${before[0]:-} == -* ]]; do before=("${before[@]:1}"); done
     command=${before[0]:-}
     if [ -z "$command" ]; then
-        mapfile -t COMPREPLY < <(compgen -W 'cat ls get export inode super map check icheck dcheck ncheck mkfs put import rm rmdir mkdir ln mv chmod chown salvage play migrate help --explain --help --version' -- "$current")
+        mapfile -t COMPREPLY < <(compgen -W 'cat ls get export inode super map check icheck dcheck ncheck mkfs put import rm rmdir mkdir ln mv chmod chown salvage play migrate help --explain -h --help -V --version' -- "$current")
         return
     fi
     case $command in
@@ -54,6 +62,8 @@ _unixvol() {
         return
     fi
     for word in "${before[@]:1}"; do
+        # An equals sign between an option and its value is a word to bash.
+        [[ $word == = ]] && continue
         # The value of an option is none of the words.
         if [[ " $valued " == *" $previous="* ]]; then
             kinds=$others previous=''

@@ -51,6 +51,7 @@ commands=(
     'old: icheck 7 image 2'
     'old: put 7 image /d1/more body 5'
     'old: put 7 image /d2/file script 5'
+    'old: put 7 image -t /d7 body script 5'
     'old: rm 7 image /d3/file 5'
     'old: mkdir 7 image /d1/d 5'
     'old: ln 7 image /d1/file /d2/other 5'

@@ -40,6 +40,31 @@ for file in unixvol.1 unixvol.bash _unixvol; do
     counts "manual/$file isn't what manual/make.sh makes of the program's help: run it" $?
 done
 
+# holds FILE TEXT: FILE has TEXT, as the manual page writes it where FILE is that
+holds() {
+    local text=$2
+    [ "$1" = unixvol.1 ] && text=${text//-/\\-}
+    grep -qF -- "$text" "$manual/$1"
+    counts "$2 in manual/$1" $?
+}
+
+# listed NAME WORD..: what stands first in each line of a section of the help
+listed() {
+    "$program" "${@:2}" --help | awk -v name="$1:" '$0 == name { on = 1; next } /^$/ { on = 0 } on { sub(/^ +/, ""); sub(/  .*/, ""); print }'
+}
+
+# Nothing that the help lists is left out.
+for command in '' $(listed Commands | grep -v help); do
+    for option in $(listed Options $command | sed -E -e 's/,//g' -e 's/<[A-Z]+>//'); do
+        for file in unixvol.1 unixvol.bash _unixvol; do holds $file "$option"; done
+    done
+done
+for command in $(listed Commands); do
+    holds unixvol.1 ".SS $command"
+    holds unixvol.bash "$command"
+    holds _unixvol "'$command:"
+done
+
 cd "$folder" || exit 1
 source "$manual/unixvol.bash"
 cp "$samples/linux_made.v7" disk.img
@@ -60,6 +85,11 @@ completes 'away' get 7 disk.img -o aw
 completes '/etc/motd' get -o away 7 disk.img /etc/m
 completes 'etc/motd' get 7 disk.img -o away /etc/passwd etc/m
 completes '--target-directory' put 7 disk.img --t
+completes 'disk.img' put --target-directory = /etc 7 disk.img dis
+completes '/etc' put 7 disk.img --target-directory = /et
+completes '/etc/motd' get 7 '"disk.img"' /etc/m
+completes '/etc/motd' get 7 'disk\.img' /etc/m
+HOME=$folder completes '/etc/motd' get 7 '~/disk.img' /etc/m
 completes '--explain' --ex
 completes '--explain' rm 7 --ex
 completes 'mkfs mkdir' --explain mk

@@ -54,7 +54,16 @@ head -c 300000 /dev/zero > great
 explains 1 'unixvol: 28 NoSpace' 'unixvol: /great: more blocks are needed than are free' put 6 "$image" /great great
 explains 1 'unixvol: 101 NotEmpty' 'unixvol: /d: there are names in it beside . and ..' rmdir 6 "$image" /d
 explains 1 'unixvol: 104 BadId' "unixvol: /d: the user or the group is above the edition's highest, 255 in the sixth and 32767 in the seventh" chown 6 "$image" /d 256 0
+head -c 16777216 /dev/zero > great
+explains 1 'unixvol: 27 TooBig' 'unixvol: /great: the edition has no file, or no directory, of that size' put 6 "$image" /great great
 saves 'an image on which commands were refused' "$image" before
+: > empty
+cp "$image" special.v6
+"$program" put 6 special.v6 /tty empty 1003
+number=$("$program" ls 6 special.v6 | awk '$2 == "tty" { print $1 }')
+put special.v6 $((1024 + 32 * (number - 1) + 1)) a1
+explains 1 'unixvol: 102 NotRegular' 'unixvol: /tty: it is a special file, which has no bytes' get 6 special.v6 /tty
+explains 1 'unixvol: 105 HasDevice' 'unixvol: special.v6: the volume has a special file, and migrate makes none' migrate special.v6 new.img 400 10
 
 # A path with control characters is escaped, and another isn't.
 explains 1 'unixvol: 2 NoEntry' 'unixvol: /\033[31m\012: no file or directory has this name' get 6 "$image" $'/\e[31m\n'

@@ -124,6 +124,19 @@ sed -n '3,/^$/p' output | tr -d '\n' > cells
 has 'the cells of a map' 240 "$(wc -c < cells)"
 has 'the cells of free blocks' "$(sed -n 's/^free //p' report)" "$(tr -cd oc < cells | wc -c)"
 has 'the cells of used blocks' "$(sed -n 's/^used //p' report)" "$(tr -cd dfp < cells | wc -c)"
+# On a terminal it is as wide as COLUMNS says, or 80 where that says nothing.
+# drawn COLUMNS: the map as a terminal gets it, without colours
+drawn() { COLUMNS=$1 script -qec "'$program' map 7 '$linux'" /dev/null < /dev/null | sed $'s/\e\\[[0-9;]*m//g' | tr -d '\r'; }
+if [ -n "$(command -v script)" ]; then
+    for columns in 20 60; do
+        has "the cells in a row of a map, $columns columns wide" "$columns" "$(drawn $columns | sed -n 3p | tr -d '\n' | wc -c)"
+    done
+    drawn 80 > wanted
+    for columns in x 0 ''; do
+        drawn "$columns" | cmp -s - wanted
+        has "a map where COLUMNS is '$columns'" 0 $?
+    done
+fi
 runs map --svg 7 "$linux"
 has 'a map as SVG' 'http://www.w3.org/2000/svg 250' "$(python3 -c '
 import sys, xml.etree.ElementTree as tree

@@ -1,6 +1,6 @@
--- What holds of each item of a list, and of each two.
-use Rattle.std.proofs.Common.{◌≡◌, zero, suc, Bool, true, false, cond, List, [], ◌∷◌, ◌++◌, refl, arith}
-use Rattle.std.specs.Prelude.{T, filter, All, AllPairs}
+-- What holds of each item of a list, of each two, and of some item.
+use Rattle.std.proofs.Common.{◌≡◌, ℕ, zero, suc, ◌<◌, ◌⊎◌, inl, inr, Bool, true, false, cond, List, [], ◌∷◌, ◌++◌, length, get_or, refl, sym, subst, arith}
+use Rattle.std.specs.Prelude.{T, filter, All, AllPairs, Any}
 use Rattle.std.proofs.lemmas.List.Kept.{AllPairs-cons}
 
 -- it holds of each item
@@ -68,3 +68,69 @@ each_front P (x ∷ xs) ys h = (h.0, each_front P xs ys h.1)
 pub each_back : {X : Type 0} (P : X → Type 0) (xs ys : List X) → Each P (xs ++ ys) → Each P ys
 each_back P [] ys h = h
 each_back P (x ∷ xs) ys h = each_back P xs ys h.1
+
+-- it holds of some item
+abbrev pub Has : {X : Type 0} → (X → Type 0) → List X → Type 0
+Has P [] = ⊥
+Has P (x ∷ xs) = P x ⊎ Has P xs
+
+pub has_map : {X : Type 0} (P Q : X → Type 0) → ((x : X) → P x → Q x) → (xs : List X) → Has P xs → Has Q xs
+has_map P Q f [] h = absurd h
+has_map P Q f (x ∷ xs) (inl p) = inl (f x p)
+has_map P Q f (x ∷ xs) (inr h) = inr (has_map P Q f xs h)
+
+pub has_behind : {X : Type 0} (P : X → Type 0) (xs ys : List X) → Has P ys → Has P (xs ++ ys)
+has_behind P [] ys h = h
+has_behind P (x ∷ xs) ys h = inr (has_behind P xs ys h)
+
+pub has_front : {X : Type 0} (P : X → Type 0) (xs ys : List X) → Has P xs → Has P (xs ++ ys)
+has_front P [] ys h = absurd h
+has_front P (x ∷ xs) ys (inl p) = inl p
+has_front P (x ∷ xs) ys (inr h) = inr (has_front P xs ys h)
+
+-- an item of two lists is in one of them
+pub has_either : {X : Type 0} (P : X → Type 0) (xs ys : List X) → Has P (xs ++ ys) → Has P xs ⊎ Has P ys
+has_either P [] ys h = inr h
+has_either P (x ∷ xs) ys (inl p) = inl (inl p)
+has_either P (x ∷ xs) ys (inr h) = elim (has_either P xs ys h) [ inl here ↦ inl (inr here) | inr later ↦ inr later ]
+
+pub has_any : {X : Type 0} (P : X → Type 0) (xs : List X) → Has P xs → Any P xs
+has_any P [] h = absurd h
+has_any P (x ∷ xs) (inl p) = (0, x, omega arith, refl, p)
+has_any P (x ∷ xs) (inr h) = let rest = has_any P xs h in (suc rest.0, rest.1, omega (arith, rest.2), rest.3, rest.4)
+
+-- an item at a place
+pub has_at : {X : Type 0} (P : X → Type 0) (xs : List X) (k : ℕ) (d : X) → k < length xs → P (get_or xs k d) → Has P xs
+has_at P [] k d within p = absurd (omega arith)
+has_at P (x ∷ xs) zero d within p = inl p
+has_at P (x ∷ xs) (suc k) d within p = inr (has_at P xs k d (omega arith) p)
+
+-- an item of which one thing holds, where another holds of each
+pub has_each : {X : Type 0} (P Q : X → Type 0) (R : Type 0) → ((x : X) → P x → Q x → R) → (xs : List X) → Has P xs → Each Q xs → R
+has_each P Q R f [] h k = absurd h
+has_each P Q R f (x ∷ xs) (inl p) k = f x p k.0
+has_each P Q R f (x ∷ xs) (inr h) k = has_each P Q R f xs h k.1
+
+-- an item that passes a test is kept by it
+pub has_kept : {X : Type 0} (p : X → Bool) (P : X → Type 0) (xs : List X) → Has (λ x. (p x ≡ true) × P x) xs → Has P (filter p xs)
+has_kept p P [] h = absurd h
+has_kept p P (x ∷ xs) (inl here) = subst (λ b. Has P (cond b (x ∷ filter p xs) (filter p xs))) (sym here.0) (inl here.1)
+has_kept p P (x ∷ xs) (inr h) =
+    elim (p x) as (λ b. Has P (cond b (x ∷ filter p xs) (filter p xs))) [
+      | true ↦ inr (has_kept p P xs h)
+      | false ↦ has_kept p P xs h
+    ]
+
+-- what holds of all holds of each by turns
+pub each_of_all : {X : Type 0} (P : X → Type 0) (xs : List X) → All P xs → Each P xs
+each_of_all P [] h = tt
+each_of_all P (x ∷ xs) h = (h 0 x (omega arith), each_of_all P xs (λ k d within. h (suc k) d (omega arith)))
+
+pub any_has : {X : Type 0} (P : X → Type 0) (xs : List X) → Any P xs → Has P xs
+any_has P xs h = has_at P xs h.0 h.1 h.2 (subst P (sym h.3) h.4)
+
+-- an item of which one thing holds, where another holds of each: both do
+pub has_both : {X : Type 0} (P Q : X → Type 0) (xs : List X) → Has P xs → Each Q xs → Has (λ x. P x × Q x) xs
+has_both P Q [] h k = absurd h
+has_both P Q (x ∷ xs) (inl p) k = inl (p, k.0)
+has_both P Q (x ∷ xs) (inr h) k = inr (has_both P Q xs h k.1)

@@ -144,18 +144,24 @@ pub record IsNamed (names : Names) (path : List ℕ) (entry : Pending) : Type 0 
   pub parts : components entry.path ≡ components path ++ name ∷ []
   pub found : get names name ≡ Some entry.inode
 
--- what is said of the entries of a map is said of those that are pending for them
+-- what is said of the entries of a map, other than `.` and `..`, is said of those that are pending for them
+pub each_proper : (path : List ℕ) (P : List ℕ × ℕ → Type 0) (Q : Pending → Type 0)
+    → ((e : List ℕ × ℕ) → P e → is_dots e.0 ≡ false → Q (record { path = path_below path e.0; inode = e.1; is_plain = is_plain e.0 }))
+    → (es : Names) → Each P es → Each Q (pending_below path es)
+unfolding pending_below
+each_proper path P Q f [] h = tt
+each_proper path P Q f (e ∷ es) h =
+    each_append Q (entry_below path e) (pending_below path es)
+    (elim (is_dots e.0) as (λ b. is_dots e.0 ≡ b → Each Q (cond b [] (record { path = path_below path e.0; inode = e.1; is_plain = is_plain e.0 } ∷ []))) [
+      | true ↦ λ dots. tt
+      | false ↦ λ proper. (f e h.0 proper, tt)
+    ] refl) (each_proper path P Q f es h.1)
+
+-- what is said of all entries of a map is, too
 pub each_below : (path : List ℕ) (P : List ℕ × ℕ → Type 0) (Q : Pending → Type 0)
     → ((e : List ℕ × ℕ) → P e → Q (record { path = path_below path e.0; inode = e.1; is_plain = is_plain e.0 }))
     → (es : Names) → Each P es → Each Q (pending_below path es)
-unfolding pending_below
-each_below path P Q f [] h = tt
-each_below path P Q f (e ∷ es) h =
-    each_append Q (entry_below path e) (pending_below path es)
-    (elim (is_dots e.0) as (λ b. Each Q (cond b [] (record { path = path_below path e.0; inode = e.1; is_plain = is_plain e.0 } ∷ []))) [
-      | true ↦ tt
-      | false ↦ (f e h.0, tt)
-    ]) (each_below path P Q f es h.1)
+each_below path P Q f es h = each_proper path P Q (λ e p proper. f e p) es h
 
 -- the entries below a path have names of the directory
 pub entries_named : (geometry : Geometry) (image : List ℕ) (path : List ℕ) (d : ℕ)

@@ -4,10 +4,14 @@ pub mod FirstMarks
 pub mod Listings
 pub mod MemberLists
 pub mod MemberOrder
+pub mod MetOnce
 pub mod NameOrder
 pub mod NamedEntries
 pub mod Outputs
 pub mod PathNames
+pub mod Rings
+pub mod Roles
 pub mod TreeMembers
 pub mod WalkSteps
 pub mod WholeDirectories
+pub mod WholeTrees

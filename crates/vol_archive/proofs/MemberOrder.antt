@@ -68,7 +68,7 @@ beside path (e ∷ es) h short =
         ∙ clear_beside (components path) name other less more)
 
 -- the entries of a directory, each before the later ones
-entries_beside : (g : Geometry) (image : List ℕ) (path : List ℕ) (d : ℕ) → Pairs Precedes (entries_below g image path d)
+pub entries_beside : (g : Geometry) (image : List ℕ) (path : List ℕ) (d : ℕ) → Pairs Precedes (entries_below g image path d)
 entries_beside g image path d = beside path (names_of (slots g image d)) (sorted (slots g image d)) (directory_short g image d)
 
 -- names come before those of an entry that has a plain name
@@ -91,6 +91,16 @@ inside_after g image names path d h =
     each_map (λ (entry : Pending). entry.is_plain ≡ true → IsNamed (names_of (slots g image d)) path entry) (IsAfter names)
     (λ entry named plain. ap (order names) (named plain).parts ∙ h (named plain).name) (entries_below g image path d) (entries_named g image path d)
 
+-- what comes before all that is pending comes before all that is pending after the next step
+pub step_after : (g : Geometry) (image : List ℕ) (start : ℕ) (founds : List Found) (entry : Pending) (rest : List Pending) (names : List (List ℕ))
+    → Each (IsAfter names) (entry ∷ rest)
+    → Each (IsAfter names) (below g image (met g image start founds entry) (met g image start founds entry).role ++ rest)
+step_after g image start founds entry rest names h =
+    let found = met g image start founds entry in
+    each_append (IsAfter names) (below g image found found.role) rest
+    (each_inside (IsAfter names) g image found found.role (λ is. inside_after g image names entry.path entry.inode
+    (λ name. before_below names (components entry.path) name (h.0 (member_plain g image start (first_met entry.inode founds) founds entry (ap is_kept is)))))) h.1
+
 -- what comes before all that is pending comes before all members that are met
 rest_after : {g : Geometry} {image : List ℕ} {start : ℕ} {founds : List Found} {pending : List Pending} {all : List Found}
     → (walks : Walks g image start founds pending all) (names : List (List ℕ)) → Each (IsAfter names) pending
@@ -99,13 +109,10 @@ unfolding rest_of
 rest_after (Walks.ends founds) names h = tt
 rest_after {g = g} {image = image} {start = start} (Walks.meets founds entry rest all walks) names h =
     let first = first_met entry.inode founds in
-    let found = met g image start founds entry in
     let here : is_kept (role_of g image start first founds entry) ≡ true → order names (components entry.path) ≡ Less =
     λ kept. h.0 (member_plain g image start first founds entry kept) in (
       here,
-      rest_after walks names (each_append (IsAfter names) (below g image found found.role) rest
-          (each_inside (IsAfter names) g image found found.role (λ is. inside_after g image names entry.path entry.inode
-          (λ name. before_below names (components entry.path) name (here (ap is_kept is))))) h.1),
+      rest_after walks names (step_after g image start founds entry rest names h),
     )
 
 -- those below what was met, each before the later ones
@@ -128,6 +135,28 @@ inside_before g image entry rest plain h =
     ∙ clear_below (components entry.path) (components other.path) (named inner_plain).name (clears plain other_plain) more) rest h)
     (entries_below g image entry.path entry.inode) (entries_named g image entry.path entry.inode)
 
+-- a member comes before all that is pending after it
+pub met_before : (g : Geometry) (image : List ℕ) (start : ℕ) (founds : List Found) (entry : Pending) (rest : List Pending) → Each (Precedes entry) rest
+    → is_kept (met g image start founds entry).role ≡ true
+    → Each (IsAfter (components entry.path)) (below g image (met g image start founds entry) (met g image start founds entry).role ++ rest)
+met_before g image start founds entry rest h kept =
+    let found = met g image start founds entry in
+    let names = components entry.path in
+    let plain : entry.is_plain ≡ true = member_plain g image start (first_met entry.inode founds) founds entry kept in
+    each_append (IsAfter names) (below g image found found.role) rest
+    (each_inside (IsAfter names) g image found found.role (λ is. inside_after g image names entry.path entry.inode (λ name. before_inside names name [])))
+    (each_map (Precedes entry) (IsAfter names) (λ other clears other_plain. clear_before names (components other.path) (clears plain other_plain)) rest h)
+
+-- where what is pending is in order, so is what is pending after the next step
+pub step_beside : (g : Geometry) (image : List ℕ) (start : ℕ) (founds : List Found) (entry : Pending) (rest : List Pending) → Pairs Precedes (entry ∷ rest)
+    → Pairs Precedes (below g image (met g image start founds entry) (met g image start founds entry).role ++ rest)
+step_beside g image start founds entry rest h =
+    let found = met g image start founds entry in
+    let across : Each (λ (inner : Pending). Each (Precedes inner) rest) (below g image found found.role) =
+    each_inside (λ (inner : Pending). Each (Precedes inner) rest) g image found found.role
+    (λ is. inside_before g image entry rest (member_plain g image start (first_met entry.inode founds) founds entry (ap is_kept is)) h.0) in
+    pairs_append Precedes (below g image found found.role) rest (pairs_inside g image found found.role) h.1 across
+
 -- a member comes before another
 abbrev pub AreInOrder : Found → Found → Type 0
 AreInOrder found other = is_kept found.role ≡ true → is_kept other.role ≡ true → order (components found.path) (components other.path) ≡ Less
@@ -138,19 +167,9 @@ rest_ordered : {g : Geometry} {image : List ℕ} {start : ℕ} {founds : List Fo
 unfolding rest_of
 rest_ordered (Walks.ends founds) h = tt
 rest_ordered {g = g} {image = image} {start = start} (Walks.meets founds entry rest all walks) h =
-    let first = first_met entry.inode founds in
-    let found = met g image start founds entry in
-    let names = components entry.path in
-    let plain : is_kept found.role ≡ true → entry.is_plain ≡ true = member_plain g image start first founds entry in
-    let pending = below g image found found.role ++ rest in
-    let after : is_kept found.role ≡ true → Each (IsAfter names) pending =
-    λ kept. each_append (IsAfter names) (below g image found found.role) rest
-    (each_inside (IsAfter names) g image found found.role (λ is. inside_after g image names entry.path entry.inode (λ name. before_inside names name [])))
-    (each_map (Precedes entry) (IsAfter names) (λ other clears other_plain. clear_before names (components other.path) (clears (plain kept) other_plain)) rest h.0) in
-    let across : Each (λ (inner : Pending). Each (Precedes inner) rest) (below g image found found.role) =
-    each_inside (λ (inner : Pending). Each (Precedes inner) rest) g image found found.role (λ is. inside_before g image entry rest (plain (ap is_kept is)) h.0) in (
-      before found (rest_of walks) (λ kept. rest_after walks names (after kept)),
-      rest_ordered walks (pairs_append Precedes (below g image found found.role) rest (pairs_inside g image found found.role) h.1 across),
+    let found = met g image start founds entry in (
+      before found (rest_of walks) (λ kept. rest_after walks (components entry.path) (met_before g image start founds entry rest h.0 kept)),
+      rest_ordered walks (step_beside g image start founds entry rest h),
     )
   where
     before : (found : Found) (others : List Found)

@@ -50,7 +50,7 @@ each_name P f h (x ∷ xs) =
     ] refl
 
 -- the names of a directory are plain
-names_plain : (g : Geometry) (image : List ℕ) (d : ℕ) → HasEntries g image → IsDirectory g image d
+pub names_plain : (g : Geometry) (image : List ℕ) (d : ℕ) → HasEntries g image → IsDirectory g image d
     → Each (λ (e : List ℕ × ℕ). is_plain e.0 ≡ true) (names_of (slots g image d))
 unfolding slots
 names_plain g image d entries directory =

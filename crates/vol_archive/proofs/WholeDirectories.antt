@@ -1,6 +1,5 @@
 -- All names of the directories that a walk goes below are met.
-use Rattle.std.proofs.Common.{◌≡◌, ℕ, suc, ◌⊎◌, inl, inr, true, false, cond, List, [], ◌∷◌, ◌++◌, Some, refl, ap, sym, subst, ◌∙◌, arith}
-use Rattle.std.specs.Prelude.{Any}
+use Rattle.std.proofs.Common.{◌≡◌, ℕ, inl, inr, true, false, cond, List, [], ◌∷◌, ◌++◌, Some, refl, ap, sym, subst, ◌∙◌}
 use Rattle.std.specs.Cmp.Lexicographic.{slice_cmp}
 use Rattle.std.specs.Ordering.{nat_cmp, eq_by_cmp}
 use Rattle.std.specs.Option.{is_some}
@@ -15,33 +14,8 @@ use Rattle.vol_archive.specs.Walking.{Walks, is_plain, path_below, entry_below, 
 use Rattle.vol_archive.specs.declared.found.Found.{Found}
 use Rattle.vol_archive.specs.declared.found.Role.TheVariants as roles
 use Rattle.vol_archive.specs.declared.pending.Pending.{Pending}
-use Rattle.vol_archive.proofs.Each.{Each, each_map, each_all, each_front, each_back}
+use Rattle.vol_archive.proofs.Each.{Each, Has, each_map, each_all, each_front, each_back, has_map, has_behind, has_any, has_each}
 use Rattle.vol_archive.proofs.TreeMembers.{rest_of, walk_is}
-
--- it holds of some item
-abbrev Has : {X : Type 0} → (X → Type 0) → List X → Type 0
-Has P [] = ⊥
-Has P (x ∷ xs) = P x ⊎ Has P xs
-
-has_map : {X : Type 0} (P Q : X → Type 0) → ((x : X) → P x → Q x) → (xs : List X) → Has P xs → Has Q xs
-has_map P Q f [] h = absurd h
-has_map P Q f (x ∷ xs) (inl p) = inl (f x p)
-has_map P Q f (x ∷ xs) (inr h) = inr (has_map P Q f xs h)
-
-has_behind : {X : Type 0} (P : X → Type 0) (xs ys : List X) → Has P ys → Has P (xs ++ ys)
-has_behind P [] ys h = h
-has_behind P (x ∷ xs) ys h = inr (has_behind P xs ys h)
-
-has_any : {X : Type 0} (P : X → Type 0) (xs : List X) → Has P xs → Any P xs
-has_any P [] h = absurd h
-has_any P (x ∷ xs) (inl p) = (0, x, omega arith, refl, p)
-has_any P (x ∷ xs) (inr h) = let rest = has_any P xs h in (suc rest.0, rest.1, omega (arith, rest.2), rest.3, rest.4)
-
--- an item of which one thing holds, where another holds of each
-has_each : {X : Type 0} (P Q : X → Type 0) (R : Type 0) → ((x : X) → P x → Q x → R) → (xs : List X) → Has P xs → Each Q xs → R
-has_each P Q R f [] h k = absurd h
-has_each P Q R f (x ∷ xs) (inl p) k = f x p k.0
-has_each P Q R f (x ∷ xs) (inr h) k = has_each P Q R f xs h k.1
 
 -- an entry is met
 abbrev IsMetAmong : List Found → Pending → Type 0

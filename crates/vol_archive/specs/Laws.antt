@@ -1,5 +1,5 @@
 -- Statements of what is met below a directory, said of the tree that an image reads as.
-use Rattle.std.specs.Prelude.{◌≡◌, ◌≢◌, ℕ, Bool, true, false, List, [], filter, All, AllPairs, Any, Some, Ok}
+use Rattle.std.specs.Prelude.{◌≡◌, ◌≢◌, ℕ, ◌↔◌, Bool, true, false, List, [], filter, All, AllPairs, Any, Some, Ok}
 use Rattle.std.specs.Cmp.Lexicographic.{slice_cmp}
 use Rattle.std.specs.Ordering.{nat_cmp}
 use Rattle.std.specs.declared.cmp.Ordering.TheVariants.{Less}
@@ -8,6 +8,7 @@ use Rattle.vol_dir.specs.Entries.{slots, IsDirectory, HasEntries}
 use Rattle.vol_dir.specs.Names.{get, names_of, is_dots}
 use Rattle.vol_dir.specs.Tree.{tree}
 use Rattle.vol_dir.specs.Walk.{components, walk_from}
+use Rattle.vol_judge.specs.Directories.{IsTree}
 use Rattle.vol_layout.specs.declared.geometry.Geometry.{Geometry}
 use Rattle.vol_archive.specs.Exporting.{user}
 use Rattle.vol_archive.specs.Walking.{path_below, IsWalk}
@@ -65,3 +66,28 @@ abbrev pub EntriesHaveNodes : Type 0
 EntriesHaveNodes = (geometry : Geometry) (image : List ℕ) (start : ℕ) (founds : List Found) → HasKinds geometry image → HasEntries geometry image
     → IsDirectory geometry image start → IsWalk geometry image start founds
     → All (λ (found : Found). (found.role ≢ roles.Left reasons.BadName) × (found.role ≢ roles.Left reasons.NoNode)) founds
+
+-- of an image where rule 11 holds, no directory that is met is left out as one that was met before: each is met once (ncheck)
+abbrev pub DirectoriesAreMetOnce : Type 0
+DirectoriesAreMetOnce = (geometry : Geometry) (image : List ℕ) (start : ℕ) (founds : List Found) → IsTree geometry image
+    → IsDirectory geometry image start → IsWalk geometry image start founds
+    → All (λ (found : Found). found.role ≢ roles.Left reasons.Again) founds
+
+-- no path that is met is too long for a header, nor for the header of a link to it (POSIX, ustar interchange format)
+abbrev pub HasRoomForAll : List Found → Type 0
+HasRoomForAll founds = All (λ (found : Found). (found.role ≢ roles.Left reasons.LongPath) × (found.role ≢ roles.Left reasons.LongLink)) founds
+
+-- some names, of which there are one or more, are none of `.` and `..` (manual section 5, directories)
+pub record AreProper (names : List (List ℕ)) : Type 0 where
+  pub some : names ≢ []
+  pub proper : All (λ name. is_dots name ≡ false) names
+
+-- of an image where rules 3, 9 and 11 hold, as of each that is sound, the members are exactly the tree below the directory, where headers have
+-- room for all paths: names lead to an i-number, as user 0 walks them, if and only if the path of a member for it has these names (Lions on namei)
+abbrev pub MembersAreTheTree : Type 0
+MembersAreTheTree = (geometry : Geometry) (image : List ℕ) (start : ℕ) (founds : List Found)
+    → HasKinds geometry image → HasEntries geometry image → IsTree geometry image
+    → IsDirectory geometry image start → IsWalk geometry image start founds → HasRoomForAll founds
+    → (names : List (List ℕ)) (i : ℕ) → AreProper names
+    → (walk_from (tree geometry image) user start names ≡ Ok i)
+    ↔ Any (λ (found : Found). (components found.path ≡ names) × (found.inode ≡ i)) (members_of founds)

@@ -5,6 +5,8 @@ ghost use Rattle.vol_archive.specs.Laws.{
   MembersDiffer,
   DirectoriesAreWhole,
   EntriesHaveNodes,
+  DirectoriesAreMetOnce,
+  MembersAreTheTree,
 };
 
 /// Of every image, the path of each member leads from the directory that is exported to the member's i-number.
@@ -27,4 +29,14 @@ pub fn directories_are_whole()
 /// Of an image where each i-node has a kind, and each entry a name and an i-node, nothing is left out for want of these.
 pub fn entries_have_nodes()
     ensures { EntriesHaveNodes }
+{}
+
+/// Of an image where directories make a tree, each directory below the one that is exported is met once.
+pub fn directories_are_met_once()
+    ensures { DirectoriesAreMetOnce }
+{}
+
+/// Of a sound image, the members are exactly the tree below the directory that is exported, where headers have room for all paths.
+pub fn members_are_the_tree()
+    ensures { MembersAreTheTree }
 {}

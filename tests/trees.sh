@@ -69,6 +69,14 @@ for edition in 6 7; do
     "$program" dcheck "$edition" ways.img 1 > report
     has 'a volume into which an archive was imported that has a directory twice' 0 $?
 
+    # A file from before 1970, as GNU tar has it.
+    mkdir -p early
+    echo early > early/moon
+    touch -d 1969-07-20T20:17:40Z early/moon
+    tar --format=gnu --owner=0 --group=0 -cf early.tar -C early moon
+    imports early.tar "$edition" ways.img / 100000500
+    has 'the time of a file from before 1970' '1973-03-03 09:55:00' "$("$program" ls -l "$edition" ways.img /moon | awk '{ print $7, $8 }')"
+
     # What isn't imported.
     tar --format=ustar --owner=40000 --group=0 -cf owner.tar -C src cmd/a.c
     cp other.img before

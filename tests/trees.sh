@@ -162,6 +162,9 @@ for edition in 6 7; do
     refuses 2 'unixvol: 9: a moment, and a file too: write ./9, or the moment in another form' put "$edition" several.img -t /in first 9
     refuses 2 'unixvol: 9: a moment, and a file too: write ./9, or the moment in another form' put -t /in "$edition" none.img missing 9
     refuses 2 'unixvol: 2026-11-23T12:00:00Z: a moment, and a file too: write ./2026-11-23T12:00:00Z, or the moment in another form' put "$edition" several.img -t /in first 2026-11-23T12:00:00Z
+    ln -s gone 1975-01-01T00:00:00Z
+    refuses 2 'unixvol: 1975-01-01T00:00:00Z: a moment, and a file too: write ./1975-01-01T00:00:00Z, or the moment in another form' put "$edition" several.img -t /in first 1975-01-01T00:00:00Z
+    rm 1975-01-01T00:00:00Z
     saves 'an image into which nothing was put at a moment' several.img before
     prints none put "$edition" several.img -t /in first ./9 100000500
     prints 9 get "$edition" several.img /in/9

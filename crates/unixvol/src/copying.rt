@@ -140,10 +140,7 @@ fn moment_file<'a, R: ImageFiles>(rt: &R, now: Moment<'a>) -> Option<&'a str>
     ensures none { result ≡ None → IsMomentAlone R.stands now.entry }
 {
     let word = now.word?;
-    match rt.stamp_at(word) {
-        Ok(_) => Some(word),
-        Err(_) => None,
-    }
+    if rt.is_there(word) { Some(word) } else { None }
 }
 
 /// The files at some paths, in their order, each with the last name of its path. Where one can't be read, prints so, and answers the

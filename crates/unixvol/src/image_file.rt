@@ -100,7 +100,7 @@ pub trait ImageFiles: Files {
     /// The system said of what stands at a path that this was its stamp.
     ghost stood: { Stamp → Type 0 };
 
-    /// The system said of a path whether something stands there, which has a stamp then.
+    /// The system said of a path whether something stands there.
     ghost stands: { List ℕ → Bool → Type 0 };
 
     /// The stamp that an open file has now; a terminal is a stream.
@@ -109,9 +109,11 @@ pub trait ImageFiles: Files {
 
     /// The stamp that the file at `path` has now. A symbolic link is followed; a terminal counts as a device.
     fn stamp_at(&self, path: &str) -> io::Result<Stamp>
-        ensures stamp { IfOk result stood }
-        ensures there { IfOk result (λ _. stands path.now true) }
-        ensures absent { IfErr result (λ _. stands path.now false) };
+        ensures { IfOk result stood };
+
+    /// Whether something stands at `path`, if only a symbolic link that leads to nothing. What can't be looked at counts as there.
+    fn is_there(&self, path: &str) -> bool
+        ensures { stands path.now result };
 
     /// Locks an open file for this program alone, until all its handles are closed. False where another
     /// program has it locked; true too where the file's system has no such locks.
@@ -137,6 +139,13 @@ impl ImageFiles for HostRuntime {
 
     fn stamp_at(&self, path: &str) -> io::Result<Stamp> {
         Ok(Stamp::of(&fs::metadata(self, path)?))
+    }
+
+    fn is_there(&self, path: &str) -> bool {
+        match fs::symlink_metadata(self, path) {
+            Ok(_) => true,
+            Err(error) => error.kind() != io::ErrorKind::NotFound,
+        }
     }
 
     fn try_lock(&self, file: &File) -> bool {

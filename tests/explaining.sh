@@ -157,6 +157,12 @@ tar --format=ustar -cf linked.tar hello further
 tar --delete -f linked.tar hello
 "$program" import 6 "$image" --explain < linked.tar > output 2> error
 has 'a member that is a link to nothing' "1 unixvol: 2 NoEntry: /further unixvol: this member: a directory on the way to it, or the file that it is a link to, isn't there" "$? $(paste -s -d ' ' error)"
+rm -f d
+ln hello d
+tar --format=ustar -cf linked.tar d hello
+tar --delete -f linked.tar d
+"$program" import 6 "$image" --explain < linked.tar > output 2> error
+has 'a member that is a link to a directory' '1 unixvol: 21 IsDirectory: /hello unixvol: this member: what it is a link to is a directory, and only files get other names' "$? $(paste -s -d ' ' error)"
 
 # Several files: a refusal of one has the line of its path.
 explains 1 'unixvol: 2 NoEntry: /none/hello' "unixvol: this file: a directory on the way to it isn't there" put 6 "$image" -t /none hello

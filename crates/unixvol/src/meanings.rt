@@ -116,11 +116,11 @@ fn refusal_meaning(
     refusal: Refusal,
     subject: Subject<'_>,
 ) -> Result<Option<String>, AllocError> {
-    let about = match refusal {
-        Refusal::NoMemory => shown(alloc, subject.image)?,
-        _ => about_in(alloc, subject)?,
-    };
-    meaning(alloc, about, words_of(refusal, subject.verb))
+    let words = words_of(refusal, subject.verb);
+    match refusal {
+        Refusal::NoMemory => Ok(Some(format!(in alloc; "{words}")?)),
+        _ => meaning(alloc, about_in(alloc, subject)?, words),
+    }
 }
 
 /// What a command does its work on, as the second line names it.
@@ -164,7 +164,7 @@ fn words_of(refusal: Refusal, verb: Verb) -> &'static str {
         Refusal::Exists => exists(verb),
         Refusal::NotDirectory => not_directory(verb),
         Refusal::IsDirectory => is_directory(verb),
-        Refusal::Invalid => "the root, and what . or .. names, can't be removed",
+        Refusal::Invalid => invalid(verb),
         Refusal::TooBig => too_big(verb),
         Refusal::NoSpace => no_space(verb),
         Refusal::TooManyLinks => too_many_links(verb),
@@ -222,7 +222,16 @@ fn is_directory(verb: Verb) -> &'static str {
             "it is a directory: rmdir removes an empty one, and rm -r one with all below it",
         Verb::Ln | Verb::Mv =>
             "the first path leads to a directory, and only files get other names",
+        Verb::Import => "what it is a link to is a directory, and only files get other names",
         _ => "it is a directory",
+    }
+}
+
+/// What Invalid means for a command.
+fn invalid(verb: Verb) -> &'static str {
+    match verb {
+        Verb::Import => "its path, or that of the file that it is a link to, has a zero byte",
+        _ => "the root, and what . or .. names, can't be removed",
     }
 }
 

@@ -175,13 +175,14 @@ It writes a ustar archive of POSIX to standard output: files, directories and sp
 owners and times of modification. The names of a file after its first one are links. Members stand in the order of
 their names, by paths from PATH on, and none stands twice.
 
-Of the volume's soundness only the image's size and its super-block's sizes are asked; what can be read is exported.
-Where that isn't all, or the volume isn't sound, each thing is told on a line of standard error, and the status is 1:
-an entry that is left out, with the reason; a block that two files name; and the least rule that the volume breaks.
+Of the volume's soundness only the image's size and its super-block's sizes are asked; all is exported to which
+entries lead from PATH. What is left out, and what is wrong with the volume, is told line by line on standard error,
+and the status is 1: an entry, with the reason; a block that two files name; and the least rule that the volume breaks.
+Files to which no entry leads have no line, nor have further entries of one name in a directory.
 
 Status:
   0  all was exported, and the volume is sound
-  1  what could be read was exported; or nothing was:
+  1  all to which entries lead was exported, but for what is told; or nothing was:
      `unixvol: unsound, rule 1`, `unixvol: unsound, rule 2`: the image is too short, or the sizes don't fit one another
      `unixvol: 2 NoEntry`: there is no such name
      `unixvol: 20 NotDirectory`: PATH, or what it leads through, is no directory
@@ -330,10 +331,11 @@ Example:
 
 It reads an archive from standard input, which can't be a terminal, in the formats of ustar, GNU tar or pax, and makes
 its members below PATH: directories and files with their permissions and owners, the bytes and times of modification of
-files, and further names of files. All are made, or none. PATH has to be there. A directory on the way to a member that
-is missing is made too, with permissions 0755, of user 0 and group 0; one that is there stays as it is. A name of more
-than 14 bytes is refused and never cut, and so are special and sparse files and symbolic links, which no call of the
-systems makes. IMAGE is written only where all went well: a new file is written beside it and then takes its place.
+files, and further names of files. All are made, or none. PATH has to be there, if the archive has members. A directory
+on the way to a member that is missing is made too, with permissions 0755, of user 0 and group 0; one that is there
+stays as it is. A name of more than 14 bytes is refused and never cut, and so are special and sparse files and symbolic
+links, which no call of the systems makes. IMAGE is written only where all went well: a new file is written beside it
+and then takes its place.
 
 Status:
   0  all members were made, and the volume was saved
@@ -424,7 +426,7 @@ Status:
   0  the directory was made, and the volume saved
   1  `unixvol: unsound, rule N`: the volume breaks this rule, and none before it; `unixvol check` says what breaks it
      `unixvol: 2 NoEntry`, `unixvol: 20 NotDirectory`: PATH doesn't lead to a directory and a name in it
-     `unixvol: 17 Exists`: the name is there already; with -p, it is that of a file
+     `unixvol: 17 Exists`: the name is there already; with -p, it is that of a file, or `..` leads out of what is missing
      `unixvol: 27 TooBig`: the directory above has the greatest size
      `unixvol: 28 NoSpace`, `unixvol: 103 NoInode`: too few blocks, or no i-node, are free
      `unixvol: 31 TooManyLinks`: the directory above has as many as it can

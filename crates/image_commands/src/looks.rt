@@ -1,6 +1,6 @@
 //! What is looked at, and how it is shown.
 
-/// What of an image is looked at.
+/// What a command shows of an image.
 #[derive(Clone, Copy, Debug, PartialEq, Eq)]
 pub enum Look<'a> {
     /// Write all that is below a directory as an archive.

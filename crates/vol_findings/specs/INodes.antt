@@ -1,9 +1,8 @@
 -- What breaks the rules of i-nodes first.
-use Rattle.std.specs.Prelude.{◌≡◌, ◌≢◌, ℕ, ◌<◌, ◌≤◌, ◌⊎◌, List}
+use Rattle.std.specs.Prelude.{◌≡◌, ◌≢◌, ℕ, ◌<◌, ◌≤◌, List}
 use Rattle.vol_layout.specs.Edition.{constants}
 use Rattle.vol_file.specs.Rules.{kind_at}
-use Rattle.vol_judge.specs.Limits.{IsSized, IsLinked}
-use Rattle.vol_layout.specs.declared.edition.Edition.TheVariants.{V7}
+use Rattle.vol_judge.specs.Limits.{KeepsBadBlocks, IsSized, IsLinked}
 use Rattle.vol_layout.specs.declared.geometry.Geometry.{Geometry}
 use Rattle.vol_layout.specs.declared.mode.Kind.TheVariants as kinds
 use Rattle.vol_findings.specs.declared.finding.Finding.{Finding}
@@ -16,11 +15,6 @@ AreKnownBelow geometry image n = (i : ℕ) → 1 ≤ i → i < n → kind_at geo
 -- no mode is odd (rule 3)
 abbrev pub AreKnown : Geometry → List ℕ → Type 0
 AreKnown geometry image = (i : ℕ) → 1 ≤ i → i ≤ geometry.last_inode → kind_at geometry image i ≢ kinds.Odd
-
--- i-number 1 of the seventh edition is free or a regular file (rule 3)
-abbrev pub KeepsBadBlocks : Geometry → List ℕ → Type 0
-KeepsBadBlocks geometry image =
-    geometry.edition ≡ V7 → (kind_at geometry image 1 ≡ kinds.Free) ⊎ (kind_at geometry image 1 ≡ kinds.Regular)
 
 -- the mode of i-node i is odd, and none before it is (rule 3)
 pub record IsFirstOdd (geometry : Geometry) (image : List ℕ) (i : ℕ) : Type 0 where

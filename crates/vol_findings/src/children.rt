@@ -7,9 +7,9 @@ ghost use Rattle.vol_dir.specs.Entries.{HasEntries};
 ghost use Rattle.vol_judge.specs.InodeMarks.{HasRoot, MarksChildren};
 ghost use Rattle.vol_judge.specs.Stepping.{rank, IsNextSlot};
 
-use crate::reading::{Entry, Place, next_entry};
 use pdp_words::Image;
 use std::alloc::{AllocError, Global};
+use vol_judge::reading::{Entry, Place, next_entry};
 use vol_layout::Geometry;
 
 /// Marks of the root, and of what has an entry in the directory that it names by `..`, where it is known what each names so.

@@ -1,29 +1,20 @@
 //! What breaks the rule of the entries `.` and `..`.
-ghost use Rattle.std.specs.Prelude.{◌≡◌, ◌+◌, ◌<◌, ◌≤◌, ℕ, if◌then◌else◌, List, Some, IfOk, IsTrue, ◌↔◌, length};
-ghost use Rattle.std.specs.Str.{bytes_eq};
+ghost use Rattle.std.specs.Prelude.{◌≡◌, ◌+◌, ◌<◌, ◌≤◌, ℕ, List, Some, IfOk, IsTrue, ◌↔◌, length};
 ghost use Rattle.vol_layout.specs.Geometry.{Fits};
-ghost use Rattle.vol_layout.specs.Slot.{name_of};
 ghost use Rattle.vol_dir.specs.Entries.{IsDirectory, HasEntries};
-ghost use Rattle.vol_dir.specs.Names.{dot, dot_dot};
 ghost use Rattle.vol_judge.specs.Directories.{HasDots};
-ghost use Rattle.vol_judge.specs.InodeMarks.{IsNamed, HasUps, MarksChildren};
+ghost use Rattle.vol_judge.specs.InodeMarks.{HasUps, MarksChildren};
 ghost use Rattle.vol_judge.specs.Stepping.{rank};
 ghost use Rattle.vol_findings.specs.Finds.{Finds};
 ghost use Rattle.vol_findings.specs.Dots.{NeedsDots, NamesItself, NamesParent, KeepsDots, IsWrongDots, IsFirstDots};
 
 use crate::children::mark_children;
 use crate::finding::Finding;
-use crate::reading::is_directory;
 use pdp_words::Image;
 use std::alloc::{AllocError, Global};
-use vol_layout::{Geometry, Slot};
-
-/// What a directory names by `.` and by `..`; None where it has no such entry.
-#[derive(Clone, Copy)]
-struct Dots {
-    own: Option<u16>,
-    up: Option<u16>,
-}
+use vol_judge::dots_in;
+use vol_judge::reading::is_directory;
+use vol_layout::Geometry;
 
 /// What breaks rule 10 first, where rule 9 holds: of the first directory that has no entry `.` for itself or `..` for its
 /// parent, the first of these. The root, which is its own parent, is asked whatever it is.
@@ -145,37 +136,4 @@ fn ups(alloc: Global, image: &Image, geometry: &Geometry) -> Result<Vec<Option<u
         }
     }
     Ok(ups)
-}
-
-/// What directory `d` names by `.` and by `..`. Looks at its slots up to those two entries.
-fn dots_in(image: &Image, geometry: &Geometry, d: u16) -> Dots
-    requires fits { Fits geometry.now image.now }
-    requires directory { IsDirectory geometry.now image.now d }
-    requires entries { HasEntries geometry.now image.now }
-    ensures own { IsNamed geometry.now image.now d dot result.own }
-    ensures up { IsNamed geometry.now image.now d dot_dot result.up }
-{
-    let mut own = None;
-    let mut up = None;
-    let mut from = 0;
-    while let Some((s, slot)) = vol_dir::next_entry(image, geometry, d, from) {
-        own = noted(&slot, b".".as_slice(), own);
-        up = noted(&slot, b"..".as_slice(), up);
-        if own.is_some() && up.is_some() {
-            return Dots { own, up };
-        }
-        from = s + 1;
-    }
-    Dots { own, up }
-}
-
-/// The i-number of a slot, if it has a name; else what was known before.
-fn noted(slot: &Slot, name: &[u8], before: Option<u16>) -> Option<u16>
-    ensures { result ≡ if bytes_eq name.now (name_of slot.now.name) then Some slot.now.inode else before }
-{
-    if name == slot.name() {
-        Some(slot.inode)
-    } else {
-        before
-    }
 }

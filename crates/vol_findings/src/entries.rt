@@ -8,10 +8,10 @@ ghost use Rattle.vol_findings.specs.Finds.{Finds};
 ghost use Rattle.vol_findings.specs.Entries.{IsNumbered, IsWrongEntry, IsFirstIn, IsFirstEntry};
 
 use crate::finding::Finding;
-use crate::reading::is_directory;
 use pdp_words::Image;
 use std::alloc::{AllocError, Global};
 use std::collections::BTreeSet;
+use vol_judge::reading::is_directory;
 use vol_layout::i_list::{kind, size};
 use vol_layout::slot::{NAME, SLOT};
 use vol_layout::{Geometry, Kind, Slot};

@@ -1,19 +1,14 @@
 //! What breaks the rules that speak of i-nodes one by one: their kinds, their sizes and their link counts.
-ghost use Rattle.std.specs.Prelude.{◌≡◌, ◌≤◌, IsTrue, ◌↔◌};
-ghost use Rattle.vol_layout.specs.Edition.{constants};
 ghost use Rattle.vol_layout.specs.Geometry.{Fits};
-ghost use Rattle.vol_file.specs.Rules.{HasKinds, HasSizes, kind_at};
-ghost use Rattle.vol_judge.specs.Limits.{IsSized, IsLinked};
+ghost use Rattle.vol_file.specs.Rules.{HasKinds, HasSizes};
 ghost use Rattle.vol_findings.specs.Finds.{Finds};
-ghost use Rattle.vol_findings.specs.INodes.{IsFirstKind, IsFirstSize, KeepsBadBlocks};
+ghost use Rattle.vol_findings.specs.INodes.{IsFirstKind, IsFirstSize};
 
 use crate::finding::Finding;
 use pdp_words::Image;
-use vol_layout::i_list::{kind, mode, size};
-use vol_layout::{Edition, Form, Geometry, Kind, inode};
-
-/// The greatest size of a small file: eight blocks.
-const SMALL_BYTES: u32 = 4096;
+use vol_judge::i_nodes::{has_bad_blocks, has_root, is_linked, is_sized};
+use vol_layout::i_list::kind;
+use vol_layout::{Geometry, Kind};
 
 /// What breaks rule 3 first: an odd mode, then the kind of the root, then that of i-number 1. Reads the mode of each
 /// i-node. Takes no memory.
@@ -50,52 +45,4 @@ pub fn find_size(image: &Image, geometry: &Geometry) -> Option<Finding>
         }
     }
     None
-}
-
-/// Whether the root is a directory.
-fn has_root(image: &Image, geometry: &Geometry) -> bool
-    requires { Fits geometry.now image.now }
-    ensures { IsTrue result ↔ (kind_at geometry.now image.now (constants geometry.now.edition).root ≡ Kind.Directory) }
-{
-    let root = geometry.edition.constants().root;
-    matches!(kind(image, geometry, root), Kind::Directory)
-}
-
-/// Whether i-number 1 is free or a regular file in the seventh edition, which keeps it for bad blocks.
-fn has_bad_blocks(image: &Image, geometry: &Geometry) -> bool
-    requires { Fits geometry.now image.now }
-    ensures { IsTrue result ↔ KeepsBadBlocks geometry.now image.now }
-{
-    match geometry.edition {
-        Edition::V6 => true,
-        Edition::V7 => matches!(kind(image, geometry, 1), Kind::Free | Kind::Regular),
-    }
-}
-
-/// Whether i-node `i` isn't too large for its form.
-fn is_sized(image: &Image, geometry: &Geometry, i: u16) -> bool
-    requires fits { Fits geometry.now image.now }
-    requires first { 1 ≤ i }
-    requires last { i ≤ geometry.now.last_inode }
-    ensures { IsTrue result ↔ IsSized geometry.now image.now i }
-{
-    let size = size(image, geometry, i);
-    match Form::of(geometry.edition, mode(image, geometry, i)) {
-        Form::Small => size <= SMALL_BYTES,
-        Form::Large | Form::Deep => size <= geometry.edition.constants().greatest,
-        Form::Bare => true,
-    }
-}
-
-/// Whether the link count of i-node `i`, if it is allocated, isn't above the limit.
-fn is_linked(image: &Image, geometry: &Geometry, i: u16) -> bool
-    requires fits { Fits geometry.now image.now }
-    requires first { 1 ≤ i }
-    requires last { i ≤ geometry.now.last_inode }
-    ensures { IsTrue result ↔ IsLinked geometry.now image.now i }
-{
-    match kind(image, geometry, i) {
-        Kind::Free => true,
-        _ => inode(image, geometry, i).links <= geometry.edition.constants().link_limit,
-    }
 }

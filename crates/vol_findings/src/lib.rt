@@ -10,7 +10,6 @@ mod i_nodes;
 mod links;
 mod lost;
 mod outcome;
-mod reading;
 mod report;
 mod rules;
 mod sharing;

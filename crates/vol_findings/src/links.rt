@@ -7,9 +7,9 @@ ghost use Rattle.vol_findings.specs.Finds.{Finds};
 ghost use Rattle.vol_findings.specs.Links.{IsFirstLink};
 
 use crate::finding::Finding;
-use crate::reading::{Place, next_entry};
 use pdp_words::Image;
 use std::alloc::{AllocError, Global};
+use vol_judge::reading::{Place, next_entry};
 use vol_layout::i_list::{inode, kind};
 use vol_layout::{Geometry, Kind};
 

@@ -10,9 +10,9 @@ ghost use Rattle.vol_findings.specs.Finds.{Finds};
 ghost use Rattle.vol_findings.specs.Tree.{KnowsParents, HasOnceBefore, KnowsParentsBefore, IsEnteredAgain, IsFirstUnreached, IsFirstTree};
 
 use crate::finding::Finding;
-use crate::reading::{Entry, Place, is_directory, next_entry};
 use pdp_words::Image;
 use std::alloc::{AllocError, Global};
+use vol_judge::reading::{Entry, Place, is_directory, next_entry};
 use vol_layout::Geometry;
 
 /// What breaks rule 11 first: in the order of directories and slots an entry, of a name other than `.` and `..`, that is for the

@@ -1,12 +1,18 @@
 -- What the rules ask of one i-node.
-use Rattle.std.specs.Prelude.{◌≡◌, ◌≢◌, ℕ, ◌≤◌, List}
+use Rattle.std.specs.Prelude.{◌≡◌, ◌≢◌, ℕ, ◌≤◌, ◌⊎◌, List}
 use Rattle.vol_layout.specs.Edition.{constants}
 use Rattle.vol_layout.specs.Inode.{inode_of}
 use Rattle.vol_layout.specs.Names.{form_at, IsFile}
 use Rattle.vol_file.specs.Rules.{size_of, kind_at}
+use Rattle.vol_layout.specs.declared.edition.Edition.TheVariants.{V7}
 use Rattle.vol_layout.specs.declared.geometry.Geometry.{Geometry}
 use Rattle.vol_layout.specs.declared.mode.Kind.TheVariants as kinds
 use Rattle.vol_layout.specs.declared.places.Form.TheVariants.{Small}
+
+-- i-number 1 of the seventh edition, which it keeps for bad blocks, is free or a regular file (ino.h)
+abbrev pub KeepsBadBlocks : Geometry → List ℕ → Type 0
+KeepsBadBlocks geometry image =
+    geometry.edition ≡ V7 → (kind_at geometry image 1 ≡ kinds.Free) ⊎ (kind_at geometry image 1 ≡ kinds.Regular)
 
 -- the size of i-node i is no greater than a file of its form can have (manual section 5, file system)
 pub record IsSized (geometry : Geometry) (image : List ℕ) (i : ℕ) : Type 0 where

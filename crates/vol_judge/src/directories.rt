@@ -11,6 +11,7 @@ mod links;
 mod tree;
 
 use crate::entries::has_entries;
+pub use dots::{Dots, dots_in};
 use dots::{has_dots, parents};
 use entered::find_entered;
 use links::has_links;

@@ -1,9 +1,9 @@
 //! The rules that speak of i-nodes one by one: their kinds, their sizes and their link counts.
-ghost use Rattle.std.specs.Prelude.{◌≡◌, ◌≤◌, ◌⊎◌, IsTrue, ◌↔◌};
+ghost use Rattle.std.specs.Prelude.{◌≡◌, ◌≤◌, IsTrue, ◌↔◌};
 ghost use Rattle.vol_layout.specs.Edition.{constants};
 ghost use Rattle.vol_layout.specs.Geometry.{Fits};
 ghost use Rattle.vol_file.specs.Rules.{HasKinds, HasSizes, kind_at};
-ghost use Rattle.vol_judge.specs.Limits.{IsSized, IsLinked};
+ghost use Rattle.vol_judge.specs.Limits.{KeepsBadBlocks, IsSized, IsLinked};
 
 use pdp_words::Image;
 use vol_layout::i_list::{kind, mode, size};
@@ -39,7 +39,7 @@ pub(crate) fn has_sizes(image: &Image, geometry: &Geometry) -> bool
 }
 
 /// Whether the root is a directory.
-fn has_root(image: &Image, geometry: &Geometry) -> bool
+pub fn has_root(image: &Image, geometry: &Geometry) -> bool
     requires { Fits geometry.now image.now }
     ensures { IsTrue result ↔ (kind_at geometry.now image.now (constants geometry.now.edition).root ≡ Kind.Directory) }
 {
@@ -48,10 +48,9 @@ fn has_root(image: &Image, geometry: &Geometry) -> bool
 }
 
 /// Whether i-number 1 is free or a regular file in the seventh edition, which keeps it for bad blocks.
-fn has_bad_blocks(image: &Image, geometry: &Geometry) -> bool
+pub fn has_bad_blocks(image: &Image, geometry: &Geometry) -> bool
     requires { Fits geometry.now image.now }
-    ensures { IsTrue result ↔ (geometry.now.edition ≡ Edition.V7
-        → (kind_at geometry.now image.now 1 ≡ Kind.Free) ⊎ (kind_at geometry.now image.now 1 ≡ Kind.Regular)) }
+    ensures { IsTrue result ↔ KeepsBadBlocks geometry.now image.now }
 {
     match geometry.edition {
         Edition::V6 => true,
@@ -60,7 +59,7 @@ fn has_bad_blocks(image: &Image, geometry: &Geometry) -> bool
 }
 
 /// Whether i-node `i` isn't too large for its form.
-fn is_sized(image: &Image, geometry: &Geometry, i: u16) -> bool
+pub fn is_sized(image: &Image, geometry: &Geometry, i: u16) -> bool
     requires fits { Fits geometry.now image.now }
     requires first { 1 ≤ i }
     requires last { i ≤ geometry.now.last_inode }
@@ -75,7 +74,7 @@ fn is_sized(image: &Image, geometry: &Geometry, i: u16) -> bool
 }
 
 /// Whether the link count of i-node `i`, if it is allocated, isn't above the limit.
-fn is_linked(image: &Image, geometry: &Geometry, i: u16) -> bool
+pub fn is_linked(image: &Image, geometry: &Geometry, i: u16) -> bool
     requires fits { Fits geometry.now image.now }
     requires first { 1 ≤ i }
     requires last { i ≤ geometry.now.last_inode }

@@ -5,11 +5,12 @@ mod blocks;
 mod directories;
 mod entries;
 mod free_marks;
-mod i_nodes;
+pub mod i_nodes;
 mod inode_marks;
 mod judging;
 mod marking;
-mod reading;
+pub mod reading;
 
+pub use directories::{Dots, dots_in};
 pub use judging::{Examined, examine, judge};
 pub use marking::named_blocks;

@@ -11,7 +11,7 @@ use vol_layout::i_list::kind;
 use vol_layout::{Geometry, Kind, Slot};
 
 /// Whether i-number `i` is that of a directory.
-pub(crate) fn is_directory(image: &Image, geometry: &Geometry, i: u16) -> bool
+pub fn is_directory(image: &Image, geometry: &Geometry, i: u16) -> bool
     requires fits { Fits geometry.now image.now }
     requires first { 1 ≤ i }
     requires last { i ≤ geometry.now.last_inode }
@@ -22,7 +22,7 @@ pub(crate) fn is_directory(image: &Image, geometry: &Geometry, i: u16) -> bool
 
 /// A place among the slots of all directories, directory after directory.
 #[derive(Clone, Copy, Debug)]
-pub(crate) struct Place {
+pub struct Place {
     /// The directory's i-number, from 1 on.
     pub directory: u16,
     /// The number of the slot.
@@ -31,7 +31,7 @@ pub(crate) struct Place {
 
 /// An entry of a directory, with its place.
 #[derive(Clone, Copy, Debug)]
-pub(crate) struct Entry {
+pub struct Entry {
     /// The directory's i-number.
     pub directory: u16,
     /// The number of the slot.
@@ -42,7 +42,7 @@ pub(crate) struct Entry {
 
 impl Place {
     /// The place before all entries.
-    pub(crate) fn first() -> Place
+    pub fn first() -> Place
         ensures directory { result.directory ≡ 1 }
         ensures slot { result.slot ≡ 0 }
     {
@@ -55,7 +55,7 @@ impl Place {
 
 impl Entry {
     /// The place after the entry.
-    pub(crate) fn next_place(&self) -> Place
+    pub fn next_place(&self) -> Place
         requires { self.now.number < 67637568 }
         ensures directory { result.directory ≡ self.now.directory }
         ensures slot { result.slot ≡ self.now.number + 1 }
@@ -67,7 +67,7 @@ impl Entry {
     }
 
     /// Whether the entry's name is `.` or `..`.
-    pub(crate) fn is_dots(&self) -> bool
+    pub fn is_dots(&self) -> bool
         ensures { result ≡ is_dots (name_of self.now.slot.name) }
     {
         vol_dir::is_dots(self.slot.name())
@@ -77,7 +77,7 @@ impl Entry {
 /// The first entry from a place on, over all directories.
 ///
 /// Costs a look at each i-node and slot that is passed.
-pub(crate) fn next_entry(image: &Image, geometry: &Geometry, from: Place) -> Option<Entry>
+pub fn next_entry(image: &Image, geometry: &Geometry, from: Place) -> Option<Entry>
     requires fits { Fits geometry.now image.now }
     requires first { 1 ≤ from.directory }
     ensures { MatchOption result (IsPastEntries geometry.now image.now (rank from.directory from.slot))

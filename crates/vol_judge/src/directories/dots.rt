@@ -18,9 +18,11 @@ use vol_layout::{Geometry, Slot};
 
 /// What a directory names by `.` and by `..`; None where it has no such entry.
 #[derive(Clone, Copy)]
-struct Dots {
-    own: Option<u16>,
-    up: Option<u16>,
+pub struct Dots {
+    /// The i-number of the entry `.`.
+    pub own: Option<u16>,
+    /// The i-number of the entry `..`.
+    pub up: Option<u16>,
 }
 
 /// Whether rule 10 holds, by what each directory names by `..` where it names itself by `.`, and the marks
@@ -91,7 +93,7 @@ fn ups(
 }
 
 /// What directory `d` names by `.` and by `..`. Looks at its slots up to those two entries.
-fn dots_in(image: &Image, geometry: &Geometry, d: u16) -> Dots
+pub fn dots_in(image: &Image, geometry: &Geometry, d: u16) -> Dots
     requires fits { Fits geometry.now image.now }
     requires directory { IsDirectory geometry.now image.now d }
     requires entries { HasEntries geometry.now image.now }

@@ -1,6 +1,6 @@
-//! Tests of the checkers by their public functions: worked reports, by any number of workers; images that are cut short;
-//! sweeps stepped by hand, on the image that they were made for and on another; gates, and workers that run at the same
-//! time; and of the visit of a file's blocks.
+//! Tests of the checkers by their public functions: worked reports, by any number of workers; lines of counted words; images
+//! that are cut short; sweeps stepped by hand, on the image that they were made for and on another; gates, and workers that
+//! run at the same time; and of the visit of a file's blocks.
 #![tactic(auto)]
 
 #[cfg(test)]
@@ -17,6 +17,8 @@ mod gates;
 mod large;
 #[cfg(test)]
 mod names;
+#[cfg(test)]
+mod reports;
 #[cfg(test)]
 mod sweeps;
 #[cfg(test)]

@@ -1,14 +1,15 @@
+// The lines of reports, by words that were counted.
 ghost use Rattle.std.specs.Prelude.{◌≡◌, ◌≤◌, IfOk, length};
 ghost use Rattle.count_table.specs.Tallies.{items_of};
 
-use crate::words::{
-    bad_word, entry_word, free_word, kind_word, least_word, name_word, place_word, rank,
-};
-use crate::{Entered, FreeFault, LinkCount, Report, block_report, entry_report, name_report};
 use count_table::{Summed, TableShape, Tally};
 use std::alloc::{AllocError, Global};
 use std::test::Fail;
 use vol_layout::{Edition, Geometry, GeometryFault, Slot};
+use vol_reports::words::{
+    bad_word, entry_word, free_word, kind_word, least_word, name_word, place_word, rank,
+};
+use vol_reports::{Entered, FreeFault, LinkCount, Report, block_report, entry_report, name_report};
 
 /// The geometry of a volume of the sixth edition with data blocks 4 to 7 and 32 i-numbers.
 fn small_geometry() -> Geometry

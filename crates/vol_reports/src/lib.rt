@@ -10,8 +10,6 @@ mod links;
 mod names;
 mod path;
 mod report;
-#[cfg(test)]
-mod tests;
 mod texts;
 pub mod words;
 

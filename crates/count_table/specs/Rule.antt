@@ -14,9 +14,7 @@ pub record IsWithinParts (pieces : ℕ) (v : SeatView) : Type 0 where
   pub empty : v.parts ≡ 0 → v ≡ blank
   pub bounded : late pieces v.draws ≤ v.parts
 
--- the draws of all seats are the numbers below word 0, each once; each count word is the sum of its marks in all views, modulo
--- 2^64, and each least word the least of 2^64 - 1 and its marks; the log has the marks of all seats in the order of the steps
--- (this project)
+-- the draws of all seats are the numbers below word 0, each once; each count word is the sum of its marks in all views, modulo 2^64, and each least word the least of 2^64 - 1 and its marks; the log has the marks of all seats in the order of the steps (this project)
 pub record Kept (shape : TableShape) (s : State (Unit {0}) SeatView) : Type 0 where
   pub log : List Mark
   pub wide : length s.words ≡ 1 + (shape.counts + shape.leasts)

@@ -5,9 +5,11 @@ use Rattle.count_table.specs.declared.rule.Mark.{Mark}
 use Rattle.count_table.specs.declared.rule.SeatView.{SeatView}
 use Rattle.count_table.specs.declared.rule.TableShape.{TableShape}
 
+-- what a seat knows: how many parts it stands for, what it drew and what it marked (this project)
 abbrev pub view : ℕ → List ℕ → List Mark → SeatView
 view parts draws marks = record { parts = parts; draws = draws; marks = marks }
 
+-- a mark: so much on this word (this project)
 abbrev pub mark : ℕ → ℕ → Mark
 mark word amount = record { word = word; amount = amount }
 
@@ -27,10 +29,11 @@ drew v number = view v.parts (v.draws ++ number ∷ []) v.marks
 abbrev pub marked_view : SeatView → Mark → SeatView
 marked_view v m = view v.parts v.draws (v.marks ++ m ∷ [])
 
--- what is left of a seat that gives one part away, and what the other gets (this project)
+-- what is left of a seat that gives one part away (this project)
 abbrev pub kept_half : SeatView → SeatView
 kept_half v = view (v.parts - 1) v.draws v.marks
 
+-- what the other seat gets (this project)
 abbrev pub given_half : SeatView → SeatView
 given_half v = view 1 [] []
 

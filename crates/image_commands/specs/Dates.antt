@@ -18,14 +18,12 @@ is_short month = (month == 4) || (month == 6) || (month == 9) || (month == 11)
 abbrev pub month_days : ℕ → ℕ → ℕ
 month_days year month = if month == 2 then (if is_leap year then 29 else 28) else if is_short month then 30 else 31
 
--- the year of a day, and how many days of it come before that one, where so many days come after the beginning of a year: at most `count`
--- years are passed (the Gregorian calendar)
+-- the year of a day, and how many days of it come before that one, where so many days come after the beginning of a year: at most `count` years are passed (the Gregorian calendar)
 unfoldable pub pass_years : ℕ → ℕ → ℕ → ℕ × ℕ
 pass_years zero year days = (year, days)
 pass_years (suc count) year days = if nat_lt days (year_days year) then (year, days) else pass_years count (year + 1) (days - year_days year)
 
--- the month of a day, and how many days of it come before that one, where so many days come after the beginning of a month: at most
--- `count` months are passed (the Gregorian calendar)
+-- the month of a day, and how many days of it come before that one, where so many days come after the beginning of a month: at most `count` months are passed (the Gregorian calendar)
 unfoldable pub pass_months : ℕ → ℕ → ℕ → ℕ → ℕ × ℕ
 pass_months zero year month days = (month, days)
 pass_months (suc count) year month days =

@@ -38,8 +38,7 @@ section_text style tree place = shown style.screen place.path ++ (codes ":\n" ++
 abbrev pub other_text : Style → Tree → Place → List ℕ
 other_text style tree place = 10 ∷ section_text style tree place
 
--- the names of a directory, and, where the directories below it are asked for, theirs, each directory under its path and with an empty line
--- between; of what is no directory, its own line (ls)
+-- the names of a directory, and, where the directories below it are asked for, theirs, each directory under its path and with an empty line between; of what is no directory, its own line (ls)
 abbrev pub lines_text : Style → Tree → Bool → Place → List Place → List ℕ
 lines_text style tree below place places =
     if is_directory (node_at tree place.inode)

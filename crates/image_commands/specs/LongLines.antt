@@ -18,8 +18,7 @@ letter_of (sorts.Block device) = 98
 abbrev pub flag : ℕ → ℕ → ℕ → ℕ
 flag permissions value letter = if has_bit permissions value then letter else 45
 
--- the letter of the permission to execute, where it is given, beside a special bit: of both, where both are given, and of the special bit
--- alone, where that is (ls -l)
+-- the letter of the permission to execute, where it is given, beside a special bit: of both, where both are given, and of the special bit alone, where that is (ls -l)
 abbrev pub special_flag : ℕ → ℕ → ℕ → ℕ → ℕ → ℕ
 special_flag permissions value special both alone =
     if has_bit permissions special then (if has_bit permissions value then both else alone) else flag permissions value 120

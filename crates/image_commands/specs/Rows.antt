@@ -7,8 +7,7 @@ use Rattle.image_commands.specs.declared.rows.Row.{Row}
 use Rattle.image_commands.specs.declared.rows.Sort.{Sort}
 use Rattle.image_commands.specs.declared.rows.Sort.TheVariants as sorts
 
--- whether the type of a special file, the highest four bits of its mode, is that of a block or of a character special file, for a device; of
--- the multiplexor types of the seventh edition, 070000 counts as the former and 030000 as the latter (stat.h; the latter is this project's)
+-- whether the type of a special file, the highest four bits of its mode, is that of a block or of a character special file, for a device; of the multiplexor types of the seventh edition, 070000 counts as the former and 030000 as the latter (stat.h; the latter is this project's)
 abbrev pub special_sort : ℕ → ℕ → Sort
 special_sort type device = if type / 2 % 4 == 3 then sorts.Block device else sorts.Character device
 

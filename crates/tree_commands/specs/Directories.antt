@@ -26,8 +26,7 @@ unless_found now path Nothing = mkdir_call now path ∷ []
 unless_found now path Directory = []
 unless_found now path File = []
 
--- the call for the directory whose name ends at a byte of a path: none where no name ends there, where it is `.` or `..`, which every
--- directory has, or where the path up to it leads to something (this project)
+-- the call for the directory whose name ends at a byte of a path: none where no name ends there, where it is `.` or `..`, which every directory has, or where the path up to it leads to something (this project)
 abbrev pub mkdir_at : Tree → ℕ → List ℕ → ℕ → List Call
 mkdir_at tree now path k =
     if not (ends_name path k) || is_dots (last_name (take (k + 1) path)) then []

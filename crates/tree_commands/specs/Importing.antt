@@ -13,8 +13,7 @@ abbrev pub TellsFault : ImportFault → (List ℕ → Type 0) → ℕ → Type 0
 TellsFault fault said status =
     (told : ImportFault) × ((told ≡ fault) ⊎ (told ≡ faults.NoMemory)) × (status ≡ import_status told) × said (import_line told)
 
--- what the import of an archive comes to, by the calls that were to be made: bytes to be saved, status 0 and no line, or the status and the
--- line of a reason (this project)
+-- what the import of an archive comes to, by the calls that were to be made: bytes to be saved, status 0 and no line, or the status and the line of a reason (this project)
 pub record ImportsArchive (edition : Edition) (image : List ℕ) (wanted : Result (List Call) ImportFault) (said : List ℕ → Type 0) (answer : Answer) : Type 0 where
   pub saved : answer.status ≡ 0 ↔ IsSome answer.image
   pub made : IfSome answer.image (λ bytes. Imports edition image wanted bytes.items × said [])

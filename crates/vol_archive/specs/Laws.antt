@@ -35,8 +35,7 @@ MembersAreOfTree = (geometry : Geometry) (image : List ℕ) (start : ℕ) (found
     → IsDirectory geometry image start → IsWalk geometry image start founds
     → All (λ (found : Found). walk_from (tree geometry image) user start (components found.path) ≡ Ok found.inode) (members_of founds)
 
--- members ascend: the names of a path come before those of a later one, where they differ first by the bytes of that name; so a
--- directory comes before what is in it (this project)
+-- members ascend: the names of a path come before those of a later one, where they differ first by the bytes of that name; so a directory comes before what is in it (this project)
 abbrev pub MembersAscend : Type 0
 MembersAscend = (geometry : Geometry) (image : List ℕ) (start : ℕ) (founds : List Found) → IsWalk geometry image start founds
     → AllPairs (λ (found later : Found). slice_cmp (slice_cmp nat_cmp) (components found.path) (components later.path) ≡ Less) (members_of founds)
@@ -82,8 +81,7 @@ pub record AreProper (names : List (List ℕ)) : Type 0 where
   pub some : names ≢ []
   pub proper : All (λ name. is_dots name ≡ false) names
 
--- of an image where rules 3, 9 and 11 hold, as of each that is sound, the members are exactly the tree below the directory, where headers have
--- room for all paths: names lead to an i-number, as user 0 walks them, if and only if the path of a member for it has these names (Lions on namei)
+-- of an image where rules 3, 9 and 11 hold, as of each that is sound, the members are exactly the tree below the directory, where headers have room for all paths: names lead to an i-number, as user 0 walks them, if and only if the path of a member for it has these names (Lions on namei)
 abbrev pub MembersAreTheTree : Type 0
 MembersAreTheTree = (geometry : Geometry) (image : List ℕ) (start : ℕ) (founds : List Found)
     → HasKinds geometry image → HasEntries geometry image → IsTree geometry image

@@ -9,8 +9,7 @@ use Rattle.vol_layout.specs.declared.geometry.Geometry.{Geometry}
 use Rattle.vol_file.specs.Rules.{size_of}
 use Rattle.vol_change.specs.Whole.{StaysAround}
 
--- what i-node i stands for stays: its mode, size and addresses, its bytes, what its places name, and all bytes of the blocks that
--- they name (manual section 5, file system)
+-- what i-node i stands for stays: its mode, size and addresses, its bytes, what its places name, and all bytes of the blocks that they name (manual section 5, file system)
 pub record KeepsContent (geometry : Geometry) (old new : List ℕ) (i : ℕ) : Type 0 where
   pub mode : mode_of geometry new i ≡ mode_of geometry old i
   pub size : size_of geometry new i ≡ size_of geometry old i

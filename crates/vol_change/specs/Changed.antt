@@ -22,8 +22,7 @@ IsOther i j = j ≢ i
 abbrev pub as_before : List ℕ → List ℕ
 as_before blocks = blocks
 
--- the blocks that go back to the free list with the bytes of i-node i, in the order of its places; what is no file has none
--- (Lions on itrunc)
+-- the blocks that go back to the free list with the bytes of i-node i, in the order of its places; what is no file has none (Lions on itrunc)
 abbrev pub blocks_freed : Geometry → List ℕ → ℕ → List ℕ
 blocks_freed geometry image i = if has_places (kind_at geometry image i) then blocks_of geometry image i else []
 
@@ -31,16 +30,14 @@ blocks_freed geometry image i = if has_places (kind_at geometry image i) then bl
 abbrev pub FreeBecomes : Geometry → List ℕ → List ℕ → (List ℕ → List ℕ) → Type 0
 FreeBecomes geometry old new listed = (blocks : List ℕ) → IsFree geometry old blocks → IsFree geometry new (listed blocks)
 
--- rules 3 to 8 hold, the bytes that no call changes stay, the image reads as another state, the free list is what `listed` makes
--- of it, and what the i-nodes of a set stand for stays, with all bytes of their blocks (this project)
+-- rules 3 to 8 hold, the bytes that no call changes stay, the image reads as another state, the free list is what `listed` makes of it, and what the i-nodes of a set stand for stays, with all bytes of their blocks (this project)
 pub record Changed (geometry : Geometry) (old new : List ℕ) (Kept : ℕ → Type 0) (made : State) (listed : List ℕ → List ℕ) : Type 0 where
   pub keeps : Keeps geometry old new
   pub makes : state geometry new ≡ made
   pub free : FreeBecomes geometry old new listed
   pub content : (j : ℕ) → 1 ≤ j → j ≤ geometry.last_inode → Kept j → KeepsContent geometry old new j
 
--- of the bytes of directory d those of a text were put at a place, and no others have changed: neither what stands behind the end
--- of another name, nor the name of an empty slot (manual section 5, directories)
+-- of the bytes of directory d those of a text were put at a place, and no others have changed: neither what stands behind the end of another name, nor the name of an empty slot (manual section 5, directories)
 abbrev pub PutsInBody : Geometry → List ℕ → List ℕ → ℕ → ℕ → List ℕ → Type 0
 PutsInBody geometry old new d at text = body geometry new d ≡ spliced (body geometry old d) at text
 

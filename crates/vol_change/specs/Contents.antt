@@ -11,8 +11,7 @@ untimed node = node
 abbrev pub write_body : ℕ → ℕ → List ℕ → State → State
 write_body = bytes_written untimed
 
--- of the bytes of file i the first stay, as many as `size`, and the places on their ways; its times stay (Lions on itrunc; that bytes
--- may stay is this project's)
+-- of the bytes of file i the first stay, as many as `size`, and the places on their ways; its times stay (Lions on itrunc; that bytes may stay is this project's)
 abbrev pub cut_body : ℕ → ℕ → State → State
 cut_body = bytes_cut untimed
 

@@ -63,8 +63,7 @@ change_names change (Directory names) = Directory (change names)
 change_names change (Body bytes) = Body bytes
 change_names change (Device type addresses) = Device type addresses
 
--- directory d gets an entry, a name for i: the map, the size, the slot, and the block of the slot where it is missing; its times
--- change as `timed` says (Lions on wdir)
+-- directory d gets an entry, a name for i: the map, the size, the slot, and the block of the slot where it is missing; its times change as `timed` says (Lions on wdir)
 abbrev pub entry_added : (Node → Node) → ℕ → List ℕ → ℕ → State → State
 entry_added timed d name i state =
     put_shape d (shape_with_entry state.tree.geometry.edition (state.shapes d) name)
@@ -93,8 +92,7 @@ remove_entry now = entry_removed (modified now)
 abbrev pub with_links : ℕ → ℕ → Node → Node
 with_links now links node = record (stamped now node) { links = links }
 
--- a node with other permission bits, of which those under octal 7777 count, whose i-node was changed by that (chmod, section 2 of
--- the manual)
+-- a node with other permission bits, of which those under octal 7777 count, whose i-node was changed by that (chmod, section 2 of the manual)
 abbrev pub with_permission_bits : ℕ → ℕ → Node → Node
 with_permission_bits now perm node = record (stamped now node) { permissions = perm % 4096 }
 
@@ -138,14 +136,12 @@ abbrev pub after_write : State → ℕ → ℕ → List ℕ → ℕ → State
 after_write state now offset [] i = state
 after_write state now offset (byte ∷ bytes) i = bytes_written (modified now) i offset (byte ∷ bytes) state
 
--- of the bytes of file i the first stay, as many as `size`, and the places on their ways; its times change as `timed` says (Lions on
--- itrunc; that bytes may stay is this project's)
+-- of the bytes of file i the first stay, as many as `size`, and the places on their ways; its times change as `timed` says (Lions on itrunc; that bytes may stay is this project's)
 abbrev pub bytes_cut : (Node → Node) → ℕ → ℕ → State → State
 bytes_cut timed i size state =
     put_shape i (cut_shape state.tree.geometry.edition (state.shapes i) size)
     (change_node i (λ node. record (timed node) { content = Body (take size (body_of node.content)); size = size }) state)
 
--- of the bytes of file i the first stay, as many as `size`, and the places on their ways; its bytes were last changed now (Lions on
--- itrunc; that bytes may stay is this project's)
+-- of the bytes of file i the first stay, as many as `size`, and the places on their ways; its bytes were last changed now (Lions on itrunc; that bytes may stay is this project's)
 abbrev pub after_truncate : State → ℕ → ℕ → ℕ → State
 after_truncate state now size i = bytes_cut (modified now) i size state

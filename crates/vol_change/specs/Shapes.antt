@@ -37,8 +37,7 @@ shape_with_entry edition shape name = record (stored_shape edition shape (entry_
 abbrev pub shape_without_entry : Shape → List ℕ → Shape
 shape_without_entry shape name = record shape { slots = map (emptied name) shape.slots }
 
--- the shape of a file of which the first bytes stay, as many as `size`: with the places on their ways, and small if there are none
--- (Lions on itrunc; that bytes may stay is this project's)
+-- the shape of a file of which the first bytes stay, as many as `size`: with the places on their ways, and small if there are none (Lions on itrunc; that bytes may stay is this project's)
 abbrev pub cut_shape : Edition → Shape → ℕ → Shape
 cut_shape edition shape size = record {
   names = λ p. shape.names p && is_kept (form_in edition shape.large) size p;

@@ -7,8 +7,7 @@ use Rattle.vol_layout.specs.declared.geometry.Geometry.{Geometry}
 use Rattle.vol_layout.specs.declared.mode.Kind.TheVariants as kinds
 use Rattle.vol_file.specs.Rules.{kind_at}
 
--- the bytes of i-node j that are not in use are as they were: byte 51, which the seventh edition doesn't use, and all of them
--- where i-node j is free (ino.h; this project)
+-- the bytes of i-node j that are not in use are as they were: byte 51, which the seventh edition doesn't use, and all of them where i-node j is free (ino.h; this project)
 pub record KeepsUnused (geometry : Geometry) (old new : List ℕ) (j : ℕ) : Type 0 where
   pub stays : geometry.edition ≡ V7 → slice_index new (inode_place V7 j + 51) ≡ slice_index old (inode_place V7 j + 51)
   pub free : kind_at geometry old j ≡ kinds.Free → (k : ℕ) → k < (constants geometry.edition).inode_bytes

@@ -27,8 +27,7 @@ pub record HasDirectory (geometry : Geometry) (image : List ℕ) (d : ℕ) : Typ
   pub slots : size_of geometry image d % 16 ≡ 0
   pub once : HasNamesOnce geometry image d
 
--- the bytes that no call changes are as they were: block 0, the sizes and the flags of the super-block and what follows its
--- time, and what lies behind the volume; the free list and the i-number cache, 202 bytes each, stand side by side (filsys.h)
+-- the bytes that no call changes are as they were: block 0, the sizes and the flags of the super-block and what follows its time, and what lies behind the volume; the free list and the i-number cache, 202 bytes each, stand side by side (filsys.h)
 pub record StaysAround (geometry : Geometry) (old new : List ℕ) : Type 0 where
   pub len : length new ≡ length old
   pub before : (k : ℕ) → k < free_head geometry.edition → slice_index new k ≡ slice_index old k

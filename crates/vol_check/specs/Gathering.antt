@@ -19,8 +19,7 @@ pub record Joins (tally : Tally) (old other new : CheckSeat) : Type 0 where
   pub entries : new.entries.items ≡ old.entries.items ++ other.entries.items
   pub spoiled : new.spoiled ≡ (old.spoiled || other.spoiled)
 
--- one seat stands for some, of which one was stopped, and is of each image that they are of; where none of them found no memory, one of
--- its draws is no piece's (this project)
+-- one seat stands for some, of which one was stopped, and is of each image that they are of; where none of them found no memory, one of its draws is no piece's (this project)
 pub record Gathers (tally : Tally) (seats : List CheckSeat) (all : CheckSeat) : Type 0 where
   pub own : IsSeatAt tally all.seat
   pub parts : all.seat.me.0.parts ≡ length seats

@@ -24,8 +24,7 @@ pub record HasSameHead (edition : Edition) (old new : List ℕ) : Type 0 where
   pub len : length new ≡ length old
   pub head : (k : ℕ) → k < head_end (geometry_read edition old) (length old) → slice_index new k ≡ slice_index old k
 
--- an image has the layout, and as far as the sweep asks for them the directories' sizes and the link counts, of the image that
--- the sweep was made for (this project)
+-- an image has the layout, and as far as the sweep asks for them the directories' sizes and the link counts, of the image that the sweep was made for (this project)
 pub record IsFor (sweep : Sweep) (image : List ℕ) : Type 0 where
   pub read : geometry_read sweep.edition image ≡ sweep.layout
   pub starts : (g : Geometry) → sweep.layout ≡ Ok g → sweep.checker ≢ Blocks → HasStarts g image sweep.starts.items
@@ -47,8 +46,7 @@ seat_count sweep = (table_shape sweep.tally).seats
 abbrev pub pieces_of : Sweep → ℕ
 pieces_of sweep = (table_shape sweep.tally).pieces
 
--- how many pieces an image with some layout has for a checker: of the blocks the free list and each i-number, else the parts of each
--- i-number; none without geometry (this project)
+-- how many pieces an image with some layout has for a checker: of the blocks the free list and each i-number, else the parts of each i-number; none without geometry (this project)
 abbrev pub pieces_in : Checker → Layout → List ℕ → ℕ
 pieces_in Blocks (Ok g) image = g.last_inode + 1
 pieces_in Entries (Ok g) image = parts_before g image g.last_inode

@@ -37,8 +37,7 @@ pub record IsPart (starts : List ℕ) (number : ℕ) (part : Part) : Type 0 wher
   pub start : slice_index starts (part.inode - 1) + part.index ≡ number
   pub end : number < slice_index starts part.inode
 
--- a weight of the i-number, and of the part of it, that a piece is, where the pieces of n i-numbers are counted from those of i-number
--- i on, which has `count i`; 0 past the last (this project)
+-- a weight of the i-number, and of the part of it, that a piece is, where the pieces of n i-numbers are counted from those of i-number i on, which has `count i`; 0 past the last (this project)
 unfoldable pub piece_value : (ℕ → ℕ) → (ℕ → ℕ → ℕ) → ℕ → ℕ → ℕ → ℕ
 piece_value count weight i zero p = 0
 piece_value count weight i (suc n) p = if nat_lt p (count i) then weight i p else piece_value count weight (i + 1) n (p - count i)

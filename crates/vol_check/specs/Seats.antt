@@ -64,8 +64,7 @@ pub record IsSeatOf (tally : Tally) (s : CheckSeat) : Type 0 where
   pub parts : s.seat.me.0.parts ≡ 1
   pub late : late (table_shape tally).pieces s.seat.me.0.draws ≡ one_if s.ended
 
--- the marks that a seat made, the fault and the entries that it keeps, are those of the pieces among its draws, in this image; a
--- seat that found no memory says nothing (icheck, dcheck, ncheck)
+-- the marks that a seat made, the fault and the entries that it keeps, are those of the pieces among its draws, in this image; a seat that found no memory says nothing (icheck, dcheck, ncheck)
 pub record IsOf (checker : Checker) (layout : Layout) (image : List ℕ) (s : CheckSeat) : Type 0 where
   pub marks : s.spoiled ≡ false → (weight : Mark → ℕ) → total weight s.seat.me.0.marks ≡ total (layout_weight checker layout image weight) s.seat.me.0.draws
   pub fault : s.spoiled ≡ false → s.fault ≡ layout_fault checker layout image s.seat.me.0.draws

@@ -37,8 +37,7 @@ StepAnswers sweep old new (Ok (Some p)) = (new.seat.me.0.draws ≡ old.seat.me.0
 StepAnswers sweep old new (Ok None) = (new.ended ≡ true) × (new.spoiled ≡ false)
 StepAnswers sweep old new (Err failed) = new.spoiled ≡ true
 
--- a step: the seat is one of the sweep's and of the image, as before; it drew at most one number, and none where it was at its
--- end or had found no memory, which it tells for good (this project)
+-- a step: the seat is one of the sweep's and of the image, as before; it drew at most one number, and none where it was at its end or had found no memory, which it tells for good (this project)
 pub record Stepped (sweep : Sweep) (image : List ℕ) (old new : CheckSeat) (result : Result (Option Piece) AllocError) : Type 0 where
   pub own : IsSeatOf sweep.tally new
   pub knows : IsOf sweep.checker sweep.layout image new

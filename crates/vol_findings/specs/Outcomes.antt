@@ -61,8 +61,7 @@ Keeps edition image n = Rule true edition image n
 abbrev pub HasGeometry : Edition → List ℕ → Type 0
 HasGeometry edition image = Keeps edition image 1 × Keeps edition image 2
 
--- what is said of the twelve rules of an image: a rule isn't asked where one that it needs fails, and only there; 7 needs 6 only where no two
--- places name one block (this project)
+-- what is said of the twelve rules of an image: a rule isn't asked where one that it needs fails, and only there; 7 needs 6 only where no two places name one block (this project)
 pub record Tells (edition : Edition) (image : List ℕ) (found : Outcomes) : Type 0 where
   pub whole : Says (Keeps edition image 1) (λ finding. finding ≡ TooShort) ⊥ found.whole
   pub bounded : Says (Keeps edition image 2) (λ finding. finding ≡ BadSizes) (Keeps edition image 1 → ⊥) found.bounded

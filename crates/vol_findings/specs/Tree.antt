@@ -47,8 +47,7 @@ pub record IsFirstUnreached (geometry : Geometry) (image : List ℕ) (d : ℕ) :
   pub before : (e : ℕ) → e < d → IsDirectory geometry image e → IsReached geometry image e
   pub unreached : IsReached geometry image d → ⊥
 
--- what breaks rule 11 first: in the order of directories and slots an entry for the root or a second one for a directory, then the first
--- directory that isn't reached from the root (this project)
+-- what breaks rule 11 first: in the order of directories and slots an entry for the root or a second one for a directory, then the first directory that isn't reached from the root (this project)
 abbrev pub IsFirstTree : Geometry → List ℕ → Finding → Type 0
 IsFirstTree geometry image (findings.RootEntered d s) = IsEnteredAgain geometry image (findings.RootEntered d s)
 IsFirstTree geometry image (findings.EnteredTwice d s) = IsEnteredAgain geometry image (findings.EnteredTwice d s)

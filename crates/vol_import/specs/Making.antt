@@ -85,8 +85,7 @@ IsStop old calls new (faults.Unsound rule) = ⊥
 IsStop old calls new (faults.Archive fault) = ⊥
 IsStop old calls new (faults.Member path cause) = ⊥
 
--- the bytes are a sound image that reads as what calls, accepted in turn, make of the tree of a sound image; no byte changes but those that
--- calls change (this project)
+-- the bytes are a sound image that reads as what calls, accepted in turn, make of the tree of a sound image; no byte changes but those that calls change (this project)
 pub record ImportsCalls (edition : Edition) (image : List ℕ) (calls : List Call) (bytes : List ℕ) : Type 0 where
   pub mounts : IsSound edition image
   pub journal : List Record
@@ -109,8 +108,7 @@ abbrev pub IsRefused : Edition → List ℕ → Result (List Call) ImportFault �
 IsRefused edition image (Ok calls) refusal call = (volume : Mounted) × AreStopped (mounted edition image) calls volume refusal call
 IsRefused edition image (Err fault) refusal call = ⊥
 
--- a reason not to import: the least rule that the image breaks; of a sound image why there are no calls to be made, or a refusal of one
--- of them; or want of memory (this project)
+-- a reason not to import: the least rule that the image breaks; of a sound image why there are no calls to be made, or a refusal of one of them; or want of memory (this project)
 unfoldable pub IsReason : Edition → List ℕ → Result (List Call) ImportFault → ImportFault → Type 0
 IsReason edition image wanted (faults.Unsound rule) = IsLeastBroken true edition image rule
 IsReason edition image wanted (faults.Archive fault) = IsSound edition image × (wanted ≡ Err (faults.Archive fault))

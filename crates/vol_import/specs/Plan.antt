@@ -65,8 +65,7 @@ check_path path =
 abbrev pub ends_in_slash : List ℕ → Bool
 ends_in_slash path = nat_lt 0 (length path) && (slice_index path (length path - 1) == 47)
 
--- what a member is made as; a regular file whose path ends in a slash is a directory, as archives before POSIX's have it; no call makes
--- a special file, and the editions have no symbolic links (POSIX, ustar interchange format)
+-- what a member is made as; a regular file whose path ends in a slash is a directory, as archives before POSIX's have it; no call makes a special file, and the editions have no symbolic links (POSIX, ustar interchange format)
 abbrev pub made_as : TypeFlag → List ℕ → Result Made MemberFault
 made_as (flags.Member members.File) path = Ok (if ends_in_slash path then Directory else File)
 made_as (flags.Member members.Directory) path = Ok Directory
@@ -95,8 +94,7 @@ abbrev pub owner_of : Edition → ReadHeader → Result Cred MemberFault
 owner_of edition header =
     if is_bad_id edition header.uid header.gid then Err faults.Owner else Ok (record { uid = header.uid; gid = header.gid })
 
--- what a member is made as in a volume of an edition, and for whom, or the first thing that speaks against it: its kind, its path, the
--- path that it leads to, its owner (this project)
+-- what a member is made as in a volume of an edition, and for whom, or the first thing that speaks against it: its kind, its path, the path that it leads to, its owner (this project)
 unfoldable pub check : Edition → Member → Result (Made × Cred) MemberFault
 check edition member =
     and_then (made_as member.header.flag member.path) (λ made.
@@ -236,8 +234,7 @@ plan_onto tree base now drafted [] = Ok drafted.1
 plan_onto tree base now drafted (member ∷ rest) =
     and_next (onto tree base now drafted member (check tree.geometry.edition member)) (λ next. plan_onto tree base now next rest)
 
--- the calls that make the members of an archive below a path, each in turn, after the directories on the way to it that are missing; or
--- the first member that can't be made, and why (this project)
+-- the calls that make the members of an archive below a path, each in turn, after the directories on the way to it that are missing; or the first member that can't be made, and why (this project)
 abbrev pub plan : Tree → List ℕ → ℕ → List Member → Result (List Call) PlanFault
 plan tree base now all = plan_onto tree base now ([], []) all
 

@@ -11,8 +11,7 @@ use Rattle.vol_layout.specs.declared.mode.Kind.{Kind}
 use Rattle.vol_file.specs.Rules.{kind_at}
 use Rattle.vol_reports.specs.Blocks.{one_if, is_kind}
 
--- how many of these places name block c with e levels of blocks below it: that which names number b with d levels below it, and
--- those below that (icheck; Lions on bmap)
+-- how many of these places name block c with e levels of blocks below it: that which names number b with d levels below it, and those below that (icheck; Lions on bmap)
 unfoldable pub found_at : Geometry → List ℕ → ℕ → ℕ → ℕ → ℕ → ℕ
 found_at g image zero b c e = if in_zone g b then one_if ((b == c) && (e == 0)) else 0
 found_at g image (suc d) b c e =

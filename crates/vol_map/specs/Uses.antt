@@ -16,8 +16,7 @@ listed_use Plain named single = if named == 1 then uses.Twice else uses.Free
 listed_use Linking named single = if named == 1 then uses.Twice else uses.Chain
 listed_use Absent named single = single
 
--- what a data block is used for, which so many places of directories and of regular files name to hold their bytes, and so many
--- as an indirect block (icheck)
+-- what a data block is used for, which so many places of directories and of regular files name to hold their bytes, and so many as an indirect block (icheck)
 abbrev pub data_use : ℕ → ℕ → ℕ → Listed → Use
 data_use directories files pointers listed =
     if nat_lt 1 (directories + files + pointers) then uses.Twice
@@ -43,8 +42,7 @@ held g image kind b e = min 2 (naming_count g image kind b e)
 abbrev pub pointers_held : Geometry → List ℕ → Kind → ℕ → ℕ
 pointers_held g image kind b = held g image kind b 1 + held g image kind b 2 + held g image kind b 3
 
--- what block b is used for: blocks 0 and 1 and the i-list stand before the data zone; a data block is named twice, or it has the use
--- of the only place that names it, or stands in the free list, or is lost (manual section 5, file system; icheck)
+-- what block b is used for: blocks 0 and 1 and the i-list stand before the data zone; a data block is named twice, or it has the use of the only place that names it, or stands in the free list, or is lost (manual section 5, file system; icheck)
 unfoldable pub use_of : Geometry → List ℕ → ℕ → Use
 use_of g image b =
     if b == 0 then uses.Boot else if b == 1 then uses.SuperBlock else if nat_lt b g.zone_start then uses.IList

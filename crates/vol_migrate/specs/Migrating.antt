@@ -10,8 +10,7 @@ use Rattle.vol_volume.specs.Mkfs.{volume_of}
 use Rattle.vol_volume.specs.Volume.{reads_as}
 use Rattle.vol_migrate.specs.Raised.{raised}
 
--- a sound volume of the seventh edition, of so many blocks and no more bytes, with the tree and the shapes of one of the sixth as they
--- are there; the blocks that no file has are free, in ascending order (this project)
+-- a sound volume of the seventh edition, of so many blocks and no more bytes, with the tree and the shapes of one of the sixth as they are there; the blocks that no file has are free, in ascending order (this project)
 pub record IsMigrated (old : List ℕ) (blocks list_blocks now : ℕ) (new : List ℕ) : Type 0 where
   pub len : length new ≡ 512 * blocks
   pub sound : IsSound V7 new

@@ -36,8 +36,7 @@ unfoldable pub places_needed : State → ℕ
 places_needed state =
     sum_by (λ i. place_count V7 (raised_shape (size_in (state.tree.nodes i)) (state.shapes i))) (range_with_len 1 state.tree.geometry.last_inode)
 
--- why a volume of some edition isn't migrated to so many blocks, of which so many are the i-list, if there is a reason: the first of
--- these (this project)
+-- why a volume of some edition isn't migrated to so many blocks, of which so many are the i-list, if there is a reason: the first of these (this project)
 abbrev pub refusal : Edition → State → ℕ → ℕ → Option MigrateFault
 refusal V7 state blocks list_blocks = Some faults.Invalid
 refusal V6 state blocks list_blocks =

@@ -31,8 +31,7 @@ pub record IsUsed (geometry : Geometry) (image : List ℕ) (i : ℕ) : Type 0 wh
   pub last : i ≤ geometry.last_inode
   pub some : kind_at geometry image i ≢ kinds.Free
 
--- a sound volume of the sixth edition may become one of the seventh: it has no special file, the i-list has room for its nodes, and
--- the data zone for its files (this project)
+-- a sound volume of the sixth edition may become one of the seventh: it has no special file, the i-list has room for its nodes, and the data zone for its files (this project)
 pub record MayMigrate (old : List ℕ) (from to : Geometry) : Type 0 where
   pub sixth : from.edition ≡ V6
   pub seventh : to.edition ≡ V7
@@ -103,8 +102,7 @@ pub record HasSuper (to : Geometry) (now : ℕ) (image : List ℕ) : Type 0 wher
 abbrev pub IsVacant : Geometry → List ℕ → ℕ → Type 0
 IsVacant from old k = (i : ℕ) → k ≡ i + 1 → IsUsed from old i → ⊥
 
--- rules 3 to 7 hold of the new volume, in which n blocks of i-node i and all of those before are carried, and there are as many
--- free blocks as that has left of the data zone (this project)
+-- rules 3 to 7 hold of the new volume, in which n blocks of i-node i and all of those before are carried, and there are as many free blocks as that has left of the data zone (this project)
 pub record IsStage (from to : Geometry) (old : List ℕ) (now : ℕ) (image : List ℕ) (i n : ℕ) : Type 0 where
   pub blocks : List ℕ
   pub sound : Rules3To7With to image blocks

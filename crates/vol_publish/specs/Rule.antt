@@ -12,8 +12,7 @@ use Rattle.vol_publish.specs.Absorbing.{absorbed}
 use Rattle.vol_publish.specs.declared.published.Published.{Published}
 use Rattle.vol_publish.specs.declared.published.Operation.{Operation}
 
--- a published version is right: what became of it are the entries of its front, of which there are some and which come to what the
--- front's records make of their start, and its number is that of the next record (this project)
+-- a published version is right: what became of it are the entries of its front, of which there are some and which come to what the front's records make of their start, and its number is that of the next record (this project)
 pub record IsRight (p : Published) : Type 0 where
   pub begun : p.front.log ≢ []
   pub version : p.version ≡ p.front.log

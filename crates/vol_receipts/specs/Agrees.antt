@@ -35,8 +35,7 @@ IsAnswer state (Change call) (Accepted done) = ⊥
 IsAnswer state (Change call) (Answered reply) = ⊥
 IsAnswer state (Question query) (Accepted done) = ⊥
 
--- an outcome is the one after so many records of a journal: an accepted call is the next record, with its answer; all others
--- are those of the state that the records make, of which there are as many (this project)
+-- an outcome is the one after so many records of a journal: an accepted call is the next record, with its answer; all others are those of the state that the records make, of which there are as many (this project)
 abbrev pub AgreesAfter : Origin → List Record → ℕ → Asked → Outcome → Type 0
 AgreesAfter origin journal count (Change call) (Accepted done) = slice_get journal count ≡ Some (record { call = call; done = done })
 AgreesAfter origin journal count asked outcome =

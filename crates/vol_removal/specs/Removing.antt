@@ -17,8 +17,7 @@ use Rattle.vol_volume.specs.declared.volume.MountFault.TheVariants as mounts
 use Rattle.vol_removal.specs.declared.faults.RemovalFault.{RemovalFault}
 use Rattle.vol_removal.specs.declared.faults.RemovalFault.TheVariants as faults
 
--- the bytes are what the calls that take away what a path leads to, with all that is below it, make of a sound image, all of them; the
--- path leads to nothing then (rm)
+-- the bytes are what the calls that take away what a path leads to, with all that is below it, make of a sound image, all of them; the path leads to nothing then (rm)
 pub record Removes (edition : Edition) (image : List ℕ) (path : List ℕ) (now : ℕ) (bytes : List ℕ) : Type 0 where
   pub calls : List Call
   pub removal : IsRemoval (reads_as edition image).tree path now calls
@@ -32,8 +31,7 @@ pub record IsRefused (edition : Edition) (image : List ℕ) (path : List ℕ) (n
   pub volume : Mounted
   pub stopped : AreStopped (mounted edition image) calls volume refusal call
 
--- a reason not to take it away: the least rule that the image breaks; of a sound image that the path leads to nothing, or a refusal of
--- one of the calls; or want of memory (this project)
+-- a reason not to take it away: the least rule that the image breaks; of a sound image that the path leads to nothing, or a refusal of one of the calls; or want of memory (this project)
 unfoldable pub IsReason : Edition → List ℕ → List ℕ → ℕ → RemovalFault → Type 0
 IsReason edition image path now (faults.Unsound rule) = IsLeastBroken true edition image rule
 IsReason edition image path now (faults.Missing refusal) = IsSound edition image × (answer (reads_as edition image).tree (queries.Stat user path) ≡ Err refusal)

@@ -37,8 +37,7 @@ pub record HasNaming (words : List ℕ) (entries : List Placed) (naming : List (
   pub found : (entry : Placed) → naming_in naming i ≡ Some entry → IsNaming words i entry × Contains entries entry
   pub missing : naming_in naming i ≡ None → (entry : Placed) → Contains entries entry → IsNaming words i entry → ⊥
 
--- a step up from directory `at`: it is marked by turn `turn`, and this is its naming entry; or it was marked before by this turn, or
--- has no naming entry (ncheck)
+-- a step up from directory `at`: it is marked by turn `turn`, and this is its naming entry; or it was marked before by this turn, or has no naming entry (ncheck)
 abbrev pub Steps : List (Option (Bor Placed)) → ℕ → ℕ → List ℕ → List ℕ → Option (Bor Placed) → Type 0
 Steps naming turn at old new (Some entry) =
     (at < length old) × (slice_index old at ≢ turn) × (new ≡ slice_set old at turn) × (naming_in naming at ≡ Some entry.now)

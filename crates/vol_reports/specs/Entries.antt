@@ -22,13 +22,11 @@ is_allocated kinds.Odd = true
 abbrev pub link_count : Geometry → List ℕ → ℕ → ℕ
 link_count g image i = if is_allocated (kind_at g image i) then (inode_of g.edition image i).links else 0
 
--- whether i-node i must have an entry: it is allocated, and not kept for bad blocks, as the seventh edition keeps the i-number
--- before the root's (dcheck)
+-- whether i-node i must have an entry: it is allocated, and not kept for bad blocks, as the seventh edition keeps the i-number before the root's (dcheck)
 abbrev pub wants_entry : Geometry → List ℕ → ℕ → Bool
 wants_entry g image i = is_allocated (kind_at g image i) && nat_le (root_of g) i
 
--- the line of an i-number with so many entries and such a link count: none where they agree, unless both are 0 and an
--- entry is wanted (dcheck)
+-- the line of an i-number with so many entries and such a link count: none where they agree, unless both are 0 and an entry is wanted (dcheck)
 abbrev pub links_line_of : ℕ → ℕ → ℕ → Bool → List Line
 links_line_of i entries links wanted =
     if not (entries == links) || ((entries == 0) && wanted) then lines.Links i entries links ∷ [] else []

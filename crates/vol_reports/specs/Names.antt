@@ -51,9 +51,7 @@ slashed name = 47 ∷ name
 abbrev pub dots : List ℕ
 dots = 46 ∷ 46 ∷ 46 ∷ []
 
--- the path of directory d, found by going up from it, where each i-number may have a naming entry: at the root it begins with
--- nothing; at a directory met before on this way, or one without naming entry, with dots; else it ends in the naming entry's name,
--- and the way goes on at that entry's directory. A `suc` is used up at each directory (ncheck)
+-- the path of directory d, found by going up from it, where each i-number may have a naming entry: at the root it begins with nothing; at a directory met before on this way, or one without naming entry, with dots; else it ends in the naming entry's name, and the way goes on at that entry's directory. A `suc` is used up at each directory (ncheck)
 unfoldable pub path_up : ℕ → (ℕ → Option Placed) → ℕ → List ℕ → ℕ → List ℕ
 path_up root naming zero met d = dots
 path_up root naming (suc fuel) met d =

@@ -8,8 +8,7 @@ use Rattle.vol_layout.specs.declared.edition.Edition.{Edition}
 use Rattle.vol_salvage.specs.declared.SalvageFault.{SalvageFault}
 use Rattle.vol_salvage.specs.declared.SalvageFault.TheVariants as faults
 
--- an image that broke no rule but those of the free list is sound now, and has the tree and the shapes that it had; the bytes that
--- no call changes are as they were (icheck -s)
+-- an image that broke no rule but those of the free list is sound now, and has the tree and the shapes that it had; the bytes that no call changes are as they were (icheck -s)
 pub record IsSalvaged (edition : Edition) (old new : List ℕ) : Type 0 where
   pub rules : KeepsRules false edition old
   pub sound : IsSound edition new

@@ -107,8 +107,7 @@ path_and_range words = do
   number ← long_in given.2
   Some (given.0, offset, number)
 
--- what a command asks for with the words after it: `create PATH PERM`, `mkdir PATH PERM`, `link FROM TO`, `unlink PATH`, `rmdir PATH`,
--- `write PATH OFFSET HEX`, `truncate PATH LENGTH`, `chmod PATH PERM`, `chown PATH UID GID`, `stat PATH`, `read PATH OFFSET LEN`, `list PATH`, `cut` (this project)
+-- what a command asks for with the words after it: `create PATH PERM`, `mkdir PATH PERM`, `link FROM TO`, `unlink PATH`, `rmdir PATH`, `write PATH OFFSET HEX`, `truncate PATH LENGTH`, `chmod PATH PERM`, `chown PATH UID GID`, `stat PATH`, `read PATH OFFSET LEN`, `list PATH`, `cut` (this project)
 abbrev pub asked_by : Command → Cred → ℕ → List (List ℕ) → Option Step
 asked_by commands.Create cred now words =
     option_map (λ given. steps.Change (calls.Create cred now given.0 given.1)) (path_and_permissions words)

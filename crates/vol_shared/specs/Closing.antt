@@ -25,9 +25,7 @@ pub record IsGathered (sessions : List Known) (v : Knowledge) : Type 0 where
   pub cuts : v.cuts ≡ flat_map (λ s. s.cuts) sessions
   pub receipts : v.receipts ≡ flat_map (λ s. s.receipts) sessions
 
--- the volume at the end, by what the seat that stands for all sessions did: it goes on from the one that was opened; the seat's
--- places are the numbers of the records made since, each once; the journal's first number is the greatest that its cuts answered, or
--- that of the start; and its receipts agree with the journal, but for those with lesser numbers (this project)
+-- the volume at the end, by what the seat that stands for all sessions did: it goes on from the one that was opened; the seat's places are the numbers of the records made since, each once; the journal's first number is the greatest that its cuts answered, or that of the start; and its receipts agree with the journal, but for those with lesser numbers (this project)
 pub record IsSettled (opened : Stored) (v : Knowledge) (last : Stored) : Type 0 where
   pub goes_on : Continues opened last
   pub places : (weight : ℕ → ℕ) → total weight v.places + below weight (next_number opened) ≡ below weight (next_number last)

@@ -73,8 +73,7 @@ gave v given (receipt r) = record v {
 }
 gave v given cut = record v { holds = false; found = given; cuts = v.cuts ++ given.origin.first ∷ [] }
 
--- what a seat finds goes on from what was opened and from all that it knew, has a number for each of its places, and is published in
--- the log of what was opened (this project)
+-- what a seat finds goes on from what was opened and from all that it knew, has a number for each of its places, and is published in the log of what was opened (this project)
 pub record FindsVolume (v : Knowledge) (gone : List Record) (found : Stored) : Type 0 where
   pub follows : Follows v.opened gone found
   pub goes_on : BeginsWith (gone ++ found.journal) v.history
@@ -91,8 +90,7 @@ abbrev pub Tries : Step (Option Stored) → Me (Option Stored) Knowledge → ℕ
 Tries st before found after =
     (found ≡ 0 → (stored : Stored) × Took before after stored (Some stored)) × (found ≢ 0 → after ≡ before)
 
--- a call or query was answered on a volume: the receipt agrees with its journal, which has the record of an accepted call more; where
--- there is none, the journal and the image stay; the log stays (this project)
+-- a call or query was answered on a volume: the receipt agrees with its journal, which has the record of an accepted call more; where there is none, the journal and the image stay; the log stays (this project)
 pub record IsAnswered (found given : Stored) (r : Receipt) : Type 0 where
   pub origin : given.origin ≡ found.origin
   pub journal : given.journal ≡ found.journal ++ record_of r.asked r.outcome

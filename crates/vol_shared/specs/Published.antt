@@ -7,8 +7,7 @@ use Rattle.vol_ledger.specs.declared.history.LogEntry.{LogEntry}
 use Rattle.vol_publish.specs.Logs.{history_of, origin_in}
 use Rattle.vol_shared.specs.Stored.{Stored}
 
--- all records of a volume are published: those of the log are the ones that were cut and then the journal, which starts from what the
--- former made of the log's start (this project)
+-- all records of a volume are published: those of the log are the ones that were cut and then the journal, which starts from what the former made of the log's start (this project)
 pub record IsPublished (log : List LogEntry) (stored : Stored) : Type 0 where
   pub gone : List Record
   pub begun : log ≢ []

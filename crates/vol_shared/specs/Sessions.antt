@@ -10,14 +10,12 @@ use Rattle.vol_views.specs.Views.{book_in}
 use Rattle.vol_shared.specs.Plays.{nobody}
 use Rattle.vol_shared.specs.declared.knowledge.Knowledge.{Knowledge}
 
--- which shared volume it is, of all that were ever opened: its table, and the log in which its records are published, if they are
--- (this project)
+-- which shared volume it is, of all that were ever opened: its table, and the log in which its records are published, if they are (this project)
 pub record Identity : Type 0 where
   pub table : TableId
   pub book : Option Book
 
--- a session: its shared volume, the least number that its next receipt may have, the numbers of the records that its calls made,
--- the numbers that its cuts answered, and its receipts (this project)
+-- a session: its shared volume, the least number that its next receipt may have, the numbers of the records that its calls made, the numbers that its cuts answered, and its receipts (this project)
 pub record Known : Type 0 where
   pub of : Identity
   pub next : ℕ
@@ -44,8 +42,7 @@ known_by table next v = record {
   receipts = v.receipts;
 }
 
--- a session between two calls, and what it was told of the log that its volume is published in: the front up to the least number
--- that its next receipt may have (this project)
+-- a session between two calls, and what it was told of the log that its volume is published in: the front up to the least number that its next receipt may have (this project)
 pub record IsIdle (views : List Knowledge) (next count : ℕ) (told : Option Reached) : Type 0 where
   pub one : views ≡ knowledge_of views ∷ []
   pub free : (knowledge_of views).holds ≡ false
@@ -55,8 +52,7 @@ pub record IsIdle (views : List Knowledge) (next count : ℕ) (told : Option Rea
   pub book : book_in told ≡ (knowledge_of views).opened.book
   pub number : IfSome told (λ t. number_of t.log ≡ next)
 
--- a session after it got a receipt: its number isn't below the least that it might have, and joins the places if it is that of an
--- accepted call (this project)
+-- a session after it got a receipt: its number isn't below the least that it might have, and joins the places if it is that of an accepted call (this project)
 pub record Got (old new : Known) (receipt : Receipt) : Type 0 where
   pub at : old.next ≤ receipt.at
   pub next : new.next ≡ next_of receipt.at receipt.outcome

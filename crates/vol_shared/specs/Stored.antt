@@ -9,8 +9,7 @@ use Rattle.vol_receipts.specs.Agrees.{origin_of, start}
 use Rattle.vol_receipts.specs.declared.receipts.Origin.{Origin}
 use Rattle.vol_shared.specs.Lists.{BeginsWith}
 
--- what lies under the lock: what its journal starts from, the journal, the image, and the log in which its records are published, if
--- they are (this project)
+-- what lies under the lock: what its journal starts from, the journal, the image, and the log in which its records are published, if they are (this project)
 pub record Stored : Type 0 where
   pub origin : Origin
   pub journal : List Record
@@ -55,8 +54,7 @@ pub record IsUnchanged (old new : Stored) : Type 0 where
   pub image : new.image ≡ old.image
   pub book : new.book ≡ old.book
 
--- a volume's journal is cut: all its records go, and it starts from the bytes of its image, which are what they made; the image
--- stays (this project)
+-- a volume's journal is cut: all its records go, and it starts from the bytes of its image, which are what they made; the image stays (this project)
 pub record IsCut (old new : Stored) : Type 0 where
   pub edition : new.origin.edition ≡ old.origin.edition
   pub bytes : new.origin.bytes ≡ old.image

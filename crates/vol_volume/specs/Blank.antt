@@ -49,8 +49,7 @@ pub record WritesFront (blank : Blank) (old new : Option (List ℕ)) (count : �
   pub made : IsMade blank bytes
   pub written : AppendsFront old new bytes count
 
--- number j of an array whose number 0 chains to block `top`, or to none where the volume ends there: before it come, downwards,
--- the blocks before that one, and past the count stands what the array before this one has left (free of both editions)
+-- number j of an array whose number 0 chains to block `top`, or to none where the volume ends there: before it come, downwards, the blocks before that one, and past the count stands what the array before this one has left (free of both editions)
 unfoldable pub listed : Geometry → ℕ → ℕ → ℕ → ℕ
 listed geometry top count j =
     if nat_lt 0 j && nat_lt j count then top - j else if top == geometry.zone_end then 0
@@ -95,8 +94,7 @@ volume_byte geometry first k = block_byte geometry first (k / 512) (k % 512)
 unfoldable pub volume_bytes : Geometry → List ℕ → List ℕ
 volume_bytes geometry first = map (volume_byte geometry first) (range_with_len 0 (512 * geometry.zone_end))
 
--- the blocks 0, 1 and 2 of a new volume, and then the root's: the sizes, the time and the free list stand in the super-block, the
--- root has its i-node and its two slots, and all other bytes are zeros (mkfs)
+-- the blocks 0, 1 and 2 of a new volume, and then the root's: the sizes, the time and the free list stand in the super-block, the root has its i-node and its two slots, and all other bytes are zeros (mkfs)
 pub record IsBlankFirst (geometry : Geometry) (uid gid now : ℕ) (first : List ℕ) : Type 0 where
   pub len : length first ≡ 2048
   pub start : first_data_block geometry.edition first ≡ geometry.zone_start

@@ -10,9 +10,7 @@ use Rattle.vol_layout.specs.declared.geometry.Geometry.{Geometry}
 abbrev pub is_free : Geometry → List ℕ → ℕ → Bool
 is_free geometry image i = is_none ((tree geometry image).nodes i)
 
--- an i-node that became free is all zeros; byte 51, which the seventh edition doesn't use, is 0 in an i-node that was free and is
--- no longer; in every other the bytes that are not in use, which are all of them where it is free, are as they were (Lions on
--- maknode, iput, ifree; ino.h; this project)
+-- an i-node that became free is all zeros; byte 51, which the seventh edition doesn't use, is 0 in an i-node that was free and is no longer; in every other the bytes that are not in use, which are all of them where it is free, are as they were (Lions on maknode, iput, ifree; ino.h; this project)
 pub record KeepsInodes (geometry : Geometry) (old new : List ℕ) : Type 0 where
   pub cleared : (i : ℕ) → is_free geometry old i ≡ false → is_free geometry new i ≡ true → IsCleared geometry new i
   pub made : (i : ℕ) → is_free geometry old i ≡ true → is_free geometry new i ≡ false

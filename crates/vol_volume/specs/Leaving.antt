@@ -18,8 +18,7 @@ use Rattle.vol_volume.specs.declared.calls.Call.{Call}
 use Rattle.vol_volume.specs.declared.calls.Call.TheVariants.{Create, Mkdir, Link, Unlink, Rmdir, Write, Truncate, Chmod, Chown}
 use Rattle.vol_volume.specs.declared.calls.Done.{Done}
 
--- the files that a call may change, at most two, by their i-numbers; what it makes of the free list, the next block to be taken
--- first; and where the first file is a directory of which it changes a slot, the slot and its new bytes (this project)
+-- the files that a call may change, at most two, by their i-numbers; what it makes of the free list, the next block to be taken first; and where the first file is a directory of which it changes a slot, the slot and its new bytes (this project)
 pub record Reach : Type 0 where
   pub file : ℕ
   pub other : ℕ
@@ -98,9 +97,7 @@ reached_by geometry image (Chmod cred now path perm) done =
     reach_of_node (walk (tree geometry image) cred path) (λ i. record { file = i; other = i; listed = as_before; put = None })
 reached_by geometry image (Chown cred now path uid gid) done = no_reach
 
--- an accepted call takes from the free list the next blocks alone, or puts on it what it gives back, in that order; every file
--- that it doesn't reach stands for what it did, with all bytes of its blocks: also those that no tree shows, past the file's
--- size or behind the end of a name; and of the bytes of a directory it changes those of one slot alone (this project)
+-- an accepted call takes from the free list the next blocks alone, or puts on it what it gives back, in that order; every file that it doesn't reach stands for what it did, with all bytes of its blocks: also those that no tree shows, past the file's size or behind the end of a name; and of the bytes of a directory it changes those of one slot alone (this project)
 pub record LeavesTheRest (geometry : Geometry) (old new : List ℕ) (call : Call) (done : Done) : Type 0 where
   pub free : FreeBecomes geometry old new (reached_by geometry old call done).listed
   pub files : KeepsFilesBut geometry old new (reached_by geometry old call done).file (reached_by geometry old call done).other

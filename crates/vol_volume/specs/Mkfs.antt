@@ -44,8 +44,7 @@ pub record IsMakeable (geometry : Geometry) : Type 0 where
   pub start : 3 ≤ geometry.zone_start
   pub inodes : geometry.last_inode ≡ (constants geometry.edition).inodes_per_block * (geometry.zone_start - 2)
 
--- whether a block is one of those that the free list is chained by: a full array's number of blocks lies between two of them,
--- and between the last and the volume's end (free of both editions)
+-- whether a block is one of those that the free list is chained by: a full array's number of blocks lies between two of them, and between the last and the volume's end (free of both editions)
 unfoldable pub is_chain : Geometry → ℕ → Bool
 is_chain geometry b =
     nat_lt geometry.zone_start b && (nat_lt b geometry.zone_end && ((geometry.zone_end - b) % (constants geometry.edition).free_slots == 0))
@@ -59,8 +58,7 @@ abbrev pub sizes_bytes : Edition → ℕ
 sizes_bytes V6 = 4
 sizes_bytes V7 = 6
 
--- byte k of a new volume is none of the sizes, the free list's head, the time, the root's i-node, or the root's two slots, which
--- stand at byte `slots` (mkfs)
+-- byte k of a new volume is none of the sizes, the free list's head, the time, the root's i-node, or the root's two slots, which stand at byte `slots` (mkfs)
 pub record IsUnused (edition : Edition) (slots k : ℕ) : Type 0 where
   pub sizes : IsNoneOf 512 (sizes_bytes edition) k
   pub free : IsNoneOf (free_head edition) 202 k
@@ -68,9 +66,7 @@ pub record IsUnused (edition : Edition) (slots k : ℕ) : Type 0 where
   pub root : IsNoneOf (inode_place edition (constants edition).root) (constants edition).inode_bytes k
   pub names : IsNoneOf slots 32 k
 
--- an image is that of a new volume: its geometry is the one asked for and it has no more bytes, its time is `now`, the
--- root has its i-node and its two slots, both of which name it, each other i-node is all zeros, the free blocks are all
--- data blocks but the root's, ascending, and all bytes that have no part in this are zero (mkfs)
+-- an image is that of a new volume: its geometry is the one asked for and it has no more bytes, its time is `now`, the root has its i-node and its two slots, both of which name it, each other i-node is all zeros, the free blocks are all data blocks but the root's, ascending, and all bytes that have no part in this are zero (mkfs)
 pub record IsNewVolume (geometry : Geometry) (uid gid now : ℕ) (image : List ℕ) : Type 0 where
   pub len : length image ≡ 512 * geometry.zone_end
   pub sizes : geometry_read geometry.edition image ≡ Ok geometry

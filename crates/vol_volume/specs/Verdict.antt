@@ -142,8 +142,7 @@ write_tests state cred offset len i =
     ∷ (is_above_free state (write_need state i offset len), refusals.NoSpace)
     ∷ []
 
--- what is asked of a file of which the first bytes are to stay, as many as `size` (Lions on itrunc; that bytes may stay is this
--- project's)
+-- what is asked of a file of which the first bytes are to stay, as many as `size` (Lions on itrunc; that bytes may stay is this project's)
 abbrev pub truncate_tests : Tree → Cred → ℕ → ℕ → List (Bool × Refusal)
 truncate_tests tree cred size i =
     body_tests tree may_write cred i ++ (nat_lt (node_at tree i).size size, refusals.Invalid) ∷ []

@@ -15,8 +15,7 @@ use Rattle.vol_volume.specs.declared.calls.Call.{Call}
 use Rattle.vol_volume.specs.declared.calls.Done.{Done}
 use Rattle.vol_volume.specs.declared.calls.Record.{Record}
 
--- a volume as contracts see it: its bytes, those that were mounted or left by the last cut, the calls that were accepted since, and
--- how many records were cut before (this project)
+-- a volume as contracts see it: its bytes, those that were mounted or left by the last cut, the calls that were accepted since, and how many records were cut before (this project)
 pub record Mounted : Type 0 where
   pub edition : Edition
   pub image : List ℕ
@@ -28,8 +27,7 @@ pub record Mounted : Type 0 where
 abbrev pub reads_as : Edition → List ℕ → State
 reads_as edition image = state (geometry_of edition image) image
 
--- what every volume keeps between calls: it is sound, and reads as exactly the tree that the journal makes of the sound one
--- that was mounted or left by the last cut (this project)
+-- what every volume keeps between calls: it is sound, and reads as exactly the tree that the journal makes of the sound one that was mounted or left by the last cut (this project)
 pub record IsConsistent (volume : Mounted) : Type 0 where
   pub image_sound : IsSound volume.edition volume.image
   pub base_sound : IsSound volume.edition volume.base

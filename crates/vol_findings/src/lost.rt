@@ -14,8 +14,7 @@ use vol_map::{Use, block_uses};
 
 /// What breaks rule 8 first, where rule 6 holds: the first data block that is neither free nor named.
 ///
-/// Costs at most two reads of each indirect block for each of the levels at which it stands, however they lead to one another.
-/// Takes ten bytes for each block, and four for each free one.
+/// Costs what [`block_uses`] costs. Takes ten bytes for each block, and four for each free one.
 pub fn find_lost(
     alloc: Global,
     image: &Image,

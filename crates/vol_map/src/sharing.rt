@@ -11,8 +11,8 @@ use vol_layout::{Geometry, Kind};
 /// The data blocks that two places of regular files and directories name, or more, to hold bytes or as an indirect block; they
 /// ascend. The image may be any bytes otherwise.
 ///
-/// Costs at most two reads of each indirect block for each of the levels at which it stands, however they lead to one another.
-/// Takes eight bytes for each block, and four for each that is found.
+/// Costs at most two reads of each indirect block for each of the levels at which it stands in directories, and two for those at which
+/// it stands in regular files, however they lead to one another. Takes eight bytes for each block, and four for each that is found.
 pub fn shared_blocks(
     alloc: Global,
     image: &Image,

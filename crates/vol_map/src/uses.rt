@@ -39,8 +39,8 @@ pub enum Use {
 /// What each block of a volume is used for, from block 0 to the last, as the places of all files name it and as it stands in the
 /// free list up to that list's first fault. The image may be any bytes otherwise.
 ///
-/// Costs at most two reads of each indirect block for each of the levels at which it stands, however they lead to one another.
-/// Takes nine bytes for each block, and four for each free one.
+/// Costs at most two reads of each indirect block for each of the levels at which it stands in directories, and two for those at which
+/// it stands in regular files, however they lead to one another. Takes nine bytes for each block, and four for each free one.
 pub fn block_uses(alloc: Global, image: &Image, geometry: &Geometry) -> Result<Vec<Use>, AllocError>
     requires { Fits geometry.now image.now }
     ensures { IfOk result (λ uses. uses.items ≡ map (use_of geometry.now image.now) (range_with_len 0 geometry.now.zone_end)) }

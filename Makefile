@@ -4,7 +4,7 @@ RT ?= rt
 PREFIX ?= /usr/local
 
 .DEFAULT_GOAL := help
-.PHONY: help run build test bench faults manual install
+.PHONY: help run build test bench faults wrong-bodies manual install
 
 help:
 	@echo 'make run                    proves and builds the program, then prints the file in samples/hello.v6'
@@ -12,6 +12,7 @@ help:
 	@echo 'make bench                  times the program against one in plain Rust that does the same; needs rustc, and some minutes'
 	@echo 'make faults                 refuses each allocation in turn, of the libraries and of the program, and runs the program 10,000 times where memory, the stack,'
 	@echo '                            the disk or a descriptor fails it, or a signal ends it; needs rustc, and some minutes'
+	@echo 'make wrong-bodies           tries the wrong bodies that the gate leaves out, on a copy: the prover has to refuse each; CRATES="NAME .." tries those of some crates'
 	@echo 'make build                  proves and builds the program, and leaves it as ./unixvol'
 	@echo 'make install PREFIX=FOLDER  copies the program to FOLDER/bin, with its manual page and completions (to /usr/local without PREFIX); builds it first'
 	@echo '                            where ./unixvol is missing'
@@ -47,6 +48,10 @@ faults: build
 	cd crates/refused_memory && $(RT) run -- volume
 	tests/refused.sh crates/refused_memory/out/refused_memory
 	tests/faults.sh ./unixvol
+
+# They are kept beside the crates, since the gate tries what it finds in must-fail.
+wrong-bodies:
+	RT=$(RT) tools/wrong_bodies.sh $(CRATES)
 
 # What is made is committed, and the gate compares it with the program's help.
 manual: build

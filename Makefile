@@ -4,38 +4,37 @@ RT ?= rt
 PREFIX ?= /usr/local
 
 .DEFAULT_GOAL := help
-.PHONY: help run build test bench faults wrong-bodies manual install
+.PHONY: help run build test bench faults wrong-bodies manual release install
+
+# The scripts of rows that the gate runs the built program through.
+ROWS = program words volumes looks changes trees many_trees archives checks migrations plays explaining manual
 
 help:
-	@echo 'make run                    proves and builds the program, then prints the file in samples/hello.v6'
+	@echo 'make run                    prints the file in samples/hello.v6, by ./unixvol where it was built, else by the program in dist/'
+	@echo 'make install PREFIX=FOLDER  copies the program to FOLDER/bin, with its manual page and completions (to /usr/local without PREFIX): ./unixvol where it was'
+	@echo '                            built, else the program in dist/'
+	@echo 'make build                  proves and builds the program, and leaves it as ./unixvol'
 	@echo 'make test                   the whole gate: every proof and test from nothing, then the built program from the shell'
 	@echo 'make bench                  times the program against one in plain Rust that does the same; needs rustc, and some minutes'
 	@echo 'make faults                 refuses each allocation in turn, of the libraries and of the program, and runs the program 10,000 times where memory, the stack,'
 	@echo '                            the disk or a descriptor fails it, or a signal ends it; needs rustc, and some minutes'
 	@echo 'make wrong-bodies           tries the wrong bodies that the gate leaves out, on a copy: the prover has to refuse each; CRATES="NAME .." tries those of some crates'
-	@echo 'make build                  proves and builds the program, and leaves it as ./unixvol'
-	@echo 'make install PREFIX=FOLDER  copies the program to FOLDER/bin, with its manual page and completions (to /usr/local without PREFIX); builds it first'
-	@echo '                            where ./unixvol is missing'
 	@echo 'make manual                 builds the program, and makes the manual page and the completions anew from what it says of itself'
+	@echo 'make release                packs ./unixvol as it was built, with its manual page and completions, into dist/'
 
-# The program is built only where it is proved. The words after `--` are its own: it is run once.
+# The program is built only where it is proved.
 build:
-	cd crates/unixvol && $(RT) run -- --version
-	cp -f crates/unixvol/out/unixvol unixvol
+	RT=$(RT) tools/build.sh
 
-run: build
-	./unixvol cat 6 samples/hello.v6 1
+run:
+	tools/run.sh
 
 # The gate leaves the program that it proved and built in out/.
 test:
 	$(RT) ci
 	cp -f crates/unixvol/out/unixvol unixvol
-	tests/program.sh ./unixvol
-	tests/looks.sh ./unixvol
-	tests/trees.sh ./unixvol
-	tests/many_trees.sh ./unixvol
-	tests/explaining.sh ./unixvol
-	tests/manual.sh ./unixvol
+	@set -e; for rows in $(ROWS); do echo "tests/$$rows.sh ./unixvol"; tests/$$rows.sh ./unixvol; done
+	tools/compare.sh
 
 bench: build
 	cd crates/many_calls && $(RT) run -- 0 0 create
@@ -57,12 +56,9 @@ wrong-bodies:
 manual: build
 	manual/make.sh ./unixvol manual
 
-# Built only where it is missing, since whoever installs may be somebody else, without the toolchain; `make build` builds it anew.
-unixvol:
-	$(MAKE) build
+# A release is made of what the gate has passed.
+release:
+	tools/release.sh
 
-install: unixvol
-	install -D -m 755 unixvol $(DESTDIR)$(PREFIX)/bin/unixvol
-	install -D -m 644 manual/unixvol.1 $(DESTDIR)$(PREFIX)/share/man/man1/unixvol.1
-	install -D -m 644 manual/unixvol.bash $(DESTDIR)$(PREFIX)/share/bash-completion/completions/unixvol
-	install -D -m 644 manual/_unixvol $(DESTDIR)$(PREFIX)/share/zsh/site-functions/_unixvol
+install:
+	tools/install.sh "$(DESTDIR)$(PREFIX)"

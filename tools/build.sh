@@ -1,0 +1,14 @@
+#!/usr/bin/env bash
+# Proves and builds the program, and leaves it as ./unixvol.
+# `rt ci` proves crates side by side, as many as the machine has processors and memory for. It gets a copy of those that the program stands on, without
+# the crates of tests and the wrong bodies. What it proves is kept on the machine, and the gate doesn't prove it again.
+set -euo pipefail
+cd "$(dirname "$0")/.."
+room=$(mktemp -d)
+trap 'rm -rf "$room"' EXIT
+awk -f tools/below.awk crates.txt >"$room/crates.txt"
+sed 's/[: ].*//; s#^#crates/#' "$room/crates.txt" >"$room/folders"
+tar -cf - --exclude='crates/*/out' --exclude='crates/*/must-fail' -T "$room/folders" HANDLES | tar -xf - -C "$room"
+git init -q "$room"
+(cd "$room" && "${RT:-rt}" ci)
+cp -f "$room/crates/unixvol/out/unixvol" unixvol

@@ -1,0 +1,18 @@
+#!/usr/bin/env bash
+# Installs the program, its manual page and its completions: ./unixvol where it was built, else the release in dist/. It says which.
+# Usage: tools/install.sh FOLDER
+set -euo pipefail
+folder=${1:?usage: $0 FOLDER}
+cd "$(dirname "$0")/.."
+if [ -x unixvol ]; then
+    program=unixvol manual=manual
+    echo "./unixvol, as it was built here, to $folder"
+else
+    . tools/unpack.sh
+    program=$release/unixvol manual=$release
+    echo "${release##*/}, from dist/, to $folder"
+fi
+install -D -m 755 "$program" "$folder/bin/unixvol"
+install -D -m 644 "$manual/unixvol.1" "$folder/share/man/man1/unixvol.1"
+install -D -m 644 "$manual/unixvol.bash" "$folder/share/bash-completion/completions/unixvol"
+install -D -m 644 "$manual/_unixvol" "$folder/share/zsh/site-functions/_unixvol"

@@ -1,0 +1,20 @@
+#!/usr/bin/env bash
+# Packs the built program, ./unixvol, with its manual page, completions, licence and README, as dist/unixvol-VERSION-x86_64-linux.tar.xz. Beside it are SHA256SUMS
+# and SOURCES, the sum of the sources (tools/sources.sh). The same files give the same archive, byte for byte.
+set -euo pipefail
+cd "$(dirname "$0")/.."
+version=$(./unixvol --version)
+name=unixvol-${version#* }-x86_64-linux
+room=$(mktemp -d)
+trap 'rm -rf "$room"' EXIT
+mkdir "$room/$name"
+cp LICENSE README.md manual/unixvol.1 manual/unixvol.bash manual/_unixvol "$room/$name"
+strip -o "$room/$name/unixvol" unixvol
+chmod 755 "$room/$name/unixvol"
+chmod 644 "$room/$name"/[!u]* "$room/$name"/unixvol.*
+rm -rf dist
+mkdir dist
+tar -C "$room" --sort=name --owner=0 --group=0 --numeric-owner --mtime=@0 --mode=go-w -cf - "$name" | xz -9e -T1 >"dist/$name.tar.xz"
+(cd dist && sha256sum "$name.tar.xz" >SHA256SUMS)
+tools/sources.sh >dist/SOURCES
+echo "dist/$name.tar.xz: $(wc -c <"dist/$name.tar.xz") bytes"

@@ -1,0 +1,13 @@
+#!/usr/bin/env bash
+# Prints the file in samples/hello.v6 by ./unixvol where it was built, else by the program in dist/. It says which on standard error.
+set -euo pipefail
+cd "$(dirname "$0")/.."
+if [ -x unixvol ]; then
+    program=./unixvol
+    echo './unixvol, as it was built here:' >&2
+else
+    . tools/unpack.sh
+    program=$release/unixvol
+    echo "${release##*/}, from dist/:" >&2
+fi
+"$program" cat 6 samples/hello.v6 1

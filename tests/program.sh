@@ -341,6 +341,32 @@ if [ "$(id -u)" = 0 ]; then
         wants 'mkfs of a file of a group' 0 none none
         saves 'a file of a group' shared/a made
         has 'the owner and the group of a file of a group' '12:34 660' "$(stat -c '%u:%g %a' shared/a)"
+        chown 13:35 shared/a
+        chmod 666 shared/a
+        (cd shared && exec setpriv --reuid=12 --regid=12 --clear-groups ./program mkfs 6 a "${twenty[@]}") > output 2> error < /dev/null
+        echo $? > status
+        wants 'mkfs of a file of another group' 0 none none
+        has 'the rights of a group that cannot be kept' '12:12 606' "$(stat -c '%u:%g %a' shared/a)"
+    fi
+    # The owner of a folder moves the new file while it is written, and puts a link to a file of the super-user in its place.
+    if command -v setpriv > /dev/null && command -v perl > /dev/null; then
+        mkdir home
+        echo secret > secret
+        chmod 600 secret
+        "$program" mkfs 6 home/disk 8000 100 0 0 1
+        cp home/disk disk
+        chown 12:34 home home/disk
+        swap='$SIG{ALRM} = sub { exit }; alarm 60; while (1) { rename("home/.unixvol-0", "home/moved") && symlink("../secret", "home/.unixvol-0") }'
+        setpriv --reuid=12 --regid=34 --clear-groups perl -e "$swap" &
+        swapping=$!
+        for number in {1..30}; do
+            [ -L home/disk ] && rm home/disk && cp disk home/disk && chown 12:34 home/disk
+            "$program" mkdir 6 home/disk "/$number" 1 > output 2> error < /dev/null
+        done
+        kill "$swapping"
+        wait "$swapping" 2> /dev/null
+        has 'a file of the super-user, after 30 tries to be given it' '0:0 600' "$(stat -c '%u:%g %a' secret)"
+        saves 'what that file holds' secret <(echo secret)
     fi
 fi
 

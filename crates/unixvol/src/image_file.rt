@@ -6,7 +6,7 @@ ghost use Rattle.unixvol.specs.Opening.{IsOpenTo, OpensTo};
 
 use std::fs::{self, File, Files, Metadata, TryLockError};
 use std::io::{self, IsTerminal};
-use std::os::unix::fs::{FileTypeExt, MetadataExt};
+use std::os::unix::fs::{FileTypeExt, MetadataExt, fchown};
 use std::rt::Clock;
 use std::thread;
 use std::time::Duration;
@@ -111,9 +111,15 @@ pub trait ImageFiles: Files {
     fn stamp_at(&self, path: &str) -> io::Result<Stamp>
         ensures { IfOk result stood };
 
+    /// The stamp of what has the name `path` itself: a symbolic link isn't followed, and counts as a stream.
+    fn stamp_of_name(&self, path: &str) -> io::Result<Stamp>;
+
     /// Whether something stands at `path`, if only a symbolic link that leads to nothing. What can't be looked at counts as there.
     fn is_there(&self, path: &str) -> bool
         ensures { stands path.now result };
+
+    /// Gives an open file to a user, a group or both. True if the system let it.
+    fn give(&self, file: &Self::File, user: Option<u32>, group: Option<u32>) -> bool;
 
     /// Locks an open file for this program alone, until all its handles are closed. False where another
     /// program has it locked; true too where the file's system has no such locks.
@@ -141,11 +147,19 @@ impl ImageFiles for HostRuntime {
         Ok(Stamp::of(&fs::metadata(self, path)?))
     }
 
+    fn stamp_of_name(&self, path: &str) -> io::Result<Stamp> {
+        Ok(Stamp::of(&fs::symlink_metadata(self, path)?))
+    }
+
     fn is_there(&self, path: &str) -> bool {
         match fs::symlink_metadata(self, path) {
             Ok(_) => true,
             Err(error) => error.kind() != io::ErrorKind::NotFound,
         }
+    }
+
+    fn give(&self, file: &File, user: Option<u32>, group: Option<u32>) -> bool {
+        fchown(file, user, group).is_ok()
     }
 
     fn try_lock(&self, file: &File) -> bool {

@@ -8,7 +8,7 @@ use crate::noted::noted_writer;
 use pdp_words::{SaveFault, Sink, write_all};
 use std::fs::{self, Files, Metadata, OpenFile, OpenOptions};
 use std::io::{self, ErrorKind, Write};
-use std::os::unix::fs::{MetadataExt, OpenOptionsExt, chown};
+use std::os::unix::fs::{MetadataExt, OpenOptionsExt, PermissionsExt};
 use std::path::{Path, PathBuf};
 use vol_volume::BlankVolume;
 
@@ -21,6 +21,12 @@ const MOST_LINKS: u32 = 40;
 /// What is told of a file that has another stamp than when it was read.
 const CHANGED: &str = "it has changed since it was read";
 
+/// The message for a file in whose place another one is found.
+const REPLACED: &str = "another program has put another file in its place";
+
+/// The message for a new file whose name another program gave to something else.
+const MOVED: &str = "another program moved the new file that was to take its place";
+
 /// What is told of a path at which too many symbolic links begin.
 const TOO_MANY_LINKS: &str = "more than 40 symbolic links lead on from it";
 
@@ -30,6 +36,9 @@ const NO_NAME: &str = "beside it .unixvol-0 to .unixvol-999 are all there";
 /// Permissions of a new file that is to have those of an old one: until then it is nobody else's.
 const PRIVATE: u32 = 0o600;
 
+/// The permission bits of a file's group.
+const GROUP: u32 = 0o070;
+
 /// What is saved in a file.
 #[derive(Clone, Copy, Debug)]
 pub enum Content<'a> {
@@ -37,6 +46,15 @@ pub enum Content<'a> {
     Bytes(&'a [u8]),
     /// A new volume, whose bytes are made as they go out.
     Volume(&'a BlankVolume),
+}
+
+/// The regular file that a new one is to replace.
+#[derive(Drop)]
+struct Replaced {
+    /// Which file it is.
+    stamp: Stamp,
+    /// Its owner, its group and its permissions.
+    metadata: Metadata,
 }
 
 impl Content<'_> {
@@ -53,15 +71,16 @@ impl Content<'_> {
 }
 
 /// Saves a content in the file `path`. Its bytes go into a new file in the same folder, which then takes the
-/// place of the old one, and has its permissions and, where the system lets it, its owner and its group.
-/// So a failure leaves the old file as it was, and no new one. A symbolic link is followed. What is no
-/// regular file, as a device or a pipe, is written in place.
+/// place of the old one. The new file has the old one's owner, group and permissions, where the system lets it; else it is the
+/// caller's, and the rights of a group that it can't have are dropped. So a failure leaves the old file as it was, and no new one.
+/// A symbolic link is followed. What is no regular file, as a device or a pipe, is written in place.
 ///
-/// Where the content was made out of what the file had, `read` is the stamp that it then had: it must have that still,
+/// If the content was made out of what the file had, `read` is the stamp that it then had: it must have that still,
 /// just before the new file takes its place or the first byte is written.
 ///
-/// The error is the system's where a file can't be opened, written, synchronised or renamed; `ResourceBusy` where the stamp is another; `FilesystemLoop` past 40 symbolic links;
-/// `AlreadyExists` where a thousand names of new files were taken; `OutOfMemory` where an allocation was refused.
+/// The error is the system's if a file can't be opened, written, synchronised or renamed; `ResourceBusy` if the stamp is another, or another
+/// program gave the new file's name to something else; `FilesystemLoop` past 40 symbolic links;
+/// `AlreadyExists` if a thousand names of new files were taken; `OutOfMemory` if an allocation was refused.
 pub fn save_file<R: ImageFiles + AllocGlobal>(
     rt: &R,
     path: &str,
@@ -73,12 +92,15 @@ pub fn save_file<R: ImageFiles + AllocGlobal>(
 {
     match OpenOptions::new().write(true).open(rt, path) {
         Ok(file) => {
-            if file.metadata()?.is_file() {
+            let metadata = file.metadata()?;
+            let stamp = rt.stamp_of(&file)?;
+            if metadata.is_file() {
                 let place = end_of_links(rt, path)?;
-                let old = fs::metadata(rt, place.as_path())?;
+                let old = Replaced { stamp, metadata };
                 replace(rt, place.as_path(), Some(&old), read, content)
             } else {
                 expect_unchanged(rt, path, read)?;
+                expect_same(stamp, rt.stamp_at(path)?)?;
                 write_in_place(file, content)?;
                 Ok(())
             }
@@ -104,6 +126,24 @@ fn expect_unchanged<R: ImageFiles>(rt: &R, path: &str, read: Option<Stamp>) -> i
     }
 }
 
+/// Fails if two stamps are of different files.
+fn expect_same(one: Stamp, other: Stamp) -> io::Result<()> {
+    if one.is_of(other) {
+        Ok(())
+    } else {
+        Err(io::Error::new(ErrorKind::ResourceBusy, REPLACED))
+    }
+}
+
+/// Fails if another file than `old` is at `path`, or, if there is no old one, any.
+fn expect_there<R: ImageFiles>(rt: &R, path: &str, old: Option<&Replaced>) -> io::Result<()> {
+    match old {
+        Some(old) => expect_same(old.stamp, rt.stamp_of_name(path)?),
+        None if rt.is_there(path) => Err(io::Error::new(ErrorKind::ResourceBusy, REPLACED)),
+        None => Ok(()),
+    }
+}
+
 /// Where the symbolic links end that begin at `path`, at a file or at nothing; `path` itself, where no link is.
 fn end_of_links<R: Files + AllocGlobal>(rt: &R, path: &str) -> io::Result<PathBuf> {
     let mut place = PathBuf::from_str(rt.alloc(), path)?;
@@ -126,7 +166,7 @@ fn is_end(error: io::Error) -> bool {
 fn replace<R: ImageFiles + AllocGlobal>(
     rt: &R,
     path: Path<'_>,
-    old: Option<&Metadata>,
+    old: Option<&Replaced>,
     read: Option<Stamp>,
     content: Content<'_>,
 ) -> io::Result<()>
@@ -134,8 +174,8 @@ fn replace<R: ImageFiles + AllocGlobal>(
     ensures unchanged { OnOk result (IfSome read R.stood) }
 {
     let (file, beside) = new_file(rt, path, old.is_some())?;
-    let result = match fill(rt, file, beside.as_path(), old, content) {
-        Ok(_) => rename_over(rt, beside.as_path(), path, read),
+    let result = match fill(rt, file, old, content) {
+        Ok(file) => rename_over(rt, &file, beside.as_path(), path, old, read),
         Err(error) => Err(error),
     };
     if result.is_err() {
@@ -144,17 +184,37 @@ fn replace<R: ImageFiles + AllocGlobal>(
     result
 }
 
-/// Puts the new file in the place of `path`, if that has the stamp `read` still.
+/// Puts the new file, open as `file` with the name `beside`, in the place of `path`. Each of the two names must be that of the same file as before,
+/// and the old one must have the stamp `read` still.
 fn rename_over<R: ImageFiles>(
     rt: &R,
+    file: &R::File,
     beside: Path<'_>,
     path: Path<'_>,
+    old: Option<&Replaced>,
     read: Option<Stamp>,
 ) -> io::Result<()>
     ensures { OnOk result (IfSome read R.stood) }
 {
     expect_unchanged(rt, path.as_str(), read)?;
-    fs::rename(rt, beside, path)
+    expect_there(rt, path.as_str(), old)?;
+    if !rt.stamp_of_name(beside.as_str())?.is_of(rt.stamp_of(file)?) {
+        return Err(io::Error::new(ErrorKind::ResourceBusy, MOVED));
+    }
+    fs::rename(rt, beside, path)?;
+    sync_folder(rt, path);
+    Ok(())
+}
+
+/// Sees the names in the folder of `path` on the disk, if the system lets it: the image is whole in any case.
+fn sync_folder<R: Files>(rt: &R, path: Path<'_>) {
+    let folder = match path.parent() {
+        Some(folder) if folder.as_str() != "" => folder,
+        _ => Path::new("."),
+    };
+    if let Ok(folder) = fs::open(rt, folder) {
+        let _ = folder.sync_all();
+    }
 }
 
 /// Makes an empty file in the folder of `path`, with a name that no file has.
@@ -182,25 +242,33 @@ fn new_file<R: Files + AllocGlobal>(
     Err(io::Error::new(ErrorKind::AlreadyExists, NO_NAME))
 }
 
-/// Fills the new file `file`, whose path is `beside`, sees its bytes on the disk, and answers the file.
-fn fill<R: Files>(
+/// Fills the new file `file`, makes sure that its bytes are on the disk, and returns the file.
+fn fill<R: ImageFiles>(
     rt: &R,
     file: R::File,
-    beside: Path<'_>,
-    old: Option<&Metadata>,
+    old: Option<&Replaced>,
     content: Content<'_>,
 ) -> io::Result<R::File>
     ensures { IfOk result (λ filled. Grows content.entry (R.File.contents file) (R.File.contents filled)) }
 {
-    let file = write(file, content)?;
     if let Some(old) = old {
-        // Only the super-user may give a file away; for others it is their own, and its group one of theirs.
-        let _ = chown(rt, beside, None, Some(old.gid()));
-        let _ = chown(rt, beside, Some(old.uid()), None);
-        file.set_permissions(old.permissions())?;
+        keep_owner(rt, &file, &old.metadata)?;
     }
+    let file = write(file, content)?;
     file.sync_all()?;
     Ok(file)
+}
+
+/// Gives an open file the owner, group and permissions of an old one. Only the super-user may give a file away; for others it is their
+/// own, its group is one of theirs, and what another group might do isn't handed to that.
+fn keep_owner<R: ImageFiles>(rt: &R, file: &R::File, old: &Metadata) -> io::Result<()> {
+    let mut permissions = old.permissions();
+    if !rt.give(file, None, Some(old.gid())) {
+        let mode = permissions.mode();
+        permissions.set_mode(mode & !GROUP);
+    }
+    let _ = rt.give(file, Some(old.uid()), None);
+    file.set_permissions(permissions)
 }
 
 /// Writes a content into what is no regular file, sees it on the disk that it may be, and answers the file.

@@ -1,0 +1,209 @@
+#!/usr/bin/env bash
+# Runs `check`, `inode`, `super` and `map` of the built program on worked images, sound or not, and compares every line that they print.
+# The images and the lines are in tests/checks.
+# Usage: tests/checks.sh PROGRAM. It prints a line for each row that fails, and ends with 'N passed, N failed'.
+rows=$(realpath "$(dirname "$0")/checks")
+. "$(dirname "$0")/rows.sh"
+
+# New volumes of 20 blocks of the sixth edition and of 100 of the seventh, two of them the i-list; the ending of a name is the edition.
+"$program" mkfs 6 new.6 20 2 0 0 168496141
+"$program" mkfs 7 new.7 100 2 0 0 168496141
+
+# volume FILE CALL..: FILE is a new volume, or the file that is there, on which user 0 made these calls
+volume() {
+    local file=$1
+    shift
+    [ -e "$file" ] || cp "new.${file##*.}" "$file"
+    printf '168496141 0 0 %s\n' "$@" > calls
+    "$program" play "${file##*.}" "$file" calls > played
+    has "the calls on $file" "$#" "$(grep -c '^1\.[0-9]* ok ' played)"
+}
+
+# repeated COUNT TEXT: the text so many times
+repeated() { printf "$2%.0s" $(seq "$1"); }
+
+volume directory.6 'mkdir /d 755'
+volume nested.6 'mkdir /d 755' 'mkdir /d/e 755'
+volume file.6 'create /a 644'
+volume three_blocks.6 'create /a 644' "write /a 0 $(repeated 1100 07)"
+volume numbers.6 'create /a 644' 'write /a 0 05001400'
+volume twelve_blocks.7 'create /a 644' "write /a 0 $(repeated 6000 07)"
+volume two_files.6 'create /a 644' 'create /b 644' 'write /a 0 78' 'write /b 0 79'
+volume itself.6 'create /a 644' 'write /a 0 0500'
+volume all_uses.6 'mkdir /d 755' 'create /a 644' "write /a 0 $(repeated 5000 07)"
+
+# make FILE FROM [AT=HEX]..: FILE is the image FROM with these bytes in their places
+make() {
+    local file=$1 piece
+    cp "$2" "$file"
+    for piece in "${@:3}"; do put "$file" "${piece%=*}" "${piece#*=}"; done
+}
+
+# each NAME TEST: for each row of tests/checks/NAME, calls TEST with its edition and its first line, once its image is made as `image`,
+# and its other lines are in `lines`
+each() {
+    local given=() line
+    while IFS= read -r line; do
+        case $line in
+            'image '*) read -r -a given <<< "${line#image }" && : > lines ;;
+            '')
+                [ ${#given[@]} -gt 0 ] || continue
+                make image "${given[@]}"
+                "$2" "${given[0]##*.}" "${given[*]}"
+                given=()
+                ;;
+            *) echo "$line" >> lines ;;
+        esac
+    done < <(grep -v '^#' "$rows/$1" && echo)
+}
+
+# The rules, and what is found of them, which is in `lines`; a rule that isn't in `lines` holds.
+sentences=(
+    'the image has all blocks of the volume'
+    'the sizes are within their limits'
+    'each mode is known and the root is a directory'
+    'file sizes and link counts are within their limits'
+    'each number that a file names is a data block'
+    'the free list names data blocks, each once'
+    'no block is used twice'
+    'each data block is used or free'
+    'each entry has a name of its own and an i-node'
+    'each directory has . for itself and .. for its parent'
+    'each directory is entered once and reached from the root'
+    'each link count is the number of entries'
+)
+reported() {
+    local rule number outcome found=()
+    while read -r number outcome; do found[number]=$outcome; done < lines
+    for rule in {1..12}; do echo "$rule ${sentences[rule - 1]}: ${found[rule]:-holds}"; done
+}
+
+check_rules() {
+    reported > wanted
+    runs check "$1" image
+    wants "check of $2" "$([ -s lines ] && echo 1 || echo 0)" wanted none
+}
+each rules check_rules
+
+# Images that are of the other edition: a note says so.
+{ echo '1 the image is too short' && printf '%d not asked\n' {2..12}; } > lines
+{ reported && echo 'note: rules 1 and 2 hold for edition 6'; } > wanted
+runs check 7 new.6
+wants 'check of a volume of the sixth edition as one of the seventh' 1 wanted none
+{ echo "2 the sizes are no volume's" && printf '%d not asked\n' {3..12}; } > lines
+{ reported && echo 'note: rules 1 and 2 hold for edition 7'; } > wanted
+runs check 6 new.7
+wants 'check of a volume of the seventh edition as one of the sixth' 1 wanted none
+
+# I-nodes and super-blocks, as text and as JSON.
+python3 "$rows/as_json.py" "$rows/i_nodes" "$rows/supers" > objects
+count=0
+
+# shown EDITION WORD..: a command that looks at an image prints `lines`, and with `--json` the next line of `objects`
+shown() {
+    count=$((count + 1))
+    sed -n "${count}p" objects > wanted
+    prints lines "$2" "$1" "${@:3}"
+    prints wanted "$2" "$1" "${@:3}" --json
+}
+show_inode() { shown "$1" inode image "$(sed -n 's/^i-node //p' lines)"; }
+show_super() { shown "$1" super image; }
+each i_nodes show_inode
+each supers show_super
+has 'the rows of i-nodes and super-blocks' 11 "$count"
+
+# I-numbers that the volume doesn't have, and images without the sizes of a volume.
+for number in 0 33 65535; do refuses 1 'unixvol: 2 NoEntry' inode 6 new.6 "$number"; done
+make short new.6 514=1500
+make unlisted new.6 512=0000
+for row in 1:short 2:unlisted; do
+    refuses 1 "unixvol: unsound, rule ${row%:*}" inode 6 "${row#*:}" 1
+    refuses 1 "unixvol: unsound, rule ${row%:*}" super 6 "${row#*:}"
+    refuses 1 "unixvol: unsound, rule ${row%:*}" map 6 "${row#*:}"
+done
+
+# What the blocks are used for.
+legend='B boot
+S super-block
+i i-list
+d directory
+f file
+p pointer
+o free
+c chain
+L lost
+T named twice'
+
+# drawing WIDTH LETTERS: the letters in rows, and the legend
+drawing() { fold -w "$1" <<< "$2" && printf '\n%s\n' "$legend"; }
+
+# square LETTER X Y: a square of a picture
+square() { echo "<path class='$1' d='M$2 $3h9v9h-9z'/>"; }
+
+# picture LETTERS: the letters as squares, 128 in a row, and the legend; the colours are left out
+picture() {
+    local letters=$1 k top one name
+    top=$(((${#letters} + 127) / 128 * 10 + 10))
+    echo "<svg xmlns='http://www.w3.org/2000/svg' width='1400' height='$((top + 140))'>"
+    echo '<style>'
+    for ((k = 0; k < ${#letters}; k++)); do square "${letters:k:1}" $((k % 128 * 10)) $((k / 128 * 10)); done
+    while read -r one name; do
+        square "$one" 0 "$top"
+        echo "<text x='14' y='$((top + 9))'>$name</text>"
+        top=$((top + 14))
+    done <<< "$legend"
+    echo '</svg>'
+}
+
+# maps EDITION LABEL LETTERS: the map of `image` has these letters, one for each block, and so has the picture
+maps() {
+    { printf '%d blocks, 1 in each cell\n\n' ${#3} && drawing 64 "$3"; } > wanted
+    runs map "$1" image
+    wants "the map of $2" 0 wanted none
+    picture "$3" > wanted
+    runs map --svg "$1" image
+    sed -i 's,^\(<style>\).*</style>$,\1,' output
+    wants "the picture of $2" 0 wanted none
+}
+check_map() { maps "$1" "$2" "$(cat lines)"; }
+each maps check_map
+
+# More blocks than a row of squares has: the last is named by the root, and free; the free list goes on in block 29.
+"$program" mkfs 6 new.129.6 129 2 0 0 168496141
+make image new.129.6 1034=8000
+maps 6 '129 blocks' "BSiid$(repeated 24 o)c$(repeated 98 o)T"
+
+# More blocks than a map has cells: four in each cell. The free list goes on in block 92, and in each hundredth after it. A cell shows the
+# most telling of its blocks: the super-block, and a block that two files name.
+"$program" mkfs 6 new.8192.6 8192 2 0 0 168496141
+volume new.8192.6 'create /a 644' 'create /b 644' 'write /a 0 78' 'write /b 0 79'
+make image new.8192.6 1992=0500
+{ printf '8192 blocks, 4 in each cell\n\n' && drawing 64 "ST$(repeated 21 o)c$(repeated 80 "$(repeated 24 o)c")$(repeated 24 o)"; } > wanted
+prints wanted map 6 image
+
+# On a terminal the rows are as wide as COLUMNS says, and each letter has a colour.
+# terminal FILE: what the program draws of FILE on a terminal of eight columns
+terminal() { COLUMNS=8 script -qec "'$program' map 6 $1" /dev/null < /dev/null | tr -d '\r'; }
+terminal new.6 | sed $'s/\e\\[[0-9;]*m//g' > output
+{ printf '20 blocks, 1 in each cell\n\n' && drawing 8 BSiidooooooooooooooo; } > wanted
+cmp -s output wanted
+has 'a map in rows of eight' 0 $?
+declare -A colours=([B]=100 [S]=100 [i]=43 [d]=44 [f]=42 [p]=46 [o]=47 [c]=45 [L]=103 [T]=41)
+# coloured LETTERS: the letters between the codes of a terminal
+coloured() {
+    local letters=$1 k
+    for ((k = 0; k < ${#letters}; k++)); do printf '\e[%dm%s\e[0m' "${colours[${letters:k:1}]}" "${letters:k:1}"; done
+}
+{
+    printf '20 blocks, 1 in each cell\n\n'
+    for letters in BSiidTLo oooooooo oooT; do coloured $letters && echo; done
+    echo
+    while read -r one name; do echo "$(coloured "$one") $name"; done <<< "$legend"
+} > wanted
+make image two_files.6 1992=0500 1034=1300
+terminal image > output
+cmp -s output wanted
+has 'a map with colours' 0 $?
+
+echo "$passed passed, $failed failed"
+[ "$failed" = 0 ]

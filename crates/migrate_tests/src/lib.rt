@@ -1,9 +1,5 @@
-//! Tests of migrating: worked volumes byte for byte, and what no contract says.
+//! Tests of migrating that no command shows.
 #![tactic(auto)]
 
 #[cfg(test)]
-mod fixtures;
-#[cfg(test)]
-mod forms;
-#[cfg(test)]
-mod worked;
+mod faults;

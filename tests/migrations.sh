@@ -1,0 +1,193 @@
+#!/usr/bin/env bash
+# Makes volumes of the seventh edition out of worked volumes of the sixth by the built program, and compares them byte for byte, file by
+# file and i-node by i-node with the old ones and with what was put into these.
+# Usage: tests/migrations.sh PROGRAM. It prints a line for each row that fails, and ends with 'N passed, N failed'.
+. "$(dirname "$0")/rows.sh"
+
+# The moment of the old volumes is 168496141, which the disk has as 0B 0A 0D 0C; that of migrating is 16909060, or 02 01 04 03.
+later=16909060
+
+# plays FILE: user 0 makes the calls that standard input has on the old volume FILE, and all are accepted
+plays() {
+    sed 's/^/168496141 0 0 /' > calls
+    "$program" play 6 "$1" calls > played
+    has "the calls on $1" "$(wc -l < calls)" "$(grep -c '^1\.[0-9]* ok ' played)"
+}
+
+# migrated OLD NEW FSIZE IBLOCKS: the program makes NEW out of OLD, and it is sound
+migrated() {
+    prints none migrate "$@" "$later"
+    "$program" check 7 "$2" > report
+    has "the volume made of $1 is sound" 0 $?
+}
+
+# zeros COUNT: so many zeros as hexadecimal digits
+zeros() { head -c $((2 * $1)) /dev/zero | tr '\0' 0; }
+
+# holds LABEL FILE AT COUNT HEX: the COUNT bytes of FILE from byte AT on begin with these, and the others are zeros
+holds() {
+    local digits=${5// /}
+    image wanted "$4"
+    put wanted 0 "$digits"
+    cmp -s -n "$4" -i "$3:0" "$2" wanted
+    has "$1" 0 $?
+}
+
+# A directory, i-number 32, and in it a file of three bytes, 31: the whole new volume.
+"$program" mkfs 6 new.6 20 2 0 0 168496141
+cp new.6 old
+printf '%s\n' 'mkdir /d 755' 'create /d/f 644' 'write /d/f 0 616263' | plays old
+cp old before
+
+# carried FILE BLOCKS: the directory and the file in a volume of so many blocks, five of them the i-list, with no free block
+carried() {
+    local times='0B 0A 0D 0C 0B 0A 0D 0C 02 01 04 03'
+    image "$1" $((512 * $2))
+    put "$1" 512 "07 00 00 00 $(printf %02x "$2") 00"
+    put "$1" 926 '02 01 04 03'
+    # The root in block 7, the file in block 8, and the directory in block 9.
+    put "$1" $((1024 + 64)) "FF 41 03 00 00 00 00 00 00 00 30 00 00 07 00 $(zeros 37) $times"
+    put "$1" $((1024 + 64 * 31)) "A4 81 01 00 00 00 00 00 00 00 03 00 00 08 00 $(zeros 37) $times"
+    put "$1" $((1024 + 64 * 32)) "ED 41 02 00 00 00 00 00 00 00 30 00 00 09 00 $(zeros 37) $times"
+    put "$1" $((512 * 7)) "02 00 2E $(zeros 13) 02 00 2E 2E $(zeros 12) 21 00 64"
+    put "$1" $((512 * 8)) '61 62 63'
+    put "$1" $((512 * 9)) "21 00 2E $(zeros 13) 02 00 2E 2E $(zeros 12) 20 00 66"
+}
+
+# numbers FROM TO: the block numbers from the first down to the last
+numbers() { printf '0000%02x00' $(seq "$1" -1 "$2"); }
+
+# The chain block is 50, whose array has 99 to 51, and the next free block is 10. Past the count stands what the array before had there:
+# 59 to 51.
+migrated old new 100 5
+carried wanted 100
+put wanted 518 "29 00 $(numbers 50 10) $(numbers 59 51)"
+put wanted $((512 * 50)) "32 00 00 00 00 00 $(numbers 99 51)"
+saves 'a volume with a directory and a file' new wanted
+saves 'the old volume of a directory and a file' old before
+
+# No block is left.
+migrated old full 10 5
+carried wanted 10
+saves 'a full volume with a directory and a file' full wanted
+
+# Sizes that no volume has; a special file is asked about after them. tests/program.sh has the other refusals.
+cp new.6 device
+echo 'create /t 644' | plays device
+put device 2016 'A4 A1'
+refuses 1 'unixvol: bounds' migrate old none.img 16777217 5 "$later"
+refuses 1 'unixvol: bounds' migrate old none.img 9000 8192 "$later"
+refuses 1 'unixvol: bounds' migrate device none.img 7 5 "$later"
+refuses 1 'unixvol: 105 HasDevice' migrate device none.img 9 4 "$later"
+has 'volumes that were not made' '' "$(find . -name none.img)"
+
+# An empty slot, whose name's bytes stand in the old volume still, and bytes behind a name are zeros in the new one.
+cp new.6 slots
+printf '%s\n' 'create /a 644' 'create /b 644' 'unlink /a' | plays slots
+put slots $((512 * 4 + 48 + 4)) '6A 75 6E 6B'
+old_slots="2E $(zeros 13) 01 00 2E 2E $(zeros 12) 00 00 61 $(zeros 13)"
+holds 'an old directory with an empty slot' slots $((512 * 4)) 512 "01 00 $old_slots 1F 00 62 00 6A 75 6E 6B"
+migrated slots new 100 5
+holds 'a new directory with an empty slot' new $((512 * 7)) 512 "02 00 2E $(zeros 13) 02 00 2E 2E $(zeros 12) $(zeros 16) 20 00 62"
+
+# A file whose size became 3: of its two blocks the second and all other bytes of the first are past it.
+cp new.6 past
+printf '%s\n' 'create /t 644' "write /t 0 $(printf '41%.0s' {1..1000})" | plays past
+put past $((1024 + 32 * 31 + 5)) '00 03 00'
+migrated past new 100 5
+holds 'the size and the addresses of a file with blocks past its size' new $((1024 + 64 * 32 + 8)) 44 '00 00 03 00 00 08 00'
+holds 'the block of a file with bytes past its size' new $((512 * 8)) 1024 '41 41 41'
+
+# fields EDITION IMAGE NUMBER: the fields of an i-node that both volumes have
+fields() { "$program" inode "$@" | sed -n 's/^mode [0-7]* //p; /^\(nlink\|uid\|gid\|size\|[amc]time\) /p'; }
+
+# nodes OLD NEW NUMBER..: what the old volume tells of these i-nodes the new one tells of the next, which were changed when it was made
+nodes() {
+    local number
+    for number in "${@:3}"; do fields 6 "$1" "$number" && echo "ctime $later"; done > wanted
+    for number in "${@:3}"; do fields 7 "$2" $((number + 1)); done > told
+    cmp -s told wanted
+    has "the i-nodes of the volume made of $1" "0 $((8 * ($# - 2)))" "$? $(wc -l < told)"
+}
+
+# names OLD NEW PATH COUNT: a directory has so many names, `.` and `..` among them, in both volumes, each for the next i-number
+names() {
+    "$program" ls 6 "$1" "$3" | awk '{ printf "%5d %s\n", $1 + 1, $2 }' > wanted
+    prints wanted ls 7 "$2" "$3"
+    has "the names in $3 of $1" "$4" "$(wc -l < wanted)"
+}
+
+# A volume with files of each form: small, large, huge, with holes, and with more names than a small directory has. Of 300 files in /d
+# each third is gone, with a name of /small in its place, and so is half of those after them.
+"$program" mkfs 6 forms 600 30 0 0 168496141
+hole='a hole, and a part of a block'
+behind='behind a hole'
+eighth='the first block of the eighth address'
+# hex TEXT: its bytes as hexadecimal digits
+hex() { printf %s "$1" | od -An -v -tx1 | tr -d ' \n'; }
+{
+    echo 'create /small 644'
+    echo "write /small 1000 $(hex "$hole")"
+    echo 'create /large 644'
+    echo "write /large 0 $(printf '41%.0s' {1..20000})"
+    echo "write /large 300000 $(hex "$behind")"
+    echo 'create /huge 644'
+    echo "write /huge $((1792 * 512)) $(hex "$eighth")"
+    echo 'write /huge 16777214 7a'
+    echo 'create /empty 644'
+    echo 'mkdir /d 755'
+    printf 'create /d/%03d 644\n' {0..299}
+    printf 'unlink /d/%03d\n' {0..297..3}
+    printf 'link /small /d/%03d\n' {0..297..3}
+    printf 'unlink /d/%03d\n' {1..148..3}
+} | plays forms
+migrated forms new 700 61
+names forms new / 7
+names forms new /d 252
+nodes forms new $("$program" ls 6 forms / | awk '{ print $1 }' | sort -u) 94
+# All of them, as the long listing of each volume has them, with the next i-number in the new one.
+"$program" ls -lR 6 forms | awk '/^ *[0-9]/ { $1 = sprintf("%5d", $1 + 1) } 1' > wanted
+"$program" ls -lR 7 new | awk '/^ *[0-9]/ { $1 = sprintf("%5d", $1) } 1' > output
+cmp -s output wanted
+has 'all that is listed of the old volume and of the new one' '0 262' "$? $(wc -l < wanted)"
+
+# What is told of some of them: the highest i-numbers were given out first, from a cache of the lowest hundred.
+printf '%s\n' view '0 0 0 stat /small' '0 0 0 stat /large' '0 0 0 stat /huge' '0 0 0 stat /empty' '0 0 0 stat /' '0 0 0 stat /d' '0 0 0 stat /d/002' \
+    '0 0 0 stat /d/003' > asking
+printf '%s\n' '1.2 stat 102 file 0644 101 0 0 1029' '1.3 stat 101 file 0644 1 0 0 300013' '1.4 stat 100 file 0644 1 0 0 16777215' \
+    '1.5 stat 99 file 0644 1 0 0 0' '1.6 stat 2 dir 0777 3 0 0 112' '1.7 stat 98 dir 0755 2 0 0 4832' '1.8 stat 95 file 0644 1 0 0 0' \
+    '1.9 stat 102 file 0644 101 0 0 1029' 'records 0' 'confirmed 8' > told
+cp new asked
+prints told play 7 asked asking
+
+# The bytes of the files, in both volumes.
+{ head -c 1000 /dev/zero && printf %s "$hole"; } > small
+{ head -c 20000 /dev/zero | tr '\0' A && head -c 280000 /dev/zero && printf %s "$behind"; } > large
+{ head -c $((1792 * 512)) /dev/zero && printf %s "$eighth" && head -c $((16777214 - 1792 * 512 - ${#eighth})) /dev/zero && printf z; } > huge
+cp none empty
+for file in small large huge empty; do
+    prints "$file" get 6 forms "/$file"
+    prints "$file" get 7 new "/$file"
+done
+for number in 000 003 297; do prints small get 7 new "/d/$number"; done
+
+# As many links as there may be.
+"$program" mkfs 6 links 100 2 0 0 168496141
+{ echo 'mkdir /d 755' && echo 'create /f 644' && printf 'link /f /d/%03d\n' {0..125}; } | plays links
+migrated links new 100 5
+nodes links new 1 31 32
+has 'the links of the new file' 'nlink 127' "$("$program" inode 7 new 32 | grep nlink)"
+
+# A file whose size became 4096: behind the first block are only holes, and stored bytes behind the old size are seen.
+cp new.6 grown
+printf '%s\n' 'create /t 644' 'write /t 0 616263' | plays grown
+put grown $((1024 + 32 * 31 + 5)) '00 00 10'
+put grown $((512 * 5 + 3)) '73 65 65 6E'
+migrated grown new 100 5
+nodes grown new 1 32
+{ printf abcseen && head -c 4089 /dev/zero; } > seen
+prints seen get 6 grown /t
+prints seen get 7 new /t
+
+echo "$passed passed, $failed failed"
+[ "$failed" = 0 ]

@@ -1,6 +1,6 @@
 #!/usr/bin/env bash
-# Makes volumes of the seventh edition out of worked volumes of the sixth by the built program, and compares them byte for byte, file by
-# file and i-node by i-node with the old ones and with what was put into these.
+# Migrates worked volumes by the built program. Compares whole images byte for byte, and of greater volumes the names, the bytes of files and
+# the fields of i-nodes.
 # Usage: tests/migrations.sh PROGRAM. It prints a line for each row that fails, and ends with 'N passed, N failed'.
 . "$(dirname "$0")/rows.sh"
 
@@ -24,8 +24,8 @@ migrated() {
 # zeros COUNT: so many zeros as hexadecimal digits
 zeros() { head -c $((2 * $1)) /dev/zero | tr '\0' 0; }
 
-# holds LABEL FILE AT COUNT HEX: the COUNT bytes of FILE from byte AT on begin with these, and the others are zeros
-holds() {
+# padded LABEL FILE AT COUNT HEX: the COUNT bytes of FILE from byte AT on begin with these, and the others are zeros
+padded() {
     local digits=${5// /}
     image wanted "$4"
     put wanted 0 "$digits"
@@ -36,7 +36,11 @@ holds() {
 # A directory, i-number 32, and in it a file of three bytes, 31: the whole new volume.
 "$program" mkfs 6 new.6 20 2 0 0 168496141
 cp new.6 old
-printf '%s\n' 'mkdir /d 755' 'create /d/f 644' 'write /d/f 0 616263' | plays old
+plays old << 'END'
+mkdir /d 755
+create /d/f 644
+write /d/f 0 616263
+END
 cp old before
 
 # carried FILE BLOCKS: the directory and the file in a volume of so many blocks, five of them the i-list, with no free block
@@ -71,9 +75,9 @@ migrated old full 10 5
 carried wanted 10
 saves 'a full volume with a directory and a file' full wanted
 
-# Sizes that no volume has; a special file is asked about after them. tests/program.sh has the other refusals.
+# Sizes that no volume has. A special file is checked after them, and before the i-list and the blocks. tests/program.sh has more refusals.
 cp new.6 device
-echo 'create /t 644' | plays device
+plays device <<< 'create /t 644'
 put device 2016 'A4 A1'
 refuses 1 'unixvol: bounds' migrate old none.img 16777217 5 "$later"
 refuses 1 'unixvol: bounds' migrate old none.img 9000 8192 "$later"
@@ -83,31 +87,38 @@ has 'volumes that were not made' '' "$(find . -name none.img)"
 
 # An empty slot, whose name's bytes stand in the old volume still, and bytes behind a name are zeros in the new one.
 cp new.6 slots
-printf '%s\n' 'create /a 644' 'create /b 644' 'unlink /a' | plays slots
+plays slots << 'END'
+create /a 644
+create /b 644
+unlink /a
+END
 put slots $((512 * 4 + 48 + 4)) '6A 75 6E 6B'
 old_slots="2E $(zeros 13) 01 00 2E 2E $(zeros 12) 00 00 61 $(zeros 13)"
-holds 'an old directory with an empty slot' slots $((512 * 4)) 512 "01 00 $old_slots 1F 00 62 00 6A 75 6E 6B"
+padded 'an old directory with an empty slot' slots $((512 * 4)) 512 "01 00 $old_slots 1F 00 62 00 6A 75 6E 6B"
 migrated slots new 100 5
-holds 'a new directory with an empty slot' new $((512 * 7)) 512 "02 00 2E $(zeros 13) 02 00 2E 2E $(zeros 12) $(zeros 16) 20 00 62"
+padded 'a new directory with an empty slot' new $((512 * 7)) 512 "02 00 2E $(zeros 13) 02 00 2E 2E $(zeros 12) $(zeros 16) 20 00 62"
 
 # A file whose size became 3: of its two blocks the second and all other bytes of the first are past it.
 cp new.6 past
-printf '%s\n' 'create /t 644' "write /t 0 $(printf '41%.0s' {1..1000})" | plays past
+plays past << END
+create /t 644
+write /t 0 $(printf '41%.0s' {1..1000})
+END
 put past $((1024 + 32 * 31 + 5)) '00 03 00'
 migrated past new 100 5
-holds 'the size and the addresses of a file with blocks past its size' new $((1024 + 64 * 32 + 8)) 44 '00 00 03 00 00 08 00'
-holds 'the block of a file with bytes past its size' new $((512 * 8)) 1024 '41 41 41'
+padded 'the size and the addresses of a file with blocks past its size' new $((1024 + 64 * 32 + 8)) 44 '00 00 03 00 00 08 00'
+padded 'the block of a file with bytes past its size' new $((512 * 8)) 1024 '41 41 41'
 
 # fields EDITION IMAGE NUMBER: the fields of an i-node that both volumes have
 fields() { "$program" inode "$@" | sed -n 's/^mode [0-7]* //p; /^\(nlink\|uid\|gid\|size\|[amc]time\) /p'; }
 
-# nodes OLD NEW NUMBER..: what the old volume tells of these i-nodes the new one tells of the next, which were changed when it was made
+# nodes OLD NEW NUMBER..: these i-nodes of OLD have the fields of the next ones of NEW, whose last change is the migration
 nodes() {
     local number
     for number in "${@:3}"; do fields 6 "$1" "$number" && echo "ctime $later"; done > wanted
-    for number in "${@:3}"; do fields 7 "$2" $((number + 1)); done > told
-    cmp -s told wanted
-    has "the i-nodes of the volume made of $1" "0 $((8 * ($# - 2)))" "$? $(wc -l < told)"
+    for number in "${@:3}"; do fields 7 "$2" $((number + 1)); done > found
+    cmp -s found wanted
+    has "the i-nodes of the volume made of $1" "0 $((8 * ($# - 2)))" "$? $(wc -l < found)"
 }
 
 # names OLD NEW PATH COUNT: a directory has so many names, `.` and `..` among them, in both volumes, each for the next i-number
@@ -125,40 +136,40 @@ behind='behind a hole'
 eighth='the first block of the eighth address'
 # hex TEXT: its bytes as hexadecimal digits
 hex() { printf %s "$1" | od -An -v -tx1 | tr -d ' \n'; }
-{
-    echo 'create /small 644'
-    echo "write /small 1000 $(hex "$hole")"
-    echo 'create /large 644'
-    echo "write /large 0 $(printf '41%.0s' {1..20000})"
-    echo "write /large 300000 $(hex "$behind")"
-    echo 'create /huge 644'
-    echo "write /huge $((1792 * 512)) $(hex "$eighth")"
-    echo 'write /huge 16777214 7a'
-    echo 'create /empty 644'
-    echo 'mkdir /d 755'
-    printf 'create /d/%03d 644\n' {0..299}
-    printf 'unlink /d/%03d\n' {0..297..3}
-    printf 'link /small /d/%03d\n' {0..297..3}
-    printf 'unlink /d/%03d\n' {1..148..3}
-} | plays forms
+plays forms << END
+create /small 644
+write /small 1000 $(hex "$hole")
+create /large 644
+write /large 0 $(printf '41%.0s' {1..20000})
+write /large 300000 $(hex "$behind")
+create /huge 644
+write /huge $((1792 * 512)) $(hex "$eighth")
+write /huge 16777214 7a
+create /empty 644
+mkdir /d 755
+$(printf 'create /d/%03d 644\n' {0..299})
+$(printf 'unlink /d/%03d\n' {0..297..3})
+$(printf 'link /small /d/%03d\n' {0..297..3})
+$(printf 'unlink /d/%03d\n' {1..148..3})
+END
 migrated forms new 700 61
 names forms new / 7
 names forms new /d 252
 nodes forms new $("$program" ls 6 forms / | awk '{ print $1 }' | sort -u) 94
-# All of them, as the long listing of each volume has them, with the next i-number in the new one.
+# The long listings of both volumes are equal, but for i-numbers, which are one higher.
 "$program" ls -lR 6 forms | awk '/^ *[0-9]/ { $1 = sprintf("%5d", $1 + 1) } 1' > wanted
 "$program" ls -lR 7 new | awk '/^ *[0-9]/ { $1 = sprintf("%5d", $1) } 1' > output
 cmp -s output wanted
 has 'all that is listed of the old volume and of the new one' '0 262' "$? $(wc -l < wanted)"
 
-# What is told of some of them: the highest i-numbers were given out first, from a cache of the lowest hundred.
+# The fields of some of them. The old volume's i-numbers are 101 and below, since the highest of a cache of the lowest hundred is used first.
 printf '%s\n' view '0 0 0 stat /small' '0 0 0 stat /large' '0 0 0 stat /huge' '0 0 0 stat /empty' '0 0 0 stat /' '0 0 0 stat /d' '0 0 0 stat /d/002' \
     '0 0 0 stat /d/003' > asking
 printf '%s\n' '1.2 stat 102 file 0644 101 0 0 1029' '1.3 stat 101 file 0644 1 0 0 300013' '1.4 stat 100 file 0644 1 0 0 16777215' \
     '1.5 stat 99 file 0644 1 0 0 0' '1.6 stat 2 dir 0777 3 0 0 112' '1.7 stat 98 dir 0755 2 0 0 4832' '1.8 stat 95 file 0644 1 0 0 0' \
-    '1.9 stat 102 file 0644 101 0 0 1029' 'records 0' 'confirmed 8' > told
+    '1.9 stat 102 file 0644 101 0 0 1029' 'records 0' 'confirmed 8' > wanted
 cp new asked
-prints told play 7 asked asking
+prints wanted play 7 asked asking
 
 # The bytes of the files, in both volumes.
 { head -c 1000 /dev/zero && printf %s "$hole"; } > small
@@ -173,14 +184,21 @@ for number in 000 003 297; do prints small get 7 new "/d/$number"; done
 
 # As many links as there may be.
 "$program" mkfs 6 links 100 2 0 0 168496141
-{ echo 'mkdir /d 755' && echo 'create /f 644' && printf 'link /f /d/%03d\n' {0..125}; } | plays links
+plays links << END
+mkdir /d 755
+create /f 644
+$(printf 'link /f /d/%03d\n' {0..125})
+END
 migrated links new 100 5
 nodes links new 1 31 32
 has 'the links of the new file' 'nlink 127' "$("$program" inode 7 new 32 | grep nlink)"
 
 # A file whose size became 4096: behind the first block are only holes, and stored bytes behind the old size are seen.
 cp new.6 grown
-printf '%s\n' 'create /t 644' 'write /t 0 616263' | plays grown
+plays grown << 'END'
+create /t 644
+write /t 0 616263
+END
 put grown $((1024 + 32 * 31 + 5)) '00 00 10'
 put grown $((512 * 5 + 3)) '73 65 65 6E'
 migrated grown new 100 5

@@ -1,0 +1,336 @@
+#!/usr/bin/env bash
+# Runs `import` and `export` of the built program on archives of GNU tar and on images that aren't sound: what is made, what is written byte for
+# byte, and what is refused. `archives/README.md` says where the archives come from.
+# Usage: tests/archives.sh PROGRAM. It prints a line for each row that fails, and ends with 'N passed, N failed'.
+archives=$(realpath "$(dirname "$0")/archives")
+. "$(dirname "$0")/rows.sh"
+
+# imports EDITION IMAGE ARCHIVE [PATH]: the program imports the archive at the moment 2000, below the root without PATH, and says nothing
+imports() {
+    "$program" import "$1" "$2" "${4-}" 2000 < "$archives/$3.tar" > output 2> error
+    echo $? > status
+    wants "import of $3.tar into edition $1" 0 none none
+}
+
+# unimported LINE EDITION ARCHIVE [PATH]: the program doesn't import the archive in this file into `disk.img`, for the reason in LINE
+unimported() {
+    printf '%s\n' "$1" > line
+    "$program" import "$2" disk.img "${4-}" 2000 < "$3" > output 2> error
+    echo $? > status
+    wants "import of ${3##*/} into edition $2" 1 none line
+}
+
+# exports LABEL STATUS ERROR EDITION IMAGE: the program writes an archive to `output`, and this text on standard error
+exports() {
+    runs export "$4" "$5" ''
+    has "the status of an export of $1" "$2" "$(cat status)"
+    has "what is said of an export of $1" "$3" "$(cat error)"
+}
+
+# played EDITION IMAGE LINE..: IMAGE is the blank volume after the calls in the lines, `NOW UID GID CALL` each; all are accepted
+played() {
+    cp "blank.v$1" "$2"
+    printf "%b\n" "${@:3}" > script
+    "$program" play "$1" "$2" script > output 2> error
+    has "the status of a play in edition $1" 0 "$?$(cat error)"
+}
+
+# number EDITION IMAGE PATH: the i-number to which a path leads
+number() { "$program" ls "$1" "$2" "$3" | awk 'NR == 1 { print $1 }'; }
+
+# listed EDITION IMAGE [PATH]: all that is below the root, or below PATH, without i-numbers and without `.` and `..`
+listed() { "$program" ls -lR "$1" "$2" "${3:-/}" | sed -E 's/^ *[0-9]+ //; s/ +/ /g' | grep -v ' \.\.*$'; }
+
+# lists LABEL FILE EDITION IMAGE [PATH]: what is listed so is what FILE has
+lists() {
+    listed "${@:3}" > output
+    cmp -s output "$2"
+    has "$1" 0 $?
+}
+
+# node_at EDITION I: where i-node I begins
+node_at() { echo $((1024 + ($1 == 6 ? 32 : 64) * ($2 - 1))); }
+
+# digits BYTES: escapes of bytes as the hexadecimal digits that a script has
+digits() { printf '%b' "$1" | od -An -v -tx1 | tr -d ' \n'; }
+
+# entry_for IMAGE NAME I: the first entry with this name is for i-number I
+entry_for() {
+    local at
+    at=$(LC_ALL=C grep -abo "$2" "$1" | head -n 1 | cut -d : -f 1)
+    put "$1" $((at - 2)) "$(printf '%02x%02x' $(($3 % 256)) $(($3 / 256)))"
+}
+
+for edition in 6 7; do
+    "$program" mkfs "$edition" "blank.v$edition" 300 8 0 0 1000
+done
+nested=p23456789abcde
+eight=$(printf "/$nested%.0s" 1 2 3 4 5 6 7 8)
+
+# What GNU tar makes of a tree, `export` writes byte for byte. The calls are of user 3 and group 5, but for the bytes, which user 0 writes.
+mapfile -t nest < <(path=; for _ in 1 2 3 4 5 6 7 8; do path=$path/$nested; echo "1000 3 5 mkdir $path 755"; done)
+tree=(
+    '1000 3 5 create /\xff\xfe 4755'
+    "1000 0 0 write /\\xff\\xfe 0 $(printf '7a%.0s' $(seq 513))"
+    '1000 3 5 mkdir /d 755'
+    '1000 3 5 create /d/abcdefghijklmn 644'
+    "1000 0 0 write /d/abcdefghijklmn 0 $(digits fourteen)"
+    '1000 3 5 create /d/e 644'
+    '1000 3 5 create /big 644'
+    "1000 0 0 write /big 5000 $(digits x)"
+    '1000 3 5 create /a.txt 644'
+    "1000 0 0 write /a.txt 0 $(digits 'hello\n')"
+    '1000 3 5 link /a.txt /d/link'
+    '1000 3 5 create /null 666'
+    '1000 3 5 create /disk 600'
+    "${nest[@]}"
+    "1000 3 5 create $eight/deep 644"
+    "1000 0 0 write $eight/deep 0 $(digits 'deep\n')"
+)
+for edition in 6 7; do
+    played "$edition" "tree.v$edition" "${tree[@]}"
+    # The special files: a character device 2, 3 and a block device 1, 7.
+    null=$(node_at "$edition" "$(number "$edition" "tree.v$edition" /null)")
+    disk=$(node_at "$edition" "$(number "$edition" "tree.v$edition" /disk)")
+    if [ "$edition" = 6 ]; then
+        put tree.v6 "$null" 'B6 A1'
+        put tree.v6 $((null + 8)) '03 02'
+        put tree.v6 "$disk" '80 E1'
+        put tree.v6 $((disk + 8)) '07 01'
+    else
+        put tree.v7 "$null" 'B6 21'
+        put tree.v7 $((null + 12)) '00 03 02'
+        put tree.v7 "$disk" '80 61'
+        put tree.v7 $((disk + 12)) '00 07 01'
+    fi
+    prints "$archives/tree.tar" export "$edition" "tree.v$edition" ''
+done
+
+# An output that fails has the front of the archive, as far as it was written.
+for limit in 0 1 511 512 518 6000 17408 17919; do
+    said=$(trap '' XFSZ; prlimit --fsize="$limit" "$program" export 7 tree.v7 / 2>&1 > front; echo $?)
+    cmp -s -n "$limit" front "$archives/tree.tar"
+    has "an archive whose output fails after $limit bytes" "unixvol: cannot write - 3 $limit 0" "${said//$'\n'/ } $(stat -c %s front) $?"
+done
+(sleep 0.3; "$program" export 7 tree.v7 / 2> error; echo $? > status) | true
+has 'an archive to a pipe that nobody reads' '3 unixvol: cannot write -' "$(cat status error | paste -s -d ' ' -)"
+
+# What leads to no directory.
+refuses 1 'unixvol: 20 NotDirectory' export 6 tree.v6 /a.txt
+refuses 1 'unixvol: 2 NoEntry' export 6 tree.v6 /x
+refuses 1 'unixvol: unsound, rule 1' export 6 none ''
+
+# Images that aren't sound: a directory that holds itself and the root, an entry for a free i-node, and one past the last.
+for edition in 6 7; do
+    played "$edition" ring.img '1000 3 5 mkdir /d 755' '1000 3 5 create /d/ring_itself 644' '1000 3 5 create /d/ring_root 644' \
+        '1000 3 5 create /d/the_last 644' '1000 3 5 create /d/free 644' '1000 3 5 create /kept 644'
+    free=$(number "$edition" ring.img /d/free)
+    entry_for ring.img ring_itself "$("$program" ls "$edition" ring.img / | awk '$2 == "d" { print $1 }')"
+    entry_for ring.img ring_root $((edition - 5))
+    entry_for ring.img the_last 60000
+    put ring.img "$(node_at "$edition" "$free")" '00 00'
+    exports 'a ring' 1 'unixvol: d/free: no i-node
+unixvol: d/ring_itself: a directory that was met before
+unixvol: d/ring_root: a directory that was met before
+unixvol: d/the_last: no i-node
+unixvol: unsound, rule 9' "$edition" ring.img
+    has 'the members beside a ring' 'drwxr-xr-x d/ -rw-r--r-- kept' "$(tar -tvf output | awk '{ print $1, $6 }' | paste -s -d ' ' -)"
+done
+
+# Paths for which a header has no room: sixteen directories have, each in the one before, and the next has not.
+path=
+lines=()
+for _ in $(seq 18); do
+    path=$path/$nested
+    lines+=("1000 3 5 mkdir $path 755")
+done
+played 7 deep.img "${lines[@]}" "1000 3 5 create $path/deep 644" "1000 0 0 write $path/deep 0 $(digits 'deep\n')"
+seventeen=${path%/*}
+exports 'a long path' 1 "unixvol: ${seventeen#/}: the path is too long for an archive" 7 deep.img
+has 'the members above a long path' 16 "$(tar -tf output | wc -l)"
+
+# A name with a slash.
+played 6 slash.img '1000 3 5 create /up_and_over 644'
+put slash.img "$(LC_ALL=C grep -abo up_and_over slash.img | head -n 1 | cut -d : -f 1)" "$(digits ../..)"
+exports 'a name with a slash' 1 'unixvol: ../..d_over: the name is empty or has a slash
+unixvol: unsound, rule 9' 6 slash.img
+image end.tar 1024
+saves 'an archive without members' output end.tar
+
+# Archives of GNU tar in three formats, imported. That of ustar is exported again byte for byte; the others make the same image.
+mkdir wanted
+{ printf x; head -c 598 /dev/zero; printf y; } > wanted/big
+printf 'hello\n' > wanted/hello.txt
+printf 'deep\n' > wanted/deep
+printf 'far\n' > wanted/far
+: > wanted/empty
+for edition in 6 7; do
+    for format in plain gnu extended; do
+        list=$archives/gnu.ls
+        [ "$format" = plain ] && list=$archives/plain.ls
+        cp "blank.v$edition" "$format.img"
+        imports "$edition" "$format.img" "$format"
+        lists "the tree of $format.tar in edition $edition" "$list" "$edition" "$format.img"
+        has "the second name in $format.tar" "$(number "$edition" "$format.img" /dir/link)" "$(number "$edition" "$format.img" /hello.txt)"
+        # The i-node and the root have the moments of the links.
+        [ "$edition" = 7 ] && has "the moment of a link in $format.tar" '"ctime":1000000000' \
+            "$("$program" inode --json 7 "$format.img" "$(number 7 "$format.img" /hello.txt)" | grep -o '"ctime":[0-9]*')"
+        has "the moment of the root after $format.tar" '2001-09-09 01:46:40' "$("$program" ls -l "$edition" "$format.img" / | awk '$NF == "." { print $7, $8 }')"
+        rm -rf got
+        mkdir got
+        prints none get -o got "$edition" "$format.img" /dir/big /hello.txt /dir/sub/deep /empty "$eight/far"
+        has "the files of $format.tar" '' "$(diff -r got wanted)"
+        if [ "$format" != plain ]; then
+            has "the second name by a long path in $format.tar" "$(number "$edition" "$format.img" "$eight/far")" "$(number "$edition" "$format.img" /zfar)"
+            prints wanted/far get "$edition" "$format.img" /zfar
+        fi
+    done
+    saves 'the image of an archive with headers of pax' extended.img gnu.img
+    prints "$archives/plain.tar" export "$edition" plain.img ''
+done
+
+# Headers of files in both formats, and blocks that are no header.
+for format in posix gnu; do
+    cp blank.v7 disk.img
+    imports 7 disk.img "${format}_file"
+    printf '/:\n-rw-r----- 1 3 5 6 2001-09-09 01:46:40 readme\n' > list
+    lists "the file of ${format}_file.tar" list 7 disk.img
+done
+cp blank.v7 disk.img
+while read -r fault place bytes; do
+    changed "$archives/gnu_file.tar" edited.tar "$place" "$(digits "$bytes")"
+    case $fault in
+        checksum) text='a header with a wrong checksum' ;;
+        magic) text='no header of ustar' ;;
+        number) text='a header with a field that is no number' ;;
+    esac
+    unimported "unixvol: archive, byte 0: $text" 7 edited.tar
+done << 'ROWS'
+checksum 0 R
+checksum 148 010573
+checksum 148 01057x
+magic 263 00
+number 124 0000000000x\x0007346545000\x00010674\x00\x20
+ROWS
+saves 'an image into which no header was imported' disk.img blank.v7
+
+for edition in 6 7; do
+    # Directories that are no members, and members that come twice.
+    cp "blank.v$edition" disk.img
+    imports "$edition" disk.img ways
+    cat > list << 'LIST'
+/:
+drwxr-xr-x 3 0 0 64 1970-01-01 00:16:40 src
+
+/src:
+-rw-r--r-- 1 0 0 2 1970-01-01 00:16:40 a.c
+drwxr-xr-x 2 0 0 48 1970-01-01 00:16:40 lib
+
+/src/lib:
+-rw-r--r-- 1 0 0 2 1970-01-01 00:16:40 b.c
+LIST
+    lists 'directories on the way' list "$edition" disk.img
+    printf 'a\n' > a.c
+    printf 'b\n' > b.c
+    prints a.c get "$edition" disk.img /src/a.c
+    prints b.c get "$edition" disk.img /src/lib/b.c
+    cp "blank.v$edition" disk.img
+    imports "$edition" disk.img twice
+    cat > list << 'LIST'
+/:
+drwxr-x--- 3 0 0 48 1970-01-01 00:16:40 src
+
+/src:
+drwx------ 2 0 0 48 1970-01-01 00:16:40 lib
+
+/src/lib:
+-rw-r--r-- 1 0 0 2 1970-01-01 00:16:40 b.c
+LIST
+    lists 'directories that come twice' list "$edition" disk.img
+    prints b.c get "$edition" disk.img /src/lib/b.c
+    # A directory that is there stays; a file that is there is in the place of one on the way.
+    played "$edition" disk.img '1000 0 0 mkdir /src 711'
+    imports "$edition" disk.img twice
+    sed 's/^drwxr-x---/drwx--x--x/' list > stays
+    lists 'a directory that stays' stays "$edition" disk.img
+    played "$edition" disk.img '1000 0 0 create /src 644'
+    cp disk.img before.img
+    unimported 'unixvol: 17 Exists: /src' "$edition" "$archives/ways.tar"
+    saves 'an image with a file in the place of a directory' disk.img before.img
+
+    # Members that no call makes, archives that can't be read, and what the calls refuse.
+    cp "blank.v$edition" disk.img
+    while IFS='|' read -r name line; do
+        unimported "unixvol: $line" "$edition" "$archives/$name.tar"
+    done << 'ROWS'
+symbolic|b: neither a file, a directory nor a hard link
+fifo|fifo: neither a file, a directory nor a hard link
+long|abcdefghijklmno: a name above 14 bytes
+parent|../ok: a name ..
+owner|ok: an owner or a group above the edition's highest
+long_link|b: a link to a path with a name above 14 bytes
+parent_link|b: a link to a path with a name ..
+broken|archive, byte 0: records of pax that can't be read
+given_owner|archive, byte 0: records of pax that can't be followed
+given_paths|archive, byte 0: records of pax that can't be followed
+old|archive, byte 0: no header of ustar
+ROWS
+    unimported 'unixvol: 2 NoEntry: /x/ok' "$edition" "$archives/ok.tar" /x
+    saves 'an image into which nothing was imported' disk.img "blank.v$edition"
+    imports "$edition" disk.img ok
+    cp disk.img before.img
+    unimported 'unixvol: 17 Exists: /ok' "$edition" "$archives/ok.tar"
+    saves 'an image with a file of the same path' disk.img before.img
+    # A comment on all later members is passed over.
+    cp "blank.v$edition" disk.img
+    imports "$edition" disk.img commented
+    printf 'x\n' > ok
+    prints ok get "$edition" disk.img /ok
+done
+
+# An owner of the seventh edition that the sixth has not.
+cp blank.v7 disk.img
+imports 7 disk.img guest
+printf '/:\n-rw-r--r-- 1 1000 0 0 1970-01-01 00:16:40 ok\n' > list
+lists 'an owner of the seventh edition' list 7 disk.img
+cp blank.v6 disk.img
+unimported "unixvol: ok: an owner or a group above the edition's highest" 6 "$archives/guest.tar"
+saves 'an image of the sixth edition without the owner' disk.img blank.v6
+: > disk.img
+unimported 'unixvol: unsound, rule 1' 6 "$archives/ok.tar"
+saves 'an image without bytes' disk.img none
+
+# An archive that is cut off, with its length: the line names the first header that isn't there with all that follows it, or a first block of
+# the end without the second.
+cp blank.v7 disk.img
+for length in $(seq 0 256 11264) 1100; do
+    for at in 10752 9728 9216 8704 8192 7680 7168 6656 6144 5632 5120 4608 3584 3072 2048 512 0; do
+        [ "$at" -le "$length" ] && break
+    done
+    text='cut off'
+    [ "$length" -ge 11264 ] && text='a lone block of zeros'
+    head -c "$length" "$archives/plain.tar" > "$length.tar"
+    unimported "unixvol: archive, byte $at: $text" 7 "$length.tar"
+done
+saves 'an image into which no front of an archive was imported' disk.img blank.v7
+
+# Trees that are exported, imported and exported alike: an empty one, directories, files.
+for edition in 6 7; do
+    played "$edition" directories.img '1000 0 7 mkdir /b 700' '1000 0 7 mkdir /b/b 1777' '1000 0 7 mkdir /b/a 0' '1000 0 7 mkdir /a 755' \
+        '1000 0 7 mkdir /a/\xff 755' '1000 0 0 chown /a 0 0' '1000 0 0 create /b/b/none 444'
+    played "$edition" files.img '1000 0 0 create /one 6711' "1000 0 0 write /one 0 $(printf '31%.0s' $(seq 512))" '1000 0 0 create /two 644' \
+        "1000 0 0 write /two 20000 $(digits end)" '1000 0 0 chown /two 255 254' '1000 0 7 mkdir /abcdefghijklmn 755' \
+        '1000 0 0 link /two /abcdefghijklmn/2' '1000 0 0 link /one /abcdefghijklmn/1' '1000 0 0 link /one /abcdefghijklmn/0'
+    cp "blank.v$edition" empty.img
+    for tree in empty directories files; do
+        "$program" export "$edition" "$tree.img" > first.tar
+        cp "blank.v$edition" disk.img
+        "$program" import "$edition" disk.img '' 2000 < first.tar > output 2> error
+        echo $? > status
+        wants "import of $tree in edition $edition" 0 none none
+        prints first.tar export "$edition" disk.img ''
+    done
+done
+
+echo "$passed passed, $failed failed"
+[ "$failed" = 0 ]

@@ -1,64 +1,89 @@
-//! The tests' tree, exported.
-use crate::fixtures::{expected, export_to, tree};
-use pdp_words::Image;
+//! Outputs that fail once, and a path with a zero byte.
+use crate::patching::{Piece, patch};
 use pdp_words::testing::{ScriptedWriter, WriteMishap};
+use pdp_words::{Image, IntoWrite};
 use std::alloc::Global;
 use std::io::ErrorKind;
 use std::process::Abort;
-use vol_archive::{StartFault, WriteFault, start_of};
+use vol_archive::{Start, StartFault, WriteFault, export, start_of};
 use vol_dir::Refusal;
-use vol_layout::{Edition, GeometryFault};
+use vol_layout::Edition;
 
-#[test]
-fn a_tree_is_what_gnu_tar_makes_of_it(rt: HostRuntime) {
-    for edition in [Edition::V6, Edition::V7] {
-        let image = Image::from_bytes(tree(&rt, rt.alloc(), edition));
-        let writer = ScriptedWriter::new(rt.alloc(), 100);
-        let exported = export_to(&rt, rt.alloc(), edition, &image, b"", writer);
-        assert_eq!(rt;
-            exported.taken.as_slice(),
-            expected(&rt, rt.alloc()).as_slice()
-        );
-        let founds = exported.answer.expect(&rt, "what was met");
-        assert_eq!(rt; founds.len(), 18);
-    }
+/// A volume of the seventh edition, of ten blocks. Four are before the data: i-node 2 is the root. It has files, directories, a further name
+/// and special files; no directory has `.` or `..`.
+static TREE: [Piece; 25] = [
+    (512, b"\x04\0\0\0\x0a\0"),
+    (1088, b"\xff\x41\x02\0\0\0\0\0\0\0\x60\0\0\x04\0"),
+    (1152, b"\xa4\x81\x02\0\x03\0\x05\0\0\0\x06\0\0\x05\0"),
+    (1216, b"\xa4\x81\x01\0\x03\0\x05\0\0\0\x89\x13"),
+    (1255, b"\0\x06\0"),
+    (1280, b"\xed\x41\x02\0\x03\0\x05\0\0\0\x30\0\0\x07\0"),
+    (1344, b"\x80\x61\x01\0\x03\0\x05\0\0\0\0\0\0\x07\x01"),
+    (1408, b"\xb6\x21\x01\0\x03\0\x05\0\0\0\0\0\0\x03\x02"),
+    (1472, b"\xa4\x81\x01\0\x03\0\x05\0\0\0\x08\0\0\x08\0"),
+    (1536, b"\xa4\x81\x01\0\x03\0\x05\0"),
+    (1600, b"\xed\x41\x02\0\x03\0\x05\0\0\0\x10\0\0\x09\0"),
+    (1664, b"\xed\x41\x02\0\x03\0\x05\0"),
+    (2048, b"\x03\0a.txt"),
+    (2064, b"\x04\0big"),
+    (2080, b"\x05\0d"),
+    (2096, b"\x06\0disk"),
+    (2112, b"\x07\0null"),
+    (2128, b"\x0a\0p23456789abcde"),
+    (2560, b"hello\n"),
+    (3464, b"x"),
+    (3584, b"\x08\0abcdefghijklmn"),
+    (3600, b"\x09\0e"),
+    (3616, b"\x03\0link"),
+    (4096, b"fourteen"),
+    (4608, b"\x0b\0p23456789abcde"),
+];
+
+/// An image of some bytes, zeros but for some pieces.
+fn image_of(rt: &impl Abort, alloc: Global, len: usize, pieces: &[Piece]) -> Image {
+    let mut bytes = vec![in alloc; 0; len].expect(rt, "memory for an image");
+    patch(&mut bytes, pieces);
+    Image::from_bytes(bytes)
+}
+
+/// Exports a tree to a writer. Returns whether the output failed, and what the writer took.
+fn export_to(
+    rt: &impl Abort,
+    alloc: Global,
+    image: &Image,
+    start: &Start,
+    writer: ScriptedWriter,
+) -> (bool, Vec<u8>) {
+    let mut sink = IntoWrite::new(writer);
+    let answer = export(alloc, image, &start.geometry, start.inode, &mut sink);
+    let failed = matches!(answer, Err(WriteFault::Output));
+    assert!(rt; failed || answer.is_ok(), "memory for an export");
+    (failed, sink.into_inner().taken)
 }
 
 #[test]
 fn a_writer_that_fails_has_a_front(rt: HostRuntime) {
-    let image = Image::from_bytes(tree(&rt, rt.alloc(), Edition::V7));
-    let wanted = expected(&rt, rt.alloc());
+    let alloc = rt.alloc();
+    let image = image_of(&rt, alloc, 5120, &TREE);
+    let start = start_of(Edition::V7, &image, b"/").expect(&rt, "a directory");
+    let writer = ScriptedWriter::new(alloc, 300);
+    let (failed, wanted) = export_to(&rt, alloc, &image, &start, writer);
+    assert!(rt; !failed);
+    // Headers of 10 members, 1, 10 and 1 blocks of their bytes, and the end.
+    assert_eq!(rt; wanted.len(), 512 * (10 + 12 + 2));
     for at in 0..40 {
-        check_failing(&rt, rt.alloc(), &image, &wanted, at);
+        let kind = WriteMishap::Error(ErrorKind::BrokenPipe);
+        let writer = ScriptedWriter::new(alloc, 300).failing_at(at, kind);
+        let (failed, taken) = export_to(&rt, alloc, &image, &start, writer);
+        assert!(rt; failed, "write {at}");
+        assert!(rt; taken.len() < wanted.len(), "write {at}");
+        assert!(rt; wanted.starts_with(&taken), "write {at}");
     }
 }
 
-/// A write goes wrong: what went out is a front of the archive.
-fn check_failing(rt: &impl Abort, alloc: Global, image: &Image, wanted: &[u8], at: u64) {
-    let kind = WriteMishap::Error(ErrorKind::BrokenPipe);
-    let writer = ScriptedWriter::new(alloc, 300).failing_at(at, kind);
-    let exported = export_to(rt, alloc, Edition::V7, image, b"/", writer);
-    assert!(rt;
-        matches!(exported.answer, Err(WriteFault::Output)),
-        "write {at}"
-    );
-    assert!(rt; exported.taken.len() < wanted.len(), "write {at}");
-    assert!(rt; wanted.starts_with(&exported.taken), "write {at}");
-}
-
 #[test]
-fn what_leads_to_no_directory_is_refused(rt: HostRuntime) {
-    let image = Image::from_bytes(tree(&rt, rt.alloc(), Edition::V6));
-    check_start(&rt, &image, b"/a.txt", Refusal::NotDirectory);
-    check_start(&rt, &image, b"/x", Refusal::NoEntry);
-    check_start(&rt, &image, b"/d\0", Refusal::Invalid);
-    let short = Image::from_bytes(Vec::new(rt.alloc()));
-    let fault = StartFault::Unsound(GeometryFault::Short);
-    assert_eq!(rt; start_of(Edition::V6, &short, b""), Err(fault));
-}
-
-/// A path is refused.
-fn check_start(rt: &impl Abort, image: &Image, path: &[u8], refusal: Refusal) {
-    let fault = StartFault::Refused(refusal);
-    assert_eq!(rt; start_of(Edition::V6, image, path), Err(fault));
+fn a_path_with_a_zero_byte_is_refused(rt: HostRuntime) {
+    let image = image_of(&rt, rt.alloc(), 2048, &[(512, b"\x01\0\x04\0")]);
+    let fault = StartFault::Refused(Refusal::Invalid);
+    assert_eq!(rt; start_of(Edition::V6, &image, b"/d\0"), Err(fault));
 }

@@ -147,5 +147,138 @@ misread "error: unexpected argument '--svg'" super --svg 7 "$linux"
 misread "error: invalid value '65536' for '<INO>'" inode 7 "$linux" 65536
 misread 'error: the following required arguments' inode 7 "$linux"
 
+# Volumes of 20 blocks, two of them the i-list, all at one moment: a new one; with a directory; with a file of a letter, and with one of
+# three blocks; with a tree; with special files.
+now=168496141
+data=$samples/../tests/looks
+printf 'hello\n' > line_of_hello
+printf x > x
+printf y > y
+head -c 1100 /dev/zero | tr '\0' '\007' > sevens
+for edition in 6 7; do
+    # on IMAGE COMMAND WORD..: changes a volume of this edition
+    on() { "$program" "$2" "$edition" "$1" "${@:3}" "$now"; }
+    "$program" mkfs "$edition" "bare.v$edition" 20 2 0 0 "$now"
+    for name in directory letter three tree special archived; do cp "bare.v$edition" "$name.v$edition"; done
+    on "directory.v$edition" mkdir /d
+    on "letter.v$edition" put /a x
+    on "three.v$edition" put /a sevens
+    on "archived.v$edition" put /a line_of_hello
+    on "archived.v$edition" mkdir /d
+    on "archived.v$edition" ln /a /d/l
+    image=tree.v$edition
+    on "$image" put /b line_of_hello
+    on "$image" put /a none
+    on "$image" mkdir /d
+    on "$image" ln /b /d/l
+    on "$image" mkdir /d/e
+    on "$image" put $'/d/e/tab\there' x
+    image=special.v$edition
+    on "$image" put /f line_of_hello
+    on "$image" chmod /f 4755
+    on "$image" put /g none
+    on "$image" chmod /g 7000
+    on "$image" mkdir /t
+    on "$image" chmod /t 1777
+    on "$image" chown /g 255 7
+    on "$image" put /c none
+    on "$image" put /k none
+done
+# `c` is a character special file for device 3, 9, and `k` a block special file for 200, 1.
+put special.v6 $((1024 + 28 * 32)) 'A4 A1'
+put special.v6 $((1024 + 28 * 32 + 8)) '09 03'
+put special.v6 $((1024 + 27 * 32)) 'A4 E1'
+put special.v6 $((1024 + 27 * 32 + 8)) '01 C8'
+put special.v7 $((1024 + 12 * 64)) 'A4 21'
+put special.v7 $((1024 + 12 * 64 + 13)) '09 03'
+put special.v7 $((1024 + 11 * 64)) 'A4 61'
+put special.v7 $((1024 + 11 * 64 + 13)) '01 C8'
+changed directory.v6 links.v6 1026 05
+changed bare.v6 twice_free.v6 544 '06 00'
+
+# Rules of soundness, listings, reports and the map, by the lines of a file.
+follows "$data/rows"
+
+# What a terminal gets: names escaped; colours, and as many cells in a row as it is wide; no archive.
+# on_terminal COLUMNS WORD..: what the program prints to a terminal, in `output`; what it tells, in `error`; its status, in `status`
+on_terminal() {
+    COLUMNS=$1 script -qec "'$program' ${*:2} 2> error; echo \$? > status" /dev/null < /dev/null | tr -d '\r' > output
+}
+on_terminal 80 ls 6 tree.v6 /d/e
+printf '%s\n' '   29 .' '   30 ..' '   28 tab\011here' > wanted
+wants 'ls of an odd name on a terminal' 0 wanted none
+on_terminal 8 map 6 letter.v6
+printf '20 blocks, 1 in each cell\n\n\033[100mB\033[0m' > wanted
+has 'the beginning of a map on a terminal' same "$(head -c "$(wc -c < wanted)" output | cmp -s - wanted && echo same)"
+has 'the status, the lines and the errors of a map on a terminal' '0 16 0' "$(cat status) $(wc -l < output) $(wc -c < error)"
+on_terminal 80 export 6 archived.v6 /
+echo 'unixvol: cannot write -' > line
+wants 'export to a terminal' 3 none line
+
+# Squares.
+runs map --svg 7 letter.v7
+has 'the beginning of a map of squares' "<svg xmlns='http://www.w3.org/2000/svg' " "$(head -c 40 output)"
+has 'the end of a map of squares' '</svg>' "$(tail -c 7 output)"
+has 'the status and the errors of a map of squares' '0 0' "$(cat status) $(wc -c < error)"
+
+# Archives, byte for byte as GNU tar makes them of the same.
+pieces "$data/archive"
+for edition in 6 7; do prints archive export "$edition" "archived.v$edition" ''; done
+
+# What is wrong with an image: two files name block 5, and the entry of a name that a terminal can't show leads past the last i-node.
+cp bare.v6 wrong.v6
+edition=6
+on wrong.v6 put /a x
+on wrong.v6 put /b y
+on wrong.v6 put '/odd\name' none
+put wrong.v6 1992 '05 00'
+put wrong.v6 $((4 * 512 + 4 * 16)) 'FF FF 0A'
+printf 'unixvol: %s\n' '\012dd\\name: no i-node' 'block 5: two places of files name it' 'unsound, rule 7' > wanted
+exports 1 wrong.tar 6 wrong.v6 ''
+has 'what is told of an image of which much is wrong' same "$(cmp -s error wanted && echo same)"
+has 'the bytes of an archive of an image of which much is wrong' 3072 "$(wc -c < wrong.tar)"
+
+# Moments of long lines, beside what Python's datetime makes of them: those of a table, and one of each fifth day up to 2105. Each is the
+# time of modification of a file, which is put into its i-node.
+cat > moments.py << 'PYTHON'
+import datetime, struct, sys
+table = [int(line.split()[0]) for line in open(sys.argv[1])]
+moments = table + [day * 86400 + day * 7919 % 86400 for day in range(0, 5 * 26 * 382, 5)]
+if sys.argv[2] == "wanted":
+    for it in moments:
+        print(datetime.datetime.fromtimestamp(it, datetime.timezone.utc).strftime("%Y-%m-%d %H:%M:%S"))
+elif sys.argv[2] == "script":
+    for folder in range(0, len(moments), 1000):
+        print(f"1 0 0 mkdir /{folder:05} 755")
+        for number in range(folder, min(folder + 1000, len(moments))):
+            print(f"1 0 0 create /{folder:05}/{number:05}.file 644")
+elif sys.argv[2] == "put":
+    made = [int(line.split()[2]) for line in open(sys.argv[4]) if " ok " in line]
+    files = [ino for place, ino in enumerate(made) if place % 1001 != 0]
+    image = bytearray(open(sys.argv[3], "rb").read())
+    for ino, it in zip(files, moments, strict=True):
+        struct.pack_into("<HH", image, 1024 + 32 * (ino - 1) + 28, it >> 16, it & 0xFFFF)
+    open(sys.argv[3], "wb").write(image)
+else:
+    # Each byte of the moments of days in turn is added to 31 times the sum before it, of which the low 32 bits are kept.
+    total = 0
+    for line in open(sys.argv[3]).read().split("\n")[len(table):-1]:
+        for byte in line.encode():
+            total = (total * 31 + byte) & 0xFFFFFFFF
+    print(total)
+PYTHON
+python3 moments.py "$data/moments" wanted > wanted
+cut -d ' ' -f 2- "$data/moments" > table
+has 'what Python makes of the moments of the table' same "$(head -n 90 wanted | cmp -s - table && echo same)"
+python3 moments.py "$data/moments" script > script
+"$program" mkfs 6 moments.v6 2000 700 0 0 1
+"$program" play 6 moments.v6 script > played
+has 'the files whose moments are listed' "records $((11 + 90 + 9932))" "$(grep records played)"
+python3 moments.py "$data/moments" put moments.v6 played
+runs ls -l -R 6 moments.v6
+grep '\.file$' output | cut -c 47-65 > listed
+has 'the moments of the table and of each fifth day' '0 same' "$(cat status) $(cmp listed wanted && echo same)"
+has 'the sum of the moments of each fifth day' 3421988079 "$(python3 moments.py "$data/moments" sum listed)"
+
 echo "$passed passed, $failed failed"
 [ "$failed" = 0 ]

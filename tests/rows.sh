@@ -107,3 +107,69 @@ has() {
 }
 
 : > none
+
+# pieces FILE: makes the files that FILE has: `= NAME BYTES` begins one of so many zeros, `AT TEXT` puts text with escapes into it
+pieces() {
+    local at text name
+    while read -r at text; do
+        case $at in
+            '#'*) ;;
+            =)
+                name=${text% *}
+                image "$name" "${text#* }"
+                ;;
+            *) printf '%b' "$text" | dd of="$name" bs=1 seek="$at" conv=notrunc status=none ;;
+        esac
+    done < "$1"
+}
+
+# follows FILE: runs each line `$ WORD..` of FILE, in which E is the edition and '' an empty word. The lines below it are what is to be
+# printed, `! LINE` is to be told, and `? N` is the status where it isn't 0. `= ONE OTHER` compares two files; lines with # are comments.
+follows() {
+    local line words=() want=0
+    has "the rows in $1" yes "$([ -s "$1" ] && echo yes)"
+    while IFS= read -r line; do
+        case $line in
+            '$ '* | '= '* | '#'*)
+                followed
+                case $line in
+                    '$'*) words_of "${line#??}" ;;
+                    '='*)
+                        words_of "${line#??}"
+                        saves "${words[0]}" "${words[0]}" "${words[1]}"
+                        words=()
+                        ;;
+                esac
+                ;;
+            '! '*) printf '%s\n' "${line#??}" >> to_tell ;;
+            '? '*) want=${line#??} ;;
+            *) printf '%s\n' "$line" >> to_print ;;
+        esac
+    done < "$1"
+    followed
+}
+
+# words_of TEXT: leaves the words of a line of `follows` in words
+words_of() {
+    local word
+    words=()
+    for word in $1; do
+        case $word in
+            E) words+=("$edition") ;;
+            "''") words+=('') ;;
+            *) words+=("$word") ;;
+        esac
+    done
+}
+
+# followed: runs the words, if there are some, and compares; then there are none
+followed() {
+    if [ ${#words[@]} != 0 ]; then
+        runs "${words[@]}"
+        wants "${words[*]}" "$want" to_print to_tell
+    fi
+    words=()
+    want=0
+    : > to_print
+    : > to_tell
+}

@@ -1,0 +1,218 @@
+#!/usr/bin/env bash
+# Runs the commands of the built program that change a volume by several calls, and compares what they tell and what the volume then has:
+# archives that are imported, directories, moves, files that are put and got, and trees that are removed.
+# Usage: tests/changes.sh PROGRAM. It prints a line for each row that fails, and ends with 'N passed, N failed'.
+. "$(dirname "$0")/rows.sh"
+data=$samples/../tests/changes
+
+# answers IMAGE: standard input has queries, each with a colon and its answer after it: each is asked by user 0, of a copy of the image. In an
+# answer * is any text.
+answers() {
+    local number=0 query answer printed
+    : > queries
+    : > wanted
+    while IFS=: read -r query answer; do
+        echo "1 0 0 $query" >> queries
+        echo "$answer" >> wanted
+    done
+    cp "$1" asked.img
+    runs play "$edition" asked.img queries
+    has "the answers about $1" "records 0 confirmed $(wc -l < queries)" "$(tail -n 2 output | cat - error | paste -s -d ' ' -)"
+    while read -r answer <&3 && read -r printed <&4; do
+        number=$((number + 1))
+        # shellcheck disable=SC2053
+        [[ $printed == 1.$number\ $answer ]] && printed=$answer
+        has "$1: $(sed -n "${number}s/^1 0 0 //p" queries)" "$answer" "$printed"
+    done 3< wanted 4< output
+}
+
+# imports STATUS LINE ARCHIVE IMAGE [PATH]: the program imports the archive, with this status, and tells the line, if there is one
+imports() {
+    "$program" import "$edition" "$4" "${5-}" 2000 < "$3" > output 2> error
+    echo $? > status
+    if [ -n "$2" ]; then echo "$2" > line; else : > line; fi
+    wants "import of $3 into $4" "$1" none line
+}
+
+# plays IMAGE FILE..: the calls of some files are made on the volume, one after the other, and none is refused
+plays() {
+    cat "${@:2}" > calls
+    runs play "$edition" "$1" calls
+    has "the calls that make $1" "0 $(wc -l < calls)" "$(cat status) $(grep -c ' ok ' output)"
+}
+
+# at_node I: where i-node I begins
+at_node() { echo $((1024 + (edition == 6 ? 32 : 64) * ($1 - 1))); }
+
+pieces "$data/archives"
+head -c 1100 tree.tar > cut.tar
+head -c 2048 tree.tar > lone.tar
+changed tree.tar sum.tar 0 65
+changed tree.tar other.tar 769 78
+echo hello > hello
+: > empty
+mkdir in
+printf other > in/f
+: > in/g
+printf x > in/fourteen.bytes
+printf x > in/a.name.too.long
+
+# A directory and a file in it, of another user; and below /d directories in one another, a large file, files with further names, one of them
+# outside of the tree, and two that become special files.
+nest=/d
+cat > keep << 'END'
+1000 0 0 mkdir /keep 100
+1000 0 0 chown /keep 3 5
+1000 0 0 create /keep/file 400
+1000 0 0 write /keep/file 0 6b657074
+END
+{
+    for path in /d /d/b /d/b/none; do printf '1000 0 0 mkdir %s 100\n1000 0 0 chown %s 3 5\n' "$path" "$path"; done
+    cat << 'END'
+1000 0 0 create /d/b/far 400
+1000 0 0 write /d/b/far 30000 78
+1000 0 0 create /d/twice 400
+1000 0 0 write /d/twice 0 74776f206e616d6573
+1000 0 0 link /d/twice /d/b/two
+END
+    printf '1000 0 0 link /keep/file /d/b/\xff\n'
+    printf '1000 0 0 create %s 400\n' /d/disk /d/null
+    for ((number = 0; number < 20; number++)); do
+        nest+=/p23456789abcde
+        printf '1000 0 0 mkdir %s 100\n1000 0 0 chown %s 3 5\n' "$nest" "$nest"
+    done
+    printf '1000 0 0 create %s/deep 400\n1000 0 0 write %s/deep 0 646565700a\n' "$nest" "$nest"
+} > grow
+cat > names << 'END'
+1000 0 0 create /one 400
+1000 0 0 write /one 0 6279746573
+1000 0 0 link /one /other
+END
+
+# shown IMAGE: a volume's rules, its free blocks and i-nodes, the names of / and /keep, and of them and of /keep/file the numbers and links
+shown() {
+    cp "$1" asked.img
+    printf '1 0 0 stat %s\n' / /keep /keep/file > queries
+    "$program" check "$edition" "$1" 2>&1
+    "$program" super "$edition" "$1" 2>&1 | tail -n 2
+    "$program" ls "$edition" "$1" / 2>&1
+    "$program" ls "$edition" "$1" /keep 2>&1
+    "$program" play "$edition" asked.img queries 2>&1 | awk '{ print $1, $2, $3, $4, $5, $6, $7, $8 }'
+}
+
+# is_as_before IMAGE: what is shown of it is what was shown before the tree was there
+is_as_before() {
+    shown "$1" > now
+    cmp -s now before
+    has "what $1 has once all was removed" 0 $?
+}
+
+for edition in 6 7; do
+    # Archives that are imported, and those that aren't.
+    "$program" mkfs "$edition" blank.img 40 2 0 0 1000
+    for name in tree odd ways unread; do cp blank.img "$name.img"; done
+    imports 0 '' tree.tar tree.img
+    for name in twice left moved1 moved2 moved3 moved4 removed put; do cp tree.img "$name.img"; done
+    imports 0 '' tree.tar twice.img /d
+    answers twice.img << 'END'
+stat /d:stat * dir 0755 * 0 0 *
+stat /d/d:stat * dir 0755 * 0 0 *
+stat /d/f:stat * file 0644 * 0 0 *
+read /d/f 0 100000:read 68656c6c6f0a
+read /d/d/f 0 100000:read 68656c6c6f0a
+stat /f:2 NoEntry
+END
+    imports 1 'unixvol: abcdefghijklmno: a name above 14 bytes' long.tar unread.img
+    imports 1 'unixvol: archive, byte 512: cut off' cut.tar unread.img
+    imports 1 'unixvol: archive, byte 1536: a lone block of zeros' lone.tar unread.img
+    imports 1 'unixvol: archive, byte 0: a header with a wrong checksum' sum.tar unread.img
+    imports 1 'unixvol: archive, byte 512: no header of ustar' other.tar unread.img
+    saves 'a volume into which no archive was imported' unread.img blank.img
+    imports 0 '' odd.tar odd.img
+    cp odd.img odd_before.img
+    imports 1 'unixvol: 17 Exists: /odd\012name' odd.tar odd.img
+    saves 'a volume that has the file already' odd.img odd_before.img
+    "$program" mkfs "$edition" five.img 5 2 0 0 1000
+    cp five.img five_before.img
+    imports 1 'unixvol: 28 NoSpace: /d/' tree.tar five.img
+    saves 'a volume without room for an archive' five.img five_before.img
+    imports 1 'unixvol: unsound, rule 1' tree.tar empty
+
+    # Directories, moves, removals and copies, by the lines of a file; and what the volumes then have.
+    "$program" mkfs "$edition" six.img 6 2 0 0 1000
+    cp six.img six_before.img
+    "$program" mkfs "$edition" before.img 400 12 0 0 1000
+    cp before.img grown.img
+    cp before.img named.img
+    plays before.img keep
+    cp before.img kept.img
+    rm -rf out1 out2 out3
+    mkdir out1 out2 out3
+    follows "$data/rows"
+    has 'files that were not got' '' "$(ls out3)"
+    refuses 1 'unixvol: 2 NoEntry: /x\012' get "$edition" tree.img -o out3 $'/x\n' /d
+    answers ways.img << 'END'
+stat /a:stat * dir 0755 * 0 0 *
+stat /a/b/c:stat * dir 0755 * 0 0 *
+stat /a/b/d:stat * dir 0755 * 0 0 *
+stat /x/y:stat * dir 0755 * 0 0 *
+stat /p/q:stat * dir 0755 * 0 0 *
+stat /p/r:stat * dir 0755 * 0 0 *
+stat /b:2 NoEntry
+stat /r:2 NoEntry
+END
+    for row in 1:/g 2:/d/g 3:/f 4:/f; do
+        answers "moved${row%:*}.img" << END
+read ${row#*:} 0 100000:read 68656c6c6f0a
+stat ${row#*:}:stat * file * 1 * * *
+stat /d/f:2 NoEntry
+END
+    done
+    answers removed.img << 'END'
+stat /d:2 NoEntry
+stat /:stat * dir * 2 * * *
+END
+    answers put.img << 'END'
+read /d/f 0 100000:read 6f74686572
+read /d/g 0 100000:read -
+read /d/fourteen.bytes 0 100000:read 78
+stat /d/g:stat * file 0644 * 0 0 *
+stat /g:2 NoEntry
+END
+
+    # A tree is removed at once or part by part, and all that it held is free.
+    shown before.img > before
+    plays grown.img keep grow
+    "$program" ls "$edition" grown.img /d > listed
+    disk=$(at_node "$(sed -n 's/ disk$//p' listed)")
+    null=$(at_node "$(sed -n 's/ null$//p' listed)")
+    if [ "$edition" = 6 ]; then
+        put grown.img "$disk" '80 E1'
+        put grown.img "$null" '80 A1'
+        for at in "$disk" "$null"; do put grown.img $((at + 8)) '07 01'; done
+    else
+        put grown.img "$disk" '80 61'
+        put grown.img "$null" '80 21'
+        for at in "$disk" "$null"; do put grown.img $((at + 12)) '00 07 01'; done
+    fi
+    cp grown.img parts.img
+    prints none rm -r "$edition" grown.img /d 2000
+    is_as_before grown.img
+    answers grown.img <<< 'stat /d:2 NoEntry'
+    has 'when the root was changed' 'mtime 2000' "$("$program" inode "$edition" grown.img $((edition == 6 ? 1 : 2)) | grep mtime)"
+    for path in d/b /d/p23456789abcde /d/../d//null /d/; do prints none rm -r "$edition" parts.img "$path" 2000; done
+    is_as_before parts.img
+
+    # A file loses one name, and then the other.
+    plays named.img keep names
+    prints none rm -r "$edition" named.img /one 2000
+    answers named.img << 'END'
+stat /other:stat * file * 1 * * 5
+stat /one:2 NoEntry
+END
+    prints none rm -r "$edition" named.img other 2000
+    is_as_before named.img
+done
+
+echo "$passed passed, $failed failed"
+[ "$failed" = 0 ]

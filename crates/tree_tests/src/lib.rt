@@ -1,17 +1,9 @@
-//! Tests of the commands that change a volume by several calls: what each makes, what it tells, and its status.
+//! Tests of what no command of the program shows: the calls of a removal, and lists of files that a command line can't give.
 #![tactic(auto)]
 
 #[cfg(test)]
-mod archives;
-#[cfg(test)]
 mod copies;
 #[cfg(test)]
-mod directories;
-#[cfg(test)]
 mod fixtures;
-#[cfg(test)]
-mod imports;
-#[cfg(test)]
-mod moves;
 #[cfg(test)]
 mod removals;

@@ -1,50 +1,91 @@
-//! Trees that are taken away.
-use crate::fixtures::{
-    EDITIONS, NOW, Seen, check_missing, check_refused, done, mount, see, stat, with_tree,
-};
+//! The calls that take a tree away, in their order, and the one that is refused.
+use crate::fixtures::{EDITIONS, NOW, grown};
 use std::alloc::Global;
 use std::process::Abort;
-use tree_commands::Edit;
-use vol_layout::Edition;
+use vol_dir::{Cred, Refusal};
+use vol_removal::{RemovalFault, removal, remove_all};
+use vol_volume::{Call, Volume};
 
-/// Takes away what a path of some volume leads to.
-fn asked(alloc: Global, edition: Edition, image: Vec<u8>, path: &str) -> Seen {
-    let asked = Edit::RmAll { path, now: NOW };
-    see(alloc, edition, image, Vec::new(alloc), asked)
+/// A call as these tests tell it: whether it is an Rmdir, and its path.
+type Told<'a> = (bool, &'a [u8]);
+
+/// What a call is told as, who calls, and when.
+fn told(call: &Call) -> Option<(Told<'_>, Cred, u32)> {
+    match call {
+        Call::Rmdir { cred, now, path } => Some(((true, path.as_slice()), *cred, *now)),
+        Call::Unlink { cred, now, path } => Some(((false, path.as_slice()), *cred, *now)),
+        _ => None,
+    }
 }
 
-#[test]
-fn trees_are_taken_away(rt: HostRuntime) {
-    let alloc = rt.alloc();
-    for edition in EDITIONS {
-        let image = with_tree(&rt, alloc, edition);
-        let volume = mount(
-            &rt,
-            alloc,
-            edition,
-            done(&rt, asked(alloc, edition, image, "/d")),
-        );
-        check_missing(&rt, alloc, &volume, b"/d");
-        let links = stat(&rt, alloc, &volume, b"/").map(|stat| stat.links);
-        assert_eq!(rt; links, Some(2));
+/// The calls for a path are these.
+fn check_calls(rt: &impl Abort, alloc: Global, volume: &Volume, path: &[u8], all: &[Told<'_>]) {
+    let calls = removal(alloc, volume, path, NOW).expect(rt, "calls");
+    assert_eq!(rt; calls.len(), all.len());
+    for (call, wanted) in calls.iter().zip(all) {
+        let (call, cred, now) = told(call).expect(rt, "an Rmdir or an Unlink");
+        assert_eq!(rt; call, *wanted);
+        assert_eq!(rt; (cred.uid, cred.gid, now), (0, 0, NOW));
     }
 }
 
 #[test]
-fn removals_are_refused(rt: HostRuntime) {
+fn a_directory_goes_after_all_that_is_in_it(rt: HostRuntime) {
     let alloc = rt.alloc();
+    let all: [Told<'_>; 6] = [
+        (false, b"d/a"),
+        (true, b"d/m/e"),
+        (false, b"d/m/f"),
+        (true, b"d/m"),
+        (false, b"d/z"),
+        (true, b"d"),
+    ];
     for edition in EDITIONS {
-        check_kept(&rt, alloc, edition, "/", b"unixvol: 22 Invalid\n");
-        check_kept(&rt, alloc, edition, "/d/.", b"unixvol: 22 Invalid\n");
-        check_kept(&rt, alloc, edition, "/x", b"unixvol: 2 NoEntry\n");
-        check_kept(&rt, alloc, edition, "/d/f/x", b"unixvol: 20 NotDirectory\n");
-        let seen = asked(alloc, edition, Vec::new(alloc), "/d");
-        check_refused(&rt, &seen, 1, b"unixvol: unsound, rule 1\n");
+        let volume = grown(&rt, alloc, edition);
+        check_calls(&rt, alloc, &volume, b"d", &all);
+        check_calls(&rt, alloc, &volume, b"/d/m/e", &[(true, b"/d/m/e")]);
+        check_calls(&rt, alloc, &volume, b"/d/z", &[(false, b"/d/z")]);
+        check_calls(&rt, alloc, &volume, b"/d/m/e/", &[(true, b"/d/m/e/")]);
     }
 }
 
-/// A removal is refused.
-fn check_kept(rt: &impl Abort, alloc: Global, edition: Edition, path: &str, told: &[u8]) {
-    let image = with_tree(rt, alloc, edition);
-    check_refused(rt, &asked(alloc, edition, image, path), 1, told);
+/// Paths that lead to nothing, and why.
+static MISSING: [(&'static [u8], Refusal); 4] = [
+    (b"/none", Refusal::NoEntry),
+    (b"/keep/none/x", Refusal::NoEntry),
+    (b"/keep/file/x", Refusal::NotDirectory),
+    (b"/keep\0", Refusal::Invalid),
+];
+
+/// Paths whose Rmdir is refused, and why. By then all that is below them is gone, and so is `/keep` below `/keep/..`.
+static REFUSED: [(&'static [u8], Refusal); 4] = [
+    (b"", Refusal::Invalid),
+    (b"/", Refusal::Invalid),
+    (b"/keep/.", Refusal::Invalid),
+    (b"/keep/..", Refusal::NoEntry),
+];
+
+#[test]
+fn a_missing_path_is_told_from_a_refused_call(rt: HostRuntime) {
+    let alloc = rt.alloc();
+    for edition in EDITIONS {
+        let volume = grown(&rt, alloc, edition);
+        for (path, why) in &MISSING {
+            let planned = removal(alloc, &volume, path, NOW);
+            assert!(rt; matches!(planned, Err(RemovalFault::Missing(refusal)) if refusal == *why));
+        }
+        for (path, why) in &REFUSED {
+            let image = grown(&rt, alloc, edition).unmount();
+            match remove_all(alloc, edition, image, path, NOW) {
+                Err(RemovalFault::Refused(refusal, call)) => {
+                    assert_eq!(rt; refusal, *why);
+                    let (call, _, _) = told(&call).expect(&rt, "an Rmdir");
+                    assert_eq!(rt; call, (true, *path));
+                }
+                _ => panic!(rt; "no refusal"),
+            }
+        }
+        let removed = remove_all(alloc, edition, volume.unmount(), b"/none", NOW);
+        assert!(rt; matches!(removed, Err(RemovalFault::Missing(Refusal::NoEntry))));
+    }
 }

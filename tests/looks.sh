@@ -215,6 +215,15 @@ on_terminal 80 export 6 archived.v6 /
 echo 'unixvol: cannot write -' > line
 wants 'export to a terminal' 3 none line
 
+# A full device, whatever is shown.
+for command in 'check 6 directory.v6' 'ls -l 6 special.v6' 'ls -R --json 6 tree.v6' 'inode 6 three.v6 32' 'super --json 6 bare.v6' 'map 6 three.v6' 'map --svg 6 three.v6'; do
+    read -r -a words <<< "$command"
+    "$program" "${words[@]}" > /dev/full 2> error < /dev/null
+    echo $? > status
+    : > output
+    wants "$command, to a full device" 3 none line
+done
+
 # Squares.
 runs map --svg 7 letter.v7
 has 'the beginning of a map of squares' "<svg xmlns='http://www.w3.org/2000/svg' " "$(head -c 40 output)"
@@ -256,7 +265,8 @@ elif sys.argv[2] == "put":
     made = [int(line.split()[2]) for line in open(sys.argv[4]) if " ok " in line]
     files = [ino for place, ino in enumerate(made) if place % 1001 != 0]
     image = bytearray(open(sys.argv[3], "rb").read())
-    for ino, it in zip(files, moments, strict=True):
+    assert len(files) == len(moments)
+    for ino, it in zip(files, moments):
         struct.pack_into("<HH", image, 1024 + 32 * (ino - 1) + 28, it >> 16, it & 0xFFFF)
     open(sys.argv[3], "wb").write(image)
 else:

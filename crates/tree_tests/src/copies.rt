@@ -12,7 +12,7 @@ fn writer(alloc: Global) -> IntoWrite<ScriptedWriter> {
     IntoWrite::new(ScriptedWriter::new(alloc, 100))
 }
 
-/// Files of these names aren't put into the root of an image, for which no word will do on a command line, and why is told.
+/// Files of these names are not put into the root of an image, by an empty path, and why is told.
 fn check_not_put(
     rt: &impl Abort,
     alloc: Global,

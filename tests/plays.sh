@@ -1,0 +1,261 @@
+#!/usr/bin/env bash
+# Plays scripts on volumes: the lines that can be read, what is printed and saved, sessions and views at once, and calls that are foreseen for views.
+# Usage: tests/plays.sh PROGRAM. It prints a line for each row that fails, and ends with 'N passed, N failed'.
+data=$(realpath "$(dirname "$0")/plays")
+. "$(dirname "$0")/rows.sh"
+
+# New volumes: those of the sixth edition have 32 i-nodes, those of the seventh 16.
+"$program" mkfs 6 made.6 20 2 0 0 168496141
+"$program" mkfs 7 made.7 60 2 0 0 1
+"$program" mkfs 6 wide.6 100 2 0 0 1
+"$program" mkfs 7 wide.7 100 2 0 0 1
+
+# plays STATUS LINES EDITION SCRIPT..: plays scripts on a new volume, prints these lines (`|` between them), and saves the volume anew
+plays() {
+    local status=$1 edition=$3
+    tr '|' '\n' <<< "$2" > lines
+    shift 3
+    cp "made.$edition" played
+    stood=$(stat -c %i played)
+    runs play "$edition" played "$@"
+    wants "play $edition $*" "$status" lines none
+    has "play $edition $*: the volume is saved" saved "$([ "$(stat -c %i played)" != "$stood" ] && echo saved)"
+}
+
+# unread LABEL SCRIPT LINE FILE..: line LINE of script SCRIPT can't be read, so nothing is played
+unread() {
+    local label=$1
+    echo "unixvol: script $2 line $3" > line
+    shift 3
+    runs play 6 played "$@"
+    wants "$label" 2 none line
+}
+
+echo '5 0 0 create /a 644' > create
+
+# Scripts, and what is printed of them on a new volume; where one can't be read, the number of its first such line.
+while IFS=$'\t' read -r status wanted text; do
+    printf '%b' "$text" > script
+    if [ "$status" = 2 ]; then
+        cp made.6 played
+        stood=$(stat -c %i played)
+        unread "$text" 1 "$wanted" script
+        unread "$text, second" 2 "$wanted" create script
+        saves "no script was played: $text" played made.6
+        has "no volume was saved: $text" "$stood" "$(stat -c %i played)"
+    else
+        plays "$status" "$wanted" 6 script
+    fi
+done < "$data/lines"
+
+# The first fault is that of the first script that has one, also where the image is at fault too.
+printf '%s\n' '5 0 0 cut' > good
+printf '%s\n' '5 0 0 cut' '5 0 0 cut' x > bad
+printf '%s\n' x > worse
+cp made.6 played
+unread 'the first of two bad scripts' 2 3 good bad worse
+unread 'a twelfth script' 12 3 good good good good good good good good good good good bad
+printf '%s\n' '5 0 0 create /b 644' '5 0 0 creat /c 644' > creat
+: > played
+unread 'a script for no image' 2 2 create creat
+saves 'no image' played none
+refuses 1 'unixvol: unsound, rule 1' play 6 played create
+saves 'no image yet' played none
+# A seventeenth view can't be read, whatever its other lines are.
+echo view > nothing
+printf '%s\n' view x > odd
+plays 0 'records 0|confirmed 0' 6 $(yes nothing | head -16)
+cp made.6 played
+unread 'a seventeenth view' 18 1 $(yes nothing | head -16) good odd
+
+# Each command, by a user whose group is none of the editions'.
+cat > commands << 'END'
+4294967295 1 65535 create /a 644
+4294967295 1 65535 mkdir /d 07777
+4294967295 1 65535 link /a /b
+4294967295 1 65535 unlink /b
+4294967295 1 65535 rmdir 
+4294967295 1 65535 write /a 007 4aFf
+4294967295 1 65535 truncate /a 4294967295
+4294967295 1 65535 chmod /a 0
+4294967295 1 65535 chown /a 65535 0
+4294967295 1 65535 stat /
+4294967295 1 65535 read /a 1 2
+4294967295 1 65535 list /d
+4294967295 1 65535 cut
+4294967295 1 65535 write /a 0 -
+END
+refused=$(seq -f '1.%.0f 104 BadId' 12 | paste -s -d '|' -)
+plays 1 "$refused|1.13 cut 0|1.14 104 BadId|records 0|confirmed 13|gone 0" 7 commands
+# By one whose group is the seventh edition's greatest, and in the end by user 0.
+sed 's/ 1 65535 / 1 32767 /' commands > able
+cat >> able << 'END'
+4294967295 0 0 read /a 1 2
+4294967295 0 0 write /a 0 -
+4294967295 0 0 read /a 6 2
+4294967295 0 0 read /a 007 4294967295
+4294967295 0 0 chown /a 32767 0
+4294967295 0 0 stat /a
+4294967295 0 0 stat /d
+4294967295 0 0 stat /b
+END
+plays 1 "1.1 ok 16|1.2 ok 15|1.3 ok 0|1.4 ok 0|1.5 22 Invalid|1.6 ok 2|1.7 22 Invalid|1.8 ok 0|1.9 104 BadId|1.10 stat 2 dir 0777 3 0 0 80\
+|1.11 13 Access|1.12 list 2|1.13 cut 6|1.14 13 Access|1.15 read 0000|1.16 ok 0|1.17 read 004a|1.18 read 4aff|1.19 ok 0|1.20 stat 16 file 0000 1 32767 0 9\
+|1.21 stat 15 dir 7777 2 1 32767 32|1.22 2 NoEntry|records 2|confirmed 13|gone 8" 7 able
+runs inode 7 played 16
+has 'the times of a file that was played' '4294967295 4294967295 4294967295' "$(awk '/time/ { print $2 }' output | paste -s -d ' ' -)"
+{ head -c 7 /dev/zero; printf 'J\xff'; } > bytes
+prints bytes get 7 played /a
+# Each query, for a view.
+printf '%s\n' view '1 1 65535 stat /' '2 1 65535 read /a 1 2' '3 1 65535 list /d' > queries
+sed 's/65535/32767/' queries > asking
+plays 1 '1.2 104 BadId|1.3 104 BadId|1.4 104 BadId|records 0|confirmed 3' 7 queries
+printf '%s\n' '9 1 32767 create /a 400' '9 0 0 write /a 0 41424344' '9 1 32767 mkdir /d 500' > making
+plays 0 '1.1 ok 16|1.2 ok 4|1.3 ok 15|records 3|confirmed 3' 7 making
+printf '%s\n' '1.2 stat 2 dir 0777 3 0 0 64' '1.3 read 4243' '1.4 list 2' 'records 0' 'confirmed 3' > lines
+runs play 7 played asking
+wants 'the queries of a view' 0 lines none
+
+# What is printed of each outcome, by script and line.
+cat > outcomes << 'END'
+5 0 0 create /a 644
+5 0 0 create /a 644
+6 0 0 write /a 0 41fF
+6 0 0 read /a 0 10
+6 0 0 read /a 2 10
+6 0 0 list /
+6 0 0 stat /
+6 0 0 cut
+7 0 0 chmod /a 600
+8 0 0 stat /a
+END
+plays 1 '1.1 ok 32|1.2 17 Exists|1.3 ok 2|1.4 read 41ff|1.5 read -|1.6 list 3|1.7 stat 1 dir 0777 2 0 0 48|1.8 cut 2|1.9 ok 0|1.10 stat 32 file 0600 1 0 0 2|records 1|confirmed 6|gone 3' 6 outcomes
+printf 'A\xff' > bytes
+prints bytes get 6 played /a
+printf '%s\n' '5 0 0 unlink /a' '5 0 0 create /a 644' > gone
+plays 1 '1.1 2 NoEntry|1.2 ok 32|records 1|confirmed 2' 6 gone
+plays 0 '1.1 ok 32|records 1|confirmed 1' 6 create
+echo '6 0 0 stat /a' > seen
+printf '%s\n' '1.1 stat 32 file 0644 1 0 0 0' 'records 0' 'confirmed 1' > lines
+prints lines play 6 played seen
+printf '%s\n' view '6 0 0 stat /' '6 0 0 list /' '6 0 0 read /a 0 1' > looking
+plays 1 '1.2 stat 1 dir 0777 2 0 0 32|1.3 list 2|1.4 2 NoEntry|records 0|confirmed 3' 6 looking
+# A receipt of each kind.
+cat > kinds << 'END'
+2 0 0 create /a 644
+2 0 0 create /a 644
+2 0 0 stat /b
+2 0 0 read /a 0 10
+2 0 0 stat /a
+2 0 0 list /
+2 0 0 create /b 644
+END
+plays 1 '1.1 ok 16|1.2 17 Exists|1.3 2 NoEntry|1.4 read -|1.5 stat 16 file 0644 1 0 0 0|1.6 list 3|1.7 ok 15|records 2|confirmed 7' 7 kinds
+# Which of two scripts comes first is left open; a script without lines in between prints none.
+cp made.6 played
+runs play 6 played create none create
+printf '%s\n' '1.1 ok 32' '3.1 17 Exists' 'records 1' 'confirmed 2' > lines
+printf '%s\n' '1.1 17 Exists' '3.1 ok 32' 'records 1' 'confirmed 2' > others
+cmp -s output lines || cp others lines
+wants 'scripts in their order' 1 lines none
+
+# Two sessions, each of which reads its own file.
+printf '%s\n' '9 0 0 create /mine 644' '9 0 0 write /mine 0 2f6d696e65' '9 0 0 read /mine 0 512' > mine
+printf '%s\n' '9 0 0 create /theirs 644' '9 0 0 write /theirs 0 2f746865697273' '9 0 0 read /theirs 0 512' > theirs
+cp made.6 played
+runs play 6 played mine theirs
+printf '%s\n' '1.1 ok 32' '1.2 ok 5' '1.3 read 2f6d696e65' '2.1 ok 31' '2.2 ok 7' '2.3 read 2f746865697273' 'records 4' 'confirmed 6' > lines
+sed 's/^1.1 ok 32/1.1 ok 31/; s/^2.1 ok 31/2.1 ok 32/' lines > others
+cmp -s output lines || cp others lines
+wants 'two sessions with a file each' 0 lines none
+for name in mine theirs; do
+    printf '/%s' "$name" > bytes
+    prints bytes get 6 played "/$name"
+done
+
+# A view looks at the root while two sessions make ten files each: each look sees what some of these calls left, and none less than the one before it.
+for name in {a..j}; do echo "9 0 0 create /$name 644"; done > ten
+for name in {k..t}; do echo "9 0 0 create /$name 644"; done > ten_more
+{ echo view; yes '9 0 0 stat /' | head -1000; } > watching
+cp made.6 played
+runs_within 60 play 6 played ten ten_more watching
+cp output report
+has 'the i-numbers of twenty files' "$(seq 13 32)" "$(awk '$2 == "ok" { print $3 }' report | sort -n)"
+has 'the looks at twenty files' '1000 0' "$(awk '$1 ~ /^3[.]/ {
+    looks++
+    if ($0 !~ /^3[.][0-9]+ stat 1 dir 0777 2 0 0 [0-9]+$/ || $9 < last || $9 < 32 || $9 > 32 + 16 * 20 || $9 % 16 != 0) bad++
+    last = $9
+} END { print looks + 0, bad + 0 }' report)"
+printf '%s\n' 'records 20' 'confirmed 1020' > lines
+tail -n +1021 report > output
+wants 'two sessions beside a view' 0 lines none
+# Sixteen views look while eight sessions change the root's permissions.
+for k in $(seq 0 499); do printf '9 0 0 chmod / %o\n' $((448 + k % 64)); done > changing
+cp made.6 played
+runs_within 60 play 6 played $(yes changing | head -8) $(yes watching | head -16)
+cp output report
+has 'the lines of eight sessions and sixteen views' '4000 16000' "$(grep -c '^[1-8][.][0-9]* ok 0$' report) $(grep -c '^\(9\|1[0-9]\|2[0-4]\)[.][0-9]* stat 1 dir 07[0-7][0-7] 2 0 0 32$' report)"
+printf '%s\n' 'records 4000' 'confirmed 20000' > lines
+tail -n +20001 report > output
+wants 'eight sessions beside sixteen views' 0 lines none
+
+# foresees EDITION SCRIPT OUTCOME..: beside a view, each call is foreseen, and then made as it was foreseen. Plays the first line of a script, the first
+# two, and so on, without a view and with one. Both print these outcomes, and save the same image.
+foresees() {
+    local edition=$1 script=$2 count status
+    shift 2
+    printf '%s\n' "$@" | awk '{ print "1." NR " " $0 }' > called
+    for count in $(seq "$(wc -l < "$script")"); do
+        head -n "$count" "$script" > first
+        head -n "$count" called > lines
+        status=0
+        grep -qv ' ok ' lines && status=1
+        printf '%s\n' "records $(grep -c ' ok ' lines)" "confirmed $count" >> lines
+        cp "wide.$edition" alone
+        cp "wide.$edition" beside
+        runs play "$edition" alone first
+        wants "the first $count calls of $script, edition $edition" "$status" lines none
+        runs play "$edition" beside first nothing
+        wants "the first $count calls of $script, foreseen, edition $edition" "$status" lines none
+        saves "the first $count calls of $script, made as foreseen, edition $edition" beside alone
+    done
+}
+
+# Calls of several kinds, some of them refused. One file becomes large, and one gets blocks by two pointers.
+cat > some << 'END'
+2 0 0 create /f 644
+4 0 0 write /f 0 41
+4 0 0 write /f 4096 41
+2 0 0 create /f 644
+2 0 0 create /g 644
+4 0 0 write /g 917504 41
+3 0 0 mkdir /d 755
+2 0 0 create /d/f 644
+5 0 0 link /f /d/h
+7 0 0 rmdir /d
+6 0 0 unlink /d/f
+6 0 0 unlink /d/h
+7 0 0 rmdir /d
+8 0 0 truncate /f 0
+6 0 0 unlink /x
+2 0 0 create /d 644
+END
+foresees 6 some 'ok 32' 'ok 1' 'ok 1' '17 Exists' 'ok 31' 'ok 1' 'ok 30' 'ok 29' 'ok 0' '101 NotEmpty' 'ok 0' 'ok 0' 'ok 0' 'ok 0' '2 NoEntry' 'ok 30'
+has 'the calls that are accepted in the sixth edition' 'records 13' "$(tail -n 2 output | head -n 1)"
+foresees 7 some 'ok 16' 'ok 1' 'ok 1' '17 Exists' 'ok 15' 'ok 1' 'ok 14' 'ok 13' 'ok 0' '101 NotEmpty' 'ok 0' 'ok 0' 'ok 0' 'ok 0' '2 NoEntry' 'ok 14'
+has 'the calls that are accepted in the seventh edition' 'records 13' "$(tail -n 2 output | head -n 1)"
+# I-numbers until none is left: the sixth edition has 31 for files here, the seventh 14. One of 28 names is removed, and one more is made.
+{
+    for name in {a..z} '{' '|'; do echo "2 0 0 create $name 644"; done
+    echo '6 0 0 unlink a'
+    echo '2 0 0 create last 644'
+} > many
+mapfile -t made < <(seq -f 'ok %.0f' 32 -1 5)
+foresees 6 many "${made[@]}" 'ok 0' 'ok 32'
+has 'the files of the sixth edition' 'records 30' "$(tail -n 2 output | head -n 1)"
+mapfile -t made < <(seq -f 'ok %.0f' 16 -1 3; yes '103 NoInode' | head -14)
+foresees 7 many "${made[@]}" 'ok 0' 'ok 16'
+has 'the files of the seventh edition' 'records 16' "$(tail -n 2 output | head -n 1)"
+
+echo "$passed passed, $failed failed"
+[ "$failed" = 0 ]

@@ -1,12 +1,14 @@
-//! Volumes, their sessions, calls and queries, and what is wanted of receipts.
+//! Volumes, what is asked of them, their sessions, and what is wanted of receipts.
 ghost use Rattle.std.specs.Prelude.{◌≡◌, None};
 
-use std::alloc::{AllocError, Global};
+use pdp_words::IntoWrite;
+use pdp_words::testing::ScriptedWriter;
+use std::alloc::Global;
 use std::process::Abort;
 use std::sync::Wait;
 use vol_dir::Cred;
 use vol_layout::Edition;
-use vol_shared::{Asked, Closed, Outcome, Receipt, Session, Shared};
+use vol_shared::{Closed, Outcome, Receipt, Session, Shared};
 use vol_volume::{Bytes, Call, Query, Volume, mkfs};
 
 /// The moment of the new volumes.
@@ -18,76 +20,90 @@ const LATER: u32 = 0x0102_0304;
 /// The user who may do everything.
 const ROOT: Cred = Cred { uid: 0, gid: 0 };
 
-/// A new volume of the sixth edition: 20 blocks, two of them the i-list.
-pub(crate) fn sixth(rt: &impl Abort, alloc: Global) -> Volume {
-    let made = mkfs(alloc, Edition::V6, 20, 2, 0, 0, MADE);
-    let bytes = made.expect(rt, "a new volume");
-    match Volume::mount(alloc, Edition::V6, bytes) {
+/// Some bytes.
+pub(crate) fn copied(rt: &impl Abort, alloc: Global, bytes: &[u8]) -> Vec<u8> {
+    Vec::from_slice(alloc, bytes).expect(rt, "memory for the bytes")
+}
+
+/// A path, or bytes that are written.
+pub(crate) fn bytes_of(rt: &impl Abort, alloc: Global, bytes: &[u8]) -> Bytes {
+    Bytes::from_vec(copied(rt, alloc, bytes))
+}
+
+/// The bytes of a new volume of 100 blocks. The sixth edition has 32 i-nodes then, and the seventh 16; the last is given
+/// out first.
+pub(crate) fn new_bytes(rt: &impl Abort, alloc: Global, edition: Edition) -> Vec<u8> {
+    mkfs(alloc, edition, 100, 2, 0, 0, MADE).expect(rt, "a new volume")
+}
+
+/// Such a volume, mounted.
+pub(crate) fn new_volume(rt: &impl Abort, alloc: Global, edition: Edition) -> Volume {
+    match Volume::mount(alloc, edition, new_bytes(rt, alloc, edition)) {
         Ok(volume) => volume,
         Err((fault, _)) => panic!(rt; "{fault:?}"),
     }
 }
 
-/// A path, or bytes that are written.
-pub(crate) fn bytes_of(rt: &impl Abort, alloc: Global, bytes: &[u8]) -> Bytes {
-    Bytes::from_vec(Vec::from_slice(alloc, bytes).expect(rt, "memory for the bytes"))
-}
-
 /// A call that makes an empty file.
-pub(crate) fn create(rt: &impl Abort, alloc: Global, path: &[u8]) -> Asked {
-    Asked::Change(Call::Create {
+pub(crate) fn create(rt: &impl Abort, alloc: Global, path: &[u8]) -> Call {
+    Call::Create {
         cred: ROOT,
         now: LATER,
         path: bytes_of(rt, alloc, path),
         perm: 0o644,
-    })
+    }
 }
 
 /// A call that gives a node other permission bits.
-pub(crate) fn chmod(rt: &impl Abort, alloc: Global, path: &[u8], perm: u16) -> Asked {
-    Asked::Change(Call::Chmod {
+pub(crate) fn chmod(rt: &impl Abort, alloc: Global, path: &[u8], perm: u16) -> Call {
+    Call::Chmod {
         cred: ROOT,
         now: LATER,
         path: bytes_of(rt, alloc, path),
         perm,
-    })
+    }
 }
 
-/// A call that writes from a file's first byte on.
-pub(crate) fn write(rt: &impl Abort, alloc: Global, path: &[u8], bytes: &[u8]) -> Asked {
-    Asked::Change(Call::Write {
+/// A call that writes one byte.
+pub(crate) fn write(rt: &impl Abort, alloc: Global, path: &[u8], offset: u32) -> Call {
+    Call::Write {
         cred: ROOT,
         now: LATER,
         path: bytes_of(rt, alloc, path),
-        offset: 0,
-        bytes: bytes_of(rt, alloc, bytes),
-    })
+        offset,
+        bytes: bytes_of(rt, alloc, b"A"),
+    }
 }
 
 /// A query for the first bytes of a file, at most 512.
-pub(crate) fn read(rt: &impl Abort, alloc: Global, path: &[u8]) -> Asked {
-    Asked::Question(Query::Read {
+pub(crate) fn read(rt: &impl Abort, alloc: Global, path: &[u8]) -> Query {
+    Query::Read {
         cred: ROOT,
         path: bytes_of(rt, alloc, path),
         offset: 0,
         len: 512,
-    })
+    }
 }
 
 /// A query for the names in a directory.
-pub(crate) fn list(rt: &impl Abort, alloc: Global, path: &[u8]) -> Asked {
-    Asked::Question(Query::List {
+pub(crate) fn list(rt: &impl Abort, alloc: Global, path: &[u8]) -> Query {
+    Query::List {
         cred: ROOT,
         path: bytes_of(rt, alloc, path),
-    })
+    }
 }
 
 /// A query for what a node is.
-pub(crate) fn stat(rt: &impl Abort, alloc: Global, path: &[u8]) -> Asked {
-    Asked::Question(Query::Stat {
+pub(crate) fn stat(rt: &impl Abort, alloc: Global, path: &[u8]) -> Query {
+    Query::Stat {
         cred: ROOT,
         path: bytes_of(rt, alloc, path),
-    })
+    }
+}
+
+/// A new volume of the sixth edition.
+pub(crate) fn sixth(rt: &impl Abort, alloc: Global) -> Volume {
+    new_volume(rt, alloc, Edition::V6)
 }
 
 /// Opens a volume with two sessions.
@@ -124,43 +140,34 @@ pub(crate) fn close_two(
     shared.close(sessions)
 }
 
-/// Asks something of a shared volume.
+/// Makes a call on a shared volume.
+pub(crate) fn make<R: Wait + Abort>(
+    rt: &R,
+    alloc: Global,
+    shared: &Shared,
+    session: &mut Session,
+    call: Call,
+) -> Receipt
+    requires { session.old.of ≡ shared.now.of }
+    ensures { session.new.of ≡ session.old.of }
+{
+    let receipt = shared.call(rt, alloc, session, call);
+    receipt.expect(rt, "memory for a call")
+}
+
+/// Asks a query of a shared volume.
 pub(crate) fn ask<R: Wait + Abort>(
     rt: &R,
     alloc: Global,
     shared: &Shared,
     session: &mut Session,
-    asked: Asked,
+    query: Query,
 ) -> Receipt
     requires { session.old.of ≡ shared.now.of }
     ensures { session.new.of ≡ session.old.of }
 {
-    match asked {
-        Asked::Change(call) => {
-            let receipt = shared.call(rt, alloc, session, call);
-            receipt.expect(rt, "memory for a call")
-        }
-        Asked::Question(query) => {
-            let receipt = shared.ask(rt, alloc, session, query);
-            receipt.expect(rt, "memory for a query")
-        }
-    }
-}
-
-/// Asks something of a shared volume, and puts the receipt on a list.
-pub(crate) fn note<R: Wait + Abort>(
-    rt: &R,
-    alloc: Global,
-    shared: &Shared,
-    session: &mut Session,
-    receipts: &mut Vec<Receipt>,
-    asked: Asked,
-)
-    requires { session.old.of ≡ shared.now.of }
-    ensures { session.new.of ≡ session.old.of }
-{
-    let receipt = ask(rt, alloc, shared, session, asked);
-    receipts.push(receipt).expect(rt, "memory for a receipt");
+    let receipt = shared.ask(rt, alloc, session, query);
+    receipt.expect(rt, "memory for a query")
 }
 
 /// The receipt has this number and outcome.
@@ -181,4 +188,14 @@ pub(crate) fn check_all(
     let confirmed = closed.confirm_all(alloc, receipts);
     let confirmed = confirmed.expect(rt, "memory to confirm");
     assert_eq!(rt; [confirmed.agree, confirmed.gone], [agree, gone]);
+}
+
+/// A stream that takes all bytes.
+pub(crate) fn stream(alloc: Global) -> IntoWrite<ScriptedWriter> {
+    IntoWrite::new(ScriptedWriter::new(alloc, 4096))
+}
+
+/// What went to a stream.
+pub(crate) fn taken(stream: IntoWrite<ScriptedWriter>) -> Vec<u8> {
+    stream.into_inner().taken
 }

@@ -1,15 +1,25 @@
-//! Tests of volumes that threads share: who comes first, receipts of another volume, threads that wait for one another,
-//! cuts of the journal, and views.
+//! Tests of volumes that threads share, by their public functions: receipts, cuts of the journal, views and what they
+//! stand on, threads that wait for one another, and what a play prints that no program can show.
 #![tactic(auto)]
 
 #[cfg(test)]
-mod crowds;
+mod confirming;
 #[cfg(test)]
 mod cuts;
 #[cfg(test)]
+mod endings;
+#[cfg(test)]
 mod fixtures;
 #[cfg(test)]
+mod ledgers;
+#[cfg(test)]
+mod playing;
+#[cfg(test)]
+mod publishing;
+#[cfg(test)]
 mod threads;
+#[cfg(test)]
+mod versions;
 #[cfg(test)]
 mod views;
 #[cfg(test)]

@@ -1,14 +1,14 @@
 //! Views beside sessions: what they answer, how far they have come, and that their receipts are confirmed.
 ghost use Rattle.std.specs.Prelude.{◌≡◌, Some};
 
-use crate::fixtures::{ask, bytes_of, check, check_all, create, list, read, sixth, stat, write};
+use crate::fixtures::{bytes_of, check, check_all, create, list, make, read, sixth, stat, write};
 use std::alloc::Global;
 use std::process::Abort;
 use std::sync::Wait;
 use std::test::Fail;
 use vol_dir::Refusal;
-use vol_shared::{Asked, Closed, Outcome, Receipt, Session, Shared, View};
-use vol_volume::{Bytes, Done, Reply, Volume};
+use vol_shared::{Closed, Outcome, Receipt, Session, Shared, View};
+use vol_volume::{Bytes, Done, Query, Reply, Volume};
 
 /// Opens a volume with one session and one view.
 fn open_one<R: Wait + Abort>(rt: &R, alloc: Global, volume: Volume) -> (Shared, Session, View)
@@ -45,12 +45,9 @@ fn close_one<R: Wait + Abort>(
 }
 
 /// What a view answers.
-pub(crate) fn look(rt: &impl Abort, alloc: Global, view: &mut View, asked: Asked) -> Receipt
+fn look(rt: &impl Abort, alloc: Global, view: &mut View, query: Query) -> Receipt
     ensures { view.new.book ≡ view.old.book }
 {
-    let Asked::Question(query) = asked else {
-        panic!(rt; "a view is asked queries alone")
-    };
     match view.ask(alloc, query) {
         Ok(receipt) => receipt,
         Err((fault, _)) => panic!(rt; "{fault}"),
@@ -86,17 +83,12 @@ fn check_bytes(rt: &impl Abort, receipt: &Receipt, bytes: Bytes) {
 fn a_view_answers_what_its_session_made(rt: HostRuntime) -> Result<(), Fail> {
     let alloc = rt.alloc();
     let (shared, mut session, mut view) = open_one(&rt, alloc, sixth(&rt, alloc));
-    let made = ask(&rt, alloc, &shared, &mut session, create(&rt, alloc, b"/a"));
+    let made = make(&rt, alloc, &shared, &mut session, create(&rt, alloc, b"/a"));
     view.learn(&mut session);
     let status = look(&rt, alloc, &mut view, stat(&rt, alloc, b"/a"));
     let names = look(&rt, alloc, &mut view, list(&rt, alloc, b"/"));
-    let wrote = ask(
-        &rt,
-        alloc,
-        &shared,
-        &mut session,
-        write(&rt, alloc, b"/a", b"A"),
-    );
+    let call = write(&rt, alloc, b"/a", 0);
+    let wrote = make(&rt, alloc, &shared, &mut session, call);
     view.learn(&mut session);
     let bytes = look(&rt, alloc, &mut view, read(&rt, alloc, b"/a"));
     let closed = close_one(&rt, alloc, shared, session, view);
@@ -106,14 +98,8 @@ fn a_view_answers_what_its_session_made(rt: HostRuntime) -> Result<(), Fail> {
     assert_eq!(rt; number_of(&rt, &status), 32);
     check_names(&rt, alloc, &names, &[(b".", 1), (b"..", 1), (b"a", 32)]);
     check_bytes(&rt, &bytes, bytes_of(&rt, alloc, b"A"));
-    check_all(
-        &rt,
-        alloc,
-        &closed,
-        &[made, status, names, wrote, bytes],
-        5,
-        0,
-    );
+    let receipts = [made, status, names, wrote, bytes];
+    check_all(&rt, alloc, &closed, &receipts, 5, 0);
     Ok(())
 }
 
@@ -121,8 +107,8 @@ fn a_view_answers_what_its_session_made(rt: HostRuntime) -> Result<(), Fail> {
 fn a_refused_call_beside_a_view_has_its_receipt(rt: HostRuntime) -> Result<(), Fail> {
     let alloc = rt.alloc();
     let (shared, mut session, mut view) = open_one(&rt, alloc, sixth(&rt, alloc));
-    let made = ask(&rt, alloc, &shared, &mut session, create(&rt, alloc, b"/a"));
-    let again = ask(&rt, alloc, &shared, &mut session, create(&rt, alloc, b"/a"));
+    let made = make(&rt, alloc, &shared, &mut session, create(&rt, alloc, b"/a"));
+    let again = make(&rt, alloc, &shared, &mut session, create(&rt, alloc, b"/a"));
     view.learn(&mut session);
     let names = look(&rt, alloc, &mut view, list(&rt, alloc, b"/"));
     let closed = close_one(&rt, alloc, shared, session, view);

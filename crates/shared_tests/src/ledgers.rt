@@ -27,7 +27,7 @@ fn entries_are_appended_one_after_another(rt: HostRuntime) -> Result<(), Fail> {
     let mut ledger = Ledger::open(&volume).ok_or("a log")?;
     let first = ledger.front();
     let entry = Record {
-        call: create(alloc, b"/f")?,
+        call: create(&rt, alloc, b"/f"),
         done: Done::Made(3),
     };
     assert!(rt; append(&mut ledger, &entry));

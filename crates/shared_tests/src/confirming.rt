@@ -1,13 +1,34 @@
 //! Receipts that agree with the journal, that don't, and that speak of what was cut.
-use crate::fixtures::{asked, create, created, list, new_volume, read, stat};
+use crate::fixtures::{create, list, new_volume, read, stat};
 use std::alloc::{AllocError, Global};
 use std::process::Abort;
 use std::test::Fail;
 use vol_dir::Refusal;
+use vol_layout::Edition;
 use vol_receipts::{
-    Asked, ConfirmFault, Confirmed, Finding, Outcome, Receipt, confirm, confirm_all, find_all,
+    Asked, ConfirmFault, Confirmed, Finding, Outcome, Receipt, change, confirm, confirm_all,
+    find_all, reply,
 };
-use vol_volume::{Bytes, Done, Listing, Reply, Volume};
+use vol_volume::{Bytes, Done, Listing, Query, Reply, Volume};
+
+/// A new volume of the seventh edition.
+fn seventh(rt: &impl Abort, alloc: Global) -> Volume {
+    new_volume(rt, alloc, Edition::V7)
+}
+
+/// The receipt of a call that makes an empty file.
+fn created(rt: &impl Abort, alloc: Global, volume: &mut Volume, path: &[u8]) -> Receipt {
+    let call = create(rt, alloc, path);
+    let copy = call.clone().expect(rt, "memory for a copy");
+    let receipt = change(volume, alloc, call, copy).map_err(|(error, _)| error);
+    receipt.expect(rt, "memory for a call")
+}
+
+/// The receipt of a query.
+fn asked(rt: &impl Abort, alloc: Global, volume: &Volume, query: Query) -> Receipt {
+    let receipt = reply(volume, alloc, query).map_err(|(error, _)| error);
+    receipt.expect(rt, "memory for a query")
+}
 
 /// Whether a receipt agrees is answered so.
 fn check(
@@ -41,14 +62,18 @@ fn check_told(rt: &impl Abort, receipt: Option<&Receipt>, at: u64, outcome: Outc
 }
 
 /// A receipt of each kind: a call that is accepted, the same call refused, a query refused, and three answered.
-fn each_kind(alloc: Global, volume: &mut Volume) -> Result<Vec<Receipt>, AllocError> {
+fn each_kind(
+    rt: &impl Abort,
+    alloc: Global,
+    volume: &mut Volume,
+) -> Result<Vec<Receipt>, AllocError> {
     let mut receipts = Vec::new(alloc);
-    receipts.push(created(alloc, volume, b"/a")?)?;
-    receipts.push(created(alloc, volume, b"/a")?)?;
-    receipts.push(asked(alloc, volume, stat(alloc, b"/b")?)?)?;
-    receipts.push(asked(alloc, volume, read(alloc, b"/a")?)?)?;
-    receipts.push(asked(alloc, volume, stat(alloc, b"/a")?)?)?;
-    receipts.push(asked(alloc, volume, list(alloc, b"/")?)?)?;
+    receipts.push(created(rt, alloc, volume, b"/a"))?;
+    receipts.push(created(rt, alloc, volume, b"/a"))?;
+    receipts.push(asked(rt, alloc, volume, stat(rt, alloc, b"/b")))?;
+    receipts.push(asked(rt, alloc, volume, read(rt, alloc, b"/a")))?;
+    receipts.push(asked(rt, alloc, volume, stat(rt, alloc, b"/a")))?;
+    receipts.push(asked(rt, alloc, volume, list(rt, alloc, b"/")))?;
     Ok(receipts)
 }
 
@@ -56,14 +81,14 @@ fn each_kind(alloc: Global, volume: &mut Volume) -> Result<Vec<Receipt>, AllocEr
 #[test]
 fn each_kind_agrees(rt: HostRuntime) -> Result<(), Fail> {
     let alloc = rt.alloc();
-    let mut volume = new_volume(&rt, alloc);
-    let mut receipts = each_kind(alloc, &mut volume)?;
+    let mut volume = seventh(&rt, alloc);
+    let mut receipts = each_kind(&rt, alloc, &mut volume)?;
     check_told(&rt, receipts.get(0), 0, Outcome::Accepted(Done::Made(16)));
     check_told(&rt, receipts.get(1), 1, Outcome::Refused(Refusal::Exists));
     check_told(&rt, receipts.get(2), 1, Outcome::Refused(Refusal::NoEntry));
     let nothing = Reply::Bytes(Bytes::from_vec(Vec::new(alloc)));
     check_told(&rt, receipts.get(3), 1, Outcome::Answered(nothing));
-    receipts.push(created(alloc, &mut volume, b"/b")?)?;
+    receipts.push(created(&rt, alloc, &mut volume, b"/b"))?;
     check_told(&rt, receipts.get(6), 1, Outcome::Accepted(Done::Made(15)));
     for receipt in &receipts {
         check(&rt, alloc, &volume, receipt, Ok(true));
@@ -72,28 +97,28 @@ fn each_kind_agrees(rt: HostRuntime) -> Result<(), Fail> {
 }
 
 /// A volume that made `/a` as number 16, and then `/b` as number 15.
-fn with_two(rt: &impl Abort, alloc: Global) -> Result<Volume, AllocError> {
-    let mut volume = new_volume(rt, alloc);
-    let _ = created(alloc, &mut volume, b"/a")?;
-    let _ = created(alloc, &mut volume, b"/b")?;
-    Ok(volume)
+fn with_two(rt: &impl Abort, alloc: Global) -> Volume {
+    let mut volume = seventh(rt, alloc);
+    let _ = created(rt, alloc, &mut volume, b"/a");
+    let _ = created(rt, alloc, &mut volume, b"/b");
+    volume
 }
 
 /// Refusals that no volume gave: each holds of the tree which the records before its number make, and of no other.
 #[test]
 fn refusals_hold_at_their_numbers(rt: HostRuntime) -> Result<(), Fail> {
     let alloc = rt.alloc();
-    let volume = with_two(&rt, alloc)?;
+    let volume = with_two(&rt, alloc);
     for (at, missing, exists) in [
         (0, true, false),
         (1, true, true),
         (2, false, true),
         (3, false, false),
     ] {
-        let question = Asked::Question(stat(alloc, b"/b")?);
+        let question = Asked::Question(stat(&rt, alloc, b"/b"));
         let refused = Outcome::Refused(Refusal::NoEntry);
         check_forged(&rt, alloc, &volume, at, question, refused, missing);
-        let change = Asked::Change(create(alloc, b"/a")?);
+        let change = Asked::Change(create(&rt, alloc, b"/a"));
         let refused = Outcome::Refused(Refusal::Exists);
         check_forged(&rt, alloc, &volume, at, change, refused, exists);
     }
@@ -105,7 +130,7 @@ fn refusals_hold_at_their_numbers(rt: HostRuntime) -> Result<(), Fail> {
 #[test]
 fn accepted_calls_are_their_records(rt: HostRuntime) -> Result<(), Fail> {
     let alloc = rt.alloc();
-    let volume = with_two(&rt, alloc)?;
+    let volume = with_two(&rt, alloc);
     for (at, path, done, wanted) in [
         (0, b"/a", Done::Made(16), true),
         (1, b"/b", Done::Made(15), true),
@@ -115,7 +140,7 @@ fn accepted_calls_are_their_records(rt: HostRuntime) -> Result<(), Fail> {
         (1, b"/a", Done::Made(16), false),
         (2, b"/c", Done::Made(14), false),
     ] {
-        let change = Asked::Change(create(alloc, path)?);
+        let change = Asked::Change(create(&rt, alloc, path));
         check_forged(
             &rt,
             alloc,
@@ -134,8 +159,8 @@ fn accepted_calls_are_their_records(rt: HostRuntime) -> Result<(), Fail> {
 #[test]
 fn no_volume_answers_so(rt: HostRuntime) -> Result<(), Fail> {
     let alloc = rt.alloc();
-    let volume = new_volume(&rt, alloc);
-    let change = Asked::Change(create(alloc, b"/a")?);
+    let volume = seventh(&rt, alloc);
+    let change = Asked::Change(create(&rt, alloc, b"/a"));
     let names = Reply::Names(Listing::from_vec(Vec::new(alloc)));
     check_forged(
         &rt,
@@ -146,7 +171,7 @@ fn no_volume_answers_so(rt: HostRuntime) -> Result<(), Fail> {
         Outcome::Answered(names),
         false,
     );
-    let question = Asked::Question(list(alloc, b"/")?);
+    let question = Asked::Question(list(&rt, alloc, b"/"));
     check_forged(
         &rt,
         alloc,
@@ -156,7 +181,7 @@ fn no_volume_answers_so(rt: HostRuntime) -> Result<(), Fail> {
         Outcome::Accepted(Done::Plain),
         false,
     );
-    let change = Asked::Change(create(alloc, b"/a")?);
+    let change = Asked::Change(create(&rt, alloc, b"/a"));
     let refused = Outcome::Refused(Refusal::NoMemory);
     check_forged(&rt, alloc, &volume, 0, change, refused, false);
     Ok(())
@@ -166,10 +191,10 @@ fn no_volume_answers_so(rt: HostRuntime) -> Result<(), Fail> {
 #[test]
 fn each_volume_confirms_its_own(rt: HostRuntime) -> Result<(), Fail> {
     let alloc = rt.alloc();
-    let mut one = new_volume(&rt, alloc);
-    let mut other = new_volume(&rt, alloc);
-    let own = created(alloc, &mut one, b"/a")?;
-    let foreign = created(alloc, &mut other, b"/b")?;
+    let mut one = seventh(&rt, alloc);
+    let mut other = seventh(&rt, alloc);
+    let own = created(&rt, alloc, &mut one, b"/a");
+    let foreign = created(&rt, alloc, &mut other, b"/b");
     check(&rt, alloc, &one, &own, Ok(true));
     check(&rt, alloc, &one, &foreign, Ok(false));
     check(&rt, alloc, &other, &own, Ok(false));
@@ -185,12 +210,12 @@ fn around_a_cut(
     volume: &mut Volume,
 ) -> Result<Vec<Receipt>, AllocError> {
     let mut receipts = Vec::new(alloc);
-    receipts.push(asked(alloc, volume, stat(alloc, b"/a")?)?)?;
-    receipts.push(created(alloc, volume, b"/a")?)?;
-    receipts.push(asked(alloc, volume, stat(alloc, b"/a")?)?)?;
+    receipts.push(asked(rt, alloc, volume, stat(rt, alloc, b"/a")))?;
+    receipts.push(created(rt, alloc, volume, b"/a"))?;
+    receipts.push(asked(rt, alloc, volume, stat(rt, alloc, b"/a")))?;
     assert!(rt; volume.cut().is_ok());
-    receipts.push(created(alloc, volume, b"/b")?)?;
-    receipts.push(asked(alloc, volume, list(alloc, b"/")?)?)?;
+    receipts.push(created(rt, alloc, volume, b"/b"))?;
+    receipts.push(asked(rt, alloc, volume, list(rt, alloc, b"/")))?;
     receipts.reverse();
     Ok(receipts)
 }
@@ -200,11 +225,11 @@ fn around_a_cut(
 #[test]
 fn what_is_cut_is_gone(rt: HostRuntime) -> Result<(), Fail> {
     let alloc = rt.alloc();
-    let mut volume = new_volume(&rt, alloc);
+    let mut volume = seventh(&rt, alloc);
     let mut receipts = around_a_cut(&rt, alloc, &mut volume)?;
     receipts.push(Receipt {
         at: 2,
-        asked: Asked::Question(stat(alloc, b"/b")?),
+        asked: Asked::Question(stat(&rt, alloc, b"/b")),
         outcome: Outcome::Refused(Refusal::NoEntry),
     })?;
     let found = find_all(&volume, alloc, &receipts)?;

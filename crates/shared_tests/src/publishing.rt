@@ -39,8 +39,8 @@ fn look(subscriber: Subscriber, alloc: Global, query: &Query) -> Option<(u64, bo
 fn a_subscriber_sees_what_is_published(rt: HostRuntime) -> Result<(), Fail> {
     let alloc = rt.alloc();
     let volume = new_volume(&rt, alloc, Edition::V6);
-    let call = create(alloc, b"/a")?;
-    let query = stat(alloc, b"/a")?;
+    let call = create(&rt, alloc, b"/a");
+    let query = stat(&rt, alloc, b"/a");
     // The publisher is ended on each path from here on.
     let mut publisher = Publisher::open(&rt, alloc, &volume, 2)?;
     let early = publisher.subscriber();

@@ -33,7 +33,8 @@ unread() {
 
 echo '5 0 0 create /a 644' > create
 
-# Scripts, and what is printed of them on a new volume; where one can't be read, the number of its first such line.
+# Each line of the data: a status, a tab, the lines that are printed on a new volume, a tab, and the script. With status 2 the script can't be read,
+# and in place of what is printed there is the number of the first line at fault.
 while IFS=$'\t' read -r status wanted text; do
     printf '%b' "$text" > script
     if [ "$status" = 2 ]; then
@@ -48,7 +49,7 @@ while IFS=$'\t' read -r status wanted text; do
     fi
 done < "$data/lines"
 
-# The first fault is that of the first script that has one, also where the image is at fault too.
+# The fault of the first script that has one is reported, even if the image is at fault too.
 printf '%s\n' '5 0 0 cut' > good
 printf '%s\n' '5 0 0 cut' '5 0 0 cut' x > bad
 printf '%s\n' x > worse

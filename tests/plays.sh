@@ -22,12 +22,12 @@ plays() {
     has "play $edition $*: the volume is saved" saved "$([ "$(stat -c %i played)" != "$stood" ] && echo saved)"
 }
 
-# unread LABEL SCRIPT LINE FILE..: line LINE of script SCRIPT can't be read, so nothing is played
+# unread LABEL SCRIPT LINE FILE..: line LINE of script SCRIPT can't be read, so nothing is played on `kept`
 unread() {
     local label=$1
     echo "unixvol: script $2 line $3" > line
     shift 3
-    runs play 6 played "$@"
+    runs play 6 kept "$@"
     wants "$label" 2 none line
 }
 
@@ -35,15 +35,13 @@ echo '5 0 0 create /a 644' > create
 
 # Each line of the data: a status, a tab, the lines that are printed on a new volume, a tab, and the script. With status 2 the script can't be read,
 # and in place of what is printed there is the number of the first line at fault.
+cp made.6 kept
+inode=$(stat -c %i kept)
 while IFS=$'\t' read -r status wanted text; do
     printf '%b' "$text" > script
     if [ "$status" = 2 ]; then
-        cp made.6 played
-        stood=$(stat -c %i played)
         unread "$text" 1 "$wanted" script
         unread "$text, second" 2 "$wanted" create script
-        saves "no script was played: $text" played made.6
-        has "no volume was saved: $text" "$stood" "$(stat -c %i played)"
     else
         plays "$status" "$wanted" 6 script
     fi
@@ -53,21 +51,22 @@ done < "$data/lines"
 printf '%s\n' '5 0 0 cut' > good
 printf '%s\n' '5 0 0 cut' '5 0 0 cut' x > bad
 printf '%s\n' x > worse
-cp made.6 played
 unread 'the first of two bad scripts' 2 3 good bad worse
 unread 'a twelfth script' 12 3 good good good good good good good good good good good bad
 printf '%s\n' '5 0 0 create /b 644' '5 0 0 creat /c 644' > creat
-: > played
-unread 'a script for no image' 2 2 create creat
-saves 'no image' played none
-refuses 1 'unixvol: unsound, rule 1' play 6 played create
-saves 'no image yet' played none
+unread 'a misspelt call' 2 2 create creat
 # A seventeenth view can't be read, whatever its other lines are.
 echo view > nothing
 printf '%s\n' view x > odd
 plays 0 'records 0|confirmed 0' 6 $(yes nothing | head -16)
-cp made.6 played
 unread 'a seventeenth view' 18 1 $(yes nothing | head -16) good odd
+saves 'an image of which no script was played' kept made.6
+has 'an image that was not to be saved' "$inode" "$(stat -c %i kept)"
+: > kept
+unread 'a misspelt call, and no image' 2 2 create creat
+saves 'no image' kept none
+refuses 1 'unixvol: unsound, rule 1' play 6 kept create
+saves 'no image yet' kept none
 
 # Each command, by a user whose group is none of the editions'.
 cat > commands << 'END'
@@ -205,22 +204,27 @@ wants 'eight sessions beside sixteen views' 0 lines none
 # foresees EDITION SCRIPT OUTCOME..: beside a view, each call is foreseen, and then made as it was foreseen. Plays the first line of a script, the first
 # two, and so on, without a view and with one. Both print these outcomes, and save the same image.
 foresees() {
-    local edition=$1 script=$2 count status
+    local edition=$1 script=$2 count records=0 status=0 alone foreseen
     shift 2
-    printf '%s\n' "$@" | awk '{ print "1." NR " " $0 }' > called
-    for count in $(seq "$(wc -l < "$script")"); do
-        head -n "$count" "$script" > first
-        head -n "$count" called > lines
-        status=0
-        grep -qv ' ok ' lines && status=1
-        printf '%s\n' "records $(grep -c ' ok ' lines)" "confirmed $count" >> lines
-        cp "wide.$edition" alone
-        cp "wide.$edition" beside
-        runs play "$edition" alone first
-        wants "the first $count calls of $script, edition $edition" "$status" lines none
-        runs play "$edition" beside first nothing
-        wants "the first $count calls of $script, foreseen, edition $edition" "$status" lines none
-        saves "the first $count calls of $script, made as foreseen, edition $edition" beside alone
+    local -a calls outcomes=("$@") printed=()
+    mapfile -t calls < "$script"
+    for count in $(seq "${#calls[@]}"); do
+        case ${outcomes[count - 1]} in
+            'ok '*) records=$((records + 1)) ;;
+            *) status=1 ;;
+        esac
+        printed+=("1.$count ${outcomes[count - 1]}")
+        printf '%s\n' "${calls[@]:0:count}" > first
+        printf '%s\n' "${printed[@]}" "records $records" "confirmed $count" "status $status" > lines
+        tee alone < "wide.$edition" > beside
+        { "$program" play "$edition" alone first; echo "status $?"; } > output 2>&1
+        cmp -s output lines
+        alone=$?
+        { "$program" play "$edition" beside first nothing; echo "status $?"; } > output 2>&1
+        cmp -s output lines
+        foreseen=$?
+        cmp -s alone beside
+        has "the first $count calls of $script in edition $edition: made, foreseen, and the same image" '0 0 0' "$alone $foreseen $?"
     done
 }
 
@@ -244,9 +248,9 @@ cat > some << 'END'
 2 0 0 create /d 644
 END
 foresees 6 some 'ok 32' 'ok 1' 'ok 1' '17 Exists' 'ok 31' 'ok 1' 'ok 30' 'ok 29' 'ok 0' '101 NotEmpty' 'ok 0' 'ok 0' 'ok 0' 'ok 0' '2 NoEntry' 'ok 30'
-has 'the calls that are accepted in the sixth edition' 'records 13' "$(tail -n 2 output | head -n 1)"
+has 'the calls that are accepted in the sixth edition' 'records 13' "$(grep records output)"
 foresees 7 some 'ok 16' 'ok 1' 'ok 1' '17 Exists' 'ok 15' 'ok 1' 'ok 14' 'ok 13' 'ok 0' '101 NotEmpty' 'ok 0' 'ok 0' 'ok 0' 'ok 0' '2 NoEntry' 'ok 14'
-has 'the calls that are accepted in the seventh edition' 'records 13' "$(tail -n 2 output | head -n 1)"
+has 'the calls that are accepted in the seventh edition' 'records 13' "$(grep records output)"
 # I-numbers until none is left: the sixth edition has 31 for files here, the seventh 14. One of 28 names is removed, and one more is made.
 {
     for name in {a..z} '{' '|'; do echo "2 0 0 create $name 644"; done
@@ -255,10 +259,10 @@ has 'the calls that are accepted in the seventh edition' 'records 13' "$(tail -n
 } > many
 mapfile -t made < <(seq -f 'ok %.0f' 32 -1 5)
 foresees 6 many "${made[@]}" 'ok 0' 'ok 32'
-has 'the files of the sixth edition' 'records 30' "$(tail -n 2 output | head -n 1)"
+has 'the files of the sixth edition' 'records 30' "$(grep records output)"
 mapfile -t made < <(seq -f 'ok %.0f' 16 -1 3; yes '103 NoInode' | head -14)
 foresees 7 many "${made[@]}" 'ok 0' 'ok 16'
-has 'the files of the seventh edition' 'records 16' "$(tail -n 2 output | head -n 1)"
+has 'the files of the seventh edition' 'records 16' "$(grep records output)"
 
 echo "$passed passed, $failed failed"
 [ "$failed" = 0 ]

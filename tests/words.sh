@@ -1,0 +1,375 @@
+#!/usr/bin/env bash
+# Runs the built program with many lines of words, and compares what it does with what they ask for: the files, the paths, the numbers, the
+# moments. Usage: tests/words.sh PROGRAM. It prints a line for each row that fails, and ends with 'N passed, N failed'.
+. "$(dirname "$0")/rows.sh"
+
+# A table has a row on each line, its columns parted by ` | `. The first column has the words as a shell reads them.
+
+# reads WORDS: runs the program with the words of a table, and the archive in `given` on standard input
+reads() {
+    local words
+    eval "words=($1)"
+    begun=$(date +%s)
+    "$program" "${words[@]}" > output 2> error < given
+    echo $? > status
+    ended=$(date +%s)
+}
+
+# bytes FILE AT COUNT: these bytes as hexadecimal digits
+bytes() { od -An -v -tx1 -j "$2" -N "$3" "$1" | tr -d ' \n'; }
+
+# dated LABEL MOMENT: the super-block of `disk`, of the seventh edition, has this moment, or the one of the clock where MOMENT is `clock`
+dated() {
+    local high low found
+    read -r high low < <(od -An -tu2 -j 926 -N 4 disk)
+    found=$((high * 65536 + low))
+    if [ "$2" = clock ]; then
+        has "the moment of $1" yes "$([ "$begun" -le "$found" ] && [ "$found" -le "$ended" ] && echo yes || echo "no: $found")"
+    else
+        has "the moment of $1" "$2" "$found"
+    fi
+}
+
+# paths LABEL WANTED: the paths in `disk`, each after its i-number
+paths() { has "the paths after $1" "$2" "$("$program" ncheck 7 disk 1 | paste -s -d ' ' -)"; }
+
+# begins NAME..: `disk` becomes a volume with directory /d, which is i-node 16, and files of these paths, which are 15, 14, ..; the bytes of each
+# are those of its last name
+begins() {
+    local path
+    "$program" mkfs 7 disk 100 2 0 0 1000
+    "$program" mkdir 7 disk /d 1000
+    for path in "$@"; do
+        printf '%s' "${path##*/}" > body
+        "$program" put 7 disk "$path" body 1000
+    done
+}
+
+# refused: reads a table of words and a text: status 2, no output, and the text stands in the error
+refused() {
+    local words text
+    while IFS='|' read -r words text; do
+        text=${text# }
+        reads "$words"
+        if [[ $(cat error) == 'error: '*"$text"* ]]; then cp error line; else printf '%s\n' "$text" > line; fi
+        wants "$words" 2 none line
+    done
+}
+
+: > given
+printf hello > file
+# A member from before 1970, which is made at the moment of the import.
+mkdir tree tree/t
+tar --format=gnu --owner=0 --group=0 --mtime=@-1000 -cf archive -C tree t
+
+# Calls that are made one after another: the words, the moment that the super-block has then, and all paths with their i-numbers.
+begins
+"$program" rmdir 7 disk /d 1000
+while IFS='|' read -r words moment wanted; do
+    case $words in import*) cp archive given ;; *) : > given ;; esac
+    reads "$words"
+    wants "$words" 0 none none
+    dated "$words" "${moment// /}"
+    paths "$words" "${wanted# }"
+done << 'END'
+mkdir 7 disk d 0 | 0 | 16 /d
+put 7 disk /d/f file 4294967295 | 4294967295 | 15 /d/f 16 /d
+chmod 7 disk /d 07777 4 | 4 | 15 /d/f 16 /d
+chown 7 disk /d 32767 010 5 | 5 | 15 /d/f 16 /d
+put 7 disk /from file 6 | 6 | 14 /from 15 /d/f 16 /d
+ln 7 disk /from /to 3 | 3 | 14 /from 14 /to 15 /d/f 16 /d
+rm 7 disk /d/f 1 | 1 | 14 /from 14 /to 16 /d
+rmdir 7 disk /d 02 | 2 | 14 /from 14 /to
+rm 7 disk /to 7 | 7 | 14 /from
+mv 7 disk /from /to 8 | 8 | 14 /to
+mkdir -p 7 disk /d/e 8 | 8 | 14 /to 15 /d/e 16 /d
+rm 7 disk /d --recursive | clock | 14 /to
+mkdir -p 7 disk /d/e 2 | 2 | 14 /to 15 /d/e 16 /d
+rm -r 7 disk /d 8 | 8 | 14 /to
+import 7 disk | clock | 14 /to 16 /t
+mkdir 7 disk /d 9 | 9 | 14 /to 15 /d 16 /t
+import 7 disk /d 8 | 8 | 13 /d/t 14 /to 15 /d 16 /t
+END
+begins
+cp disk before
+refuses 1 'unixvol: 22 Invalid' rmdir 7 disk '' 02
+refuses 1 'unixvol: 104 BadId' chown 7 disk /d 65535 010 5
+saves 'a volume whose root and whose owners stay' disk before
+prints none chmod 7 disk /d 07777 4
+prints none chown 7 disk /d 32767 010 5
+has 'the i-node with the permissions and the owner of the words' 'ff4f0200ff7f0a00' "$(bytes disk $((1024 + 64 * 15)) 8)"
+
+# Moments: the words after those of `rm`, and the moment that is meant.
+begins /f
+cp disk with_file
+while IFS='|' read -r words moment; do
+    cp with_file disk
+    reads "rm 7 disk /f $words"
+    wants "rm at $words" 0 none none
+    dated "rm at $words" "${moment# }"
+done << 'END'
+2026-11-23T12:00:00Z | 1795435200
+2026-11-23T13:30:00+01:30 | 1795435200
+'2026-11-23 12:00:00.000Z' | 1795435200
+1970-01-01T00:00:00Z | 0
+2106-02-07T06:28:15Z | 4294967295
+12 | 12
+ | clock
+END
+for word in 2026-11-23 2026-11-23T12:00:00 2026-11-23T12:00:00.5Z 1969-12-31T23:59:59Z 2106-02-07T06:28:16Z now ''; do
+    misread "error: invalid value '$word' for '<NOW>': not a number from 0" rm 7 disk /f "$word"
+done
+
+# Several files that are put: the words, the moment, and the files in their order, each with the bytes of its path.
+mkdir x y
+for file in a x/b y/c d b c 123 456 notamoment -a b..; do printf '%s' "$file" > "./$file"; done
+begins
+cp disk empty
+while IFS='|' read -r words moment files; do
+    cp empty disk
+    reads "put $words"
+    wants "put $words" 0 none none
+    dated "put $words" "${moment// /}"
+    wanted='16 /d'
+    number=15
+    for file in $files; do
+        wanted="$number /d/${file##*/} $wanted"
+        number=$((number - 1))
+        cmp -s <("$program" get 7 disk -- "/d/${file##*/}") "./$file"
+        has "the bytes of $file by put $words" 0 $?
+    done
+    paths "put $words" "$wanted"
+done << 'END'
+7 disk -t /d a | clock | a
+-t /d 7 disk a b | clock | a b
+7 disk a x/b y/c d -t/d | clock | a x/b y/c d
+7 disk --target-directory /d a 8 | 8 | a
+7 disk a b c 8 -t /d | 8 | a b c
+7 disk --target-directory=/d a b 1970-01-01T00:00:09Z | 9 | a b
+-t /d 7 disk 123 | clock | 123
+-t /d 7 disk a ./123 | clock | a ./123
+-t /d 7 disk 123 456 8 | 8 | 123 456
+-t /d 7 disk a notamoment | clock | a notamoment
+-t /d 7 disk -- -a b.. | clock | -a b..
+END
+
+# Several files that are got: the words, and the last names of the paths in their order. Where a name can't be written, those before it are.
+begins /d/f /d/g /g /h /8
+while IFS='|' read -r words names; do
+    rm -rf out
+    mkdir out
+    reads "get $words"
+    wants "get $words" 0 none none
+    got=
+    for name in $names; do
+        has "the bytes of $name by get $words" "$name" "$(cat "out/$name")"
+        rm -rf out
+        mkdir -p "out/$name"
+        reads "get $words"
+        echo "unixvol: cannot write out/$name" > line
+        wants "get $words, where out/$name is a folder" 3 none line
+        rmdir "out/$name"
+        has "the files before $name by get $words" "$got" "$(ls -x out)"
+        got="${got:+$got  }$name"
+        reads "get $words"
+    done
+    has "the files of get $words" "$(tr -s ' ' '\n' <<< "$names" | sed '/^$/d' | LC_ALL=C sort | paste -s -d ' ' -)" "$(ls out | LC_ALL=C sort | paste -s -d ' ' -)"
+done << 'END'
+7 disk -o out /d/f | f
+-o out 7 disk /d/f g /h 8 | f g h 8
+7 disk /d/f --output=out /d/g | f g
+END
+
+# Words that are refused, and a text that the error has.
+refused << 'END'
+put 7 disk -t '' a | invalid value '' for '<DIR>': it is empty
+get 7 disk --output= /d/f | invalid value '' for '<FOLDER>': it is empty
+put 7 disk /d/f | no value for '<FILE>': a file is missing
+put 7 disk /d/f a notamoment | invalid value 'notamoment' for '<NOW>': not a number from 0
+put 7 disk /d/f a 8 b | invalid value 'b' for '<MORE>': several files are put into a directory, by -t DIR
+put 7 disk -t /d | <PATH>
+put 7 disk a -t | a value is required for '--target-directory <DIR>'
+put 7 disk -t /d -t /d a | '--target-directory <DIR>' cannot be used multiple times
+put 7 disk -t /d x/a b y/a | invalid value 'a' for '<FILE>': two files have this last name
+put 7 disk -t /d a a/. 8 | invalid value 'a' for '<FILE>'
+put 7 disk -o /d a | unexpected argument '-o'
+get 7 disk /d/f /d/g | invalid value '/d/g' for '<MORE>': several files are written into a folder, by -o FOLDER
+get 7 disk -o out | <PATH>
+get 7 disk -o out -o out /d/f | '--output <FOLDER>' cannot be used multiple times
+get 7 disk -o out /d/f /e/f/ | invalid value 'f' for '<PATH>': two files have this last name
+inode 7 disk | <INO>
+inode 7 disk 65536 | for '<INO>'
+super --svg 7 disk | --svg
+map --json 7 disk | --json
+map --svg --svg 7 disk | --svg
+--explain | subcommand
+super --explain 7 disk --explain | --explain
+--explain=yes super 7 disk | --explain
+super 7 disk --explained | --explained
+icheck 7 disk 065 | '065' for '<WORKERS>'
+END
+
+# Second lines: an image that isn't there has one where the words ask for it.
+echo 'unixvol: cannot read missing' > first
+{ cat first; echo 'unixvol: missing: No such file or directory (os error 2)'; } > second
+while IFS='|' read -r words wanted; do
+    reads "$words"
+    wants "$words" 3 none "${wanted# }"
+done << 'END'
+super 7 missing | first
+--explain super 7 missing | second
+super --explain 7 missing | second
+super 7 missing --explain | second
+--explain super 7 missing --explain | second
+super 7 --explain -- missing | second
+super 7 -- missing | first
+play 7 missing one two --explain | second
+play 7 missing one -- --explain | first
+END
+
+# Listings: the words, and the lines, each with a semicolon at its end, no space before it, and single ones in it.
+begins /d/f
+while IFS='|' read -r words wanted; do
+    reads "$words"
+    has "$words" "0$wanted" "$(cat status) $(tr -s ' ' < output | sed 's/^ //' | tr '\n' ';')"
+done << 'END'
+ls 7 disk /d | 16 .;2 ..;15 f;
+ls 7 disk | 2 .;2 ..;16 d;
+ls -l 7 disk /d | 16 drwxr-xr-x 2 0 0 48 1970-01-01 00:16:40 .;2 drwxrwxrwx 3 0 0 48 1970-01-01 00:16:40 ..;15 -rw-r--r-- 1 0 0 1 1970-01-01 00:16:40 f;
+ls 7 -lR disk | /:;2 drwxrwxrwx 3 0 0 48 1970-01-01 00:16:40 .;2 drwxrwxrwx 3 0 0 48 1970-01-01 00:16:40 ..;16 drwxr-xr-x 2 0 0 48 1970-01-01 00:16:40 d;;/d:;16 drwxr-xr-x 2 0 0 48 1970-01-01 00:16:40 .;2 drwxrwxrwx 3 0 0 48 1970-01-01 00:16:40 ..;15 -rw-r--r-- 1 0 0 1 1970-01-01 00:16:40 f;
+ls 7 disk --recursive /d | /d:;16 .;2 ..;15 f;
+ls --long --json 7 disk /d | [{"gid":0,"inode":16,"kind":"directory","links":2,"modified":1000,"path":"/d/.","permissions":493,"size":48,"uid":0},{"gid":0,"inode":2,"kind":"directory","links":3,"modified":1000,"path":"/d/..","permissions":511,"size":48,"uid":0},{"gid":0,"inode":15,"kind":"file","links":1,"modified":1000,"path":"/d/f","permissions":420,"size":1,"uid":0}];
+END
+
+# Looks, and the front of what they print. I-node 17 of `disk` is a file of five bytes in block 5.
+image disk 3072
+put disk 512 '05 00 00 00 06 00'
+put disk 2048 'A4 81 01 00 00 00 00 00 00 00 05 00 00 05 00'
+printf hello > hello
+dd if=hello of=disk bs=512 seek=5 conv=notrunc status=none
+prints hello cat 7 disk 017
+refuses 1 'unixvol: 2 NoEntry' inode --json 7 disk 0
+while IFS='|' read -r words wanted; do
+    reads "$words"
+    wanted=${wanted# }
+    has "$words" "0 $wanted" "$(cat status) $(tr '\n' ';' < output | head -c ${#wanted})"
+done << 'END'
+inode 7 disk 017 | i-node 17;mode 0100644 file 0644;nlink 1;uid 0;gid 0;size 5;addr 5 0
+inode 7 disk 017 --json | {"addr":[5,0,0,0,0,0,0,0,0,0,0,0,0],"atime":0,"ctime":0,"extents":[{"block":5,"count":1,"inside":true,"level":0,"logical":0}],"gid":0,"i-node":17,"kind":"file","mode":33188,
+super 7 disk | isize 5;fsize 6;nfree 0;
+super 7 disk --json | {"data blocks":1,"fault":null,"flock":0,"fmod":0,"free":[],"free blocks":0,"free i-nodes":23,"fsize":6,"i-nodes":24,
+map 7 disk | 6 blocks, 1 in each cell;
+map 7 disk -- | 6 blocks, 1 in each cell;
+map 7 --svg disk | <svg xmlns='http://www.w3.org/2000/svg' 
+END
+
+# Numbers of threads.
+begins /d/f
+printf '%s\n' 'files 1' 'directories 2' 'special 0' 'odd 0' 'used 3' 'free 93' 'missing 0' > icheck
+: > dcheck
+printf '%s\n' '15 /d/f' '16 /d' > ncheck
+for command in icheck dcheck ncheck; do
+    for number in 1 064 7; do prints "$command" "$command" 7 disk "$number"; done
+done
+
+# Numbers of new volumes: the super-block's sizes and time, and the user and the group of the root.
+refuses 1 'unixvol: bounds' mkfs 7 disk 65536 65535 1 02 3
+prints none mkfs 7 disk 65536 8191 1 02 3
+has 'the size of a volume of 65,536 blocks' 33554432 "$(stat -c %s disk)"
+has 'the sizes of a volume of 65,536 blocks' 012001000000 "$(bytes disk 512 6)"
+has 'the user and the group of its root' 01000200 "$(bytes disk 1092 4)"
+dated 'mkfs at 3' 3
+"$program" mkfs 6 6 20 2 0 0 1
+rm disk
+refuses 1 'unixvol: bounds' migrate 6 disk 4294967295 65535 07
+prints none migrate 6 disk 100 5 07
+dated 'migrate at 07' 7
+has 'the size of a volume that was migrated' 51200 "$(stat -c %s disk)"
+has 'the sizes of a volume that was migrated' 070000006400 "$(bytes disk 512 6)"
+printf '%5d %s\n' 2 . 2 .. > lines
+prints lines ls 7 disk /
+
+# The commands on a volume of the sixth edition whose root has a directory `d` (i-number 3), a file `hello` (2) and a special file `tty` (4).
+"$program" mkfs 6 worked 20 2 0 0 168496141
+put worked 516 0E # blocks 5 and 6 leave the free list
+put worked 1026 03
+put worked 1030 50
+put worked 1056 'A4 81 01 00 00 00 05 00 05 00'
+put worked 1088 'ED C1 02 00 00 00 20 00 06 00'
+put worked 1120 'A4 A1 01'
+put worked 2080 "0200$(bytes hello 0 5)"
+put worked 2096 '03 00 64'
+put worked 2112 '04 00 74 74 79'
+dd if=hello of=worked bs=512 seek=5 conv=notrunc status=none
+put worked 3072 '03 00 2E'
+put worked 3088 '01 00 2E 2E'
+cp worked before
+while IFS='|' read -r words wanted; do
+    eval "refuses 1 'unixvol: ${wanted# }' $words"
+done << 'END'
+put 6 worked /d none 168496141 | 21 IsDirectory
+rm 6 worked /none 168496141 | 2 NoEntry
+rmdir 6 worked /hello 168496141 | 20 NotDirectory
+mkdir 6 worked /d 168496141 | 17 Exists
+ln 6 worked /hello /tty 168496141 | 17 Exists
+chmod 6 worked /none 0 168496141 | 2 NoEntry
+chown 6 worked /hello 256 0 168496141 | 104 BadId
+chown 6 worked /none 0 256 168496141 | 104 BadId
+chown 6 worked /hello/a 0 0 168496141 | 20 NotDirectory
+get 6 worked /tty | 102 NotRegular
+migrate worked new 100 5 5 | 105 HasDevice
+migrate worked new 7 5 5 | bounds
+END
+saves 'a volume on which commands were refused' worked before
+changed worked unsound 1026 05
+refuses 1 'unixvol: unsound, rule 12' migrate unsound new 7 5 5
+has 'no volume was made' none "$([ -e new ] && echo some || echo none)"
+prints hello get 6 worked /hello
+prints hello get 6 worked //d/../hello/
+printf '%5d %s\n' 1 . 1 .. 3 d 2 hello 4 tty > lines
+prints lines ls 6 worked ''
+printf '%5d %s\n' 3 . 1 .. > lines
+prints lines ls 6 worked d//
+saves 'a volume at which commands looked' worked before
+
+# Calls that are made one after another, and the names in the root after each.
+printf hey > hey
+printf bye > bye
+while IFS='|' read -r words wanted; do
+    # shellcheck disable=SC2086
+    prints none $words
+    # shellcheck disable=SC2086
+    printf '%5d %s\n' $wanted > lines
+    prints lines ls 6 worked /
+done << 'END'
+put 6 worked /new hey 168496141 | 1 . 1 .. 3 d 2 hello 32 new 4 tty
+put 6 worked /hello bye 168496141 | 1 . 1 .. 3 d 2 hello 32 new 4 tty
+ln 6 worked /hello /again 168496141 | 1 . 1 .. 2 again 3 d 2 hello 32 new 4 tty
+mkdir 6 worked /d/e 168496141 | 1 . 1 .. 2 again 3 d 2 hello 32 new 4 tty
+rm 6 worked /tty 168496141 | 1 . 1 .. 2 again 3 d 2 hello 32 new
+rm 6 worked hello 168496141 | 1 . 1 .. 2 again 3 d 32 new
+rmdir 6 worked /d/e 168496141 | 1 . 1 .. 2 again 3 d 32 new
+rmdir 6 worked /d 168496141 | 1 . 1 .. 2 again 32 new
+rm 6 worked /new 168496141 | 1 . 1 .. 2 again
+END
+prints bye get 6 worked /again
+
+# Permissions and owners: where the i-node stands, and its first bytes after each call.
+cp before worked
+while IFS='|' read -r words at wanted; do
+    wanted=${wanted// /}
+    # shellcheck disable=SC2086
+    prints none $words
+    has "the i-node after $words" "${wanted,,}" "$(bytes worked "${at// /}" $((${#wanted} / 2)))"
+done << 'END'
+chmod 6 worked /hello 4751 168496141 | 1056 | E9 89 01 00 00 00 05 00
+chown 6 worked /hello 255 17 168496141 | 1056 | E9 89 01 FF 11 00 05 00
+chmod 6 worked /hello 0 168496141 | 1056 | 00 80 01 FF 11 00 05 00
+chmod 6 worked /d/. 7777 168496141 | 1088 | FF CF 02 00 00
+chown 6 worked /tty 7 8 168496141 | 1120 | A4 A1 01 07 08
+chmod 6 worked / 700 168496141 | 1024 | C0 C1 03 00 00
+END
+prints hello get 6 worked /hello
+
+echo "$passed passed, $failed failed"
+[ "$failed" = 0 ]

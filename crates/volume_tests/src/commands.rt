@@ -1,7 +1,58 @@
-// The commands of the program, from a volume's bytes to what they print and what is saved.
-mod cat;
-mod changing;
-mod making;
-mod migrating;
-mod showing;
-mod worked;
+// Jobs that no command of the program asks for.
+use crate::fixtures::{Piece, check_bytes, check_whole, new_bytes, put};
+use pdp_words::IntoWrite;
+use pdp_words::testing::ScriptedWriter;
+use std::alloc::Global;
+use std::process::Abort;
+use vol_commands::{Job, do_job};
+use vol_layout::Edition;
+
+/// The entry and the i-node of an empty file `hello` in the root of a new volume of the sixth edition, which is then longer.
+static PIECES: [Piece; 3] = [
+    (1030, b"\x30"),
+    (1056, b"\xA4\x81\x01"),
+    (2080, b"\x02\x00hello"),
+];
+
+/// Does a job with the volume that has the file, and compares what it writes to standard error and the volume that is to be saved, if one is.
+fn check(rt: &impl Abort, alloc: Global, job: Job<'_>, line: &[u8], mode: Option<&[u8]>) {
+    let mut image = new_bytes(rt, alloc, Edition::V6, 20, 2);
+    for (at, piece) in &PIECES {
+        put(&mut image, *at, piece);
+    }
+    let mut output = IntoWrite::new(ScriptedWriter::new(alloc, 100));
+    let mut errors = IntoWrite::new(ScriptedWriter::new(alloc, 7));
+    let file = Vec::new(alloc);
+    let answer = do_job(
+        alloc,
+        Edition::V6,
+        image,
+        file,
+        job,
+        &mut output,
+        &mut errors,
+    );
+    assert_eq!(rt; answer.status, u8::from(!line.is_empty()));
+    check_whole(rt, &output.into_inner().taken, b"");
+    check_whole(rt, &errors.into_inner().taken, line);
+    match (answer.image, mode) {
+        (Some(image), Some(mode)) => check_bytes(rt, &image, 1056, mode),
+        (image, mode) => assert!(rt; image.is_none() && mode.is_none()),
+    }
+}
+
+#[test]
+fn a_file_is_not_listed(rt: HostRuntime) {
+    let job = Job::Ls { path: "/hello" };
+    check(&rt, rt.alloc(), job, b"unixvol: 20 NotDirectory\n", None);
+}
+
+#[test]
+fn only_twelve_bits_are_permissions(rt: HostRuntime) {
+    let job = Job::Chmod {
+        path: "/hello",
+        perm: 0o10000,
+        now: 1,
+    };
+    check(&rt, rt.alloc(), job, b"", Some(b"\x00\x80\x01"));
+}

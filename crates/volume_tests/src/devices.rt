@@ -1,7 +1,7 @@
 // Numbers as they stand on the disk, and devices that go wrong at each of their calls.
 ghost use Rattle.std.specs.Prelude.{◌<◌};
 
-use crate::fixtures::{check, check_whole};
+use crate::fixtures::{Piece, check_whole, with_pieces};
 use pdp_words::testing::{ScriptedReader, ScriptedWriter, WriteMishap};
 use pdp_words::{
     FromRead, Image, IntoWrite, LoadFault, SaveFault, Sink, Source, load, load_with_capacity, save,
@@ -11,18 +11,10 @@ use std::alloc::Global;
 use std::fmt::Display;
 use std::io::{ErrorKind, Write};
 use std::process::Abort;
+use vol_commands::cat::{CatFault, cat};
+use vol_layout::Edition;
 
-// Bytes that were moved are these.
-fn check_moved(rt: &impl Abort, found: &[u8], wanted: &[u8], label: &str) {
-    check(rt, found, wanted, label);
-}
-
-// The words that a value is shown as.
-fn text(rt: &impl Abort, alloc: Global, value: &impl Display) -> String {
-    format!(in alloc; "{value}").expect(rt, "memory for the words")
-}
-
-// `len` bytes, which come again after 251.
+/// So many bytes, which come again after 251.
 fn sample(rt: &impl Abort, alloc: Global, len: usize) -> Vec<u8> {
     let mut bytes = Vec::new(alloc);
     for n in 0..len {
@@ -38,131 +30,100 @@ fn numbers_stand_in_the_order_of_the_pdp_11(rt: HostRuntime) {
     words::put_word(&mut bytes, 0, 0x0A0B);
     words::put_long(&mut bytes, 3, 0x0A0B_0C0D);
     words::put_addr3(&mut bytes, 8, 0x0A_0B0C);
-    check_whole(&rt, &bytes[..3], &[0x0B, 0x0A, 0xEE]);
-    check_whole(&rt, &bytes[3..8], &[0x0B, 0x0A, 0x0D, 0x0C, 0xEE]);
-    check_whole(&rt, &bytes[8..], &[0x0A, 0x0C, 0x0B]);
+    check_whole(
+        &rt,
+        &bytes,
+        &[
+            0x0B, 0x0A, 0xEE, 0x0B, 0x0A, 0x0D, 0x0C, 0xEE, 0x0A, 0x0C, 0x0B,
+        ],
+    );
 }
 
-// Bytes in the run that the devices below move.
+/// Bytes in the run that the devices below move.
 const RUN: usize = 2000;
+
+/// The mishaps of a writer after which nothing is written any more.
+const MISHAPS: [WriteMishap; 2] = [WriteMishap::Error(ErrorKind::Other), WriteMishap::TakesNone];
 
 #[test]
 fn a_load_fails_exactly_where_a_read_does(rt: HostRuntime) {
     let bytes = sample(&rt, rt.alloc(), RUN);
-    check_loads(&rt, rt.alloc(), &bytes, 1);
-    check_loads(&rt, rt.alloc(), &bytes, 7);
-    check_loads(&rt, rt.alloc(), &bytes, 512);
+    for piece in [1, 7, 512] {
+        check_loads(&rt, rt.alloc(), &bytes, piece);
+    }
 }
 
-// Loads `bytes`, once for each read that can fail, and twice more, where that read never comes.
+/// Loads `bytes`, once for each read that can fail, the last of which says that there are no more, and twice more, where
+/// that read never comes.
 fn check_loads(rt: &impl Abort, alloc: Global, bytes: &[u8], piece: usize)
     requires { 0 < piece }
 {
     let reads = bytes.len().div_ceil(piece).saturating_add(1);
     for at in 0..reads.saturating_add(2) {
-        let label = text(rt, alloc, &format_args!("read {at} by {piece}"));
+        let label = format_args!("read {at} by {piece}");
         let reader = ScriptedReader::new(bytes, piece).failing_at(at as u64, ErrorKind::Other);
-        if at < reads {
-            let read = at.saturating_mul(piece).min(bytes.len());
-            check_failed_load(rt, alloc, reader, &bytes[read..], &label);
-        } else {
-            check_whole_load(rt, alloc, reader, bytes, &label);
+        let mut source = FromRead::new(reader);
+        match load(alloc, &mut source) {
+            Ok(image) => assert_eq!(rt; (at < reads, image.as_bytes()), (false, bytes), "{label}"),
+            Err(fault) => assert_eq!(rt; (at < reads, fault), (true, LoadFault::Device), "{label}"),
         }
+        let read = at.saturating_mul(piece).min(bytes.len());
+        check_source(rt, source, at < reads, &bytes[read..], &label);
     }
 }
 
-// A load fails by its source, in which these bytes are left then.
-fn check_failed_load(
-    rt: &impl Abort,
-    alloc: Global,
-    reader: ScriptedReader,
-    left: &[u8],
-    label: &str,
-) {
-    let mut source = FromRead::new(reader);
-    let fault = load(alloc, &mut source).err();
-    check(rt, fault, Some(LoadFault::Device), label);
-    check_source(rt, source, true, left, label);
-}
-
-// A load gives these bytes, and none is left in its source then.
-fn check_whole_load(
-    rt: &impl Abort,
-    alloc: Global,
-    reader: ScriptedReader,
-    bytes: &[u8],
-    label: &str,
-) {
-    let mut source = FromRead::new(reader);
-    let image = load(alloc, &mut source).expect(rt, label);
-    check_moved(rt, image.as_bytes(), bytes, label);
-    check_source(rt, source, false, &[], label);
-}
-
-// A source has failed or not, and these bytes are left in it.
+/// A source has failed or not, and these bytes are left in it.
 fn check_source(
     rt: &impl Abort,
     source: FromRead<ScriptedReader>,
     has_failed: bool,
     left: &[u8],
-    label: &str,
+    label: &impl Display,
 ) {
-    check(rt, source.failed(), has_failed, label);
-    check_moved(rt, source.into_inner().rest, left, label);
+    assert_eq!(rt; source.failed(), has_failed, "{label}");
+    assert_eq!(rt; source.into_inner().rest, left, "{label}");
 }
 
 #[test]
 fn a_save_fails_exactly_where_a_write_does(rt: HostRuntime) {
     let image = Image::from_bytes(sample(&rt, rt.alloc(), RUN));
-    for mishap in [WriteMishap::Error(ErrorKind::Other), WriteMishap::TakesNone] {
-        check_saves(&rt, rt.alloc(), &image, 1, mishap);
-        check_saves(&rt, rt.alloc(), &image, 7, mishap);
-        check_saves(&rt, rt.alloc(), &image, 512, mishap);
+    for mishap in MISHAPS {
+        for piece in [1, 7, 512] {
+            check_saves(&rt, rt.alloc(), &image, piece, mishap);
+        }
     }
 }
 
-// Saves `image`, once for each write that can go wrong, and twice more, where that write never comes.
+/// Saves `image`, once for each write that can go wrong, and twice more, where that write never comes.
 fn check_saves(rt: &impl Abort, alloc: Global, image: &Image, piece: usize, mishap: WriteMishap)
     requires { 0 < piece }
 {
     let bytes = image.as_bytes();
     let writes = bytes.len().div_ceil(piece);
     for at in 0..writes.saturating_add(2) {
-        let label = text(rt, alloc, &format_args!("write {at} by {piece}"));
+        let label = format_args!("write {at} by {piece}");
         let writer = ScriptedWriter::new(alloc, piece).failing_at(at as u64, mishap);
         let count = at.saturating_mul(piece).min(bytes.len());
         let fault = SaveFault {
             written: count as u64,
         };
         let wanted = if at < writes { Err(fault) } else { Ok(()) };
-        check_save(rt, image, writer, wanted, &bytes[..count], &label);
+        let mut sink = IntoWrite::new(writer);
+        assert_eq!(rt; save(image, &mut sink), wanted, "{label}");
+        check_sink(rt, sink, at < writes, &bytes[..count], &label);
     }
 }
 
-// A save answers this, and its sink has taken these bytes then.
-fn check_save(
-    rt: &impl Abort,
-    image: &Image,
-    writer: ScriptedWriter,
-    wanted: Result<(), SaveFault>,
-    taken: &[u8],
-    label: &str,
-) {
-    let mut sink = IntoWrite::new(writer);
-    check(rt, save(image, &mut sink), wanted, label);
-    check_sink(rt, sink, wanted.is_err(), taken, label);
-}
-
-// A sink has failed or not, and has taken these bytes.
+/// A sink has failed or not, and has taken these bytes.
 fn check_sink(
     rt: &impl Abort,
     sink: IntoWrite<ScriptedWriter>,
     has_failed: bool,
     taken: &[u8],
-    label: &str,
+    label: &impl Display,
 ) {
-    check(rt, sink.failed(), has_failed, label);
-    check_moved(rt, &sink.into_inner().taken, taken, label);
+    assert_eq!(rt; sink.failed(), has_failed, "{label}");
+    assert_eq!(rt; sink.into_inner().taken.as_slice(), taken, "{label}");
 }
 
 #[test]
@@ -175,21 +136,19 @@ fn interrupted_calls_are_tried_again(rt: HostRuntime) {
 }
 
 fn check_interrupted_read(rt: &impl Abort, alloc: Global, bytes: &[u8], at: u64) {
-    let label = text(rt, alloc, &format_args!("read {at}"));
     let mut reader = ScriptedReader::new(bytes, 512).failing_at(at, ErrorKind::Interrupted);
-    let image = load(alloc, &mut FromRead::new(&mut reader)).expect(rt, &label);
-    check_moved(rt, image.as_bytes(), bytes, &label);
-    check(rt, reader.mishap.kind.is_none(), true, &label);
+    let image = load(alloc, &mut FromRead::new(&mut reader)).expect(rt, "a whole load");
+    assert_eq!(rt; image.as_bytes(), bytes, "read {at}");
+    assert!(rt; reader.mishap.kind.is_none(), "read {at}");
 }
 
 fn check_interrupted_write(rt: &impl Abort, alloc: Global, bytes: &[u8], at: u64) {
-    let label = text(rt, alloc, &format_args!("write {at}"));
     let mishap = WriteMishap::Error(ErrorKind::Interrupted);
     let mut writer = ScriptedWriter::new(alloc, 512).failing_at(at, mishap);
     let result = write_all(&mut IntoWrite::new(&mut writer), bytes);
-    check(rt, result, Ok(()), &label);
-    writer.flush().expect(rt, &label);
-    check_moved(rt, &writer.taken, bytes, &label);
+    assert_eq!(rt; result, Ok(()), "write {at}");
+    writer.flush().expect(rt, "a flush");
+    assert_eq!(rt; writer.taken.as_slice(), bytes, "write {at}");
 }
 
 #[test]
@@ -197,60 +156,133 @@ fn reads_of_no_byte_and_of_one_do_their_work(rt: HostRuntime) {
     let mut source = FromRead::new(ScriptedReader::new(&[5, 6], 7));
     check_read(&rt, &mut source, &[]);
     check_read(&rt, &mut source, &[5]);
-    check_source(&rt, source, false, &[6], "after two reads");
+    check_source(&rt, source, false, &[6], &"after two reads");
 }
 
-// A read into room for so many bytes gives these.
+/// A read into room for so many bytes gives these.
 fn check_read<const N: usize>(rt: &impl Abort, source: &mut impl Source, wanted: &[u8; N]) {
     let mut bytes = [0; N];
     let count = source.read(&mut bytes).expect(rt, "a read");
-    check(rt, count, N, "how many were read");
-    check_moved(rt, &bytes, wanted, "what was read");
+    assert_eq!(rt; count, N);
+    check_whole(rt, &bytes, wanted);
 }
 
 #[test]
 fn writes_of_no_byte_and_of_one_do_their_work(rt: HostRuntime) {
     let mut sink = IntoWrite::new(ScriptedWriter::new(rt.alloc(), 7));
-    check_write(&rt, &mut sink, &[]);
-    check_write(&rt, &mut sink, &[8]);
-    check_sink(&rt, sink, false, &[8], "after two writes");
-}
-
-// A write takes all of these bytes.
-fn check_write(rt: &impl Abort, sink: &mut impl Sink, bytes: &[u8]) {
-    let count = sink.write(bytes).expect(rt, "a write");
-    check(rt, count, bytes.len(), "how many were taken");
+    for bytes in [[].as_slice(), [8].as_slice()] {
+        let count = sink.write(bytes).expect(&rt, "a write");
+        assert_eq!(rt; count, bytes.len());
+    }
+    check_sink(&rt, sink, false, &[8], &"after two writes");
 }
 
 #[test]
 fn long_images_are_loaded_whole(rt: HostRuntime) {
     let bytes = sample(&rt, rt.alloc(), 200_000);
     for capacity in [0, 1, 199_999, 200_000, 300_000] {
-        check_long_load(&rt, rt.alloc(), &bytes, capacity);
+        let mut source = FromRead::new(ScriptedReader::new(&bytes, 65_536));
+        let image = load_with_capacity(rt.alloc(), capacity, &mut source).expect(&rt, "a load");
+        assert_eq!(rt;
+            image.as_bytes(),
+            bytes.as_slice(),
+            "with room for {capacity}"
+        );
     }
 }
 
-fn check_long_load(rt: &impl Abort, alloc: Global, bytes: &[u8], capacity: usize) {
-    let label = text(rt, alloc, &format_args!("with room for {capacity}"));
-    let mut source = FromRead::new(ScriptedReader::new(bytes, 65_536));
-    let image = load_with_capacity(alloc, capacity, &mut source).expect(rt, &label);
-    check_moved(rt, image.as_bytes(), bytes, &label);
+/// A volume of the sixth edition of five blocks: i-node 1 is a file of five bytes in block 3.
+static SIXTH: [Piece; 3] = [
+    (512, b"\x01\x00\x05\x00"),
+    (1024, b"\xA4\x81\x01\x00\x00\x00\x05\x00\x03\x00"),
+    (1536, b"hello"),
+];
+
+/// The same, where the file has 515 zeros more.
+static LONGER: [Piece; 3] = [
+    (512, b"\x01\x00\x05\x00"),
+    (1024, b"\xA4\x81\x01\x00\x00\x00\x08\x02\x03\x00"),
+    (1536, b"hello"),
+];
+
+/// Runs `cat` of i-node 1 with a reader and a writer, and compares its answer, whether a read and a write failed, and
+/// what the writer took.
+fn check_cat(
+    rt: &impl Abort,
+    alloc: Global,
+    reader: ScriptedReader<'_>,
+    writer: ScriptedWriter,
+    wanted: Result<(), CatFault>,
+    taken: &[u8],
+    label: &impl Display,
+) {
+    let mut source = FromRead::new(reader);
+    let mut sink = IntoWrite::new(writer);
+    let answer = cat(alloc, Edition::V6, 1, &mut source, &mut sink);
+    assert_eq!(rt; answer, wanted, "{label}");
+    let has_read_failed = wanted == Err(CatFault::Device);
+    assert_eq!(rt; source.failed(), has_read_failed, "{label}");
+    check_sink(rt, sink, wanted.is_err() && !has_read_failed, taken, label);
 }
 
 #[test]
-fn faults_say_what_failed(rt: HostRuntime) {
+fn a_read_that_fails_is_the_devices(rt: HostRuntime) {
     let alloc = rt.alloc();
-    check_text(
-        &rt,
-        alloc,
-        &LoadFault::Device,
-        "the image could not be read",
-    );
-    check_text(&rt, alloc, &LoadFault::NoMemory, "out of memory");
-    let fault = SaveFault { written: 513 };
-    check_text(&rt, alloc, &fault, "the device failed after 513 bytes");
+    let bytes = with_pieces(&rt, alloc, 2560, &SIXTH);
+    for piece in [1, 7, 512] {
+        check_reads(&rt, alloc, &bytes, piece);
+    }
 }
 
-fn check_text(rt: &impl Abort, alloc: Global, fault: &impl Display, wanted: &str) {
-    check(rt, text(rt, alloc, fault).as_str(), wanted, "the words");
+/// Prints file 1, as `check_loads` loads it.
+fn check_reads(rt: &impl Abort, alloc: Global, bytes: &[u8], piece: usize)
+    requires { 0 < piece }
+{
+    let reads = bytes.len().div_ceil(piece).saturating_add(1);
+    for at in 0..reads.saturating_add(2) {
+        let label = format_args!("read {at} by {piece}");
+        let reader = ScriptedReader::new(bytes, piece).failing_at(at as u64, ErrorKind::Other);
+        let writer = ScriptedWriter::new(alloc, 512);
+        let (answer, taken): (Result<(), CatFault>, &[u8]) = if at < reads {
+            (Err(CatFault::Device), b"")
+        } else {
+            (Ok(()), b"hello")
+        };
+        check_cat(rt, alloc, reader, writer, answer, taken, &label);
+    }
+}
+
+#[test]
+fn a_write_that_fails_counts_what_was_taken(rt: HostRuntime) {
+    let alloc = rt.alloc();
+    let bytes = with_pieces(&rt, alloc, 2560, &LONGER);
+    let body = with_pieces(&rt, alloc, 520, &[(0, b"hello")]);
+    for mishap in MISHAPS {
+        for piece in [1, 7, 104, 512, 520] {
+            check_writes(&rt, alloc, &bytes, &body, piece, mishap);
+        }
+    }
+}
+
+/// Prints file 1, as `check_saves` saves an image.
+fn check_writes(
+    rt: &impl Abort,
+    alloc: Global,
+    bytes: &[u8],
+    body: &[u8],
+    piece: usize,
+    mishap: WriteMishap,
+)
+    requires { 0 < piece }
+{
+    let writes = body.len().div_ceil(piece);
+    for at in 0..writes.saturating_add(2) {
+        let label = format_args!("write {at} by {piece}");
+        let writer = ScriptedWriter::new(alloc, piece).failing_at(at as u64, mishap);
+        let reader = ScriptedReader::new(bytes, 65_536);
+        let written = at.saturating_mul(piece).min(body.len());
+        let fault = CatFault::Writer(written as u64);
+        let answer = if at < writes { Err(fault) } else { Ok(()) };
+        check_cat(rt, alloc, reader, writer, answer, &body[..written], &label);
+    }
 }

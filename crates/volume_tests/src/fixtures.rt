@@ -4,7 +4,6 @@ ghost use Rattle.vol_volume.specs.Volume.{mounted};
 
 use pdp_words::words::put_bytes;
 use std::alloc::{AllocError, Global};
-use std::fmt::Debug;
 use std::process::Abort;
 use vol_dir::{Cred, Refusal};
 use vol_layout::Edition;
@@ -58,16 +57,6 @@ pub(crate) fn bytes_of(rt: &impl Abort, alloc: Global, bytes: &[u8]) -> Bytes
 pub(crate) fn check_bytes(rt: &impl Abort, bytes: &[u8], place: usize, wanted: &[u8]) {
     let found = bytes.get(place..place.saturating_add(wanted.len()));
     assert_eq!(rt; found, Some(wanted), "from byte {place}");
-}
-
-/// A value is the one that is wanted.
-pub(crate) fn check<T: PartialEq + Debug + Copy>(
-    rt: &impl Abort,
-    found: T,
-    wanted: T,
-    label: &str,
-) {
-    assert_eq!(rt; found, wanted, "{label}");
 }
 
 /// Bytes are these, from the first to the last.

@@ -1,4 +1,5 @@
 // The words of refusals and faults.
+use pdp_words::{LoadFault, SaveFault};
 use std::alloc::Global;
 use std::fmt::Display;
 use std::process::Abort;
@@ -39,6 +40,15 @@ fn faults_have_their_words(rt: HostRuntime) {
     check(&rt, alloc, &MkfsFault::NoMemory, "12 NoMemory");
     check(&rt, alloc, &MountFault::Unsound(12), "unsound, rule 12");
     check(&rt, alloc, &MountFault::NoMemory, "12 NoMemory");
+    check(
+        &rt,
+        alloc,
+        &LoadFault::Device,
+        "the image could not be read",
+    );
+    check(&rt, alloc, &LoadFault::NoMemory, "out of memory");
+    let fault = SaveFault { written: 513 };
+    check(&rt, alloc, &fault, "the device failed after 513 bytes");
 }
 
 /// A refusal or a fault is shown by these words.

@@ -198,9 +198,6 @@ get 7 disk -o out | <PATH>
 get 7 disk -o out -o out /d/f | '--output <FOLDER>' cannot be used multiple times
 get 7 disk -o out /d/f /e/f/ | invalid value 'f' for '<PATH>': two files have this last name
 inode 7 disk | <INO>
-inode 7 disk 65536 | for '<INO>'
-super --svg 7 disk | --svg
-map --json 7 disk | --json
 map --svg --svg 7 disk | --svg
 --explain | subcommand
 super --explain 7 disk --explain | --explain
@@ -260,7 +257,7 @@ super 7 disk | isize 5;fsize 6;nfree 0;
 super 7 disk --json | {"data blocks":1,"fault":null,"flock":0,"fmod":0,"free":[],"free blocks":0,"free i-nodes":23,"fsize":6,"i-nodes":24,
 map 7 disk | 6 blocks, 1 in each cell;
 map 7 disk -- | 6 blocks, 1 in each cell;
-map 7 --svg disk | <svg xmlns='http://www.w3.org/2000/svg' 
+map 7 --svg disk | <svg xmlns='http://www.w3.org/2000/svg'
 END
 
 # Numbers of threads.

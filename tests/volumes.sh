@@ -185,5 +185,282 @@ for file in "$rows"/*.rows; do
     play_rows "$file"
 done
 
+# new FILE EDITION BLOCKS LIST: a new volume of user 0 and group 0
+new() { "$program" mkfs "$2" "$1" "$3" "$4" 0 0 168496141; }
+
+# The rules of soundness. Each image is looked at by commands that mount it, by `check`, and by `salvage`; the rows are in tests/volumes/rules.
+# broken RULE: the line of a command that finds it broken; `-` is for none
+broken() {
+    if [ "$1" = - ]; then
+        : > line
+    else
+        echo "unixvol: unsound, rule $1" > line
+    fi
+}
+
+new sound6 6 20 2
+new sound7 7 100 2
+while IFS='|' read -r edition label least without pieces; do
+    case $edition in '' | '#'*) continue ;; esac
+    cp "sound$edition" disk
+    while read -r -d , piece; do
+        [ -z "$piece" ] || put disk "${piece%% *}" "${piece#* }"
+    done <<< "$pieces,"
+    cp disk same
+    broken "$least"
+    runs ls "$edition" disk /
+    : > output
+    wants "ls: $label" "$([ "$least" = - ] && echo 0 || echo 1)" none line
+    runs check "$edition" disk
+    mapfile -t lines < output
+    found=-
+    for row in "${lines[@]}"; do
+        case $row in *': holds') ;; *) found=${row%% *} && break ;; esac
+    done
+    has "check: $label" "$least 12 $([ "$least" = - ] && echo 0 || echo 1)" "$found ${#lines[@]} $(< status)"
+    broken "$without"
+    runs salvage "$edition" disk
+    wants "salvage: $label" "$([ "$without" = - ] && echo 0 || echo 1)" none line
+    [ "$without" = - ] || saves "salvage: $label" disk same
+done < "$rows/rules"
+
+# Images that are too short, or longer than the volume.
+for size in 0 511 1023 1024 10239; do
+    head -c "$size" sound6 > short
+    refuses 1 'unixvol: unsound, rule 1' ls 6 short /
+done
+image zeros 1024
+refuses 1 'unixvol: unsound, rule 2' ls 6 zeros /
+{ cat sound6; printf '\1\2\3'; } > longer
+printf '%5d %s\n' 1 . 1 .. > lines
+prints lines ls 6 longer /
+printf '%s\n' '1 0 0 stat /' > script
+printf '%s\n' '1.1 stat 1 dir 0777 2 0 0 32' 'records 0' 'confirmed 1' > lines
+cp longer same
+prints lines play 6 longer script
+saves 'an image with bytes behind the volume' longer same
+printf '%5d %s\n' 2 . 2 .. > lines
+prints lines ls 7 sound7 /
+head -c $((99 * 512)) sound7 > short
+refuses 1 'unixvol: unsound, rule 1' ls 7 short /
+
+# A seventh edition volume of 1010 blocks. Each of 8000 files names a triply indirect block whose entries, and theirs, all name one block:
+# there are some 17 thousand million places.
+node="\xA4\x81$(printf '\\0%.0s' {1..47})\xEA\x03$(printf '\\0%.0s' {1..13})"
+{
+    head -c 512 /dev/zero
+    printf '\xEA\x03\0\0\xF2\x03'
+    head -c 506 /dev/zero
+    printf "$node%.0s" {1..8000}
+    for entry in '\xEB' '\xEC' '\xED'; do printf "\\0\\0$entry\\x03%.0s" {1..128}; done
+    head -c $((5 * 512)) /dev/zero
+} > ways
+put ways 1088 'ED 41'
+has 'the size of an image with many ways' $((1010 * 512)) "$(stat -c %s ways)"
+echo 'unixvol: unsound, rule 7' > line
+runs_within 10 salvage 7 ways
+wants 'an image with many ways' 1 none line
+
+# New volumes of sizes around those at which an array of either edition is full: `mkfs` leaves what giving each block, from the last down,
+# leaves, and so does a file that had them all.
+# give BLOCK: puts a block on the free list in `count` and `list`; `chain` has what is written into blocks
+give() {
+    if [ "$count" = "$most" ]; then
+        chain[$1]="$(word "$count")$(numbers "${list[@]}")"
+        list[0]=$1
+        count=1
+    elif [ "$count" = 0 ]; then
+        list[0]=0
+        list[1]=$1
+        count=2
+    else
+        list[count]=$1
+        count=$((count + 1))
+    fi
+}
+
+# word N, numbers N..: a word, and block numbers of the edition, as hexadecimal digits
+word() { printf '%02X%02X' $(($1 % 256)) $(($1 / 256)); }
+numbers() {
+    local number format='%02X%02X'
+    [ "$edition" = 6 ] || format='0000%02X%02X'
+    for number in "$@"; do printf "$format" $((number % 256)) $((number / 256)); done
+}
+
+# zeros_in FILE COUNT: puts lines into `script` that write so many blocks of zeros into a new file
+zeros_in() {
+    expand "{00*$((512 * $2))}"
+    [ "$2" -gt 0 ] || expanded=-
+    printf '%s\n' "1 0 0 create $1 644" "1 0 0 write $1 0 $expanded" >> script
+}
+
+# indirect COUNT: how many blocks name those of a file of so many blocks
+indirect() {
+    case $edition in
+        6) echo $(($1 <= 8 ? 0 : ($1 + 255) / 256)) ;;
+        7) echo $(($1 <= 10 ? 0 : $1 <= 138 ? 1 : 2 + ($1 - 138 + 127) / 128)) ;;
+    esac
+}
+
+for size in '4 1' '5 1' '53 1' '54 1' '55 2' '103 1' '104 1' '105 2' '128 3' '129 3' '257 5' '404 2'; do
+    for edition in 6 7; do
+        read -r blocks list_blocks <<< "$size"
+        first=$((list_blocks + 2))
+        most=$([ "$edition" = 6 ] && echo 100 || echo 50)
+        list=()
+        chain=()
+        count=0
+        for ((block = 0; block < most; block++)); do list[block]=0; done
+        for ((block = blocks - 1; block > first; block--)); do give "$block"; done
+        image made $((512 * blocks))
+        if [ "$edition" = 6 ]; then
+            put made 512 "$(word "$list_blocks")$(word "$blocks")$(word "$count")$(numbers "${list[@]}")"
+            put made 924 '0B 0A 0D 0C'
+            put made 1024 "FF C1 02 07 09 00 20 00 $(word "$first")"
+            put made 1048 '0B 0A 0D 0C 0B 0A 0D 0C'
+            root='01 00'
+        else
+            put made 512 "$(word "$first")0000$(word "$blocks")$(word "$count")$(numbers "${list[@]}")"
+            put made 926 '0B 0A 0D 0C'
+            put made 1088 "FF 41 02 00 07 00 09 00 00 00 20 00 00 $(word "$first")"
+            put made 1140 '0B 0A 0D 0C 0B 0A 0D 0C 0B 0A 0D 0C'
+            root='02 00'
+        fi
+        put made $((512 * first)) "$root 2E"
+        put made $((512 * first + 16)) "$root 2E 2E"
+        for block in "${!chain[@]}"; do put made $((512 * block)) "${chain[block]}"; done
+        prints none mkfs "$edition" new "$blocks" "$list_blocks" 7 9 168496141
+        saves "a new volume of edition $edition with $size blocks" new made
+        # One file takes all blocks, with a second one for what is left where one block more would want two; both go from the last block down.
+        free=$((blocks - first - 1))
+        whole=$free
+        while [ $((whole + $(indirect "$whole"))) -gt "$free" ]; do whole=$((whole - 1)); done
+        left=$((free - whole - $(indirect "$whole")))
+        : > script
+        zeros_in /f "$whole"
+        zeros_in /g "$left"
+        printf '%s\n' '1 0 0 create /h 644' '1 0 0 write /h 0 00' '1 0 0 unlink /g' '1 0 0 unlink /f' >> script
+        top=$((list_blocks * (edition == 6 ? 16 : 8)))
+        printf '%s\n' "1.1 ok $top" "1.2 ok $((512 * whole))" "1.3 ok $((top - 1))" "1.4 ok $((512 * left))" "1.5 ok $((top - 2))" '1.6 28 NoSpace' \
+            '1.7 ok 0' '1.8 ok 0' 'records 7' 'confirmed 8' > lines
+        runs play "$edition" new script
+        wants "all blocks of a volume of edition $edition with $size blocks" 1 lines none
+        head=$((edition == 6 ? 516 : 518))
+        cmp -s -i "$head" -n $((2 + count * (edition == 6 ? 2 : 4))) new made
+        has "the free list of a volume of edition $edition with $size blocks that were given back" 0 $?
+        for block in "${!chain[@]}"; do
+            cmp -s -i $((512 * block)) -n 202 new made
+            has "block $block of the free list of a volume of edition $edition with $size blocks" 0 $?
+        done
+    done
+done
+
+# Limits of owners that are no faults; tests/program.sh has the others.
+prints none mkfs 6 new 20 2 255 255 168496141
+prints none mkfs 7 new 100 2 256 32767 168496141
+
+# Each field of an i-node of either edition, no two bytes of which are the same.
+# field HIGH LOW: a number of two words
+field() { echo $((65536 * $1 + $2)); }
+image fields 2560
+put fields 512 '01 00 05 00'
+put fields 1056 "$(printf '%02X' {1..32})"
+runs inode --json 6 fields 2
+sed -i 's/"extents":\[\],//' output
+echo "{\"addr\":[$((0x0A09)),$((0x0C0B)),$((0x0E0D)),$((0x100F)),$((0x1211)),$((0x1413)),$((0x1615)),$((0x1817))],\
+\"atime\":$((0x1A191C1B)),\"ctime\":null,\"gid\":5,\"i-node\":2,\"kind\":\"odd\",\"mode\":$((0x0201)),\"mtime\":$((0x1E1D201F)),\"nlink\":3,\
+\"permissions\":$((0x0201)),\"size\":$((0x060807)),\"uid\":4}" > line
+wants 'the fields of the sixth edition' 0 line none
+image fields 2560
+put fields 512 '03 00 00 00 05 00'
+put fields 1088 "$(printf '%02X' {1..64})"
+runs inode --json 7 fields 2
+sed -i 's/"extents":\[\],//' output
+echo "{\"addr\":[$((0x0D0F0E)),$((0x101211)),$((0x131514)),$((0x161817)),$((0x191B1A)),$((0x1C1E1D)),$((0x1F2120)),$((0x222423)),$((0x252726)),\
+$((0x282A29)),$((0x2B2D2C)),$((0x2E302F)),$((0x313332))],\"atime\":$((0x36353837)),\"ctime\":$((0x3E3D403F)),\"gid\":$((0x0807)),\"i-node\":2,\
+\"kind\":\"odd\",\"mode\":$((0x0201)),\"mtime\":$((0x3A393C3B)),\"nlink\":$((0x0403)),\"permissions\":$((0x0201)),\"size\":$((0x0A090C0B)),\
+\"uid\":$((0x0605))}" > line
+wants 'the fields of the seventh edition' 0 line none
+
+# Each node of the volume that Linux wrote is as Linux told of it: path, i-number, kind and permissions, links, user, group and size.
+awk '/^\..*:$/ { folder = substr($0, 2, length($0) - 2); next } NF == 10 { print folder "/" $10, $1, $2, $3, $4, $5, $6 }' "$samples/linux_made.txt" |
+    sort > lines
+has 'how many nodes Linux told of' 37 "$(wc -l < lines)"
+runs ls -l -R 7 "$samples/linux_made.v7"
+awk '/:$/ { folder = substr($0, 1, length($0) - 1); if (folder == "/") folder = ""; next }
+    NF == 9 && $9 != "." && $9 != ".." { print folder "/" $9, $1, $2, $3, $4, $5, $6 }' output | sort > told
+cp told output
+wants 'the nodes of the volume that Linux wrote' 0 lines none
+
+# Memory is not said to be refused where there is enough of it, however much is asked for.
+new disk 7 100 2
+{ echo '16909060 0 0 create /f 644' && seq -f '16909060 0 0 write /f %.0f 78' 4999; } > script
+{ echo '1.1 ok 16' && seq -f '1.%.0f ok 1' 2 5000 && printf '%s\n' 'records 5000' 'confirmed 5000'; } > lines
+prints lines play 7 disk script
+new disk 7 300 2
+expand '{78*100000}'
+printf '16909060 0 0 %s\n' 'create /f 644' "write /f 0 $expanded" 'read /f 0 100000' > script
+printf '%s\n' '1.1 ok 16' '1.2 ok 100000' "1.3 read $expanded" 'records 2' 'confirmed 3' > lines
+prints lines play 7 disk script
+for numbers in '6 1' '7 2'; do
+    read -r edition top <<< "$numbers"
+    new disk "$edition" 16000 1000
+    has 'the size of a volume of several megabytes' 8192000 "$(stat -c %s disk)"
+    printf '%5d %s\n' "$top" . "$top" .. > lines
+    prints lines ls "$edition" disk /
+done
+
+# A journal can be cut before each of its calls and behind them: the calls leave the same image, and the records are counted on. All calls of
+# tests/volumes/accepted are accepted.
+steps=()
+while IFS= read -r row; do
+    expand "$row"
+    steps+=("16909060 0 0 $expanded")
+done < "$rows/accepted"
+# cut_at EDITION PLACE..: plays the calls on a new volume, with a cut before each of these places, counted from 0
+cut_at() {
+    local edition=$1 last=0 cut
+    shift
+    new disk "$edition" 20 2
+    : > script
+    for cut in "$@"; do
+        printf '%s\n' "${steps[@]:last:cut - last}" '16909060 0 0 cut' | sed '/^$/d' >> script
+        last=$cut
+    done
+    printf '%s\n' "${steps[@]:last}" | sed '/^$/d' >> script
+    runs play "$edition" disk script
+}
+for edition in 6 7; do
+    cut_at "$edition"
+    has "how many calls are accepted in edition $edition" '24 0' "$(grep -c '^1\.[0-9]* ok [0-9]*$' output) $(< status)"
+    mv disk same
+    grep -o ' ok [0-9]*$' output > answers
+    for ((place = 0; place <= 24; place++)); do
+        cut_at "$edition" "$place"
+        sed "$((place + 1))i\\ cut $place" answers > lines
+        [ "$place" -lt 24 ] || { cat answers && echo " cut $place"; } > lines
+        { awk '{ print "1." NR $0 }' lines && printf '%s\n' "records $((24 - place))" "confirmed $((24 - place))" "gone $place"; } > wanted
+        wants "calls that are cut before call $place" 0 wanted none
+        saves "calls that are cut before call $place" disk same
+    done
+done
+cut_at 7 9 9 18 18 24 24
+has 'the numbers of records of a journal that is cut twice at a time' 'cut 9 cut 9 cut 18 cut 18 cut 24 cut 24 records 0 confirmed 0 gone 24' \
+    "$(sed 's/^1\.[0-9]* //' output | grep -v '^ok' | paste -s -d ' ' -)"
+saves 'calls that are cut three times' disk same
+# What is refused after a cut changes nothing.
+cut_at 6 24
+cp disk same
+expand '{01*9000}'
+printf '16909060 0 0 %s\n' 'create /d 644' 'mkdir /x/y 755' 'unlink /a' 'rmdir /d' "write /i/j 0 $expanded" 'truncate /i 0' > refused
+printf '%s\n' '17 Exists' '2 NoEntry' '2 NoEntry' '101 NotEmpty' '28 NoSpace' '21 IsDirectory' | awk '{ print "1." NR + 25, $0 }' > lines
+printf '%s\n' 'records 0' 'confirmed 6' 'gone 24' >> lines
+cat refused >> script
+new disk 6 20 2
+runs play 6 disk script
+sed -i '1,25d' output
+wants 'calls that are refused after a cut' 1 lines none
+saves 'calls that are refused after a cut' disk same
+
 echo "$passed passed, $failed failed"
 [ "$failed" = 0 ]

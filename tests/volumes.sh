@@ -21,23 +21,28 @@ export LC_ALL=C
 
 # expand ROW: puts the row with its repeated digits written out into `expanded`
 expand() {
-    local once many
-    expanded=$1
-    while [[ $expanded =~ \{([0-9A-Fa-f]+)\*([0-9]+)\} ]]; do
-        once=${BASH_REMATCH[1]}
-        printf -v many '%*s' "${BASH_REMATCH[2]}" ''
-        expanded=${expanded/"${BASH_REMATCH[0]}"/"${many// /$once}"}
+    local rest=$1 once many
+    expanded=
+    while [[ $rest = *\{* ]]; do
+        expanded+=${rest%%\{*}
+        rest=${rest#*\{}
+        once=${rest%%\}*}
+        rest=${rest#*\}}
+        [ -n "$once" ] || continue
+        printf -v many '%*s' "${once#*\*}" ''
+        expanded+=${many// /${once%\**}}
     done
-    expanded=${expanded//\{\}/}
+    expanded+=$rest
 }
 
 # shown AT COUNT: puts so many bytes of the image into `found`, as hexadecimal digits
 shown() {
-    local place=$1
-    if [ -z "$hex" ]; then
-        hex=$(od -An -v -tx1 -w"$(stat -c %s disk)" disk)
+    local end=$(($1 + $2))
+    if [ "$end" -gt "$known" ]; then
+        known=$((end > 8192 ? end : 8192))
+        hex=$(od -An -v -tx1 -w"$known" -N "$known" disk)
     fi
-    found=${hex:place * 3:$2 * 3}
+    found=${hex:3 * $1:3 * $2}
     found=${found// /}
     found=${found^^}
 }
@@ -83,7 +88,7 @@ play_steps() {
     runs=$((runs + 1))
     steps=()
     answers=()
-    hex=
+    known=0
     for stay in "${stays[@]}"; do
         read -r at count kept <<< "$stay"
         shown "$at" "$count"
@@ -115,7 +120,7 @@ take_row() {
             "$program" mkfs "$edition" disk ${rest#* } 0 0 168496141
             cp disk base
             by='16909060 0 0'
-            hex=
+            known=0
             ;;
         by) by=$rest ;;
         '>') steps+=("$by $rest") ;;
@@ -146,7 +151,7 @@ take_row() {
             play_again
             put disk "${rest%% *}" "${rest#* }"
             cp disk base
-            hex=
+            known=0
             ;;
         ls)
             play_steps
@@ -189,12 +194,16 @@ done
 new() { "$program" mkfs "$2" "$1" "$3" "$4" 0 0 168496141; }
 
 # The rules of soundness. Each image is looked at by commands that mount it, by `check`, and by `salvage`; the rows are in tests/volumes/rules.
-# broken RULE: the line of a command that finds it broken; `-` is for none
-broken() {
-    if [ "$1" = - ]; then
-        : > line
+# finds LABEL RULE WORD..: the program finds this rule broken, and says so alone; `-` is for none
+finds() {
+    local label=$1 least=$2 status=0
+    shift 2
+    "$program" "$@" > output 2> error < /dev/null || status=$?
+    mapfile -t lines < error
+    if [ "$least" = - ]; then
+        compare "$label" '0 ' "$status ${lines[*]}"
     else
-        echo "unixvol: unsound, rule $1" > line
+        compare "$label" "1 unixvol: unsound, rule $least" "$status ${lines[*]}"
     fi
 }
 
@@ -207,20 +216,17 @@ while IFS='|' read -r edition label least without pieces; do
         [ -z "$piece" ] || put disk "${piece%% *}" "${piece#* }"
     done <<< "$pieces,"
     cp disk same
-    broken "$least"
-    runs ls "$edition" disk /
-    : > output
-    wants "ls: $label" "$([ "$least" = - ] && echo 0 || echo 1)" none line
-    runs check "$edition" disk
+    finds "ls: $label" "$least" ls "$edition" disk /
+    status=0
+    "$program" check "$edition" disk > output 2> error < /dev/null || status=$?
     mapfile -t lines < output
     found=-
     for row in "${lines[@]}"; do
         case $row in *': holds') ;; *) found=${row%% *} && break ;; esac
     done
-    has "check: $label" "$least 12 $([ "$least" = - ] && echo 0 || echo 1)" "$found ${#lines[@]} $(< status)"
-    broken "$without"
-    runs salvage "$edition" disk
-    wants "salvage: $label" "$([ "$without" = - ] && echo 0 || echo 1)" none line
+    [ "$least" = - ] || status=$((status - 1))
+    compare "check: $label" "$least 12 0" "$found ${#lines[@]} $status"
+    finds "salvage: $label" "$without" salvage "$edition" disk
     [ "$without" = - ] || saves "salvage: $label" disk same
 done < "$rows/rules"
 
@@ -289,9 +295,11 @@ numbers() {
 
 # zeros_in FILE COUNT: puts lines into `script` that write so many blocks of zeros into a new file
 zeros_in() {
-    expand "{00*$((512 * $2))}"
-    [ "$2" -gt 0 ] || expanded=-
-    printf '%s\n' "1 0 0 create $1 644" "1 0 0 write $1 0 $expanded" >> script
+    printf '1 0 0 create %s 644\n' "$1" >> script
+    case $2 in
+        0) printf '1 0 0 write %s 0 -\n' "$1" >> script ;;
+        *) printf '1 0 0 write %s 0 %0*d\n' "$1" $((1024 * $2)) 0 >> script ;;
+    esac
 }
 
 # indirect COUNT: how many blocks name those of a file of so many blocks
@@ -417,50 +425,51 @@ while IFS= read -r row; do
     expand "$row"
     steps+=("16909060 0 0 $expanded")
 done < "$rows/accepted"
-# cut_at EDITION PLACE..: plays the calls on a new volume, with a cut before each of these places, counted from 0
-cut_at() {
-    local edition=$1 last=0 cut
-    shift
-    new disk "$edition" 20 2
-    : > script
-    for cut in "$@"; do
-        printf '%s\n' "${steps[@]:last:cut - last}" '16909060 0 0 cut' | sed '/^$/d' >> script
-        last=$cut
-    done
-    printf '%s\n' "${steps[@]:last}" | sed '/^$/d' >> script
-    runs play "$edition" disk script
+cut='16909060 0 0 cut'
+# plays_whole EDITION STEP..: plays these steps on a new volume; `played` is all that is printed
+plays_whole() {
+    new disk "$1" 20 2
+    printf '%s\n' "${@:2}" > script
+    runs play "$1" disk script
+    mapfile -t lines < output
+    played="${lines[*]}"
 }
 for edition in 6 7; do
-    cut_at "$edition"
-    has "how many calls are accepted in edition $edition" '24 0' "$(grep -c '^1\.[0-9]* ok [0-9]*$' output) $(< status)"
-    mv disk same
-    grep -o ' ok [0-9]*$' output > answers
+    plays_whole "$edition" "${steps[@]}"
+    answers=()
+    for number in {1..24}; do
+        answer=${lines[number - 1]#"1.$number "}
+        [[ $answer =~ ^ok\ [0-9]+$ ]]
+        has "call $number is accepted in edition $edition" 0 $?
+        answers+=("$answer")
+    done
+    has "a journal of edition $edition that is not cut" '26 records 24 0' "${#lines[@]} ${lines[24]} $(< status)"
+    mv disk "whole$edition"
     for ((place = 0; place <= 24; place++)); do
-        cut_at "$edition" "$place"
-        sed "$((place + 1))i\\ cut $place" answers > lines
-        [ "$place" -lt 24 ] || { cat answers && echo " cut $place"; } > lines
-        { awk '{ print "1." NR $0 }' lines && printf '%s\n' "records $((24 - place))" "confirmed $((24 - place))" "gone $place"; } > wanted
-        wants "calls that are cut before call $place" 0 wanted none
-        saves "calls that are cut before call $place" disk same
+        plays_whole "$edition" "${steps[@]:0:place}" "$cut" "${steps[@]:place}"
+        number=0
+        wanted=
+        for answer in "${answers[@]:0:place}" "cut $place" "${answers[@]:place}"; do
+            number=$((number + 1))
+            wanted+="1.$number $answer "
+        done
+        compare "calls of edition $edition that are cut before call $place" \
+            "${wanted}records $((24 - place)) confirmed $((24 - place)) gone $place 0" "$played $(< status)"
+        saves "calls of edition $edition that are cut before call $place" disk "whole$edition"
     done
 done
-cut_at 7 9 9 18 18 24 24
-has 'the numbers of records of a journal that is cut twice at a time' 'cut 9 cut 9 cut 18 cut 18 cut 24 cut 24 records 0 confirmed 0 gone 24' \
-    "$(sed 's/^1\.[0-9]* //' output | grep -v '^ok' | paste -s -d ' ' -)"
-saves 'calls that are cut three times' disk same
+plays_whole 7 "${steps[@]:0:9}" "$cut" "$cut" "${steps[@]:9:9}" "$cut" "$cut" "${steps[@]:18}" "$cut" "$cut"
+has 'the numbers of records of a journal that is cut twice at a time' \
+    '1.10 cut 9 1.11 cut 9 1.21 cut 18 1.22 cut 18 1.29 cut 24 1.30 cut 24 records 0 confirmed 0 gone 24' "$(grep -v ' ok ' output | paste -s -d ' ' -)"
+saves 'calls that are cut three times' disk whole7
 # What is refused after a cut changes nothing.
-cut_at 6 24
-cp disk same
 expand '{01*9000}'
-printf '16909060 0 0 %s\n' 'create /d 644' 'mkdir /x/y 755' 'unlink /a' 'rmdir /d' "write /i/j 0 $expanded" 'truncate /i 0' > refused
-printf '%s\n' '17 Exists' '2 NoEntry' '2 NoEntry' '101 NotEmpty' '28 NoSpace' '21 IsDirectory' | awk '{ print "1." NR + 25, $0 }' > lines
-printf '%s\n' 'records 0' 'confirmed 6' 'gone 24' >> lines
-cat refused >> script
-new disk 6 20 2
-runs play 6 disk script
-sed -i '1,25d' output
-wants 'calls that are refused after a cut' 1 lines none
-saves 'calls that are refused after a cut' disk same
+refused=('create /d 644' 'mkdir /x/y 755' 'unlink /a' 'rmdir /d' "write /i/j 0 $expanded" 'truncate /i 0')
+plays_whole 6 "${steps[@]}" "$cut" "${refused[@]/#/16909060 0 0 }"
+has 'calls that are refused after a cut' \
+    '1.25 cut 24 1.26 17 Exists 1.27 2 NoEntry 1.28 2 NoEntry 1.29 101 NotEmpty 1.30 28 NoSpace 1.31 21 IsDirectory records 0 confirmed 6 gone 24 1' \
+    "${lines[*]:24} $(< status)"
+saves 'calls that are refused after a cut' disk whole6
 
 echo "$passed passed, $failed failed"
 [ "$failed" = 0 ]

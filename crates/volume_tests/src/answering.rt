@@ -1,14 +1,10 @@
-// Queries of worked volumes: their replies.
-use crate::fixtures::{
-    NOW, Piece, ROOT, bytes_of, check_listed, check_names, check_read, edited, new_bytes,
-    new_volume, sixth, stat,
-};
-use pdp_words::Image;
+// What a volume replies of a node, with all its times.
+use crate::fixtures::{NOW, Piece, edited, new_volume, stat};
 use std::alloc::Global;
 use std::process::Abort;
-use vol_dir::{Cred, Refusal};
+use vol_dir::Cred;
 use vol_layout::{Edition, Kind};
-use vol_volume::{MountFault, Query, Stat, Volume, ask};
+use vol_volume::{Stat, Volume};
 
 /// What a file puts into a new volume of the sixth edition with 20 blocks: i-node 2 is a file `-` of the root's, with
 /// the bytes `hello`, that only its owner 3 may read.
@@ -26,11 +22,6 @@ static FILE: [Piece; 6] = [
     (2560, b"hello"),
 ];
 
-/// The volume with that file.
-fn volume_with_file(rt: &impl Abort, alloc: Global) -> Volume {
-    edited(rt, alloc, sixth(rt, alloc), &FILE)
-}
-
 /// This is what a user is told of a node.
 fn check_told(rt: &impl Abort, alloc: Global, volume: &Volume, path: &[u8], wanted: &Stat) {
     let found = stat(rt, alloc, volume, Cred { uid: 7, gid: 7 }, path);
@@ -38,10 +29,9 @@ fn check_told(rt: &impl Abort, alloc: Global, volume: &Volume, path: &[u8], want
 }
 
 #[test]
-fn the_root_of_a_new_volume_is_told(rt: HostRuntime) {
+fn a_node_is_told_with_its_times(rt: HostRuntime) {
     let alloc = rt.alloc();
     for (edition, number, changed) in [(Edition::V6, 1, None), (Edition::V7, 2, Some(NOW))] {
-        let volume = new_volume(&rt, alloc, edition, 100, 2);
         let wanted = Stat {
             number,
             kind: Kind::Directory,
@@ -54,23 +44,9 @@ fn the_root_of_a_new_volume_is_told(rt: HostRuntime) {
             modified: NOW,
             changed,
         };
-        for path in [b"/".as_slice(), b"", b"/.", b".././/.."] {
-            check_told(&rt, alloc, &volume, path, &wanted);
-        }
-        check_names(
-            &rt,
-            alloc,
-            &volume,
-            b"/",
-            &[b'.', number as u8, b'.', b'.', number as u8],
-        );
+        let volume = new_volume(&rt, alloc, edition, 100, 2);
+        check_told(&rt, alloc, &volume, b"/", &wanted);
     }
-}
-
-#[test]
-fn a_file_is_told_and_read(rt: HostRuntime) {
-    let alloc = rt.alloc();
-    let volume = volume_with_file(&rt, alloc);
     let wanted = Stat {
         number: 2,
         kind: Kind::Regular,
@@ -83,37 +59,7 @@ fn a_file_is_told_and_read(rt: HostRuntime) {
         modified: 65_537,
         changed: None,
     };
+    let made = new_volume(&rt, alloc, Edition::V6, 20, 2);
+    let volume = edited(&rt, alloc, made, &FILE);
     check_told(&rt, alloc, &volume, b"/-", &wanted);
-    check_names(&rt, alloc, &volume, b"/", b"-\x02.\x01..\x01");
-    let owner = Cred { uid: 3, gid: 9 };
-    for (offset, wanted) in [
-        (0, b"hel".as_slice()),
-        (3, b"lo"),
-        (5, b""),
-        (u32::MAX, b""),
-    ] {
-        check_read(&rt, alloc, &volume, owner, b"/-", (offset, 3), Ok(wanted));
-    }
-}
-
-#[test]
-fn a_path_with_a_zero_byte_is_invalid(rt: HostRuntime) {
-    let alloc = rt.alloc();
-    let path = bytes_of(&rt, alloc, b"/none\0");
-    let refused = sixth(&rt, alloc).ask(alloc, &Query::Stat { cred: ROOT, path });
-    assert_eq!(rt; refused.err(), Some(Refusal::Invalid));
-}
-
-#[test]
-fn volumes_are_asked_unmounted(rt: HostRuntime) {
-    let alloc = rt.alloc();
-    let image = Image::from_bytes(new_bytes(&rt, alloc, Edition::V7, 100, 2));
-    let path = bytes_of(&rt, alloc, b"/");
-    let query = Query::List { cred: ROOT, path };
-    let answer = ask(alloc, Edition::V7, &image, &query).expect(&rt, "a sound volume");
-    check_listed(&rt, alloc, answer, b".\x02..\x02");
-    let mut short = new_bytes(&rt, alloc, Edition::V7, 100, 2);
-    short.truncate(99 * 512);
-    let refused = ask(alloc, Edition::V7, &Image::from_bytes(short), &query);
-    assert_eq!(rt; refused.err(), Some(MountFault::Unsound(1)));
 }

@@ -1,27 +1,17 @@
-// Calls of worked volumes: what they answer, the bytes that they leave, and their journals made again.
+// Journals: made again by calls and by their records, also with other free i-numbers than calls would take, and cut.
 ghost use Rattle.std.specs.Prelude.{◌≡◌, true};
 ghost use Rattle.vol_volume.specs.Journal.{MayAnswer, MayFollow};
 ghost use Rattle.vol_volume.specs.Verdict.{is_free_number};
 ghost use Rattle.vol_volume.specs.Volume.{reads_as};
 
-use crate::fixtures::{ROOT, bytes_of, check_bytes, check_whole, copied, filled, mount, stat};
+use crate::fixtures::{ROOT, bytes_of, check_bytes, check_whole, copied, mount, new_volume, stat};
 use std::alloc::Global;
 use std::process::Abort;
-use vol_dir::{Cred, Refusal};
+use vol_dir::Refusal;
 use vol_layout::i_list::mode;
 use vol_layout::{Edition, Geometry};
-use vol_volume::{Bytes, Call, Done, Record, Volume};
-
-mod borders;
-mod cutting;
-mod directories;
-mod files;
-mod i_numbers;
-mod junk;
-mod memory;
-mod refusals;
-mod replays;
-mod truncations;
+use vol_volume::Done::{Made, Plain};
+use vol_volume::{Call, Done, Record, Volume};
 
 /// The moment of the calls, which stands on the disk as 02 01 04 03.
 const LATER: u32 = 0x0102_0304;
@@ -41,177 +31,183 @@ enum Asked<'a> {
     Rmdir(&'a [u8]),
     /// That writes these bytes from an offset on.
     Write(&'a [u8], u32, &'a [u8]),
-    /// That writes so many of one byte into a file from its first byte on.
-    Fill(&'a [u8], usize, u8),
     /// By which the first bytes of a file stay, so many.
     Truncate(&'a [u8], u32),
+    /// That gives these permission bits.
+    Chmod(&'a [u8], u16),
+    /// That gives to this user and group.
+    Chown(&'a [u8], u16, u16),
 }
 
-/// A step of a run.
-enum Step {
-    /// A call, and what is wanted of it.
-    Call(Asked<'static>, Result<Done, Refusal>),
-    /// Bytes that stand at a place of the image then.
-    At(usize, &'static [u8]),
-    /// From a place on so many bytes that are this one.
-    All(usize, usize, u8),
-}
+use Asked::{Chmod, Chown, Create, Link, Mkdir, Rmdir, Truncate, Unlink, Write};
 
-/// The bytes of an image.
-fn image_of(rt: &impl Abort, alloc: Global, volume: &Volume) -> Vec<u8>
-    ensures { result.items ≡ volume.now.image }
-{
-    copied(rt, alloc, volume.image().as_bytes())
-}
+/// Calls on a new volume, each of which is accepted.
+static RUN: [Asked; 14] = [
+    Create(b"/a", 0o644),
+    Mkdir(b"/d", 0o755),
+    Write(b"/a", 0, b"hello"),
+    Link(b"/a", b"/d/c"),
+    Write(b"/d/c", 6000, &[7; 1200]),
+    Chmod(b"/a", 0o4711),
+    Unlink(b"/a"),
+    Mkdir(b"/d/e", 0o700),
+    Chown(b"/d/c", 3, 5),
+    Truncate(b"/d/c", 2),
+    Rmdir(b"/d/e"),
+    Create(b"/d/f", 0o600),
+    Unlink(b"/d/c"),
+    Write(b"/d/f", 100, b""),
+];
 
-/// The bytes of a volume's image from a place on are these.
-fn check_at(rt: &impl Abort, volume: &Volume, place: usize, wanted: &[u8]) {
-    check_bytes(rt, volume.image().as_bytes(), place, wanted);
-}
-
-/// A call that makes a file.
-fn create(cred: Cred, path: Bytes, perm: u16) -> Call {
-    let now = LATER;
-    Call::Create {
-        cred,
-        now,
-        path,
-        perm,
-    }
-}
-
-/// A call that makes a directory.
-fn mkdir(cred: Cred, path: Bytes, perm: u16) -> Call {
-    let now = LATER;
-    Call::Mkdir {
-        cred,
-        now,
-        path,
-        perm,
-    }
-}
-
-/// A call that writes bytes.
-fn write(cred: Cred, path: Bytes, offset: u32, bytes: Bytes) -> Call {
-    let now = LATER;
-    Call::Write {
-        cred,
-        now,
-        path,
-        offset,
-        bytes,
-    }
-}
-
-/// A call in the name of a user.
-fn call_by(rt: &impl Abort, alloc: Global, cred: Cred, asked: Asked) -> Call {
-    let now = LATER;
+/// A call of user 0.
+fn call_of(rt: &impl Abort, alloc: Global, asked: Asked) -> Call {
+    let (cred, now) = (ROOT, LATER);
+    let of = |bytes| bytes_of(rt, alloc, bytes);
     match asked {
-        Asked::Create(path, perm) => create(cred, bytes_of(rt, alloc, path), perm),
-        Asked::Mkdir(path, perm) => mkdir(cred, bytes_of(rt, alloc, path), perm),
-        Asked::Link(source, target) => Call::Link {
-            cred,
-            now,
-            source: bytes_of(rt, alloc, source),
-            target: bytes_of(rt, alloc, target),
-        },
-        Asked::Unlink(path) => {
-            let path = bytes_of(rt, alloc, path);
+        Create(path, perm) => {
+            let path = of(path);
+            Call::Create {
+                cred,
+                now,
+                path,
+                perm,
+            }
+        }
+        Mkdir(path, perm) => {
+            let path = of(path);
+            Call::Mkdir {
+                cred,
+                now,
+                path,
+                perm,
+            }
+        }
+        Link(source, target) => {
+            let (source, target) = (of(source), of(target));
+            Call::Link {
+                cred,
+                now,
+                source,
+                target,
+            }
+        }
+        Unlink(path) => {
+            let path = of(path);
             Call::Unlink { cred, now, path }
         }
-        Asked::Rmdir(path) => {
-            let path = bytes_of(rt, alloc, path);
+        Rmdir(path) => {
+            let path = of(path);
             Call::Rmdir { cred, now, path }
         }
-        Asked::Write(path, offset, bytes) => {
-            let path = bytes_of(rt, alloc, path);
-            write(cred, path, offset, bytes_of(rt, alloc, bytes))
+        Write(path, offset, bytes) => {
+            let (path, bytes) = (of(path), of(bytes));
+            Call::Write {
+                cred,
+                now,
+                path,
+                offset,
+                bytes,
+            }
         }
-        Asked::Fill(path, len, byte) => {
-            let path = bytes_of(rt, alloc, path);
-            write(cred, path, 0, Bytes::from_vec(filled(rt, alloc, len, byte)))
+        Truncate(path, length) => {
+            let path = of(path);
+            Call::Truncate {
+                cred,
+                now,
+                path,
+                length,
+            }
         }
-        Asked::Truncate(path, length) => Call::Truncate {
-            cred,
-            now,
-            path: bytes_of(rt, alloc, path),
-            length,
-        },
+        Chmod(path, perm) => {
+            let path = of(path);
+            Call::Chmod {
+                cred,
+                now,
+                path,
+                perm,
+            }
+        }
+        Chown(path, uid, gid) => {
+            let path = of(path);
+            Call::Chown {
+                cred,
+                now,
+                path,
+                uid,
+                gid,
+            }
+        }
     }
 }
 
-/// Makes a call in the name of a user, and answers what came of it.
+/// Makes a call, and answers what came of it.
 fn make(
     rt: &impl Abort,
     alloc: Global,
     volume: &mut Volume,
-    cred: Cred,
     asked: Asked,
 ) -> Result<Done, Refusal> {
-    let call = call_by(rt, alloc, cred, asked);
+    let call = call_of(rt, alloc, asked);
     volume.call(alloc, call).map_err(|(refusal, _)| refusal)
 }
 
-/// Takes the steps of a run, whose calls are in the name of a user.
-fn check_steps(rt: &impl Abort, alloc: Global, volume: &mut Volume, cred: Cred, steps: &[Step]) {
-    for step in steps {
-        check_step(rt, alloc, volume, cred, step);
+/// Makes calls that are all accepted.
+fn make_all(rt: &impl Abort, alloc: Global, volume: &mut Volume, calls: &[Asked]) {
+    for asked in calls {
+        let answer = make(rt, alloc, volume, *asked);
+        assert!(rt; answer.is_ok(), "{asked:?}: {answer:?}");
     }
 }
 
-/// Takes a step of a run.
-fn check_step(rt: &impl Abort, alloc: Global, volume: &mut Volume, cred: Cred, step: &Step) {
-    match step {
-        Step::Call(asked, wanted) => {
-            check_call(rt, alloc, volume, cred, *asked, *wanted);
-        }
-        Step::At(place, bytes) => check_at(rt, volume, *place, bytes),
-        Step::All(place, len, byte) => {
-            check_at(rt, volume, *place, &filled(rt, alloc, *len, *byte));
+#[test]
+fn a_journal_is_made_again_and_can_be_cut_anywhere(rt: HostRuntime) {
+    let alloc = rt.alloc();
+    for edition in [Edition::V6, Edition::V7] {
+        let mut whole = new_volume(&rt, alloc, edition, 20, 2);
+        make_all(&rt, alloc, &mut whole, &RUN);
+        for count in 0..=RUN.len() {
+            check_cut(&rt, alloc, edition, count, whole.image().as_bytes());
         }
     }
 }
 
-/// A call in the name of a user is answered so.
-fn check_call(
-    rt: &impl Abort,
-    alloc: Global,
-    volume: &mut Volume,
-    cred: Cred,
-    asked: Asked,
-    wanted: Result<Done, Refusal>,
-) {
-    let answer = make(rt, alloc, volume, cred, asked);
-    assert_eq!(rt; answer, wanted, "{asked:?}");
+/// The run on a new volume, cut after so many of its calls, leaves these bytes, and so does what is left of its
+/// journal, made again on the base.
+fn check_cut(rt: &impl Abort, alloc: Global, edition: Edition, count: usize, wanted: &[u8]) {
+    let mut volume = new_volume(rt, alloc, edition, 20, 2);
+    let front = RUN.get(..count).expect(rt, "the calls before the cut");
+    let rest = RUN.get(count..).expect(rt, "the calls after it");
+    make_all(rt, alloc, &mut volume, front);
+    let before = copied(rt, alloc, volume.image().as_bytes());
+    assert!(rt; volume.cut().is_ok());
+    check_whole(rt, volume.image().as_bytes(), &before);
+    check_whole(rt, volume.base(), &before);
+    make_all(rt, alloc, &mut volume, rest);
+    check_whole(rt, volume.image().as_bytes(), wanted);
+    assert_eq!(rt;
+        (volume.first(), volume.journal().len()),
+        (count as u64, rest.len())
+    );
+    check_called(rt, alloc, &volume);
+    check_redone(rt, alloc, &volume);
 }
 
-/// Takes the steps of a run in the name of user 0, and then makes the journal again.
-fn check_run(rt: &impl Abort, alloc: Global, volume: &mut Volume, steps: &[Step]) {
-    check_steps(rt, alloc, volume, ROOT, steps);
-    check_replays(rt, alloc, volume);
-}
-
-/// A path leads to the node with this i-number.
-fn check_number(rt: &impl Abort, alloc: Global, volume: &Volume, path: &[u8], wanted: u16) {
-    assert_eq!(rt; stat(rt, alloc, volume, ROOT, path).number, wanted);
-}
-
-/// The journal of a volume, made again on its base, once by calls and once by its records, gives the same answers and the same image.
-fn check_replays(rt: &impl Abort, alloc: Global, volume: &Volume) {
+/// The calls of a volume's journal, made again on its base, give the same answers and the same image.
+fn check_called(rt: &impl Abort, alloc: Global, volume: &Volume) {
     let mut called = base_of(rt, alloc, volume);
     for record in volume.journal() {
-        let call = copied_call(rt, alloc, &record.call);
+        let call = record.call.clone().expect(rt, "memory for the call");
         assert_eq!(rt; called.call(alloc, call).ok(), Some(record.done));
     }
     check_whole(rt, called.image().as_bytes(), volume.image().as_bytes());
-    check_redone(rt, alloc, volume);
 }
 
 /// The records of a volume, made again on its base, give the same image.
 fn check_redone(rt: &impl Abort, alloc: Global, volume: &Volume) {
     let mut redone = base_of(rt, alloc, volume);
     for record in volume.journal() {
-        redo(rt, alloc, &mut redone, record);
+        let call = record.call.clone().expect(rt, "memory for the call");
+        redo(rt, alloc, &mut redone, call, record.done);
     }
     check_whole(rt, redone.image().as_bytes(), volume.image().as_bytes());
 }
@@ -222,33 +218,25 @@ fn base_of(rt: &impl Abort, alloc: Global, volume: &Volume) -> Volume {
     mount(rt, alloc, volume.edition(), bytes)
 }
 
-/// Makes a copy of a record, once it is shown that it may come next.
-fn redo(rt: &impl Abort, alloc: Global, volume: &mut Volume, entry: &Record) {
-    show_legal(rt, alloc, volume, entry);
-    let call = copied_call(rt, alloc, &entry.call);
-    let done = entry.done;
-    assert!(rt; volume.redo(alloc, Record { call, done }).is_ok());
-}
-
-/// Shows that a record may come next: a twin of the volume accepts its call, and may answer so.
-fn show_legal(rt: &impl Abort, alloc: Global, volume: &Volume, entry: &Record)
-    ensures { MayFollow (reads_as volume.now.edition volume.now.image) entry.now }
-{
-    let mut twin = mount(rt, alloc, volume.edition(), image_of(rt, alloc, volume));
-    match twin.call(alloc, copied_call(rt, alloc, &entry.call)) {
-        Ok(done) => assert!(rt; may_answer(volume, entry, done)),
-        Err((refusal, _)) => panic!(rt; "{refusal:?}"),
+/// Makes a call with this answer, once it is shown that it may have it.
+fn redo(rt: &impl Abort, alloc: Global, volume: &mut Volume, call: Call, done: Done) {
+    match volume.foresee(&call) {
+        Ok(foreseen) => {
+            assert!(rt; may_answer(volume, &call, foreseen, done));
+            assert!(rt; volume.redo(alloc, Record { call, done }).is_ok());
+        }
+        Err(refusal) => panic!(rt; "{refusal:?}"),
     }
 }
 
-/// Whether a record has an answer that its call may have, where `done` is one.
-fn may_answer(volume: &Volume, entry: &Record, done: Done) -> bool
-    requires { MayAnswer (reads_as volume.now.edition volume.now.image) entry.now.call done }
-    ensures { result ≡ true → MayAnswer (reads_as volume.now.edition volume.now.image) entry.now.call entry.now.done }
+/// Whether a call may have an answer, where `foreseen` is one.
+fn may_answer(volume: &Volume, call: &Call, foreseen: Done, done: Done) -> bool
+    requires { MayAnswer (reads_as volume.now.edition volume.now.image) call.now foreseen }
+    ensures { result ≡ true → MayAnswer (reads_as volume.now.edition volume.now.image) call.now done }
 {
-    match (done, entry.done) {
+    match (foreseen, done) {
         (Done::Made(_), Done::Made(number)) => is_free(volume, number),
-        (done, other) => done == other,
+        (foreseen, done) => foreseen == done,
     }
 }
 
@@ -268,87 +256,66 @@ fn is_free(volume: &Volume, number: u16) -> bool
     }
 }
 
-/// A copy of a call.
-fn copied_call(rt: &impl Abort, alloc: Global, call: &Call) -> Call
-    ensures { result ≡ call.now }
-{
-    match call {
-        Call::Unlink { cred, now, path } => Call::Unlink {
-            cred: *cred,
-            now: *now,
-            path: bytes_of(rt, alloc, path.as_slice()),
-        },
-        Call::Rmdir { cred, now, path } => Call::Rmdir {
-            cred: *cred,
-            now: *now,
-            path: bytes_of(rt, alloc, path.as_slice()),
-        },
-        Call::Write {
-            cred,
-            now,
-            path,
-            offset,
-            bytes,
-        } => Call::Write {
-            cred: *cred,
-            now: *now,
-            path: bytes_of(rt, alloc, path.as_slice()),
-            offset: *offset,
-            bytes: bytes_of(rt, alloc, bytes.as_slice()),
-        },
-        Call::Truncate {
-            cred,
-            now,
-            path,
-            length,
-        } => Call::Truncate {
-            cred: *cred,
-            now: *now,
-            path: bytes_of(rt, alloc, path.as_slice()),
-            length: *length,
-        },
-        _ => copied_making(rt, alloc, call),
-    }
+/// Makes a record whose call made this i-number.
+fn redo_made(rt: &impl Abort, alloc: Global, volume: &mut Volume, asked: Asked, number: u16) {
+    let call = call_of(rt, alloc, asked);
+    redo(rt, alloc, volume, call, Made(number));
 }
 
-/// A copy of a call that makes a name.
-fn copied_making(rt: &impl Abort, alloc: Global, call: &Call) -> Call
-    ensures { result ≡ call.now }
-{
-    match call {
-        Call::Create {
-            cred,
-            now,
-            path,
-            perm,
-        } => Call::Create {
-            cred: *cred,
-            now: *now,
-            path: bytes_of(rt, alloc, path.as_slice()),
-            perm: *perm,
-        },
-        Call::Mkdir {
-            cred,
-            now,
-            path,
-            perm,
-        } => Call::Mkdir {
-            cred: *cred,
-            now: *now,
-            path: bytes_of(rt, alloc, path.as_slice()),
-            perm: *perm,
-        },
-        Call::Link {
-            cred,
-            now,
-            source,
-            target,
-        } => Call::Link {
-            cred: *cred,
-            now: *now,
-            source: bytes_of(rt, alloc, source.as_slice()),
-            target: bytes_of(rt, alloc, target.as_slice()),
-        },
-        _ => panic!(rt; "the call makes a name"),
+#[test]
+fn a_recorded_i_number_is_the_one_used(rt: HostRuntime) {
+    let alloc = rt.alloc();
+    let mut volume = new_volume(&rt, alloc, Edition::V6, 20, 2);
+    let records = [
+        (Create(b"/f", 0o640), 20),
+        (Mkdir(b"/d", 0o755), 2),
+        (Create(b"/d/g", 0o600), 32),
+    ];
+    for (asked, number) in records {
+        redo_made(&rt, alloc, &mut volume, asked, number);
     }
+    assert_eq!(rt; volume.journal().len(), 3);
+    for (record, (_, number)) in volume.journal().iter().zip(records) {
+        assert_eq!(rt; record.done, Made(number));
+    }
+    // I-nodes 2, 20, 31 and 32, and the blocks of the root and of the new directory.
+    for (place, bytes) in [
+        (1056, b"\xED\xC1\x02".as_slice()),
+        (1632, b"\xA0\x81\x01"),
+        (1984, &[0; 32]),
+        (2016, b"\x80\x81\x01"),
+        (2080, b"\x14\x00f\x00"),
+        (2096, b"\x02\x00d\x00"),
+        (2560, b"\x02\x00.\x00"),
+        (2576, b"\x01\x00..\x00"),
+        (2592, b"\x20\x00g\x00"),
+    ] {
+        check_bytes(&rt, volume.image().as_bytes(), place, bytes);
+    }
+    for (path, number) in [(b"/f".as_slice(), 20), (b"/d/.", 2), (b"/d/g", 32)] {
+        assert_eq!(rt; stat(&rt, alloc, &volume, ROOT, path).number, number);
+    }
+    check_redone(&rt, alloc, &volume);
+}
+
+#[test]
+fn each_i_number_is_given_once(rt: HostRuntime) {
+    let alloc = rt.alloc();
+    let mut volume = new_volume(&rt, alloc, Edition::V6, 20, 1);
+    // A call would take 16, which leaves the cache unused; and 5 is still in it.
+    redo_made(&rt, alloc, &mut volume, Create(b"/f", 0o644), 5);
+    for number in [15_u16, 14, 13, 12, 11, 10, 9, 8, 7, 6, 4, 3, 2, 16] {
+        let path = [b'n', number as u8];
+        let answer = make(&rt, alloc, &mut volume, Create(&path, 0o644));
+        assert_eq!(rt; answer, Ok(Made(number)));
+    }
+    for (asked, answer) in [
+        (Create(b"/g", 0o644), Err(Refusal::NoInode)),
+        (Unlink(b"/f"), Ok(Plain)),
+        (Create(b"/g", 0o644), Ok(Made(5))),
+    ] {
+        assert_eq!(rt; make(&rt, alloc, &mut volume, asked), answer);
+    }
+    // Made again by calls, the journal would have other i-numbers.
+    check_redone(&rt, alloc, &volume);
 }

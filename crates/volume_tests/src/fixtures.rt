@@ -3,11 +3,11 @@ ghost use Rattle.std.specs.Prelude.{◌≡◌};
 ghost use Rattle.vol_volume.specs.Volume.{mounted};
 
 use pdp_words::words::put_bytes;
-use std::alloc::{AllocError, Global};
+use std::alloc::Global;
 use std::process::Abort;
-use vol_dir::{Cred, Refusal};
+use vol_dir::Cred;
 use vol_layout::Edition;
-use vol_volume::{Bytes, Listing, Query, Reply, Stat, Volume, mkfs};
+use vol_volume::{Bytes, Query, Reply, Stat, Volume, mkfs};
 
 /// Bytes that stand at a place.
 pub(crate) type Piece = (usize, &'static [u8]);
@@ -88,16 +88,6 @@ pub(crate) fn new_volume(
     mount(rt, alloc, edition, bytes)
 }
 
-/// A new volume of the sixth edition: 20 blocks, two of them the i-list, of which 5 to 19 are free.
-pub(crate) fn sixth(rt: &impl Abort, alloc: Global) -> Volume {
-    new_volume(rt, alloc, Edition::V6, 20, 2)
-}
-
-/// A new volume of the seventh edition: 100 blocks, two of them the i-list, of which 5 to 99 are free.
-pub(crate) fn seventh(rt: &impl Abort, alloc: Global) -> Volume {
-    new_volume(rt, alloc, Edition::V7, 100, 2)
-}
-
 /// Mounts the bytes of a sound image.
 pub(crate) fn mount(rt: &impl Abort, alloc: Global, edition: Edition, bytes: Vec<u8>) -> Volume
     ensures { result ≡ mounted edition bytes.items }
@@ -131,68 +121,4 @@ pub(crate) fn stat(
         Ok(Reply::Stat(told)) => told,
         _ => panic!(rt; "the path leads to a node"),
     }
-}
-
-/// Bytes of a file, as far as it has them, are these, or the query for them is refused so.
-pub(crate) fn check_read(
-    rt: &impl Abort,
-    alloc: Global,
-    volume: &Volume,
-    cred: Cred,
-    path: &[u8],
-    place: (u32, u32),
-    wanted: Result<&[u8], Refusal>,
-) {
-    let (offset, len) = place;
-    let path = bytes_of(rt, alloc, path);
-    let query = Query::Read {
-        cred,
-        path,
-        offset,
-        len,
-    };
-    match volume.ask(alloc, &query) {
-        Ok(Reply::Bytes(bytes)) => assert_eq!(rt; Ok(bytes.as_slice()), wanted),
-        Ok(_) => panic!(rt; "bytes are read"),
-        Err(refusal) => assert_eq!(rt; Err(refusal), wanted),
-    }
-}
-
-/// A directory is listed to user 0 with these names, each with the low byte of its i-number behind it.
-pub(crate) fn check_names(
-    rt: &impl Abort,
-    alloc: Global,
-    volume: &Volume,
-    path: &[u8],
-    wanted: &[u8],
-) {
-    let path = bytes_of(rt, alloc, path);
-    let reply = volume.ask(alloc, &Query::List { cred: ROOT, path });
-    check_listed(rt, alloc, reply, wanted);
-}
-
-/// A query is answered by these names, each with the low byte of its i-number behind it.
-pub(crate) fn check_listed(
-    rt: &impl Abort,
-    alloc: Global,
-    reply: Result<Reply, Refusal>,
-    wanted: &[u8],
-) {
-    match reply {
-        Ok(Reply::Names(names)) => {
-            let listed = with_numbers(alloc, &names).expect(rt, "memory for the names");
-            check_whole(rt, listed.as_slice(), wanted);
-        }
-        _ => panic!(rt; "the directory is listed"),
-    }
-}
-
-/// Names, each with the low byte of its i-number behind it.
-fn with_numbers(alloc: Global, names: &Listing) -> Result<Vec<u8>, AllocError> {
-    let mut told = Vec::new(alloc);
-    for (name, i) in names.as_slice() {
-        told.extend_from_slice(name.as_slice())?;
-        told.push((*i % 256) as u8)?;
-    }
-    Ok(told)
 }

@@ -17,16 +17,6 @@ mod devices;
 #[cfg(test)]
 mod fixtures;
 #[cfg(test)]
-mod i_nodes;
-#[cfg(test)]
-mod judging;
-#[cfg(test)]
-mod linux;
-#[cfg(test)]
-mod making;
-#[cfg(test)]
-mod salvaging;
-#[cfg(test)]
 mod texts;
 #[cfg(test)]
 mod words;

@@ -49,18 +49,21 @@ shown() {
 
 # compare LABEL WANTED FOUND: as `has`, where a text may be long
 compare() {
+    local same=0
     if [ "$2" = "$3" ]; then
         passed=$((passed + 1))
     else
         failed=$((failed + 1))
-        echo "failed: ${1:0:100}: ${3:0:200}, wanted ${2:0:200}"
+        while [ "${2:same:10}" = "${3:same:10}" ]; do same=$((same + 10)); done
+        echo "failed: ${1:0:100}: ${3:same:60}, wanted ${2:same:60}, from character $same on"
     fi
 }
 
-# plays LABEL IMAGE STEP..: plays these steps; what is wanted is in `wanted`, one text a step
+# plays LABEL IMAGE STEP..: plays these steps; `wanted` has what is wanted of each
 plays() {
     local label=$1 volume=$2 accepted=0 refused=0 number
     shift 2
+    played=("$@")
     printf '%b\n' "$@" > script
     "$program" play "$edition" "$volume" script > output 2> error < /dev/null
     echo $? > status
@@ -71,15 +74,14 @@ plays() {
             stat* | read* | list*) ;;
             *) refused=1 ;;
         esac
-        compare "$label, step $((number + 1))" "1.$((number + 1)) ${wanted[number]}" "${lines[number]-}"
+        compare "$label, ${played[number]:0:60}" "1.$((number + 1)) ${wanted[number]}" "${lines[number]-}"
     done
-    compare "$label, the end" "records $accepted confirmed $# $refused" "${lines[*]:$#} $(< status)"
-    [ -s error ] && cat error
+    compare "$label, the end" "$# records $accepted confirmed $# $refused" "${#wanted[@]} ${lines[*]:$#} $(< status)$(< error)"
 }
 
 # play_steps: plays the steps that wait, and looks at the bytes that stay
 play_steps() {
-    local stay
+    local stay at count kept
     [ ${#steps[@]} = 0 ] && return
     wanted=("${answers[@]}")
     plays "$place" disk "${steps[@]}"
@@ -112,7 +114,7 @@ play_again() {
 
 # take_row WORD REST: does what a row says
 take_row() {
-    local word=$1 rest=$2 digits path names
+    local word=$1 rest=$2 at count digits path
     case $word in
         volume)
             play_again
@@ -144,7 +146,7 @@ take_row() {
             ;;
         stays)
             play_steps
-            shown ${rest}
+            shown "${rest% *}" "${rest#* }"
             stays+=("$rest $found")
             ;;
         put)
@@ -193,7 +195,7 @@ done
 # new FILE EDITION BLOCKS LIST: a new volume of user 0 and group 0
 new() { "$program" mkfs "$2" "$1" "$3" "$4" 0 0 168496141; }
 
-# The rules of soundness. Each image is looked at by commands that mount it, by `check`, and by `salvage`; the rows are in tests/volumes/rules.
+# The rules of soundness. Each image of tests/volumes/rules is looked at by `ls`, mounted by `play`, and examined by `check` and `salvage`.
 # finds LABEL RULE WORD..: the program finds this rule broken, and says so alone; `-` is for none
 finds() {
     local label=$1 least=$2 status=0
@@ -207,6 +209,8 @@ finds() {
     fi
 }
 
+# `play` leaves an image as it was where nothing is changed in it, and so does whatever refuses it.
+echo '1 0 0 stat /' > script
 new sound6 6 20 2
 new sound7 7 100 2
 while IFS='|' read -r edition label least without pieces; do
@@ -217,6 +221,8 @@ while IFS='|' read -r edition label least without pieces; do
     done <<< "$pieces,"
     cp disk same
     finds "ls: $label" "$least" ls "$edition" disk /
+    finds "play: $label" "$least" play "$edition" disk script
+    saves "play: $label" disk same
     status=0
     "$program" check "$edition" disk > output 2> error < /dev/null || status=$?
     mapfile -t lines < output
@@ -240,7 +246,6 @@ refuses 1 'unixvol: unsound, rule 2' ls 6 zeros /
 { cat sound6; printf '\1\2\3'; } > longer
 printf '%5d %s\n' 1 . 1 .. > lines
 prints lines ls 6 longer /
-printf '%s\n' '1 0 0 stat /' > script
 printf '%s\n' '1.1 stat 1 dir 0777 2 0 0 32' 'records 0' 'confirmed 1' > lines
 cp longer same
 prints lines play 6 longer script
@@ -368,8 +373,6 @@ prints none mkfs 6 new 20 2 255 255 168496141
 prints none mkfs 7 new 100 2 256 32767 168496141
 
 # Each field of an i-node of either edition, no two bytes of which are the same.
-# field HIGH LOW: a number of two words
-field() { echo $((65536 * $1 + $2)); }
 image fields 2560
 put fields 512 '01 00 05 00'
 put fields 1056 "$(printf '%02X' {1..32})"
@@ -426,13 +429,13 @@ while IFS= read -r row; do
     steps+=("16909060 0 0 $expanded")
 done < "$rows/accepted"
 cut='16909060 0 0 cut'
-# plays_whole EDITION STEP..: plays these steps on a new volume; `played` is all that is printed
+# plays_whole EDITION STEP..: plays these steps on a new volume; `told` is all that is printed
 plays_whole() {
     new disk "$1" 20 2
     printf '%s\n' "${@:2}" > script
     runs play "$1" disk script
     mapfile -t lines < output
-    played="${lines[*]}"
+    told="${lines[*]}"
 }
 for edition in 6 7; do
     plays_whole "$edition" "${steps[@]}"
@@ -448,13 +451,13 @@ for edition in 6 7; do
     for ((place = 0; place <= 24; place++)); do
         plays_whole "$edition" "${steps[@]:0:place}" "$cut" "${steps[@]:place}"
         number=0
-        wanted=
+        text=
         for answer in "${answers[@]:0:place}" "cut $place" "${answers[@]:place}"; do
             number=$((number + 1))
-            wanted+="1.$number $answer "
+            text+="1.$number $answer "
         done
         compare "calls of edition $edition that are cut before call $place" \
-            "${wanted}records $((24 - place)) confirmed $((24 - place)) gone $place 0" "$played $(< status)"
+            "${text}records $((24 - place)) confirmed $((24 - place)) gone $place 0" "$told $(< status)"
         saves "calls of edition $edition that are cut before call $place" disk "whole$edition"
     done
 done

@@ -59,15 +59,21 @@ compare() {
     fi
 }
 
+# run WORD..: runs the program; its lines are in `lines`, those of standard error in `errors`, and its status in `status`
+run() {
+    status=0
+    "$program" "$@" > output 2> error < /dev/null || status=$?
+    mapfile -t lines < output
+    mapfile -t errors < error
+}
+
 # plays LABEL IMAGE STEP..: plays these steps; `wanted` has what is wanted of each
 plays() {
     local label=$1 volume=$2 accepted=0 refused=0 number
     shift 2
     played=("$@")
     printf '%b\n' "$@" > script
-    "$program" play "$edition" "$volume" script > output 2> error < /dev/null
-    echo $? > status
-    mapfile -t lines < output
+    run play "$edition" "$volume" script
     for number in "${!wanted[@]}"; do
         case ${wanted[number]} in
             ok*) accepted=$((accepted + 1)) ;;
@@ -76,7 +82,7 @@ plays() {
         esac
         compare "$label, ${played[number]:0:60}" "1.$((number + 1)) ${wanted[number]}" "${lines[number]-}"
     done
-    compare "$label, the end" "$# records $accepted confirmed $# $refused" "${#wanted[@]} ${lines[*]:$#} $(< status)$(< error)"
+    compare "$label, the end" "$# records $accepted confirmed $# $refused" "${#wanted[@]} ${lines[*]:$#} $status${errors[*]}"
 }
 
 # play_steps: plays the steps that wait, and looks at the bytes that stay
@@ -198,15 +204,10 @@ new() { "$program" mkfs "$2" "$1" "$3" "$4" 0 0 168496141; }
 # The rules of soundness. Each image of tests/volumes/rules is looked at by `ls`, mounted by `play`, and examined by `check` and `salvage`.
 # finds LABEL RULE WORD..: the program finds this rule broken, and says so alone; `-` is for none
 finds() {
-    local label=$1 least=$2 status=0
-    shift 2
-    "$program" "$@" > output 2> error < /dev/null || status=$?
-    mapfile -t lines < error
-    if [ "$least" = - ]; then
-        compare "$label" '0 ' "$status ${lines[*]}"
-    else
-        compare "$label" "1 unixvol: unsound, rule $least" "$status ${lines[*]}"
-    fi
+    local wanted='0 '
+    [ "$2" = - ] || wanted="1 unixvol: unsound, rule $2"
+    run "${@:3}"
+    compare "$1" "$wanted" "$status ${errors[*]}"
 }
 
 # `play` leaves an image as it was where nothing is changed in it, and so does whatever refuses it.
@@ -222,16 +223,14 @@ while IFS='|' read -r edition label least without pieces; do
     cp disk same
     finds "ls: $label" "$least" ls "$edition" disk /
     finds "play: $label" "$least" play "$edition" disk script
-    saves "play: $label" disk same
-    status=0
-    "$program" check "$edition" disk > output 2> error < /dev/null || status=$?
-    mapfile -t lines < output
+    run check "$edition" disk
     found=-
     for row in "${lines[@]}"; do
         case $row in *': holds') ;; *) found=${row%% *} && break ;; esac
     done
     [ "$least" = - ] || status=$((status - 1))
     compare "check: $label" "$least 12 0" "$found ${#lines[@]} $status"
+    [ "$without" = - ] && saves "play: $label" disk same
     finds "salvage: $label" "$without" salvage "$edition" disk
     [ "$without" = - ] || saves "salvage: $label" disk same
 done < "$rows/rules"
@@ -293,9 +292,11 @@ give() {
 # word N, numbers N..: a word, and block numbers of the edition, as hexadecimal digits
 word() { printf '%02X%02X' $(($1 % 256)) $(($1 / 256)); }
 numbers() {
-    local number format='%02X%02X'
-    [ "$edition" = 6 ] || format='0000%02X%02X'
-    for number in "$@"; do printf "$format" $((number % 256)) $((number / 256)); done
+    local number
+    for number in "$@"; do
+        [ "$edition" = 6 ] || printf '0000'
+        printf '%02X%02X' $((number % 256)) $((number / 256))
+    done
 }
 
 # zeros_in FILE COUNT: puts lines into `script` that write so many blocks of zeros into a new file
@@ -307,12 +308,17 @@ zeros_in() {
     esac
 }
 
-# indirect COUNT: how many blocks name those of a file of so many blocks
-indirect() {
-    case $edition in
-        6) echo $(($1 <= 8 ? 0 : ($1 + 255) / 256)) ;;
-        7) echo $(($1 <= 10 ? 0 : $1 <= 138 ? 1 : 2 + ($1 - 138 + 127) / 128)) ;;
-    esac
+# room EDITION FREE: `whole` is how many blocks a file can have where so many are free, and `left` how many are free then
+room() {
+    local names
+    for ((whole = $2; ; whole--)); do
+        case $1 in
+            6) names=$((whole <= 8 ? 0 : (whole + 255) / 256)) ;;
+            7) names=$((whole <= 10 ? 0 : whole <= 138 ? 1 : 2 + (whole - 138 + 127) / 128)) ;;
+        esac
+        left=$(($2 - whole - names))
+        [ "$left" -lt 0 ] || return
+    done
 }
 
 for size in '4 1' '5 1' '53 1' '54 1' '55 2' '103 1' '104 1' '105 2' '128 3' '129 3' '257 5' '404 2'; do
@@ -325,30 +331,26 @@ for size in '4 1' '5 1' '53 1' '54 1' '55 2' '103 1' '104 1' '105 2' '128 3' '12
         count=0
         for ((block = 0; block < most; block++)); do list[block]=0; done
         for ((block = blocks - 1; block > first; block--)); do give "$block"; done
-        image made $((512 * blocks))
+        # The super-block with its time, the root's i-node, its slots, and what was written into blocks.
         if [ "$edition" = 6 ]; then
-            put made 512 "$(word "$list_blocks")$(word "$blocks")$(word "$count")$(numbers "${list[@]}")"
-            put made 924 '0B 0A 0D 0C'
-            put made 1024 "FF C1 02 07 09 00 20 00 $(word "$first")"
-            put made 1048 '0B 0A 0D 0C 0B 0A 0D 0C'
-            root='01 00'
+            head="$(word "$list_blocks")$(word "$blocks")$(word "$count")$(numbers "${list[@]}"){00*206}0B0A0D0C{00*96}"
+            root="FFC1020709002000$(word "$first"){00*14}0B0A0D0C0B0A0D0C{00*4}"
+            slots="01002E{00*13}01002E2E"
         else
-            put made 512 "$(word "$first")0000$(word "$blocks")$(word "$count")$(numbers "${list[@]}")"
-            put made 926 '0B 0A 0D 0C'
-            put made 1088 "FF 41 02 00 07 00 09 00 00 00 20 00 00 $(word "$first")"
-            put made 1140 '0B 0A 0D 0C 0B 0A 0D 0C 0B 0A 0D 0C'
-            root='02 00'
+            head="$(word "$first")0000$(word "$blocks")$(word "$count")$(numbers "${list[@]}"){00*206}0B0A0D0C{00*94}"
+            root="{00*64}FF410200070009000000200000$(word "$first"){00*37}0B0A0D0C0B0A0D0C0B0A0D0C"
+            slots="02002E{00*13}02002E2E"
         fi
-        put made $((512 * first)) "$root 2E"
-        put made $((512 * first + 16)) "$root 2E 2E"
+        image made $((512 * blocks))
+        expand "$head$root"
+        put made 512 "$expanded"
+        expand "$slots"
+        put made $((512 * first)) "$expanded"
         for block in "${!chain[@]}"; do put made $((512 * block)) "${chain[block]}"; done
         prints none mkfs "$edition" new "$blocks" "$list_blocks" 7 9 168496141
         saves "a new volume of edition $edition with $size blocks" new made
         # One file takes all blocks, with a second one for what is left where one block more would want two; both go from the last block down.
-        free=$((blocks - first - 1))
-        whole=$free
-        while [ $((whole + $(indirect "$whole"))) -gt "$free" ]; do whole=$((whole - 1)); done
-        left=$((free - whole - $(indirect "$whole")))
+        room "$edition" $((blocks - first - 1))
         : > script
         zeros_in /f "$whole"
         zeros_in /g "$left"
@@ -433,9 +435,8 @@ cut='16909060 0 0 cut'
 plays_whole() {
     new disk "$1" 20 2
     printf '%s\n' "${@:2}" > script
-    runs play "$1" disk script
-    mapfile -t lines < output
-    told="${lines[*]}"
+    run play "$1" disk script
+    told="${lines[*]} $status"
 }
 for edition in 6 7; do
     plays_whole "$edition" "${steps[@]}"
@@ -446,7 +447,7 @@ for edition in 6 7; do
         has "call $number is accepted in edition $edition" 0 $?
         answers+=("$answer")
     done
-    has "a journal of edition $edition that is not cut" '26 records 24 0' "${#lines[@]} ${lines[24]} $(< status)"
+    has "a journal of edition $edition that is not cut" '26 records 24 0' "${#lines[@]} ${lines[24]} $status"
     mv disk "whole$edition"
     for ((place = 0; place <= 24; place++)); do
         plays_whole "$edition" "${steps[@]:0:place}" "$cut" "${steps[@]:place}"
@@ -457,7 +458,7 @@ for edition in 6 7; do
             text+="1.$number $answer "
         done
         compare "calls of edition $edition that are cut before call $place" \
-            "${text}records $((24 - place)) confirmed $((24 - place)) gone $place 0" "$told $(< status)"
+            "${text}records $((24 - place)) confirmed $((24 - place)) gone $place 0" "$told"
         saves "calls of edition $edition that are cut before call $place" disk "whole$edition"
     done
 done
@@ -471,7 +472,7 @@ refused=('create /d 644' 'mkdir /x/y 755' 'unlink /a' 'rmdir /d' "write /i/j 0 $
 plays_whole 6 "${steps[@]}" "$cut" "${refused[@]/#/16909060 0 0 }"
 has 'calls that are refused after a cut' \
     '1.25 cut 24 1.26 17 Exists 1.27 2 NoEntry 1.28 2 NoEntry 1.29 101 NotEmpty 1.30 28 NoSpace 1.31 21 IsDirectory records 0 confirmed 6 gone 24 1' \
-    "${lines[*]:24} $(< status)"
+    "${lines[*]:24} $status"
 saves 'calls that are refused after a cut' disk whole6
 
 echo "$passed passed, $failed failed"

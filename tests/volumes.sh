@@ -204,10 +204,10 @@ new() { "$program" mkfs "$2" "$1" "$3" "$4" 0 0 168496141; }
 # The rules of soundness. Each image of tests/volumes/rules is looked at by `ls`, mounted by `play`, and examined by `check` and `salvage`.
 # finds LABEL RULE WORD..: the program finds this rule broken, and says so alone; `-` is for none
 finds() {
-    local wanted='0 '
-    [ "$2" = - ] || wanted="1 unixvol: unsound, rule $2"
+    local line='0 '
+    [ "$2" = - ] || line="1 unixvol: unsound, rule $2"
     run "${@:3}"
-    compare "$1" "$wanted" "$status ${errors[*]}"
+    compare "$1" "$line" "$status ${errors[*]}"
 }
 
 # `play` leaves an image as it was where nothing is changed in it, and so does whatever refuses it.

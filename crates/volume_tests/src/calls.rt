@@ -1,4 +1,4 @@
-// Journals: made again by calls and by their records, also with other free i-numbers than calls would take, and cut.
+// Journals: they are made again, by calls and by records, and cut. A record may have another free i-number than its call would take.
 ghost use Rattle.std.specs.Prelude.{◌≡◌, true};
 ghost use Rattle.vol_volume.specs.Journal.{MayAnswer, MayFollow};
 ghost use Rattle.vol_volume.specs.Verdict.{is_free_number};
@@ -19,29 +19,29 @@ const LATER: u32 = 0x0102_0304;
 /// A call, without its user and moment.
 #[derive(Clone, Copy, Debug)]
 enum Asked<'a> {
-    /// For a file with these permission bits.
+    /// Makes a file with these permission bits.
     Create(&'a [u8], u16),
-    /// For a directory with these permission bits.
+    /// Makes a directory with these permission bits.
     Mkdir(&'a [u8], u16),
-    /// For a further name of what the first path leads to.
+    /// Gives the file at the first path the second path as a further name.
     Link(&'a [u8], &'a [u8]),
-    /// By which a name goes.
+    /// Removes a name.
     Unlink(&'a [u8]),
-    /// By which a directory goes.
+    /// Removes a directory.
     Rmdir(&'a [u8]),
-    /// That writes these bytes from an offset on.
+    /// Writes these bytes from an offset on.
     Write(&'a [u8], u32, &'a [u8]),
-    /// By which the first bytes of a file stay, so many.
+    /// Cuts a file to this length.
     Truncate(&'a [u8], u32),
-    /// That gives these permission bits.
+    /// Sets these permission bits.
     Chmod(&'a [u8], u16),
-    /// That gives to this user and group.
+    /// Sets this user and group.
     Chown(&'a [u8], u16, u16),
 }
 
 use Asked::{Chmod, Chown, Create, Link, Mkdir, Rmdir, Truncate, Unlink, Write};
 
-/// Calls on a new volume, each of which is accepted.
+/// Calls that a new volume accepts in this order.
 static RUN: [Asked; 14] = [
     Create(b"/a", 0o644),
     Mkdir(b"/d", 0o755),
@@ -59,7 +59,7 @@ static RUN: [Asked; 14] = [
     Write(b"/d/f", 100, b""),
 ];
 
-/// A call of user 0.
+/// Returns a call of user 0.
 fn call_of(rt: &impl Abort, alloc: Global, asked: Asked) -> Call {
     let (cred, now) = (ROOT, LATER);
     let of = |bytes| bytes_of(rt, alloc, bytes);
@@ -140,7 +140,7 @@ fn call_of(rt: &impl Abort, alloc: Global, asked: Asked) -> Call {
     }
 }
 
-/// Makes a call, and answers what came of it.
+/// Makes a call, and returns its answer or its refusal.
 fn make(
     rt: &impl Abort,
     alloc: Global,
@@ -151,7 +151,7 @@ fn make(
     volume.call(alloc, call).map_err(|(refusal, _)| refusal)
 }
 
-/// Makes calls that are all accepted.
+/// Makes calls, which must all be accepted.
 fn make_all(rt: &impl Abort, alloc: Global, volume: &mut Volume, calls: &[Asked]) {
     for asked in calls {
         let answer = make(rt, alloc, volume, *asked);
@@ -171,8 +171,8 @@ fn a_journal_is_made_again_and_can_be_cut_anywhere(rt: HostRuntime) {
     }
 }
 
-/// The run on a new volume, cut after so many of its calls, leaves these bytes, and so does what is left of its
-/// journal, made again on the base.
+/// Makes the run on a new volume and cuts the journal after `count` calls: the image has these bytes at the end, and
+/// the rest of the journal, made again on the base, leaves them too.
 fn check_cut(rt: &impl Abort, alloc: Global, edition: Edition, count: usize, wanted: &[u8]) {
     let mut volume = new_volume(rt, alloc, edition, 20, 2);
     let front = RUN.get(..count).expect(rt, "the calls before the cut");
@@ -192,7 +192,7 @@ fn check_cut(rt: &impl Abort, alloc: Global, edition: Edition, count: usize, wan
     check_redone(rt, alloc, &volume);
 }
 
-/// The calls of a volume's journal, made again on its base, give the same answers and the same image.
+/// Makes the calls of a journal again on its base: they give the same answers and the same image.
 fn check_called(rt: &impl Abort, alloc: Global, volume: &Volume) {
     let mut called = base_of(rt, alloc, volume);
     for record in volume.journal() {
@@ -202,7 +202,7 @@ fn check_called(rt: &impl Abort, alloc: Global, volume: &Volume) {
     check_whole(rt, called.image().as_bytes(), volume.image().as_bytes());
 }
 
-/// The records of a volume, made again on its base, give the same image.
+/// Makes the records of a journal again on its base: they give the same image.
 fn check_redone(rt: &impl Abort, alloc: Global, volume: &Volume) {
     let mut redone = base_of(rt, alloc, volume);
     for record in volume.journal() {
@@ -212,13 +212,13 @@ fn check_redone(rt: &impl Abort, alloc: Global, volume: &Volume) {
     check_whole(rt, redone.image().as_bytes(), volume.image().as_bytes());
 }
 
-/// The base of a volume, mounted as one.
+/// Mounts the base of a volume.
 fn base_of(rt: &impl Abort, alloc: Global, volume: &Volume) -> Volume {
     let bytes = copied(rt, alloc, volume.base());
     mount(rt, alloc, volume.edition(), bytes)
 }
 
-/// Makes a call with this answer, once it is shown that it may have it.
+/// Makes a call with a recorded answer, after a check that the call may have it.
 fn redo(rt: &impl Abort, alloc: Global, volume: &mut Volume, call: Call, done: Done) {
     match volume.foresee(&call) {
         Ok(foreseen) => {
@@ -229,7 +229,7 @@ fn redo(rt: &impl Abort, alloc: Global, volume: &mut Volume, call: Call, done: D
     }
 }
 
-/// Whether a call may have an answer, where `foreseen` is one.
+/// Returns true if a call that may have the answer `foreseen` may also have `done`.
 fn may_answer(volume: &Volume, call: &Call, foreseen: Done, done: Done) -> bool
     requires { MayAnswer (reads_as volume.now.edition volume.now.image) call.now foreseen }
     ensures { result ≡ true → MayAnswer (reads_as volume.now.edition volume.now.image) call.now done }
@@ -240,7 +240,7 @@ fn may_answer(volume: &Volume, call: &Call, foreseen: Done, done: Done) -> bool
     }
 }
 
-/// Whether an i-number is above the root's and free.
+/// Returns true if an i-number is above the root's and free.
 fn is_free(volume: &Volume, number: u16) -> bool
     ensures { result ≡ true → is_free_number (reads_as volume.now.edition volume.now.image).tree number ≡ true }
 {
@@ -256,7 +256,7 @@ fn is_free(volume: &Volume, number: u16) -> bool
     }
 }
 
-/// Makes a record whose call made this i-number.
+/// Makes a record with this i-number.
 fn redo_made(rt: &impl Abort, alloc: Global, volume: &mut Volume, asked: Asked, number: u16) {
     let call = call_of(rt, alloc, asked);
     redo(rt, alloc, volume, call, Made(number));
@@ -316,6 +316,6 @@ fn each_i_number_is_given_once(rt: HostRuntime) {
     ] {
         assert_eq!(rt; make(&rt, alloc, &mut volume, asked), answer);
     }
-    // Made again by calls, the journal would have other i-numbers.
+    // The same calls would take other i-numbers.
     check_redone(&rt, alloc, &volume);
 }

@@ -30,12 +30,17 @@ pub(crate) fn put(bytes: &mut [u8], at: usize, piece: &[u8]) {
     }
 }
 
-/// So many zeros, in which pieces are put.
+/// Puts pieces at their places, where there is room.
+pub(crate) fn put_all(bytes: &mut [u8], pieces: &[Piece]) {
+    for (at, piece) in pieces {
+        put(bytes, *at, piece);
+    }
+}
+
+/// `len` zeros, into which pieces are put.
 pub(crate) fn with_pieces(rt: &impl Abort, alloc: Global, len: usize, pieces: &[Piece]) -> Vec<u8> {
     let mut bytes = filled(rt, alloc, len, 0);
-    for (at, piece) in pieces {
-        put(&mut bytes, *at, piece);
-    }
+    put_all(&mut bytes, pieces);
     bytes
 }
 
@@ -102,9 +107,7 @@ pub(crate) fn mount(rt: &impl Abort, alloc: Global, edition: Edition, bytes: Vec
 pub(crate) fn edited(rt: &impl Abort, alloc: Global, volume: Volume, pieces: &[Piece]) -> Volume {
     let edition = volume.edition();
     let mut bytes = volume.unmount();
-    for (at, piece) in pieces {
-        put(&mut bytes, *at, piece);
-    }
+    put_all(&mut bytes, pieces);
     mount(rt, alloc, edition, bytes)
 }
 

@@ -11,12 +11,24 @@ mod calls;
 #[cfg(test)]
 mod commands;
 #[cfg(test)]
+mod copies;
+#[cfg(test)]
 mod cuts;
 #[cfg(test)]
 mod devices;
 #[cfg(test)]
+mod exporting;
+#[cfg(test)]
 mod fixtures;
 #[cfg(test)]
+mod headers;
+#[cfg(test)]
+mod migrating;
+#[cfg(test)]
+mod removals;
+#[cfg(test)]
 mod texts;
+#[cfg(test)]
+mod trees;
 #[cfg(test)]
 mod words;

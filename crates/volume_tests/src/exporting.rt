@@ -1,5 +1,5 @@
 //! Outputs that fail once, and a path with a zero byte.
-use crate::patching::{Piece, patch};
+use crate::fixtures::{Piece, with_pieces};
 use pdp_words::testing::{ScriptedWriter, WriteMishap};
 use pdp_words::{Image, IntoWrite};
 use std::alloc::Global;
@@ -41,9 +41,7 @@ static TREE: [Piece; 25] = [
 
 /// An image of some bytes, zeros but for some pieces.
 fn image_of(rt: &impl Abort, alloc: Global, len: usize, pieces: &[Piece]) -> Image {
-    let mut bytes = vec![in alloc; 0; len].expect(rt, "memory for an image");
-    patch(&mut bytes, pieces);
-    Image::from_bytes(bytes)
+    Image::from_bytes(with_pieces(rt, alloc, len, pieces))
 }
 
 /// Exports a tree to a writer. Returns whether the output failed, and what the writer took.

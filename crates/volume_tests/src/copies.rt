@@ -1,5 +1,5 @@
 //! Lists of files that a command line can't give: of no file, and of two of one name.
-use crate::fixtures::{EDITIONS, NOW, grown};
+use crate::trees::{EDITIONS, NOW, grown};
 use pdp_words::IntoWrite;
 use pdp_words::testing::ScriptedWriter;
 use std::alloc::Global;

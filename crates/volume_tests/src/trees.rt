@@ -1,9 +1,9 @@
 //! A volume with two trees.
-use std::alloc::{AllocError, Global};
+use crate::fixtures::{ROOT, bytes_of, mount};
+use std::alloc::Global;
 use std::process::Abort;
-use vol_dir::Cred;
 use vol_layout::Edition;
-use vol_volume::{Bytes, Call, Volume, mkfs};
+use vol_volume::{Call, Volume, mkfs};
 
 /// The editions.
 pub(crate) const EDITIONS: [Edition; 2] = [Edition::V6, Edition::V7];
@@ -13,9 +13,6 @@ pub(crate) const NOW: u32 = 2000;
 
 /// When they are made.
 const MADE: u32 = 1000;
-
-/// Who makes them.
-const USER: Cred = Cred { uid: 0, gid: 0 };
 
 /// What a call makes.
 #[derive(Clone, Copy)]
@@ -49,58 +46,51 @@ static STEPS: [Step; 13] = [
     Step::Link(b"/d/z", b"/d/a"),
 ];
 
-/// Some bytes.
-fn bytes_of(alloc: Global, bytes: &[u8]) -> Result<Bytes, AllocError> {
-    Ok(Bytes::from_vec(Vec::from_slice(alloc, bytes)?))
-}
-
 /// The call of a step.
-fn call_of(alloc: Global, step: Step) -> Result<Call, AllocError> {
-    let (cred, now) = (USER, MADE);
-    Ok(match step {
+fn call_of(rt: &impl Abort, alloc: Global, step: Step) -> Call {
+    let (cred, now) = (ROOT, MADE);
+    match step {
         Step::Mkdir(path) => Call::Mkdir {
             cred,
             now,
-            path: bytes_of(alloc, path)?,
+            path: bytes_of(rt, alloc, path),
             perm: 0o100,
         },
         Step::Chown(path) => Call::Chown {
             cred,
             now,
-            path: bytes_of(alloc, path)?,
+            path: bytes_of(rt, alloc, path),
             uid: 3,
             gid: 5,
         },
         Step::Create(path) => Call::Create {
             cred,
             now,
-            path: bytes_of(alloc, path)?,
+            path: bytes_of(rt, alloc, path),
             perm: 0o400,
         },
         Step::Write(path, bytes) => Call::Write {
             cred,
             now,
-            path: bytes_of(alloc, path)?,
+            path: bytes_of(rt, alloc, path),
             offset: 0,
-            bytes: bytes_of(alloc, bytes)?,
+            bytes: bytes_of(rt, alloc, bytes),
         },
         Step::Link(source, target) => Call::Link {
             cred,
             now,
-            source: bytes_of(alloc, source)?,
-            target: bytes_of(alloc, target)?,
+            source: bytes_of(rt, alloc, source),
+            target: bytes_of(rt, alloc, target),
         },
-    })
+    }
 }
 
 /// A volume with the trees, mounted.
 pub(crate) fn grown(rt: &impl Abort, alloc: Global, edition: Edition) -> Volume {
     let bytes = mkfs(alloc, edition, 40, 2, 0, 0, MADE).expect(rt, "a new volume");
-    let mut volume = Volume::mount(alloc, edition, bytes)
-        .map_err(|(fault, _)| fault)
-        .expect(rt, "a sound volume");
+    let mut volume = mount(rt, alloc, edition, bytes);
     for step in &STEPS {
-        let call = call_of(alloc, *step).expect(rt, "memory for a call");
+        let call = call_of(rt, alloc, *step);
         if let Err((refusal, _)) = volume.call(alloc, call) {
             panic!(rt; "{refusal:?}");
         }

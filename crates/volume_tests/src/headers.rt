@@ -1,6 +1,6 @@
 //! Headers of GNU tar 1.34 whose fields no command shows: `tar --owner=3 --group=5 --mtime=@1000000000 -b1 -cf`, with `--format=ustar`
 //! and `--format=gnu`. `tests/archives.sh` imports others.
-use crate::patching::{Piece, patch};
+use crate::fixtures::{Piece, put_all};
 use std::alloc::Global;
 use std::process::Abort;
 use ustar::{
@@ -87,7 +87,7 @@ fn check_read(
     header: ReadHeader,
 ) {
     let mut block = [0; 512];
-    patch(&mut block, pieces);
+    put_all(&mut block, pieces);
     assert_eq!(rt; read_header(&block), Ok(header));
     let read = path_of(alloc, &block).expect(rt, "memory for a path");
     assert_eq!(rt; read.as_slice(), path);

@@ -1,5 +1,5 @@
 //! The calls that take a tree away, in their order, and the one that is refused.
-use crate::fixtures::{EDITIONS, NOW, grown};
+use crate::trees::{EDITIONS, NOW, grown};
 use std::alloc::Global;
 use std::process::Abort;
 use vol_dir::{Cred, Refusal};

@@ -1,5 +1,0 @@
-//! Tests of migrating that no command shows.
-#![tactic(auto)]
-
-#[cfg(test)]
-mod faults;

@@ -13,12 +13,12 @@ cd "$(dirname "$0")/.."
 declare -A cost=() first=() last=() name=() kind=()
 ticks=$(getconf CLK_TCK)
 
-# Reads /proc/PID/stat into `parent`, `used` (ticks, with those of children that have ended) and `start`.
+# Reads /proc/PID/stat into `parent`, `session`, `used` (ticks, with those of children that have ended) and `start`.
 read_stat() {
     local line rest
     read -r line 2>/dev/null <"/proc/$1/stat" || return 1
     rest=(${line##*) })
-    parent=${rest[1]} used=$((rest[11] + rest[12] + rest[13] + rest[14])) start=${rest[19]}
+    parent=${rest[1]} session=${rest[3]} used=$((rest[11] + rest[12] + rest[13] + rest[14])) start=${rest[19]}
 }
 
 # Sets `crate` and `part` of a process of the prover, by its words.
@@ -47,12 +47,12 @@ read_words() {
 
 # Adds up what runs now: a process of the prover that another one started counts for that one.
 read_all() {
-    local path pid comm key crate part parent used start
+    local path pid comm key crate part parent session used start
     local -A of=() spent=()
     for path in /proc/[0-9]*; do
         pid=${path#/proc/}
         read -r comm 2>/dev/null <"$path/comm" || continue
-        [[ $comm == rattle ]] && read_stat "$pid" || continue
+        [[ $comm == rattle ]] && read_stat "$pid" && [[ $session == "$run" ]] || continue
         of[$pid]=$parent spent[$pid]=$used
         key=$pid:$start
         if [[ ! ${name[$key]:-} ]]; then
@@ -71,7 +71,7 @@ read_all() {
 }
 
 began=$EPOCHREALTIME
-"$@" &
+setsid "$@" &
 run=$!
 while kill -0 "$run" 2>/dev/null; do
     read_all

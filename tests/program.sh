@@ -640,20 +640,6 @@ has 'a link to a volume that was salvaged' damaged "$(readlink leads)"
 saves 'what a link leads to, salvaged' damaged made
 
 # What `icheck` finds, whatever the number of threads.
-# finds STATUS COMMAND IMAGE LINE..: the checker prints these lines, with 1, 2, 7 and 64 threads, and ends with this status
-finds() {
-    local status=$1 command=$2 volume=$3 workers
-    shift 3
-    if [ $# = 0 ]; then : > lines; else printf '%s\n' "$@" > lines; fi
-    for workers in 1 2 7 64; do
-        runs "$command" "$edition" "$volume" "$workers"
-        wants "$command of $volume by $workers threads" "$status" lines none
-    done
-}
-
-# totals FILES DIRECTORIES SPECIAL ODD USED FREE MISSING: the last lines of icheck
-totals() { printf '%s\n' "files $1" "directories $2" "special $3" "odd $4" "used $5" "free $6" "missing $7"; }
-
 edition=6
 mapfile -t made_lines < <(totals 0 1 0 0 1 15 0)
 finds 0 icheck made "${made_lines[@]}"

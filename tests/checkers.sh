@@ -1,0 +1,97 @@
+#!/usr/bin/env bash
+# Runs the checkers of the built program, `icheck`, `dcheck` and `ncheck`, each with 1, 2, 7 and 64 threads, on images that are sound or not,
+# and compares their reports byte by byte. tests/program.sh has further reports, and what the three commands refuse.
+# Usage: tests/checkers.sh PROGRAM. It prints a line for each row that fails, and ends with 'N passed, N failed'.
+. "$(dirname "$0")/rows.sh"
+
+# New volumes, two of their blocks the i-list: of 20 blocks of the sixth edition, whose root is in block 4, and of 100 of the seventh.
+"$program" mkfs 6 new.6 20 2 0 0 168496141
+"$program" mkfs 7 new.7 100 2 0 0 168496141
+
+# make FILE FROM AT=HEX..: FILE is the image FROM with these bytes in their places
+make() {
+    local file=$1 piece
+    cp "$2" "$file"
+    for piece in "${@:3}"; do put "$file" "${piece%%=*}" "${piece#*=}"; done
+}
+
+# plays FILE CALL..: user 0 makes these calls on the volume
+plays() {
+    local file=$1
+    shift
+    printf '168496141 0 0 %s\n' "$@" > calls
+    "$program" play "$edition" "$file" calls > played
+    has "the calls on $file" $# "$(grep -c '^1\.[0-9]* ok ' played)"
+}
+
+# directory BLOCK: the i-node of a directory with three slots, in this block
+directory() { printf 'FFC102000000 3000 %02x00' "$1"; }
+regular='A481010000000000'
+
+edition=7
+
+# A new volume.
+mapfile -t found < <(totals 0 1 0 0 1 95 0)
+finds 0 icheck new.7 "${found[@]}"
+
+# I-number 1 of the seventh edition may have no links, and another that isn't free may not.
+make image new.7 1024=0080
+finds 0 dcheck image
+make image new.7 1152=0080
+finds 1 dcheck image '3 0 0'
+
+# A directory of 66 blocks, which the checkers divide: file 16 has the name `/f` and 2,100 others, and directory 15 is `/d`. Then the last
+# of the names is one of the directory.
+"$program" mkfs 7 large 300 2 0 0 0
+mapfile -t links < <(seq -f 'link /f /n%04g' 2100)
+plays large 'create /f 644' 'mkdir /d 755' 'mkdir /d/e 755' "${links[@]}"
+finds 0 dcheck large
+put large $(($(grep -abo n2100 large | cut -d : -f 1) - 2)) 0F00
+finds 1 dcheck large '15 4 3' '16 2100 2101'
+mapfile -t found < <(seq -f '16 /n%04g' 2099)
+finds 0 ncheck large '14 /d/e' '15 /d' '15 /n2100' '16 /f' "${found[@]}"
+
+edition=6
+
+# A size that is out of bounds.
+make image new.6 512=1200
+finds 1 icheck image 'rule 2'
+
+# Lines of every kind but odd ones: the root is in block 4; file 2 names block 5 twice, and block 6, which is free, and met again in the free
+# list; file 3 names two blocks that the volume doesn't have; block 7 is lost.
+"$program" mkfs 6 eight 8 2 0 0 168496141
+make image eight 516=020006000600 1056="$regular 050005000600" 1088="$regular 78006300"
+mapfile -t found < <(printf '%s\n' 'bad 3 2 99' 'dup 5 2 0' 'dup 6 1 1' 'lost 7' 'free repeat 6' && totals 2 1 0 0 3 1 1)
+finds 1 icheck image "${found[@]}"
+
+# A root with five links and two entries, a file with neither, and an entry for i-number 4, which is free.
+make image new.6 1026=05 1030=3000 1056=A48100 2080=040061
+finds 1 dcheck image '1 2 5' '2 0 0' '4 1 0'
+
+# A file in a directory.
+cp new.6 file
+plays file 'mkdir /d 755' 'create /d/f 644' 'write /d/f 0 616263'
+finds 0 ncheck file '31 /d/f' '32 /d'
+
+# Two directories apart from the root, each with an entry for the other.
+cp new.6 two
+plays two 'mkdir /a 755' 'mkdir /b 755'
+make image two 2080="$(printf '00%.0s' {1..32})" 1990=30 2022=30 2592=1F0079 3104=200078
+finds 1 ncheck image '31 .../y/x/y' '32 .../x/y/x'
+
+# A file with two names, two directories in a ring, and one that no entry names.
+make image new.6 1030=4000 2080=200064 2096=1F0067 1984="$regular" 1856="$regular" \
+    2016="$(directory 5)" 2592=1F0066 \
+    1952="$(directory 6)" 3104=1D0078 \
+    1920="$(directory 7)" 3616=1E0079 \
+    1888="$(directory 8)" 4128=1B007A
+finds 1 ncheck image '27 .../z' '29 .../x/y/x' '30 .../y/x/y' '31 /d/f' '31 /g' '32 /d'
+
+# Images that are cut short.
+for length in 10239 1025 1024 512 1 0; do
+    head -c "$length" new.6 > "cut at $length"
+    for command in icheck dcheck ncheck; do finds 1 "$command" "cut at $length" 'rule 1'; done
+done
+
+echo "$passed passed, $failed failed"
+[ "$failed" = 0 ]

@@ -1,113 +1,143 @@
 //! Images, and reports as text.
-use crate::large::digits;
 use pdp_words::Image;
 use pdp_words::words::put_bytes;
 use std::alloc::{AllocError, Global};
 use std::process::Abort;
-use vol_dir::Cred;
 use vol_layout::Edition;
 use vol_reports::Report;
-use vol_volume::{Bytes, Call, Volume, mkfs};
+use vol_volume::mkfs;
 
-/// Bytes that stand at a place.
-pub(crate) type Piece = (usize, &'static [u8]);
-
-/// The user who may do everything.
-const ROOT: Cred = Cred { uid: 0, gid: 0 };
-
-/// The moment of the worked volumes, and that of the calls.
-const NOW: u32 = 0x0A0B_0C0D;
-
-/// What is asked of a volume.
+/// An image: what `mkfs` makes with two blocks of i-nodes, and bytes that are put in places.
 #[derive(Clone, Copy)]
-pub(crate) enum Asked {
-    /// A file.
-    Create(&'static [u8]),
-    /// A directory.
-    Mkdir(&'static [u8]),
-    /// Bytes in a file, from its first byte on.
-    Write(&'static [u8], &'static [u8]),
+pub(crate) struct Made {
+    pub edition: Edition,
+    pub blocks: u32,
+    pub pieces: &'static [(usize, &'static [u8])],
 }
 
-/// The numbers of workers by which reports are made.
-pub(crate) static WORKERS: [usize; 4] = [1, 2, 7, 64];
-
-/// A new volume of the sixth edition of 20 blocks, and one of the seventh of 100, two of them the i-list.
+/// A new volume of the sixth edition of 20 blocks, and one of the seventh of 100.
 pub(crate) const SIXTH: Made = Made {
     edition: Edition::V6,
     blocks: 20,
-    calls: &[],
     pieces: &[],
 };
 
 pub(crate) const SEVENTH: Made = Made {
     edition: Edition::V7,
     blocks: 100,
-    calls: &[],
     pieces: &[],
 };
 
-/// An image: what `mkfs` makes, calls, and bytes that are put in place.
-#[derive(Clone, Copy)]
-pub(crate) struct Made {
-    pub edition: Edition,
-    pub blocks: u32,
-    pub calls: &'static [Asked],
-    pub pieces: &'static [Piece],
-}
+/// A volume of the seventh edition with file 16 under `/f` and 2,100 further names, and directories 15 under `/d` and 14
+/// under `/d/e`. The root takes blocks 4 to 69, and block 70 names those from 14 on; neither is here.
+const LARGE: Made = Made {
+    edition: Edition::V7,
+    blocks: 300,
+    pieces: &[
+        // The root's links, size and addresses.
+        (1090, &[3]),
+        (1098, &[0x80, 0x83]),
+        (1100, &[0, 4, 0, 0, 5, 0, 0, 6, 0, 0, 7, 0, 0, 8, 0]),
+        (1115, &[0, 9, 0, 0, 10, 0, 0, 11, 0, 0, 12, 0, 0, 13, 0]),
+        (1130, &[0, 70, 0]),
+        // I-nodes 14, 15 and 16.
+        (1856, &[0xED, 0x41, 2, 0, 0, 0, 0, 0, 0, 0, 32, 0, 0, 72, 0]),
+        (1920, &[0xED, 0x41, 3, 0, 0, 0, 0, 0, 0, 0, 48, 0, 0, 71, 0]),
+        (1984, &[0xA4, 0x81, 0x35, 0x08]),
+        // The entries of `/d` and `/d/e`.
+        (36_352, &[15, 0, b'.']),
+        (36_368, &[2, 0, b'.', b'.']),
+        (36_384, &[14, 0, b'e']),
+        (36_864, &[14, 0, b'.']),
+        (36_880, &[15, 0, b'.', b'.']),
+    ],
+};
 
-/// A path, or bytes that are written.
-fn bytes_of(rt: &impl Abort, alloc: Global, bytes: &[u8]) -> Bytes {
-    Bytes::from_vec(Vec::from_slice(alloc, bytes).expect(rt, "memory for the bytes"))
-}
+/// How many names the file of the large directory has besides `/f`.
+const NAMES: u32 = 2100;
 
-/// The call of the user who may do everything.
-fn call_of(rt: &impl Abort, alloc: Global, asked: Asked) -> Call {
-    let (cred, now) = (ROOT, NOW);
-    match asked {
-        Asked::Create(path) => Call::Create {
-            cred,
-            now,
-            path: bytes_of(rt, alloc, path),
-            perm: 0o644,
-        },
-        Asked::Mkdir(path) => Call::Mkdir {
-            cred,
-            now,
-            path: bytes_of(rt, alloc, path),
-            perm: 0o755,
-        },
-        Asked::Write(path, bytes) => Call::Write {
-            cred,
-            now,
-            path: bytes_of(rt, alloc, path),
-            offset: 0,
-            bytes: bytes_of(rt, alloc, bytes),
-        },
+/// Where the large directory has the last of these.
+pub(crate) const LAST_NAME: usize = 35_696;
+
+/// These bytes with others put in a place.
+fn put(mut bytes: Vec<u8>, at: usize, piece: &[u8]) -> Vec<u8> {
+    if at.saturating_add(piece.len()) <= bytes.len() {
+        put_bytes(&mut bytes, at, piece);
     }
+    bytes
 }
 
-/// The bytes of a volume after calls, each of which is accepted.
-fn after_calls(rt: &impl Abort, alloc: Global, made: &Made) -> Vec<u8> {
-    let bytes = mkfs(alloc, made.edition, made.blocks, 2, 0, 0, NOW).expect(rt, "a new volume");
-    let Ok(mut volume) = Volume::mount(alloc, made.edition, bytes) else {
-        panic!(rt; "a new volume is mounted");
-    };
-    for asked in made.calls {
-        make(rt, alloc, &mut volume, call_of(rt, alloc, *asked));
+/// The bytes of an image.
+fn bytes_of(rt: &impl Abort, alloc: Global, made: &Made) -> Vec<u8> {
+    let mut bytes = mkfs(alloc, made.edition, made.blocks, 2, 0, 0, 0x0A0B_0C0D).expect(
+        rt,
+        "a new volume",
+    );
+    for (at, piece) in made.pieces {
+        bytes = put(bytes, *at, piece);
     }
-    volume.unmount()
+    bytes
 }
 
 /// The image.
 pub(crate) fn image_of(rt: &impl Abort, alloc: Global, made: &Made) -> Image {
-    let mut bytes = after_calls(rt, alloc, made);
-    for (at, piece) in made.pieces {
-        if at.saturating_add(piece.len()) <= bytes.len() {
-            put_bytes(&mut bytes, *at, piece);
-        }
-    }
+    Image::from_bytes(bytes_of(rt, alloc, made))
+}
+
+/// The image of a directory of 66 logical blocks, which is more than one piece.
+pub(crate) fn large_image(rt: &impl Abort, alloc: Global) -> Image {
+    let bytes = bytes_of(rt, alloc, &LARGE);
+    let bytes = put(bytes, 4 * 512, &large_slots(rt, alloc));
+    let bytes = put(bytes, 70 * 512, &large_addresses(rt, alloc));
     Image::from_bytes(bytes)
+}
+
+/// The slots of the large directory.
+fn large_slots(rt: &impl Abort, alloc: Global) -> Vec<u8> {
+    let mut slots = Vec::new(alloc);
+    push(rt, &mut slots, b"\x02\0.\0\0\0\0\0\0\0\0\0\0\0\0\0");
+    push(rt, &mut slots, b"\x02\0..\0\0\0\0\0\0\0\0\0\0\0\0");
+    push(rt, &mut slots, b"\x10\0f\0\0\0\0\0\0\0\0\0\0\0\0\0");
+    push(rt, &mut slots, b"\x0F\0d\0\0\0\0\0\0\0\0\0\0\0\0\0");
+    for number in 1..=NAMES {
+        push(rt, &mut slots, b"\x10\0n");
+        push(rt, &mut slots, &digits(number));
+        push(rt, &mut slots, &[0; 9]);
+    }
+    slots
+}
+
+/// The numbers of the blocks that block 70 names.
+fn large_addresses(rt: &impl Abort, alloc: Global) -> Vec<u8> {
+    let mut addresses = Vec::new(alloc);
+    for block in 14..70u8 {
+        push(rt, &mut addresses, &[0, 0, block, 0]);
+    }
+    addresses
+}
+
+/// The text of the name report of the large image, where the last name is that of `/d`.
+pub(crate) fn names_text(rt: &impl Abort, alloc: Global) -> Vec<u8> {
+    let mut text = Vec::new(alloc);
+    push(rt, &mut text, b"14 /d/e\n15 /d\n15 /n2100\n16 /f\n");
+    for number in 1..NAMES {
+        push(rt, &mut text, b"16 /n");
+        push(rt, &mut text, &digits(number));
+        push(rt, &mut text, b"\n");
+    }
+    text
+}
+
+/// Appends bytes.
+fn push(rt: &impl Abort, text: &mut Vec<u8>, bytes: &[u8]) {
+    text.extend_from_slice(bytes)
+        .expect(rt, "memory for the text");
+}
+
+/// The four digits of a number.
+fn digits(number: u32) -> [u8; 4] {
+    let digit = |scale: u32| b'0' + (number / scale % 10) as u8;
+    [digit(1000), digit(100), digit(10), digit(1)]
 }
 
 /// A report has this text, by which it tells of faults or doesn't.
@@ -124,52 +154,4 @@ pub(crate) fn check_report(
         .expect(rt, "memory for the text");
     assert_eq!(rt; text.as_slice(), wanted.0);
     assert_eq!(rt; report.has_faults(), wanted.1);
-}
-
-/// A volume of the seventh edition of 300 blocks, with file 16 under `/f` and so many names more, and directories 15 under
-/// `/d` and 14 under `/d/e`.
-pub(crate) fn link_all(rt: &impl Abort, alloc: Global, names: u32) -> Vec<u8> {
-    let bytes = mkfs(alloc, Edition::V7, 300, 2, 0, 0, 0).expect(rt, "a new volume");
-    let Ok(mut volume) = Volume::mount(alloc, Edition::V7, bytes) else {
-        panic!(rt; "a new volume is mounted");
-    };
-    for asked in [
-        Asked::Create(b"/f"),
-        Asked::Mkdir(b"/d"),
-        Asked::Mkdir(b"/d/e"),
-    ] {
-        make(rt, alloc, &mut volume, call_of(rt, alloc, asked));
-    }
-    for number in 1..=names {
-        let [a, b, c, d] = digits(number);
-        let call = Call::Link {
-            cred: ROOT,
-            now: NOW,
-            source: bytes_of(rt, alloc, b"/f"),
-            target: bytes_of(rt, alloc, &[b'/', b'n', a, b, c, d]),
-        };
-        make(rt, alloc, &mut volume, call);
-    }
-    volume.unmount()
-}
-
-/// Makes a call, which is accepted.
-fn make(rt: &impl Abort, alloc: Global, volume: &mut Volume, call: Call) {
-    if let Err((refusal, _)) = volume.call(alloc, call) {
-        panic!(rt; "a call is refused: {refusal:?}");
-    }
-}
-
-/// An image in which two bytes are put before the first place that holds some others.
-pub(crate) fn with_piece_before(image: Image, found: &[u8], piece: [u8; 2]) -> Image {
-    let mut bytes = image.into_bytes();
-    let place = bytes
-        .windows(found.len().max(1))
-        .position(|window| window == found);
-    if let Some(at) = place {
-        if at >= 2 && at <= bytes.len() {
-            put_bytes(&mut bytes, at - 2, &piece);
-        }
-    }
-    Image::from_bytes(bytes)
 }

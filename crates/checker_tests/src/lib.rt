@@ -1,24 +1,14 @@
-//! Tests of the checkers by their public functions: worked reports, by any number of workers; lines of counted words; images
-//! that are cut short; sweeps stepped by hand, on the image that they were made for and on another; gates, and workers that
-//! run at the same time; and of the visit of a file's blocks.
+//! Tests of the checkers by their public functions, of what no command shows: every cut of an image; sweeps stepped by hand, on the
+//! image that they were made for and on another; gates, and workers that run at the same time; and the visit of a file's blocks.
+//! Their reports are compared by rows of the program, in tests/checkers.sh and tests/program.sh.
 #![tactic(auto)]
 
 #[cfg(test)]
-mod blocks;
-#[cfg(test)]
 mod cuts;
-#[cfg(test)]
-mod entries;
 #[cfg(test)]
 mod fixtures;
 #[cfg(test)]
 mod gates;
-#[cfg(test)]
-mod large;
-#[cfg(test)]
-mod names;
-#[cfg(test)]
-mod reports;
 #[cfg(test)]
 mod sweeps;
 #[cfg(test)]

@@ -5,9 +5,9 @@ ghost use Rattle.vol_check.specs.Layouts.{IsFor, IsSeatIn, HasSwept, HasSameHead
 ghost use Rattle.vol_check.specs.Stepping.{Ran};
 ghost use Rattle.checker_tests.specs.Work.{IsAtWork};
 
-use crate::fixtures::{Made, SEVENTH, SIXTH, check_report, image_of, link_all};
-use crate::large::{NAMES, names_text};
-use crate::{blocks, entries, names};
+use crate::fixtures::{
+    LAST_NAME, Made, SEVENTH, SIXTH, check_report, image_of, large_image, names_text,
+};
 use pdp_words::Image;
 use pdp_words::words::put_bytes;
 use std::alloc::{AllocError, Global};
@@ -91,6 +91,196 @@ static COUNTS: [(Made, Checker, u64); 8] = [
         },
         Checker::Names,
         0,
+    ),
+];
+
+/// Images, the reports of them, and whether these tell of faults.
+static REPORTS: [(Made, Checker, &[u8], bool); 18] = [
+    // A new volume of the sixth edition.
+    (
+        Made { ..SIXTH },
+        Checker::Blocks,
+        b"files 0\ndirectories 1\nspecial 0\nodd 0\nused 1\nfree 15\nmissing 0\n",
+        false,
+    ),
+    // The same of the seventh.
+    (
+        Made { ..SEVENTH },
+        Checker::Blocks,
+        b"files 0\ndirectories 1\nspecial 0\nodd 0\nused 1\nfree 95\nmissing 0\n",
+        false,
+    ),
+    // The chain block of the free list leads to itself.
+    (
+        Made {
+            pieces: &[(25602, &[0, 0, 50, 0])],
+            ..SEVENTH
+        },
+        Checker::Blocks,
+        b"free repeat 50\nfiles 0\ndirectories 1\nspecial 0\nodd 0\nused 1\nfree 95\nmissing 0\n",
+        true,
+    ),
+    // Two files name block 5, and none names block 6.
+    (
+        Made {
+            pieces: &[
+                (516, &[14]),
+                (1984, &[0xA4, 0x81, 1, 0, 0, 0, 1, 0, 5]),
+                (2016, &[0xA4, 0x81, 1, 0, 0, 0, 1, 0, 5]),
+            ],
+            ..SIXTH
+        },
+        Checker::Blocks,
+        b"dup 5 2 0\nlost 6\nfiles 2\ndirectories 1\nspecial 0\nodd 0\nused 2\nfree 13\nmissing 1\n",
+        true,
+    ),
+    // An indirect block that names itself.
+    (
+        Made {
+            pieces: &[
+                (516, &[15]),
+                (2016, &[0xA4, 0x91, 1, 0, 0, 0, 2, 0, 5]),
+                (2560, &[5]),
+            ],
+            ..SIXTH
+        },
+        Checker::Blocks,
+        b"dup 5 2 0\nfiles 1\ndirectories 1\nspecial 0\nodd 0\nused 2\nfree 14\nmissing 0\n",
+        true,
+    ),
+    // More free blocks than the array has.
+    (
+        Made {
+            pieces: &[(516, &[101, 0])],
+            ..SIXTH
+        },
+        Checker::Blocks,
+        b"lost 5\nlost 6\nlost 7\nlost 8\nlost 9\nlost 10\nlost 11\nlost 12\nlost 13\nlost 14\nlost 15\nlost 16\nlost 17\nlost 18\nlost 19\nfree toomany 101\nfiles 0\ndirectories 1\nspecial 0\nodd 0\nused 1\nfree 0\nmissing 15\n",
+        true,
+    ),
+    // The root's only block is none of the volume's.
+    (
+        Made {
+            pieces: &[(1032, &[20])],
+            ..SIXTH
+        },
+        Checker::Blocks,
+        b"bad 1 1 20\nlost 4\nfiles 0\ndirectories 1\nspecial 0\nodd 0\nused 0\nfree 15\nmissing 1\n",
+        true,
+    ),
+    // A size that is out of bounds.
+    (
+        Made {
+            pieces: &[(512, &[18, 0])],
+            ..SIXTH
+        },
+        Checker::Blocks,
+        b"rule 2\n",
+        true,
+    ),
+    // A new volume.
+    (Made { ..SIXTH }, Checker::Entries, b"", false),
+    // The root has five links, and two entries.
+    (
+        Made {
+            pieces: &[(1026, &[5])],
+            ..SIXTH
+        },
+        Checker::Entries,
+        b"1 2 5\n",
+        true,
+    ),
+    // The root's only block is none of the volume's.
+    (
+        Made {
+            pieces: &[(1032, &[20])],
+            ..SIXTH
+        },
+        Checker::Entries,
+        b"1 0 2\n",
+        true,
+    ),
+    // A directory of the greatest size, nearly all of it a hole.
+    (
+        Made {
+            pieces: &[(1096, &[0xFF, 0xFF, 0xFF, 0xFF])],
+            ..SEVENTH
+        },
+        Checker::Entries,
+        b"",
+        false,
+    ),
+    // I-number 1 of the seventh edition may have no links.
+    (
+        Made {
+            pieces: &[(1024, &[0x00, 0x80])],
+            ..SEVENTH
+        },
+        Checker::Entries,
+        b"",
+        false,
+    ),
+    // Another i-number may not.
+    (
+        Made {
+            pieces: &[(1152, &[0x00, 0x80])],
+            ..SEVENTH
+        },
+        Checker::Entries,
+        b"3 0 0\n",
+        true,
+    ),
+    // A new volume, whose root has `.` and `..` alone.
+    (Made { ..SIXTH }, Checker::Names, b"", false),
+    // A file in a directory.
+    (
+        Made {
+            pieces: &[
+                (1026, &[3]),
+                (1030, &[48]),
+                (1984, &[0xA4, 0x81, 1, 0, 0, 0, 3, 0, 6]),
+                (2016, &[0xED, 0xC1, 2, 0, 0, 0, 48, 0, 5]),
+                (2080, &[32, 0, b'd']),
+                (2560, &[32, 0, b'.']),
+                (2576, &[1, 0, b'.', b'.']),
+                (2592, &[31, 0, b'f']),
+            ],
+            ..SIXTH
+        },
+        Checker::Names,
+        b"31 /d/f\n32 /d\n",
+        false,
+    ),
+    // Two directories apart from the root, each with an entry for the other.
+    (
+        Made {
+            pieces: &[
+                (1026, &[4]),
+                (1030, &[64]),
+                (1984, &[0xED, 0xC1, 2, 0, 0, 0, 48, 0, 6]),
+                (2016, &[0xED, 0xC1, 2, 0, 0, 0, 48, 0, 5]),
+                (2560, &[32, 0, b'.']),
+                (2576, &[1, 0, b'.', b'.']),
+                (2592, &[31, 0, b'y']),
+                (3072, &[31, 0, b'.']),
+                (3088, &[1, 0, b'.', b'.']),
+                (3104, &[32, 0, b'x']),
+            ],
+            ..SIXTH
+        },
+        Checker::Names,
+        b"31 .../y/x/y\n32 .../x/y/x\n",
+        true,
+    ),
+    // The root's only block is none of the volume's.
+    (
+        Made {
+            pieces: &[(1032, &[20])],
+            ..SIXTH
+        },
+        Checker::Names,
+        b"",
+        false,
     ),
 ];
 
@@ -310,22 +500,6 @@ fn with_data(
     Image::from_bytes(bytes)
 }
 
-/// Each of these images has its report, however the pieces are divided.
-fn check_rows<R: Threads + Abort + Sync>(
-    rt: &R,
-    alloc: Global,
-    checker: Checker,
-    rows: &[(Made, &[u8], bool)],
-) {
-    for (made, text, faults) in rows {
-        let image = image_of(rt, alloc, made);
-        for division in &DIVISIONS {
-            let report = own_report(rt, alloc, made.edition, &image, checker, *division);
-            check_report(rt, alloc, report, (text, *faults));
-        }
-    }
-}
-
 /// How many pieces one seat is answered in a sweep of its own.
 fn count_pieces(
     rt: &impl Abort,
@@ -356,9 +530,13 @@ fn one_seat_is_answered_every_piece_in_order(rt: HostRuntime) {
 #[test]
 fn a_report_is_the_same_however_the_pieces_are_divided(rt: HostRuntime) {
     let alloc = rt.alloc();
-    check_rows(&rt, alloc, Checker::Blocks, &blocks::ROWS);
-    check_rows(&rt, alloc, Checker::Entries, &entries::ROWS);
-    check_rows(&rt, alloc, Checker::Names, &names::ROWS);
+    for (made, checker, text, faults) in &REPORTS {
+        let image = image_of(&rt, alloc, made);
+        for division in &DIVISIONS {
+            let report = own_report(&rt, alloc, made.edition, &image, *checker, *division);
+            check_report(&rt, alloc, report, (text, *faults));
+        }
+    }
 }
 
 #[test]
@@ -378,7 +556,7 @@ fn the_report_is_that_of_the_image_stepped_on(rt: HostRuntime) {
 #[test]
 fn a_sweep_steps_on_a_directory_in_two_pieces(rt: HostRuntime) {
     let alloc = rt.alloc();
-    let made = Image::from_bytes(link_all(&rt, alloc, NAMES));
+    let made = large_image(&rt, alloc);
     assert_eq!(rt;
         count_pieces(&rt, alloc, Edition::V7, &made, Checker::Entries),
         17
@@ -387,12 +565,7 @@ fn a_sweep_steps_on_a_directory_in_two_pieces(rt: HostRuntime) {
         count_pieces(&rt, alloc, Edition::V7, &made, Checker::Names),
         17
     );
-    let found = made
-        .as_bytes()
-        .windows(5)
-        .position(|window| window == b"n2100".as_slice());
-    let at = found.unwrap_or(0).saturating_sub(2);
-    let image = with_data(&rt, alloc, Edition::V7, &made, at, &[15, 0]);
+    let image = with_data(&rt, alloc, Edition::V7, &made, LAST_NAME, &[15, 0]);
     let names = names_text(&rt, alloc);
     for division in &DIVISIONS {
         let report = report_of(

@@ -1,20 +1,18 @@
 // The visit of a file's blocks.
 ghost use Rattle.std.specs.Prelude.{◌<◌, ◌^◌};
 
-use crate::fixtures::{Asked, Made, SIXTH, image_of};
+use crate::fixtures::{Made, SIXTH, image_of};
 use vol_file::read_range;
 use vol_layout::Geometry;
 
 /// A file, i-number 32, of one block; in its size of four blocks the others are holes, but the third, which its i-node names.
 const WITH_HOLES: Made = Made {
-    calls: &[
-        Asked::Create(b"/f"),
-        Asked::Write(b"/f", b"x"),
-        Asked::Create(b"/g"),
-        Asked::Write(b"/g", b"z"),
+    pieces: &[
+        (2016, &[0xA4, 0x81, 1, 0, 0, 0, 0, 8, 5]),
+        (2028, &[6]),
+        (2560, b"x"),
+        (3072, b"z"),
     ],
-    // The size, and address 2.
-    pieces: &[(2021, &[0, 0, 8]), (2028, &[6, 0])],
     ..SIXTH
 };
 

@@ -3,6 +3,7 @@ use pdp_words::Image;
 use pdp_words::words::put_bytes;
 use std::alloc::{AllocError, Global};
 use std::process::Abort;
+use vol_check::Checker;
 use vol_layout::Edition;
 use vol_reports::Report;
 use vol_volume::mkfs;
@@ -27,6 +28,196 @@ pub(crate) const SEVENTH: Made = Made {
     blocks: 100,
     pieces: &[],
 };
+
+/// Images, the reports of them, and whether these tell of faults.
+pub(crate) static REPORTS: [(Made, Checker, &[u8], bool); 18] = [
+    // A new volume of the sixth edition.
+    (
+        Made { ..SIXTH },
+        Checker::Blocks,
+        b"files 0\ndirectories 1\nspecial 0\nodd 0\nused 1\nfree 15\nmissing 0\n",
+        false,
+    ),
+    // The same of the seventh.
+    (
+        Made { ..SEVENTH },
+        Checker::Blocks,
+        b"files 0\ndirectories 1\nspecial 0\nodd 0\nused 1\nfree 95\nmissing 0\n",
+        false,
+    ),
+    // The chain block of the free list leads to itself.
+    (
+        Made {
+            pieces: &[(25602, &[0, 0, 50, 0])],
+            ..SEVENTH
+        },
+        Checker::Blocks,
+        b"free repeat 50\nfiles 0\ndirectories 1\nspecial 0\nodd 0\nused 1\nfree 95\nmissing 0\n",
+        true,
+    ),
+    // Two files name block 5, and none names block 6.
+    (
+        Made {
+            pieces: &[
+                (516, &[14]),
+                (1984, &[0xA4, 0x81, 1, 0, 0, 0, 1, 0, 5]),
+                (2016, &[0xA4, 0x81, 1, 0, 0, 0, 1, 0, 5]),
+            ],
+            ..SIXTH
+        },
+        Checker::Blocks,
+        b"dup 5 2 0\nlost 6\nfiles 2\ndirectories 1\nspecial 0\nodd 0\nused 2\nfree 13\nmissing 1\n",
+        true,
+    ),
+    // An indirect block that names itself.
+    (
+        Made {
+            pieces: &[
+                (516, &[15]),
+                (2016, &[0xA4, 0x91, 1, 0, 0, 0, 2, 0, 5]),
+                (2560, &[5]),
+            ],
+            ..SIXTH
+        },
+        Checker::Blocks,
+        b"dup 5 2 0\nfiles 1\ndirectories 1\nspecial 0\nodd 0\nused 2\nfree 14\nmissing 0\n",
+        true,
+    ),
+    // More free blocks than the array has.
+    (
+        Made {
+            pieces: &[(516, &[101, 0])],
+            ..SIXTH
+        },
+        Checker::Blocks,
+        b"lost 5\nlost 6\nlost 7\nlost 8\nlost 9\nlost 10\nlost 11\nlost 12\nlost 13\nlost 14\nlost 15\nlost 16\nlost 17\nlost 18\nlost 19\nfree toomany 101\nfiles 0\ndirectories 1\nspecial 0\nodd 0\nused 1\nfree 0\nmissing 15\n",
+        true,
+    ),
+    // The root's only block is none of the volume's.
+    (
+        Made {
+            pieces: &[(1032, &[20])],
+            ..SIXTH
+        },
+        Checker::Blocks,
+        b"bad 1 1 20\nlost 4\nfiles 0\ndirectories 1\nspecial 0\nodd 0\nused 0\nfree 15\nmissing 1\n",
+        true,
+    ),
+    // A size that is out of bounds.
+    (
+        Made {
+            pieces: &[(512, &[18, 0])],
+            ..SIXTH
+        },
+        Checker::Blocks,
+        b"rule 2\n",
+        true,
+    ),
+    // A new volume.
+    (Made { ..SIXTH }, Checker::Entries, b"", false),
+    // The root has five links, and two entries.
+    (
+        Made {
+            pieces: &[(1026, &[5])],
+            ..SIXTH
+        },
+        Checker::Entries,
+        b"1 2 5\n",
+        true,
+    ),
+    // The root's only block is none of the volume's.
+    (
+        Made {
+            pieces: &[(1032, &[20])],
+            ..SIXTH
+        },
+        Checker::Entries,
+        b"1 0 2\n",
+        true,
+    ),
+    // A directory of the greatest size, nearly all of it a hole.
+    (
+        Made {
+            pieces: &[(1096, &[0xFF, 0xFF, 0xFF, 0xFF])],
+            ..SEVENTH
+        },
+        Checker::Entries,
+        b"",
+        false,
+    ),
+    // I-number 1 of the seventh edition may have no links.
+    (
+        Made {
+            pieces: &[(1024, &[0x00, 0x80])],
+            ..SEVENTH
+        },
+        Checker::Entries,
+        b"",
+        false,
+    ),
+    // Another i-number may not.
+    (
+        Made {
+            pieces: &[(1152, &[0x00, 0x80])],
+            ..SEVENTH
+        },
+        Checker::Entries,
+        b"3 0 0\n",
+        true,
+    ),
+    // A new volume, whose root has `.` and `..` alone.
+    (Made { ..SIXTH }, Checker::Names, b"", false),
+    // A file in a directory.
+    (
+        Made {
+            pieces: &[
+                (1026, &[3]),
+                (1030, &[48]),
+                (1984, &[0xA4, 0x81, 1, 0, 0, 0, 3, 0, 6]),
+                (2016, &[0xED, 0xC1, 2, 0, 0, 0, 48, 0, 5]),
+                (2080, &[32, 0, b'd']),
+                (2560, &[32, 0, b'.']),
+                (2576, &[1, 0, b'.', b'.']),
+                (2592, &[31, 0, b'f']),
+            ],
+            ..SIXTH
+        },
+        Checker::Names,
+        b"31 /d/f\n32 /d\n",
+        false,
+    ),
+    // Two directories apart from the root, each with an entry for the other.
+    (
+        Made {
+            pieces: &[
+                (1026, &[4]),
+                (1030, &[64]),
+                (1984, &[0xED, 0xC1, 2, 0, 0, 0, 48, 0, 6]),
+                (2016, &[0xED, 0xC1, 2, 0, 0, 0, 48, 0, 5]),
+                (2560, &[32, 0, b'.']),
+                (2576, &[1, 0, b'.', b'.']),
+                (2592, &[31, 0, b'y']),
+                (3072, &[31, 0, b'.']),
+                (3088, &[1, 0, b'.', b'.']),
+                (3104, &[32, 0, b'x']),
+            ],
+            ..SIXTH
+        },
+        Checker::Names,
+        b"31 .../y/x/y\n32 .../x/y/x\n",
+        true,
+    ),
+    // The root's only block is none of the volume's.
+    (
+        Made {
+            pieces: &[(1032, &[20])],
+            ..SIXTH
+        },
+        Checker::Names,
+        b"",
+        false,
+    ),
+];
 
 /// A volume of the seventh edition with file 16 under `/f` and 2,100 further names, and directories 15 under `/d` and 14
 /// under `/d/e`. The root takes blocks 4 to 69, and block 70 names those from 14 on; neither is here.

@@ -173,6 +173,7 @@ followed() {
     : > to_print
     : > to_tell
 }
+
 # finds STATUS COMMAND IMAGE LINE..: the checker prints these lines of an image of the edition `edition`, with 1, 2, 7 and 64 threads, and ends
 # with this status
 finds() {

@@ -17,17 +17,20 @@ fn seventh(rt: &impl Abort, alloc: Global) -> Volume {
 }
 
 /// The receipt of a call that makes an empty file.
-fn created(rt: &impl Abort, alloc: Global, volume: &mut Volume, path: &[u8]) -> Receipt {
+fn created(
+    rt: &impl Abort,
+    alloc: Global,
+    volume: &mut Volume,
+    path: &[u8],
+) -> Result<Receipt, AllocError> {
     let call = create(rt, alloc, path);
-    let copy = call.clone().expect(rt, "memory for a copy");
-    let receipt = change(volume, alloc, call, copy).map_err(|(error, _)| error);
-    receipt.expect(rt, "memory for a call")
+    let asked = call.clone()?;
+    change(volume, alloc, call, asked).map_err(|(error, _)| error)
 }
 
 /// The receipt of a query.
-fn asked(rt: &impl Abort, alloc: Global, volume: &Volume, query: Query) -> Receipt {
-    let receipt = reply(volume, alloc, query).map_err(|(error, _)| error);
-    receipt.expect(rt, "memory for a query")
+fn asked(alloc: Global, volume: &Volume, query: Query) -> Result<Receipt, AllocError> {
+    reply(volume, alloc, query).map_err(|(error, _)| error)
 }
 
 /// Whether a receipt agrees is answered so.
@@ -68,12 +71,12 @@ fn each_kind(
     volume: &mut Volume,
 ) -> Result<Vec<Receipt>, AllocError> {
     let mut receipts = Vec::new(alloc);
-    receipts.push(created(rt, alloc, volume, b"/a"))?;
-    receipts.push(created(rt, alloc, volume, b"/a"))?;
-    receipts.push(asked(rt, alloc, volume, stat(rt, alloc, b"/b")))?;
-    receipts.push(asked(rt, alloc, volume, read(rt, alloc, b"/a")))?;
-    receipts.push(asked(rt, alloc, volume, stat(rt, alloc, b"/a")))?;
-    receipts.push(asked(rt, alloc, volume, list(rt, alloc, b"/")))?;
+    receipts.push(created(rt, alloc, volume, b"/a")?)?;
+    receipts.push(created(rt, alloc, volume, b"/a")?)?;
+    receipts.push(asked(alloc, volume, stat(rt, alloc, b"/b"))?)?;
+    receipts.push(asked(alloc, volume, read(rt, alloc, b"/a"))?)?;
+    receipts.push(asked(alloc, volume, stat(rt, alloc, b"/a"))?)?;
+    receipts.push(asked(alloc, volume, list(rt, alloc, b"/"))?)?;
     Ok(receipts)
 }
 
@@ -88,7 +91,7 @@ fn each_kind_agrees(rt: HostRuntime) -> Result<(), Fail> {
     check_told(&rt, receipts.get(2), 1, Outcome::Refused(Refusal::NoEntry));
     let nothing = Reply::Bytes(Bytes::from_vec(Vec::new(alloc)));
     check_told(&rt, receipts.get(3), 1, Outcome::Answered(nothing));
-    receipts.push(created(&rt, alloc, &mut volume, b"/b"))?;
+    receipts.push(created(&rt, alloc, &mut volume, b"/b")?)?;
     check_told(&rt, receipts.get(6), 1, Outcome::Accepted(Done::Made(15)));
     for receipt in &receipts {
         check(&rt, alloc, &volume, receipt, Ok(true));
@@ -97,18 +100,18 @@ fn each_kind_agrees(rt: HostRuntime) -> Result<(), Fail> {
 }
 
 /// A volume that made `/a` as number 16, and then `/b` as number 15.
-fn with_two(rt: &impl Abort, alloc: Global) -> Volume {
+fn with_two(rt: &impl Abort, alloc: Global) -> Result<Volume, AllocError> {
     let mut volume = seventh(rt, alloc);
-    let _ = created(rt, alloc, &mut volume, b"/a");
-    let _ = created(rt, alloc, &mut volume, b"/b");
-    volume
+    let _ = created(rt, alloc, &mut volume, b"/a")?;
+    let _ = created(rt, alloc, &mut volume, b"/b")?;
+    Ok(volume)
 }
 
 /// Refusals that no volume gave: each holds of the tree which the records before its number make, and of no other.
 #[test]
 fn refusals_hold_at_their_numbers(rt: HostRuntime) -> Result<(), Fail> {
     let alloc = rt.alloc();
-    let volume = with_two(&rt, alloc);
+    let volume = with_two(&rt, alloc)?;
     for (at, missing, exists) in [
         (0, true, false),
         (1, true, true),
@@ -130,7 +133,7 @@ fn refusals_hold_at_their_numbers(rt: HostRuntime) -> Result<(), Fail> {
 #[test]
 fn accepted_calls_are_their_records(rt: HostRuntime) -> Result<(), Fail> {
     let alloc = rt.alloc();
-    let volume = with_two(&rt, alloc);
+    let volume = with_two(&rt, alloc)?;
     for (at, path, done, wanted) in [
         (0, b"/a", Done::Made(16), true),
         (1, b"/b", Done::Made(15), true),
@@ -193,8 +196,8 @@ fn each_volume_confirms_its_own(rt: HostRuntime) -> Result<(), Fail> {
     let alloc = rt.alloc();
     let mut one = seventh(&rt, alloc);
     let mut other = seventh(&rt, alloc);
-    let own = created(&rt, alloc, &mut one, b"/a");
-    let foreign = created(&rt, alloc, &mut other, b"/b");
+    let own = created(&rt, alloc, &mut one, b"/a")?;
+    let foreign = created(&rt, alloc, &mut other, b"/b")?;
     check(&rt, alloc, &one, &own, Ok(true));
     check(&rt, alloc, &one, &foreign, Ok(false));
     check(&rt, alloc, &other, &own, Ok(false));
@@ -210,12 +213,12 @@ fn around_a_cut(
     volume: &mut Volume,
 ) -> Result<Vec<Receipt>, AllocError> {
     let mut receipts = Vec::new(alloc);
-    receipts.push(asked(rt, alloc, volume, stat(rt, alloc, b"/a")))?;
-    receipts.push(created(rt, alloc, volume, b"/a"))?;
-    receipts.push(asked(rt, alloc, volume, stat(rt, alloc, b"/a")))?;
+    receipts.push(asked(alloc, volume, stat(rt, alloc, b"/a"))?)?;
+    receipts.push(created(rt, alloc, volume, b"/a")?)?;
+    receipts.push(asked(alloc, volume, stat(rt, alloc, b"/a"))?)?;
     assert!(rt; volume.cut().is_ok());
-    receipts.push(created(rt, alloc, volume, b"/b"))?;
-    receipts.push(asked(rt, alloc, volume, list(rt, alloc, b"/")))?;
+    receipts.push(created(rt, alloc, volume, b"/b")?)?;
+    receipts.push(asked(alloc, volume, list(rt, alloc, b"/"))?)?;
     receipts.reverse();
     Ok(receipts)
 }

@@ -5,7 +5,7 @@ use pdp_words::{Image, IntoWrite};
 use std::alloc::Global;
 use std::io::ErrorKind;
 use std::process::Abort;
-use vol_archive::{Start, StartFault, WriteFault, export, start_of};
+use vol_archive::{StartFault, WriteFault, export, start_of};
 use vol_dir::Refusal;
 use vol_layout::Edition;
 
@@ -39,19 +39,19 @@ static TREE: [Piece; 25] = [
     (4608, b"\x0b\0p23456789abcde"),
 ];
 
-/// An image of some bytes, zeros but for some pieces.
+/// An image, zeros but for some pieces.
 fn image_of(rt: &impl Abort, alloc: Global, len: usize, pieces: &[Piece]) -> Image {
     Image::from_bytes(with_pieces(rt, alloc, len, pieces))
 }
 
-/// Exports a tree to a writer. Returns whether the output failed, and what the writer took.
+/// Exports the tree to a writer. Returns whether the output failed, and what the writer took.
 fn export_to(
     rt: &impl Abort,
     alloc: Global,
     image: &Image,
-    start: &Start,
     writer: ScriptedWriter,
 ) -> (bool, Vec<u8>) {
+    let start = start_of(Edition::V7, image, b"/").expect(rt, "a directory");
     let mut sink = IntoWrite::new(writer);
     let answer = export(alloc, image, &start.geometry, start.inode, &mut sink);
     let failed = matches!(answer, Err(WriteFault::Output));
@@ -63,20 +63,23 @@ fn export_to(
 fn a_writer_that_fails_has_a_front(rt: HostRuntime) {
     let alloc = rt.alloc();
     let image = image_of(&rt, alloc, 5120, &TREE);
-    let start = start_of(Edition::V7, &image, b"/").expect(&rt, "a directory");
-    let writer = ScriptedWriter::new(alloc, 300);
-    let (failed, wanted) = export_to(&rt, alloc, &image, &start, writer);
+    let (failed, wanted) = export_to(&rt, alloc, &image, ScriptedWriter::new(alloc, 300));
     assert!(rt; !failed);
-    // Headers of 10 members, 1, 10 and 1 blocks of their bytes, and the end.
-    assert_eq!(rt; wanted.len(), 512 * (10 + 12 + 2));
+    // Headers of 10 members, 12 blocks of the bytes of 3 files, and the end.
+    assert_eq!(rt; wanted.len(), 12_288);
     for at in 0..40 {
-        let kind = WriteMishap::Error(ErrorKind::BrokenPipe);
-        let writer = ScriptedWriter::new(alloc, 300).failing_at(at, kind);
-        let (failed, taken) = export_to(&rt, alloc, &image, &start, writer);
-        assert!(rt; failed, "write {at}");
-        assert!(rt; taken.len() < wanted.len(), "write {at}");
-        assert!(rt; wanted.starts_with(&taken), "write {at}");
+        check_failing(&rt, alloc, &image, &wanted, at);
     }
+}
+
+/// A write goes wrong: what went out is a front of the archive.
+fn check_failing(rt: &impl Abort, alloc: Global, image: &Image, wanted: &[u8], at: u64) {
+    let kind = WriteMishap::Error(ErrorKind::BrokenPipe);
+    let writer = ScriptedWriter::new(alloc, 300).failing_at(at, kind);
+    let (failed, taken) = export_to(rt, alloc, image, writer);
+    assert!(rt; failed, "write {at}");
+    assert!(rt; taken.len() < wanted.len(), "write {at}");
+    assert!(rt; wanted.starts_with(&taken), "write {at}");
 }
 
 #[test]

@@ -135,6 +135,7 @@ fn headers_are_read(rt: HostRuntime) {
         ..header(TypeFlag::Member(MemberKind::File), 0o644)
     };
     check_read(&rt, alloc, &GNU_LARGE, b"big.sparse", b"", large);
-    assert!(rt; is_zeros(&[0; 512]));
-    assert_eq!(rt; read_header(&[0; 512]), Err(HeaderFault::Magic));
+    let zeros = [0; 512];
+    assert!(rt; is_zeros(&zeros));
+    assert_eq!(rt; read_header(&zeros), Err(HeaderFault::Magic));
 }

@@ -3,9 +3,11 @@
 set -euo pipefail
 export LC_ALL=C
 cd "$(dirname "$0")/.."
+lines=$(awk -f tools/below.awk crates.txt)
+names=$(sed 's/[: ].*//' <<<"$lines")
 {
-    awk -f tools/below.awk crates.txt
-    awk -f tools/below.awk crates.txt | sed 's/[: ].*//' | while read -r name; do
-        find "crates/$name/src" "crates/$name/specs" "crates/$name/proofs" -type f 2>/dev/null | sort | xargs -r sha256sum
-    done
+    echo "$lines"
+    for name in $names; do
+        find "crates/$name" -type f \( -path '*/src/*' -o -path '*/specs/*' -o -path '*/proofs/*' \) ! -path '*/out/*'
+    done | sort | xargs sha256sum
 } | sha256sum | cut -d' ' -f1

@@ -7,6 +7,5 @@ if [ "$(tools/sources.sh)" != "$(cat dist/SOURCES)" ]; then
     exit 0
 fi
 . tools/unpack.sh
-strip -o "$room/built" unixvol
-cmp "$room/built" "$release/unixvol"
+cmp unixvol "$release/unixvol"
 echo 'dist/ has the program that was built'

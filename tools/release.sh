@@ -9,7 +9,7 @@ room=$(mktemp -d)
 trap 'rm -rf "$room"' EXIT
 mkdir "$room/$name"
 cp LICENSE README.md manual/unixvol.1 manual/unixvol.bash manual/_unixvol "$room/$name"
-strip -o "$room/$name/unixvol" unixvol
+cp unixvol "$room/$name/unixvol"
 chmod 755 "$room/$name/unixvol"
 chmod 644 "$room/$name"/[!u]* "$room/$name"/unixvol.*
 rm -rf dist

@@ -38,6 +38,7 @@ done
 cp wanted/old damaged
 printf '\0\0' | dd of=damaged bs=1 seek=518 conv=notrunc status=none
 printf '5 0 0 create /a 644\n5 0 0 write /a 0 616263\n5 0 0 stat /a\n' > script
+printf 'view\n6 0 0 stat /d1\n7 0 0 list /d1\n' > watcher
 
 # What is imported: standard input of each run.
 "$program" export 7 wanted/old /d1 > archive || exit 1
@@ -69,7 +70,7 @@ commands=(
     'old: rm -r 7 image /d6 5'
     'damaged: salvage 7 image'
 )
-for optional in 'old: dcheck 7 image 2' 'old: ncheck 7 image 2' 'old: play 7 image script' 'old_six: migrate six image 9000 200 5'; do
+for optional in 'old: dcheck 7 image 2' 'old: ncheck 7 image 2' 'old: play 7 image script' 'old: play 7 image script watcher' 'old_six: migrate six image 9000 200 5'; do
     read -r _ name _ <<< "$optional"
     if "$program" "$name" --help > /dev/null 2>&1; then
         commands+=("$optional")
@@ -106,8 +107,8 @@ is_front() {
 # is_played: whether a play went to its end, of whose lines some found no memory or weren't confirmed for want of it: it says so on
 # standard output, as many calls were accepted as there are records, and the image is a sound volume
 is_played() {
-    [ ! -s error ] && tail -n 1 output | grep -qE '^confirmed [0-3]$' &&
-        ! grep -qvE '^(1\.[123] (ok [0-9]+|12 NoMemory|2 NoEntry|stat [0-9]+ file 0644 1 0 0 [03])|(records|confirmed) [0-3])$' output &&
+    [ ! -s error ] && tail -n 1 output | grep -qE '^confirmed [0-5]$' &&
+        ! grep -qvE '^(1\.[123] (ok [0-9]+|12 NoMemory|2 NoEntry|stat [0-9]+ file 0644 1 0 0 [03])|2\.[23] (12 NoMemory|stat [0-9]+ dir 0755 2 0 0 48|list 3)|(records|confirmed) [0-5])$' output &&
         [ "$(grep -c ' ok ' output)" = "$(sed -n 's/^records //p' output)" ] && "$program" ls 7 "$place/image" / > /dev/null 2>&1 &&
         [ -z "$(find "$place" -name '.unixvol-*')" ]
 }
@@ -238,7 +239,7 @@ full() {
     fi
     mounted=$folder/full
     place=full
-    cp body script six full
+    cp body script watcher six full
     while [ "$run" -lt "$runs" ]; do
         number=$((run % ${#commands[@]}))
         lay "$number"
@@ -310,7 +311,7 @@ shut() {
     echo "a folder that can not be written: $run runs"
 }
 
-cp body script six work
+cp body script watcher six work
 # Where the stack can't grow the system ends the program by SIGSEGV, and where a file can't by SIGXFSZ, but for one that ignores it.
 limited memory -v 2500 40000 139 true 2> /dev/null
 limited stack -s 256 8192 0 true 2> /dev/null

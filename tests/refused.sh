@@ -12,7 +12,7 @@ export LC_ALL=C
 usage='usage: tests/refused.sh REFUSED_MEMORY [RUN..]'
 program=$(realpath "${1:?$usage}")
 shift
-[ "$#" -gt 0 ] || set -- mkfs volume sessions views checkers salvage migrate play watched
+[ "$#" -gt 0 ] || set -- volume sessions views
 source=$(realpath "$(dirname "$0")/refusing.rs")
 if ! command -v rustc > /dev/null; then
     echo 'refused: rustc is not there, which builds the library that refuses memory' >&2

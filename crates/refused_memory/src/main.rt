@@ -1,15 +1,13 @@
 //! Makes one run over the libraries, of which any one allocation may be refused, and looks at what a refusal leaves.
 //!
-//! refused_memory mkfs|volume|sessions|views|checkers|salvage|migrate|play|watched
+//! refused_memory volume|sessions|views
 //!
 //! Does the run's steps one after another. A step that finds no memory is to leave all as before, which is compared, and is
 //! done once more. Prints how many promises were broken; so its output is the same whichever allocation is refused. The status
 //! is 1 where the words can't be read or the number can't be printed. `tests/refused.sh` refuses each allocation in turn.
 #![tactic(auto)]
 
-mod checkers;
 mod found;
-mod plays;
 mod sessions;
 mod steps;
 mod views;
@@ -32,15 +30,9 @@ fn run<R: Threads + Wait + Sync>(
     found: &mut Found,
 ) -> Option<()> {
     match name {
-        "mkfs" => volumes::make(alloc, found),
         "volume" => volumes::change(alloc, found),
         "sessions" => sessions::share(rt, alloc, found),
         "views" => views::watch(rt, alloc, found),
-        "checkers" => checkers::check_all(alloc, found),
-        "salvage" => volumes::mend(alloc, found),
-        "migrate" => volumes::migrate_sixth(alloc, found),
-        "play" => plays::play_script(rt, alloc, found),
-        "watched" => plays::play_watched(rt, alloc, found),
         _ => None,
     }
 }

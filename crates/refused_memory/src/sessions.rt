@@ -11,12 +11,25 @@ use vol_dir::Refusal;
 use vol_shared::{Closed, ConfirmFault, Outcome, Receipt, Session, Shared};
 use vol_volume::{Call, Done, Query, Reply, Volume};
 
-/// What a session asks.
-#[derive(Drop)]
+/// What a session asks: it makes the file `path`, and then queries the first session's file.
+#[derive(Clone, Copy)]
 pub struct Turn {
-    pub call: Call,
-    pub query: Query,
+    pub path: &'static [u8],
+    /// Whether the query reads the file. Else it is a Stat.
+    pub reads: bool,
 }
+
+/// What the first session asks.
+pub const FIRST: Turn = Turn {
+    path: b"/a",
+    reads: true,
+};
+
+/// What the second session asks.
+pub const SECOND: Turn = Turn {
+    path: b"/b",
+    reads: false,
+};
 
 /// The bytes of a volume before and after each of the two calls, as it has them by itself.
 pub type Images = [Vec<u8>; 3];
@@ -31,37 +44,24 @@ pub struct Kept {
 /// Opens a volume with two sessions, of which each makes a call and asks a query, ends it, and confirms all receipts.
 pub fn share<R: Wait>(rt: &R, alloc: Global, found: &mut Found) -> Option<()> {
     let images = images(alloc, found)?;
-    let (first, second) = turns(alloc)?;
     let volume = sixth(alloc, found)?;
-    let (closed, kept, others) = played(rt, alloc, found, volume, first, second)?;
+    let (closed, kept, others) = played(rt, alloc, found, volume)?;
     let before = check(found, &kept, 0, Done::Made(32));
     let after = check(found, &others, before, Done::Made(31));
     check_closed(found, &closed, after, &images);
-    confirm_kept(alloc, found, &closed, kept)?;
-    confirm_kept(alloc, found, &closed, others)
-}
-
-/// What two sessions ask: each makes a file, and asks of the first one's.
-pub fn turns(alloc: Global) -> Option<(Turn, Turn)> {
-    let first = Turn {
-        call: create(alloc, b"/a")?,
-        query: read(alloc, b"/a")?,
-    };
-    let second = Turn {
-        call: create(alloc, b"/b")?,
-        query: stat(alloc, b"/a")?,
-    };
-    Some((first, second))
+    confirm_kept(alloc, found, &closed, &kept)?;
+    confirm_kept(alloc, found, &closed, &others)
 }
 
 /// What the calls of both sessions leave of a volume that nobody shares.
 pub fn images(alloc: Global, found: &mut Found) -> Option<Images> {
-    let (first, second) = turns(alloc)?;
     let mut volume = sixth(alloc, found)?;
     let new = copied(alloc, volume.image().as_bytes())?;
-    called(alloc, found, &mut volume, first.call)?;
+    let call = create(alloc, FIRST.path)?;
+    called(alloc, found, &mut volume, call)?;
     let one = copied(alloc, volume.image().as_bytes())?;
-    called(alloc, found, &mut volume, second.call)?;
+    let call = create(alloc, SECOND.path)?;
+    called(alloc, found, &mut volume, call)?;
     Some([new, one, volume.unmount()])
 }
 
@@ -71,13 +71,11 @@ fn played<R: Wait>(
     alloc: Global,
     found: &mut Found,
     volume: Volume,
-    first: Turn,
-    second: Turn,
 ) -> Option<(Closed, Kept, Kept)> {
     let room = room(alloc, 2)?;
     let (shared, mut one, mut other) = open_two(alloc, found, volume)?;
-    let kept = take(rt, alloc, found, &shared, &mut one, first);
-    let others = take(rt, alloc, found, &shared, &mut other, second);
+    let kept = take(rt, alloc, found, &shared, &mut one, FIRST);
+    let others = take(rt, alloc, found, &shared, &mut other, SECOND);
     Some((close_two(shared, room, one, other), kept, others))
 }
 
@@ -93,11 +91,20 @@ pub fn take<R: Wait>(
     requires { session.old.of ≡ shared.now.of }
     ensures { session.new.of ≡ session.old.of }
 {
-    let Turn { call: made, query } = turn;
-    Kept {
-        called: call(rt, alloc, found, shared, session, made),
-        asked: ask(rt, alloc, found, shared, session, query),
-    }
+    let called = match create(alloc, turn.path) {
+        Some(made) => call(rt, alloc, found, shared, session, made),
+        None => None,
+    };
+    let query = if turn.reads {
+        read(alloc, FIRST.path)
+    } else {
+        stat(alloc, FIRST.path)
+    };
+    let asked = match query {
+        Some(query) => ask(rt, alloc, found, shared, session, query),
+        None => None,
+    };
+    Kept { called, asked }
 }
 
 /// The receipts of a session have the numbers and the outcomes that they have after so many records: its call made a file by the
@@ -138,10 +145,9 @@ pub fn check_closed(found: &mut Found, closed: &Closed, records: u64, images: &I
 }
 
 /// Confirms the receipts of a session. None where one isn't there.
-pub fn confirm_kept(alloc: Global, found: &mut Found, closed: &Closed, kept: Kept) -> Option<()> {
-    let Kept { called, asked } = kept;
-    confirm(alloc, found, closed, called)?;
-    confirm(alloc, found, closed, asked)
+pub fn confirm_kept(alloc: Global, found: &mut Found, closed: &Closed, kept: &Kept) -> Option<()> {
+    confirm(alloc, found, closed, kept.called.as_ref()?)?;
+    confirm(alloc, found, closed, kept.asked.as_ref()?)
 }
 
 /// Opens a volume with two sessions. Where there is no memory the same volume comes back.
@@ -249,19 +255,13 @@ fn close_two(shared: Shared, mut room: Vec<Session>, first: Session, second: Ses
     shared.close(room)
 }
 
-/// Confirms a receipt, if it is there.
-pub fn confirm(
-    alloc: Global,
-    found: &mut Found,
-    closed: &Closed,
-    receipt: Option<Receipt>,
-) -> Option<()> {
-    let receipt = receipt?;
-    let confirmed = match closed.confirm(alloc, &receipt) {
+/// Confirms a receipt.
+pub fn confirm(alloc: Global, found: &mut Found, closed: &Closed, receipt: &Receipt) -> Option<()> {
+    let confirmed = match closed.confirm(alloc, receipt) {
         Ok(confirmed) => confirmed,
         Err(fault) => {
             found.wants(matches!(fault, ConfirmFault::NoMemory));
-            closed.confirm(alloc, &receipt).ok()?
+            closed.confirm(alloc, receipt).ok()?
         }
     };
     found.wants(confirmed);

@@ -3,22 +3,13 @@ ghost use Rattle.std.specs.Prelude.{◌≡◌, ◌≤◌, Some, IfOk, IfSome, ve
 
 use crate::found::Found;
 use crate::sessions::{
-    Kept, Turn, check, check_closed, confirm, confirm_kept, images, is_answered, take, turns, two,
+    FIRST, Kept, SECOND, check, check_closed, confirm, confirm_kept, images, is_answered, take, two,
 };
 use crate::steps::{copied, list, room, sixth, stat};
 use std::alloc::Global;
 use std::sync::Wait;
 use vol_shared::{Closed, OpenFault, Outcome, Receipt, Session, Shared, View, ViewFault};
 use vol_volume::{Done, Query, Reply, Volume};
-
-/// What is asked: by each session, and by the view, of the first session's file and for the names.
-#[derive(Drop)]
-struct Plan {
-    first: Turn,
-    second: Turn,
-    status: Query,
-    names: Query,
-}
 
 /// What came of it, where there was the memory.
 #[derive(Drop)]
@@ -54,25 +45,13 @@ struct Rooms {
 /// query after it. Ends the volume, and confirms all receipts.
 pub fn watch<R: Wait>(rt: &R, alloc: Global, found: &mut Found) -> Option<()> {
     let images = images(alloc, found)?;
-    let plan = make_plan(alloc)?;
     let volume = sixth(alloc, found)?;
-    let (closed, answers) = played(rt, alloc, found, volume, plan)?;
+    let (closed, answers) = played(rt, alloc, found, volume)?;
     let before = check(found, &answers.first, 0, Done::Made(32));
     let after = check(found, &answers.second, before, Done::Made(31));
     check_closed(found, &closed, after, &images);
     check_seen(found, &answers, before, after);
-    confirm_all(alloc, found, &closed, answers)
-}
-
-/// What is asked.
-fn make_plan(alloc: Global) -> Option<Plan> {
-    let (first, second) = turns(alloc)?;
-    Some(Plan {
-        first,
-        second,
-        status: stat(alloc, b"/a")?,
-        names: list(alloc, b"/")?,
-    })
+    confirm_all(alloc, found, &closed, &answers)
 }
 
 /// Opens a volume, asks what is to be asked, and ends it.
@@ -81,7 +60,6 @@ fn played<R: Wait>(
     alloc: Global,
     found: &mut Found,
     volume: Volume,
-    plan: Plan,
 ) -> Option<(Closed, Answers)> {
     let rooms = Rooms {
         sessions: room(alloc, 2)?,
@@ -93,12 +71,12 @@ fn played<R: Wait>(
         mut second,
         mut view,
     } = open_all(rt, alloc, found, volume)?;
-    let firsts = take(rt, alloc, found, &shared, &mut first, plan.first);
+    let firsts = take(rt, alloc, found, &shared, &mut first, FIRST);
     view.learn(&mut first);
-    let status = look(alloc, found, &mut view, plan.status);
-    let seconds = take(rt, alloc, found, &shared, &mut second, plan.second);
+    let status = look(alloc, found, &mut view, stat(alloc, FIRST.path));
+    let seconds = take(rt, alloc, found, &shared, &mut second, SECOND);
     view.learn(&mut second);
-    let names = look(alloc, found, &mut view, plan.names);
+    let names = look(alloc, found, &mut view, list(alloc, b"/"));
     let watched = Watched {
         shared,
         first,
@@ -141,10 +119,11 @@ fn opened<R: Wait>(rt: &R, alloc: Global, volume: Volume) -> Result<Watched, (Op
     })
 }
 
-/// Asks a query by a view. Where there is no memory the query comes back. Only one that wants memory may find none.
-fn look(alloc: Global, found: &mut Found, view: &mut View, query: Query) -> Option<Receipt>
+/// Asks a query by a view, if there is one. Where there is no memory the query comes back. Only one that wants memory may find none.
+fn look(alloc: Global, found: &mut Found, view: &mut View, query: Option<Query>) -> Option<Receipt>
     ensures { view.new.book ≡ view.old.book }
 {
+    let query = query?;
     match view.ask(alloc, query) {
         Ok(receipt) => Some(receipt),
         Err((fault, same)) => {
@@ -199,9 +178,9 @@ fn is_listed(outcome: &Outcome, records: u64) -> bool {
 }
 
 /// Confirms all receipts. None where one isn't there.
-fn confirm_all(alloc: Global, found: &mut Found, closed: &Closed, answers: Answers) -> Option<()> {
-    confirm_kept(alloc, found, closed, answers.first)?;
-    confirm(alloc, found, closed, answers.status)?;
-    confirm_kept(alloc, found, closed, answers.second)?;
-    confirm(alloc, found, closed, answers.names)
+fn confirm_all(alloc: Global, found: &mut Found, closed: &Closed, answers: &Answers) -> Option<()> {
+    confirm_kept(alloc, found, closed, &answers.first)?;
+    confirm(alloc, found, closed, answers.status.as_ref()?)?;
+    confirm_kept(alloc, found, closed, &answers.second)?;
+    confirm(alloc, found, closed, answers.names.as_ref()?)
 }

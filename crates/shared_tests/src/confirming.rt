@@ -1,4 +1,6 @@
 //! Receipts that agree with the journal, that don't, and that speak of what was cut.
+ghost use Rattle.std.specs.Prelude.{◌≡◌, IfOk};
+
 use crate::fixtures::{create, list, new_volume, read, stat};
 use std::alloc::{AllocError, Global};
 use std::process::Abort;
@@ -9,7 +11,7 @@ use vol_receipts::{
     Asked, ConfirmFault, Confirmed, Finding, Outcome, Receipt, change, confirm, confirm_all,
     find_all, reply,
 };
-use vol_volume::{Bytes, Done, Listing, Query, Reply, Volume};
+use vol_volume::{Bytes, Call, Done, Listing, Query, Reply, Volume};
 
 /// A new volume of the seventh edition.
 fn seventh(rt: &impl Abort, alloc: Global) -> Volume {
@@ -24,8 +26,15 @@ fn created(
     path: &[u8],
 ) -> Result<Receipt, AllocError> {
     let call = create(rt, alloc, path);
-    let asked = call.clone()?;
+    let asked = copy_of(&call)?;
     change(volume, alloc, call, asked).map_err(|(error, _)| error)
+}
+
+/// A copy of a call.
+fn copy_of(call: &Call) -> Result<Call, AllocError>
+    ensures { IfOk result (λ copy. copy ≡ call.now) }
+{
+    call.clone()
 }
 
 /// The receipt of a query.

@@ -1,4 +1,4 @@
-# What can be done with this repository. It needs the Rattle toolchain (its command `rt`); `make bench` also needs rustc.
+# What can be done with this repository. All but `make run` and `make install` need the Rattle toolchain (its command `rt`); `make bench` and `make faults` also need rustc.
 
 RT ?= rt
 PREFIX ?= /usr/local
@@ -33,8 +33,9 @@ run:
 test:
 	$(RT) ci
 	cp -f crates/unixvol/out/unixvol unixvol
+	RT=$(RT) tools/sources.sh > crates/unixvol/out/sources
 	@set -e; for rows in $(ROWS); do echo "tests/$$rows.sh ./unixvol"; tests/$$rows.sh ./unixvol; done
-	tools/compare.sh
+	RT=$(RT) tools/compare.sh
 
 bench: build
 	cd crates/many_calls && $(RT) run -- 0 0 create
@@ -58,7 +59,7 @@ manual: build
 
 # A release is made of what the gate has passed.
 release:
-	tools/release.sh
+	RT=$(RT) tools/release.sh
 
 install:
 	tools/install.sh "$(DESTDIR)$(PREFIX)"

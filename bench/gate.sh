@@ -8,7 +8,7 @@
 # program, by both compilers). What rt itself takes, links and runs is the row `rt`. Times are read every half second: of a process that ends between two readings the rest is missing.
 set -euo pipefail
 cd "$(dirname "$0")/.."
-(($#)) || set -- rt ci --anew
+(($#)) || set -- "${RT:-rt}" ci --anew
 
 declare -A cost=() first=() last=() name=() kind=()
 ticks=$(getconf CLK_TCK)
@@ -47,7 +47,7 @@ read_words() {
 
 # Adds up what runs now: a process of the prover that another one started counts for that one.
 read_all() {
-    local path pid comm key crate part parent session used start
+    local path pid comm key crate part parent session used start up
     local -A of=() spent=()
     for path in /proc/[0-9]*; do
         pid=${path#/proc/}
@@ -62,10 +62,10 @@ read_all() {
         last[$key]=$EPOCHREALTIME cost[$key]=$used
     done
     for pid in "${!of[@]}"; do
-        parent=${of[$pid]}
-        [[ ${of[$parent]:-} ]] || continue
-        read_stat "$parent" || continue
-        cost[$parent:$start]=$((${cost[$parent:$start]:-0} + ${spent[$pid]}))
+        up=${of[$pid]}
+        [[ ${of[$up]:-} ]] || continue
+        read_stat "$up" || continue
+        cost[$up:$start]=$((${cost[$up:$start]:-0} + ${spent[$pid]}))
         read_stat "$pid" && unset "cost[$pid:$start]" "first[$pid:$start]"
     done
 }

@@ -102,7 +102,7 @@ shown() {
 # is_as_before IMAGE: what is shown of it is what was shown before the tree was there
 is_as_before() {
     shown "$1" > now
-    cmp -s now before
+    cmp -s now before && [ "$(grep -c ': holds$' before)" = 12 ]
     has "what $1 has once all was removed" 0 $?
 }
 

@@ -43,6 +43,7 @@ make() {
 # and its other lines are in `lines`
 each() {
     local given=() line
+    has "rows in $1" yes "$(grep -q '^image ' "$rows/$1" && echo yes)"
     while IFS= read -r line; do
         case $line in
             'image '*) read -r -a given <<< "${line#image }" && : > lines ;;

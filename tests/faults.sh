@@ -58,6 +58,7 @@ commands=(
     'old: ln 7 image /d1/file /d2/other 5'
     'old: chmod 7 image /d1/file 600 5'
     'old: mkfs 7 image 6000 50 0 0 5'
+    'old: mkfs 6 image 6000 50 0 0 5'
     'old: ls -l -R 7 image'
     'old: export 7 image'
     'old: inode 7 image 2'
@@ -271,11 +272,20 @@ refused() {
         while [ "$allocation" = 0 ] || [ -s met ]; do
             allocation=$((allocation + 1))
             lay "$number"
-            (cd work && exec env REFUSED="$allocation" LD_PRELOAD="$folder/refusing.so" "$program" "${words[@]}") > output 2> error < archive 9> met
+            (cd work && exec timeout 20 env REFUSED="$allocation" LD_PRELOAD="$folder/refusing.so" "$program" "${words[@]}") > output 2> error < archive 9> met
             status=$?
             judge "refused allocation $allocation" "$number" "$status" 0 1
             run=$((run + 1))
+            # A refusal is told as one, if it is told.
+            if [ -s met ] && [ "$status" != 0 ] && { [ "$status" != 4 ] || [ -s error ] && [ "$(cat error)" != 'unixvol: 12 NoMemory' ]; }; then
+                failed=$((failed + 1))
+                echo "failed: refused allocation $allocation: ${words[*]}: status $status: $(head -c 200 error)"
+            fi
         done
+        if [ "$allocation" = 1 ]; then
+            failed=$((failed + 1))
+            echo "failed: ${words[*]}: nothing is refused of this program"
+        fi
     done
     echo "refused memory: $run runs"
 }

@@ -46,6 +46,7 @@ while IFS=$'\t' read -r status wanted text; do
         plays "$status" "$wanted" 6 script
     fi
 done < "$data/lines"
+has 'the rows in lines' 52 "$(grep -c . "$data/lines")"
 
 # The fault of the first script that has one is reported, even if the image is at fault too.
 printf '%s\n' '5 0 0 cut' > good
@@ -158,6 +159,8 @@ printf '%s\n' '1.1 ok 32' '3.1 17 Exists' 'records 1' 'confirmed 2' > lines
 printf '%s\n' '1.1 17 Exists' '3.1 ok 32' 'records 1' 'confirmed 2' > others
 cmp -s output lines || cp others lines
 wants 'scripts in their order' 1 lines none
+"$program" check 6 played > /dev/null
+has 'the volume after scripts in their order' 0 $?
 
 # Two sessions, each of which reads its own file.
 printf '%s\n' '9 0 0 create /mine 644' '9 0 0 write /mine 0 2f6d696e65' '9 0 0 read /mine 0 512' > mine

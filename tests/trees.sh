@@ -234,7 +234,7 @@ printf 'x' > letter
 "$program" put 7 odd.img "/$(printf 'a\033b')" letter 5
 "$program" ls 7 odd.img / | grep -q "$(printf 'a\033b')"
 has 'a control byte in a pipe' 0 $?
-script -qec "$program ls 7 odd.img /" /dev/null < /dev/null > typescript 2>&1
+script -qec "'$program' ls 7 odd.img /" /dev/null < /dev/null > typescript 2>&1
 grep -qF 'a\033b' typescript
 has 'a control byte on a terminal' 0 $?
 

@@ -104,13 +104,20 @@ play_steps() {
     done
 }
 
-# play_again: plays all steps since the last row `volume` or `put` in one run
+# play_again: plays all steps since the last row `volume` or `put` once more: in one run, or, where they were played in one, each in a run of its own
 play_again() {
+    local step
     play_steps
     if [ "$runs" -gt 1 ]; then
         wanted=("${all_answers[@]}")
         plays "$place: all in one run" base "${all_steps[@]}"
         saves "$place: all in one run" base disk
+    elif [ "$runs" = 1 ]; then
+        for step in "${!all_steps[@]}"; do
+            wanted=("${all_answers[step]}")
+            plays "$place: each in a run of its own" base "${all_steps[step]}"
+        done
+        saves "$place: each in a run of its own" base disk
     fi
     all_steps=()
     all_answers=()
@@ -194,8 +201,11 @@ play_rows() {
     play_again
 }
 
+compare 'the files of rows' 9 "$(ls "$rows"/*.rows | wc -l)"
 for file in "$rows"/*.rows; do
+    before=$passed
     play_rows "$file"
+    [ "$passed" -gt $((before + 10)) ] || compare "rows in $file" some none
 done
 
 # new FILE EDITION BLOCKS LIST: a new volume of user 0 and group 0

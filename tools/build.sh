@@ -4,6 +4,7 @@
 # the crates of tests and the wrong bodies. What it proves is kept on the machine, and the gate doesn't prove it again.
 set -euo pipefail
 cd "$(dirname "$0")/.."
+sources=$(tools/sources.sh)
 room=$(mktemp -d)
 trap 'rm -rf "$room"' EXIT
 awk -f tools/below.awk crates.txt >"$room/crates.txt"
@@ -12,3 +13,5 @@ tar -cf - --exclude='crates/*/out' --exclude='crates/*/must-fail' -T "$room/fold
 git init -q "$room"
 (cd "$room" && "${RT:-rt}" ci)
 cp -f "$room/crates/unixvol/out/unixvol" unixvol
+mkdir -p crates/unixvol/out
+echo "$sources" >crates/unixvol/out/sources

@@ -1,8 +1,9 @@
 #!/usr/bin/env bash
-# Compares the built program, ./unixvol, with the one in dist/, byte for byte, where dist/ was built from the same sources. It says which.
+# Compares the built program, ./unixvol, with the one in dist/, byte for byte, if dist/ was built from the same sources by the same toolchain. It says which.
 set -euo pipefail
 cd "$(dirname "$0")/.."
-if [ "$(tools/sources.sh)" != "$(cat dist/SOURCES)" ]; then
+sources=$(tools/sources.sh)
+if [ "$sources" != "$(cat dist/SOURCES)" ]; then
     echo 'dist/ is of older sources'
     exit 0
 fi

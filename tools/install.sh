@@ -2,7 +2,7 @@
 # Installs the program, its manual page and its completions: ./unixvol where it was built, else the release in dist/. It says which.
 # Usage: tools/install.sh FOLDER
 set -euo pipefail
-folder=${1:?usage: $0 FOLDER}
+folder=$(realpath -m "${1:?usage: $0 FOLDER}")
 cd "$(dirname "$0")/.."
 if [ -x unixvol ]; then
     program=unixvol manual=manual

@@ -1,5 +1,5 @@
 #!/usr/bin/env bash
-# Packs the built program, ./unixvol, with its manual page, completions, licence and README, as dist/unixvol-VERSION-x86_64-linux.tar.xz. Beside it are SHA256SUMS
+# Packs the built program, ./unixvol, which `make build` or `make test` has built of these sources, with its manual page, completions, licence and README, as dist/unixvol-VERSION-x86_64-linux.tar.xz. Beside it are SHA256SUMS
 # and SOURCES, the sum of the sources (tools/sources.sh). The same files give the same archive, byte for byte.
 set -euo pipefail
 cd "$(dirname "$0")/.."
@@ -12,9 +12,11 @@ cp LICENSE README.md manual/unixvol.1 manual/unixvol.bash manual/_unixvol "$room
 cp unixvol "$room/$name/unixvol"
 chmod 755 "$room/$name/unixvol"
 chmod 644 "$room/$name"/[!u]* "$room/$name"/unixvol.*
+mkdir "$room/dist"
+tar -C "$room" --sort=name --owner=0 --group=0 --numeric-owner --mtime=@0 --mode=go-w -cf - "$name" | xz -9e -T1 >"$room/dist/$name.tar.xz"
+(cd "$room/dist" && sha256sum "$name.tar.xz" >SHA256SUMS)
+tools/sources.sh >"$room/dist/SOURCES"
+cmp "$room/dist/SOURCES" crates/unixvol/out/sources
 rm -rf dist
-mkdir dist
-tar -C "$room" --sort=name --owner=0 --group=0 --numeric-owner --mtime=@0 --mode=go-w -cf - "$name" | xz -9e -T1 >"dist/$name.tar.xz"
-(cd dist && sha256sum "$name.tar.xz" >SHA256SUMS)
-tools/sources.sh >dist/SOURCES
+cp -r "$room/dist" dist
 echo "dist/$name.tar.xz: $(wc -c <"dist/$name.tar.xz") bytes"

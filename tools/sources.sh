@@ -1,11 +1,13 @@
 #!/usr/bin/env bash
-# Prints the SHA-256 sum of the sources that the program is built from: the crates that it stands on, and their lines of crates.txt.
+# Prints the SHA-256 sum of the sources that the program is built from: the crates that it stands on, their lines of crates.txt, HANDLES, and the name of the toolchain.
 set -euo pipefail
 export LC_ALL=C
 cd "$(dirname "$0")/.."
 lines=$(awk -f tools/below.awk crates.txt)
 names=$(sed 's/[: ].*//' <<<"$lines")
 {
+    "${RT:-rt}" version
+    cat HANDLES
     echo "$lines"
     for name in $names; do
         find "crates/$name" -type f \( -path '*/src/*' -o -path '*/specs/*' -o -path '*/proofs/*' \) ! -path '*/out/*'

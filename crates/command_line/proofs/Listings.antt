@@ -133,7 +133,6 @@ asks_listing : (clock : Option ℕ) (given : Words) (edition : Edition) (image p
 asks_listing clock given edition image path (Cat volume ino) test e_is i_is p_is none is = absurd (true≢false (sym test))
 asks_listing clock given edition image path (Mkfs i volume) test e_is i_is p_is none is = absurd (true≢false (sym test))
 asks_listing clock given edition image path (Migrate old new migration) test e_is i_is p_is none is = absurd (true≢false (sym test))
-asks_listing clock given edition image path (OnVolume volume (jobs.Ls directory)) test e_is i_is p_is none is = absurd is.1
 asks_listing clock given edition image path (OnVolume volume (jobs.Get p)) test e_is i_is p_is none is = absurd (true≢false (sym test))
 asks_listing clock given edition image path (OnVolume volume (jobs.Put p file now)) test e_is i_is p_is none is = absurd (true≢false (sym test))
 asks_listing clock given edition image path (OnVolume volume (jobs.Rm p now)) test e_is i_is p_is none is = absurd (true≢false (sym test))
@@ -197,7 +196,6 @@ listing_asks clock None edition image path invocation is listed = absurd (cc)
 listing_asks clock (Some met) edition image path (Cat volume ino) is listed = absurd listed
 listing_asks clock (Some met) edition image path (Mkfs i volume) is listed = absurd listed
 listing_asks clock (Some met) edition image path (Migrate old new migration) is listed = absurd listed
-listing_asks clock (Some met) edition image path (OnVolume volume (jobs.Ls directory)) is listed = absurd listed
 listing_asks clock (Some met) edition image path (OnVolume volume (jobs.Get p)) is listed = absurd listed
 listing_asks clock (Some met) edition image path (OnVolume volume (jobs.Put p file now)) is listed = absurd listed
 listing_asks clock (Some met) edition image path (OnVolume volume (jobs.Rm p now)) is listed = absurd listed

@@ -42,7 +42,6 @@ values_given clock given (Mkfs image volume) is = (
   (tt, (is.1.1.0, (is.1.2.0, (is.1.3.0, (is.1.4.0, ((volume.now, is.1.5), tt)))))),
 )
 values_given clock given (Migrate old new migration) is = (tt, (tt, (is.2.0.0, (is.2.1.0, ((migration.now, is.2.2), tt)))))
-values_given clock given (OnVolume volume (jobs.Ls path)) is = absurd is.1
 values_given clock given (OnVolume volume (jobs.Get path)) is = (edition_value volume.edition _ is.0.0, (tt, (tt, (tt, (tt, tt)))))
 values_given clock given (OnVolume volume (jobs.Put path file now)) is = (edition_value volume.edition _ is.0.0, (tt, (tt, (tt, (tt, (tt, (tt, tt)))))))
 values_given clock given (OnVolume volume (jobs.Rm path now)) is = (edition_value volume.edition _ is.0.0, (tt, (tt, ((now, is.1.1), (tt, tt)))))

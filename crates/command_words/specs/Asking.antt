@@ -114,7 +114,6 @@ work_verb (works.Play scripts) = verbs.Play
 
 -- the command of a job (this project)
 abbrev pub job_verb : Job → Verb
-job_verb (jobs.Ls path) = verbs.Ls
 job_verb (jobs.Get path) = verbs.Get
 job_verb (jobs.Put path file now) = verbs.Put
 job_verb (jobs.Rm path now) = verbs.Rm
@@ -179,7 +178,6 @@ IsMigrationGiven clock given migration = IsNumberGiven 4294967295 (the_word give
 
 -- the words describe this job; none describe a listing, which is a look (this project)
 abbrev pub IsJobGiven : Option ℕ → Words → Job → Type 0
-IsJobGiven clock given (jobs.Ls path) = ⊥
 IsJobGiven clock given (jobs.Get path) =
     (path.now ≡ the_word given (codes "PATH")) × IsLeftOut given (codes "MORE") × IsLeftOut given (codes "output")
 IsJobGiven clock given (jobs.Put path file now) = (path.now ≡ the_word given (codes "PATH")) × IsFirstWord given (codes "FILE") file.now

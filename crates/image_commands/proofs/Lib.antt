@@ -6,6 +6,7 @@ pub mod Exported
 pub mod InOrder
 pub mod ListingValues
 pub mod Mapped
+pub mod NamesListed
 pub mod NodesRead
 pub mod Printed
 pub mod Shown

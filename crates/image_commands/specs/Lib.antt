@@ -1,8 +1,10 @@
 pub mod Checking
 pub mod Dates
+pub mod Digits
 pub mod Exporting
 pub mod Faults
 pub mod Json
+pub mod Laws
 pub mod Lines
 pub mod Listing
 pub mod ListingJson

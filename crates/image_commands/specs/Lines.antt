@@ -1,11 +1,11 @@
 -- The lines of a listing.
-use Rattle.std.specs.Prelude.{ℕ, Bool, if◌then◌else◌, List, ◌∷◌, ◌++◌, codes}
+use Rattle.std.specs.Prelude.{ℕ, Bool, if◌then◌else◌, List, [], ◌∷◌, ◌++◌, codes}
 use Rattle.std.specs.List.{flat_map}
 use Rattle.vol_dir.specs.Tree.{Tree}
 use Rattle.vol_dir.specs.Walk.{is_directory}
 use Rattle.escaped_text.specs.Escaping.{escaped}
 use Rattle.vol_change.specs.Nodes.{node_at}
-use Rattle.vol_commands.specs.Showing.{entry_line}
+use Rattle.image_commands.specs.Digits.{padded_number}
 use Rattle.image_commands.specs.LongLines.{long_line}
 use Rattle.image_commands.specs.Places.{names_under}
 use Rattle.image_commands.specs.Rows.{row_of}
@@ -18,6 +18,10 @@ use Rattle.image_commands.specs.declared.places.Place.{Place}
 abbrev pub shown : Screen → List ℕ → List ℕ
 shown (screens.Terminal columns) name = escaped name
 shown screens.Stream name = name
+
+-- the line of a name and its i-number (ls -i)
+abbrev pub entry_line : List ℕ × ℕ → List ℕ
+entry_line entry = padded_number entry.1 ++ (32 ∷ entry.0) ++ (10 ∷ [])
 
 -- the line of a name and its i-number, long or not (ls -li, ls -i)
 abbrev pub line_of : Style → Tree → List ℕ × ℕ → List ℕ

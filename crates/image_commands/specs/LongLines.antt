@@ -1,7 +1,7 @@
 -- The long lines of a listing.
 use Rattle.std.specs.Prelude.{ℕ, ◌+◌, ◌/◌, ◌%◌, if◌then◌else◌, List, [], ◌∷◌, ◌++◌}
 use Rattle.vol_dir.specs.Access.{has_bit}
-use Rattle.vol_commands.specs.Showing.{digit_at, padded_number}
+use Rattle.image_commands.specs.Digits.{digit_at, padded_number}
 use Rattle.image_commands.specs.Dates.{moment_text}
 use Rattle.image_commands.specs.declared.rows.Row.{Row}
 use Rattle.image_commands.specs.declared.rows.Sort.{Sort}

@@ -7,6 +7,7 @@ mod directories;
 pub mod exporting;
 mod faults;
 mod json;
+pub mod laws;
 mod lines;
 pub mod listing;
 mod listing_json;

@@ -3,7 +3,7 @@ ghost use Rattle.std.specs.Prelude.{◌≡◌, ◌++◌, IfOk, OnOk};
 ghost use Rattle.std.specs.List.{flat_map};
 ghost use Rattle.vol_dir.specs.Tree.{tree};
 ghost use Rattle.vol_layout.specs.Geometry.{Fits};
-ghost use Rattle.vol_commands.specs.Showing.{entry_line};
+ghost use Rattle.image_commands.specs.Lines.{entry_line};
 ghost use Rattle.image_commands.specs.LongLines.{long_line};
 ghost use Rattle.image_commands.specs.Places.{IsVolume};
 ghost use Rattle.image_commands.specs.Lines.{shown, line_of, names_text, section_text, other_text, lines_text};

@@ -1,7 +1,7 @@
 //! The columns of long lines of a listing.
 ghost use Rattle.std.specs.Prelude.{◌≡◌, ◌++◌, ◌<◌, OnOk};
 ghost use Rattle.vol_dir.specs.Access.{has_bit};
-ghost use Rattle.vol_commands.specs.Showing.{digit_at, padded_number};
+ghost use Rattle.image_commands.specs.Digits.{digit_at, padded_number};
 ghost use Rattle.image_commands.specs.LongLines.{letter_of, flag, special_flag, mode_text, short_number, wide_number, device_text, size_text, column as spaced, owner_columns, long_columns};
 
 use crate::dates::push_moment;

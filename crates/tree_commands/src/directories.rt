@@ -1,6 +1,5 @@
 //! The command that makes a directory, and those on the way to it.
 ghost use Rattle.std.specs.Prelude.{◌≡◌, ◌<◌, ◌++◌, ◌∷◌, [], IfOk, IfErr, OnOk, length};
-ghost use Rattle.std.specs.Io.KnownBytes.{Keeps};
 ghost use Rattle.vol_volume.specs.Volume.{reads_as};
 ghost use Rattle.vol_commands.specs.Changing.{Makes, IsReason, ChangesVolume};
 ghost use Rattle.vol_commands.specs.Faults.{Gets};
@@ -24,19 +23,16 @@ const PERMISSIONS: u16 = 0o755;
 /// made, and the same bytes are to be saved. A file in its place is refused as Exists, and one on the way to it as NotDirectory.
 ///
 /// Takes memory for a copy of the path for each of its names, and walks the path up to each.
-pub fn mkdir_all<O: Sink, E: Sink>(
+pub fn mkdir_all<E: Sink>(
     alloc: Global,
     edition: Edition,
     image: Vec<u8>,
     path: &str,
     now: u32,
-    _output: &mut O,
     errors: &mut E,
 ) -> Answer
-    ensures changed { ChangesVolume edition image.items (mkdir_all_calls (reads_as edition image.items).tree now path.now)
+    ensures { ChangesVolume edition image.items (mkdir_all_calls (reads_as edition image.items).tree now path.now)
         (Gets (E.failed errors.new) (E.contents errors.old) (E.contents errors.new)) result }
-    ensures unprinted { Keeps (O.contents _output.old) (O.contents _output.new) }
-    ensures unused { O.failed _output.new ≡ O.failed _output.old }
 {
     conclude(make_directories(alloc, edition, image, path, now), errors)
 }

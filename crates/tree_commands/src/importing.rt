@@ -1,6 +1,5 @@
 //! The command that makes the members of an archive.
 ghost use Rattle.std.specs.Prelude.{◌≡◌, IfErr, IfOk, None, Some, []};
-ghost use Rattle.std.specs.Io.KnownBytes.{Keeps};
 ghost use Rattle.vol_volume.specs.Volume.{reads_as};
 ghost use Rattle.vol_import.specs.Making.{calls_to_make};
 ghost use Rattle.vol_commands.specs.Faults.{Gets};
@@ -23,20 +22,17 @@ use vol_layout::Edition;
 /// the byte of the archive, or the path, whose bytes are escaped that a terminal can't show.
 ///
 /// Takes memory as [`vol_import::import`] does, and for the line.
-pub fn import_archive<O: Sink, E: Sink>(
+pub fn import_archive<E: Sink>(
     alloc: Global,
     edition: Edition,
     image: Vec<u8>,
     archive: &[u8],
     path: &str,
     now: u32,
-    _output: &mut O,
     errors: &mut E,
 ) -> Answer
-    ensures imported { ImportsArchive edition image.items (calls_to_make (reads_as edition image.items).tree archive.now path.now now)
+    ensures { ImportsArchive edition image.items (calls_to_make (reads_as edition image.items).tree archive.now path.now now)
         (Gets (E.failed errors.new) (E.contents errors.old) (E.contents errors.new)) result }
-    ensures unprinted { Keeps (O.contents _output.old) (O.contents _output.new) }
-    ensures unused { O.failed _output.new ≡ O.failed _output.old }
 {
     let outcome = import(alloc, edition, image, archive, path.as_bytes(), now);
     conclude(alloc, outcome, errors)

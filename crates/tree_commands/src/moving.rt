@@ -1,6 +1,5 @@
 //! The command that gives a file another name.
 ghost use Rattle.std.specs.Prelude.{◌≡◌, IfOk, IfErr};
-ghost use Rattle.std.specs.Io.KnownBytes.{Keeps};
 ghost use Rattle.vol_volume.specs.Answer.{answer};
 ghost use Rattle.vol_volume.specs.Volume.{reads_as};
 ghost use Rattle.vol_volume.specs.declared.queries.Query.TheVariants as questions;
@@ -23,20 +22,17 @@ use vol_volume::{Bytes, Call, Volume};
 /// `mv`: gives a file a further name, and takes away the one that it had. Where `to` is a directory, the new name is the last of
 /// `from` in it. A directory isn't moved, which is refused as IsDirectory; and a name that is there, also one of the same file, is
 /// refused as Exists.
-pub fn mv<O: Sink, E: Sink>(
+pub fn mv<E: Sink>(
     alloc: Global,
     edition: Edition,
     image: Vec<u8>,
     from: &str,
     to: &str,
     now: u32,
-    _output: &mut O,
     errors: &mut E,
 ) -> Answer
-    ensures changed { ChangesVolume edition image.items (move_calls (reads_as edition image.items).tree now from.now to.now)
+    ensures { ChangesVolume edition image.items (move_calls (reads_as edition image.items).tree now from.now to.now)
         (Gets (E.failed errors.new) (E.contents errors.old) (E.contents errors.new)) result }
-    ensures unprinted { Keeps (O.contents _output.old) (O.contents _output.new) }
-    ensures unused { O.failed _output.new ≡ O.failed _output.old }
 {
     conclude(move_file(alloc, edition, image, from, to, now), errors)
 }

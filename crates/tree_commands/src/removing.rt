@@ -1,6 +1,5 @@
 //! The command that takes away what a path leads to, with all that is below it.
 ghost use Rattle.std.specs.Prelude.{◌≡◌, IfOk, IfErr};
-ghost use Rattle.std.specs.Io.KnownBytes.{Keeps};
 ghost use Rattle.vol_commands.specs.Faults.{Gets};
 ghost use Rattle.vol_removal.specs.Removing.{Removes};
 ghost use Rattle.tree_commands.specs.Removing.{fault_of, IsCause, RemovesTree};
@@ -19,18 +18,15 @@ use vol_removal::{RemovalFault, remove_all};
 /// last name is `.` (Invalid) or `..` (NoEntry, since what leads there is gone by then).
 ///
 /// Takes memory as [`vol_removal::remove_all`] does, and costs what that costs.
-pub fn rm_all<O: Sink, E: Sink>(
+pub fn rm_all<E: Sink>(
     alloc: Global,
     edition: Edition,
     image: Vec<u8>,
     path: &str,
     now: u32,
-    _output: &mut O,
     errors: &mut E,
 ) -> Answer
-    ensures removed { RemovesTree edition image.items path.now now (Gets (E.failed errors.new) (E.contents errors.old) (E.contents errors.new)) result }
-    ensures unprinted { Keeps (O.contents _output.old) (O.contents _output.new) }
-    ensures unused { O.failed _output.new ≡ O.failed _output.old }
+    ensures { RemovesTree edition image.items path.now now (Gets (E.failed errors.new) (E.contents errors.old) (E.contents errors.new)) result }
 {
     conclude(remove(alloc, edition, image, path, now), errors)
 }

@@ -152,7 +152,6 @@ RunsChange streams files edition job status =
 
 -- a job runs (this project)
 abbrev pub RunsJob : Streams → HostFiles → Edition → Job → ℕ → Type 0
-RunsJob streams files edition (jobs.Ls path) status = RunsQuery streams files edition (jobs.Ls path) status
 RunsJob streams files edition (jobs.Get path) status = RunsQuery streams files edition (jobs.Get path) status
 RunsJob streams files edition job status = RunsChange streams files edition job status
 

@@ -214,7 +214,7 @@ fn run_job<R: ImageFiles + Clock + Eprint + AllocGlobal, O: Sink, E: Sink>(
     }) result }
 {
     match job {
-        Job::Ls { .. } | Job::Get { .. } => run_query(host, output, errors, volume, job),
+        Job::Get { .. } => run_query(host, output, errors, volume, job),
         Job::Put { .. }
         | Job::Rm { .. }
         | Job::Rmdir { .. }

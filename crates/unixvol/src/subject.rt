@@ -73,7 +73,6 @@ impl<'a> Subject<'a> {
     /// A job with the volume in a file is about this.
     fn of_job(image: &'a str, job: Job<'a>) -> Subject<'a> {
         let (verb, about) = match job {
-            Job::Ls { path } => (Verb::Ls, About::Path(path)),
             Job::Get { path } => (Verb::Get, About::Path(path)),
             Job::Put { path, .. } => (Verb::Put, About::Path(path)),
             Job::Rm { path, .. } => (Verb::Rm, About::Path(path)),

@@ -1,5 +1,5 @@
 -- What `migrate` comes to, by what mounting and migrating came to.
-use Rattle.std.proofs.Common.{◌≡◌, ◌∙◌, rules, List, [], ℕ, Option, Some, None, Result, Ok, Err, IfOk, IfErr, OnOk, IsSome, true≢false, refl, sym, subst, inl, inr, unwrap_or, arith}
+use Rattle.std.proofs.Common.{◌≡◌, ◌∙◌, List, [], ℕ, Some, None, Result, Ok, Err, IfOk, IfErr, OnOk, IsSome, true≢false, refl, sym, subst, inl, inr, unwrap_or, arith}
 use Rattle.std.specs.Global.{Vec}
 use Rattle.vol_judge.specs.Sound.{IsSound}
 use Rattle.vol_layout.specs.declared.edition.Edition.TheVariants.{V6}
@@ -14,7 +14,7 @@ use Rattle.vol_migrate.specs.declared.fault.MigrateFault.{MigrateFault}
 use Rattle.vol_migrate.specs.declared.fault.MigrateFault.TheVariants as faults
 use Rattle.vol_commands.proofs.Reasons.{least_within}
 use Rattle.vol_commands.specs.Faults.{IsRuled, fault_status, fault_line, unmounted}
-use Rattle.vol_commands.specs.Migrating.{Migrates, MigratesVolume, migrate_status}
+use Rattle.vol_commands.specs.Migrating.{MigratesVolume, migrate_status}
 use Rattle.vol_commands.specs.declared.answer.Answer.{Answer}
 use Rattle.vol_commands.specs.declared.migrating.Migration.{Migration}
 

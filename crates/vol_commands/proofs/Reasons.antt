@@ -1,13 +1,14 @@
 -- The faults of commands: a rule that one names is one of the twelve.
-use Rattle.std.proofs.Common.{ℕ, zero, suc, ◌≤◌, Bool, true, false, List, Option, Result, Ok, Err, IfErr, arith, sym, subst}
+use Rattle.std.proofs.Common.{◌≡◌, ℕ, zero, suc, ◌≤◌, Bool, true, false, List, [], ◌∷◌, Option, Result, Ok, Err, IfOk, IfErr, arith, refl, sym, subst}
 use Rattle.std.specs.Global.{Vec}
 use Rattle.vol_judge.specs.Sound.{Rule, IsLeastBroken}
 use Rattle.vol_layout.specs.declared.edition.Edition.{Edition}
 use Rattle.vol_volume.specs.declared.calls.Call.{Call}
+use Rattle.vol_volume.specs.declared.calls.Call.TheVariants as calls
 use Rattle.vol_volume.specs.declared.queries.Query.{Query}
 use Rattle.vol_commands.specs.Changing.{IsReason}
 use Rattle.vol_commands.specs.Showing.{Prints}
-use Rattle.vol_commands.specs.Faults.{IsRuled, unsalvaged}
+use Rattle.vol_commands.specs.Faults.{user, IsRuled, unsalvaged}
 use Rattle.vol_commands.specs.Salvaging.{IsUnsalvaged}
 use Rattle.vol_salvage.specs.Salvaging.{IsSalvageFault}
 use Rattle.vol_salvage.specs.declared.SalvageFault.{SalvageFault}
@@ -48,6 +49,14 @@ pub outcome_ruled : (edition : Edition) (image : List ℕ) (calls : List Call) (
     → IfErr outcome (IsReason edition image calls) → IfErr outcome IsRuled
 outcome_ruled edition image calls (Ok bytes) reason = tt
 outcome_ruled edition image calls (Err fault) reason = reason_ruled edition image calls fault reason
+
+-- a fault of an outcome of one call, if there is one, names a rule of the twelve
+pub call_ruled : {E : Type 0} (edition : Edition) (image : List ℕ) (call : Result Call E) (outcome : Result (Vec ℕ) Fault)
+    → ((wanted : Call) → IfOk call (λ call. call ≡ wanted) → IfErr outcome (IsReason edition image (wanted ∷ []))) → IfErr outcome IsRuled
+call_ruled edition image (Ok call) outcome reason = outcome_ruled edition image (call ∷ []) outcome (reason call refl)
+call_ruled edition image (Err why) outcome reason =
+    let any : Call = calls.Unlink user 0 [] in
+    outcome_ruled edition image (any ∷ []) outcome (reason any tt)
 
 -- the rule of an obstacle is one of the twelve
 printed_ruled : (edition : Edition) (image : List ℕ) (query : Query) (old new : Option (List ℕ)) (had_failed failed : Bool) (fault : Fault)

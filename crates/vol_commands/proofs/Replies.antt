@@ -1,4 +1,4 @@
--- The replies to the commands' queries: all names of a directory, all bytes of a file.
+-- The reply to a query for a file's bytes: all of them.
 use Rattle.std.proofs.Common.{◌≡◌, ℕ, ◌≤◌, Bool, true, false, if◌then◌else◌, List, length, Option, None, Some, Result, Ok, Err, arith, refl, sym, ap, ◌∙◌}
 use Rattle.std.specs.Option.{unwrap_or, option_map}
 use Rattle.std.proofs.lemmas.List.{take_all}
@@ -11,11 +11,11 @@ use Rattle.vol_layout.specs.Inode.{inode_of, kind_of}
 use Rattle.vol_layout.specs.Names.{mode_of}
 use Rattle.vol_layout.proofs.BodyLaws.{length-body}
 use Rattle.vol_change.specs.Edits.{body_of}
-use Rattle.vol_change.specs.Nodes.{no_node, node_at, names_at}
+use Rattle.vol_change.specs.Nodes.{no_node, node_at}
 use Rattle.vol_volume.specs.Answer.{refused_or, reply_at, reply_of, query_refusal, read_bytes}
 use Rattle.vol_volume.specs.Volume.{reads_as}
 use Rattle.vol_commands.specs.Faults.{user}
-use Rattle.vol_commands.specs.Laws.{ListsNames, PrintsWhole}
+use Rattle.vol_commands.specs.Laws.{PrintsWhole}
 use Rattle.vol_commands.specs.Showing.{text_of}
 use Rattle.vol_dir.specs.declared.refusal.Refusal.{Refusal}
 use Rattle.vol_layout.specs.declared.edition.Edition.{Edition}
@@ -29,24 +29,15 @@ use Rattle.vol_volume.specs.declared.queries.Reply.{Reply}
 use Rattle.vol_volume.specs.declared.queries.Reply.TheVariants as replies
 
 -- what is answered was not refused
-accepted : (refusal : Option Refusal) (answer : Result Reply Refusal) (reply : Reply) → refused_or refusal answer ≡ Ok reply → answer ≡ Ok reply
+pub accepted : (refusal : Option Refusal) (answer : Result Reply Refusal) (reply : Reply) → refused_or refusal answer ≡ Ok reply → answer ≡ Ok reply
 accepted None answer reply e = e
 accepted (Some refusal) answer reply e = absurd (cc)
 
 -- a reply is that of the node that the walk leads to
-found : (walked : Result ℕ Refusal) (reply_of_node : ℕ → Reply) (reply : Reply) → reply_at walked reply_of_node ≡ Ok reply
+pub found : (walked : Result ℕ Refusal) (reply_of_node : ℕ → Reply) (reply : Reply) → reply_at walked reply_of_node ≡ Ok reply
     → (i : ℕ) × (walked ≡ Ok i) × (reply_of_node i ≡ reply)
 found (Ok i) reply_of_node reply e = (i, refl, cc)
 found (Err refusal) reply_of_node reply e = absurd (cc)
-
--- a listing has all names
-pub lists_names : ListsNames
-unfolding reply_of
-lists_names edition image path reply e =
-    let tree = (reads_as edition image).tree in
-    let query = queries.List user path in
-    let at = found (walk tree user path) (λ i. replies.Names (names_at tree i)) reply (accepted (query_refusal tree query) (reply_of tree query) reply e) in
-    (at.0, at.1, ap text_of (sym at.2))
 
 -- no edition has files of more bytes than one query asks for
 greatest_short : (edition : Edition) → (constants edition).greatest ≤ 4294967295

@@ -40,7 +40,6 @@ Salvages edition image streams answer =
 
 -- what a job comes to: the query or the calls that it stands for, or a new free list (this project)
 abbrev pub Does : Edition → List ℕ → List ℕ → Streams → Answer → Job → Type 0
-Does edition image bytes streams answer (jobs.Ls path) = Asks edition image streams answer (queries.List user path.now)
 Does edition image bytes streams answer (jobs.Get path) = Asks edition image streams answer (queries.Read user path.now 0 4294967295)
 Does edition image bytes streams answer (jobs.Put path file now) =
     Calls edition image streams answer (put_calls (reads_as edition image).tree now path.now bytes)

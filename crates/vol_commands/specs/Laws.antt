@@ -2,20 +2,13 @@
 use Rattle.std.specs.Prelude.{◌≡◌, ℕ, List, Ok}
 use Rattle.vol_dir.specs.Walk.{walk}
 use Rattle.vol_change.specs.Edits.{body_of}
-use Rattle.vol_change.specs.Nodes.{node_at, names_at}
+use Rattle.vol_change.specs.Nodes.{node_at}
 use Rattle.vol_volume.specs.Volume.{reads_as}
 use Rattle.vol_commands.specs.Faults.{user}
-use Rattle.vol_commands.specs.Showing.{answer_of, text_of, listing_text}
+use Rattle.vol_commands.specs.Showing.{answer_of, text_of}
 use Rattle.vol_layout.specs.declared.edition.Edition.{Edition}
 use Rattle.vol_volume.specs.declared.queries.Query.TheVariants as queries
 use Rattle.vol_volume.specs.declared.queries.Reply.{Reply}
-
--- what `ls` prints is the lines of all names in the directory that the path leads to (this project)
-abbrev pub ListsNames : Type 0
-ListsNames = (edition : Edition) (image path : List ℕ) (reply : Reply)
-    → answer_of edition image (queries.List user path) ≡ Ok reply
-    → (i : ℕ) × (walk (reads_as edition image).tree user path ≡ Ok i)
-    × (text_of reply ≡ listing_text (names_at (reads_as edition image).tree i))
 
 -- what `get` prints is all bytes of the file that the path leads to (this project)
 abbrev pub PrintsWhole : Type 0

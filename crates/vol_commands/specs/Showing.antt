@@ -1,9 +1,7 @@
 -- What the commands that show something of a volume print, and why they don't.
-use Rattle.std.specs.Prelude.{◌≡◌, ◌≢◌, ℕ, ◌+◌, ◌/◌, ◌%◌, ◌++◌, Bool, true, nat_lt, if◌then◌else◌, List, [], ◌∷◌, Option, None, Result, Ok, Err}
+use Rattle.std.specs.Prelude.{◌≡◌, ◌≢◌, ℕ, Bool, true, List, [], Option, None, Result, Ok, Err}
 use Rattle.std.specs.Io.KnownBytes.{Appends, Keeps}
-use Rattle.std.specs.List.{flat_map}
 use Rattle.pdp_words.specs.Devices.{AppendsFront}
-use Rattle.vol_dir.specs.Names.{Names}
 use Rattle.vol_judge.specs.Sound.{IsSound}
 use Rattle.vol_volume.specs.Answer.{answer}
 use Rattle.vol_volume.specs.Volume.{reads_as}
@@ -17,25 +15,9 @@ use Rattle.vol_commands.specs.declared.answer.Answer.{Answer}
 use Rattle.vol_commands.specs.declared.faults.Fault.{Fault}
 use Rattle.vol_commands.specs.declared.faults.Fault.TheVariants as faults
 
--- the digit of a number at a weight, or a space before the first digit (this project)
-abbrev pub digit_at : ℕ → ℕ → ℕ
-digit_at weight n = if nat_lt n weight then 32 else 48 + n / weight % 10
-
--- a number below 100,000, right-aligned in 5 places (ls -i)
-abbrev pub padded_number : ℕ → List ℕ
-padded_number n = digit_at 10000 n ∷ digit_at 1000 n ∷ digit_at 100 n ∷ digit_at 10 n ∷ (48 + n % 10) ∷ []
-
--- the line of a name and its i-number (ls -i)
-abbrev pub entry_line : List ℕ × ℕ → List ℕ
-entry_line entry = padded_number entry.1 ++ (32 ∷ entry.0) ++ (10 ∷ [])
-
--- the lines of names, in their order (ls -i)
-abbrev pub listing_text : Names → List ℕ
-listing_text names = flat_map entry_line names
-
--- what is printed of a reply (this project)
+-- what is printed of a reply: its bytes, if it has some (this project)
 abbrev pub text_of : Reply → List ℕ
-text_of (replies.Names names) = listing_text names
+text_of (replies.Names names) = []
 text_of (replies.Bytes bytes) = bytes
 text_of (replies.Stat stat) = []
 

@@ -1,7 +1,6 @@
-//! The commands that change a volume: each makes calls on the volume in some bytes, as user 0, and answers the
+//! The commands that change a volume: each makes calls on the volume in some bytes, as user 0, and returns the
 //! bytes that are to be saved.
 ghost use Rattle.std.specs.Prelude.{◌≡◌, ◌≢◌, IfOk, IfErr, MatchBool, OnOk, [], ◌∷◌};
-ghost use Rattle.std.specs.Io.KnownBytes.{Keeps};
 ghost use Rattle.vol_judge.specs.Sound.{IsSound};
 ghost use Rattle.vol_volume.specs.Answer.{answer};
 ghost use Rattle.vol_volume.specs.Journal.{Refuses};
@@ -32,139 +31,35 @@ const DIRECTORY_PERMISSIONS: u16 = 0o755;
 /// to be saved unless both calls are accepted.
 ///
 /// Takes memory for what [`Volume::mount`] takes, and for two copies of the path, which the journal keeps; the
-/// file's bytes stand in memory once. Walks the path once a call, and where it is missing once more before them.
-pub fn put<O: Sink, E: Sink>(
+/// file's bytes are in memory once. Walks the path once a call, and if it is missing once more before them.
+pub(crate) fn put<E: Sink>(
     alloc: Global,
     edition: Edition,
     image: Vec<u8>,
     path: &str,
     file: Vec<u8>,
     now: u32,
-    _output: &mut O,
     errors: &mut E,
 ) -> Answer
-    ensures changed { ChangesVolume edition image.items (put_calls (reads_as edition image.items).tree now path.now file.items)
+    ensures { ChangesVolume edition image.items (put_calls (reads_as edition image.items).tree now path.now file.items)
         (Gets (E.failed errors.new) (E.contents errors.old) (E.contents errors.new)) result }
-    ensures unprinted { Keeps (O.contents _output.old) (O.contents _output.new) }
-    ensures unused { O.failed _output.new ≡ O.failed _output.old }
 {
     conclude(put_file(alloc, edition, image, path, file, now), errors)
 }
 
-/// `rm`: takes a name away from what is no directory, which is freed with its last name.
-pub fn rm<O: Sink, E: Sink>(
+/// Makes one call on the volume in some bytes, if there was memory for its words.
+///
+/// Takes memory for what [`Volume::mount`] and [`Volume::call`] take.
+pub(crate) fn make<E: Sink>(
     alloc: Global,
     edition: Edition,
     image: Vec<u8>,
-    path: &str,
-    now: u32,
-    _output: &mut O,
+    call: Result<Call, AllocError>,
     errors: &mut E,
 ) -> Answer
-    ensures changed { ChangesVolume edition image.items (asked.Unlink user now path.now ∷ [])
+    ensures { (wanted : Call) → IfOk call (λ call. call ≡ wanted) → ChangesVolume edition image.items (wanted ∷ [])
         (Gets (E.failed errors.new) (E.contents errors.old) (E.contents errors.new)) result }
-    ensures unprinted { Keeps (O.contents _output.old) (O.contents _output.new) }
-    ensures unused { O.failed _output.new ≡ O.failed _output.old }
 {
-    let call = unlink_call(alloc, path, now);
-    conclude(change(alloc, edition, image, call), errors)
-}
-
-/// `rmdir`: frees a directory that has `.` and `..` alone.
-pub fn rmdir<O: Sink, E: Sink>(
-    alloc: Global,
-    edition: Edition,
-    image: Vec<u8>,
-    path: &str,
-    now: u32,
-    _output: &mut O,
-    errors: &mut E,
-) -> Answer
-    ensures changed { ChangesVolume edition image.items (asked.Rmdir user now path.now ∷ [])
-        (Gets (E.failed errors.new) (E.contents errors.old) (E.contents errors.new)) result }
-    ensures unprinted { Keeps (O.contents _output.old) (O.contents _output.new) }
-    ensures unused { O.failed _output.new ≡ O.failed _output.old }
-{
-    let call = rmdir_call(alloc, path, now);
-    conclude(change(alloc, edition, image, call), errors)
-}
-
-/// `mkdir`: makes a directory with permissions 0755 that has `.` and `..` alone.
-pub fn mkdir<O: Sink, E: Sink>(
-    alloc: Global,
-    edition: Edition,
-    image: Vec<u8>,
-    path: &str,
-    now: u32,
-    _output: &mut O,
-    errors: &mut E,
-) -> Answer
-    ensures changed { ChangesVolume edition image.items (asked.Mkdir user now path.now 0o755 ∷ [])
-        (Gets (E.failed errors.new) (E.contents errors.old) (E.contents errors.new)) result }
-    ensures unprinted { Keeps (O.contents _output.old) (O.contents _output.new) }
-    ensures unused { O.failed _output.new ≡ O.failed _output.old }
-{
-    let call = mkdir_call(alloc, path, now);
-    conclude(change(alloc, edition, image, call), errors)
-}
-
-/// `ln`: gives what is no directory a further name.
-pub fn ln<O: Sink, E: Sink>(
-    alloc: Global,
-    edition: Edition,
-    image: Vec<u8>,
-    from: &str,
-    to: &str,
-    now: u32,
-    _output: &mut O,
-    errors: &mut E,
-) -> Answer
-    ensures changed { ChangesVolume edition image.items (asked.Link user now from.now to.now ∷ [])
-        (Gets (E.failed errors.new) (E.contents errors.old) (E.contents errors.new)) result }
-    ensures unprinted { Keeps (O.contents _output.old) (O.contents _output.new) }
-    ensures unused { O.failed _output.new ≡ O.failed _output.old }
-{
-    let call = link_call(alloc, from, to, now);
-    conclude(change(alloc, edition, image, call), errors)
-}
-
-/// `chmod`: gives other permission bits to what a path leads to; of `perm`, those under octal 7777 count.
-pub fn chmod<O: Sink, E: Sink>(
-    alloc: Global,
-    edition: Edition,
-    image: Vec<u8>,
-    path: &str,
-    perm: u16,
-    now: u32,
-    _output: &mut O,
-    errors: &mut E,
-) -> Answer
-    ensures changed { ChangesVolume edition image.items (asked.Chmod user now path.now perm ∷ [])
-        (Gets (E.failed errors.new) (E.contents errors.old) (E.contents errors.new)) result }
-    ensures unprinted { Keeps (O.contents _output.old) (O.contents _output.new) }
-    ensures unused { O.failed _output.new ≡ O.failed _output.old }
-{
-    let call = chmod_call(alloc, path, perm, now);
-    conclude(change(alloc, edition, image, call), errors)
-}
-
-/// `chown`: gives another user and group to what a path leads to; `owner` are their numbers.
-pub fn chown<O: Sink, E: Sink>(
-    alloc: Global,
-    edition: Edition,
-    image: Vec<u8>,
-    path: &str,
-    owner: Cred,
-    now: u32,
-    _output: &mut O,
-    errors: &mut E,
-) -> Answer
-    ensures changed { ChangesVolume edition image.items (asked.Chown user now path.now owner.uid owner.gid ∷ [])
-        (Gets (E.failed errors.new) (E.contents errors.old) (E.contents errors.new)) result }
-    ensures unprinted { Keeps (O.contents _output.old) (O.contents _output.new) }
-    ensures unused { O.failed _output.new ≡ O.failed _output.old }
-{
-    let call = chown_call(alloc, path, owner, now);
     conclude(change(alloc, edition, image, call), errors)
 }
 
@@ -258,7 +153,7 @@ fn is_missing(refusal: Refusal) -> bool
 }
 
 /// The call of `rm`.
-fn unlink_call(alloc: Global, path: &str, now: u32) -> Result<Call, AllocError>
+pub(crate) fn unlink_call(alloc: Global, path: &str, now: u32) -> Result<Call, AllocError>
     ensures { IfOk result (λ call. call ≡ asked.Unlink user now path.now) }
 {
     Ok(Call::Unlink {
@@ -269,7 +164,7 @@ fn unlink_call(alloc: Global, path: &str, now: u32) -> Result<Call, AllocError>
 }
 
 /// The call of `rmdir`.
-fn rmdir_call(alloc: Global, path: &str, now: u32) -> Result<Call, AllocError>
+pub(crate) fn rmdir_call(alloc: Global, path: &str, now: u32) -> Result<Call, AllocError>
     ensures { IfOk result (λ call. call ≡ asked.Rmdir user now path.now) }
 {
     Ok(Call::Rmdir {
@@ -280,7 +175,7 @@ fn rmdir_call(alloc: Global, path: &str, now: u32) -> Result<Call, AllocError>
 }
 
 /// The call of `mkdir`.
-fn mkdir_call(alloc: Global, path: &str, now: u32) -> Result<Call, AllocError>
+pub(crate) fn mkdir_call(alloc: Global, path: &str, now: u32) -> Result<Call, AllocError>
     ensures { IfOk result (λ call. call ≡ asked.Mkdir user now path.now 0o755) }
 {
     Ok(Call::Mkdir {
@@ -292,7 +187,7 @@ fn mkdir_call(alloc: Global, path: &str, now: u32) -> Result<Call, AllocError>
 }
 
 /// The call of `ln`.
-fn link_call(alloc: Global, from: &str, to: &str, now: u32) -> Result<Call, AllocError>
+pub(crate) fn link_call(alloc: Global, from: &str, to: &str, now: u32) -> Result<Call, AllocError>
     ensures { IfOk result (λ call. call ≡ asked.Link user now from.now to.now) }
 {
     Ok(Call::Link {
@@ -304,7 +199,7 @@ fn link_call(alloc: Global, from: &str, to: &str, now: u32) -> Result<Call, Allo
 }
 
 /// The call of `chmod`.
-fn chmod_call(alloc: Global, path: &str, perm: u16, now: u32) -> Result<Call, AllocError>
+pub(crate) fn chmod_call(alloc: Global, path: &str, perm: u16, now: u32) -> Result<Call, AllocError>
     ensures { IfOk result (λ call. call ≡ asked.Chmod user now path.now perm) }
 {
     Ok(Call::Chmod {
@@ -316,7 +211,12 @@ fn chmod_call(alloc: Global, path: &str, perm: u16, now: u32) -> Result<Call, Al
 }
 
 /// The call of `chown`.
-fn chown_call(alloc: Global, path: &str, owner: Cred, now: u32) -> Result<Call, AllocError>
+pub(crate) fn chown_call(
+    alloc: Global,
+    path: &str,
+    owner: Cred,
+    now: u32,
+) -> Result<Call, AllocError>
     ensures { IfOk result (λ call. call ≡ asked.Chown user now path.now owner.uid owner.gid) }
 {
     Ok(Call::Chown {

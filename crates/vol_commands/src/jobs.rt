@@ -3,9 +3,11 @@ ghost use Rattle.vol_commands.specs.Faults.{Gets};
 ghost use Rattle.vol_commands.specs.Jobs.{Does};
 
 use crate::answer::Answer;
-use crate::changing::{chmod, chown, ln, mkdir, put, rm, rmdir};
+use crate::changing::{
+    chmod_call, chown_call, link_call, make, mkdir_call, put, rmdir_call, unlink_call,
+};
 use crate::salvaging::salvage;
-use crate::showing::{get, ls};
+use crate::showing::get;
 use pdp_words::Sink;
 use std::alloc::Global;
 use vol_dir::Cred;
@@ -15,10 +17,6 @@ use vol_layout::Edition;
 /// `now` is the moment of the call, in seconds since the beginning of 1970.
 #[derive(Clone, Copy, Debug, PartialEq, Eq)]
 pub enum Job<'a> {
-    /// List the names in a directory.
-    Ls {
-        path: &'a str,
-    },
     /// Print the bytes of a file.
     Get {
         path: &'a str,
@@ -68,7 +66,7 @@ pub enum Job<'a> {
 }
 
 /// Does a job with the volume in some bytes; `file` has the bytes that are put. The answer's status is 0, or 1
-/// where the image is unsound or the call or query is refused, or 4 where memory ran out; for `ls` and `get` it
+/// where the image is unsound or the call or query is refused, or 4 where memory ran out; for `get` it
 /// is 3 where `output` failed.
 pub fn do_job<O: Sink, E: Sink>(
     alloc: Global,
@@ -87,26 +85,23 @@ pub fn do_job<O: Sink, E: Sink>(
       said = Gets (E.failed errors.new) (E.contents errors.old) (E.contents errors.new);
     }) result job.entry }
 {
-    match job {
-        Job::Ls { path } => ls(alloc, edition, image, path, output, errors),
-        Job::Get { path } => get(alloc, edition, image, path, output, errors),
-        Job::Put { path, now, .. } => put(alloc, edition, image, path, file, now, output, errors),
-        Job::Rm { path, now } => rm(alloc, edition, image, path, now, output, errors),
-        Job::Rmdir { path, now } => rmdir(alloc, edition, image, path, now, output, errors),
-        Job::Mkdir { path, now } => mkdir(alloc, edition, image, path, now, output, errors),
-        Job::Ln { from, to, now } => ln(alloc, edition, image, from, to, now, output, errors),
-        Job::Chmod { path, perm, now } => chmod(
-            alloc, edition, image, path, perm, now, output, errors,
-        ),
+    let call = match job {
+        Job::Get { path } => return get(alloc, edition, image, path, output, errors),
+        Job::Put { path, now, .. } => {
+            return put(alloc, edition, image, path, file, now, errors);
+        }
+        Job::Salvage => return salvage(alloc, edition, image, errors),
+        Job::Rm { path, now } => unlink_call(alloc, path, now),
+        Job::Rmdir { path, now } => rmdir_call(alloc, path, now),
+        Job::Mkdir { path, now } => mkdir_call(alloc, path, now),
+        Job::Ln { from, to, now } => link_call(alloc, from, to, now),
+        Job::Chmod { path, perm, now } => chmod_call(alloc, path, perm, now),
         Job::Chown {
             path,
             uid,
             gid,
             now,
-        } => {
-            let owner = Cred { uid, gid };
-            chown(alloc, edition, image, path, owner, now, output, errors)
-        }
-        Job::Salvage => salvage(alloc, edition, image, output, errors),
-    }
+        } => chown_call(alloc, path, Cred { uid, gid }, now),
+    };
+    make(alloc, edition, image, call, errors)
 }

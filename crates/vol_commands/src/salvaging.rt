@@ -1,6 +1,5 @@
 //! `salvage`: makes the free list of the volume in some bytes anew, and answers the bytes that are to be saved.
-ghost use Rattle.std.specs.Prelude.{◌≡◌, IfOk, IfErr};
-ghost use Rattle.std.specs.Io.KnownBytes.{Keeps};
+ghost use Rattle.std.specs.Prelude.{IfOk, IfErr};
 ghost use Rattle.vol_salvage.specs.Salvaging.{IsSalvaged};
 ghost use Rattle.vol_commands.specs.Faults.{Gets};
 ghost use Rattle.vol_commands.specs.Salvaging.{SalvagesVolume, IsUnsalvaged};
@@ -15,16 +14,13 @@ use vol_layout::Edition;
 /// those of the free list. A volume that breaks another one isn't to be saved.
 ///
 /// Takes memory for what [`vol_salvage::salvage`] takes.
-pub fn salvage<O: Sink, E: Sink>(
+pub(crate) fn salvage<E: Sink>(
     alloc: Global,
     edition: Edition,
     image: Vec<u8>,
-    _output: &mut O,
     errors: &mut E,
 ) -> Answer
-    ensures salvaged { SalvagesVolume edition image.items (Gets (E.failed errors.new) (E.contents errors.old) (E.contents errors.new)) result }
-    ensures unprinted { Keeps (O.contents _output.old) (O.contents _output.new) }
-    ensures unused { O.failed _output.new ≡ O.failed _output.old }
+    ensures { SalvagesVolume edition image.items (Gets (E.failed errors.new) (E.contents errors.old) (E.contents errors.new)) result }
 {
     conclude(salvaged(alloc, edition, image), errors)
 }

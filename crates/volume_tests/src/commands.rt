@@ -42,12 +42,6 @@ fn check(rt: &impl Abort, alloc: Global, job: Job<'_>, line: &[u8], mode: Option
 }
 
 #[test]
-fn a_file_is_not_listed(rt: HostRuntime) {
-    let job = Job::Ls { path: "/hello" };
-    check(&rt, rt.alloc(), job, b"unixvol: 20 NotDirectory\n", None);
-}
-
-#[test]
 fn only_twelve_bits_are_permissions(rt: HostRuntime) {
     let job = Job::Chmod {
         path: "/hello",

@@ -1,5 +1,5 @@
 use Rattle.std.proofs.Common.{◌++◌, ◌∙◌, ap}
-use Rattle.vol_commands.specs.Showing.{padded_number}
+use Rattle.image_commands.specs.Digits.{padded_number}
 use Rattle.image_commands.specs.LongLines.{column, mode_text, owner_columns}
 use Rattle.image_commands.proofs.Columns.{appended}
 use Rattle.image_commands.proofs.long_lines.push_owner_columns.Goals as goal

@@ -7,8 +7,8 @@ use Rattle.tree_commands.proofs.importing.import_archive.Goals as goal
 pub conclude-requires : goal.conclude-requires
 conclude-requires g c = outcome_ruled _ _ _ _ c.import-outcome.ensures.fault
 
-pub returns-clause-imported : goal.returns-clause-imported
-returns-clause-imported g c =
+pub returns : goal.returns
+returns g c =
     concluded _ _ _ _ _ _
     (subst (λ (path : List ℕ). IfOk c.import-outcome.result (λ bytes. Imports c.args.edition c.args.image.items
     (calls_to_make (reads_as c.args.edition c.args.image.items).tree c.args.archive.now path c.args.now) bytes.items)) c.as_bytes.ensures.value c.import-outcome.ensures.made)

@@ -347,6 +347,18 @@ if [ "$(id -u)" = 0 ]; then
         echo $? > status
         wants 'mkfs of a file of another group' 0 none none
         has 'the rights of a group that cannot be kept' '12:12 606' "$(stat -c '%u:%g %a' shared/a)"
+        chown 13:35 shared/a
+        chmod 646 shared/a
+        (cd shared && exec setpriv --reuid=12 --regid=12 --clear-groups ./program mkfs 6 a "${twenty[@]}") > output 2> error < /dev/null
+        echo $? > status
+        wants 'mkfs of a file whose group may less than others' 0 none none
+        has 'the rights of others where the group cannot be kept' '12:12 604' "$(stat -c '%u:%g %a' shared/a)"
+        chown 13:35 shared/a
+        chmod 4775 shared/a
+        (cd shared && exec setpriv --bounding-set=-chown --inh-caps=-chown ./program mkfs 6 a "${twenty[@]}") > output 2> error < /dev/null
+        echo $? > status
+        wants 'mkfs by a super-user who may not give files away' 0 none none
+        has 'the rights of a file that cannot be given away' '0:0 705' "$(stat -c '%u:%g %a' shared/a)"
     fi
     # The owner of a folder moves the new file while it is written, and puts a link to a file of the super-user in its place.
     if command -v setpriv > /dev/null && command -v perl > /dev/null; then
@@ -365,6 +377,7 @@ if [ "$(id -u)" = 0 ]; then
         done
         kill "$swapping"
         wait "$swapping" 2> /dev/null
+        has 'the new file was moved' yes "$([ -e home/moved ] && echo yes)"
         has 'a file of the super-user, after 30 tries to be given it' '0:0 600' "$(stat -c '%u:%g %a' secret)"
         saves 'what that file holds' secret <(echo secret)
     fi

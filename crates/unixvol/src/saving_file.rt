@@ -6,7 +6,7 @@ ghost use Rattle.unixvol.specs.Saving.{IsBeside, Grows, Saves};
 use crate::image_file::{ImageFiles, Stamp};
 use crate::noted::noted_writer;
 use pdp_words::{SaveFault, Sink, write_all};
-use std::fs::{self, Files, Metadata, OpenFile, OpenOptions};
+use std::fs::{self, Files, Metadata, OpenFile, OpenOptions, Permissions};
 use std::io::{self, ErrorKind, Write};
 use std::os::unix::fs::{MetadataExt, OpenOptionsExt, PermissionsExt};
 use std::path::{Path, PathBuf};
@@ -36,8 +36,8 @@ const NO_NAME: &str = "beside it .unixvol-0 to .unixvol-999 are all there";
 /// Permissions of a new file that is to have those of an old one: until then it is nobody else's.
 const PRIVATE: u32 = 0o600;
 
-/// The permission bits of a file's group.
-const GROUP: u32 = 0o070;
+/// The permissions that a new file has of the old one: nobody runs an image, so none runs with its owner's rights.
+const RIGHTS: u32 = 0o777;
 
 /// What is saved in a file.
 #[derive(Clone, Copy, Debug)]
@@ -173,6 +173,7 @@ fn replace<R: ImageFiles + AllocGlobal>(
     ensures saved { OnOk result (Saves R.File.contents content.entry) }
     ensures unchanged { OnOk result (IfSome read R.stood) }
 {
+    expect_there(rt, path.as_str(), old)?;
     let (file, beside) = new_file(rt, path, old.is_some())?;
     let result = match fill(rt, file, old, content) {
         Ok(file) => rename_over(rt, &file, beside.as_path(), path, old, read),
@@ -260,15 +261,22 @@ fn fill<R: ImageFiles>(
 }
 
 /// Gives an open file the owner, group and permissions of an old one. Only the super-user may give a file away; for others it is their
-/// own, its group is one of theirs, and what another group might do isn't handed to that.
+/// own, and its group is one of theirs.
 fn keep_owner<R: ImageFiles>(rt: &R, file: &R::File, old: &Metadata) -> io::Result<()> {
-    let mut permissions = old.permissions();
-    if !rt.give(file, None, Some(old.gid())) {
-        let mode = permissions.mode();
-        permissions.set_mode(mode & !GROUP);
+    let new = file.metadata()?;
+    let mut mode = old.permissions().mode() & RIGHTS;
+    if new.gid() != old.gid() && !rt.give(file, None, Some(old.gid())) {
+        mode = without_group(mode);
     }
-    let _ = rt.give(file, Some(old.uid()), None);
-    file.set_permissions(permissions)
+    if new.uid() != old.uid() {
+        let _ = rt.give(file, Some(old.uid()), None);
+    }
+    file.set_permissions(Permissions::from_mode(mode))
+}
+
+/// The permissions where a file can't have its old group: the new group may do nothing, and others only what the old group might do too.
+fn without_group(mode: u32) -> u32 {
+    (mode & 0o700) | (mode & (mode >> 3) & 0o007)
 }
 
 /// Writes a content into what is no regular file, sees it on the disk that it may be, and answers the file.

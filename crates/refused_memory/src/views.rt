@@ -45,8 +45,10 @@ struct Rooms {
 /// query after it. Ends the volume, and confirms all receipts.
 pub fn watch<R: Wait>(rt: &R, alloc: Global, found: &mut Found) -> Option<()> {
     let images = images(alloc, found)?;
+    let status = stat(alloc, FIRST.path)?;
+    let names = list(alloc, b"/")?;
     let volume = sixth(alloc, found)?;
-    let (closed, answers) = played(rt, alloc, found, volume)?;
+    let (closed, answers) = played(rt, alloc, found, volume, status, names)?;
     let before = check(found, &answers.first, 0, Done::Made(32));
     let after = check(found, &answers.second, before, Done::Made(31));
     check_closed(found, &closed, after, &images);
@@ -60,6 +62,8 @@ fn played<R: Wait>(
     alloc: Global,
     found: &mut Found,
     volume: Volume,
+    status: Query,
+    names: Query,
 ) -> Option<(Closed, Answers)> {
     let rooms = Rooms {
         sessions: room(alloc, 2)?,
@@ -73,10 +77,10 @@ fn played<R: Wait>(
     } = open_all(rt, alloc, found, volume)?;
     let firsts = take(rt, alloc, found, &shared, &mut first, FIRST);
     view.learn(&mut first);
-    let status = look(alloc, found, &mut view, stat(alloc, FIRST.path));
+    let status = look(alloc, found, &mut view, status);
     let seconds = take(rt, alloc, found, &shared, &mut second, SECOND);
     view.learn(&mut second);
-    let names = look(alloc, found, &mut view, list(alloc, b"/"));
+    let names = look(alloc, found, &mut view, names);
     let watched = Watched {
         shared,
         first,
@@ -119,11 +123,10 @@ fn opened<R: Wait>(rt: &R, alloc: Global, volume: Volume) -> Result<Watched, (Op
     })
 }
 
-/// Asks a query by a view, if there is one. Where there is no memory the query comes back. Only one that wants memory may find none.
-fn look(alloc: Global, found: &mut Found, view: &mut View, query: Option<Query>) -> Option<Receipt>
+/// Asks a query by a view. Where there is no memory the query comes back. Only one that wants memory may find none.
+fn look(alloc: Global, found: &mut Found, view: &mut View, query: Query) -> Option<Receipt>
     ensures { view.new.book ≡ view.old.book }
 {
-    let query = query?;
     match view.ask(alloc, query) {
         Ok(receipt) => Some(receipt),
         Err((fault, same)) => {

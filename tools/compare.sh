@@ -3,7 +3,8 @@
 set -euo pipefail
 cd "$(dirname "$0")/.."
 sources=$(tools/sources.sh)
-if [ "$sources" != "$(cat dist/SOURCES)" ]; then
+released=$(cat dist/SOURCES)
+if [ "$sources" != "$released" ]; then
     echo 'dist/ is of older sources'
     exit 0
 fi

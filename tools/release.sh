@@ -13,7 +13,7 @@ cp unixvol "$room/$name/unixvol"
 chmod 755 "$room/$name/unixvol"
 chmod 644 "$room/$name"/[!u]* "$room/$name"/unixvol.*
 mkdir "$room/dist"
-tar -C "$room" --sort=name --owner=0 --group=0 --numeric-owner --mtime=@0 --mode=go-w -cf - "$name" | xz -9e -T1 >"$room/dist/$name.tar.xz"
+tar -C "$room" --sort=name --owner=0 --group=0 --numeric-owner --mtime=@0 --mode=go-w -cf - "$name" | xz -9e --threads=1 >"$room/dist/$name.tar.xz"
 (cd "$room/dist" && sha256sum "$name.tar.xz" >SHA256SUMS)
 tools/sources.sh >"$room/dist/SOURCES"
 cmp "$room/dist/SOURCES" crates/unixvol/out/sources

@@ -19,3 +19,4 @@ pub mod Joined
 pub mod Reported
 pub mod Layouts
 pub mod SameHeads
+pub mod Remade

@@ -9,3 +9,4 @@ pub mod Noting
 pub mod Stepping
 pub mod Gathering
 pub mod Reporting
+pub mod Salvaging

@@ -10,9 +10,9 @@ use Rattle.vol_commands.specs.Changing.{IsReason}
 use Rattle.vol_commands.specs.Showing.{Prints}
 use Rattle.vol_commands.specs.Faults.{user, IsRuled, unsalvaged}
 use Rattle.vol_commands.specs.Salvaging.{IsUnsalvaged}
-use Rattle.vol_salvage.specs.Salvaging.{IsSalvageFault}
-use Rattle.vol_salvage.specs.declared.SalvageFault.{SalvageFault}
-use Rattle.vol_salvage.specs.declared.SalvageFault.TheVariants as salvages
+use Rattle.vol_check.specs.Salvaging.{IsSalvageFault}
+use Rattle.vol_check.specs.declared.salvaging.SalvageFault.{SalvageFault}
+use Rattle.vol_check.specs.declared.salvaging.SalvageFault.TheVariants as salvages
 use Rattle.vol_commands.specs.declared.faults.Fault.{Fault}
 use Rattle.vol_commands.specs.declared.faults.Fault.TheVariants as faults
 

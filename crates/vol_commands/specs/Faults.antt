@@ -7,8 +7,8 @@ use Rattle.vol_dir.specs.declared.cred.Cred.{Cred}
 use Rattle.vol_dir.specs.declared.refusal.Refusal.{Refusal}
 use Rattle.vol_dir.specs.declared.refusal.Refusal.TheVariants as refusals
 use Rattle.vol_layout.specs.declared.edition.Edition.{Edition}
-use Rattle.vol_salvage.specs.declared.SalvageFault.{SalvageFault}
-use Rattle.vol_salvage.specs.declared.SalvageFault.TheVariants as salvages
+use Rattle.vol_check.specs.declared.salvaging.SalvageFault.{SalvageFault}
+use Rattle.vol_check.specs.declared.salvaging.SalvageFault.TheVariants as salvages
 use Rattle.vol_volume.specs.declared.volume.MountFault.{MountFault}
 use Rattle.vol_volume.specs.declared.volume.MountFault.TheVariants as mounts
 use Rattle.vol_commands.specs.declared.faults.Fault.{Fault}

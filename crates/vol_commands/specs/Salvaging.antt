@@ -1,9 +1,9 @@
 -- What `salvage` makes, and why it doesn't.
 use Rattle.std.specs.Prelude.{◌≡◌, ◌↔◌, ℕ, List, [], IsSome, IsNone, IfSome}
-use Rattle.vol_salvage.specs.Salvaging.{IsSalvaged, IsSalvageFault}
+use Rattle.vol_check.specs.Salvaging.{IsSalvaged, IsSalvageFault}
 use Rattle.vol_commands.specs.Faults.{fault_status, fault_line, unsalvaged}
 use Rattle.vol_layout.specs.declared.edition.Edition.{Edition}
-use Rattle.vol_salvage.specs.declared.SalvageFault.{SalvageFault}
+use Rattle.vol_check.specs.declared.salvaging.SalvageFault.{SalvageFault}
 use Rattle.vol_commands.specs.declared.answer.Answer.{Answer}
 use Rattle.vol_commands.specs.declared.faults.Fault.{Fault}
 

@@ -5,7 +5,7 @@ ghost use Rattle.vol_commands.specs.Faults.{fault_status, fault_line, line_of_ru
 use crate::status::{BAD_FILE, NO_MEMORY, REFUSED};
 use std::alloc::AllocError;
 use vol_dir::Refusal;
-use vol_salvage::SalvageFault;
+use vol_check::SalvageFault;
 use vol_volume::MountFault;
 
 /// The line where standard output fails.

@@ -1,6 +1,6 @@
 //! `salvage`: makes the free list of the volume in some bytes anew, and answers the bytes that are to be saved.
 ghost use Rattle.std.specs.Prelude.{IfOk, IfErr};
-ghost use Rattle.vol_salvage.specs.Salvaging.{IsSalvaged};
+ghost use Rattle.vol_check.specs.Salvaging.{IsSalvaged};
 ghost use Rattle.vol_commands.specs.Faults.{Gets};
 ghost use Rattle.vol_commands.specs.Salvaging.{SalvagesVolume, IsUnsalvaged};
 
@@ -13,7 +13,7 @@ use vol_layout::Edition;
 /// `salvage`: makes the free list anew, of the data blocks that no file has, where the volume breaks no rule but
 /// those of the free list. A volume that breaks another one isn't to be saved.
 ///
-/// Takes memory for what [`vol_salvage::salvage`] takes.
+/// Takes memory for what [`vol_check::salvage`] takes.
 pub(crate) fn salvage<E: Sink>(
     alloc: Global,
     edition: Edition,
@@ -30,5 +30,5 @@ fn salvaged(alloc: Global, edition: Edition, image: Vec<u8>) -> Result<Vec<u8>, 
     ensures salvaged { IfOk result (λ bytes. IsSalvaged edition image.items bytes.items) }
     ensures fault { IfErr result (IsUnsalvaged edition image.items) }
 {
-    vol_salvage::salvage(alloc, edition, image).map_err(|(fault, _)| Fault::from(fault))
+    vol_check::salvage(alloc, edition, image).map_err(|(fault, _)| Fault::from(fault))
 }

@@ -17,7 +17,7 @@ use Rattle.vol_judge.specs.Sound.{IsSound, KeepsRules, Rule}
 use Rattle.vol_change.specs.Ready.{Rules1To12}
 use Rattle.vol_change.proofs.ReadyLaws.{ready_whole}
 use Rattle.vol_change.proofs.WholeLaws.{super_order, zone_behind}
-use Rattle.vol_salvage.proofs.Remade.{salvaged}
+use Rattle.vol_check.proofs.Remade.{salvaged}
 use Rattle.vol_volume.specs.Mkfs.{is_size, volume_of, IsMakeable}
 use Rattle.vol_migrate.specs.Migrating.{IsMigrated, IsRelisted}
 use Rattle.vol_migrate.specs.Raised.{raised}

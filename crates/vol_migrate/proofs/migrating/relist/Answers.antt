@@ -3,7 +3,7 @@ use Rattle.std.proofs.Common.{◌≡◌, ◌∙◌, sym, ap, subst, ◌+◌}
 use Rattle.pdp_words.specs.Words.{SameOutside}
 use Rattle.vol_layout.specs.Super.{free_head}
 use Rattle.vol_layout.specs.declared.edition.Edition.TheVariants.{V7}
-use Rattle.vol_salvage.proofs.Remade.{rules_zoned, rules_apart}
+use Rattle.vol_check.proofs.Remade.{rules_zoned, rules_apart}
 use Rattle.vol_migrate.proofs.Migrated.{relisted}
 use Rattle.vol_migrate.proofs.migrating.relist.Goals as goal
 

@@ -37,7 +37,7 @@ use Rattle.vol_change.proofs.Contents.{kind_same, entry_same, file_by, shape_sam
 use Rattle.vol_change.proofs.States.{makes_time}
 use Rattle.vol_change.proofs.WholeLaws.{geometry_kept, names_stay, sizes_stay, super_order, zone_behind}
 use Rattle.vol_change.proofs.ReadyLaws.{bounded_kept, whole_kept, sound_by}
-use Rattle.vol_salvage.specs.Salvaging.{IsSalvaged}
+use Rattle.vol_check.specs.Salvaging.{IsSalvaged}
 
 -- rules 1 and 2 are what reading the geometry asks
 pub rules_read : (edition : Edition) (image : List ℕ) → KeepsRules false edition image → geometry_read edition image ≡ Ok (geometry_of edition image)

@@ -5,8 +5,8 @@ use Rattle.vol_dir.specs.Tree.{state}
 use Rattle.vol_judge.specs.Sound.{IsLeastBroken, IsSound, KeepsRules}
 use Rattle.vol_change.specs.Whole.{StaysAround}
 use Rattle.vol_layout.specs.declared.edition.Edition.{Edition}
-use Rattle.vol_salvage.specs.declared.SalvageFault.{SalvageFault}
-use Rattle.vol_salvage.specs.declared.SalvageFault.TheVariants as faults
+use Rattle.vol_check.specs.declared.salvaging.SalvageFault.{SalvageFault}
+use Rattle.vol_check.specs.declared.salvaging.SalvageFault.TheVariants as faults
 
 -- an image that broke no rule but those of the free list is sound now, and has the tree and the shapes that it had; the bytes that no call changes are as they were (icheck -s)
 pub record IsSalvaged (edition : Edition) (old new : List ℕ) : Type 0 where

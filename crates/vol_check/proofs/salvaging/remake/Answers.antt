@@ -1,5 +1,5 @@
-use Rattle.vol_salvage.proofs.Remade.{rules_zoned, rules_apart, salvaged}
-use Rattle.vol_salvage.proofs.remake.Goals as goal
+use Rattle.vol_check.proofs.Remade.{rules_zoned, rules_apart, salvaged}
+use Rattle.vol_check.proofs.salvaging.remake.Goals as goal
 
 pub named_blocks-requires-clause-zoned : goal.named_blocks-requires-clause-zoned
 named_blocks-requires-clause-zoned c =

@@ -1,10 +1,9 @@
 //! Salvage of a volume whose free list alone is wrong.
-#![tactic(auto)]
 
 ghost use Rattle.std.specs.Prelude.{◌≡◌, false, IfOk, IfErr};
 ghost use Rattle.vol_layout.specs.Geometry.{Fits, geometry_of};
 ghost use Rattle.vol_judge.specs.Sound.{KeepsRules};
-ghost use Rattle.vol_salvage.specs.Salvaging.{IsSalvaged, IsSalvageFault};
+ghost use Rattle.vol_check.specs.Salvaging.{IsSalvaged, IsSalvageFault};
 
 use pdp_words::Image;
 use std::alloc::{AllocError, Global};

@@ -4,7 +4,7 @@ ghost use Rattle.std.specs.Prelude.{◌≡◌};
 use crate::fixtures::{create, new_volume};
 use std::test::Fail;
 use vol_layout::Edition;
-use vol_ledger::Ledger;
+use vol_views::Ledger;
 use vol_volume::{Done, Record};
 
 /// Whether a record was appended.

@@ -1,13 +1,13 @@
 //! What is published, and who reads it.
 ghost use Rattle.std.specs.Prelude.{◌≡◌};
-ghost use Rattle.vol_ledger.specs.Rule.{first_log};
+ghost use Rattle.vol_views.specs.LogRule.{first_log};
 
 use crate::fixtures::{create, new_volume, stat};
 use std::alloc::Global;
 use std::sync::Wait;
 use std::test::Fail;
 use vol_layout::Edition;
-use vol_publish::{Publisher, Subscriber};
+use vol_views::{Publisher, Subscriber};
 use vol_volume::{Call, Query, Record, Volume};
 
 /// Publishes the record of a call on a volume that was just opened, if it is accepted.

@@ -4,7 +4,7 @@ use std::alloc::{AllocError, Global};
 use std::process::Abort;
 use std::test::Fail;
 use vol_layout::Edition;
-use vol_versions::Version;
+use vol_views::Version;
 use vol_volume::{Call, Done, Query, Record, Volume};
 
 /// Makes a call that is accepted, and applies its record to a version.

@@ -4,7 +4,7 @@ use Rattle.std.proofs.lemmas.List.Elements.{All-cons, All-head, All-nil, All-tai
 use Rattle.std.specs.Prelude.{Vec, cond, count_by, vec_capacity}
 use Rattle.std.specs.Global.{Global}
 use Rattle.std.specs.List.{AllByRecursion}
-use Rattle.vol_publish.specs.Logs.{number_of}
+use Rattle.vol_views.specs.Logs.{number_of}
 use Rattle.vol_receipts.specs.declared.receipts.Origin.{Origin}
 use Rattle.vol_scripts.specs.Ending.{receipts_in}
 use Rattle.vol_scripts.specs.declared.played.Played.{Played}

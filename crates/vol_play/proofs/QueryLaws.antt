@@ -1,7 +1,7 @@
 -- What comes of the queries of a view.
 use Rattle.std.proofs.Common.{◌≡◌, ℕ, ◌≤◌, ◌-◌, List, [], ◌∷◌, length, refl, ap, subst, arith, length-append}
-use Rattle.vol_ledger.specs.declared.history.LogEntry.{LogEntry}
-use Rattle.vol_publish.specs.Logs.{history_of, number_of, origin_in}
+use Rattle.vol_views.specs.declared.history.LogEntry.{LogEntry}
+use Rattle.vol_views.specs.Logs.{history_of, number_of, origin_in}
 use Rattle.vol_receipts.specs.Agrees.{AgreesAfter, next_of, place_of}
 use Rattle.vol_receipts.specs.declared.receipts.Asked.{Asked}
 use Rattle.vol_receipts.specs.declared.receipts.Asked.TheVariants.{Question}

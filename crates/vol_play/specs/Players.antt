@@ -1,7 +1,7 @@
 -- Scripts with their sessions and views, before they are played and after it.
 use Rattle.std.specs.Prelude.{◌≡◌, ℕ, ◌+◌, ◌≤◌, ◌++◌, Bool, true, false, List, [], ◌∷◌, length, Vec, vec_capacity}
 use Rattle.std.specs.Global.{Global}
-use Rattle.vol_publish.specs.Logs.{number_of}
+use Rattle.vol_views.specs.Logs.{number_of}
 use Rattle.vol_scripts.specs.Ending.{receipts_in}
 use Rattle.vol_scripts.specs.declared.played.Played.{Played}
 use Rattle.vol_scripts.specs.declared.steps.Script.{Script}

@@ -1,6 +1,6 @@
 //! The lines of a script for a view.
 ghost use Rattle.std.specs.Prelude.{◌≡◌, ◌++◌, ◌∷◌, ◌+◌, ◌≤◌, [], length, vec_capacity};
-ghost use Rattle.vol_publish.specs.Logs.{number_of};
+ghost use Rattle.vol_views.specs.Logs.{number_of};
 ghost use Rattle.vol_scripts.specs.Ending.{receipts_in};
 ghost use Rattle.vol_play.specs.Steps.{CameOfQuery, CameOfView, next_after};
 

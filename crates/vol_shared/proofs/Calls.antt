@@ -5,7 +5,7 @@ use Rattle.atomic_table.specs.Seated.{TableId}
 use Rattle.vol_volume.specs.declared.calls.Record.{Record}
 use Rattle.vol_receipts.specs.Agrees.{next_of}
 use Rattle.vol_receipts.specs.declared.receipts.Receipt.{Receipt}
-use Rattle.vol_ledger.specs.History.{Reached}
+use Rattle.vol_views.specs.History.{Reached}
 use Rattle.vol_shared.specs.Stored.{Stored, next_number, IsCut}
 use Rattle.vol_views.specs.Views.{book_in}
 use Rattle.vol_shared.specs.Plays.{Event, nothing, receipt, took, gave, FindsVolume, Took, IsAnswered, cut}

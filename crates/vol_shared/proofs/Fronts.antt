@@ -18,13 +18,13 @@ use Rattle.vol_receipts.specs.declared.receipts.Outcome.TheVariants.{Accepted, R
 use Rattle.vol_receipts.specs.declared.receipts.Origin.{Origin}
 use Rattle.vol_receipts.specs.declared.receipts.Receipt.{Receipt}
 use Rattle.vol_receipts.proofs.Agreement.{agrees_after_cut}
-use Rattle.vol_ledger.specs.History.{Reached}
-use Rattle.vol_ledger.specs.Rule.{first_log}
-use Rattle.vol_ledger.specs.declared.history.LogEntry.{LogEntry}
-use Rattle.vol_ledger.specs.declared.history.LogEntry.TheVariants.{Made}
-use Rattle.vol_versions.specs.States.{state_of}
-use Rattle.vol_publish.specs.Logs.{history_of, origin_in, number_of}
-use Rattle.vol_publish.proofs.Logs.{history_more, origin_more}
+use Rattle.vol_views.specs.History.{Reached}
+use Rattle.vol_views.specs.LogRule.{first_log}
+use Rattle.vol_views.specs.declared.history.LogEntry.{LogEntry}
+use Rattle.vol_views.specs.declared.history.LogEntry.TheVariants.{Made}
+use Rattle.vol_views.specs.States.{state_of}
+use Rattle.vol_views.specs.Logs.{history_of, origin_in, number_of}
+use Rattle.vol_views.proofs.Logs.{history_more, origin_more}
 use Rattle.vol_views.specs.Views.{Watched, GoesOn, AgreesIn, IsNew}
 use Rattle.vol_views.proofs.Views.{agree_on}
 use Rattle.vol_shared.specs.Stored.{Stored, stored_of, stored_with, unpublished, next_number, IsCut, Follows}

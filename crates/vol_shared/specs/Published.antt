@@ -3,8 +3,8 @@ use Rattle.std.specs.Prelude.{◌≡◌, ◌≢◌, ◌+◌, List, [], ◌++◌,
 use Rattle.vol_volume.specs.Journal.{after}
 use Rattle.vol_volume.specs.declared.calls.Record.{Record}
 use Rattle.vol_receipts.specs.Agrees.{start}
-use Rattle.vol_ledger.specs.declared.history.LogEntry.{LogEntry}
-use Rattle.vol_publish.specs.Logs.{history_of, origin_in}
+use Rattle.vol_views.specs.declared.history.LogEntry.{LogEntry}
+use Rattle.vol_views.specs.Logs.{history_of, origin_in}
 use Rattle.vol_shared.specs.Stored.{Stored}
 
 -- all records of a volume are published: those of the log are the ones that were cut and then the journal, which starts from what the former made of the log's start (this project)

@@ -4,8 +4,8 @@ use Rattle.logbook.specs.Pages.{Book}
 use Rattle.atomic_table.specs.Seated.{TableId}
 use Rattle.vol_receipts.specs.Agrees.{place_of, next_of}
 use Rattle.vol_receipts.specs.declared.receipts.Receipt.{Receipt}
-use Rattle.vol_ledger.specs.History.{Reached}
-use Rattle.vol_publish.specs.Logs.{number_of}
+use Rattle.vol_views.specs.History.{Reached}
+use Rattle.vol_views.specs.Logs.{number_of}
 use Rattle.vol_views.specs.Views.{book_in}
 use Rattle.vol_shared.specs.Plays.{nobody}
 use Rattle.vol_shared.specs.declared.knowledge.Knowledge.{Knowledge}

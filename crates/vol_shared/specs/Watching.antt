@@ -4,8 +4,8 @@ use mathlib.Core.List.{IsPrefix}
 use Rattle.vol_volume.specs.Journal.{after}
 use Rattle.vol_volume.specs.declared.calls.Record.{Record}
 use Rattle.vol_receipts.specs.Agrees.{start}
-use Rattle.vol_ledger.specs.declared.history.LogEntry.{LogEntry}
-use Rattle.vol_publish.specs.Logs.{history_of, origin_in}
+use Rattle.vol_views.specs.declared.history.LogEntry.{LogEntry}
+use Rattle.vol_views.specs.Logs.{history_of, origin_in}
 use Rattle.vol_views.specs.Views.{Watched, GoesOn, AgreesIn}
 use Rattle.vol_shared.specs.Stored.{Stored}
 

@@ -1,7 +1,7 @@
 //! What lay under the lock, as contracts keep it.
 use std::marker::Model;
 use std::snapshot::Snapshot;
-use vol_ledger::Front;
+use vol_views::Front;
 use vol_volume::Volume;
 
 /// What lay under the lock: the volume, and a front of the log in which its records are published. It has no bytes but whether

@@ -1,6 +1,6 @@
 //! The lock's table is made, and its sessions are dealt out.
 ghost use Rattle.std.specs.Prelude.{◌≡◌, ◌+◌, ◌<◌, ◌≤◌, [], ◌∷◌, ◌++◌, length, vec_len, vec_capacity, All, IsSome, IfOk, IfErr, IfSome};
-ghost use Rattle.vol_publish.specs.Logs.{number_of};
+ghost use Rattle.vol_views.specs.Logs.{number_of};
 ghost use Rattle.vol_views.specs.Views.{book_in};
 ghost use Rattle.vol_shared.specs.Closing.{IsLock};
 ghost use Rattle.vol_shared.specs.Plays.{fresh};

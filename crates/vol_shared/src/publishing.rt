@@ -16,8 +16,8 @@ use crate::stock::Stock;
 use std::alloc::{AllocError, Global};
 use std::sync::Wait;
 use vol_dir::Refusal;
-use vol_publish::Publisher;
 use vol_receipts::{Asked, Outcome, Receipt};
+use vol_views::Publisher;
 use vol_volume::{Call, Done, Record, Volume};
 
 /// Makes a call, publishes its record where it has one, and tells what came of it.

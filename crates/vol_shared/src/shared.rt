@@ -19,9 +19,8 @@ use std::alloc::{AllocError, Global};
 use std::marker::Model;
 use std::sync::Wait;
 use thiserror::Error;
-use vol_publish::Publisher;
 use vol_receipts::Receipt;
-use vol_views::View;
+use vol_views::{Publisher, View};
 use vol_volume::{Call, Query, Volume};
 
 /// A volume that threads share. One thread at a time calls it, by a session of its own; the others wait for it. It is never

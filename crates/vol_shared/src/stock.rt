@@ -1,7 +1,7 @@
 //! What lies under the lock.
 ghost use Rattle.std.specs.Prelude.{◌≡◌, ◌+◌, ◌<◌, ◌^◌, ◌≤◌, length, None, Some, IfOk, IfErr, OnErr, IfSome};
-ghost use Rattle.vol_ledger.specs.Rule.{first_log};
-ghost use Rattle.vol_publish.specs.Logs.{number_of};
+ghost use Rattle.vol_views.specs.LogRule.{first_log};
+ghost use Rattle.vol_views.specs.Logs.{number_of};
 ghost use Rattle.vol_receipts.specs.Agrees.{next_of};
 ghost use Rattle.vol_receipts.specs.declared.receipts.Asked.TheVariants.{Change, Question};
 ghost use Rattle.vol_volume.specs.Volume.{after_cut};
@@ -16,9 +16,8 @@ use std::alloc::{AllocError, Global};
 use std::marker::Model;
 use std::snapshot::Snapshot;
 use std::sync::Wait;
-use vol_publish::Publisher;
 use vol_receipts::{Receipt, change, reply};
-use vol_views::Told;
+use vol_views::{Publisher, Told};
 use vol_volume::{Call, Query, Volume};
 
 /// What lies under the lock: the volume, and who publishes its records, if it has views. Its next record has a number below

@@ -11,8 +11,7 @@ use crate::shared::OpenFault;
 use crate::stock::Stock;
 use std::alloc::Global;
 use std::sync::Wait;
-use vol_publish::Publisher;
-use vol_views::View;
+use vol_views::{Publisher, View};
 use vol_volume::Volume;
 
 /// So many views of what is published.

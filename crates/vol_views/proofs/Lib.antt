@@ -1,1 +1,9 @@
+pub mod Beginnings
+pub mod Words
+pub mod LogSteps
+pub mod States
+pub mod Versions
+pub mod Fronts
+pub mod Logs
+pub mod PublishedSteps
 pub mod Views

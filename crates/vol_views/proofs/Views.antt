@@ -14,11 +14,11 @@ use Rattle.vol_receipts.specs.declared.receipts.Outcome.TheVariants.{Accepted, R
 use Rattle.vol_receipts.specs.declared.receipts.Origin.{Origin}
 use Rattle.vol_receipts.specs.declared.receipts.Receipt.{Receipt}
 use Rattle.vol_receipts.proofs.Agreement.{agrees_grows}
-use Rattle.vol_ledger.specs.declared.history.LogEntry.{LogEntry}
-use Rattle.vol_ledger.specs.declared.history.LogEntry.TheVariants.{Opened, Made}
-use Rattle.vol_ledger.proofs.Beginnings.{prefix_whole}
-use Rattle.vol_publish.specs.Logs.{history_of, origin_in, number_of}
-use Rattle.vol_publish.proofs.Fronts.{prefix_self}
+use Rattle.vol_views.specs.declared.history.LogEntry.{LogEntry}
+use Rattle.vol_views.specs.declared.history.LogEntry.TheVariants.{Opened, Made}
+use Rattle.vol_views.proofs.Beginnings.{prefix_whole}
+use Rattle.vol_views.specs.Logs.{history_of, origin_in, number_of}
+use Rattle.vol_views.proofs.Fronts.{prefix_self}
 use Rattle.vol_views.specs.Views.{GoesOn, AgreesIn}
 
 -- the records of two logs, one behind the other

@@ -4,9 +4,9 @@ use mathlib.Core.List.{IsPrefix}
 use Rattle.logbook.specs.Pages.{Book}
 use Rattle.vol_receipts.specs.Agrees.{Agrees}
 use Rattle.vol_receipts.specs.declared.receipts.Receipt.{Receipt}
-use Rattle.vol_ledger.specs.History.{Reached}
-use Rattle.vol_ledger.specs.declared.history.LogEntry.{LogEntry}
-use Rattle.vol_publish.specs.Logs.{history_of, origin_in, number_of}
+use Rattle.vol_views.specs.History.{Reached}
+use Rattle.vol_views.specs.declared.history.LogEntry.{LogEntry}
+use Rattle.vol_views.specs.Logs.{history_of, origin_in, number_of}
 
 -- a view: of which log, the front of it that the view knows, and the receipts that it gave (this project)
 pub record Watched : Type 0 where

@@ -1,11 +1,11 @@
 //! How far a volume has come, as its publisher tells it.
 ghost use Rattle.std.specs.Prelude.{◌≡◌, ◌≤◌, IfSome};
-ghost use Rattle.vol_publish.specs.Logs.{number_of};
+ghost use Rattle.vol_views.specs.Logs.{number_of};
 ghost use Rattle.vol_views.specs.Views.{GoesOn, book_in};
 
+use crate::front::Front;
+use crate::publisher::Publisher;
 use std::marker::Model;
-use vol_ledger::Front;
-use vol_publish::Publisher;
 
 /// A front of a volume's log that has begun, and the number of the record that comes next there. Contracts see the front.
 #[derive(Drop)]
@@ -16,8 +16,8 @@ pub struct Told {
 
 impl Model for Told {
     ghost use Rattle.std.specs.Prelude.{◌≡◌, ◌≢◌, []};
-    ghost use Rattle.vol_ledger.specs.History.{Reached};
-    ghost use Rattle.vol_publish.specs.Logs.{number_of};
+    ghost use Rattle.vol_views.specs.History.{Reached};
+    ghost use Rattle.vol_views.specs.Logs.{number_of};
 
     ghost Value = { Reached };
 

@@ -5,16 +5,17 @@ ghost use Rattle.vol_volume.specs.Answer.{Answers, takes_memory};
 ghost use Rattle.vol_volume.specs.Journal.{after};
 ghost use Rattle.vol_receipts.specs.Agrees.{start, IsAnswer};
 ghost use Rattle.vol_receipts.specs.declared.receipts.Asked.TheVariants.{Question};
-ghost use Rattle.vol_publish.specs.Logs.{history_of, origin_in, number_of};
+ghost use Rattle.vol_views.specs.Logs.{history_of, origin_in, number_of};
 ghost use Rattle.vol_views.specs.Views.{GoesOn, Sees, IsNew, AgreesIn};
 
 use crate::notes::{Notes, no_notes, note};
+use crate::publisher::Publisher;
+use crate::subscriber::{Answered, Subscriber};
 use crate::told::{Informed, Told};
 use std::alloc::Global;
 use std::marker::Model;
 use thiserror::Error;
 use vol_dir::Refusal;
-use vol_publish::{Answered, Publisher, Subscriber};
 use vol_receipts::{Asked, Outcome, Receipt};
 use vol_volume::Query;
 
@@ -70,7 +71,7 @@ impl View {
     /// The answer to a query, of what is published. NoMemory where the reply takes memory and there was none; NotEntered
     /// where what is published couldn't be taken. Either leaves the receipts as they were, and NotEntered leaves all.
     ///
-    /// Takes memory and costs what [`vol_publish::Subscriber::ask`] does, and waits for nobody.
+    /// Takes memory and costs what [`Subscriber::ask`] does, and waits for nobody.
     pub fn ask(&mut self, alloc: Global, query: Query) -> Result<Receipt, (ViewFault, Query)>
         ensures book { self.new.book ≡ self.old.book }
         ensures goes_on { GoesOn self.old.log self.new.log }

@@ -1,7 +1,7 @@
 use Rattle.std.proofs.Common.{◌∙◌, sym, ap}
 use Rattle.vol_receipts.specs.Agrees.{origin_of}
-use Rattle.vol_versions.specs.States.{state_of}
-use Rattle.vol_versions.proofs.States.{state_first}
+use Rattle.vol_views.specs.States.{state_of}
+use Rattle.vol_views.proofs.States.{state_first}
 use Rattle.shared_tests.proofs.publishing.publish_first.Goals as goal
 
 pub publish-requires-clause-may_follow : goal.publish-requires-clause-may_follow

@@ -6,9 +6,9 @@ use Rattle.vol_volume.specs.declared.calls.Call.{Call}
 use Rattle.vol_volume.specs.declared.calls.Record.{Record}
 use Rattle.vol_receipts.specs.Agrees.{origin_of}
 use Rattle.vol_receipts.proofs.Records.{get_accepted}
-use Rattle.vol_ledger.specs.declared.history.LogEntry.{LogEntry}
-use Rattle.vol_ledger.specs.declared.history.LogEntry.TheVariants.{Made}
-use Rattle.vol_versions.specs.States.{state_of}
+use Rattle.vol_views.specs.declared.history.LogEntry.{LogEntry}
+use Rattle.vol_views.specs.declared.history.LogEntry.TheVariants.{Made}
+use Rattle.vol_views.specs.States.{state_of}
 use Rattle.vol_shared.specs.Published.{IsPublished}
 use Rattle.vol_shared.specs.Stored.{stored_of}
 use Rattle.vol_shared.proofs.Fronts.{published_state, published_more}

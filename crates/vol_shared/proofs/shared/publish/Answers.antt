@@ -1,5 +1,5 @@
 use Rattle.std.proofs.Common.{◌∙◌, ap, Some}
-use Rattle.vol_ledger.specs.History.{Reached}
+use Rattle.vol_views.specs.History.{Reached}
 use Rattle.vol_shared.specs.Stored.{Stored, unpublished}
 use Rattle.vol_shared.proofs.Fronts.{all_new}
 use Rattle.vol_shared.proofs.shared.publish.Goals as goal

@@ -1,6 +1,6 @@
 use Rattle.std.proofs.Common.{◌≡◌, ◌∙◌, ◌<◌, length, sym, ap, subst, All, arith}
 use Rattle.std.proofs.lemmas.List.Elements.{All-tail}
-use Rattle.vol_ledger.specs.History.{Reached}
+use Rattle.vol_views.specs.History.{Reached}
 use Rattle.vol_views.specs.Views.{Watched}
 use Rattle.vol_shared.proofs.watching.+compare.Goals as goal
 

@@ -1,7 +1,7 @@
 use Rattle.std.proofs.Common.{ap, subst, List, arith}
-use Rattle.vol_ledger.specs.History.{Reached}
-use Rattle.vol_ledger.specs.declared.history.LogEntry.{LogEntry}
-use Rattle.vol_publish.specs.Logs.{number_of}
+use Rattle.vol_views.specs.History.{Reached}
+use Rattle.vol_views.specs.declared.history.LogEntry.{LogEntry}
+use Rattle.vol_views.specs.Logs.{number_of}
 use Rattle.vol_views.specs.Views.{GoesOn}
 use Rattle.vol_views.proofs.Views.{goes_on}
 use Rattle.vol_views.proofs.told.Told.goes_on.Goals as goal

@@ -1,6 +1,6 @@
 use Rattle.std.proofs.Common.{ap, subst, List}
-use Rattle.vol_ledger.specs.History.{Reached}
-use Rattle.vol_ledger.specs.declared.history.LogEntry.{LogEntry}
+use Rattle.vol_views.specs.History.{Reached}
+use Rattle.vol_views.specs.declared.history.LogEntry.{LogEntry}
 use Rattle.vol_views.specs.Views.{GoesOn}
 use Rattle.vol_views.proofs.Views.{goes_on_beginning}
 use Rattle.vol_views.proofs.told.Told.is_covered.Goals as goal

@@ -1,5 +1,5 @@
 use Rattle.std.proofs.Common.{◌≡◌, ◌∙◌, sym, ap, subst, List, All}
-use Rattle.vol_ledger.specs.declared.history.LogEntry.{LogEntry}
+use Rattle.vol_views.specs.declared.history.LogEntry.{LogEntry}
 use Rattle.vol_receipts.specs.declared.receipts.Receipt.{Receipt}
 use Rattle.vol_views.specs.Views.{Watched, AgreesIn}
 use Rattle.vol_views.proofs.Views.{agrees_here, all_agree_more}

@@ -1,9 +1,0 @@
-use Rattle.std.proofs.Common.{rules, ◌≡◌}
-use Rattle.vol_versions.proofs.Versions.{made_of}
-use Rattle.vol_versions.proofs.version.Version.new.Goals as goal
-
-pub invariant_of-result : goal.invariant_of-result
-invariant_of-result c =
-    let same : c.from_bytes.result ≡ c.args.volume.now.image = search rules in
-    made_of c.args.volume.now c.geometry.result.now c.from_bytes.result c.free_blocks.result c.first_trace.result.log c.check.ensures c.geometry.ensures same
-    c.free_blocks.ensures c.first_trace.ensures

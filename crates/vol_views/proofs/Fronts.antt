@@ -1,0 +1,25 @@
+-- Beginnings of logs.
+use Rattle.std.proofs.Common.{◌≡◌, List, [], ◌++◌, ◌∷◌, refl, ap, sym, ◌∙◌, subst, inl, inr, ⊎_elim}
+use Rattle.std.proofs.lemmas.List.{append-nil}
+use mathlib.Core.List.{IsPrefix}
+use Rattle.vol_views.specs.History.{Reached}
+use Rattle.vol_views.specs.declared.history.LogEntry.{LogEntry}
+use Rattle.vol_views.proofs.Beginnings.{prefix_trans}
+use Rattle.vol_views.specs.PublishedRule.{Begins}
+
+-- each list begins with itself
+pub prefix_self : {A : Type 0} (xs : List A) → IsPrefix xs xs
+prefix_self xs = ([], append-nil xs)
+
+-- and with what stands before more
+pub prefix_more : {A : Type 0} (xs ys : List A) → IsPrefix xs (xs ++ ys)
+prefix_more xs ys = (ys, refl)
+
+-- a front begins itself
+pub begins_self : (front whole : Reached) → whole ≡ front → Begins front whole
+begins_self front whole same = inr (ap (λ r. r.book) (sym same), subst (λ (r : Reached). IsPrefix r.log whole.log) same (prefix_self whole.log))
+
+-- what begins a front begins what goes on from that
+pub begins_on : (front whole longer : Reached) → whole.book ≡ longer.book → IsPrefix whole.log longer.log → Begins front whole → Begins front longer
+begins_on front whole longer book goes_on begins =
+    ⊎_elim (λ empty. inl empty) (λ t. inr (t.0 ∙ book, prefix_trans front.log whole.log longer.log t.1 goes_on)) begins

@@ -1,0 +1,57 @@
+-- What logs say.
+use Rattle.std.proofs.Common.{◌≡◌, ℕ, ◌+◌, List, [], ◌∷◌, ◌++◌, length, refl, ap, sym, ◌∙◌, arith, append_assoc, length-append}
+use Rattle.std.proofs.lemmas.List.{append-nil}
+use Rattle.vol_dir.specs.Tree.{State}
+use Rattle.vol_volume.specs.Journal.{after, MayFollow}
+use Rattle.vol_volume.specs.Step.{step}
+use Rattle.vol_volume.specs.Volume.{Mounted}
+use Rattle.vol_volume.specs.declared.calls.Record.{Record}
+use Rattle.vol_receipts.specs.Agrees.{origin_of, start}
+use Rattle.vol_views.specs.LogRule.{first_log}
+use Rattle.vol_views.specs.declared.history.LogEntry.{LogEntry}
+use Rattle.vol_views.specs.declared.history.LogEntry.TheVariants.{Opened, Made}
+use Rattle.vol_views.specs.States.{state_of}
+use Rattle.vol_views.proofs.States.{state_first, state_more, applied_next}
+use Rattle.vol_views.specs.Logs.{history_of, origin_in, number_of}
+
+-- an entry more is a record more
+pub history_more : (log : List LogEntry) (entry : Record) → history_of (log ++ Made entry ∷ []) ≡ history_of log ++ entry ∷ []
+history_more [] entry = refl
+history_more (Opened origin journal ∷ log) entry = ap (λ w. journal ++ w) (history_more log entry) ∙ sym (append_assoc journal (history_of log) (entry ∷ []))
+history_more (Made first ∷ log) entry = ap (λ w. first ∷ w) (history_more log entry)
+
+-- from the same start
+pub origin_more : (log : List LogEntry) (entry : Record) → origin_in (log ++ Made entry ∷ []) ≡ origin_in log
+origin_more [] entry = refl
+origin_more (Opened origin journal ∷ log) entry = refl
+origin_more (Made first ∷ log) entry = refl
+
+-- and the number is one more
+pub number_more : (log : List LogEntry) (entry : Record) → number_of (log ++ Made entry ∷ []) ≡ number_of log + 1
+number_more log entry =
+    let start_same = ap (λ o. o.first) (origin_more log entry) in
+    let longer = ap length (history_more log entry) ∙ length-append (history_of log) (entry ∷ []) in
+    omega (arith, start_same, longer)
+
+-- the records with one more
+pub after_more : (state : State) (journal : List Record) (entry : Record) → after state (journal ++ entry ∷ []) ≡ step (after state journal) entry.call entry.done
+after_more state [] entry = refl
+after_more state (first ∷ journal) entry = after_more (step state first.call first.done) journal entry
+
+-- a log whose entries come to what its records make of their start does so with a record more that may come next
+pub reads_more : (log : List LogEntry) (entry : Record) → state_of log ≡ after (start (origin_in log)) (history_of log) → MayFollow (state_of log) entry
+    → state_of (log ++ Made entry ∷ []) ≡ after (start (origin_in (log ++ Made entry ∷ []))) (history_of (log ++ Made entry ∷ []))
+reads_more log entry reads may =
+    state_more log (Made entry)
+    ∙ (applied_next (state_of log) entry may
+    ∙ (ap (λ s. step s entry.call entry.done) reads
+    ∙ (sym (after_more (start (origin_in log)) (history_of log) entry)
+    ∙ rw (origin_more log entry, history_more log entry) refl)))
+
+-- the log of a volume that is opened
+pub number_first : (volume : Mounted) → number_of (first_log volume) ≡ volume.first + length volume.journal
+number_first volume = ap (λ w. volume.first + length w) (append-nil volume.journal)
+
+pub reads_first : (volume : Mounted) → state_of (first_log volume) ≡ after (start (origin_in (first_log volume))) (history_of (first_log volume))
+reads_first volume =
+    state_first (origin_of volume) volume.journal ∙ ap (λ w. after (start (origin_of volume)) w) (sym (append-nil volume.journal))

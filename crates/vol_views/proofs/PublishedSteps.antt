@@ -1,0 +1,149 @@
+-- Each step keeps the rule.
+use Rattle.std.proofs.Common.{◌≡◌, ◌≢◌, ◌⊎◌, ℕ, ◌+◌, List, [], ◌∷◌, ◌++◌, set, fold, refl, ap, sym, ◌∙◌, subst, inl, inr, ⊎_elim, None, Some}
+use Rattle.std.proofs.lemmas.List.{append-nil}
+use mathlib.Core.List.{IsPrefix}
+use mathlib.Core.Option.{some}
+use lib.ListN.{get_elem?}
+use Rattle.left_right.specs.Register.{Admits, TurnsAt, Forks, Merges}
+use Rattle.atomic_table.proofs.Lists.{at_set, at_snoc}
+use Rattle.vol_volume.specs.Journal.{MayFollow, after}
+use Rattle.vol_receipts.specs.Agrees.{start}
+use Rattle.vol_volume.specs.Volume.{Mounted}
+use Rattle.vol_volume.specs.declared.calls.Record.{Record}
+use Rattle.vol_views.specs.History.{Reached}
+use Rattle.vol_views.specs.LogRule.{first_log}
+use Rattle.vol_views.specs.declared.history.LogEntry.{LogEntry}
+use Rattle.vol_views.specs.declared.history.LogEntry.TheVariants.{Made}
+use Rattle.vol_views.specs.States.{state_of}
+use Rattle.vol_views.specs.Absorbing.{absorbed, empty_operation}
+use Rattle.vol_views.specs.Logs.{number_of, origin_in, history_of}
+use Rattle.vol_views.specs.PublishedRule.{IsRight, Begins, Holds, Enters, MayShow, nothing_reached}
+use Rattle.vol_views.specs.declared.published.Published.{Published}
+use Rattle.vol_views.specs.declared.published.Operation.{Operation}
+use Rattle.vol_views.proofs.Fronts.{prefix_self, prefix_more, begins_self, begins_on}
+use Rattle.vol_views.proofs.Logs.{number_more, reads_more, reads_first}
+
+abbrev Known : Published → List Reached → Type 0
+Known p known = (seat : ℕ) (front : Reached) → get_elem? known seat ≡ some front → Begins front p.front
+
+-- a front that is known at one seat
+known_set : (p : Published) (known : List Reached) (seat : ℕ) (front : Reached) → Known p known → Begins front p.front → Known p (set known seat front)
+known_set p known seat front all begins j other at =
+    ⊎_elim (λ (t : (j ≡ seat) × (front ≡ other)). subst (λ (r : Reached). Begins r p.front) t.1 begins)
+    (λ (t : (j ≢ seat) × (get_elem? known j ≡ some other)). all j other t.1) (at_set known seat j front other at)
+
+-- and at a new one
+known_more : (p : Published) (known : List Reached) (front : Reached) → Known p known → Begins front p.front → Known p (known ++ front ∷ [])
+known_more p known front all begins j other at =
+    ⊎_elim (λ (e : get_elem? known j ≡ some other). all j other e) (λ (e : front ≡ other). subst (λ (r : Reached). Begins r p.front) e begins)
+    (at_snoc known front other j at)
+
+-- a new reader knows nothing
+pub admits : Admits Holds nothing_reached
+admits p known h = (h.0, known_more p known nothing_reached h.1 (inl refl))
+
+-- what is first published may be
+pub holds_first : (p : Published) → IsRight p → Holds p (nothing_reached ∷ [])
+holds_first p right = (right, known_more p [] nothing_reached (λ seat front at. absurd cc) (inl refl))
+
+-- a version is entered
+pub enters : (seat : ℕ) (front : Reached) (p : Published) → TurnsAt Holds seat front p p Enters
+enters seat front p known h at = (
+  p.front,
+  (h.0, known_set p known seat p.front h.1 (begins_self p.front p.front refl)),
+  (h.0, h.1 seat front at, refl),
+)
+
+-- a version is shown
+pub shows : (seat : ℕ) (front : Reached) (p next : Published) → IsRight next → p.front.book ≡ next.front.book → IsPrefix p.front.log next.front.log
+    → TurnsAt Holds seat front p next (λ before shown then after. after ≡ then.front)
+shows seat front p next right book goes_on known h at =
+    let all : Known next known = λ j other e. begins_on other p.front next.front book goes_on (h.1 j other e) in (
+      next.front,
+      (right, known_set next known seat next.front all (begins_self next.front next.front refl)),
+      refl,
+    )
+
+-- one tells what it knows
+pub forks : (seat : ℕ) (front : Reached) → Forks Holds seat front front front
+forks seat front p known h at =
+    let begins = h.1 seat front at in
+    (h.0, known_more p (set known seat front) front (known_set p known seat front h.1 begins) begins)
+
+-- and one learns it
+pub merges : (seat : ℕ) (front : Reached) (other : ℕ) (told : Reached) → Merges Holds seat front other told told nothing_reached
+merges seat front other told p known h at apart there =
+    let begins : Begins told p.front =
+    ⊎_elim (λ (t : (other ≡ seat) × (told ≡ told)). absurd (apart t.0)) (λ (t : (other ≢ seat) × (get_elem? known other ≡ some told)). h.1 other told t.1)
+    (at_set known seat other told told there) in
+    (h.0, known_set p (set known seat told) other nothing_reached (known_set p known seat told h.1 begins) (inl refl))
+
+-- what operations make may be shown
+pub may_show : (seat : ℕ) (front : Reached) (p next : Published) (operations : List Operation) → MayShow p operations → next ≡ fold absorbed p operations
+    → TurnsAt Holds seat front p next (λ before shown then after. after ≡ then.front)
+may_show seat front p next operations may is =
+    subst (λ (x : Published). TurnsAt Holds seat front p x (λ before shown then after. after ≡ then.front)) (sym is)
+    (shows seat front p (fold absorbed p operations) may.right may.book may.goes_on)
+
+-- nothing that is pending may be shown
+pub shows_same : (p : Published) → IsRight p → MayShow p []
+shows_same p right = record { right = right; book = refl; goes_on = prefix_self p.front.log }
+
+-- so may an operation that changes nothing, twice
+pub shows_empty : (p : Published) (front : Reached) (at : ℕ) (operations : List Operation) → IsRight p → p.at ≡ at → p.front ≡ front
+    → operations ≡ empty_operation at front ∷ empty_operation at front ∷ [] → MayShow p operations
+shows_empty p front at operations right number same pending =
+    let version : (p.version ++ []) ++ [] ≡ front.log = append-nil (p.version ++ []) ∙ (append-nil p.version ∙ (right.version ∙ ap (λ r. r.log) same)) in
+    rw pending (record {
+      right = record {
+        begun = λ e. right.begun (ap (λ r. r.log) same ∙ e);
+        version = version;
+        at = sym number ∙ (right.at ∙ ap (λ r. number_of r.log) same);
+        reads = subst (λ (r : Reached). state_of r.log ≡ after (start (origin_in r.log)) (history_of r.log)) same right.reads;
+      };
+      book = ap (λ r. r.book) same;
+      goes_on = subst (λ (r : Reached). IsPrefix p.front.log r.log) same (prefix_self p.front.log);
+    })
+
+longer_some : (log : List LogEntry) (entry : LogEntry) → (log ++ entry ∷ []) ≢ []
+longer_some [] entry e = absurd cc
+longer_some (first ∷ log) entry e = absurd cc
+
+-- and so may a record that may come next
+pub shows_record : (p : Published) (old new : Reached) (entry : Record) (at : ℕ) (operations : List Operation) → IsRight p → p.front ≡ old
+    → new.book ≡ old.book → new.log ≡ old.log ++ Made entry ∷ [] → MayFollow (state_of old.log) entry → at ≡ number_of old.log + 1
+    → operations ≡ (record { made = Some entry; at = at; front = new }) ∷ [] → MayShow p operations
+shows_record p old new entry at operations right same book longer may number pending =
+    let log : p.front.log ≡ old.log = ap (λ r. r.log) same in
+    rw pending (record {
+      right = record {
+        begun = λ e. longer_some old.log (Made entry) (sym longer ∙ e);
+        version = ap (λ w. w ++ Made entry ∷ []) (right.version ∙ log) ∙ sym longer;
+        at = rw longer (number ∙ sym (number_more old.log entry));
+        reads = rw longer (reads_more old.log entry (subst (λ (r : Reached). state_of r.log ≡ after (start (origin_in r.log)) (history_of r.log)) same right.reads) may);
+      };
+      book = ap (λ r. r.book) same ∙ sym book;
+      goes_on = rw (log, longer) (prefix_more old.log (Made entry ∷ []));
+    })
+
+-- a volume that is opened may be published
+pub right_first : (volume : Mounted) (p : Published) → p.front.log ≡ first_log volume → p.version ≡ first_log volume → p.at ≡ number_of (first_log volume) → IsRight p
+right_first volume p log version number =
+    record {
+      begun = λ e. let some : first_log volume ≡ [] = sym log ∙ e in absurd cc;
+      version = version ∙ sym log;
+      at = number ∙ ap number_of (sym log);
+      reads = rw log (reads_first volume);
+    }
+
+-- what is shown after these operations: the same, or with the front of the last
+pub shown_same : (p shown : Published) (operations : List Operation) → operations ≡ [] → shown ≡ fold absorbed p operations → shown ≡ p
+shown_same p shown operations pending is = is ∙ ap (λ os. fold absorbed p os) pending
+
+pub shown_empty : (p shown : Published) (front : Reached) (at : ℕ) (operations : List Operation)
+    → operations ≡ empty_operation at front ∷ empty_operation at front ∷ [] → shown ≡ fold absorbed p operations → shown.front ≡ front
+shown_empty p shown front at operations pending is = ap (λ q. q.front) is ∙ ap (λ os. (fold absorbed p os).front) pending
+
+pub shown_record : (p shown : Published) (front : Reached) (entry : Record) (at : ℕ) (operations : List Operation)
+    → operations ≡ (record { made = Some entry; at = at; front = front }) ∷ [] → shown ≡ fold absorbed p operations → shown.front ≡ front
+shown_record p shown front entry at operations pending is = ap (λ q. q.front) is ∙ ap (λ os. (fold absorbed p os).front) pending

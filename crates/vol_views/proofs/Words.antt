@@ -1,0 +1,37 @@
+-- The words beside the first.
+use Rattle.std.proofs.Common.{◌≡◌, ℕ, zero, suc, ◌+◌, ◌<◌, ◌==◌, true, false, List, [], ◌∷◌, ◌++◌, length, refl, ap, sym, arith, set}
+use Rattle.std.proofs.lemmas.Bool.Decides.{nat_tests}
+use prog.Atomic.{either}
+use Rattle.logbook.specs.Pages.{Cell, cell}
+use Rattle.vol_views.specs.LogRule.{words}
+
+-- how many there are
+pub words_length : (n m : ℕ) → length (words n m) ≡ n + m
+words_length zero zero = refl
+words_length zero (suc m) = let rest = words_length zero m in omega (arith, rest)
+words_length (suc n) m = let rest = words_length n m in omega (arith, rest)
+
+-- the first n were taken
+pub word_taken : (n m k : ℕ) → k < n → (cell (words n m) k).1 ≡ true
+word_taken zero m k low = absurd (omega arith)
+word_taken (suc n) m zero low = refl
+word_taken (suc n) m (suc k) low = word_taken n m k (omega arith)
+
+-- a pen writes its word
+pub word_set : (n m : ℕ) → set (words n (suc m)) n (0, true) ≡ words (suc n) m
+word_set zero m = refl
+word_set (suc n) m = ap (λ (cs : List Cell). (0, true) ∷ cs) (word_set n m)
+
+-- a word more
+pub word_more : (n m : ℕ) → words n m ++ (0, false) ∷ [] ≡ words n (suc m)
+word_more zero zero = refl
+word_more zero (suc m) = ap (λ (cs : List Cell). (0, false) ∷ cs) (word_more zero m)
+word_more (suc n) m = ap (λ (cs : List Cell). (0, true) ∷ cs) (word_more n m)
+
+-- a number that 0 would take for 0 stays
+pub stays : (n : ℕ) → either (n == 0) 0 n ≡ n
+stays n =
+    elim (n == 0) as (λ b. (n == 0) ≡ b → either b 0 n ≡ n) [
+      | true ↦ λ e. let zero_is : n ≡ 0 = grind (arith, nat_tests) in sym zero_is
+      | false ↦ λ e. refl
+    ] refl

@@ -1,0 +1,23 @@
+-- What a log says: the records, what they start from, and the number of the next.
+use Rattle.std.specs.Prelude.{ℕ, ◌+◌, List, [], ◌∷◌, ◌++◌, length}
+use Rattle.vol_layout.specs.declared.edition.Edition.TheVariants as editions
+use Rattle.vol_volume.specs.declared.calls.Record.{Record}
+use Rattle.vol_receipts.specs.declared.receipts.Origin.{Origin}
+use Rattle.vol_views.specs.declared.history.LogEntry.{LogEntry}
+use Rattle.vol_views.specs.declared.history.LogEntry.TheVariants.{Opened, Made}
+
+-- the records of a log: those of the journal that was opened, and those made since (this project)
+abbrev pub history_of : List LogEntry → List Record
+history_of [] = []
+history_of (Opened origin journal ∷ log) = journal ++ history_of log
+history_of (Made entry ∷ log) = entry ∷ history_of log
+
+-- what the records of a log start from, which its first entry says (this project)
+abbrev pub origin_in : List LogEntry → Origin
+origin_in [] = record { edition = editions.V6; bytes = []; first = 0 }
+origin_in (Opened origin journal ∷ log) = origin
+origin_in (Made entry ∷ log) = record { edition = editions.V6; bytes = []; first = 0 }
+
+-- the number of the record that comes next (this project)
+abbrev pub number_of : List LogEntry → ℕ
+number_of log = (origin_in log).first + length (history_of log)

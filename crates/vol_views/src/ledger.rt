@@ -1,0 +1,132 @@
+//! The owner of the log.
+ghost use Rattle.std.specs.Prelude.{◌≡◌, ◌++◌, ◌∷◌, [], length, IfSome};
+ghost use mathlib.Core.List.{IsPrefix};
+ghost use Rattle.vol_views.specs.LogRule.{first_log};
+ghost use Rattle.vol_views.specs.declared.history.LogEntry.TheVariants.{Made};
+
+use crate::front::Front;
+use crate::history::LogEntry;
+use crate::log_rule::{Append, Begin, Beginning, Compare, Head, Nothing, OneOwner};
+use crate::pens::new_pen;
+use logbook::{Offer, Pen, Seen, Start};
+use std::marker::Model;
+use vol_volume::{Record, Volume};
+
+/// The owner of a volume's log: it alone appends to it, so it knows the whole.
+#[derive(Drop)]
+pub struct Ledger {
+    head: Head,
+    seen: Beginning,
+    pen: Pen,
+    made: u64,
+}
+
+impl Model for Ledger {
+    ghost use Rattle.std.specs.Prelude.{◌≡◌, ◌+◌, length};
+    ghost use Rattle.logbook.specs.Pages.{nib, may_write};
+    ghost use Rattle.vol_views.specs.History.{Reached};
+    ghost use Rattle.vol_views.specs.LogRule.{head_of};
+
+    ghost Value = { Reached };
+
+    ghost view = { λ l. record { book = l.seen.book; log = l.seen.log } };
+
+    ghost invariant = { λ l. (l.head ≡ head_of l.seen.book)
+        × (l.pen.book ≡ l.seen.book)
+        × (l.pen.nib ≡ nib may_write (length l.seen.log) 0)
+        × (length l.seen.log ≡ l.made + 1) };
+}
+
+/// The right to append one entry.
+#[derive(Drop)]
+pub struct Permit {
+    pen: Pen,
+    at: u64,
+}
+
+impl Model for Permit {
+    ghost use Rattle.std.specs.Prelude.{◌≡◌, ◌+◌, ◌<◌, ◌^◌};
+    ghost use Rattle.logbook.specs.Pages.{nib, may_write};
+    ghost use Rattle.vol_views.specs.History.{Allowed};
+
+    ghost Value = { Allowed };
+
+    ghost view = { λ p. record { book = p.pen.book; at = p.at } };
+
+    ghost invariant = { λ p. (p.pen.nib ≡ nib may_write (p.at + 1) 0) × (p.at + 1 < 2 ^ 64) };
+}
+
+impl Ledger {
+    /// The owner of a new log, which begins with a volume as it is opened. None never comes, which no contract can say:
+    /// only where the log's word held another number than it was just made with.
+    ///
+    /// Takes no memory.
+    pub fn open(volume: &Volume) -> Option<Ledger>
+        ensures { IfSome result (λ ledger. ledger.log ≡ first_log volume.now) }
+    {
+        let (seen, mut pens) = Seen::open_row::<Volume, Begin>(volume, Start::alone(), 1);
+        let mut pen = pens.take();
+        let head: Head = Head::tracked(0, &mut pen);
+        let pen = new_pen(&head, &seen, 0)?;
+        Some(Ledger {
+            head,
+            seen,
+            pen,
+            made: 0,
+        })
+    }
+
+    /// The right to append the next entry. None where the log has 2^64 - 2 entries, and where there is such a right
+    /// already.
+    pub fn ready(&self) -> Option<Permit>
+        ensures book { IfSome result (λ permit. permit.book ≡ self.now.book) }
+        ensures next { IfSome result (λ permit. permit.at ≡ length self.now.log) }
+    {
+        let at = self.made.checked_add(1)?;
+        if at == u64::MAX {
+            return None;
+        }
+        let pen = new_pen(&self.head, &self.seen, at)?;
+        Some(Permit { pen, at })
+    }
+
+    /// Appends the record of an accepted call.
+    pub fn append(&mut self, permit: Permit, made: &Record)
+        requires book { permit.book ≡ self.old.book }
+        requires next { permit.at ≡ length self.old.log }
+        ensures book { self.new.book ≡ self.old.book }
+        ensures log { self.new.log ≡ self.old.log ++ Made made.now ∷ [] }
+    {
+        let mut offer: Offer<LogEntry, u64, OneOwner, Nothing> = self
+            .seen
+            .plain::<Nothing, Record, Append>(made);
+        self.head
+            .compare_exchange::<Append, Nothing>(0, 0, &mut self.seen, &mut offer, &mut self.pen);
+        self.pen = permit.pen;
+        self.made += 1;
+    }
+
+    /// The whole log, as a front.
+    pub fn front(&self) -> Front
+        ensures { result ≡ self.now }
+    {
+        Front {
+            seen: self.seen.again(),
+        }
+    }
+
+    /// Does nothing: the whole log goes on from each beginning of it.
+    pub fn covers(&mut self, front: &Front)
+        requires { front.now.book ≡ self.old.book }
+        ensures same { self.new ≡ self.old }
+        ensures covers { IsPrefix front.now.log self.old.log }
+    {
+        let mut both = self.seen.again();
+        both.learn(&front.seen);
+        let mut offer: Offer<LogEntry, u64, OneOwner, Nothing> = both.plain::<Nothing, (), Compare>(
+            &(),
+        );
+        self.head
+            .compare_exchange::<Compare, Nothing>(0, 0, &mut both, &mut offer, &mut self.pen);
+    }
+}

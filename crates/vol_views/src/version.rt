@@ -1,0 +1,83 @@
+//! An image by itself.
+ghost use Rattle.std.specs.Prelude.{◌≡◌, ◌↔◌, ◌++◌, ◌∷◌, [], IsTrue, IfOk};
+ghost use Rattle.vol_views.specs.LogRule.{first_log};
+ghost use Rattle.vol_views.specs.declared.history.LogEntry.TheVariants.{Made};
+ghost use Rattle.vol_volume.specs.Answer.{Answers};
+ghost use Rattle.vol_volume.specs.Journal.{MayFollow};
+ghost use Rattle.vol_views.specs.States.{state_of};
+
+use crate::trace::{Trace, first_trace, longer_trace};
+use pdp_words::Image;
+use std::alloc::{AllocError, Global};
+use std::marker::Model;
+use vol_dir::Refusal;
+use vol_layout::Geometry;
+use vol_volume::{Query, Record, Reply, Volume, apply, ask_image};
+
+/// The image of a volume by itself, with its geometry and the number of its free blocks beside it, so that neither is
+/// found anew for a record. Contracts see what became of it: the volume that it was made of, and the records that were
+/// applied since. It always reads as what these come to.
+#[derive(Drop)]
+pub struct Version {
+    geometry: Geometry,
+    image: Image,
+    free: u32,
+    trace: Trace,
+}
+
+impl Model for Version {
+    ghost use Rattle.std.specs.Prelude.{◌≡◌, List};
+    ghost use Rattle.vol_layout.specs.Geometry.{geometry_of};
+    ghost use Rattle.vol_dir.specs.Tree.{state, free_count, shapes};
+    ghost use Rattle.vol_judge.specs.Sound.{IsSound};
+    ghost use Rattle.vol_views.specs.declared.history.LogEntry.{LogEntry};
+    ghost use Rattle.vol_views.specs.States.{state_of};
+
+    ghost Value = { List LogEntry };
+
+    ghost view = { λ v. v.trace.log };
+
+    ghost invariant = { λ v. IsSound v.geometry.edition v.image
+        × (v.geometry ≡ geometry_of v.geometry.edition v.image)
+        × (v.free ≡ free_count v.geometry (shapes v.geometry v.image))
+        × (state v.geometry v.image ≡ state_of v.trace.log) };
+}
+
+impl Version {
+    /// A version of a volume as it is.
+    ///
+    /// Takes memory for a copy of the image, and costs that copy.
+    pub fn new(alloc: Global, volume: &Volume) -> Result<Version, AllocError>
+        ensures { IfOk result (λ version. version ≡ first_log volume.now) }
+    {
+        volume.check();
+        let bytes = Vec::from_slice(alloc, volume.image().as_bytes())?;
+        Ok(Version {
+            geometry: *volume.geometry(),
+            image: Image::from_bytes(bytes),
+            free: volume.free_blocks(),
+            trace: first_trace(volume),
+        })
+    }
+
+    /// Applies a record, where it may come next; true where it does. Else the image stays.
+    ///
+    /// Takes no memory. Costs what [`vol_volume::apply`] does.
+    pub fn apply(&mut self, entry: &Record) -> bool
+        ensures applied { self.new ≡ self.old ++ Made entry.now ∷ [] }
+        ensures may_follow { IsTrue result ↔ MayFollow (state_of self.old) entry.now }
+    {
+        let is_next = apply(&mut self.image, &self.geometry, &mut self.free, entry);
+        self.trace = longer_trace(&self.trace, entry);
+        is_next
+    }
+
+    /// The answer to a query, with the refusals of [`Volume::ask`].
+    ///
+    /// Takes memory and costs what [`vol_volume::ask_image`] does.
+    pub fn ask(&self, alloc: Global, query: &Query) -> Result<Reply, Refusal>
+        ensures { Answers (state_of self.now).tree query.now result }
+    {
+        ask_image(alloc, &self.image, &self.geometry, query)
+    }
+}

@@ -5,10 +5,10 @@
 #![tactic(auto)]
 
 pub mod front;
+mod ghost_list;
 pub mod history;
 pub mod ledger;
 mod log_rule;
-mod notes;
 mod pens;
 pub mod published;
 mod published_rule;
@@ -16,7 +16,6 @@ pub mod publisher;
 mod showing;
 pub mod subscriber;
 pub mod told;
-mod trace;
 pub mod version;
 pub mod view;
 

@@ -6,7 +6,9 @@ ghost use Rattle.vol_volume.specs.Answer.{Answers};
 ghost use Rattle.vol_volume.specs.Journal.{MayFollow};
 ghost use Rattle.vol_views.specs.States.{state_of};
 
-use crate::trace::{Trace, first_trace, longer_trace};
+use crate::ghost_list::{GhostList, list_of, longer};
+use crate::history::LogEntry;
+use crate::log_rule::{Append, Begin};
 use pdp_words::Image;
 use std::alloc::{AllocError, Global};
 use std::marker::Model;
@@ -22,7 +24,7 @@ pub struct Version {
     geometry: Geometry,
     image: Image,
     free: u32,
-    trace: Trace,
+    trace: GhostList<LogEntry>,
 }
 
 impl Model for Version {
@@ -56,7 +58,7 @@ impl Version {
             geometry: *volume.geometry(),
             image: Image::from_bytes(bytes),
             free: volume.free_blocks(),
-            trace: first_trace(volume),
+            trace: list_of::<LogEntry, Volume, Begin>(volume),
         })
     }
 
@@ -68,7 +70,7 @@ impl Version {
         ensures may_follow { IsTrue result ↔ MayFollow (state_of self.old) entry.now }
     {
         let is_next = apply(&mut self.image, &self.geometry, &mut self.free, entry);
-        self.trace = longer_trace(&self.trace, entry);
+        self.trace = longer::<LogEntry, Record, Append>(&self.trace, entry);
         is_next
     }
 

@@ -8,7 +8,7 @@ ghost use Rattle.vol_receipts.specs.declared.receipts.Asked.TheVariants.{Questio
 ghost use Rattle.vol_views.specs.Logs.{history_of, origin_in, number_of};
 ghost use Rattle.vol_views.specs.Views.{GoesOn, Sees, IsNew, AgreesIn};
 
-use crate::notes::{Notes, no_notes, note};
+use crate::ghost_list::{GhostList, Itself, empty, longer};
 use crate::publisher::Publisher;
 use crate::subscriber::{Answered, Subscriber};
 use crate::told::{Informed, Told};
@@ -25,7 +25,7 @@ use vol_volume::Query;
 pub struct View {
     subscriber: Option<Subscriber>,
     known: Told,
-    notes: Notes,
+    notes: GhostList<Receipt>,
 }
 
 impl Model for View {
@@ -64,7 +64,7 @@ impl View {
         Some(View {
             subscriber: Some(subscriber),
             known: Told::of(publisher),
-            notes: no_notes(),
+            notes: empty(),
         })
     }
 
@@ -136,7 +136,7 @@ impl View {
         ensures agrees { AgreesIn self.old.log result }
     {
         let receipt = Receipt { at, asked, outcome };
-        self.notes = note(&self.notes, &receipt);
+        self.notes = longer::<Receipt, Receipt, Itself>(&self.notes, &receipt);
         receipt
     }
 

@@ -11,5 +11,5 @@ invariant_of-self c =
       made.count,
       applied_reads c.self.inside.geometry c.self.inside.image c.apply-is_next.new.image c.self.inside.trace.log c.args.entry.now c.apply-is_next.result
           c.self.invariant.3 made.may_follow made.performed made.unchanged
-          ∙ ap state_of (sym c.longer_trace.ensures),
+          ∙ ap state_of (sym c.longer.ensures),
     )

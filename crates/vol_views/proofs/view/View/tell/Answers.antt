@@ -13,7 +13,7 @@ invariant_of-self c =
     (agrees_here c.args.self.now.log c.args.at c.args.asked c.args.outcome c.requires.at c.requires.answer) in (
       c.self.invariant.0,
       c.self.invariant.1,
-      subst (All (AgreesIn c.self.inside.known.log)) (sym c.note.ensures)
+      subst (All (AgreesIn c.self.inside.known.log)) (sym c.longer.ensures)
           (all_agree_more c.self.inside.known.log c.self.inside.notes.log receipt c.self.invariant.2 agrees),
     )
 

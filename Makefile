@@ -38,10 +38,8 @@ test:
 	RT=$(RT) tools/compare.sh
 
 bench: build
-	cd crates/many_calls && $(RT) run -- 0 0 create
-	cd crates/many_checks && $(RT) run -- 6 icheck 1 1 < stdin
-	cd crates/many_views && $(RT) run -- view 0 1 400 5
-	bench/run.sh ./unixvol crates/many_calls/out/many_calls crates/many_checks/out/many_checks crates/many_views/out/many_views
+	cd crates/bench_library && $(RT) run -- calls 0 0 create + checks 6 icheck 1 1 + views view 0 1 400 5 < stdin
+	bench/run.sh ./unixvol crates/bench_library/out/bench_library
 
 # The libraries' runs come by the program `refused_memory`, which the gate runs once with nothing refused.
 faults: build

@@ -1,7 +1,6 @@
 #!/usr/bin/env bash
 # Times the program against bench/plain, which does the same jobs in plain Rust, and compares what both write, byte by byte.
-# Usage: bench/run.sh PROGRAM CALLS CHECKS VIEWS, the second being the built crates/many_calls, the third crates/many_checks, the
-# fourth crates/many_views.
+# Usage: bench/run.sh PROGRAM LIBRARY, the second being the built crates/bench_library.
 # It needs rustc, some 900 MB of disk, and a machine that does nothing else.
 # Times are the best of five runs of the whole command, by turns; memory is the greatest that was resident in a run.
 # The last column, where a row has it, is that memory by two copies of the image and one of the file that is put; for the shared
@@ -10,11 +9,9 @@
 # FOLDER names another place for the files than bench/out: one in memory shows the programs without the disk.
 set -uo pipefail
 export LC_ALL=C
-usage='usage: bench/run.sh PROGRAM CALLS CHECKS VIEWS'
+usage='usage: bench/run.sh PROGRAM LIBRARY'
 program=$(realpath "${1:?$usage}")
-calls=$(realpath "${2:?$usage}")
-checks=$(realpath "${3:?$usage}")
-views=$(realpath "${4:?$usage}")
+library=$(realpath "${2:?$usage}")
 bench=$(dirname "$(realpath "$0")")
 if ! command -v rustc > /dev/null; then
     echo 'bench: rustc is not there, which builds the plain program' >&2
@@ -140,9 +137,9 @@ quickest() {
 checking() {
     local once
     input=$3
-    quickest "$checks" 7 "$1" "$2" 1
+    quickest "$library" checks 7 "$1" "$2" 1
     once=$best
-    quickest "$checks" 7 "$1" "$2" 11
+    quickest "$library" checks 7 "$1" "$2" 11
     best=$((best - once))
     input=/dev/null
 }
@@ -151,9 +148,9 @@ checking() {
 # are written by each call
 asking() {
     local none
-    quickest "$views" "$1" 0 "$3" 400 "$4"
+    quickest "$library" views "$1" 0 "$3" 400 "$4"
     none=$best
-    quickest "$views" "$1" "$2" "$3" 400 "$4"
+    quickest "$library" views "$1" "$2" "$3" 400 "$4"
     best=$((best - none))
 }
 
@@ -161,21 +158,21 @@ asking() {
 # two rows of the table. Both programs leave the same volume.
 many() {
     local directories=$1 names=$2 none theirs_none created theirs_created written theirs_written
-    "$calls" "$directories" "$names" write image > ours || exit 1
+    "$library" calls "$directories" "$names" write image > ours || exit 1
     "$plain" calls "$directories" "$names" write image > theirs || exit 1
     if ! cmp ours theirs; then
         echo "bench: $directories directories of $names names: the two programs differ" >&2
         exit 1
     fi
-    quickest "$calls" 0 0 create
+    quickest "$library" calls 0 0 create
     none=$best
     quickest "$plain" calls 0 0 create
     theirs_none=$best
-    quickest "$calls" "$directories" "$names" create
+    quickest "$library" calls "$directories" "$names" create
     created=$best
     quickest "$plain" calls "$directories" "$names" create
     theirs_created=$best
-    quickest "$calls" "$directories" "$names" write
+    quickest "$library" calls "$directories" "$names" write
     written=$best
     quickest "$plain" calls "$directories" "$names" write
     theirs_written=$best
@@ -300,9 +297,9 @@ asking calls 20000 0 5
 row '20,000 Writes, with a view' 3.5 "$one" "$best"
 
 # The memory of a shared volume of 200,000 blocks with a view and without, and how many images the first is more.
-kilobytes "$views" calls 1 1 200000 5
+kilobytes "$library" views calls 1 1 200000 5
 one=$resident
-kilobytes "$views" calls 1 0 200000 5
+kilobytes "$library" views calls 1 0 200000 5
 awk -v with="$one" -v without="$resident" 'BEGIN {
     more = (with - without) * 1024 / (200000 * 512)
     printf "%-38s %36.1f %9.1f %6.2f %6.2f", "a shared volume, with a view", with / 1024, without / 1024, with / without, more

@@ -18,7 +18,7 @@
 //! plain archive DIRECTORIES FILES BYTES          an archive of so many directories with so many files each, of so many bytes
 //! plain sample 6|7 IMAGE FSIZE IBLOCKS BYTES     a new volume with a file of so many bytes, the i-node after the root's
 //! plain fill 6|7 IMAGE FSIZE IBLOCKS FILES       a new volume with so many files of various sizes, half of them in /many
-//! plain calls DIRECTORIES NAMES create|write [image]     so many calls, as `many_calls` makes them
+//! plain calls DIRECTORIES NAMES create|write [image]     so many calls, as `bench_library calls` makes them
 //! plain sparse 6|7 IMAGE FSIZE IBLOCKS COUNT     a new volume with so many directories of the greatest size, nearly all holes
 //! plain hostile 6|7 IMAGE FSIZE IBLOCKS PATTERN  a volume, mostly not a sound one, on which a checker may work long (`hostile.rs`)
 

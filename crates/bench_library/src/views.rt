@@ -1,26 +1,16 @@
-//! Asks a shared volume many queries, or calls it many times, for the benchmark, which takes the time and the memory of it.
+//! Many queries or calls on a shared volume.
 //!
-//! many_views lock|view|views|calls COUNT VIEWS BLOCKS BYTES
+//! views lock|view|views|calls COUNT VIEWS BLOCKS BYTES
 //!
 //! Makes a volume of the seventh edition of so many blocks with one file in it, and shares it by two sessions and so many
 //! views, at most 16. With `lock` one session asks so many times what the file is, and with `view` the last view does, while
 //! the other session writes so many bytes of the file without pause until that is done. With `views` so many views, at most
 //! 4, ask so many times each, on threads of their own, and nothing is written. With `calls` one session writes so many bytes
 //! of the file so many times; the volume is opened without views where there are to be none. Prints how many queries were
-//! answered and, with `calls`, how many calls were accepted. Ends with status 1 where a word can't be read, memory ran out or
-//! something was refused.
-#![tactic(auto)]
-
-mod asking;
-mod sharing;
-
-use asking::new_volume;
-use pdp_words::{IntoWrite, write_all};
-use sharing::{share, share_published};
+//! answered and, with `calls`, how many calls were accepted.
+use crate::asking::new_volume_with_file;
+use crate::sharing::{share, share_published};
 use std::alloc::Global;
-use std::env::{self, Env};
-use std::io::Write;
-use std::process::ExitCode;
 use std::sync::Wait;
 use std::thread::Threads;
 
@@ -37,7 +27,7 @@ pub(crate) enum Job {
     Calls,
 }
 
-/// What one run does.
+/// What is done with the volume.
 #[derive(Clone, Copy)]
 pub(crate) struct Task {
     pub(crate) job: Job,
@@ -48,8 +38,8 @@ pub(crate) struct Task {
 }
 
 impl Task {
-    /// The task that these words ask for, of which the first is the program's own name.
-    fn read(words: &[String]) -> Option<Task> {
+    /// The task that these words ask for, of which the first is its name.
+    pub(crate) fn read(words: &[String]) -> Option<Task> {
         let job = match words.get(1)?.as_str() {
             "lock" => Job::Lock,
             "view" => Job::View,
@@ -66,34 +56,17 @@ impl Task {
         })
     }
 
-    /// Does it with a new volume, and answers how many queries and calls went well.
-    fn run<R: Threads + Wait + Sync>(self, rt: &R, alloc: Global) -> Option<u64> {
-        let volume = new_volume(alloc, self.blocks)?;
-        match self.job {
+    /// Does it with a new volume, and returns what is printed.
+    pub(crate) fn run<R: Threads + Wait + Sync>(self, rt: &R, alloc: Global) -> Option<Vec<u8>> {
+        let volume = new_volume_with_file(alloc, self.blocks)?;
+        let done = match self.job {
             Job::Calls if self.views == 0 => share(rt, alloc, volume, self),
             Job::Views if self.views > 4 => None,
             Job::Views => share_published(rt, alloc, volume, 4 * self.views, self),
             _ if self.views > 16 => None,
             _ => share_published(rt, alloc, volume, self.views, self),
-        }
-    }
-}
-
-/// Does what the words ask for, and prints what came of it.
-fn run<R: Env + AllocGlobal + Threads + Wait + Sync, O: Write + Drop>(
-    rt: &R,
-    output: O,
-) -> Option<()> {
-    let words = env::args(rt).ok()?.collect::<Vec<String>>(rt.alloc()).ok()?;
-    let task = Task::read(words.as_slice())?;
-    let done = task.run(rt, rt.alloc())?;
-    let line = format!(in rt.alloc(); "{done} done\n").ok()?;
-    write_all(&mut IntoWrite::new(output), line.as_bytes()).ok()
-}
-
-fn main(rt: HostRuntime) -> ExitCode {
-    match run(&rt, rt.stdout()) {
-        Some(()) => ExitCode::SUCCESS,
-        None => ExitCode::from(1),
+        }?;
+        let line = format!(in alloc; "{done} done\n").ok()?;
+        Some(line.into_bytes())
     }
 }

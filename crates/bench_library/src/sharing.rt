@@ -2,7 +2,7 @@
 ghost use Rattle.std.specs.Prelude.{◌≡◌, ◌≤◌, ◌<◌, All, Some, length};
 
 use crate::asking::{ask_session, ask_view, call_session, write_on};
-use crate::{Job, Task};
+use crate::views::{Job, Task};
 use std::alloc::Global;
 use std::sync::Wait;
 use std::sync::atomic::{AtomicBool, AtomicU64, Ordering};

@@ -3,7 +3,7 @@ use Rattle.vol_shared.proofs.Fronts.{all_pushed}
 use Rattle.vol_shared.proofs.Lists.{all_front}
 use Rattle.vol_shared.specs.declared.session.Session.{Session}
 use Rattle.vol_shared.specs.declared.View.{View}
-use Rattle.many_views.proofs.sharing.watch_last.Goals as goal
+use Rattle.bench_library.proofs.sharing.watch_last.Goals as goal
 
 pub returns-clause-own : goal.returns-clause-own
 returns-clause-own g c =

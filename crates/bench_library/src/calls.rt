@@ -1,26 +1,17 @@
-//! Makes many calls on a new volume in memory, for the benchmark, which takes the time of it.
+//! Many calls on a new volume.
 //!
-//! many_calls DIRECTORIES NAMES create|write [image]
+//! calls DIRECTORIES NAMES create|write [image]
 //!
 //! Makes a volume of the seventh edition of 16,000 blocks, in it so many directories, and in each so many empty files. With
 //! `write` it then writes one byte into each of them. Prints how many calls were accepted or, with a further word, the bytes of
-//! the volume. Ends with status 1 where a call is refused.
-#![tactic(auto)]
-
-use pdp_words::{IntoWrite, write_all};
+//! the volume.
+use crate::volume::{ROOT, bytes_of, new_volume};
 use std::alloc::Global;
-use std::env;
-use std::process::ExitCode;
-use vol_dir::Cred;
-use vol_layout::Edition;
-use vol_volume::{Bytes, Call, Volume, mkfs};
+use vol_volume::{Bytes, Call, Volume};
 
-/// The user who makes all calls, to whom everything is permitted.
-const ROOT: Cred = Cred { uid: 0, gid: 0 };
-
-/// What one run does.
+/// What is made.
 #[derive(Clone, Copy)]
-struct Task {
+pub(crate) struct Task {
     directories: u32,
     names: u32,
     writes: bool,
@@ -28,14 +19,25 @@ struct Task {
 }
 
 impl Task {
-    /// The task that these words ask for, of which the first is the program's own name.
-    fn read(words: &[String]) -> Option<Task> {
+    /// The task that these words ask for, of which the first is its name.
+    pub(crate) fn read(words: &[String]) -> Option<Task> {
         Some(Task {
             directories: words.get(1)?.as_str().parse::<u32>().ok()?,
             names: words.get(2)?.as_str().parse::<u32>().ok()?,
             writes: words.get(3)?.as_str() == "write",
             prints_image: words.len() > 4,
         })
+    }
+
+    /// Makes the calls on a new volume, and returns what is printed. None if a call is refused.
+    pub(crate) fn run(self, alloc: Global) -> Option<Vec<u8>> {
+        let mut volume = new_volume(alloc, 16_000, 1_300)?;
+        self.make_calls(alloc, &mut volume)?;
+        if self.prints_image {
+            return Some(volume.unmount());
+        }
+        let line = format!(in alloc; "{} calls\n", volume.journal().len()).ok()?;
+        Some(line.into_bytes())
     }
 
     /// Makes the calls on a volume. None where one is refused.
@@ -91,7 +93,7 @@ fn write(alloc: Global, d: u32, n: u32) -> Option<Call> {
         now: 3,
         path: file_path(alloc, d, n)?,
         offset: 0,
-        bytes: Bytes::from_vec(Vec::from_slice(alloc, b"x").ok()?),
+        bytes: bytes_of(alloc, b"x")?,
     })
 }
 
@@ -105,31 +107,4 @@ fn file_path(alloc: Global, d: u32, n: u32) -> Option<Bytes> {
 fn accept(alloc: Global, volume: &mut Volume, call: Call) -> Option<()> {
     volume.call(alloc, call).ok()?;
     Some(())
-}
-
-/// A new volume, mounted.
-fn new_volume(alloc: Global) -> Option<Volume> {
-    let bytes = mkfs(alloc, Edition::V7, 16_000, 1_300, 0, 0, 0).ok()?;
-    Volume::mount(alloc, Edition::V7, bytes).ok()
-}
-
-/// Does what the words ask for, and prints what came of it.
-fn run(rt: &HostRuntime) -> Option<()> {
-    let words = env::args(rt).ok()?.collect::<Vec<String>>(rt.alloc()).ok()?;
-    let task = Task::read(words.as_slice())?;
-    let mut volume = new_volume(rt.alloc())?;
-    task.make_calls(rt.alloc(), &mut volume)?;
-    let mut output = IntoWrite::new(rt.stdout());
-    if task.prints_image {
-        return write_all(&mut output, &volume.unmount()).ok();
-    }
-    let line = format!(in rt.alloc(); "{} calls\n", volume.journal().len()).ok()?;
-    write_all(&mut output, line.as_bytes()).ok()
-}
-
-fn main(rt: HostRuntime) -> ExitCode {
-    match run(&rt) {
-        Some(()) => ExitCode::SUCCESS,
-        None => ExitCode::from(1),
-    }
 }

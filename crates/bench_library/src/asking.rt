@@ -1,16 +1,12 @@
 //! The volume with its file, and many queries and calls one after the other.
 ghost use Rattle.std.specs.Prelude.{◌≡◌, Some};
 
+use crate::volume::{ROOT, bytes_of, new_volume};
 use std::alloc::Global;
 use std::sync::Wait;
 use std::sync::atomic::{AtomicBool, Ordering};
-use vol_dir::Cred;
-use vol_layout::Edition;
 use vol_shared::{Outcome, Receipt, Session, Shared, View};
-use vol_volume::{Bytes, Call, Query, Volume, mkfs};
-
-/// The user who asks and calls, to whom everything is permitted.
-const ROOT: Cred = Cred { uid: 0, gid: 0 };
+use vol_volume::{Bytes, Call, Query, Volume};
 
 /// The file.
 const FILE: &[u8] = b"/file";
@@ -18,10 +14,9 @@ const FILE: &[u8] = b"/file";
 /// After how many calls a session that writes without pause cuts the journal, and looks whether it is to end.
 const UNCUT: u64 = 100;
 
-/// A new volume of so many blocks, mounted, with the file.
-pub(crate) fn new_volume(alloc: Global, blocks: u32) -> Option<Volume> {
-    let bytes = mkfs(alloc, Edition::V7, blocks, 10, 0, 0, 0).ok()?;
-    let mut volume = Volume::mount(alloc, Edition::V7, bytes).ok()?;
+/// A new volume of so many blocks, with the file.
+pub(crate) fn new_volume_with_file(alloc: Global, blocks: u32) -> Option<Volume> {
+    let mut volume = new_volume(alloc, blocks, 10)?;
     let create = Call::Create {
         cred: ROOT,
         now: 1,
@@ -30,11 +25,6 @@ pub(crate) fn new_volume(alloc: Global, blocks: u32) -> Option<Volume> {
     };
     volume.call(alloc, create).ok()?;
     Some(volume)
-}
-
-/// A path, or bytes that are written.
-fn bytes_of(alloc: Global, bytes: &[u8]) -> Option<Bytes> {
-    Some(Bytes::from_vec(Vec::from_slice(alloc, bytes).ok()?))
 }
 
 /// The query for what the file is.

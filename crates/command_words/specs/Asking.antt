@@ -6,9 +6,9 @@ use Rattle.std.specs.Path.{path_file_name}
 use Rattle.std.specs.Str.{bytes_eq}
 use Rattle.vol_layout.specs.declared.edition.Edition.{Edition}
 use Rattle.vol_layout.specs.declared.edition.Edition.TheVariants.{V6, V7}
-use Rattle.word_values.specs.Decimal.{IsNumberUpTo, IsNumberGiven, IsThreads, IsThreadsGiven}
-use Rattle.word_values.specs.Moment.{IsMomentOf}
-use Rattle.word_values.specs.Octal.{IsOctalUpTo, IsOctalGiven}
+use Rattle.command_words.specs.Decimal.{IsNumberUpTo, IsNumberGiven, IsThreads, IsThreadsGiven}
+use Rattle.command_words.specs.Moment.{IsMomentOf}
+use Rattle.command_words.specs.Octal.{IsOctalUpTo, IsOctalGiven}
 use Rattle.command_words.specs.Verbs.{Argument, verb_name}
 use Rattle.command_words.specs.declared.fault.Fault.{Fault}
 use Rattle.command_words.specs.declared.fault.Fault.TheVariants as faults

@@ -1,2 +1,5 @@
 pub mod Asking
+pub mod Decimal
+pub mod Moment
+pub mod Octal
 pub mod Verbs

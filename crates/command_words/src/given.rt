@@ -1,17 +1,17 @@
 //! The words that were given for the arguments of a command.
 ghost use Rattle.std.specs.Prelude.{◌≡◌, ◌≤◌, ℕ, List, None, IfOk, IfErr, codes, length, map, option_map, slice_get};
-ghost use Rattle.word_values.specs.Decimal.{IsNumberUpTo, IsNumberGiven, IsThreads, IsThreadsGiven};
-ghost use Rattle.word_values.specs.Octal.{IsOctalUpTo, IsOctalGiven};
+ghost use Rattle.command_words.specs.Decimal.{IsNumberUpTo, IsNumberGiven, IsThreads, IsThreadsGiven};
+ghost use Rattle.command_words.specs.Octal.{IsOctalUpTo, IsOctalGiven};
 ghost use Rattle.command_words.specs.Asking.{IsEditionNamed, IsMomentGiven, IsValue, IsWrong, TellsOf, is_set, the_word};
 ghost use Rattle.command_words.specs.declared.parameters.Kind.TheVariants as kinds;
 
+use crate::decimal::{long_of, threads_of, word_of};
 use crate::fault::{Fault, Said, WrongWord};
+use crate::moment::moment_of;
+use crate::octal::permissions_of;
 use crate::texts;
 use std::alloc::{AllocError, Global};
 use vol_layout::Edition;
-use word_values::decimal::{long_of, threads_of, word_of};
-use word_values::moment::moment_of;
-use word_values::octal::permissions_of;
 
 /// The words that were given for the arguments of a command.
 pub trait Given<'a> {

@@ -1,9 +1,12 @@
 //! The commands, the words that each takes, and what these ask for.
 #![tactic(auto)]
 
+mod decimal;
 pub mod fault;
 pub mod given;
 pub mod invocation;
+mod moment;
+mod octal;
 pub mod parameters;
 pub mod reading;
 mod several;

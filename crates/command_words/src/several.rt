@@ -5,11 +5,11 @@ ghost use Rattle.command_words.specs.Asking.{AreFilesGiven, ArePathsGiven, EndsI
 use crate::fault::{Fault, Said, WrongWord};
 use crate::given::{Given, missing, wrong};
 use crate::invocation::Moment;
+use crate::moment::moment_of;
 use crate::texts;
 use std::alloc::{AllocError, Global};
 use std::collections::BTreeSet;
 use std::path::Path;
-use word_values::moment::moment_of;
 
 /// Files that are put, and the moment of that.
 #[derive(Drop)]

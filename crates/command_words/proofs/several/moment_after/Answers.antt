@@ -1,5 +1,5 @@
 use Rattle.std.proofs.Common.{ℕ, List, arith, subst}
-use Rattle.word_values.specs.Moment.{IsMomentOf}
+use Rattle.command_words.specs.Moment.{IsMomentOf}
 use Rattle.command_words.proofs.FileWords.{last_text}
 use Rattle.command_words.proofs.several.moment_after.Goals as goal
 

@@ -1,7 +1,7 @@
 //! Permissions as they are written on the command line.
 ghost use Rattle.std.specs.Prelude.{SomeIff};
 ghost use Rattle.std.specs.Str.Parse.{digits_value};
-ghost use Rattle.word_values.specs.Octal.{IsOctalUpTo};
+ghost use Rattle.command_words.specs.Octal.{IsOctalUpTo};
 
 use crate::decimal::is_signed;
 
@@ -10,7 +10,7 @@ const ALL_PERMISSIONS: u16 = 0o7777;
 
 /// The permissions that `text` writes: one or more octal digits, of which the first may be zeros, and no sign.
 /// `None` where the text is anything else, or the number is above 7777.
-pub fn permissions_of(text: &str) -> Option<u16>
+pub(crate) fn permissions_of(text: &str) -> Option<u16>
     ensures { SomeIff result (IsOctalUpTo 4095 text.now) (digits_value 8 text.now) }
 {
     if is_signed(text) {

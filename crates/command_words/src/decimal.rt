@@ -1,11 +1,11 @@
 //! Numbers as they are written on the command line.
 ghost use Rattle.std.specs.Prelude.{◌≡◌, ◌==◌, SomeIff, slice_index};
 ghost use Rattle.std.specs.Str.Parse.{digits_value};
-ghost use Rattle.word_values.specs.Decimal.{IsNumberUpTo, IsThreads};
+ghost use Rattle.command_words.specs.Decimal.{IsNumberUpTo, IsThreads};
 
 /// The number of 16 bits that `text` writes: one or more decimal digits, of which the first may be
 /// zeros, and no sign. `None` where the text is anything else, or the number has more bits.
-pub fn word_of(text: &str) -> Option<u16>
+pub(crate) fn word_of(text: &str) -> Option<u16>
     ensures { SomeIff result (IsNumberUpTo 65535 text.now) (digits_value 10 text.now) }
 {
     if is_signed(text) {
@@ -15,7 +15,7 @@ pub fn word_of(text: &str) -> Option<u16>
 }
 
 /// The number of 32 bits that `text` writes, as [`word_of`] reads one of 16 bits.
-pub fn long_of(text: &str) -> Option<u32>
+pub(crate) fn long_of(text: &str) -> Option<u32>
     ensures { SomeIff result (IsNumberUpTo 4294967295 text.now) (digits_value 10 text.now) }
 {
     if is_signed(text) {
@@ -29,7 +29,7 @@ const MOST_THREADS: u16 = 64;
 
 /// The number of threads, 1 to 64, that `text` writes, as [`word_of`] reads a number. `None` where the text is anything
 /// else, or another number.
-pub fn threads_of(text: &str) -> Option<usize>
+pub(crate) fn threads_of(text: &str) -> Option<usize>
     ensures { SomeIff result (IsThreads text.now) (digits_value 10 text.now) }
 {
     match word_of(text) {

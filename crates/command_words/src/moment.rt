@@ -1,7 +1,7 @@
 //! Moments as they are written on the command line.
 ghost use Rattle.std.specs.Prelude.{◌≡◌, ◌≢◌, ◌≤◌, ◌*◌, ℕ, None, IfSome, Ok, pos};
 ghost use Rattle.jiff.specs.Words.{parse_timestamp};
-ghost use Rattle.word_values.specs.Moment.{IsMomentOf, second_of};
+ghost use Rattle.command_words.specs.Moment.{IsMomentOf, second_of};
 
 use crate::decimal::long_of;
 use jiff::Timestamp;
@@ -12,7 +12,7 @@ const SECOND: u128 = 1_000_000_000;
 /// The moment that `text` writes, in seconds since the beginning of 1970: as [`long_of`] reads a number, or as a date and a
 /// time with its offset, as `2026-11-23T12:00:00Z`. `None` where the text is anything else, or the moment has a
 /// fraction of a second, or is no number of 32 bits.
-pub fn moment_of(text: &str) -> Option<u32>
+pub(crate) fn moment_of(text: &str) -> Option<u32>
     ensures some { IfSome result (IsMomentOf text.now) }
     ensures none { result ≡ None → (now : ℕ) → IsMomentOf text.now now → ⊥ }
 {

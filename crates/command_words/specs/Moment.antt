@@ -1,7 +1,7 @@
 -- Moments as they are written on the command line.
 use Rattle.std.specs.Prelude.{◌≡◌, ◌⊎◌, ◌≤◌, ◌*◌, ℕ, ℤ, List, Ok, pos}
 use Rattle.jiff.specs.Words.{parse_timestamp}
-use Rattle.word_values.specs.Decimal.{IsNumberGiven, IsNumberUpTo}
+use Rattle.command_words.specs.Decimal.{IsNumberGiven, IsNumberUpTo}
 
 -- the nanoseconds since the beginning of 1970 at the beginning of this second (this project)
 abbrev pub second_of : ℕ → ℤ

@@ -3,7 +3,7 @@ use Rattle.std.proofs.Common.{◌≡◌, ℕ, false, List, [], ◌∷◌, map, t
 use Rattle.serde_json.specs.View.{items_of}
 use Rattle.serde_json.specs.Written.{has_float, items_have_float}
 use Rattle.vol_layout.specs.Inode.{address_count}
-use Rattle.vol_reports.specs.declared.line.FreeFault.{FreeFault}
+use Rattle.vol_free.specs.declared.free_walk.FreeFault.{FreeFault}
 use Rattle.vol_inspect.specs.declared.extent.Extent.{Extent}
 use Rattle.vol_inspect.specs.declared.inode_report.InodeReport.{InodeReport}
 use Rattle.vol_inspect.specs.declared.super_report.SuperReport.{SuperReport}

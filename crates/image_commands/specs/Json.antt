@@ -4,8 +4,8 @@ use Rattle.serde_json.specs.Data.{Data, null, boolean, number, unsigned, string,
 use Rattle.serde_json.specs.View.{items_of}
 use Rattle.serde_json.specs.Written.{compact_text}
 use Rattle.vol_layout.specs.Inode.{address_count, kind_of, permissions_of}
-use Rattle.vol_reports.specs.Texts.{fault_word}
-use Rattle.vol_reports.specs.declared.line.FreeFault.{FreeFault}
+use Rattle.vol_free.specs.FreeWalk.{fault_word}
+use Rattle.vol_free.specs.declared.free_walk.FreeFault.{FreeFault}
 use Rattle.vol_inspect.specs.Texts.{kind_name}
 use Rattle.vol_inspect.specs.declared.extent.Extent.{Extent}
 use Rattle.vol_inspect.specs.declared.inode_report.InodeReport.{InodeReport}

@@ -8,8 +8,8 @@ ghost use Rattle.image_commands.specs.Members.{with_mode, with_owner, with_times
 
 use serde_json::{Map, Value, json, put};
 use std::alloc::{AllocError, Global};
-use vol_inspect::{Extent, InodeReport, SuperReport, fault_word, kind_name};
-use vol_reports::FreeFault;
+use vol_free::FreeFault;
+use vol_inspect::{Extent, InodeReport, SuperReport, kind_name};
 
 /// An i-node as JSON, on one line.
 pub(crate) fn inode_json(alloc: Global, report: &InodeReport) -> Result<String, AllocError>
@@ -223,7 +223,7 @@ fn fault_value(alloc: Global, fault: Option<(FreeFault, u32)>) -> Result<Value, 
     match fault {
         None => Ok(Value::Null),
         Some((fault, number)) => {
-            let word = fault_word(fault);
+            let word = fault.word();
             json!(in alloc; {"fault": word, "number": number})
         }
     }

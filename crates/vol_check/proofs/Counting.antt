@@ -26,7 +26,7 @@ use Rattle.count_table.specs.Sums.{total, below, amount_at, least_at, sum_at}
 use Rattle.count_table.specs.Views.{mark}
 use Rattle.count_table.proofs.Totals.{total_cons, total_nil, total_ones}
 use Rattle.vol_reports.specs.Words.{zone_len, place_word, free_word, bad_word, kind_word, least_word}
-use Rattle.vol_reports.specs.FreeWalk.{Walked, walk_rest, free_walk}
+use Rattle.vol_free.specs.FreeWalk.{Walked, walk_rest, free_walk}
 use Rattle.vol_check.specs.Pieces.{place_weight, kind_weight, inode_weight, free_weight}
 use Rattle.vol_reports.specs.Blocks.{least_of, is_kind, use_count, met_count, bad_numbers, kind_count}
 use Rattle.vol_check.proofs.Sums.{below_same, below_zero}

@@ -3,8 +3,6 @@ pub mod PieceSums
 pub mod PartCounts
 pub mod Adding
 pub mod Weights
-pub mod WalkLaws
-pub mod Walks
 pub mod PastPieces
 pub mod Noted
 pub mod DirectoryPieces

@@ -22,9 +22,9 @@ use Rattle.count_table.specs.declared.rule.SeatView.{SeatView}
 use Rattle.count_table.specs.declared.rule.TableShape.{TableShape}
 use Rattle.count_table.specs.Sums.{total, below, late, sum_at}
 use Rattle.count_table.specs.Rule.{IsSummed}
-use Rattle.vol_reports.specs.declared.line.FreeFault.{FreeFault}
+use Rattle.vol_free.specs.declared.free_walk.FreeFault.{FreeFault}
 use Rattle.vol_reports.specs.Words.{zone_len, HasWords, place_word, free_word, bad_word, kind_word, least_word}
-use Rattle.vol_reports.specs.FreeWalk.{Walked, walk_rest, free_walk}
+use Rattle.vol_free.specs.FreeWalk.{Walked, walk_rest, free_walk}
 use Rattle.vol_reports.specs.Blocks.{one_if, is_kind, use_count, met_count, bad_numbers, kind_count}
 use Rattle.vol_reports.specs.Counted.{CountsBlocks}
 use Rattle.vol_check.specs.Pieces.{piece_weight, inode_weight}

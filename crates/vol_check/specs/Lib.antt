@@ -1,4 +1,3 @@
-pub mod Walking
 pub mod Pieces
 pub mod Parts
 pub mod Slots

@@ -14,7 +14,7 @@ use Rattle.count_table.specs.Sums.{total}
 use Rattle.count_table.specs.Views.{mark}
 use Rattle.count_table.specs.Tallies.{IsSeatAt}
 use Rattle.vol_reports.specs.Words.{place_word, free_word, bad_word, kind_word, least_word}
-use Rattle.vol_reports.specs.FreeWalk.{free_walk}
+use Rattle.vol_free.specs.FreeWalk.{free_walk}
 
 -- a place of i-node i that names number k marks the block's word, or where k is no data block's, i's own two words (icheck)
 abbrev pub place_weight : Geometry → (Mark → ℕ) → ℕ → ℕ → ℕ

@@ -7,9 +7,9 @@ use Rattle.count_table.specs.Sums.{total, late}
 use Rattle.count_table.specs.Views.{view}
 use Rattle.count_table.specs.Tallies.{IsSeatAt, table_shape}
 use Rattle.vol_reports.specs.Blocks.{one_if}
-use Rattle.vol_reports.specs.FreeWalk.{free_walk}
+use Rattle.vol_free.specs.FreeWalk.{free_walk}
 use Rattle.vol_reports.specs.Placed.{Placed}
-use Rattle.vol_reports.specs.declared.line.FreeFault.{FreeFault}
+use Rattle.vol_free.specs.declared.free_walk.FreeFault.{FreeFault}
 use Rattle.vol_check.specs.declared.checker.Checker.{Checker}
 use Rattle.vol_check.specs.declared.checker.Checker.TheVariants.{Blocks, Entries, Names}
 use Rattle.vol_check.specs.declared.seats.CheckSeat.{CheckSeat}

@@ -5,8 +5,8 @@ use Rattle.vol_layout.specs.declared.geometry.Geometry.{Geometry}
 use Rattle.count_table.specs.declared.words.Tally.{Tally}
 use Rattle.count_table.specs.Sums.{total}
 use Rattle.count_table.specs.Tallies.{table_shape}
-use Rattle.vol_reports.specs.declared.line.FreeFault.{FreeFault}
-use Rattle.vol_reports.specs.FreeWalk.{free_walk}
+use Rattle.vol_free.specs.declared.free_walk.FreeFault.{FreeFault}
+use Rattle.vol_free.specs.FreeWalk.{free_walk}
 use Rattle.vol_reports.specs.Placed.{Placed}
 use Rattle.vol_check.specs.declared.checker.Checker.{Checker}
 use Rattle.vol_check.specs.declared.checker.Checker.TheVariants.{Blocks, Entries, Names}

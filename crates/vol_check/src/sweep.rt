@@ -24,7 +24,7 @@ use vol_layout::Geometry;
 impl Sweep {
     /// Draws a piece and does it; None where none is left.
     ///
-    /// Takes a byte for each data block where the piece is the free list, some for each entry in a sweep for names,
+    /// Takes a byte for each block of the volume where the piece is the free list, some for each entry in a sweep for names,
     /// else no memory. Where there is none, this seat finds none for good.
     pub fn step(
         &self,

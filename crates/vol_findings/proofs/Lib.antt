@@ -3,7 +3,6 @@ pub mod Countings
 pub mod Cuts
 pub mod Dotted
 pub mod FirstEntries
-pub mod FreeFaults
 pub mod Losts
 pub mod NamedFree
 pub mod Noted

@@ -5,11 +5,9 @@ use Rattle.std.proofs.lemmas.Bool.Decides.{nat_tests}
 use Rattle.std.proofs.lemmas.List.{reverse-reverse}
 use Rattle.std.proofs.lemmas.List.Sums.{sum_by-cons}
 use Rattle.std.specs.List.{sum_by, range_with_len, list_any}
-use Rattle.pdp_words.specs.Words.{word}
 use Rattle.vol_layout.specs.Edition.{constants}
 use Rattle.vol_layout.specs.Geometry.{in_zone, Fits}
 use Rattle.vol_layout.specs.Inode.{inode_place, address_at}
-use Rattle.vol_layout.specs.Super.{free_head}
 use Rattle.vol_layout.specs.Places.{has_places, first_count, levels, places}
 use Rattle.vol_layout.specs.Names.{form_at, pointer_in, named, NamesBlock}
 use Rattle.vol_layout.specs.declared.geometry.Geometry.{Geometry}
@@ -29,15 +27,16 @@ use Rattle.vol_judge.proofs.BlocksFrom.{from_zero, from_leaf, from_entries, entr
 use Rattle.vol_judge.proofs.FileBlocks.{address_blocks, addresses_from, blocks_by_address, blocks_at_all}
 use Rattle.vol_judge.proofs.NamedOnce.{at_in, in_flat, flat_in}
 use Rattle.vol_reports.specs.Blocks.{is_kind}
-use Rattle.vol_reports.specs.FreeWalk.{free_walk}
+use Rattle.vol_free.specs.FreeWalk.{free_walk}
+use Rattle.vol_free.specs.Walking.{left_after}
 use Rattle.vol_map.specs.Placing.{found_at, node_count, wanted_count, naming_count}
-use Rattle.vol_map.specs.Listing.{listed_at, next_count, listed_as, listed_of}
+use Rattle.vol_map.specs.Listing.{listed_at, listed_in, listed_of}
 use Rattle.vol_map.specs.Uses.{use_of, data_use, held, pointers_held}
 use Rattle.vol_map.specs.declared.uses.Use.{Use}
 use Rattle.vol_map.specs.declared.uses.Use.TheVariants as uses
 use Rattle.vol_judge.specs.Sound.{IsNoneLost}
 use Rattle.vol_findings.specs.Lost.{IsLost, IsFirstLost}
-use Rattle.vol_findings.proofs.FreeFaults.{in_any, any_in, fault_breaks, no_fault_free}
+use Rattle.vol_free.proofs.FreeFaults.{in_any, any_in, in_reverse, fault_breaks, no_fault_free}
 use Rattle.vol_map.proofs.Found.{here_at, here_yes, here_other, below, found_out, found_leaf, found_deep}
 
 -- a block has a use if two places name it, or if not
@@ -54,33 +53,27 @@ at_listed left d f p is = elim (cases_eq left 1) [
   | inr other ↦ never (nat_lt 1 (d + f + p)) ((d + f + p) == 1) uses.Free (λ e. cc) (rw (ne_eqb left 1 other) at is)
 ]
 
--- what has a use keeps it
-listed_kept : (d f p : ℕ) (image : List ℕ) (left : ℕ) (met : List ℕ) (b : ℕ) (was : _) → (data_use d f p was ≡ uses.Lost → ⊥)
-    → data_use d f p (listed_as image left met b was) ≡ uses.Lost → ⊥
-unfolding listed_as
-listed_kept d f p image left [] b was used is = used is
-listed_kept d f p image left (m ∷ met) b was used is =
-    listed_kept d f p image (next_count image left m) met b (if m == b then listed_at left else was)
-    (elim (m == b) as (λ t. data_use d f p (if t then listed_at left else was) ≡ uses.Lost → ⊥) [ true ↦ at_listed left d f p | false ↦ used ]) is
-
--- a block that is met has a use
-listed_met : (d f p : ℕ) (image : List ℕ) (left : ℕ) (met : List ℕ) (b : ℕ) (was : _) → IsIn b met
-    → data_use d f p (listed_as image left met b was) ≡ uses.Lost → ⊥
-unfolding listed_as IsIn
-listed_met d f p image left [] b was among is = among
-listed_met d f p image left (m ∷ met) b was (inl same) is =
-    listed_kept d f p image (next_count image left m) met b (if m == b then listed_at left else was)
-    (λ e. at_listed left d f p (sym (ap (λ t. data_use d f p (if t then listed_at left else was)) (eq-eqb m b (sym same))) ∙ e)) is
-listed_met d f p image left (m ∷ met) b was (inr later) is =
-    listed_met d f p image (next_count image left m) met b (if m == b then listed_at left else was) later is
+-- and so has one that was met
+listed_met : (d f p : ℕ) (g : Geometry) (image met : List ℕ) (b : ℕ) → IsIn b met → data_use d f p (listed_in g image met b) ≡ uses.Lost → ⊥
+unfolding listed_in IsIn
+listed_met d f p g image [] b among is = among
+listed_met d f p g image (m ∷ met) b among is =
+    let seen : Bool → Use = λ t. data_use d f p (if t then listed_at (left_after g image met) else listed_in g image met b) in
+    elim (cases_eq m b) [
+      | inl same ↦ at_listed (left_after g image met) d f p (sym (ap seen (eq-eqb m b same)) ∙ is)
+      | inr other ↦ elim among [
+        | inl same ↦ other (sym same)
+        | inr later ↦ listed_met d f p g image met b later (sym (ap seen (ne_eqb m b other)) ∙ is)
+      ]
+    ]
 
 -- a block that isn't met isn't listed
-listed_other : (image : List ℕ) (left : ℕ) (met : List ℕ) (b : ℕ) (was : _) → (IsIn b met → ⊥) → listed_as image left met b was ≡ was
-unfolding listed_as IsIn
-listed_other image left [] b was apart = refl
-listed_other image left (m ∷ met) b was apart =
-    ap (listed_as image (next_count image left m) met b) (ap (λ t. if t then listed_at left else was) (ne_eqb m b (λ same. apart (inl (sym same)))))
-    ∙ listed_other image (next_count image left m) met b was (λ later. apart (inr later))
+listed_other : (g : Geometry) (image met : List ℕ) (b : ℕ) → (IsIn b met → ⊥) → listed_in g image met b ≡ listed_in g image [] b
+unfolding listed_in IsIn
+listed_other g image [] b apart = refl
+listed_other g image (m ∷ met) b apart =
+    ap (λ t. if t then listed_at (left_after g image met) else listed_in g image met b) (ne_eqb m b (λ same. apart (inl (sym same))))
+    ∙ listed_other g image met b (λ later. apart (inr later))
 
 -- what a block is used for that isn't listed
 abbrev single : ℕ → ℕ → ℕ → Use
@@ -347,38 +340,41 @@ module _ (g : Geometry) (image : List ℕ) where
 
       -- a data block that is used for nothing is lost
       pub lost_is : (b : ℕ) → in_zone g b ≡ true → use_of g image b ≡ uses.Lost → IsLost g image b
+      unfolding listed_in
       lost_is b zone is =
-          let met = reverse (free_walk g image).met in
+          let met = (free_walk g image).met in
           let d = held g image kinds.Directory b 0 in
           let f = held g image kinds.Regular b 0 in
           let p = pointers_held g image kinds.Directory b + pointers_held g image kinds.Regular b in
           let nothing = sym (use_zone b zone) ∙ is in
-          let apart : IsIn b met → ⊥ = λ among. listed_met d f p image (word image (free_head g.edition)) met b _ among nothing in
+          let apart : IsIn b met → ⊥ = λ among. listed_met d f p g image met b among nothing in
           let none = single_lost d f p
-          (sym (ap (data_use d f p) (listed_other image (word image (free_head g.edition)) met b _ apart)) ∙ nothing) in
+          (sym (ap (data_use d f p) (listed_other g image met b apart)) ∙ nothing) in
           let ds = none_at (naming_count g image kinds.Directory b) (omega (arith, none.0)) (omega (arith, none.2)) (omega (arith, none.2)) (omega (arith, none.2)) in
           let fs = none_at (naming_count g image kinds.Regular b) (omega (arith, none.1)) (omega (arith, none.2)) (omega (arith, none.2)) (omega (arith, none.2)) in
           record {
             zone = zone;
             unlisted = λ blocks free among.
-                apart (subst (IsIn b) (IsFree_unique (omega (arith, zone_behind fits)) free walked_free) among);
+                apart (subst (IsIn b) (reverse-reverse met)
+                (in_reverse b (reverse met) (subst (IsIn b) (IsFree_unique (omega (arith, zone_behind fits)) free walked_free) among)));
             unnamed = λ i q by. unnamed_by i b q zone ds fs by;
           }
 
       -- a data block that is used for something is free or named
       pub used_is : (b : ℕ) (blocks : List ℕ) → in_zone g b ≡ true → (use_of g image b ≡ uses.Lost → ⊥) → IsFree g image blocks
           → IsIn b blocks ⊎ ((i : ℕ) × (p : List ℕ) × NamesBlock g image i p b)
+      unfolding listed_in
       used_is b blocks zone used free =
-          let met = reverse (free_walk g image).met in
+          let met = (free_walk g image).met in
           let d = held g image kinds.Directory b 0 in
           let f = held g image kinds.Regular b 0 in
           let p = pointers_held g image kinds.Directory b + pointers_held g image kinds.Regular b in
           elim (cases_Bool (list_any (λ k. k == b) met)) [
-            | inl there ↦ inl (subst (IsIn b) (IsFree_unique (omega (arith, zone_behind fits)) walked_free free) (any_in b met there))
+            | inl there ↦ inl (subst (IsIn b) (IsFree_unique (omega (arith, zone_behind fits)) walked_free free) (in_reverse b met (any_in b met there)))
             | inr out ↦
                 let apart : IsIn b met → ⊥ = λ among. let there = in_any b met among in absurd (cc) in
                 let alone : single d f p ≡ uses.Lost → ⊥ = λ e.
-                used (use_zone b zone ∙ (ap (data_use d f p) (listed_other image (word image (free_head g.edition)) met b _ apart) ∙ e)) in
+                used (use_zone b zone ∙ (ap (data_use d f p) (listed_other g image met b apart) ∙ e)) in
                 inr (elim (cases_eq d 0) [
                   | inr some ↦ naming_some kinds.Directory b 0 (omega (arith, some))
                   | inl d0 ↦ elim (cases_eq f 0) [

@@ -1,7 +1,7 @@
 -- What breaks the rule of the free list first.
 use Rattle.std.specs.Prelude.{◌≡◌, ℕ, List, Some}
 use Rattle.vol_layout.specs.declared.geometry.Geometry.{Geometry}
-use Rattle.vol_reports.specs.FreeWalk.{free_walk}
+use Rattle.vol_free.specs.FreeWalk.{free_walk}
 use Rattle.vol_findings.specs.declared.finding.Finding.{Finding}
 use Rattle.vol_findings.specs.declared.finding.Finding.TheVariants as findings
 

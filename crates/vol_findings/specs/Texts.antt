@@ -1,6 +1,6 @@
 -- The text of what is found.
 use Rattle.std.specs.Prelude.{ℕ, List, [], ◌++◌, codes, decimal}
-use Rattle.vol_reports.specs.Texts.{fault_word}
+use Rattle.vol_free.specs.FreeWalk.{fault_word}
 use Rattle.vol_findings.specs.declared.finding.Finding.{Finding}
 use Rattle.vol_findings.specs.declared.finding.Finding.TheVariants as findings
 use Rattle.vol_findings.specs.declared.outcome.Outcome.{Outcome}

@@ -1,5 +1,5 @@
 //! What breaks a rule.
-use vol_reports::FreeFault;
+use vol_free::FreeFault;
 
 /// What breaks a rule of soundness first. Directory and slot tell an entry.
 #[derive(Clone, Copy, Debug, PartialEq, Eq)]

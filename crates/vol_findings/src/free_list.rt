@@ -8,12 +8,12 @@ ghost use Rattle.vol_findings.specs.FreeList.{IsFirstFault};
 use crate::finding::Finding;
 use pdp_words::Image;
 use std::alloc::{AllocError, Global};
-use vol_inspect::walk_free;
+use vol_free::walk_free;
 use vol_layout::Geometry;
 
 /// What breaks rule 6 first: the first fault of the free list, from its top on.
 ///
-/// Reads the free list, and no block of it twice. Takes a byte for each data block, and four for each block that is met.
+/// Reads the free list, and no block of it twice. Takes a byte for each block of the volume, and four for each block that is met.
 pub fn find_fault(
     alloc: Global,
     image: &Image,

@@ -18,7 +18,7 @@ use crate::finding::Finding;
 use pdp_words::{BLOCK, Image};
 use std::alloc::{AllocError, Global};
 use vol_file::next_pointer;
-use vol_inspect::walk_free;
+use vol_free::walk_free;
 use vol_layout::i_list::{address, mode};
 use vol_layout::{Form, Geometry, number};
 

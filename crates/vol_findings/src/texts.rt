@@ -5,7 +5,6 @@ ghost use Rattle.vol_findings.specs.Texts.{words_of, spot_of, spot_text, finding
 use crate::finding::Finding;
 use crate::outcome::Outcome;
 use std::fmt;
-use vol_inspect::fault_word;
 
 /// Where something is.
 #[derive(Clone, Copy, Drop)]
@@ -85,7 +84,7 @@ fn words_of(finding: Finding) -> &'static str
         Finding::TooLarge(_) => "too large",
         Finding::TooManyLinks(_) => "too many links",
         Finding::OutOfZone(_, _) => "no data block",
-        Finding::FreeList(fault, _) => fault_word(fault),
+        Finding::FreeList(fault, _) => fault.word(),
         Finding::Twice(_, _) => "named twice",
         Finding::UsedAndFree(_) => "named and free",
         Finding::Lost(_) => "neither named nor free",

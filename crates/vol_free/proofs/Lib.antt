@@ -7,3 +7,6 @@ pub mod Giving
 pub mod Counting
 pub mod IList
 pub mod Rebuilding
+pub mod WalkLaws
+pub mod FreeFaults
+pub mod FreeWalks

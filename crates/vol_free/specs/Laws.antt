@@ -1,9 +1,19 @@
 -- Laws of the free list.
-use Rattle.std.specs.Prelude.{◌≡◌, ℕ, List}
+use Rattle.std.specs.Prelude.{◌≡◌, ℕ, List, None, ◌↔◌, reverse}
 use Rattle.vol_layout.specs.Geometry.{Fits}
 use Rattle.vol_layout.specs.declared.geometry.Geometry.{Geometry}
-use Rattle.vol_free.specs.Stack.{IsFree}
+use Rattle.vol_free.specs.FreeWalk.{free_walk}
+use Rattle.vol_free.specs.Stack.{IsFree, HasStack}
 
 -- a volume has no two lists of free blocks (this project)
 abbrev pub HasOneList : Type 0
 HasOneList = (geometry : Geometry) (image xs ys : List ℕ) → Fits geometry image → IsFree geometry image xs → IsFree geometry image ys → xs ≡ ys
+
+-- the walk over the free list ends without a fault exactly if the volume has a stack of free blocks (icheck; rule 6)
+abbrev pub EndsAtStack : Type 0
+EndsAtStack = (geometry : Geometry) (image : List ℕ) → ((free_walk geometry image).fault ≡ None) ↔ HasStack geometry image
+
+-- the blocks that it met are those of the stack then, the last first (icheck)
+abbrev pub MeetsFree : Type 0
+MeetsFree = (geometry : Geometry) (image blocks : List ℕ) → Fits geometry image → IsFree geometry image blocks
+    → (free_walk geometry image).met ≡ reverse blocks

@@ -1,4 +1,2 @@
 pub mod Spans
-pub mod WalkLaws
-pub mod Walks
 pub mod Gatherings

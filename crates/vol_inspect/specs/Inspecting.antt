@@ -10,7 +10,7 @@ use Rattle.vol_layout.specs.declared.mode.Kind.TheVariants as kinds
 use Rattle.vol_layout.specs.declared.super_block.Flag.TheVariants as flags
 use Rattle.vol_free.specs.Numbers.{cache_len}
 use Rattle.vol_reports.specs.Blocks.{kind_count}
-use Rattle.vol_reports.specs.FreeWalk.{free_walk}
+use Rattle.vol_free.specs.FreeWalk.{free_walk}
 use Rattle.vol_layout.specs.declared.geometry.Geometry.{Geometry}
 use Rattle.vol_layout.specs.declared.geometry.GeometryFault.{GeometryFault}
 use Rattle.vol_inspect.specs.declared.fault.InspectFault.{InspectFault}

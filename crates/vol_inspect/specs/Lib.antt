@@ -1,4 +1,3 @@
 pub mod Extents
 pub mod Inspecting
 pub mod Texts
-pub mod Walking

@@ -6,8 +6,8 @@ use Rattle.vol_layout.specs.Inode.{kind_of, permissions_of, address_count}
 use Rattle.vol_layout.specs.declared.mode.Kind.{Kind}
 use Rattle.vol_layout.specs.declared.mode.Kind.TheVariants as kinds
 use Rattle.vol_inspect.specs.declared.extent.Extent.{Extent}
-use Rattle.vol_reports.specs.Texts.{fault_word}
-use Rattle.vol_reports.specs.declared.line.FreeFault.{FreeFault}
+use Rattle.vol_free.specs.FreeWalk.{fault_word}
+use Rattle.vol_free.specs.declared.free_walk.FreeFault.{FreeFault}
 use Rattle.vol_inspect.specs.declared.super_report.SuperReport.{SuperReport}
 use Rattle.vol_inspect.specs.declared.inode_report.InodeReport.{InodeReport}
 

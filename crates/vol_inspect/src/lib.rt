@@ -7,11 +7,9 @@ mod gathering;
 mod inode_report;
 mod super_report;
 mod texts;
-mod walking;
 
 pub use extent::Extent;
 pub use fault::InspectFault;
 pub use inode_report::{InodeReport, inspect_inode};
 pub use super_report::{SuperReport, inspect_super};
-pub use texts::{fault_word, kind_name};
-pub use walking::{FreeBlocks, walk_free};
+pub use texts::kind_name;

@@ -8,12 +8,11 @@ ghost use Rattle.vol_reports.specs.Blocks.{is_kind, kind_count};
 ghost use Rattle.vol_inspect.specs.Inspecting.{InspectsSuper, IsSuperReport, cached_numbers, flag_bytes};
 
 use crate::fault::InspectFault;
-use crate::walking::walk_free;
 use pdp_words::Image;
 use std::alloc::{AllocError, Global};
+use vol_free::{FreeFault, walk_free};
 use vol_layout::i_list::kind;
 use vol_layout::{Edition, Flag, Geometry, Kind, Super};
-use vol_reports::FreeFault;
 
 /// The super-block, with what it says of the volume.
 #[derive(Debug, Drop)]
@@ -46,7 +45,7 @@ pub struct SuperReport {
 
 /// The super-block of an image in which rules 1 and 2 hold, which may be any bytes otherwise.
 ///
-/// Reads the i-list, and the free list up to its first fault. Takes a byte for each data block, and four for each free one.
+/// Reads the i-list, and the free list up to its first fault. Takes a byte for each block of the volume, and four for each free one.
 pub fn inspect_super(
     alloc: Global,
     edition: Edition,

@@ -1,7 +1,6 @@
 //! The text of what is shown.
 ghost use Rattle.std.specs.Prelude.{◌≡◌, ◌≤◌, ◌++◌, OnOk, Some};
 ghost use Rattle.std.specs.String.{string_bytes};
-ghost use Rattle.vol_reports.specs.Texts.{fault_word};
 ghost use Rattle.vol_inspect.specs.Texts.{
   octal_text,
   all_spaced,
@@ -29,8 +28,8 @@ use crate::inode_report::InodeReport;
 use crate::super_report::SuperReport;
 use std::alloc::AllocError;
 use std::fmt;
+use vol_free::FreeFault;
 use vol_layout::Kind;
-use vol_reports::FreeFault;
 
 impl InodeReport {
     /// Appends the report's text: a line for each field by its name in the manual, the mode in octal digits with the kind and
@@ -163,19 +162,8 @@ fn push_fault(text: &mut String, fault: Option<(FreeFault, u32)>) -> Result<(), 
     let Some((fault, number)) = fault else {
         return Ok(());
     };
-    let word = fault_word(fault);
+    let word = fault.word();
     write!(text, "{word} {number}\n")
-}
-
-/// The words of a fault of the free list.
-pub fn fault_word(fault: FreeFault) -> &'static str
-    ensures { result.now ≡ fault_word fault }
-{
-    match fault {
-        FreeFault::TooMany => "free toomany",
-        FreeFault::OutOfZone => "free outofzone",
-        FreeFault::Repeat => "free repeat",
-    }
 }
 
 /// A number in octal digits.

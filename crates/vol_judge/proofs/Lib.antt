@@ -10,7 +10,6 @@ pub mod EachDirectory
 pub mod EditedGraphs
 pub mod EmptiedGraphs
 pub mod FileBlocks
-pub mod FreeWalks
 pub mod GraphCounts
 pub mod GraphParts
 pub mod ImageGraphs

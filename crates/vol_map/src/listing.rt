@@ -1,15 +1,12 @@
 //! Which blocks stand in the free list, and which of them chain it.
-ghost use Rattle.std.specs.Prelude.{◌≡◌, ◌≤◌, ℕ, ◌<◌, ◌*◌, length, reverse, slice_index_or, IfOk};
-ghost use Rattle.pdp_words.specs.Words.{word};
+ghost use Rattle.std.specs.Prelude.{◌≡◌, ℕ, ◌<◌, false, length, slice_index_or, IfOk};
 ghost use Rattle.vol_layout.specs.Geometry.{Fits};
-ghost use Rattle.vol_reports.specs.FreeWalk.{free_walk};
-ghost use Rattle.vol_inspect.specs.Walking.{AreZoned};
-ghost use Rattle.vol_map.specs.Listing.{listed_as, listed_at, next_count, listed_of};
+ghost use Rattle.vol_map.specs.Listing.{listed_at, listed_of};
 
-use pdp_words::{BLOCK, Image};
+use pdp_words::Image;
 use std::alloc::{AllocError, Global};
-use vol_inspect::walk_free;
-use vol_layout::{Geometry, Super};
+use vol_free::FreeWalk;
+use vol_layout::Geometry;
 
 /// Whether and how a block stands in the free list.
 #[derive(Clone, Copy, Debug, PartialEq, Eq)]
@@ -33,29 +30,29 @@ pub(crate) fn listed_blocks(
     ensures each { IfOk result (λ listed. (b : ℕ) → b < geometry.now.zone_end
         → slice_index_or listed.items b Listed.Absent ≡ listed_of geometry.now image.now b) }
 {
-    let walk = walk_free(alloc, image, geometry)?;
+    let mut marks = vec![in alloc; false; geometry.zone_end as usize]?;
     let mut listed = vec![in alloc; Listed::Absent; geometry.zone_end as usize]?;
-    let super_block = Super {
-        edition: geometry.edition,
-    };
-    let count = super_block.free_count(image);
-    list(&mut listed, image, geometry, &walk.met, count);
+    list(&mut listed, &mut marks, image, geometry);
     Ok(listed)
 }
 
-/// Collects the blocks that the walk met, in their order; the array in the super-block has `count` numbers.
-fn list(listed: &mut [Listed], image: &Image, geometry: &Geometry, met: &[u32], count: u16)
+/// Lists the blocks that a walk over the free list meets. No block is listed before, and no mark is set.
+fn list(listed: &mut [Listed], marks: &mut [bool], image: &Image, geometry: &Geometry)
     requires fits { Fits geometry.now image.now }
     requires len { length listed.old ≡ geometry.now.zone_end }
-    requires zoned { AreZoned geometry.now met.now }
+    requires marks { length marks.old ≡ geometry.now.zone_end }
+    requires clear { (k : ℕ) → slice_index_or marks.old k false ≡ false }
     requires absent { (b : ℕ) → slice_index_or listed.old b Listed.Absent ≡ Listed.Absent }
-    ensures { (b : ℕ) → b < geometry.now.zone_end
-        → slice_index_or listed.new b Listed.Absent ≡ listed_as image.now count met.now b Listed.Absent }
+    ensures { (b : ℕ) → b < geometry.now.zone_end → slice_index_or listed.new b Listed.Absent ≡ listed_of geometry.now image.now b }
 {
-    let mut left = count;
-    for b in met {
-        listed[*b as usize] = listed_at(left);
-        left = next_count(image, geometry, left, *b);
+    let mut walk = FreeWalk::new(image, geometry);
+    'walk: loop {
+        let how = listed_at(walk.count);
+        match walk.next(image, geometry, marks) {
+            Some(Ok(b)) => listed[b as usize] = how,
+            Some(Err(_)) => return,
+            None => return,
+        }
     }
 }
 
@@ -67,19 +64,5 @@ fn listed_at(left: u16) -> Listed
         Listed::Linking
     } else {
         Listed::Plain
-    }
-}
-
-/// How many numbers are left behind data block `b`, the last of so many: where it is the only one, those of the array that it
-/// holds.
-fn next_count(image: &Image, geometry: &Geometry, left: u16, b: u32) -> u16
-    requires fits { Fits geometry.now image.now }
-    requires end { b < geometry.now.zone_end }
-    ensures { result ≡ next_count image.now left b }
-{
-    if left == 1 {
-        image.word(BLOCK * b as usize)
-    } else {
-        left.saturating_sub(1)
     }
 }

@@ -4,12 +4,12 @@ use Rattle.std.proofs.lemmas.Bool.{and_from, le-leb, lt-ltb}
 use Rattle.vol_layout.specs.Geometry.{in_zone}
 use Rattle.vol_layout.specs.declared.geometry.Geometry.{Geometry}
 use Rattle.vol_reports.specs.Words.{zone_len, least_word}
-use Rattle.vol_reports.specs.FreeWalk.{free_walk}
+use Rattle.vol_free.specs.FreeWalk.{free_walk}
 use Rattle.vol_reports.specs.Blocks.{use_count, bad_numbers, is_used, is_met, is_lost, is_lost_of, bad_line, dup_line, lost_line, bad_line_of, dup_line_of, lost_line_of, bad_lines, dup_lines, lost_lines, total_lines, block_lines, free_list_line, zone_count}
 use Rattle.vol_reports.specs.Counted.{CountsBlocks}
 use Rattle.vol_reports.specs.FromWords.{is_used_in, is_met_in, is_lost_in, bad_line_in, dup_line_in, lost_line_in, inode_lines, zone_lines, total_lines_in, Appended}
 use Rattle.vol_reports.specs.declared.line.Line.{Line}
-use Rattle.vol_reports.specs.declared.line.FreeFault.{FreeFault}
+use Rattle.vol_free.specs.declared.free_walk.FreeFault.{FreeFault}
 use Rattle.vol_reports.proofs.Ranges.{flat_same, count_same}
 
 -- a number from the first data block to the last is in the zone

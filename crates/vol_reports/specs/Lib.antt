@@ -1,5 +1,4 @@
 pub mod Words
-pub mod FreeWalk
 pub mod Placed
 pub mod Blocks
 pub mod Entries

@@ -2,19 +2,12 @@
 use Rattle.std.specs.Prelude.{ℕ, List, [], ◌∷◌, ◌++◌, codes}
 use Rattle.std.specs.List.{flat_map}
 use Rattle.std.specs.Fmt.{decimal}
+use Rattle.vol_free.specs.FreeWalk.{fault_word}
 use Rattle.vol_reports.specs.Blocks.{one_if}
-use Rattle.vol_reports.specs.declared.line.FreeFault.{FreeFault}
-use Rattle.vol_reports.specs.declared.line.FreeFault.TheVariants.{TooMany, OutOfZone, Repeat}
 use Rattle.vol_reports.specs.declared.line.Line.{Line}
 use Rattle.vol_reports.specs.declared.line.Line.TheVariants as lines
 use Rattle.vol_reports.specs.declared.line.Total.{Total}
 use Rattle.vol_reports.specs.declared.line.Total.TheVariants as totals
-
--- the word of a fault of the free list (this project)
-abbrev pub fault_word : FreeFault → List ℕ
-fault_word TooMany = codes "free toomany"
-fault_word OutOfZone = codes "free outofzone"
-fault_word Repeat = codes "free repeat"
 
 -- the word of a total (this project)
 abbrev pub total_word : Total → List ℕ

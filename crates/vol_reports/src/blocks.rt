@@ -6,11 +6,12 @@ ghost use Rattle.vol_reports.specs.Blocks.{block_lines, bad_line_of, dup_line_of
 ghost use Rattle.vol_reports.specs.Counted.{CountsBlocks, HasBlockWidth};
 ghost use Rattle.vol_reports.specs.FromWords.{bad_line_in, dup_line_in, lost_line_in, total_line, total_lines_in, is_used_in, is_met_in, is_lost_in, inode_lines, zone_lines, Appended};
 
-use crate::line::{FreeFault, Line, Total};
+use crate::line::{Line, Total};
 use crate::report::Report;
 use crate::words::{bad_word, free_word, kind_word, least_word, place_word};
 use count_table::Summed;
 use std::alloc::{AllocError, Global};
+use vol_free::FreeFault;
 use vol_layout::Geometry;
 
 /// The block report of each image whose blocks the words count, where the walk over its free list ended with this

@@ -1,16 +1,6 @@
 //! The lines of a report.
 use crate::path::Path;
-
-/// Why the walk over the free list ended before its end.
-#[derive(Clone, Copy, Debug, PartialEq, Eq)]
-pub enum FreeFault {
-    /// A count above the size of the array.
-    TooMany,
-    /// A number that is no data block's.
-    OutOfZone,
-    /// A block that was met before.
-    Repeat,
-}
+use vol_free::FreeFault;
 
 /// What one of the last lines of a block report counts.
 #[derive(Clone, Copy, Debug, PartialEq, Eq)]

@@ -1,9 +1,9 @@
 //! The text of a report.
 ghost use Rattle.std.specs.Prelude.{◌≡◌, ◌++◌, ◌∷◌, [], IfOk};
 ghost use Rattle.std.specs.Fmt.{decimal};
-ghost use Rattle.vol_reports.specs.Texts.{fault_word, total_word, all_spaced, worded, bare_text, line_text, report_text};
+ghost use Rattle.vol_reports.specs.Texts.{total_word, all_spaced, worded, bare_text, line_text, report_text};
 
-use crate::line::{FreeFault, Line, Total};
+use crate::line::{Line, Total};
 use crate::report::Report;
 use std::alloc::AllocError;
 
@@ -29,19 +29,6 @@ impl Line {
         push_bare(text, self)?;
         text.push(b'\n')?;
         Ok(())
-    }
-}
-
-impl FreeFault {
-    /// The word that stands for it in a line.
-    pub fn word(self) -> &'static [u8]
-        ensures { result.now ≡ fault_word self }
-    {
-        match self {
-            FreeFault::TooMany => b"free toomany",
-            FreeFault::OutOfZone => b"free outofzone",
-            FreeFault::Repeat => b"free repeat",
-        }
     }
 }
 
@@ -83,7 +70,11 @@ fn push_bare(text: &mut Vec<u8>, line: &Line) -> Result<(), AllocError>
             &[u64::from(*block), *places, u64::from(*free)],
         ),
         Line::Lost(block) => push_worded(text, b"lost", &[u64::from(*block)]),
-        Line::FreeList(fault, number) => push_worded(text, fault.word(), &[u64::from(*number)]),
+        Line::FreeList(fault, number) => push_worded(
+            text,
+            fault.word().as_bytes(),
+            &[u64::from(*number)],
+        ),
         Line::Total(total, count) => push_worded(text, total.word(), &[*count]),
         Line::Links {
             inode,

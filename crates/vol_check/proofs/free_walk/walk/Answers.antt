@@ -1,51 +1,85 @@
-use Rattle.std.proofs.Common.{◌-◌, sym, ap, arith, Some, None}
-use Rattle.vol_layout.proofs.BodyLaws.{zone_bounds}
+use Rattle.std.proofs.Common.{◌≡◌, ℕ, Bool, List, Option, Result, Ok, ◌∷◌, [], Some, ap, subst, arith}
+use Rattle.atomic_table.specs.declared.shared.Seat.{Seat}
+use Rattle.count_table.specs.declared.rule.Mark.{Mark}
+use Rattle.count_table.specs.declared.rule.SeatView.{SeatView}
+use Rattle.count_table.specs.declared.words.Tally.{Tally}
+use Rattle.count_table.specs.Sums.{total}
 use Rattle.count_table.specs.Views.{mark}
+use Rattle.count_table.proofs.Totals.{total_nil, total_cons}
+use Rattle.vol_layout.specs.declared.geometry.Geometry.{Geometry}
+use Rattle.vol_layout.proofs.BodyLaws.{zone_bounds}
+use Rattle.vol_free.specs.declared.free_walk.FreeFault.{FreeFault}
+use Rattle.vol_free.specs.declared.free_walk.FreeWalk.{FreeWalk}
+use Rattle.vol_free.specs.FreeWalk.{Walked, free_walk}
+use Rattle.vol_free.specs.Walking.{HasMet, StepFinds}
+use Rattle.vol_free.proofs.FreeWalks.{met_most, zoned_last}
 use Rattle.vol_reports.specs.Words.{free_word}
-use Rattle.vol_reports.specs.FreeWalk.{Walked}
-use Rattle.vol_check.proofs.Adding.{added}
-use Rattle.vol_check.proofs.Walks.{starts, walks_on, walk_is, walk_marks, unset, unset_less}
+use Rattle.vol_check.specs.Pieces.{Adds, free_weight}
+use Rattle.vol_check.proofs.Adding.{added, adds_none, adds_then, adds_as}
 use Rattle.vol_check.proofs.free_walk.walk.Goals as goal
 
-pub loop-b-init : goal.loop-b-init
-loop-b-init c = starts c.args.geometry.now c.args.image.now c.args.tally.now c.args.seat.now c.args.flags.now _ c.requires.fits c.requires.own
-    c.requires.len c.requires.clear c.free_head.ensures c.free_count.ensures
+pub walk-init : goal.walk-init
+walk-init c =
+    let g = c.args.geometry.now in (
+      [],
+      c.new-walk.ensures c.args.marks.now c.requires.len c.requires.clear,
+      adds_none c.args.tally.now c.args.seat.now (λ weight. total (λ b. weight (mark (free_word g b) 1)) []) c.requires.own
+          (λ weight. total_nil (λ b. weight (mark (free_word g b) 1))),
+    )
 
-pub loop-b-smaller : goal.loop-b-smaller
-loop-b-smaller c =
-    let met = c.in-Met.ensures in
-    let low = zone_bounds c.args.geometry.now c.in-Met.b met.zone in
-    let wide = c.loop-b.invariant.len in
-    let less = unset_less c.loop-b.flags (c.in-Met.b - c.args.geometry.now.zone_start) (omega arith) met.fresh in omega arith
+-- one block more
+met_one : (g : Geometry) (image : List ℕ) (old new : List Bool) (walk next : FreeWalk) {found : Result ℕ (FreeFault × ℕ)} {b : ℕ} {met : List ℕ}
+    → found ≡ Ok b → StepFinds g image old new walk next (Some found) → HasMet g image old walk met → HasMet g image new next (b ∷ met)
+met_one g image old new walk next {met = met} is finds w = subst (λ r. StepFinds g image old new walk next (Some r)) is finds met w
 
-pub loop-b-preserved : goal.loop-b-preserved
-loop-b-preserved c =
+pub free_word-requires : goal.free_word-requires
+free_word-requires c =
     let g = c.args.geometry.now in
-    walks_on g c.args.image.now c.args.tally.now c.args.seat.now c.loop-b.seat c.loop-b.flags c.loop-b.rest c.loop-b.invariant c.count.new.seat
-    c.in-Met.b c.in-Met.next c.in-Met.ensures
-    (added c.args.tally.now c.loop-b.seat c.count.new.seat c.free_word.result 1 (λ weight. weight (mark (free_word g c.in-Met.b) 1))
-    c.count.ensures.own c.count.ensures.marked (λ weight. ap (λ w. weight (mark w 1)) c.free_word.ensures))
+    let next = met_one g c.args.image.now c.walk.marks c.next.new.marks c.walk.walk c.next.new.self c.in-Some-Ok.field-0-is c.in-Some-Ok.ensures c.walk.invariant.1 in
+    record { zone = zoned_last next }
 
-pub returns-in-End-clause-marks : goal.returns-in-End-clause-marks
-returns-in-End-clause-marks c =
-    let w = c.loop-b.invariant in
-    walk_marks c.args.geometry.now c.args.image.now c.args.tally.now c.args.seat.now c.loop-b.seat c.loop-b.flags c.loop-b.rest w
-    None (c.in-End.ensures (unset c.loop-b.flags) w.met w.flagged)
+pub count-requires-clause-last : goal.count-requires-clause-last
+count-requires-clause-last c =
+    let g = c.args.geometry.now in
+    let next = met_one g c.args.image.now c.walk.marks c.next.new.marks c.walk.walk c.next.new.self c.in-Some-Ok.field-0-is c.in-Some-Ok.ensures c.walk.invariant.1 in
+    omega (arith, zone_bounds g c.in-Some-Ok.b (zoned_last next), c.free_word.ensures, c.requires.words.counts)
 
-pub returns-in-End-clause-fault : goal.returns-in-End-clause-fault
-returns-in-End-clause-fault c =
-    let w = c.loop-b.invariant in
-    sym (ap (λ (k : Walked). k.fault) (walk_is c.args.geometry.now c.args.image.now c.args.tally.now c.args.seat.now c.loop-b.seat c.loop-b.flags c.loop-b.rest w
-    None (c.in-End.ensures (unset c.loop-b.flags) w.met w.flagged)))
+pub walk-smaller : goal.walk-smaller
+walk-smaller c =
+    let w = c.walk.invariant.1 in
+    let next = met_one c.args.geometry.now c.args.image.now c.walk.marks c.next.new.marks c.walk.walk c.next.new.self c.in-Some-Ok.field-0-is c.in-Some-Ok.ensures w in
+    omega (arith, met_most next, next.counted, w.counted)
 
-pub returns-in-Fault-clause-marks : goal.returns-in-Fault-clause-marks
-returns-in-Fault-clause-marks c =
-    let w = c.loop-b.invariant in
-    walk_marks c.args.geometry.now c.args.image.now c.args.tally.now c.args.seat.now c.loop-b.seat c.loop-b.flags c.loop-b.rest w
-    (Some (c.in-Fault.fault, c.in-Fault.n)) (c.in-Fault.ensures (unset c.loop-b.flags) w.met w.flagged)
+pub walk-preserved : goal.walk-preserved
+walk-preserved c =
+    let g = c.args.geometry.now in
+    let tally = c.args.tally.now in
+    let met = c.walk.invariant.0 in
+    let b = c.in-Some-Ok.b in
+    let count : List ℕ → (Mark → ℕ) → ℕ = λ met weight. total (λ x. weight (mark (free_word g x) 1)) met in (
+      b ∷ met,
+      met_one g c.args.image.now c.walk.marks c.next.new.marks c.walk.walk c.next.new.self c.in-Some-Ok.field-0-is c.in-Some-Ok.ensures c.walk.invariant.1,
+      adds_then tally c.args.seat.now c.walk.seat c.count.new.seat (count met) (λ weight. weight (mark (free_word g b) 1)) (count (b ∷ met)) c.walk.invariant.2
+          (added tally c.walk.seat c.count.new.seat c.free_word.result 1 (λ weight. weight (mark (free_word g b) 1))
+          c.count.ensures.own c.count.ensures.marked (λ weight. ap (λ w. weight (mark w 1)) c.free_word.ensures))
+          (λ weight. let t = total_cons (λ x. weight (mark (free_word g x) 1)) b met in omega arith),
+    )
 
-pub returns-in-Fault-clause-fault : goal.returns-in-Fault-clause-fault
-returns-in-Fault-clause-fault c =
-    let w = c.loop-b.invariant in
-    sym (ap (λ (k : Walked). k.fault) (walk_is c.args.geometry.now c.args.image.now c.args.tally.now c.args.seat.now c.loop-b.seat c.loop-b.flags c.loop-b.rest w
-    (Some (c.in-Fault.fault, c.in-Fault.n)) (c.in-Fault.ensures (unset c.loop-b.flags) w.met w.flagged)))
+-- all that was met is counted
+all_counted : (g : Geometry) (image : List ℕ) (tally : Tally) (old new : Seat (Unit {0}) SeatView) {met : List ℕ} {fault : Option (FreeFault × ℕ)}
+    → Adds tally old new (λ weight. total (λ b. weight (mark (free_word g b) 1)) met) → free_walk g image ≡ record { met = met; fault = fault }
+    → Adds tally old new (free_weight g image)
+all_counted g image tally old new {met = met} adds is =
+    adds_as tally old new (λ weight. total (λ b. weight (mark (free_word g b) 1)) met) (free_weight g image) adds
+    (λ weight. ap (λ (k : Walked). total (λ b. weight (mark (free_word g b) 1)) k.met) is)
+
+pub returns-in-Some-Err-clause-marks : goal.returns-in-Some-Err-clause-marks
+returns-in-Some-Err-clause-marks c =
+    let g = c.args.geometry.now in
+    let image = c.args.image.now in
+    let end = subst (λ r. StepFinds g image c.walk.marks c.next.new.marks c.walk.walk c.next.new.self (Some r)) c.in-Some-Err.field-0-is c.in-Some-Err.ensures in
+    all_counted g image c.args.tally.now c.args.seat.now c.walk.seat c.walk.invariant.2 (end.2 c.walk.invariant.0 c.walk.invariant.1)
+
+pub returns-in-None-clause-marks : goal.returns-in-None-clause-marks
+returns-in-None-clause-marks c =
+    all_counted c.args.geometry.now c.args.image.now c.args.tally.now c.args.seat.now c.walk.seat c.walk.invariant.2 (c.in-None.ensures.2 c.walk.invariant.0 c.walk.invariant.1)

@@ -1,10 +1,16 @@
-use Rattle.vol_check.proofs.Walks.{IsWalking, unset}
+use Rattle.std.proofs.Common.{ℕ, ◌-◌, List}
+use Rattle.count_table.specs.Sums.{total}
+use Rattle.count_table.specs.Views.{mark}
+use Rattle.vol_free.specs.Walking.{HasMet}
+use Rattle.vol_reports.specs.Words.{free_word}
+use Rattle.vol_check.specs.Pieces.{Adds}
 use Rattle.vol_check.proofs.free_walk.walk.Given as goal
 
--- what was met is marked
-abbrev pub invariant-loop-b : goal.invariant-loop-b
-invariant-loop-b l = IsWalking l.geometry l.image l.tally l.fn.seat l.seat l.flags l.rest
+-- what was met is counted
+abbrev pub invariant-walk : goal.invariant-walk
+invariant-walk l = (met : List ℕ) × HasMet l.geometry l.image l.marks l.walk met
+    × Adds l.tally l.fn.seat l.seat (λ weight. total (λ b. weight (mark (free_word l.geometry b) 1)) met)
 
--- each step sets a flag
-abbrev pub decreases-loop-b : goal.decreases-loop-b
-decreases-loop-b l = unset l.flags
+-- each step meets a block
+abbrev pub decreases-walk : goal.decreases-walk
+decreases-walk l = l.geometry.zone_end - l.walk.met

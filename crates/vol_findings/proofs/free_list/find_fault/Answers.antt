@@ -1,5 +1,5 @@
 use Rattle.std.proofs.Common.{sym, ◌∙◌}
-use Rattle.vol_findings.proofs.FreeFaults.{fault_breaks, no_fault_holds}
+use Rattle.vol_free.proofs.FreeFaults.{fault_breaks, no_fault_holds}
 use Rattle.vol_findings.proofs.free_list.find_fault.Goals as goal
 
 pub returns-in-None : goal.returns-in-None

@@ -1,6 +1,6 @@
 use Rattle.std.proofs.Common.{◌∙◌, sym, subst}
 use Rattle.vol_free.specs.Stack.{IsFree}
-use Rattle.vol_findings.proofs.FreeFaults.{fault_breaks, no_fault_free}
+use Rattle.vol_free.proofs.FreeFaults.{fault_breaks, no_fault_free}
 use Rattle.vol_findings.proofs.NamedFree.{clear_apart, marked_free, marked_breaks}
 use Rattle.vol_findings.proofs.sharing.named_and_free.Goals as goal
 

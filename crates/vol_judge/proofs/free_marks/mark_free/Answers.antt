@@ -1,46 +1,57 @@
-use Rattle.std.proofs.Common.{◌≡◌, ap, arith}
-use Rattle.vol_layout.specs.Edition.{constants}
-use Rattle.vol_layout.specs.declared.edition.Constants.{Constants}
-use Rattle.vol_free.proofs.Stacks.{head_end, zone_behind}
-use Rattle.vol_judge.proofs.FreeWalks.{counted_start, counted_next, walked_end, walked_count, walked_broken, unmarked_less, unmarked_most}
+use Rattle.std.proofs.Common.{◌≡◌, ◌∷◌, Some, length, reverse, sym, ap, ◌∙◌, subst, arith}
+use Rattle.std.proofs.lemmas.List.{reverse-reverse, length-reverse}
+use Rattle.vol_free.specs.FreeWalk.{Walked}
+use Rattle.vol_free.specs.Stack.{IsIn}
+use Rattle.vol_free.specs.Walking.{HasMet, StepFinds}
+use Rattle.vol_free.proofs.FreeFaults.{in_any, any_in, in_reverse, fault_breaks, no_fault_free}
+use Rattle.vol_free.proofs.FreeWalks.{met_most}
+use Rattle.vol_free.proofs.Stacks.{IsFree_unique, zone_behind}
 use Rattle.vol_judge.proofs.free_marks.mark_free.Goals as goal
 
-pub returns-then-rest-constants-clause-broken : goal.returns-then-rest-constants-clause-broken
-returns-then-rest-constants-clause-broken c = λ has.
-    let slots : c.constants.result.free_slots ≡ (constants c.args.geometry.now.edition).free_slots = ap (λ (n : Constants). n.free_slots) c.constants.ensures in
-    omega (arith, has.free.count)
+-- one block more
+met_one : (c : goal.In-Some-Ok) → HasMet c.args.geometry.now c.args.image.now c.next.new.marks c.next.new.self (c.in-Some-Ok.field-0-0 ∷ c.walk.invariant.0)
+met_one c =
+    subst (λ r. StepFinds c.args.geometry.now c.args.image.now c.walk.marks c.next.new.marks c.walk.walk c.next.new.self (Some r)) c.in-Some-Ok.field-0-is c.in-Some-Ok.ensures
+    c.walk.invariant.0 c.walk.invariant.1
 
-pub loop-next-init : goal.loop-next-init
-loop-next-init c =
-    let slots : c.constants.result.free_slots ≡ (constants c.args.geometry.now.edition).free_slots = ap (λ (n : Constants). n.free_slots) c.constants.ensures in
-    record {
-      room = c.requires.room;
-      readable = record {
-        few = omega arith;
-        room = omega (arith, head_end c.args.geometry.now.edition, zone_behind c.requires.fits, c.requires.fits.blocks, c.requires.fits.zone);
-      };
-      low = omega (arith, unmarked_most c.args.marks.now, c.requires.room);
-      walked = counted_start c.args.geometry.now c.args.image.now c.args.marks.now _ c.free_head.ensures c.free_count.ensures c.requires.clear;
-    }
+pub walk-smaller : goal.walk-smaller
+walk-smaller c =
+    let next = met_one c in
+    let w = c.walk.invariant.1 in
+    omega (arith, met_most next, next.counted, w.counted)
 
-pub loop-next-smaller : goal.loop-next-smaller
-loop-next-smaller c = unmarked_less c.loop-next.invariant.room c.in-Met.ensures
+pub walk-preserved : goal.walk-preserved
+walk-preserved c = (c.in-Some-Ok.field-0-0 ∷ c.walk.invariant.0, met_one c)
 
-pub loop-next-preserved : goal.loop-next-preserved
-loop-next-preserved c = record {
-  room = omega arith;
-  readable = c.in-Met.ensures.before.readable;
-  low = let less = unmarked_less c.loop-next.invariant.room c.in-Met.ensures in omega (arith, less, c.loop-next.invariant.low);
-  walked = counted_next c.loop-next.invariant.room c.loop-next.invariant.walked c.in-Met.ensures;
-}
+pub returns-in-Some-Err-clause-broken : goal.returns-in-Some-Err-clause-broken
+returns-in-Some-Err-clause-broken c =
+    let g = c.args.geometry.now in
+    let image = c.args.image.now in
+    let end = subst (λ r. StepFinds g image c.walk.marks c.next.new.marks c.walk.walk c.next.new.self (Some r)) c.in-Some-Err.field-0-is c.in-Some-Err.ensures in
+    fault_breaks g image (ap (λ (k : Walked). k.fault) (end.2 c.walk.invariant.0 c.walk.invariant.1))
 
-pub returns-in-End-clause-marked : goal.returns-in-End-clause-marked
-returns-in-End-clause-marked c =
-    let slots : c.constants.result.free_slots ≡ (constants c.args.geometry.now.edition).free_slots = ap (λ (n : Constants). n.free_slots) c.constants.ensures in
-    rw c.in-End.ensures.1 (walked_end (omega arith) c.loop-next.invariant.walked.walked c.in-End.ensures.0)
+pub returns-in-None-clause-marked : goal.returns-in-None-clause-marked
+returns-in-None-clause-marked c =
+    let met = c.walk.invariant.0 in
+    let w = c.walk.invariant.1 in
+    let end = c.in-None.ensures in
+    let walk = end.2 met w in
+    rw end.0 (record {
+      blocks = reverse met;
+      free = no_fault_free c.args.geometry.now c.args.image.now (reverse met) (ap (λ (k : Walked). k.fault) walk)
+          (reverse-reverse met ∙ sym (ap (λ (k : Walked). k.met) walk));
+      marked = λ k set. in_reverse k met (any_in k met (sym (w.marked k) ∙ set));
+      all = λ k among. w.marked k ∙ in_any k met (subst (IsIn k) (reverse-reverse met) (in_reverse k (reverse met) among));
+    })
 
-pub returns-in-End-clause-count : goal.returns-in-End-clause-count
-returns-in-End-clause-count c = walked_count c.loop-next.invariant.walked c.in-End.ensures.0
-
-pub returns-in-Broken-clause-broken : goal.returns-in-Broken-clause-broken
-returns-in-Broken-clause-broken c = walked_broken c.loop-next.invariant.walked.walked c.in-Broken.ensures
+pub returns-in-None-clause-count : goal.returns-in-None-clause-count
+returns-in-None-clause-count c = λ blocks free.
+    let g = c.args.geometry.now in
+    let image = c.args.image.now in
+    let met = c.walk.invariant.0 in
+    let w = c.walk.invariant.1 in
+    let end = c.in-None.ensures in
+    let walk = end.2 met w in
+    let walked = no_fault_free g image (reverse met) (ap (λ (k : Walked). k.fault) walk) (reverse-reverse met ∙ sym (ap (λ (k : Walked). k.met) walk)) in
+    let same : length (reverse met) ≡ length blocks = ap length (IsFree_unique (omega (arith, zone_behind c.requires.fits)) walked free) in
+    rw end.1 (omega (arith, w.counted, same, length-reverse met))

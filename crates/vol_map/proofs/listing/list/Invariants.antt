@@ -1,9 +1,14 @@
-use Rattle.std.proofs.Common.{◌≡◌, ℕ, ◌<◌, drop, get_or}
-use Rattle.vol_map.specs.Listing.{listed_as}
+use Rattle.std.proofs.Common.{◌≡◌, ℕ, ◌-◌, ◌<◌, List, get_or}
+use Rattle.vol_free.specs.Walking.{HasMet}
+use Rattle.vol_map.specs.Listing.{listed_in}
 use Rattle.vol_map.specs.declared.listing.Listed.TheVariants.{Absent}
 use Rattle.vol_map.proofs.listing.list.Given as goal
 
--- what was noted, and then the blocks that are left
-abbrev pub invariant-loop-b : goal.invariant-loop-b
-invariant-loop-b l = (x : ℕ) → x < l.geometry.zone_end
-    → listed_as l.image l.left (drop l.b-index l.met) x (get_or l.listed x Absent) ≡ listed_as l.image l.fn.count l.met x Absent
+-- what was met is listed
+abbrev pub invariant-walk : goal.invariant-walk
+invariant-walk l = (met : List ℕ) × HasMet l.geometry l.image l.marks l.walk met
+    × ((x : ℕ) → x < l.geometry.zone_end → get_or l.listed x Absent ≡ listed_in l.geometry l.image met x)
+
+-- each step meets a block
+abbrev pub decreases-walk : goal.decreases-walk
+decreases-walk l = l.geometry.zone_end - l.walk.met

@@ -5,9 +5,9 @@ use Rattle.pdp_words.specs.Words.{word}
 use Rattle.vol_layout.specs.Edition.{constants, number}
 use Rattle.vol_layout.specs.Geometry.{in_zone}
 use Rattle.vol_layout.specs.declared.geometry.Geometry.{Geometry}
-use Rattle.vol_reports.specs.declared.line.FreeFault.{FreeFault}
-use Rattle.vol_reports.specs.declared.line.FreeFault.TheVariants.{TooMany, OutOfZone, Repeat}
-use Rattle.vol_reports.specs.FreeWalk.{Walked, walk_rest}
+use Rattle.vol_free.specs.declared.free_walk.FreeFault.{FreeFault}
+use Rattle.vol_free.specs.declared.free_walk.FreeFault.TheVariants.{TooMany, OutOfZone, Repeat}
+use Rattle.vol_free.specs.FreeWalk.{Walked, walk_rest}
 
 abbrev pub ended : List ℕ → Walked
 ended met = record { met = met; fault = None }

@@ -1,5 +1,6 @@
 -- A walk over the free list comes to its end without a fault exactly where the list is a stack.
-use Rattle.std.proofs.Common.{◌≡◌, ◌≢◌, ℕ, zero, suc, ◌+◌, ◌-◌, ◌*◌, ◌<◌, ◌≤◌, ◌∙◌, ◌==◌, ◌||◌, inl, inr, sym, ap, subst, true, false, List, [], ◌∷◌, ◌++◌, length, reverse, None, Some, refl, arith, eq-eqb, append_assoc, append-nil}
+use Rattle.std.proofs.Common.{◌≡◌, ◌≢◌, ℕ, zero, suc, ◌+◌, ◌-◌, ◌*◌, ◌<◌, ◌≤◌, ◌∙◌, ◌==◌, ◌||◌, ◌⊎◌, inl, inr, sym, ap, subst, true, false, List, [], ◌∷◌, ◌++◌, length, reverse, None, Some, refl, arith, eq-eqb, append_assoc, append-nil}
+use mathlib.Core.List.{reverse_aux}
 use Rattle.std.proofs.lemmas.Bool.{cases_eq, cases_lt, cases_Bool, ne_eqb}
 use Rattle.std.proofs.lemmas.List.{reverse-append, reverse-reverse}
 use Rattle.std.proofs.lemmas.Option.{none-some}
@@ -12,9 +13,9 @@ use Rattle.vol_layout.specs.declared.geometry.Geometry.{Geometry}
 use Rattle.vol_free.specs.Stack.{IsIn, Once, IsStack, IsFree, HasStack}
 use Rattle.vol_free.proofs.Lengths.{once_within}
 use Rattle.vol_free.proofs.Stacks.{zone_from, zone_below}
-use Rattle.vol_reports.specs.declared.line.FreeFault.{FreeFault}
-use Rattle.vol_reports.specs.FreeWalk.{Walked, walk_rest, free_walk}
-use Rattle.vol_inspect.proofs.WalkLaws.{walk_none, walk_many, walk_end, walk_out, walk_again, walk_chain, walk_on}
+use Rattle.vol_free.specs.declared.free_walk.FreeFault.{FreeFault}
+use Rattle.vol_free.specs.FreeWalk.{Walked, walk_rest, free_walk}
+use Rattle.vol_free.proofs.WalkLaws.{walk_none, walk_many, walk_end, walk_out, walk_again, walk_chain, walk_on}
 
 -- a number that is among others is found there
 pub in_any : (b : ℕ) (met : List ℕ) → IsIn b met → list_any (λ k. k == b) met ≡ true
@@ -34,6 +35,19 @@ any_in b (c ∷ met) found = elim (cases_eq c b) [
   | inl same ↦ inl (sym same)
   | inr other ↦ inr (any_in b met (sym (ap (λ t. t || list_any (λ k. k == b) met) (ne_eqb c b other)) ∙ found))
 ]
+
+-- a number that is among others is among them in the other order, and before others
+in_turned : (b : ℕ) (xs ys : List ℕ) → IsIn b xs ⊎ IsIn b ys → IsIn b (reverse_aux xs ys)
+unfolding IsIn
+in_turned b [] ys (inl i) = absurd i
+in_turned b [] ys (inr i) = i
+in_turned b (x ∷ xs) ys (inl (inl same)) = in_turned b xs (x ∷ ys) (inr (inl same))
+in_turned b (x ∷ xs) ys (inl (inr i)) = in_turned b xs (x ∷ ys) (inl i)
+in_turned b (x ∷ xs) ys (inr i) = in_turned b xs (x ∷ ys) (inr (inr i))
+
+-- a number that is among others is among them in the other order
+pub in_reverse : (b : ℕ) (xs : List ℕ) → IsIn b xs → IsIn b (reverse xs)
+in_reverse b xs i = in_turned b xs [] (inl i)
 
 -- a fault isn't none
 no_fault : {walk : Walked} {fault : FreeFault × ℕ} {met : List ℕ} → walk.fault ≡ Some fault → walk ≡ record { met = met; fault = None } → ⊥
@@ -223,3 +237,11 @@ module _ (g : Geometry) (image : List ℕ) where
     blocks = reverse (free_walk g image).met;
     free = no_fault_free (reverse (free_walk g image).met) e (reverse-reverse (free_walk g image).met);
   }
+
+  -- where the volume has a stack, the walk ends in no fault
+  pub stack_no_fault : HasStack g image → (free_walk g image).fault ≡ None
+  stack_no_fault has =
+      elim (free_walk g image).fault as (λ o. (free_walk g image).fault ≡ o → (free_walk g image).fault ≡ None) [
+        | None ↦ λ e. e
+        | Some fault ↦ λ e. absurd (fault_breaks e has)
+      ] refl

@@ -1,19 +1,9 @@
 -- Beginnings of logs.
-use Rattle.std.proofs.Common.{◌≡◌, List, [], ◌++◌, ◌∷◌, refl, ap, sym, ◌∙◌, subst, inl, inr, ⊎_elim}
-use Rattle.std.proofs.lemmas.List.{append-nil}
+use Rattle.std.proofs.Common.{◌≡◌, ap, sym, ◌∙◌, subst, inl, inr, ⊎_elim}
 use mathlib.Core.List.{IsPrefix}
 use Rattle.vol_views.specs.History.{Reached}
-use Rattle.vol_views.specs.declared.history.LogEntry.{LogEntry}
-use Rattle.vol_views.proofs.Beginnings.{prefix_trans}
+use Rattle.vol_views.proofs.Beginnings.{prefix_self, prefix_trans}
 use Rattle.vol_views.specs.PublishedRule.{Begins}
-
--- each list begins with itself
-pub prefix_self : {A : Type 0} (xs : List A) → IsPrefix xs xs
-prefix_self xs = ([], append-nil xs)
-
--- and with what stands before more
-pub prefix_more : {A : Type 0} (xs ys : List A) → IsPrefix xs (xs ++ ys)
-prefix_more xs ys = (ys, refl)
 
 -- a front begins itself
 pub begins_self : (front whole : Reached) → whole ≡ front → Begins front whole

@@ -1,5 +1,5 @@
 -- What logs say.
-use Rattle.std.proofs.Common.{◌≡◌, ℕ, ◌+◌, List, [], ◌∷◌, ◌++◌, length, refl, ap, sym, ◌∙◌, arith, append_assoc, length-append}
+use Rattle.std.proofs.Common.{◌≡◌, ◌+◌, List, [], ◌∷◌, ◌++◌, length, refl, ap, sym, ◌∙◌, arith, append_assoc, length-append}
 use Rattle.std.proofs.lemmas.List.{append-nil}
 use Rattle.vol_dir.specs.Tree.{State}
 use Rattle.vol_volume.specs.Journal.{after, MayFollow}
@@ -14,11 +14,15 @@ use Rattle.vol_views.specs.States.{state_of}
 use Rattle.vol_views.proofs.States.{state_first, state_more, applied_next}
 use Rattle.vol_views.specs.Logs.{history_of, origin_in, number_of}
 
+-- the records of two logs, one behind the other
+pub history_append : (a b : List LogEntry) → history_of (a ++ b) ≡ history_of a ++ history_of b
+history_append [] b = refl
+history_append (Opened origin journal ∷ a) b = ap (λ w. journal ++ w) (history_append a b) ∙ sym (append_assoc journal (history_of a) (history_of b))
+history_append (Made entry ∷ a) b = ap (λ w. entry ∷ w) (history_append a b)
+
 -- an entry more is a record more
 pub history_more : (log : List LogEntry) (entry : Record) → history_of (log ++ Made entry ∷ []) ≡ history_of log ++ entry ∷ []
-history_more [] entry = refl
-history_more (Opened origin journal ∷ log) entry = ap (λ w. journal ++ w) (history_more log entry) ∙ sym (append_assoc journal (history_of log) (entry ∷ []))
-history_more (Made first ∷ log) entry = ap (λ w. first ∷ w) (history_more log entry)
+history_more log entry = history_append log (Made entry ∷ [])
 
 -- from the same start
 pub origin_more : (log : List LogEntry) (entry : Record) → origin_in (log ++ Made entry ∷ []) ≡ origin_in log

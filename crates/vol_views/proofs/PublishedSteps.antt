@@ -1,5 +1,5 @@
 -- Each step keeps the rule.
-use Rattle.std.proofs.Common.{◌≡◌, ◌≢◌, ◌⊎◌, ℕ, ◌+◌, List, [], ◌∷◌, ◌++◌, set, fold, refl, ap, sym, ◌∙◌, subst, inl, inr, ⊎_elim, None, Some}
+use Rattle.std.proofs.Common.{◌≡◌, ◌≢◌, ℕ, ◌+◌, List, [], ◌∷◌, ◌++◌, set, fold, refl, ap, sym, ◌∙◌, subst, inl, ⊎_elim, Some}
 use Rattle.std.proofs.lemmas.List.{append-nil}
 use mathlib.Core.List.{IsPrefix}
 use mathlib.Core.Option.{some}
@@ -20,7 +20,8 @@ use Rattle.vol_views.specs.Logs.{number_of, origin_in, history_of}
 use Rattle.vol_views.specs.PublishedRule.{IsRight, Begins, Holds, Enters, MayShow, nothing_reached}
 use Rattle.vol_views.specs.declared.published.Published.{Published}
 use Rattle.vol_views.specs.declared.published.Operation.{Operation}
-use Rattle.vol_views.proofs.Fronts.{prefix_self, prefix_more, begins_self, begins_on}
+use Rattle.vol_views.proofs.Beginnings.{prefix_self, prefix_more}
+use Rattle.vol_views.proofs.Fronts.{begins_self, begins_on}
 use Rattle.vol_views.proofs.Logs.{number_more, reads_more, reads_first}
 
 abbrev Known : Published → List Reached → Type 0

@@ -1,6 +1,5 @@
 -- Fronts that go on from one another, and receipts that go on to agree.
-use Rattle.std.proofs.Common.{◌≡◌, ◌≢◌, ◌⊎◌, ℕ, ◌+◌, ◌-◌, ◌≤◌, List, [], ◌∷◌, ◌++◌, length, take, All, refl, ap, sym, ◌∙◌, subst, ⊎_elim, arith, append_assoc, length-append}
-use Rattle.std.proofs.lemmas.List.{append-nil}
+use Rattle.std.proofs.Common.{◌≡◌, ◌≢◌, ◌⊎◌, ℕ, ◌-◌, ◌≤◌, List, [], ◌∷◌, ◌++◌, length, All, refl, ap, sym, subst, ⊎_elim, arith}
 use Rattle.std.proofs.lemmas.List.Elements.{All-append, All-cons, All-nil}
 use Rattle.std.proofs.Math.Seq.{take-length}
 use mathlib.Core.List.{IsPrefix}
@@ -8,24 +7,18 @@ use Rattle.vol_volume.specs.Journal.{after}
 use Rattle.vol_volume.specs.declared.calls.Record.{Record}
 use Rattle.vol_receipts.specs.Agrees.{start, IsAnswer, AgreesAfter, Agrees}
 use Rattle.vol_receipts.specs.declared.receipts.Asked.{Asked}
-use Rattle.vol_receipts.specs.declared.receipts.Asked.TheVariants.{Change, Question}
+use Rattle.vol_receipts.specs.declared.receipts.Asked.TheVariants.{Change}
 use Rattle.vol_receipts.specs.declared.receipts.Outcome.{Outcome}
-use Rattle.vol_receipts.specs.declared.receipts.Outcome.TheVariants.{Accepted, Refused, Answered}
+use Rattle.vol_receipts.specs.declared.receipts.Outcome.TheVariants.{Accepted}
 use Rattle.vol_receipts.specs.declared.receipts.Origin.{Origin}
 use Rattle.vol_receipts.specs.declared.receipts.Receipt.{Receipt}
 use Rattle.vol_receipts.proofs.Agreement.{agrees_grows}
 use Rattle.vol_views.specs.declared.history.LogEntry.{LogEntry}
 use Rattle.vol_views.specs.declared.history.LogEntry.TheVariants.{Opened, Made}
-use Rattle.vol_views.proofs.Beginnings.{prefix_whole}
+use Rattle.vol_views.proofs.Beginnings.{prefix_self, prefix_whole}
 use Rattle.vol_views.specs.Logs.{history_of, origin_in, number_of}
-use Rattle.vol_views.proofs.Fronts.{prefix_self}
+use Rattle.vol_views.proofs.Logs.{history_append}
 use Rattle.vol_views.specs.Views.{GoesOn, AgreesIn}
-
--- the records of two logs, one behind the other
-history_append : (a b : List LogEntry) → history_of (a ++ b) ≡ history_of a ++ history_of b
-history_append [] b = refl
-history_append (Opened origin journal ∷ a) b = ap (λ w. journal ++ w) (history_append a b) ∙ sym (append_assoc journal (history_of a) (history_of b))
-history_append (Made entry ∷ a) b = ap (λ w. entry ∷ w) (history_append a b)
 
 -- the start is said by the first entry
 origin_append : (a b : List LogEntry) → a ≢ [] → origin_in (a ++ b) ≡ origin_in a

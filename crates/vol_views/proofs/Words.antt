@@ -1,8 +1,8 @@
 -- The words beside the first.
-use Rattle.std.proofs.Common.{◌≡◌, ℕ, zero, suc, ◌+◌, ◌<◌, ◌==◌, true, false, List, [], ◌∷◌, ◌++◌, length, refl, ap, sym, arith, set}
+use Rattle.std.proofs.Common.{◌≡◌, ℕ, zero, suc, ◌+◌, ◌==◌, true, false, List, [], ◌∷◌, ◌++◌, length, refl, ap, sym, arith, set}
 use Rattle.std.proofs.lemmas.Bool.Decides.{nat_tests}
 use prog.Atomic.{either}
-use Rattle.logbook.specs.Pages.{Cell, cell}
+use Rattle.logbook.specs.Pages.{Cell}
 use Rattle.vol_views.specs.LogRule.{words}
 
 -- how many there are
@@ -10,12 +10,6 @@ pub words_length : (n m : ℕ) → length (words n m) ≡ n + m
 words_length zero zero = refl
 words_length zero (suc m) = let rest = words_length zero m in omega (arith, rest)
 words_length (suc n) m = let rest = words_length n m in omega (arith, rest)
-
--- the first n were taken
-pub word_taken : (n m k : ℕ) → k < n → (cell (words n m) k).1 ≡ true
-word_taken zero m k low = absurd (omega arith)
-word_taken (suc n) m zero low = refl
-word_taken (suc n) m (suc k) low = word_taken n m k (omega arith)
 
 -- a pen writes its word
 pub word_set : (n m : ℕ) → set (words n (suc m)) n (0, true) ≡ words (suc n) m

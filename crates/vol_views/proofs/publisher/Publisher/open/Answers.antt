@@ -1,6 +1,4 @@
-use Rattle.std.proofs.Common.{◌≡◌, drop, ap, sym, ◌∙◌, subst}
-use Rattle.vol_views.specs.LogRule.{first_log}
-use Rattle.vol_views.specs.PublishedRule.{IsRight}
+use Rattle.std.proofs.Common.{◌≡◌, drop, ap, ◌∙◌}
 use Rattle.vol_views.proofs.PublishedSteps.{holds_first, right_first, shows_empty, shows_same, shown_empty, shown_same}
 use Rattle.vol_views.proofs.publisher.Publisher.open.Goals as goal
 

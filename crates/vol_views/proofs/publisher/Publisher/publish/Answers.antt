@@ -1,4 +1,4 @@
-use Rattle.std.proofs.Common.{◌≡◌, ◌+◌, ◌++◌, ◌∷◌, [], drop, ap, sym, ◌∙◌, subst, Some}
+use Rattle.std.proofs.Common.{◌≡◌, ◌+◌, ◌++◌, ◌∷◌, [], drop, ap, ◌∙◌, Some}
 use Rattle.vol_volume.specs.Journal.{MayFollow}
 use Rattle.vol_views.specs.States.{state_of}
 use Rattle.vol_views.specs.Logs.{number_of}

@@ -5,9 +5,9 @@ use Rattle.std.specs.declared.alloc.Global.{Global}
 use Rattle.std.proofs.lemmas.Nat.{le-div}
 use Rattle.std.proofs.lemmas.List.FromFn.{length-map-range_with_len}
 use Rattle.vol_layout.specs.declared.geometry.Geometry.{Geometry}
-use Rattle.vol_map.specs.Drawing.{cells_from, more_telling}
-use Rattle.vol_map.specs.Uses.{use_of}
-use Rattle.vol_map.specs.declared.uses.Use.{Use}
+use Rattle.vol_inspect.specs.Drawing.{cells_from, more_telling}
+use Rattle.vol_inspect.specs.Uses.{use_of}
+use Rattle.vol_inspect.specs.declared.uses.Use.{Use}
 use Rattle.vol_layout.specs.declared.edition.Edition.{Edition}
 use Rattle.vol_commands.specs.Faults.{no_memory}
 use Rattle.vol_commands.specs.declared.faults.Fault.{Fault}

@@ -5,10 +5,10 @@ use Rattle.vol_layout.specs.Geometry.{geometry_read}
 use Rattle.vol_layout.specs.declared.edition.Edition.{Edition}
 use Rattle.vol_layout.specs.declared.geometry.Geometry.{Geometry}
 use Rattle.vol_layout.specs.declared.geometry.GeometryFault.{GeometryFault}
-use Rattle.vol_map.specs.Drawing.{cells, drawing}
-use Rattle.vol_map.specs.Picturing.{picture}
-use Rattle.vol_map.specs.Uses.{use_of}
-use Rattle.vol_map.specs.declared.uses.Use.{Use}
+use Rattle.vol_inspect.specs.Drawing.{cells, drawing}
+use Rattle.vol_inspect.specs.Picturing.{picture}
+use Rattle.vol_inspect.specs.Uses.{use_of}
+use Rattle.vol_inspect.specs.declared.uses.Use.{Use}
 use Rattle.vol_commands.specs.Faults.{no_memory}
 use Rattle.vol_commands.specs.Jobs.{Streams}
 use Rattle.vol_commands.specs.declared.faults.Fault.{Fault}

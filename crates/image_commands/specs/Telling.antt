@@ -5,7 +5,7 @@ use Rattle.escaped_text.specs.Escaping.{escaped}
 use Rattle.vol_layout.specs.declared.edition.Edition.{Edition}
 use Rattle.vol_layout.specs.declared.geometry.Geometry.{Geometry}
 use Rattle.vol_judge.specs.Sound.{IsJudged}
-use Rattle.vol_map.specs.Sharing.{shared_blocks}
+use Rattle.vol_inspect.specs.Sharing.{shared_blocks}
 use Rattle.vol_archive.specs.declared.found.Found.{Found}
 use Rattle.vol_archive.specs.declared.found.Role.{Role}
 use Rattle.vol_archive.specs.declared.found.Role.TheVariants as roles

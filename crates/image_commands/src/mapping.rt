@@ -10,8 +10,8 @@ use crate::printing::finish;
 use pdp_words::{Image, Sink};
 use std::alloc::{AllocError, Global};
 use vol_commands::faults::Fault;
+use vol_inspect::{block_uses, cells, draw, svg};
 use vol_layout::{Edition, Geometry};
-use vol_map::{block_uses, cells, draw, svg};
 
 /// How many rows of letters there are at most.
 const ROWS: usize = 32;

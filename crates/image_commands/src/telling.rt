@@ -9,9 +9,9 @@ use pdp_words::Image;
 use std::alloc::{AllocError, Global};
 use vol_archive::{Found, Reason, Role};
 use vol_commands::faults::Fault;
+use vol_inspect::shared_blocks;
 use vol_judge::judge;
 use vol_layout::{Edition, Geometry};
-use vol_map::shared_blocks;
 
 /// All that is told of an export from an image, of what was met: a line for each entry that is left out; and where the image isn't
 /// sound, one for each block that two places of files name, and one for the least rule that it breaks.

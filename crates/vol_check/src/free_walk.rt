@@ -13,8 +13,8 @@ use vol_free::{FreeFault, FreeWalk};
 use vol_layout::Geometry;
 use vol_reports::words::free_word;
 
-/// Marks each block that a walk over the free list meets, and answers the fault that ended it. Takes a byte for
-/// each block of the volume; where there is no memory nothing is marked.
+/// Marks each block that a walk over the free list meets, and returns the fault that ended it. Takes a byte for
+/// each block of the volume. If there is no memory, nothing is marked.
 pub(crate) fn mark_free(
     alloc: Global,
     tally: &Tally,

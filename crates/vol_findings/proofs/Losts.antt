@@ -29,15 +29,15 @@ use Rattle.vol_judge.proofs.NamedOnce.{at_in, in_flat, flat_in}
 use Rattle.vol_reports.specs.Blocks.{is_kind}
 use Rattle.vol_free.specs.FreeWalk.{free_walk}
 use Rattle.vol_free.specs.Walking.{left_after}
-use Rattle.vol_map.specs.Placing.{found_at, node_count, wanted_count, naming_count}
-use Rattle.vol_map.specs.Listing.{listed_at, listed_in, listed_of}
-use Rattle.vol_map.specs.Uses.{use_of, data_use, held, pointers_held}
-use Rattle.vol_map.specs.declared.uses.Use.{Use}
-use Rattle.vol_map.specs.declared.uses.Use.TheVariants as uses
+use Rattle.vol_inspect.specs.Placing.{found_at, node_count, wanted_count, naming_count}
+use Rattle.vol_inspect.specs.Listing.{listed_at, listed_in, listed_of}
+use Rattle.vol_inspect.specs.Uses.{use_of, data_use, held, pointers_held}
+use Rattle.vol_inspect.specs.declared.uses.Use.{Use}
+use Rattle.vol_inspect.specs.declared.uses.Use.TheVariants as uses
 use Rattle.vol_judge.specs.Sound.{IsNoneLost}
 use Rattle.vol_findings.specs.Lost.{IsLost, IsFirstLost}
 use Rattle.vol_free.proofs.FreeFaults.{in_any, any_in, in_reverse, fault_breaks, no_fault_free}
-use Rattle.vol_map.proofs.Found.{here_at, here_yes, here_other, below, found_out, found_leaf, found_deep}
+use Rattle.vol_inspect.proofs.Found.{here_at, here_yes, here_other, below, found_out, found_leaf, found_deep}
 
 -- a block has a use if two places name it, or if not
 never : (two one : Bool) (other : Use) → (other ≡ uses.Lost → ⊥) → (if two then uses.Twice else (if one then uses.Twice else other)) ≡ uses.Lost → ⊥

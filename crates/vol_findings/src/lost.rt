@@ -9,8 +9,8 @@ ghost use Rattle.vol_findings.specs.Lost.{IsFirstUncovered};
 use crate::finding::Finding;
 use pdp_words::Image;
 use std::alloc::{AllocError, Global};
+use vol_inspect::{Use, block_uses};
 use vol_layout::Geometry;
-use vol_map::{Use, block_uses};
 
 /// What breaks rule 8 first, where rule 6 holds: the first data block that is neither free nor named.
 ///

@@ -50,7 +50,7 @@ pub struct FreeBlocks {
 pub struct FreeWalk {
     /// The byte of the count before the array that the walk is in.
     head: usize,
-    /// The number of numbers of that array that are left. If it is 1, the next block is the one that the list is chained by.
+    /// The number of entries of that array that are left. If it is 1, the next block holds the next count and array.
     pub count: u16,
     /// The number of blocks met.
     pub met: u32,
@@ -114,7 +114,7 @@ impl FreeWalk {
         Some(Ok(b))
     }
 
-    /// Goes past data block `b`, the last of the numbers left.
+    /// Moves past data block `b`, the last of the numbers left.
     fn pass(&mut self, image: &Image, b: u32)
         requires room { 512 * b + 2 ≤ length image.now }
         requires some { 1 ≤ self.old.count }

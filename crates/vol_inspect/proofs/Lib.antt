@@ -1,2 +1,6 @@
 pub mod Spans
 pub mod Gatherings
+pub mod Found
+pub mod Tallies
+pub mod UseLaws
+pub mod Shared

@@ -1,3 +1,9 @@
 pub mod Extents
 pub mod Inspecting
 pub mod Texts
+pub mod Placing
+pub mod Sharing
+pub mod Listing
+pub mod Uses
+pub mod Drawing
+pub mod Picturing

@@ -8,9 +8,9 @@ use pdp_words::Image;
 use vol_free::FreeWalk;
 use vol_layout::Geometry;
 
-/// How many blocks are free, where rule 6 holds; the marks that are set are theirs then. None where it doesn't,
-/// and then some are set. There is a mark for each block below the end of the data zone, none of them set
-/// before. Reads the free list, and each block of it at most once. Takes no memory.
+/// Returns the number of free blocks, and sets their marks; or `None` if rule 6 fails, and then some marks are set.
+/// There is a mark for each block below the end of the data zone, and none is set before. Reads the free list, and
+/// each block of it at most once. Takes no memory.
 pub(crate) fn mark_free(image: &Image, geometry: &Geometry, marks: &mut [bool]) -> Option<u32>
     requires fits { Fits geometry.now image.now }
     requires room { length marks.old ≡ geometry.now.zone_end }

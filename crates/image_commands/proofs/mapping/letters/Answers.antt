@@ -1,5 +1,5 @@
 use Rattle.std.proofs.Common.{length, List, arith, ap}
-use Rattle.vol_map.specs.declared.uses.Use.{Use}
+use Rattle.vol_inspect.specs.declared.uses.Use.{Use}
 use Rattle.image_commands.proofs.Mapped.{uses_count}
 use Rattle.image_commands.proofs.mapping.letters.Goals as goal
 

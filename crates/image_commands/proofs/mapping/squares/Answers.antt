@@ -1,7 +1,7 @@
 use Rattle.std.proofs.Common.{length, List, arith, ap}
 use Rattle.vol_free.proofs.Stacks.{limit_below}
-use Rattle.vol_map.specs.declared.uses.Use.{Use}
-use Rattle.vol_map.specs.declared.uses.Use.TheVariants as uses
+use Rattle.vol_inspect.specs.declared.uses.Use.{Use}
+use Rattle.vol_inspect.specs.declared.uses.Use.TheVariants as uses
 use Rattle.image_commands.proofs.Mapped.{cells_few, uses_count}
 use Rattle.image_commands.proofs.mapping.squares.Goals as goal
 

@@ -1,8 +1,8 @@
 use Rattle.std.proofs.Common.{◌≡◌, ◌∙◌, sym, ap, get_or, length, arith, true}
 use Rattle.std.proofs.lemmas.List.FromFn.{get_or-map-range_with_len, length-map-range_with_len}
 use Rattle.vol_layout.specs.Geometry.{in_zone}
-use Rattle.vol_map.specs.Uses.{use_of}
-use Rattle.vol_map.proofs.UseLaws.{zone_within}
+use Rattle.vol_inspect.specs.Uses.{use_of}
+use Rattle.vol_inspect.proofs.UseLaws.{zone_within}
 use Rattle.vol_findings.proofs.Losts.{lost_first, lost_breaks, lost_none, none_more}
 use Rattle.vol_findings.proofs.lost.find_lost.Goals as goal
 

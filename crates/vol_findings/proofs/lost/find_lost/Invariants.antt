@@ -1,6 +1,6 @@
 use Rattle.std.proofs.Common.{◌≡◌, ℕ, ◌<◌, ◌≤◌}
-use Rattle.vol_map.specs.Uses.{use_of}
-use Rattle.vol_map.specs.declared.uses.Use.TheVariants as uses
+use Rattle.vol_inspect.specs.Uses.{use_of}
+use Rattle.vol_inspect.specs.declared.uses.Use.TheVariants as uses
 use Rattle.vol_findings.proofs.lost.find_lost.Given as goal
 
 -- none of the data blocks before b is lost

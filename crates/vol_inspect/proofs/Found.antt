@@ -1,0 +1,138 @@
+-- How often a block is found.
+use Rattle.std.proofs.Common.{◌≡◌, ◌≢◌, ℕ, zero, suc, ◌+◌, ◌-◌, ◌<◌, ◌≤◌, ◌∙◌, ◌==◌, ◌&&◌, sym, ap, subst, true, false, cond, List, [], ◌∷◌, refl, arith, inl, inr, eq-eqb}
+use Rattle.std.proofs.lemmas.Bool.{cases_eq, ne_eqb}
+use Rattle.std.proofs.lemmas.List.Sums.{sum_by-append, sum_by-cons, sum_by-le-sum_by}
+use Rattle.std.specs.List.{sum_by, range_with_len}
+use Rattle.vol_layout.specs.Edition.{constants}
+use Rattle.vol_layout.specs.Geometry.{in_zone}
+use Rattle.vol_layout.specs.Names.{pointer_in}
+use Rattle.vol_layout.specs.declared.geometry.Geometry.{Geometry}
+use Rattle.vol_reports.specs.Blocks.{one_if}
+use Rattle.vol_reports.proofs.Ranges.{range_more}
+use Rattle.vol_inspect.specs.Placing.{found_at}
+
+-- a sum over a range, with one more
+pub sum_more : (f : ℕ → ℕ) (a n m j : ℕ) → m ≡ n + 1 → a + n ≡ j → sum_by f (range_with_len a m) ≡ sum_by f (range_with_len a n) + f j
+sum_more f a n m j e g =
+    let all = ap (sum_by f) (range_more a n m j e g) in
+    let parts = sum_by-append f (range_with_len a n) (j ∷ []) in
+    let last = sum_by-cons f j [] in
+    omega (arith, all, parts, last)
+
+-- a sum of zeros
+sum_zero : (f : ℕ → ℕ) (xs : List ℕ) → ((j : ℕ) → f j ≡ 0) → sum_by f xs ≡ 0
+sum_zero f [] none = refl
+sum_zero f (x ∷ xs) none = let h = sum_zero f xs none in let here = none x in omega (arith, sum_by-cons f x xs, h, here)
+
+-- whether a block is the one that is sought, at its level
+abbrev pub here_at : ℕ → ℕ → ℕ → ℕ → ℕ
+here_at b c e k = one_if ((b == c) && (e == k))
+
+-- it is
+pub here_yes : (b c e k : ℕ) → b ≡ c → e ≡ k → here_at b c e k ≡ 1
+here_yes b c e k same level = λ i. one_if (eq-eqb b c same i && eq-eqb e k level i)
+
+-- it is another block
+pub here_other : (b c e k : ℕ) → b ≢ c → here_at b c e k ≡ 0
+here_other b c e k other = ap (λ t. one_if (t && (e == k))) (ne_eqb b c other)
+
+-- it stands at another level
+pub here_level : (b c e k : ℕ) → e ≢ k → here_at b c e k ≡ 0
+here_level b c e k other =
+    ap (λ t. one_if ((b == c) && t)) (ne_eqb e k other)
+    ∙ elim (b == c) as (λ t. one_if (t && false) ≡ 0) [ true ↦ refl | false ↦ refl ]
+
+module _ (g : Geometry) (image : List ℕ) where
+  -- what is found from the first n pointers of block b on, in d levels
+  unfoldable pub below : ℕ → ℕ → ℕ → ℕ → ℕ → ℕ
+  below d b c e n = sum_by (λ j. found_at g image d (pointer_in g image b j) c e) (range_with_len 0 n)
+
+  pub below_none : (d b c e : ℕ) → below d b c e 0 ≡ 0
+  unfolding below
+  below_none d b c e = refl
+
+  pub below_more : (d b c e j x : ℕ) → pointer_in g image b j ≡ x → below d b c e (j + 1) ≡ below d b c e j + found_at g image d x c e
+  unfolding below
+  below_more d b c e j x is =
+      sum_more (λ j. found_at g image d (pointer_in g image b j) c e) 0 j (j + 1) j refl (omega arith)
+      ∙ ap (λ y. below d b c e j + found_at g image d y c e) is
+
+  -- outside the data zone nothing is found
+  pub found_out : (d b c e : ℕ) → in_zone g b ≡ false → found_at g image d b c e ≡ 0
+  unfolding found_at
+  found_out zero b c e out = ap (λ t. cond t (here_at b c e 0) 0) out
+  found_out (suc d) b c e out =
+      ap (λ t. cond t (here_at b c e (suc d) + sum_by (λ j. found_at g image d (pointer_in g image b j) c e) (range_with_len 0 (constants g.edition).pointers)) 0) out
+
+  -- a data block with no levels below it
+  pub found_leaf : (d b c e : ℕ) → in_zone g b ≡ true → d ≡ 0 → found_at g image d b c e ≡ here_at b c e d
+  unfolding found_at
+  found_leaf d b c e zone none =
+      ap (λ x. found_at g image x b c e) none ∙ (ap (λ t. cond t (here_at b c e 0) 0) zone ∙ ap (here_at b c e) (sym none))
+
+  found_suc : (d b c e : ℕ) → in_zone g b ≡ true → found_at g image (suc d) b c e ≡ here_at b c e (suc d) + below d b c e (constants g.edition).pointers
+  unfolding found_at below
+  found_suc d b c e zone =
+      ap (λ t. cond t (here_at b c e (suc d) + sum_by (λ j. found_at g image d (pointer_in g image b j) c e) (range_with_len 0 (constants g.edition).pointers)) 0) zone
+
+  -- a data block with levels below it
+  pub found_deep : (d b c e : ℕ) → in_zone g b ≡ true → 1 ≤ d
+      → found_at g image d b c e ≡ here_at b c e d + below (d - 1) b c e (constants g.edition).pointers
+  found_deep d b c e zone deep =
+      let size : d ≡ suc (d - 1) = omega arith in
+      ap (λ x. found_at g image x b c e) size
+      ∙ (found_suc (d - 1) b c e zone ∙ ap (λ x. here_at b c e x + below (d - 1) b c e (constants g.edition).pointers) (sym size))
+
+  -- nothing is found at a higher level
+  high : (d b c e : ℕ) → d < e → found_at g image d b c e ≡ 0
+  unfolding below
+  high zero b c e lt =
+      elim (in_zone g b) as (λ z. in_zone g b ≡ z → found_at g image zero b c e ≡ 0) [
+        | true ↦ λ z. found_leaf 0 b c e z refl ∙ here_level b c e 0 (λ same. omega (arith, same, lt))
+        | false ↦ λ z. found_out 0 b c e z
+      ] refl
+  high (suc d) b c e lt =
+      elim (in_zone g b) as (λ z. in_zone g b ≡ z → found_at g image (suc d) b c e ≡ 0) [
+        | true ↦ λ z.
+            let head = here_level b c e (suc d) (λ same. omega (arith, same, lt)) in
+            let rest = sum_zero (λ j. found_at g image d (pointer_in g image b j) c e) (range_with_len 0 (constants g.edition).pointers)
+            (λ j. high d (pointer_in g image b j) c e (omega (arith, lt))) in
+            omega (arith, found_suc d b c e z, head, rest)
+        | false ↦ λ z. found_out (suc d) b c e z
+      ] refl
+
+  -- what lies below a block is found as often as the block, at least
+  pub found_through : (d b m k c e : ℕ) → 1 ≤ found_at g image k m c e → found_at g image d b m k ≤ found_at g image d b c e
+  unfolding below
+  found_through zero b m k c e some =
+      elim (in_zone g b) as (λ z. in_zone g b ≡ z → found_at g image zero b m k ≤ found_at g image zero b c e) [
+        | true ↦ λ z. elim (cases_eq b m) [
+          | inl same ↦ elim (cases_eq k 0) [
+            | inl level ↦
+                let there : 1 ≤ found_at g image 0 b c e =
+                subst (λ (x : ℕ). 1 ≤ found_at g image x b c e) level (subst (λ (x : ℕ). 1 ≤ found_at g image k x c e) (sym same) some) in
+                omega (arith, found_leaf 0 b m k z refl, here_yes b m k 0 same level, there)
+            | inr other ↦ omega (arith, found_leaf 0 b m k z refl, here_level b m k 0 other)
+          ]
+          | inr other ↦ omega (arith, found_leaf 0 b m k z refl, here_other b m k 0 other)
+        ]
+        | false ↦ λ z. omega (arith, found_out 0 b m k z)
+      ] refl
+  found_through (suc d) b m k c e some =
+      let p = range_with_len 0 (constants g.edition).pointers in
+      let less = sum_by-le-sum_by (λ j. found_at g image d (pointer_in g image b j) m k) (λ j. found_at g image d (pointer_in g image b j) c e) p
+      (λ j. found_through d (pointer_in g image b j) m k c e some) in
+      elim (in_zone g b) as (λ z. in_zone g b ≡ z → found_at g image (suc d) b m k ≤ found_at g image (suc d) b c e) [
+        | true ↦ λ z. elim (cases_eq b m) [
+          | inl same ↦ elim (cases_eq k (suc d)) [
+            | inl level ↦
+                let there : 1 ≤ found_at g image (suc d) b c e =
+                subst (λ (x : ℕ). 1 ≤ found_at g image x b c e) level (subst (λ (x : ℕ). 1 ≤ found_at g image k x c e) (sym same) some) in
+                let rest = sum_zero (λ j. found_at g image d (pointer_in g image b j) m k) p (λ j. high d (pointer_in g image b j) m k (omega (arith, level))) in
+                omega (arith, found_suc d b m k z, here_yes b m k (suc d) same level, rest, there)
+            | inr other ↦ omega (arith, found_suc d b m k z, found_suc d b c e z, here_level b m k (suc d) other, less)
+          ]
+          | inr other ↦ omega (arith, found_suc d b m k z, found_suc d b c e z, here_other b m k (suc d) other, less)
+        ]
+        | false ↦ λ z. omega (arith, found_out (suc d) b m k z)
+      ] refl

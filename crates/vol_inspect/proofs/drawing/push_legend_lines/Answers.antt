@@ -1,0 +1,12 @@
+use Rattle.std.proofs.Common.{◌++◌, ap, ◌∙◌, arith}
+use Rattle.std.specs.List.{flat_map}
+use Rattle.std.specs.String.{string_bytes}
+use Rattle.std.proofs.lemmas.List.{take_all}
+use Rattle.vol_inspect.specs.Drawing.{legend_line, legend_lines}
+use Rattle.vol_inspect.proofs.drawing.push_legend_lines.Goals as goal
+
+pub returns : goal.returns
+unfolding legend_lines
+returns c =
+    c.loop-one.invariant
+    ∙ ap (λ us. string_bytes c.args.text.now ++ flat_map (legend_line c.args.coloured) us) (take_all c.loop-one.one-index c.args.all.now (omega arith))

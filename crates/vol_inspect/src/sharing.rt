@@ -1,0 +1,44 @@
+//! The blocks that two places of files name.
+ghost use Rattle.std.specs.Prelude.{◌≡◌, ◌+◌, ◌*◌, ◌<◌, length, IfOk};
+ghost use Rattle.vol_layout.specs.Geometry.{Fits};
+ghost use Rattle.vol_inspect.specs.Sharing.{is_counted_twice, shared_blocks};
+
+use crate::uses::{counts, pointers_at};
+use pdp_words::Image;
+use std::alloc::{AllocError, Global};
+use vol_layout::{Geometry, Kind};
+
+/// The data blocks that two places of regular files and directories name, or more, to hold bytes or as an indirect block; they
+/// ascend. The image may be any bytes otherwise.
+///
+/// Costs at most two reads of each indirect block for each of the levels at which it stands in directories, and two for those at which
+/// it stands in regular files, however they lead to one another. Takes eight bytes for each block, and four for each that is found.
+pub fn shared_blocks(
+    alloc: Global,
+    image: &Image,
+    geometry: &Geometry,
+) -> Result<Vec<u32>, AllocError>
+    requires { Fits geometry.now image.now }
+    ensures { IfOk result (λ blocks. blocks.items ≡ shared_blocks geometry.now image.now) }
+{
+    let directories = counts(alloc, image, geometry, Kind::Directory)?;
+    let files = counts(alloc, image, geometry, Kind::Regular)?;
+    let mut shared = Vec::new(alloc);
+    for b in geometry.zone_start..geometry.zone_end {
+        if is_counted_twice(&directories, &files, b) {
+            shared.push(b)?;
+        }
+    }
+    Ok(shared)
+}
+
+/// Whether block `b` was counted twice, or more often.
+fn is_counted_twice(directories: &[u8], files: &[u8], b: u32) -> bool
+    requires directories { 4 * b + 3 < length directories.now }
+    requires files { 4 * b + 3 < length files.now }
+    ensures { result ≡ is_counted_twice directories.now files.now b }
+{
+    let at = 4 * b as usize;
+    let pointers = pointers_at(directories, at) + pointers_at(files, at);
+    u64::from(directories[at]) + u64::from(files[at]) + pointers > 1
+}

@@ -1,4 +1,0 @@
-pub mod Found
-pub mod Tallies
-pub mod UseLaws
-pub mod Shared

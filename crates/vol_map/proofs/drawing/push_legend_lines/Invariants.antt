@@ -1,9 +1,0 @@
-use Rattle.std.proofs.Common.{◌≡◌, ◌++◌, take}
-use Rattle.std.specs.List.{flat_map}
-use Rattle.std.specs.String.{string_bytes}
-use Rattle.vol_map.specs.Drawing.{legend_line}
-use Rattle.vol_map.proofs.drawing.push_legend_lines.Given as goal
-
--- the lines so far are there
-abbrev pub invariant-loop-one : goal.invariant-loop-one
-invariant-loop-one l = string_bytes l.text ≡ string_bytes l.initial.text ++ flat_map (legend_line l.coloured) (take l.one-index l.all)

@@ -1,8 +1,0 @@
-use Rattle.std.proofs.Common.{◌≡◌, map}
-use Rattle.std.specs.List.{range_with_len}
-use Rattle.vol_map.specs.Uses.{use_of}
-use Rattle.vol_map.proofs.uses.block_uses.Given as goal
-
--- the uses of the blocks before b are there
-abbrev pub invariant-loop-b : goal.invariant-loop-b
-invariant-loop-b l = l.uses.items ≡ map (use_of l.geometry l.image) (range_with_len 0 l.b)

@@ -32,10 +32,11 @@ loop-b-preserved g c =
     let i = c.args.i in
     let b = c.loop-b.b in
     let number : c.number_at-block.result ≡ stored geometry image i (form_at geometry image i) b =
-    c.number_at-block.ensures ∙ ap (λ form. stored geometry image i form b) (search rules) in
+    ◌∙◌ {b = stored geometry image i c.of-form.result b} c.number_at-block.ensures (ap (λ form. stored geometry image i form b) (search rules)) in
     let block : IsBlock geometry image i b c.block_bytes.result.now = record {
       len = c.block_bytes.ensures.len;
-      at = λ r h. c.block_bytes.ensures.bytes r h ∙ (ap (λ k. zone_byte geometry image k r) number ∙ sym (body_byte_at geometry image i b r h));
+      at = λ r h. ◌∙◌ {b = zone_byte geometry image c.number_at-block.result r} (c.block_bytes.ensures.bytes r h)
+          (ap (λ k. zone_byte geometry image k r) number ∙ sym (body_byte_at geometry image i b r h));
     } in
     let visits : Visits {F = g.row.F.Denot} g.F.FnMut geometry image i c.loop-b.visit b c.visit.new.self = record {
       shown = c.block_bytes.result;

@@ -1,4 +1,4 @@
-use Rattle.std.proofs.Common.{◌≡◌, ℕ, ◌+◌, ◌-◌, ◌*◌, ◌++◌, ◌∷◌, [], ap, sym, arith, ◌∙◌, map}
+use Rattle.std.proofs.Common.{◌≡◌, ℕ, List, ◌+◌, ◌-◌, ◌*◌, ◌++◌, ◌∷◌, [], ap, sym, arith, ◌∙◌, map}
 use Rattle.std.specs.List.{range_with_len}
 use Rattle.std.proofs.lemmas.List.FromFn.{map-range_with_len_more}
 use Rattle.pdp_words.specs.Words.{word}
@@ -9,8 +9,8 @@ use Rattle.vol_inspect.proofs.super_report.cached_numbers.Goals as goal
 pub loop-k-preserved : goal.loop-k-preserved
 loop-k-preserved c =
     let f = λ (k : ℕ). word c.args.image.now (cache_head c.args.edition + 2 + 2 * (c.cache_len-count.result - 1 - k)) in
-    c.in_ok-push.ensures.items
-    ∙ (ap (λ xs. xs ++ c.cached.result ∷ []) c.loop-k.invariant
+    ◌∙◌ {A = List ℕ} c.in_ok-push.ensures.items
+    (ap (λ xs. xs ++ c.cached.result ∷ []) c.loop-k.invariant
     ∙ (ap (λ x. map f (range_with_len 0 c.loop-k.k) ++ x ∷ []) c.cached.ensures
     ∙ sym (map-range_with_len_more f 0 c.loop-k.k c.loop-k.k (omega arith))))
 

@@ -1,14 +1,5 @@
-pub mod Agains
-pub mod Countings
 pub mod Cuts
-pub mod Dotted
-pub mod FirstEntries
-pub mod Losts
 pub mod NamedFree
 pub mod Noted
-pub mod Outsides
-pub mod Parented
-pub mod Searches
 pub mod Soundness
 pub mod Telling
-pub mod Upwards

@@ -11,7 +11,7 @@ use Rattle.vol_file.specs.Rules.{IsApart}
 use Rattle.vol_judge.specs.Marks.{MarksNamed}
 use Rattle.vol_judge.specs.Sound.{IsFreeApart}
 use Rattle.vol_judge.proofs.NamedOnce.{in_right}
-use Rattle.vol_findings.specs.Sharing.{AreClear, IsFirstMarked, IsNamedFree}
+use Rattle.vol_judge.specs.Sharing.{AreClear, IsFirstMarked, IsNamedFree}
 
 module _ (g : Geometry) (image marks blocks : List ℕ) (fits : Fits g image) (names : MarksNamed g image marks) (free : IsFree g image blocks) where
   -- where none of the free blocks is marked, none is named

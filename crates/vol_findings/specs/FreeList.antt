@@ -2,8 +2,8 @@
 use Rattle.std.specs.Prelude.{◌≡◌, ℕ, List, Some}
 use Rattle.vol_layout.specs.declared.geometry.Geometry.{Geometry}
 use Rattle.vol_free.specs.FreeWalk.{free_walk}
-use Rattle.vol_findings.specs.declared.finding.Finding.{Finding}
-use Rattle.vol_findings.specs.declared.finding.Finding.TheVariants as findings
+use Rattle.vol_judge.specs.declared.finding.Finding.{Finding}
+use Rattle.vol_judge.specs.declared.finding.Finding.TheVariants as findings
 
 -- what breaks rule 6 first: what ends the walk over the free list, with its count or number (icheck)
 abbrev pub IsFirstFault : Geometry → List ℕ → Finding → Type 0

@@ -1,13 +1,4 @@
-pub mod Dots
-pub mod Entries
-pub mod Finds
 pub mod FreeList
-pub mod INodes
-pub mod Links
-pub mod Lost
 pub mod Outcomes
 pub mod Reports
-pub mod Sharing
 pub mod Texts
-pub mod Tree
-pub mod Zones

@@ -8,17 +8,17 @@ use Rattle.vol_judge.specs.Directories.{HasDots, IsTree, HasLinks}
 use Rattle.vol_judge.specs.Sound.{Rule, IsNoneLost}
 use Rattle.vol_layout.specs.declared.edition.Edition.{Edition}
 use Rattle.vol_layout.specs.declared.geometry.Geometry.{Geometry}
-use Rattle.vol_findings.specs.Dots.{IsFirstDots}
-use Rattle.vol_findings.specs.Entries.{IsFirstEntry}
+use Rattle.vol_judge.specs.Dots.{IsFirstDots}
+use Rattle.vol_judge.specs.Entries.{IsFirstEntry}
 use Rattle.vol_findings.specs.FreeList.{IsFirstFault}
-use Rattle.vol_findings.specs.INodes.{IsFirstKind, IsFirstSize}
-use Rattle.vol_findings.specs.Links.{IsFirstLink}
-use Rattle.vol_findings.specs.Lost.{IsFirstUncovered}
-use Rattle.vol_findings.specs.Sharing.{IsUsedOnce, IsFirstTwice}
-use Rattle.vol_findings.specs.Tree.{IsFirstTree}
-use Rattle.vol_findings.specs.Zones.{IsFirstOutside}
-use Rattle.vol_findings.specs.declared.finding.Finding.{Finding}
-use Rattle.vol_findings.specs.declared.finding.Finding.TheVariants.{TooShort, BadSizes}
+use Rattle.vol_judge.specs.INodes.{IsFirstKind, IsFirstSize}
+use Rattle.vol_judge.specs.Links.{IsFirstLink}
+use Rattle.vol_judge.specs.Lost.{IsFirstUncovered}
+use Rattle.vol_judge.specs.Sharing.{IsUsedOnce, IsFirstTwice}
+use Rattle.vol_judge.specs.Tree.{IsFirstTree}
+use Rattle.vol_judge.specs.Zones.{IsFirstOutside}
+use Rattle.vol_judge.specs.declared.finding.Finding.{Finding}
+use Rattle.vol_judge.specs.declared.finding.Finding.TheVariants.{TooShort, BadSizes}
 use Rattle.vol_findings.specs.declared.outcome.Outcome.{Outcome}
 use Rattle.vol_findings.specs.declared.outcome.Outcome.TheVariants.{Holds, Broken, NotAsked}
 use Rattle.vol_findings.specs.declared.outcome.Outcomes.{Outcomes}

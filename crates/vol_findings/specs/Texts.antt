@@ -1,8 +1,8 @@
 -- The text of what is found.
 use Rattle.std.specs.Prelude.{ℕ, List, [], ◌++◌, codes, decimal}
 use Rattle.vol_free.specs.FreeWalk.{fault_word}
-use Rattle.vol_findings.specs.declared.finding.Finding.{Finding}
-use Rattle.vol_findings.specs.declared.finding.Finding.TheVariants as findings
+use Rattle.vol_judge.specs.declared.finding.Finding.{Finding}
+use Rattle.vol_judge.specs.declared.finding.Finding.TheVariants as findings
 use Rattle.vol_findings.specs.declared.outcome.Outcome.{Outcome}
 use Rattle.vol_findings.specs.declared.outcome.Outcome.TheVariants.{Holds, Broken, NotAsked}
 use Rattle.vol_findings.specs.declared.texts.Spot.{Spot}
@@ -75,12 +75,8 @@ spot_text (spots.Slot d s) = codes ": directory " ++ (decimal d ++ (codes ", slo
 spot_text (spots.Links i entries links) =
     codes ": i-node " ++ (decimal i ++ (codes ", entries " ++ (decimal entries ++ (codes ", links " ++ decimal links))))
 
--- what breaks a rule, and where (this project)
-abbrev pub finding_text : Finding → List ℕ
-finding_text finding = words_of finding ++ spot_text (spot_of finding)
-
--- what is found of a rule (this project)
+-- what is found of a rule: that it holds, what breaks it and where, or that it isn't asked (this project)
 abbrev pub outcome_text : Outcome → List ℕ
 outcome_text Holds = codes "holds"
-outcome_text (Broken finding) = finding_text finding
+outcome_text (Broken finding) = words_of finding ++ spot_text (spot_of finding)
 outcome_text NotAsked = codes "not asked"

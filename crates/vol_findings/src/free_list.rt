@@ -2,13 +2,13 @@
 ghost use Rattle.std.specs.Prelude.{IfOk};
 ghost use Rattle.vol_layout.specs.Geometry.{Fits};
 ghost use Rattle.vol_free.specs.Stack.{HasStack};
-ghost use Rattle.vol_findings.specs.Finds.{Finds};
+ghost use Rattle.vol_judge.specs.Finds.{Finds};
 ghost use Rattle.vol_findings.specs.FreeList.{IsFirstFault};
 
-use crate::finding::Finding;
 use pdp_words::Image;
 use std::alloc::{AllocError, Global};
 use vol_free::walk_free;
+use vol_judge::Finding;
 use vol_layout::Geometry;
 
 /// What breaks rule 6 first: the first fault of the free list, from its top on.

@@ -1,31 +1,29 @@
 //! What is found of each rule.
-ghost use Rattle.std.specs.Prelude.{◌≡◌, IfOk};
+ghost use Rattle.std.specs.Prelude.{◌≡◌, ◌+◌, IfOk, length};
 ghost use Rattle.vol_layout.specs.Geometry.{Fits};
 ghost use Rattle.vol_free.specs.Stack.{HasStack};
 ghost use Rattle.vol_file.specs.Rules.{IsZoned};
 ghost use Rattle.vol_dir.specs.Entries.{HasEntries};
 ghost use Rattle.vol_judge.specs.Directories.{HasDots};
 ghost use Rattle.vol_judge.specs.Sound.{IsNoneLost};
-ghost use Rattle.vol_findings.specs.Dots.{IsFirstDots};
-ghost use Rattle.vol_findings.specs.Entries.{IsFirstEntry};
+ghost use Rattle.vol_judge.specs.Dots.{KnowsDots, IsFirstDots};
+ghost use Rattle.vol_judge.specs.Entries.{IsFirstEntry};
 ghost use Rattle.vol_findings.specs.FreeList.{IsFirstFault};
-ghost use Rattle.vol_findings.specs.Lost.{IsFirstUncovered};
-ghost use Rattle.vol_findings.specs.Sharing.{IsUsedOnce, IsFirstTwice};
-ghost use Rattle.vol_findings.specs.Zones.{IsFirstOutside};
+ghost use Rattle.vol_judge.specs.Lost.{IsFirstUncovered};
+ghost use Rattle.vol_judge.specs.Sharing.{IsUsedOnce, IsFirstTwice};
+ghost use Rattle.vol_judge.specs.Tree.{NotesParents};
+ghost use Rattle.vol_judge.specs.Zones.{IsFirstOutside};
 ghost use Rattle.vol_findings.specs.Outcomes.{Says, IsTwiceUnasked, TellsVolume, Tells, outcome_of};
 
-use crate::dots::find_dots;
-use crate::entries::find_entry;
-use crate::finding::Finding;
 use crate::free_list::find_fault;
-use crate::i_nodes::{find_kind, find_size};
-use crate::links::find_link;
-use crate::lost::find_lost;
-use crate::sharing::find_twice;
-use crate::tree::find_tree;
-use crate::zones::find_outside;
+use crate::lost::find_unused;
+use crate::sharing::find_used_twice;
 use pdp_words::Image;
 use std::alloc::{AllocError, Global};
+use vol_judge::{
+    Finding, Ups, find_dots, find_entered, find_entry, find_kind, find_link, find_outside,
+    find_size, find_tree, find_ups,
+};
 use vol_layout::{Edition, Geometry, GeometryFault};
 
 /// What is found of a rule.
@@ -145,14 +143,17 @@ fn check_volume(alloc: Global, image: &Image, geometry: &Geometry) -> Result<Out
 {
     let kinds = Outcome::of(find_kind(image, geometry));
     let sizes = Outcome::of(find_size(image, geometry));
-    let zoned = Outcome::of(find_outside(alloc, image, geometry)?);
+    let mut marks = vec![in alloc; 0; geometry.zone_end as usize]?;
+    let zoned = Outcome::of(find_outside(image, geometry, &mut marks));
     let listed = Outcome::of(find_fault(alloc, image, geometry)?);
-    let apart = check_apart(alloc, image, geometry, zoned, listed)?;
-    let covered = check_covered(alloc, image, geometry, listed)?;
+    let apart = check_apart(alloc, image, geometry, zoned, listed, &mut marks)?;
+    let covered = check_covered(alloc, image, geometry, listed, &mut marks)?;
     let entries = Outcome::of(find_entry(alloc, image, geometry)?);
-    let dots = check_dots(alloc, image, geometry, entries)?;
-    let tree = Outcome::of(find_tree(alloc, image, geometry)?);
-    let links = Outcome::of(find_link(alloc, image, geometry)?);
+    let ups = ups_of(alloc, image, geometry, entries)?;
+    let found = find_entered(alloc, image, geometry, &ups.numbers)?;
+    let dots = check_dots(image, geometry, entries, &ups, &found.parents);
+    let tree = Outcome::of(find_tree(alloc, image, geometry, found.again, &found.parents)?);
+    let links = Outcome::of(find_link(image, geometry, &found.counts));
     Ok(Outcomes {
         whole: Outcome::Holds,
         bounded: Outcome::Holds,
@@ -170,20 +171,23 @@ fn check_volume(alloc: Global, image: &Image, geometry: &Geometry) -> Result<Out
 }
 
 /// What is found of rule 7, by what is found of rules 5 and 6. Two places that name one block break it even if the free list is broken.
+/// There is a mark for each block, whose value at first doesn't matter.
 fn check_apart(
     alloc: Global,
     image: &Image,
     geometry: &Geometry,
     zoned: Outcome,
     listed: Outcome,
+    marks: &mut [u8],
 ) -> Result<Outcome, AllocError>
     requires fits { Fits geometry.now image.now }
+    requires len { length marks.old ≡ geometry.now.zone_end }
     requires zoned { Says (IsZoned geometry.now image.now) (IsFirstOutside geometry.now image.now) ⊥ zoned }
     requires listed { Says (HasStack geometry.now image.now) (IsFirstFault geometry.now image.now) ⊥ listed }
     ensures { IfOk result (Says (IsUsedOnce geometry.now image.now) (IsFirstTwice geometry.now image.now) (IsTwiceUnasked geometry.now image.now)) }
 {
     match zoned {
-        Outcome::Holds => match find_twice(alloc, image, geometry)? {
+        Outcome::Holds => match find_used_twice(alloc, image, geometry, marks)? {
             Some(finding) => Ok(Outcome::Broken(finding)),
             None => match listed {
                 Outcome::Holds => Ok(Outcome::Holds),
@@ -194,36 +198,65 @@ fn check_apart(
     }
 }
 
-/// What is found of rule 8, by what is found of rule 6.
+/// What is found of rule 8, by what is found of rule 6. There is a mark for each block, whose value at first doesn't matter.
 fn check_covered(
     alloc: Global,
     image: &Image,
     geometry: &Geometry,
     listed: Outcome,
+    marks: &mut [u8],
 ) -> Result<Outcome, AllocError>
     requires fits { Fits geometry.now image.now }
+    requires len { length marks.old ≡ geometry.now.zone_end }
     requires listed { Says (HasStack geometry.now image.now) (IsFirstFault geometry.now image.now) ⊥ listed }
     ensures { IfOk result (Says (IsNoneLost geometry.now image.now) (IsFirstUncovered geometry.now image.now) (HasStack geometry.now image.now → ⊥)) }
 {
     match listed {
-        Outcome::Holds => Ok(Outcome::of(find_lost(alloc, image, geometry)?)),
+        Outcome::Holds => Ok(Outcome::of(find_unused(alloc, image, geometry, marks)?)),
         Outcome::Broken(_) | Outcome::NotAsked => Ok(Outcome::NotAsked),
     }
 }
 
-/// What is found of rule 10, by what is found of rule 9.
-fn check_dots(
+/// What directories name by `..`, where rule 9 holds; nothing, where it doesn't.
+fn ups_of(
     alloc: Global,
     image: &Image,
     geometry: &Geometry,
     entries: Outcome,
-) -> Result<Outcome, AllocError>
+) -> Result<Ups, AllocError>
     requires fits { Fits geometry.now image.now }
     requires entries { Says (HasEntries geometry.now image.now) (IsFirstEntry geometry.now image.now) ⊥ entries }
-    ensures { IfOk result (Says (HasDots geometry.now image.now) (IsFirstDots geometry.now image.now) (HasEntries geometry.now image.now → ⊥)) }
+    ensures room { IfOk result (λ ups. length ups.numbers.items ≡ geometry.now.last_inode + 1) }
+    ensures known { IfOk result (λ ups. HasEntries geometry.now image.now → KnowsDots geometry.now image.now ups.numbers.items ups.nameless) }
 {
     match entries {
-        Outcome::Holds => Ok(Outcome::of(find_dots(alloc, image, geometry)?)),
-        Outcome::Broken(_) | Outcome::NotAsked => Ok(Outcome::NotAsked),
+        Outcome::Holds => find_ups(alloc, image, geometry),
+        Outcome::Broken(_) | Outcome::NotAsked => {
+            let numbers = vec![in alloc; None; geometry.last_inode as usize + 1]?;
+            Ok(Ups {
+                numbers,
+                nameless: None,
+            })
+        }
+    }
+}
+
+/// What is found of rule 10, by what is found of rule 9, what directories name by `..`, and the directory of an entry for each.
+fn check_dots(
+    image: &Image,
+    geometry: &Geometry,
+    entries: Outcome,
+    ups: &Ups,
+    parents: &[Option<u16>],
+) -> Outcome
+    requires fits { Fits geometry.now image.now }
+    requires entries { Says (HasEntries geometry.now image.now) (IsFirstEntry geometry.now image.now) ⊥ entries }
+    requires ups { HasEntries geometry.now image.now → KnowsDots geometry.now image.now ups.now.numbers.items ups.now.nameless }
+    requires parents { NotesParents geometry.now image.now ups.now.numbers.items parents.now }
+    ensures { Says (HasDots geometry.now image.now) (IsFirstDots geometry.now image.now) (HasEntries geometry.now image.now → ⊥) result }
+{
+    match entries {
+        Outcome::Holds => Outcome::of(find_dots(image, geometry, ups, parents)),
+        Outcome::Broken(_) | Outcome::NotAsked => Outcome::NotAsked,
     }
 }

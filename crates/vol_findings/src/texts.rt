@@ -1,10 +1,10 @@
 //! The text of what is found.
 ghost use Rattle.std.specs.Prelude.{◌≡◌, Some};
-ghost use Rattle.vol_findings.specs.Texts.{words_of, spot_of, spot_text, finding_text, outcome_text};
+ghost use Rattle.vol_findings.specs.Texts.{words_of, spot_of, spot_text, outcome_text};
 
-use crate::finding::Finding;
 use crate::outcome::Outcome;
 use std::fmt;
+use vol_judge::Finding;
 
 /// Where something is.
 #[derive(Clone, Copy, Drop)]
@@ -49,23 +49,17 @@ impl fmt::Display for Spot {
     }
 }
 
-impl fmt::Display for Finding {
-    ghost output = { λ finding. Some (finding_text finding) };
-
-    fn fmt<W: fmt::Write>(&self, f: &mut fmt::Formatter<W>) -> fmt::Result {
-        let words = words_of(*self);
-        let spot = spot_of(*self);
-        write!(f, "{words}{spot}")
-    }
-}
-
 impl fmt::Display for Outcome {
     ghost output = { λ outcome. Some (outcome_text outcome) };
 
     fn fmt<W: fmt::Write>(&self, f: &mut fmt::Formatter<W>) -> fmt::Result {
         match *self {
             Outcome::Holds => write!(f, "holds"),
-            Outcome::Broken(finding) => write!(f, "{finding}"),
+            Outcome::Broken(finding) => {
+                let words = words_of(finding);
+                let spot = spot_of(finding);
+                write!(f, "{words}{spot}")
+            }
             Outcome::NotAsked => write!(f, "not asked"),
         }
     }

@@ -1,12 +1,12 @@
 -- Laws of the blocks found from a number on.
-use Rattle.std.proofs.Common.{◌≡◌, ◌≢◌, ℕ, zero, suc, ◌+◌, ◌-◌, ◌<◌, ◌≤◌, ◌∙◌, ap, List, [], ◌∷◌, cond, Option, None, Some, refl, arith, get_or, set}
+use Rattle.std.proofs.Common.{◌≡◌, ◌≢◌, ℕ, zero, suc, ◌+◌, ◌-◌, ◌<◌, ◌≤◌, ◌∙◌, ap, List, [], ◌∷◌, cond, Option, Some, refl, arith, get_or, set}
 use Rattle.std.proofs.lemmas.Bool.{ne_eqb}
 use Rattle.std.specs.List.{flat_map, range_with_len}
 use Rattle.vol_layout.specs.Edition.{constants}
 use Rattle.vol_layout.specs.Names.{pointer_in}
 use Rattle.vol_layout.specs.declared.geometry.Geometry.{Geometry}
 use Rattle.vol_judge.specs.Marks.{blocks_from, marked}
-use Rattle.vol_judge.proofs.MarkLists.{marked_none, marked_first, marked_again, marked_more, marked_fails}
+use Rattle.vol_judge.proofs.MarkLists.{marked_none, marked_first, marked_more}
 
 -- nothing is found from 0 on
 pub from_zero : (geometry : Geometry) (image : List ℕ) (d : ℕ) → blocks_from geometry image d 0 ≡ []
@@ -24,7 +24,7 @@ unfoldable pub entries_from : Geometry → List ℕ → ℕ → ℕ → ℕ → 
 entries_from geometry image d b n = flat_map (λ j. blocks_from geometry image d (pointer_in geometry image b j)) (range_with_len 0 n)
 
 -- with one level more it is found before its entries
-from_suc : (geometry : Geometry) (image : List ℕ) (d b : ℕ) → b ≢ 0
+pub from_suc : (geometry : Geometry) (image : List ℕ) (d b : ℕ) → b ≢ 0
     → blocks_from geometry image (suc d) b ≡ b ∷ entries_from geometry image d b (constants geometry.edition).pointers
 unfolding blocks_from entries_from
 from_suc geometry image d b some =
@@ -50,14 +50,6 @@ mark_leaf geometry image d b marks some none fresh =
     ap (λ x. marked marks (blocks_from geometry image x b)) none
     ∙ (ap (marked marks) (from_leaf geometry image b some) ∙ (marked_first marks b [] fresh ∙ marked_none (set marks b 1)))
 
--- a block that was marked before can't be marked with what is found below it
-pub mark_again : (geometry : Geometry) (image : List ℕ) (d b : ℕ) (marks : List ℕ) → b ≢ 0 → get_or marks b 0 ≢ 0
-    → marked marks (blocks_from geometry image d b) ≡ None
-mark_again geometry image zero b marks some before = ap (marked marks) (from_leaf geometry image b some) ∙ marked_again marks b [] before
-mark_again geometry image (suc d) b marks some before =
-    ap (marked marks) (from_suc geometry image d b some)
-    ∙ marked_again marks b (entries_from geometry image d b (constants geometry.edition).pointers) before
-
 -- a block is marked before its entries
 pub mark_below : (geometry : Geometry) (image : List ℕ) (d b : ℕ) (marks : List ℕ) (end : Option (List ℕ)) → b ≢ 0 → 1 ≤ d → get_or marks b 0 ≡ 0
     → marked (set marks b 1) (entries_from geometry image (d - 1) b (constants geometry.edition).pointers) ≡ end
@@ -80,16 +72,6 @@ unfolding entries_from
 entries_more geometry image d b j k marks mid end next done last =
     let at : 0 + j ≡ j = omega arith in
     marked_more (λ j. blocks_from geometry image d (pointer_in geometry image b j)) 0 j j k marks mid end at next done last
-
--- an entry that can't be marked after those before it stops all
-pub entries_fail : (geometry : Geometry) (image : List ℕ) (d b j n : ℕ) (marks mid : List ℕ) → j < n
-    → marked marks (entries_from geometry image d b j) ≡ Some mid
-    → marked mid (blocks_from geometry image d (pointer_in geometry image b j)) ≡ None
-    → marked marks (entries_from geometry image d b n) ≡ None
-unfolding entries_from
-entries_fail geometry image d b j n marks mid less done last =
-    let at : 0 + j ≡ j = omega arith in
-    marked_fails (λ j. blocks_from geometry image d (pointer_in geometry image b j)) 0 j j n marks mid at less done last
 
 -- entries that are 0 are marked by doing nothing
 pub entries_zero : (geometry : Geometry) (image : List ℕ) (d b j n k : ℕ) (marks mid : List ℕ) → j + n ≡ k

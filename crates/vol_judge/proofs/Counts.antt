@@ -240,6 +240,15 @@ counts_next {geometry = geometry} {image = image} {counts = counts} {place = pla
           ];
     }
 
+-- an entry for no i-number of the volume isn't counted
+pub counts_past : {geometry : Geometry} {image counts : List ℕ} {place d s : ℕ} {slot : Slot} → CountsBefore geometry image place counts
+    → IsNextSlot geometry image place d s slot → geometry.last_inode < slot.inode → CountsBefore geometry image (rank d (s + 1)) counts
+counts_past is next past = record {
+  room = is.room;
+  few = λ i. omega (arith, is.few i, next.reached);
+  count = λ i last. is.count i last ∙ count_other i next (λ same. omega (arith, same, last, past));
+}
+
 -- where no entry is left, the counts are whole
 pub counts_all : {geometry : Geometry} {image counts : List ℕ} {place : ℕ} → CountsBefore geometry image place counts → IsPastEntries geometry image place
     → HasCounts geometry image counts

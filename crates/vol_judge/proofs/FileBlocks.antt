@@ -1,5 +1,5 @@
 -- The blocks of a file by its addresses.
-use Rattle.std.proofs.Common.{◌≡◌, ℕ, zero, suc, ◌+◌, ◌-◌, ◌<◌, ◌≤◌, ◌∙◌, sym, ap, List, [], ◌∷◌, ◌++◌, refl, arith, inl, inr, Some, None, Option}
+use Rattle.std.proofs.Common.{◌≡◌, ℕ, zero, suc, ◌+◌, ◌-◌, ◌<◌, ◌≤◌, ◌∙◌, sym, ap, List, [], ◌∷◌, ◌++◌, refl, arith, inl, inr, Some, Option}
 use Rattle.std.proofs.lemmas.Bool.{cases_eq}
 use Rattle.std.specs.List.{flat_map, range_with_len}
 use Rattle.vol_layout.specs.Edition.{constants}
@@ -16,7 +16,7 @@ use Rattle.vol_file.proofs.BlockLists.{at_nil, at_append, at_some, from_none}
 use Rattle.vol_file.proofs.Nodes.{pointers_file}
 use Rattle.vol_judge.specs.Marks.{blocks_from, marked}
 use Rattle.vol_judge.proofs.BlocksFrom.{from_zero, from_leaf, entries_from, from_entries}
-use Rattle.vol_judge.proofs.MarkLists.{marked_none, marked_more, marked_fails}
+use Rattle.vol_judge.proofs.MarkLists.{marked_none, marked_more}
 use Rattle.vol_judge.proofs.ZonedFiles.{file_counted}
 
 -- a file's blocks are those that its form's places name
@@ -115,12 +115,3 @@ unfolding addresses_from
 addresses_more geometry image i k n marks mid end next done last =
     let at : 0 + k ≡ k = omega arith in
     marked_more (address_blocks geometry image i) 0 k k n marks mid end at next done last
-
--- an address that can't be marked after those before it stops all
-pub addresses_fail : (geometry : Geometry) (image : List ℕ) (i k n : ℕ) (marks mid : List ℕ) → k < n
-    → marked marks (addresses_from geometry image i k) ≡ Some mid → marked mid (address_blocks geometry image i k) ≡ None
-    → marked marks (addresses_from geometry image i n) ≡ None
-unfolding addresses_from
-addresses_fail geometry image i k n marks mid less done last =
-    let at : 0 + k ≡ k = omega arith in
-    marked_fails (address_blocks geometry image i) 0 k k n marks mid at less done last

@@ -1,6 +1,6 @@
 -- Laws of numbers below which all that is found is inside the data zone.
-use Rattle.std.proofs.Common.{◌↔◌, IsTrue, ◌≡◌, ◌≢◌, ℕ, zero, suc, ◌-◌, ◌<◌, ◌≤◌, ◌∙◌, sym, ap, subst, List, length, get_or, set, true, false, refl, arith, inl, inr, get_or-set_same, get_or-set_other}
-use Rattle.std.proofs.lemmas.Bool.{cases_eq, cases_lt, false≢true}
+use Rattle.std.proofs.Common.{◌≡◌, ◌≢◌, ℕ, zero, suc, ◌-◌, ◌<◌, ◌≤◌, ◌∙◌, sym, ap, subst, List, length, get_or, set, true, refl, arith, inl, inr, get_or-set_same, get_or-set_other}
+use Rattle.std.proofs.lemmas.Bool.{cases_eq}
 use Rattle.vol_layout.specs.Edition.{constants}
 use Rattle.vol_layout.specs.Geometry.{in_zone, Fits}
 use Rattle.vol_layout.specs.Names.{pointer_in}
@@ -23,10 +23,6 @@ unfolding IsInside
 inside_here geometry image zero b inside some = inside some
 inside_here geometry image (suc d) b inside some = inside.0 some
 
--- a number that is no data block's is not
-pub outside : (geometry : Geometry) (image : List ℕ) (d b : ℕ) → b ≢ 0 → in_zone geometry b ≡ false → IsInside geometry image d b → ⊥
-outside geometry image d b some out inside = let here : in_zone geometry b ≡ true = inside_here geometry image d b inside some in absurd (cc)
-
 -- so is all that is found in fewer levels
 pub inside_less : (geometry : Geometry) (image : List ℕ) (d e b : ℕ) → d ≤ e → IsInside geometry image e b → IsInside geometry image d b
 unfolding IsInside
@@ -43,27 +39,6 @@ inside_entry geometry image zero b j one h inside = absurd (omega arith)
 inside_entry geometry image (suc d) b j one h inside =
     let less : d ≡ suc d - 1 = omega arith in
     subst (λ x. IsInside geometry image x (pointer_in geometry image b j)) less (inside.1 j h)
-
--- and what is found below all entries of a data block is all
-pub inside_all : (geometry : Geometry) (image : List ℕ) (d b : ℕ) → in_zone geometry b ≡ true → 1 ≤ d
-    → ((j : ℕ) → j < (constants geometry.edition).pointers → IsInside geometry image (d - 1) (pointer_in geometry image b j))
-    → IsInside geometry image d b
-unfolding IsInside
-inside_all geometry image zero b zone one all = absurd (omega arith)
-inside_all geometry image (suc d) b zone one all =
-    let less : suc d - 1 ≡ d = omega arith in
-    (λ some. zone, λ j h. subst (λ x. IsInside geometry image x (pointer_in geometry image b j)) less (all j h))
-
--- so is what is found below entries that are 0
-pub inside_zeros : (geometry : Geometry) (image : List ℕ) (d b from n : ℕ) → Fits geometry image
-    → ((k : ℕ) → from ≤ k → k < n → pointer_in geometry image b k ≡ 0)
-    → ((k : ℕ) → k < from → IsInside geometry image d (pointer_in geometry image b k))
-    → (k : ℕ) → k < n → IsInside geometry image d (pointer_in geometry image b k)
-inside_zeros geometry image d b from n fits zeros before k h =
-    elim (cases_lt k from) [
-      | inl low ↦ before k low
-      | inr high ↦ subst (IsInside geometry image d) (sym (zeros k high h)) (inside_zero geometry image d fits)
-    ]
 
 -- nothing is known where no levels are
 pub knows_nothing : (geometry : Geometry) (image known : List ℕ) → ((b : ℕ) → get_or known b 0 ≡ 0) → KnowsInside geometry image known
@@ -82,11 +57,3 @@ knows_more geometry image known b d within inside knows k zone =
           let level : get_or (set known b d) k 0 ≡ get_or known k 0 = get_or-set_other known b k d 0 other in
           subst (λ x. IsInside geometry image x k) (sym level) (knows k zone)
     ]
-
--- an answer of true is right where the fact holds
-pub says_yes : (P : Type 0) → P → IsTrue true ↔ P
-says_yes P holds = (λ yes. holds, λ h. refl)
-
--- an answer of false is right where the fact fails
-pub says_no : (P : Type 0) → (P → ⊥) → IsTrue false ↔ P
-says_no P fails = (λ yes. absurd (false≢true yes), λ h. absurd (fails h))

@@ -55,6 +55,12 @@ flat_suc f a (suc n) =
     ap (λ xs. f a ++ xs) (flat_suc f (a + 1) n ∙ ap (λ x. flat_map f (range_with_len (a + 1) n) ++ f x) same)
     ∙ sym (append_assoc (f a) (flat_map f (range_with_len (a + 1) n)) (f (a + suc n)))
 
+-- the same, where the numbers are equal by arithmetic
+pub flat_more : (f : ℕ → List ℕ) (a n m j : ℕ) → m ≡ n + 1 → a + n ≡ j → flat_map f (range_with_len a m) ≡ flat_map f (range_with_len a n) ++ f j
+flat_more f a n m j size at =
+    let more : m ≡ suc n = omega arith in
+    ap (λ x. flat_map f (range_with_len a x)) more ∙ (flat_suc f a n ∙ ap (λ x. flat_map f (range_with_len a n) ++ f x) at)
+
 -- the blocks of one number more are marked, or one of them can't be
 pub marked_more : (f : ℕ → List ℕ) (a n j m : ℕ) (marks mid : List ℕ) (end : Option (List ℕ)) → a + n ≡ j → n + 1 ≡ m
     → marked marks (flat_map f (range_with_len a n)) ≡ Some mid → marked mid (f j) ≡ end → marked marks (flat_map f (range_with_len a m)) ≡ end

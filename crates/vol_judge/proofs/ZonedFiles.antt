@@ -9,7 +9,6 @@ use Rattle.vol_layout.specs.declared.geometry.Geometry.{Geometry}
 use Rattle.vol_layout.specs.declared.places.Form.TheVariants.{Bare}
 use Rattle.vol_file.proofs.Nodes.{pointers_file}
 use Rattle.vol_judge.specs.Marks.{IsInside, IsFileZoned}
-use Rattle.vol_judge.proofs.Insides.{inside_here, inside_entry}
 
 -- a mode whose form has an address is of a kind with places
 kind_counted : (edition : Edition) (mode k : ℕ) → k < first_count (form_of edition mode) → has_places (kind_of edition mode) ≡ true
@@ -42,24 +41,3 @@ pub address_inside : (geometry : Geometry) (image : List ℕ) (i k : ℕ) → 1 
     → IsInside geometry image (levels (form_at geometry image i) k) (address_at geometry.edition image (inode_place geometry.edition i) k)
 address_inside geometry image i k first last h zoned =
     place_inside geometry image i (file_counted geometry image i k first last h) zoned (levels (form_at geometry image i) k) k [] h (omega arith)
-
--- all addresses of i-node i, and what is found below them, are inside the data zone
-abbrev pub HasInside : Geometry → List ℕ → ℕ → Type 0
-HasInside geometry image i = (k : ℕ) → k < first_count (form_at geometry image i)
-    → IsInside geometry image (levels (form_at geometry image i) k) (address_at geometry.edition image (inode_place geometry.edition i) k)
-
--- then so is what is found below each of its places
-inside_place : (geometry : Geometry) (image : List ℕ) (i : ℕ) → IsFile geometry image i → HasInside geometry image i → (p : List ℕ)
-    → IsPlace (form_at geometry image i) p → IsInside geometry image (levels_below (form_at geometry image i) p) (named geometry image i p)
-inside_place geometry image i file inside [] place = absurd place
-inside_place geometry image i file inside (k ∷ []) place = inside k place
-inside_place geometry image i file inside (j ∷ (a ∷ p)) place =
-    let many : pointer_count (form_at geometry image i) ≡ (constants geometry.edition).pointers = pointers_file geometry image i file in
-    inside_entry geometry image (levels_below (form_at geometry image i) (a ∷ p)) (named geometry image i (a ∷ p)) j place.1
-    (omega (arith, place.0, many)) (inside_place geometry image i file inside (a ∷ p) place.2)
-
--- and the file's numbers are data blocks'
-pub file_zoned : (geometry : Geometry) (image : List ℕ) (i : ℕ) → HasInside geometry image i → IsFileZoned geometry image i
-file_zoned geometry image i inside p place some =
-    inside_here geometry image (levels_below (form_at geometry image i) p) (named geometry image i p)
-    (inside_place geometry image i place.file inside p place.place) some

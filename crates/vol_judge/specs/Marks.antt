@@ -1,13 +1,11 @@
--- What a walk over all places of all files finds: rules 5 and 7.
-use Rattle.std.specs.Prelude.{◌≡◌, ◌≢◌, ℕ, zero, suc, ◌<◌, ◌==◌, ◌↔◌, Bool, true, false, if◌then◌else◌, List, [], ◌∷◌, slice_index, slice_index_or, slice_set, Option, None, Some}
+-- The blocks that the places of all files name: rules 5 and 7.
+use Rattle.std.specs.Prelude.{◌≡◌, ◌≢◌, ℕ, zero, suc, ◌+◌, ◌<◌, ◌==◌, ◌↔◌, ◌⊎◌, Bool, true, false, if◌then◌else◌, List, [], ◌∷◌, slice_index, slice_index_or, slice_set, Option, None, Some}
 use Rattle.std.specs.List.{flat_map, range_with_len}
 use Rattle.vol_layout.specs.Edition.{constants}
 use Rattle.vol_layout.specs.Geometry.{in_zone}
 use Rattle.vol_layout.specs.Names.{IsPlaceOf, named, pointer_in, NamesBlock}
-use Rattle.vol_file.specs.Rules.{IsZoned, IsApart}
+use Rattle.vol_free.specs.Stack.{IsIn}
 use Rattle.vol_layout.specs.declared.geometry.Geometry.{Geometry}
-use Rattle.vol_judge.specs.declared.marking.Places.{Places}
-use Rattle.vol_judge.specs.declared.marking.Places.TheVariants.{OutOfZone, Twice, Once}
 
 -- number b, if not 0, is that of a data block, and so is each that is found below it in d levels of indirect blocks (icheck)
 unfoldable pub IsInside : Geometry → List ℕ → ℕ → ℕ → Type 0
@@ -44,14 +42,18 @@ MarksNamed geometry image marks = (b : ℕ) → slice_index marks b ≢ 0 ↔ ((
 abbrev pub AreNamed : Geometry → List ℕ → List Bool → Type 0
 AreNamed geometry image flags = (b : ℕ) → slice_index_or flags b false ≡ true ↔ ((i : ℕ) × (p : List ℕ) × NamesBlock geometry image i p b)
 
--- rules 5 and 7 hold of the places, and the blocks that they name are marked (icheck)
-pub record IsMarked (geometry : Geometry) (image marks : List ℕ) : Type 0 where
-  pub zoned : IsZoned geometry image
-  pub apart : IsApart geometry image
-  pub named : MarksNamed geometry image marks
+-- the data blocks with a mark that isn't 0 are those that a place names (icheck)
+abbrev pub MarksZone : Geometry → List ℕ → List ℕ → Type 0
+MarksZone geometry image marks = (b : ℕ) → in_zone geometry b ≡ true
+    → slice_index marks b ≢ 0 ↔ ((i : ℕ) × (p : List ℕ) × NamesBlock geometry image i p b)
 
--- what a walk over the places finds: the lesser of rules 5 and 7 that fails, or the marks (icheck)
-abbrev pub FindsMarks : Geometry → List ℕ → List ℕ → Places → Type 0
-FindsMarks geometry image marks OutOfZone = IsZoned geometry image → ⊥
-FindsMarks geometry image marks Twice = IsZoned geometry image × (IsApart geometry image → ⊥)
-FindsMarks geometry image marks Once = IsMarked geometry image marks
+-- of some blocks those that are data blocks are marked, and no others that weren't before (icheck)
+pub record ExtendsMarks (geometry : Geometry) (blocks old new : List ℕ) : Type 0 where
+  pub all : (x : ℕ) → IsIn x blocks → in_zone geometry x ≡ true → slice_index new x ≢ 0
+  pub only : (x : ℕ) → slice_index new x ≢ 0 → (slice_index old x ≢ 0) ⊎ IsIn x blocks
+  pub kept : (x : ℕ) → slice_index old x ≢ 0 → slice_index new x ≢ 0
+
+-- what is found below a block in one level less than its mark is marked, so far as it is data blocks (this project)
+abbrev pub KnowsMarked : Geometry → List ℕ → List ℕ → Type 0
+KnowsMarked geometry image marks = (b d : ℕ) → slice_index marks b ≡ d + 1 → (x : ℕ) → IsIn x (blocks_from geometry image d b)
+    → in_zone geometry x ≡ true → slice_index marks x ≢ 0

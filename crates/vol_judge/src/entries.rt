@@ -1,10 +1,13 @@
 //! Rule 9: the entries of directories.
-ghost use Rattle.std.specs.Prelude.{◌≡◌, ◌<◌, IfOk, IsTrue, ◌↔◌};
+ghost use Rattle.std.specs.Prelude.{◌≡◌, IfOk, IsTrue, ◌↔◌};
 ghost use Rattle.vol_layout.specs.Geometry.{Fits};
 ghost use Rattle.vol_layout.specs.Slot.{name_of, padded_name};
 ghost use Rattle.vol_dir.specs.Entries.{IsDirectory, HasEntries};
 ghost use Rattle.vol_judge.specs.Naming.{IsValidEntry, HasEntriesIn};
+ghost use Rattle.vol_judge.specs.Finds.{Finds};
+ghost use Rattle.vol_judge.specs.Entries.{IsNumbered, IsWrongEntry, IsFirstIn, IsFirstEntry};
 
+use crate::finding::Finding;
 use crate::reading::is_directory;
 use pdp_words::Image;
 use std::alloc::{AllocError, Global};
@@ -13,63 +16,83 @@ use vol_layout::i_list::{kind, size};
 use vol_layout::slot::{NAME, SLOT};
 use vol_layout::{Geometry, Kind, Slot};
 
-/// Whether rule 9 holds.
+/// What breaks rule 9 first: of the first directory that does, its size or the first of its slots.
 ///
-/// Costs a look at each slot of each directory, and for each directory as much as sorting its names.
-/// Memory is taken for the names of one directory at a time.
-pub(crate) fn has_entries(
+/// Costs a look at each slot of each directory, and for each directory as much as sorting its names. Memory is taken for the
+/// names of one directory at a time.
+pub fn find_entry(
     alloc: Global,
     image: &Image,
     geometry: &Geometry,
-) -> Result<bool, AllocError>
+) -> Result<Option<Finding>, AllocError>
     requires { Fits geometry.now image.now }
-    ensures { IfOk result (λ holds. IsTrue holds ↔ HasEntries geometry.now image.now) }
+    ensures { IfOk result (Finds (HasEntries geometry.now image.now) (IsFirstEntry geometry.now image.now)) }
 {
     for d in 1..=geometry.last_inode {
-        if is_directory(image, geometry, d) && !has_entries_in(alloc, image, geometry, d)? {
-            return Ok(false);
+        if is_directory(image, geometry, d) {
+            if let Some(finding) = find_in(alloc, image, geometry, d)? {
+                return Ok(Some(finding));
+            }
         }
     }
-    Ok(true)
+    Ok(None)
 }
 
-/// Whether rule 9 holds of directory `d`.
-fn has_entries_in(
+/// What breaks rule 9 first in directory `d`.
+fn find_in(
     alloc: Global,
     image: &Image,
     geometry: &Geometry,
     d: u16,
-) -> Result<bool, AllocError>
+) -> Result<Option<Finding>, AllocError>
     requires fits { Fits geometry.now image.now }
     requires directory { IsDirectory geometry.now image.now d }
-    ensures { IfOk result (λ holds. IsTrue holds ↔ HasEntriesIn geometry.now image.now d) }
+    ensures { IfOk result (Finds (HasEntriesIn geometry.now image.now d) (IsFirstIn geometry.now image.now d)) }
 {
     if size(image, geometry, d) % SLOT as u32 != 0 {
-        return Ok(false);
+        return Ok(Some(Finding::PartSlot(d)));
     }
     let mut names = BTreeSet::new(alloc);
     let mut from = 0;
     while let Some((s, slot)) = vol_dir::next_entry(image, geometry, d, from) {
-        if !is_entry(image, geometry, &slot) || !names.insert(stored_name(&slot))? {
-            return Ok(false);
+        if let Some(finding) = find_wrong(image, geometry, d, s, &slot) {
+            return Ok(Some(finding));
+        }
+        if !names.insert(stored_name(&slot))? {
+            return Ok(Some(Finding::SameName(d, s)));
         }
         from = s + 1;
     }
-    Ok(true)
+    Ok(None)
 }
 
-/// Whether a slot's entry has a name without a slash, for an allocated i-number from the root's to the
-/// last.
-fn is_entry(image: &Image, geometry: &Geometry, slot: &Slot) -> bool
+/// What is wrong with the entry in slot `s` of directory `d`, other than that its name comes twice.
+fn find_wrong(image: &Image, geometry: &Geometry, d: u16, s: u32, slot: &Slot) -> Option<Finding>
     requires { Fits geometry.now image.now }
-    ensures { IsTrue result ↔ IsValidEntry geometry.now image.now (name_of slot.now.name) slot.now.inode }
+    ensures { Finds (IsValidEntry geometry.now image.now (name_of slot.now.name) slot.now.inode)
+        (IsWrongEntry geometry.now image.now d s (name_of slot.now.name) slot.now.inode) result }
 {
     let name = slot.name();
-    !name.is_empty()
-        && !name.contains(&b'/')
-        && geometry.edition.constants().root <= slot.inode
-        && slot.inode <= geometry.last_inode
-        && kind(image, geometry, slot.inode) != Kind::Free
+    if name.is_empty() {
+        return Some(Finding::NoName(d, s));
+    }
+    if name.contains(&b'/') {
+        return Some(Finding::Slash(d, s));
+    }
+    if !is_numbered(geometry, slot.inode) {
+        return Some(Finding::BadNumber(d, s));
+    }
+    if let Kind::Free = kind(image, geometry, slot.inode) {
+        return Some(Finding::FreeInode(d, s));
+    }
+    None
+}
+
+/// Whether an i-number is one from the root's to the last.
+fn is_numbered(geometry: &Geometry, i: u16) -> bool
+    ensures { IsTrue result ↔ IsNumbered geometry.now i }
+{
+    geometry.edition.constants().root <= i && i <= geometry.last_inode
 }
 
 /// The name of a slot with zero bytes behind it: what stands behind the first zero byte doesn't count.

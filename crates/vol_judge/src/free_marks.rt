@@ -11,7 +11,7 @@ use vol_layout::Geometry;
 /// Returns the number of free blocks, and sets their marks; or `None` if rule 6 fails, and then some marks are set.
 /// There is a mark for each block below the end of the data zone, and none is set before. Reads the free list, and
 /// each block of it at most once. Takes no memory.
-pub(crate) fn mark_free(image: &Image, geometry: &Geometry, marks: &mut [bool]) -> Option<u32>
+pub fn mark_free(image: &Image, geometry: &Geometry, marks: &mut [bool]) -> Option<u32>
     requires fits { Fits geometry.now image.now }
     requires room { length marks.old ≡ geometry.now.zone_end }
     requires clear { (k : ℕ) → slice_index_or marks.old k false ≡ false }

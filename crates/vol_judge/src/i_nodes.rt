@@ -1,10 +1,13 @@
-//! The rules that speak of i-nodes one by one: their kinds, their sizes and their link counts.
+//! Rules 3 and 4: the kinds, sizes and link counts of i-nodes.
 ghost use Rattle.std.specs.Prelude.{◌≡◌, ◌≤◌, IsTrue, ◌↔◌};
 ghost use Rattle.vol_layout.specs.Edition.{constants};
 ghost use Rattle.vol_layout.specs.Geometry.{Fits};
 ghost use Rattle.vol_file.specs.Rules.{HasKinds, HasSizes, kind_at};
+ghost use Rattle.vol_judge.specs.Finds.{Finds};
+ghost use Rattle.vol_judge.specs.INodes.{IsFirstKind, IsFirstSize};
 ghost use Rattle.vol_judge.specs.Limits.{KeepsBadBlocks, IsSized, IsLinked};
 
+use crate::finding::Finding;
 use pdp_words::Image;
 use vol_layout::i_list::{kind, mode, size};
 use vol_layout::{Edition, Form, Geometry, Kind, inode};
@@ -12,34 +15,45 @@ use vol_layout::{Edition, Form, Geometry, Kind, inode};
 /// The greatest size of a small file: eight blocks.
 const SMALL_BYTES: u32 = 4096;
 
-/// Whether rule 3 holds. Reads the mode of each i-node. Takes no memory.
-pub(crate) fn has_kinds(image: &Image, geometry: &Geometry) -> bool
+/// What breaks rule 3 first: an odd mode, then the kind of the root, then that of i-number 1. Reads the mode of each
+/// i-node. Takes no memory.
+pub fn find_kind(image: &Image, geometry: &Geometry) -> Option<Finding>
     requires { Fits geometry.now image.now }
-    ensures { IsTrue result ↔ HasKinds geometry.now image.now }
+    ensures { Finds (HasKinds geometry.now image.now) (IsFirstKind geometry.now image.now) result }
 {
     for i in 1..=geometry.last_inode {
         if matches!(kind(image, geometry, i), Kind::Odd) {
-            return false;
+            return Some(Finding::OddMode(i));
         }
     }
-    has_root(image, geometry) && has_bad_blocks(image, geometry)
+    if !has_root(image, geometry) {
+        return Some(Finding::RootKind);
+    }
+    if !has_bad_blocks(image, geometry) {
+        return Some(Finding::BadBlocksKind);
+    }
+    None
 }
 
-/// Whether rule 4 holds. Reads each i-node. Takes no memory.
-pub(crate) fn has_sizes(image: &Image, geometry: &Geometry) -> bool
+/// What breaks rule 4 first: the first i-node that is too large or has too many links. Reads each i-node. Takes no
+/// memory.
+pub fn find_size(image: &Image, geometry: &Geometry) -> Option<Finding>
     requires { Fits geometry.now image.now }
-    ensures { IsTrue result ↔ HasSizes geometry.now image.now }
+    ensures { Finds (HasSizes geometry.now image.now) (IsFirstSize geometry.now image.now) result }
 {
     for i in 1..=geometry.last_inode {
-        if !is_sized(image, geometry, i) || !is_linked(image, geometry, i) {
-            return false;
+        if !is_sized(image, geometry, i) {
+            return Some(Finding::TooLarge(i));
+        }
+        if !is_linked(image, geometry, i) {
+            return Some(Finding::TooManyLinks(i));
         }
     }
-    true
+    None
 }
 
 /// Whether the root is a directory.
-pub fn has_root(image: &Image, geometry: &Geometry) -> bool
+fn has_root(image: &Image, geometry: &Geometry) -> bool
     requires { Fits geometry.now image.now }
     ensures { IsTrue result ↔ (kind_at geometry.now image.now (constants geometry.now.edition).root ≡ Kind.Directory) }
 {
@@ -48,7 +62,7 @@ pub fn has_root(image: &Image, geometry: &Geometry) -> bool
 }
 
 /// Whether i-number 1 is free or a regular file in the seventh edition, which keeps it for bad blocks.
-pub fn has_bad_blocks(image: &Image, geometry: &Geometry) -> bool
+fn has_bad_blocks(image: &Image, geometry: &Geometry) -> bool
     requires { Fits geometry.now image.now }
     ensures { IsTrue result ↔ KeepsBadBlocks geometry.now image.now }
 {
@@ -59,7 +73,7 @@ pub fn has_bad_blocks(image: &Image, geometry: &Geometry) -> bool
 }
 
 /// Whether i-node `i` isn't too large for its form.
-pub fn is_sized(image: &Image, geometry: &Geometry, i: u16) -> bool
+fn is_sized(image: &Image, geometry: &Geometry, i: u16) -> bool
     requires fits { Fits geometry.now image.now }
     requires first { 1 ≤ i }
     requires last { i ≤ geometry.now.last_inode }
@@ -74,7 +88,7 @@ pub fn is_sized(image: &Image, geometry: &Geometry, i: u16) -> bool
 }
 
 /// Whether the link count of i-node `i`, if it is allocated, isn't above the limit.
-pub fn is_linked(image: &Image, geometry: &Geometry, i: u16) -> bool
+fn is_linked(image: &Image, geometry: &Geometry, i: u16) -> bool
     requires fits { Fits geometry.now image.now }
     requires first { 1 ≤ i }
     requires last { i ≤ geometry.now.last_inode }

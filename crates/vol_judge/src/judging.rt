@@ -1,17 +1,20 @@
 //! The twelve rules in their order, up to the first that fails.
-ghost use Rattle.std.specs.Prelude.{◌≡◌, ◌≢◌, ℕ, false, true, IfOk, List, length, slice_index_or};
+ghost use Rattle.std.specs.Prelude.{◌≡◌, ℕ, false, true, IfNone, IfSome, IfOk, List, length, slice_index_or};
 ghost use Rattle.std.specs.Result.{result_err};
 ghost use Rattle.vol_layout.specs.Geometry.{Fits, geometry_of};
 ghost use Rattle.vol_free.specs.Stack.{IsFree};
+ghost use Rattle.vol_file.specs.Rules.{IsApart};
 ghost use Rattle.vol_judge.specs.Judging.{IsFirstBroken};
-ghost use Rattle.vol_judge.specs.Marks.{FindsMarks};
+ghost use Rattle.vol_judge.specs.Marks.{MarksNamed};
 ghost use Rattle.vol_judge.specs.Sound.{Asked, IsJudged, free_rules, block_rules, volume_rules};
 
-use crate::blocks::{are_apart, are_covered};
+use crate::blocks::{are_apart, find_lost};
 use crate::directories::judge_directories;
+use crate::finding::Finding;
 use crate::free_marks::mark_free;
-use crate::i_nodes::{has_kinds, has_sizes};
-use crate::marking::{Places, mark_places};
+use crate::i_nodes::{find_kind, find_size};
+use crate::marking::find_twice;
+use crate::zones::find_outside;
 use pdp_words::Image;
 use std::alloc::{AllocError, Global};
 use vol_layout::{Edition, Geometry, GeometryFault};
@@ -82,10 +85,10 @@ fn judge_volume(
     ensures count { IfOk result (λ found. IfOk found (λ count. Asked free
         ((blocks : List ℕ) → IsFree geometry.now image.now blocks → count ≡ length blocks))) }
 {
-    if !has_kinds(image, geometry) {
+    if find_kind(image, geometry).is_some() {
         return Ok(Err(3));
     }
-    if !has_sizes(image, geometry) {
+    if find_size(image, geometry).is_some() {
         return Ok(Err(4));
     }
     match judge_blocks(alloc, image, geometry, free)? {
@@ -111,41 +114,47 @@ fn judge_blocks(
         ((blocks : List ℕ) → IsFree geometry.now image.now blocks → count ≡ length blocks))) }
 {
     let mut named = vec![in alloc; 0; geometry.zone_end as usize]?;
-    match mark_places(image, geometry, &mut named) {
-        Places::OutOfZone => Ok(Err(5)),
-        places if free => judge_free(alloc, image, geometry, places, &named),
-        Places::Twice => Ok(Err(7)),
-        Places::Once => Ok(Ok(0)),
+    if find_outside(image, geometry, &mut named).is_some() {
+        return Ok(Err(5));
+    }
+    let twice = find_twice(image, geometry, &mut named);
+    if free {
+        return judge_free(alloc, image, geometry, twice, &named);
+    }
+    match twice {
+        Some(_) => Ok(Err(7)),
+        None => Ok(Ok(0)),
     }
 }
 
-/// The number of free blocks, where rules 6 to 8 hold, by what the places of files were found to name; else the
-/// least that fails.
+/// The number of free blocks, where rules 6 to 8 hold, by the first block that two places of files name, and the
+/// marks of those that they name; else the least that fails.
 fn judge_free(
     alloc: Global,
     image: &Image,
     geometry: &Geometry,
-    places: Places,
+    twice: Option<Finding>,
     named: &[u8],
 ) -> Result<Result<u32, u8>, AllocError>
     requires fits { Fits geometry.now image.now }
     requires room { length named.now ≡ geometry.now.zone_end }
-    requires places { FindsMarks geometry.now image.now named.now places }
-    requires zoned { places ≢ Places.OutOfZone }
+    requires holds { IfNone twice (IsApart geometry.now image.now) }
+    requires marks { IfNone twice (MarksNamed geometry.now image.now named.now) }
+    requires broken { IfSome twice (λ _. IsApart geometry.now image.now → ⊥) }
     ensures least { IfOk result (λ found. IsFirstBroken 6 (free_rules true geometry.now image.now) (result_err found)) }
     ensures count { IfOk result (λ found. IfOk found (λ count.
         (blocks : List ℕ) → IsFree geometry.now image.now blocks → count ≡ length blocks)) }
 {
     let mut free = vec![in alloc; false; geometry.zone_end as usize]?;
-    Ok(judge_marks(image, geometry, places, named, &mut free))
+    Ok(judge_marks(image, geometry, twice, named, &mut free))
 }
 
-/// The number of free blocks, where rules 6 to 8 hold, by what the places of files were found to name; else the
-/// least that fails. Marks the free blocks in `free`, of which no mark is set before.
+/// The number of free blocks, where rules 6 to 8 hold, by the first block that two places of files name, and the
+/// marks of those that they name; else the least that fails. Marks the free blocks in `free`, of which no mark is set before.
 fn judge_marks(
     image: &Image,
     geometry: &Geometry,
-    places: Places,
+    twice: Option<Finding>,
     named: &[u8],
     free: &mut [bool],
 ) -> Result<u32, u8>
@@ -153,18 +162,19 @@ fn judge_marks(
     requires room { length named.now ≡ geometry.now.zone_end }
     requires free_room { length free.old ≡ geometry.now.zone_end }
     requires clear { (k : ℕ) → slice_index_or free.old k false ≡ false }
-    requires places { FindsMarks geometry.now image.now named.now places }
-    requires zoned { places ≢ Places.OutOfZone }
+    requires holds { IfNone twice (IsApart geometry.now image.now) }
+    requires marks { IfNone twice (MarksNamed geometry.now image.now named.now) }
+    requires broken { IfSome twice (λ _. IsApart geometry.now image.now → ⊥) }
     ensures least { IsFirstBroken 6 (free_rules true geometry.now image.now) (result_err result) }
     ensures count { IfOk result (λ count. (blocks : List ℕ) → IsFree geometry.now image.now blocks → count ≡ length blocks) }
 {
     let Some(count) = mark_free(image, geometry, free) else {
         return Err(6);
     };
-    if matches!(places, Places::Twice) || !are_apart(named, free) {
+    if twice.is_some() || !are_apart(named, free) {
         return Err(7);
     }
-    if !are_covered(named, free, geometry.zone_start as usize) {
+    if find_lost(geometry, named, free).is_some() {
         return Err(8);
     }
     Ok(count)

@@ -1,16 +1,17 @@
 //! Rule 10: the entries `.` and `..`.
-ghost use Rattle.std.specs.Prelude.{◌≡◌, ◌+◌, if◌then◌else◌, Some, IfOk, IsTrue, ◌↔◌, MatchOption};
+ghost use Rattle.std.specs.Prelude.{◌≡◌, ◌+◌, ◌<◌, ◌≤◌, ℕ, List, if◌then◌else◌, Some, None, IfOk, IsTrue, ◌↔◌, length, slice_index_or};
 ghost use Rattle.std.specs.Str.{bytes_eq};
 ghost use Rattle.vol_layout.specs.Geometry.{Fits};
 ghost use Rattle.vol_layout.specs.Slot.{name_of};
-ghost use Rattle.vol_file.specs.Rules.{HasKinds};
 ghost use Rattle.vol_dir.specs.Entries.{IsDirectory, HasEntries};
 ghost use Rattle.vol_dir.specs.Names.{dot, dot_dot};
 ghost use Rattle.vol_judge.specs.Directories.{HasDots};
-ghost use Rattle.vol_judge.specs.InodeMarks.{IsNamed, NameThemselves, HasParents, MarksChildren};
-ghost use Rattle.vol_judge.specs.Stepping.{rank};
+ghost use Rattle.vol_judge.specs.Dots.{NeedsDots, NamesItself, NamesParent, KeepsDots, KnowsDots, IsWrongDots, IsFirstDots};
+ghost use Rattle.vol_judge.specs.Finds.{Finds};
+ghost use Rattle.vol_judge.specs.InodeMarks.{IsNamed};
+ghost use Rattle.vol_judge.specs.Tree.{NotesParents};
 
-use crate::inode_marks::are_marked;
+use crate::finding::Finding;
 use crate::reading::is_directory;
 use pdp_words::Image;
 use std::alloc::{AllocError, Global};
@@ -25,71 +26,134 @@ pub struct Dots {
     pub up: Option<u16>,
 }
 
-/// Whether rule 10 holds, by what each directory names by `..` where it names itself by `.`, and the marks
-/// of those that are entered there.
+/// What the directories name by `..`, up to the first that doesn't name itself by `.`.
+#[derive(Drop)]
+pub struct Ups {
+    /// By i-number, what a directory names by `..`.
+    pub numbers: Vec<Option<u16>>,
+    /// The first directory that doesn't name itself by `.`.
+    pub nameless: Option<u16>,
+}
+
+/// What breaks rule 10 first, where rule 9 holds: of the first directory that has no entry `.` for itself or `..` for its
+/// parent, the first of these. The root, which is its own parent, is asked whatever it is. It goes by what the directories name
+/// by `..`, and by the directory of an entry for each.
 ///
 /// Costs a look at each i-node. Takes no memory.
-pub(crate) fn has_dots(
+pub fn find_dots(
     image: &Image,
     geometry: &Geometry,
-    ups: &[Option<u16>],
-    children: &[bool],
-) -> bool
+    ups: &Ups,
+    parents: &[Option<u16>],
+) -> Option<Finding>
     requires fits { Fits geometry.now image.now }
-    requires parents { HasParents geometry.now image.now ups.now }
-    requires children { MarksChildren geometry.now image.now ups.now (rank (geometry.now.last_inode + 1) 0) children.now }
-    ensures { IsTrue result ↔ HasDots geometry.now image.now }
+    requires ups { KnowsDots geometry.now image.now ups.now.numbers.items ups.now.nameless }
+    requires parents { NotesParents geometry.now image.now ups.now.numbers.items parents.now }
+    ensures { Finds (HasDots geometry.now image.now) (IsFirstDots geometry.now image.now) result }
 {
-    are_marked(image, geometry, children)
+    for d in 1..=geometry.last_inode {
+        if needs_dots(image, geometry, d) {
+            if let Some(finding) = find_wrong(image, geometry, d, ups, parents) {
+                return Some(finding);
+            }
+        }
+    }
+    None
 }
 
-/// What each directory names by `..`, of a volume on which rules 3 and 9 hold; None where some directory doesn't
-/// name itself by `.`, or the root doesn't name itself by `..`.
-///
-/// Costs a look at each slot of each directory, up to those two entries. Memory is taken for four bytes an i-number.
-pub(crate) fn parents(
-    alloc: Global,
+/// What is wrong with the entries `.` and `..` of i-number `d`, which is a directory or the root, where no directory before it
+/// has no entry `.`.
+fn find_wrong(
     image: &Image,
     geometry: &Geometry,
-) -> Result<Option<Vec<Option<u16>>>, AllocError>
+    d: u16,
+    ups: &Ups,
+    parents: &[Option<u16>],
+) -> Option<Finding>
     requires fits { Fits geometry.now image.now }
-    requires kinds { HasKinds geometry.now image.now }
-    requires entries { HasEntries geometry.now image.now }
-    ensures { IfOk result (λ ups. MatchOption ups (HasDots geometry.now image.now → ⊥)
-        (λ ups. HasParents geometry.now image.now ups.items)) }
+    requires first { 1 ≤ d }
+    requires last { d ≤ geometry.now.last_inode }
+    requires ups { KnowsDots geometry.now image.now ups.now.numbers.items ups.now.nameless }
+    requires reached { (n : ℕ) → ups.now.nameless ≡ Some n → d ≤ n }
+    requires parents { NotesParents geometry.now image.now ups.now.numbers.items parents.now }
+    ensures { Finds (KeepsDots geometry.now image.now d) (IsWrongDots geometry.now image.now d) result }
 {
-    let Some(ups) = ups(alloc, image, geometry)? else {
-        return Ok(None);
+    if !names_itself(image, geometry, d, ups) {
+        return Some(Finding::NoDot(d));
+    }
+    if names_parent(geometry, d, &ups.numbers, parents) {
+        None
+    } else {
+        Some(Finding::NoDotDot(d))
+    }
+}
+
+/// Whether an i-number is that of a directory or of the root.
+fn needs_dots(image: &Image, geometry: &Geometry, d: u16) -> bool
+    requires fits { Fits geometry.now image.now }
+    requires first { 1 ≤ d }
+    requires last { d ≤ geometry.now.last_inode }
+    ensures { IsTrue result ↔ NeedsDots geometry.now image.now d }
+{
+    d == geometry.edition.constants().root || is_directory(image, geometry, d)
+}
+
+/// Whether i-number `d` is that of a directory with an entry `.` for itself, where no directory before it has none.
+fn names_itself(image: &Image, geometry: &Geometry, d: u16, ups: &Ups) -> bool
+    requires fits { Fits geometry.now image.now }
+    requires first { 1 ≤ d }
+    requires last { d ≤ geometry.now.last_inode }
+    requires ups { KnowsDots geometry.now image.now ups.now.numbers.items ups.now.nameless }
+    requires reached { (n : ℕ) → ups.now.nameless ≡ Some n → d ≤ n }
+    ensures itself { IsTrue result ↔ NamesItself geometry.now image.now d }
+    ensures up { IsTrue result → IsNamed geometry.now image.now d dot_dot (slice_index_or ups.now.numbers.items d None) }
+{
+    is_directory(image, geometry, d) && ups.nameless != Some(d)
+}
+
+/// Whether directory `d` has an entry `..` for its parent, by what it names so, and the directory of an entry for each.
+fn names_parent(geometry: &Geometry, d: u16, ups: &[Option<u16>], parents: &[Option<u16>]) -> bool
+    requires ups { d < length ups.now }
+    requires parents { d < length parents.now }
+    ensures { (image : List ℕ) → IsDirectory geometry.now image d → IsNamed geometry.now image d dot_dot (slice_index_or ups.now d None)
+        → NotesParents geometry.now image ups.now parents.now → IsTrue result ↔ NamesParent geometry.now image d }
+{
+    let Some(up) = ups[d as usize] else {
+        return false;
     };
     let root = geometry.edition.constants().root;
-    if ups[root as usize] != Some(root) {
-        return Ok(None);
+    if d == root {
+        up == root
+    } else {
+        parents[d as usize] == Some(up)
     }
-    Ok(Some(ups))
 }
 
-/// What each directory names by `..`; None where some directory doesn't name itself by `.`.
-fn ups(
-    alloc: Global,
-    image: &Image,
-    geometry: &Geometry,
-) -> Result<Option<Vec<Option<u16>>>, AllocError>
+/// What the directories name by `..`, of a volume on which rule 9 holds, up to the first that doesn't name itself by `.`.
+///
+/// Costs a look at each slot of each directory, up to those two entries. Memory is taken for four bytes an i-number.
+pub fn find_ups(alloc: Global, image: &Image, geometry: &Geometry) -> Result<Ups, AllocError>
     requires fits { Fits geometry.now image.now }
     requires entries { HasEntries geometry.now image.now }
-    ensures { IfOk result (λ ups. MatchOption ups (HasDots geometry.now image.now → ⊥)
-        (λ ups. NameThemselves geometry.now image.now ups.items)) }
+    ensures { IfOk result (λ ups. KnowsDots geometry.now image.now ups.numbers.items ups.nameless) }
 {
-    let mut ups = vec![in alloc; None; geometry.last_inode as usize + 1]?;
+    let mut numbers = vec![in alloc; None; geometry.last_inode as usize + 1]?;
     for d in 1..=geometry.last_inode {
         if is_directory(image, geometry, d) {
             let dots = dots_in(image, geometry, d);
             if dots.own != Some(d) {
-                return Ok(None);
+                return Ok(Ups {
+                    numbers,
+                    nameless: Some(d),
+                });
             }
-            ups[d as usize] = dots.up;
+            numbers[d as usize] = dots.up;
         }
     }
-    Ok(Some(ups))
+    Ok(Ups {
+        numbers,
+        nameless: None,
+    })
 }
 
 /// What directory `d` names by `.` and by `..`. Looks at its slots up to those two entries.

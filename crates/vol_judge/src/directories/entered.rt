@@ -1,16 +1,14 @@
 //! What the entries of all directories say of each i-number, found by one pass over them.
-ghost use Rattle.std.specs.Prelude.{◌≡◌, ℕ, ◌+◌, ◌<◌, ◌≤◌, true, false, List, IfOk, IsTrue, ◌↔◌, length};
+ghost use Rattle.std.specs.Prelude.{◌≡◌, ℕ, ◌+◌, IfNone, IfSome, IfOk, IsTrue, ◌↔◌, length};
 ghost use Rattle.vol_layout.specs.Geometry.{Fits};
-ghost use Rattle.vol_layout.specs.Slot.{name_of};
-ghost use Rattle.vol_layout.specs.declared.geometry.Geometry.{Geometry};
-ghost use Rattle.vol_file.specs.Rules.{HasKinds};
-ghost use Rattle.vol_dir.specs.Entries.{IsDirectory, HasEntries};
-ghost use Rattle.vol_dir.specs.Names.{is_dots};
+ghost use Rattle.vol_dir.specs.Entries.{IsDirectory};
 ghost use Rattle.vol_judge.specs.Counting.{HasCounts};
-ghost use Rattle.vol_judge.specs.InodeMarks.{IsOnce, MarksChildren, MarksOnce};
+ghost use Rattle.vol_judge.specs.Finds.{Finds};
+ghost use Rattle.vol_judge.specs.InodeMarks.{IsOnce};
 ghost use Rattle.vol_judge.specs.Stepping.{rank, IsNextSlot};
+ghost use Rattle.vol_judge.specs.Tree.{NotesParentsBefore, NotesParents, KnowsParents, HasOnceBefore, IsEnteredAgain};
 
-use crate::inode_marks::root_marked;
+use crate::finding::Finding;
 use crate::reading::{Entry, Place, is_directory, next_entry};
 use pdp_words::Image;
 use std::alloc::{AllocError, Global};
@@ -18,99 +16,112 @@ use vol_layout::Geometry;
 
 /// What the entries of all directories say.
 #[derive(Drop)]
-pub(crate) struct Entered {
-    /// Marks of the root, and of what has an entry in the directory that it names by `..`.
-    pub children: Vec<bool>,
-    /// Whether each directory has at most one entry other than `.` and `..`, and the root none.
-    pub once: bool,
+pub struct Entered {
+    /// By i-number, the directory of an entry for a directory, other than `.` and `..`: the one that it names by `..`, if that has
+    /// one.
+    pub parents: Vec<Option<u16>>,
+    /// The first entry, other than `.` and `..`, for the root, or for a directory that an entry before it is for.
+    pub again: Option<Finding>,
     /// How many entries each i-number has.
     pub counts: Vec<u64>,
 }
 
-/// What the entries of all directories say, where it is known what each directory names by `..`.
+/// What the entries of all directories say, where it is known what directories name by `..`.
 ///
-/// Costs a look at each slot of each directory. Memory is taken for ten bytes an i-number.
-pub(crate) fn find_entered(
+/// Costs a look at each slot of each directory. Memory is taken for twelve bytes an i-number.
+pub fn find_entered(
     alloc: Global,
     image: &Image,
     geometry: &Geometry,
     ups: &[Option<u16>],
 ) -> Result<Entered, AllocError>
     requires fits { Fits geometry.now image.now }
-    requires kinds { HasKinds geometry.now image.now }
-    requires entries { HasEntries geometry.now image.now }
     requires room { length ups.now ≡ geometry.now.last_inode + 1 }
-    ensures children { IfOk result (λ found.
-        MarksChildren geometry.now image.now ups.now (rank (geometry.now.last_inode + 1) 0) found.children.items) }
-    ensures once { IfOk result (λ found. IsTrue found.once ↔ IsOnce geometry.now image.now) }
+    ensures parents { IfOk result (λ found. NotesParents geometry.now image.now ups.now found.parents.items) }
+    ensures known { IfOk result (λ found. IsOnce geometry.now image.now → KnowsParents geometry.now image.now found.parents.items) }
+    ensures again { IfOk result (λ found. Finds (IsOnce geometry.now image.now) (IsEnteredAgain geometry.now image.now) found.again) }
     ensures counts { IfOk result (λ found. HasCounts geometry.now image.now found.counts.items) }
 {
-    let mut children = root_marked(alloc, geometry)?;
-    let mut directories = root_marked(alloc, geometry)?;
+    let mut parents = vec![in alloc; None; geometry.last_inode as usize + 1]?;
     let mut counts = vec![in alloc; 0; geometry.last_inode as usize + 1]?;
-    let mut once = true;
+    let mut again = None;
     let mut place = Place::first();
     while let Some(entry) = next_entry(image, geometry, place) {
-        mark_child(&entry, ups, &mut children);
-        if !mark_directory(image, geometry, &entry, &mut directories) {
-            once = false;
+        let found = note_parent(image, geometry, &entry, ups, &mut parents);
+        again = first_of(again, found);
+        let i = entry.slot.inode;
+        if i <= geometry.last_inode {
+            counts[i as usize] += 1;
         }
-        counts[entry.slot.inode as usize] += 1;
         place = entry.next_place();
     }
     Ok(Entered {
-        children,
-        once,
+        parents,
+        again,
         counts,
     })
 }
 
-/// Marks what an entry, of a name other than `.` and `..`, is for, if it names the entry's directory by `..`.
-fn mark_child(entry: &Entry, ups: &[Option<u16>], marks: &mut [bool])
-    requires room { entry.now.slot.inode < length marks.old }
-    requires ups { length ups.now ≡ length marks.old }
-    ensures { (geometry : Geometry) (image : List ℕ) (place : ℕ) → MarksChildren geometry image ups.now place marks.old
-        → IsNextSlot geometry image place entry.now.directory entry.now.number entry.now.slot
-        → MarksChildren geometry image ups.now (rank entry.now.directory (entry.now.number + 1)) marks.new }
+/// The first of two findings.
+fn first_of(first: Option<Finding>, second: Option<Finding>) -> Option<Finding>
+    ensures none { IfNone first (result ≡ second) }
+    ensures some { IfSome first (λ _. result ≡ first) }
 {
-    let child = entry.slot.inode as usize;
-    if !entry.is_dots() && ups[child] == Some(entry.directory) {
-        marks[child] = true;
+    match first {
+        Some(_) => first,
+        None => second,
     }
 }
 
-/// Marks the directory that an entry, of a name other than `.` and `..`, is for, if it is for one; false
-/// where this was marked before.
-fn mark_directory(image: &Image, geometry: &Geometry, entry: &Entry, marks: &mut [bool]) -> bool
+/// Notes the directory of an entry as that of one for what it is for, if this is a directory, and none is noted or it names this
+/// one by `..`; what breaks rule 11, where it is the root, or one was noted.
+fn note_parent(
+    image: &Image,
+    geometry: &Geometry,
+    entry: &Entry,
+    ups: &[Option<u16>],
+    parents: &mut [Option<u16>],
+) -> Option<Finding>
     requires fits { Fits geometry.now image.now }
-    requires kinds { HasKinds geometry.now image.now }
-    requires first { 1 ≤ entry.now.slot.inode }
-    requires last { entry.now.slot.inode ≤ geometry.now.last_inode }
-    requires room { length marks.old ≡ geometry.now.last_inode + 1 }
-    ensures room { length marks.new ≡ geometry.now.last_inode + 1 }
-    ensures fresh { (place : ℕ) → MarksOnce geometry.now image.now place marks.old
-        → IsNextSlot geometry.now image.now place entry.now.directory entry.now.number entry.now.slot → result ≡ true
-        → MarksOnce geometry.now image.now (rank entry.now.directory (entry.now.number + 1)) marks.new }
-    ensures twice { (place : ℕ) → MarksOnce geometry.now image.now place marks.old
-        → IsNextSlot geometry.now image.now place entry.now.directory entry.now.number entry.now.slot → result ≡ false
-        → IsOnce geometry.now image.now → ⊥ }
+    requires ups { length ups.now ≡ geometry.now.last_inode + 1 }
+    requires room { length parents.old ≡ geometry.now.last_inode + 1 }
+    ensures noted { (place : ℕ) → NotesParentsBefore geometry.now image.now ups.now place parents.old
+        → IsNextSlot geometry.now image.now place entry.now.directory entry.now.number entry.now.slot
+        → NotesParentsBefore geometry.now image.now ups.now (rank entry.now.directory (entry.now.number + 1)) parents.new }
+    ensures fresh { IfNone result ((place : ℕ) → NotesParentsBefore geometry.now image.now ups.now place parents.old
+        → HasOnceBefore geometry.now image.now place
+        → IsNextSlot geometry.now image.now place entry.now.directory entry.now.number entry.now.slot
+        → HasOnceBefore geometry.now image.now (rank entry.now.directory (entry.now.number + 1))) }
+    ensures again { IfSome result (λ finding. (place : ℕ) → NotesParentsBefore geometry.now image.now ups.now place parents.old
+        → HasOnceBefore geometry.now image.now place
+        → IsNextSlot geometry.now image.now place entry.now.directory entry.now.number entry.now.slot
+        → IsEnteredAgain geometry.now image.now finding) }
 {
-    if !enters_directory(image, geometry, entry) {
-        return true;
+    if entry.is_dots() {
+        return None;
     }
-    if marks[entry.slot.inode as usize] {
-        return false;
+    let child = entry.slot.inode;
+    if child == geometry.edition.constants().root {
+        return Some(Finding::RootEntered(entry.directory, entry.number));
     }
-    marks[entry.slot.inode as usize] = true;
-    true
+    if !is_numbered_directory(image, geometry, child) {
+        return None;
+    }
+    let is_second = parents[child as usize].is_some();
+    if is_second && ups[child as usize] != Some(entry.directory) {
+        return Some(Finding::EnteredTwice(entry.directory, entry.number));
+    }
+    parents[child as usize] = Some(entry.directory);
+    if is_second {
+        return Some(Finding::EnteredTwice(entry.directory, entry.number));
+    }
+    None
 }
 
-/// Whether an entry, of a name other than `.` and `..`, is for a directory.
-fn enters_directory(image: &Image, geometry: &Geometry, entry: &Entry) -> bool
-    requires fits { Fits geometry.now image.now }
-    requires first { 1 ≤ entry.now.slot.inode }
-    requires last { entry.now.slot.inode ≤ geometry.now.last_inode }
-    ensures { IsTrue result ↔ ((is_dots (name_of entry.now.slot.name) ≡ false) × IsDirectory geometry.now image.now entry.now.slot.inode) }
+/// Whether a number is the i-number of a directory of the volume.
+fn is_numbered_directory(image: &Image, geometry: &Geometry, i: u16) -> bool
+    requires { Fits geometry.now image.now }
+    ensures { IsTrue result ↔ IsDirectory geometry.now image.now i }
 {
-    !entry.is_dots() && is_directory(image, geometry, entry.slot.inode)
+    1 <= i && i <= geometry.last_inode && is_directory(image, geometry, i)
 }

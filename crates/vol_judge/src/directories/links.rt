@@ -1,36 +1,31 @@
 //! Rule 12: the link counts.
-ghost use Rattle.std.specs.Prelude.{ℕ, ◌≤◌, IsTrue, ◌↔◌, slice_index};
+ghost use Rattle.std.specs.Prelude.{◌≤◌, IsTrue, ◌↔◌};
 ghost use Rattle.vol_layout.specs.Geometry.{Fits};
 ghost use Rattle.vol_judge.specs.Directories.{HasLinks};
 ghost use Rattle.vol_judge.specs.Counting.{HasCounts, IsCounted};
+ghost use Rattle.vol_judge.specs.Finds.{Finds};
+ghost use Rattle.vol_judge.specs.Links.{IsFirstLink};
 
+use crate::finding::Finding;
 use pdp_words::Image;
 use vol_layout::i_list::{inode, kind};
 use vol_layout::{Geometry, Kind};
 
-/// Whether rule 12 holds, by the number of the entries that each i-number has.
+/// What breaks rule 12 first: the first i-node whose link count is wrong, by how many entries each i-number has.
 ///
 /// Costs a look at each i-node. Takes no memory.
-pub(crate) fn has_links(image: &Image, geometry: &Geometry, counts: &[u64]) -> bool
+pub fn find_link(image: &Image, geometry: &Geometry, counts: &[u64]) -> Option<Finding>
     requires fits { Fits geometry.now image.now }
     requires counts { HasCounts geometry.now image.now counts.now }
-    ensures { IsTrue result ↔ HasLinks geometry.now image.now }
-{
-    are_counted(image, geometry, counts)
-}
-
-/// Whether the link count of each allocated i-node is right, by the number of its entries.
-fn are_counted(image: &Image, geometry: &Geometry, counts: &[u64]) -> bool
-    requires fits { Fits geometry.now image.now }
-    requires counts { HasCounts geometry.now image.now counts.now }
-    ensures { IsTrue result ↔ ((i : ℕ) → 1 ≤ i → i ≤ geometry.now.last_inode → IsCounted geometry.now image.now i (slice_index counts.now i)) }
+    ensures { Finds (HasLinks geometry.now image.now) (IsFirstLink geometry.now image.now) result }
 {
     for i in 1..=geometry.last_inode {
-        if !is_counted(image, geometry, i, counts[i as usize]) {
-            return false;
+        let entries = counts[i as usize];
+        if !is_counted(image, geometry, i, entries) {
+            return Some(Finding::BadLinks(i, entries, inode(image, geometry, i).links));
         }
     }
-    true
+    None
 }
 
 /// Whether i-node `i` is free or has this link count, and at least 1 from the root's i-number on.

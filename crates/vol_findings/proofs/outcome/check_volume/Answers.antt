@@ -3,12 +3,12 @@ use Rattle.vol_free.specs.Stack.{HasStack}
 use Rattle.vol_file.specs.Rules.{HasKinds, HasSizes, IsZoned}
 use Rattle.vol_dir.specs.Entries.{HasEntries}
 use Rattle.vol_judge.specs.Directories.{IsTree, HasLinks}
-use Rattle.vol_findings.specs.Entries.{IsFirstEntry}
+use Rattle.vol_judge.specs.Entries.{IsFirstEntry}
 use Rattle.vol_findings.specs.FreeList.{IsFirstFault}
-use Rattle.vol_findings.specs.INodes.{IsFirstKind, IsFirstSize}
-use Rattle.vol_findings.specs.Links.{IsFirstLink}
-use Rattle.vol_findings.specs.Tree.{IsFirstTree}
-use Rattle.vol_findings.specs.Zones.{IsFirstOutside}
+use Rattle.vol_judge.specs.INodes.{IsFirstKind, IsFirstSize}
+use Rattle.vol_judge.specs.Links.{IsFirstLink}
+use Rattle.vol_judge.specs.Tree.{IsFirstTree}
+use Rattle.vol_judge.specs.Zones.{IsFirstOutside}
 use Rattle.vol_findings.proofs.Telling.{said_as}
 use Rattle.vol_findings.proofs.outcome.check_volume.Goals as goal
 
@@ -22,15 +22,15 @@ returns c =
       bounded = refl;
       kinds = said_as (HasKinds g image) (IsFirstKind g image) ⊥ c.find_kind.result c.of-kinds.result asked c.find_kind.ensures c.of-kinds.ensures;
       sizes = said_as (HasSizes g image) (IsFirstSize g image) ⊥ c.find_size.result c.of-sizes.result asked c.find_size.ensures c.of-sizes.ensures;
-      zoned = said_as (IsZoned g image) (IsFirstOutside g image) ⊥ c.in_ok-find_outside.field-0 c.of-zoned.result asked
-          c.in_ok-find_outside.ensures c.of-zoned.ensures;
+      zoned = said_as (IsZoned g image) (IsFirstOutside g image) ⊥ c.find_outside.result c.of-zoned.result asked
+          c.find_outside.ensures c.of-zoned.ensures;
       listed = said_as (HasStack g image) (IsFirstFault g image) ⊥ c.in_ok-find_fault.field-0 c.of-listed.result asked
           c.in_ok-find_fault.ensures c.of-listed.ensures;
       apart = c.in_ok-apart.ensures;
       covered = c.in_ok-covered.ensures;
       entries = said_as (HasEntries g image) (IsFirstEntry g image) ⊥ c.in_ok-find_entry.field-0 c.of-entries.result asked
           c.in_ok-find_entry.ensures c.of-entries.ensures;
-      dots = c.in_ok-dots.ensures;
+      dots = c.check_dots-dots.ensures;
       tree = said_as (IsTree g image) (IsFirstTree g image) ⊥ c.in_ok-find_tree.field-0 c.of-tree.result asked c.in_ok-find_tree.ensures c.of-tree.ensures;
-      links = said_as (HasLinks g image) (IsFirstLink g image) ⊥ c.in_ok-find_link.field-0 c.of-links.result asked c.in_ok-find_link.ensures c.of-links.ensures;
+      links = said_as (HasLinks g image) (IsFirstLink g image) ⊥ c.find_link.result c.of-links.result asked c.find_link.ensures c.of-links.ensures;
     }

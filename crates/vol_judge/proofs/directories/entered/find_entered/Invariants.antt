@@ -1,17 +1,16 @@
-use Rattle.std.proofs.Common.{◌≡◌, ◌-◌, ◌+◌, ◌≤◌, true, false, length}
+use Rattle.std.proofs.Common.{◌-◌, ◌≤◌, IfNone, IfSome}
 use Rattle.vol_judge.specs.Counting.{CountsBefore}
-use Rattle.vol_judge.specs.InodeMarks.{IsOnce, MarksChildren, MarksOnce}
 use Rattle.vol_judge.specs.Stepping.{rank}
+use Rattle.vol_judge.specs.Tree.{NotesParentsBefore, HasOnceBefore, IsEnteredAgain}
 use Rattle.vol_judge.proofs.directories.entered.find_entered.Given as goal
 
 -- the entries before the place are gone over
 abbrev pub invariant-loop-entry : goal.invariant-loop-entry
 invariant-loop-entry l = record {
   first : 1 ≤ l.place.directory;
-  children : MarksChildren l.geometry l.image l.ups (rank l.place.directory l.place.slot) l.children.items;
-  room : length l.directories.items ≡ l.geometry.last_inode + 1;
-  once : l.once ≡ true → MarksOnce l.geometry l.image (rank l.place.directory l.place.slot) l.directories.items;
-  twice : l.once ≡ false → IsOnce l.geometry l.image → ⊥;
+  parents : NotesParentsBefore l.geometry l.image l.ups (rank l.place.directory l.place.slot) l.parents.items;
+  once : IfNone l.again (HasOnceBefore l.geometry l.image (rank l.place.directory l.place.slot));
+  again : IfSome l.again (IsEnteredAgain l.geometry l.image);
   counts : CountsBefore l.geometry l.image (rank l.place.directory l.place.slot) l.counts.items;
 }
 

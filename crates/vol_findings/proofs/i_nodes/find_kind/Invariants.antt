@@ -1,6 +1,0 @@
-use Rattle.vol_findings.specs.INodes.{AreKnownBelow}
-use Rattle.vol_findings.proofs.i_nodes.find_kind.Given as goal
-
--- no mode below i is odd
-abbrev pub invariant-loop-i : goal.invariant-loop-i
-invariant-loop-i l = AreKnownBelow l.geometry l.image l.i

@@ -1,9 +1,0 @@
-use Rattle.vol_judge.specs.Reaching.{WalksUp, unwalked}
-use Rattle.vol_findings.proofs.tree.goes_to_root.Given as goal
-
--- the way has come as far as `at`
-abbrev pub invariant-loop-walks : goal.invariant-loop-walks
-invariant-loop-walks l = WalksUp l.geometry l.image l.parents l.d l.at l.walks
-
-abbrev pub decreases-loop-walks : goal.decreases-loop-walks
-decreases-loop-walks l = unwalked l.walks

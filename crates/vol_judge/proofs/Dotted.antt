@@ -1,0 +1,123 @@
+-- Rule 10, by one directory after the other.
+use Rattle.std.proofs.Common.{◌≡◌, ◌≢◌, ℕ, ◌+◌, ◌<◌, ◌≤◌, ◌∙◌, Bool, true, not, nat_eq, inl, inr, IsTrue, ◌↔◌, List, Option, None, Some, get_or, refl, sym, ap, arith, eqb-true, eq-eqb}
+use Rattle.std.specs.Option.{option_eq}
+use Rattle.std.proofs.Math.Dec.{eqb}
+use Rattle.std.proofs.lemmas.Bool.{cases_eq, cases_lt, cases_Bool}
+use borrow.Author.Count.{below_more}
+use Rattle.vol_layout.specs.Geometry.{Fits}
+use Rattle.vol_layout.specs.declared.geometry.Geometry.{Geometry}
+use Rattle.vol_dir.specs.Entries.{IsDirectory}
+use Rattle.vol_dir.specs.Names.{dot_dot}
+use Rattle.vol_judge.specs.Directories.{root_of, HasDots}
+use Rattle.vol_judge.specs.Dots.{NeedsDots, NamesItself, NamesParent, KeepsDots, KnowsDots, IsBeforeFirst}
+use Rattle.vol_judge.specs.InodeMarks.{IsNamed}
+use Rattle.vol_judge.specs.Tree.{NotesParents}
+use Rattle.vol_judge.proofs.Deciding.{not_true, not_false, same_option, other_option}
+
+-- where rule 10 holds, each directory and the root have their entries
+pub each_keeps : {geometry : Geometry} {image : List ℕ} → HasDots geometry image → (d : ℕ) → NeedsDots geometry image d → KeepsDots geometry image d
+each_keeps {geometry = geometry} {image = image} rule d needs =
+    let is : IsDirectory geometry image d = elim needs [ inl is ↦ is | inr same ↦ rw same rule.root.1.directory ] in
+    record {
+      own = rule.itself d is;
+      parent = record { root = λ same. rw same rule.root; other = λ other. rule.parent d is other };
+    }
+
+-- and where they have, it holds
+pub all_keep : {geometry : Geometry} {image : List ℕ} → ((d : ℕ) → NeedsDots geometry image d → KeepsDots geometry image d) → HasDots geometry image
+all_keep {geometry = geometry} all = record {
+  itself = λ d is. (all d (inl is)).own;
+  root = (all (root_of geometry) (inr refl)).parent.root refl;
+  parent = λ d is other. (all d (inl is)).parent.other other;
+}
+
+-- what holds below d, and of d, holds below d + 1
+pub keep_more : {geometry : Geometry} {image : List ℕ} (d : ℕ) → ((e : ℕ) → e < d → NeedsDots geometry image e → KeepsDots geometry image e)
+    → (NeedsDots geometry image d → KeepsDots geometry image d) → (e : ℕ) → e < d + 1 → NeedsDots geometry image e → KeepsDots geometry image e
+keep_more {geometry = geometry} {image = image} d below here = below_more (λ e. NeedsDots geometry image e → KeepsDots geometry image e) d below here
+
+-- what holds below one past the last i-number holds of all
+pub keep_all : {geometry : Geometry} {image : List ℕ} (d : ℕ) → Fits geometry image
+    → ((e : ℕ) → e < d → NeedsDots geometry image e → KeepsDots geometry image e) → geometry.last_inode < d → HasDots geometry image
+keep_all {geometry = geometry} d fits below last =
+    all_keep (λ e needs. below e (elim needs [ inl is ↦ omega (arith, is.last) | inr same ↦ omega (arith, same, fits.root) ]) needs)
+
+-- a directory that isn't the first that doesn't name itself, and comes after none, comes before it
+before_first : (nameless : Option ℕ) (d : ℕ) → ((n : ℕ) → nameless ≡ Some n → d ≤ n) → (nameless ≡ Some d → ⊥) → IsBeforeFirst nameless d
+before_first nameless d reached other n is = elim (cases_eq d n) [
+  | inl same ↦ absurd (other (is ∙ ap Some (sym same)))
+  | inr apart ↦ let low = reached n is in omega (arith, low, apart)
+]
+
+-- the first directory that doesn't name itself tells whether one does that doesn't come after it
+pub itself_decides : {geometry : Geometry} {image : List ℕ} {ups : List (Option ℕ)} {nameless : Option ℕ} {d : ℕ} (b : Bool)
+    → KnowsDots geometry image ups nameless → IsDirectory geometry image d → ((n : ℕ) → nameless ≡ Some n → d ≤ n)
+    → b ≡ not (option_eq eqb nameless (Some d)) → IsTrue b ↔ NamesItself geometry image d
+itself_decides {nameless = nameless} {d = d} b known is reached test = (
+  λ right. known.itself d is (before_first nameless d reached (other_option nameless d (not_true b (option_eq eqb nameless (Some d)) test right))),
+  λ itself.
+      elim (cases_Bool b) [
+        | inl right ↦ right
+        | inr wrong ↦
+            let same = same_option nameless d (not_false b (option_eq eqb nameless (Some d)) test wrong) in
+            absurd ((known.without d same).1 itself)
+      ],
+)
+
+-- and then what it names by `..` is known
+pub up_known : {geometry : Geometry} {image : List ℕ} {ups : List (Option ℕ)} {nameless : Option ℕ} {d : ℕ} (b : Bool)
+    → KnowsDots geometry image ups nameless → IsDirectory geometry image d → ((n : ℕ) → nameless ≡ Some n → d ≤ n)
+    → b ≡ not (option_eq eqb nameless (Some d)) → b ≡ true → IsNamed geometry image d dot_dot (get_or ups d None)
+up_known {nameless = nameless} {d = d} b known is reached test right =
+    known.named d is (before_first nameless d reached (other_option nameless d (not_true b (option_eq eqb nameless (Some d)) test right)))
+
+-- a directory that doesn't come after the first that doesn't name itself
+pub none_before : {geometry : Geometry} {image : List ℕ} {ups : List (Option ℕ)} {nameless : Option ℕ} {d : ℕ} → KnowsDots geometry image ups nameless
+    → ((e : ℕ) → e < d → NeedsDots geometry image e → KeepsDots geometry image e) → (n : ℕ) → nameless ≡ Some n → d ≤ n
+none_before {d = d} known below n is = elim (cases_lt n d) [
+  | inl early ↦ let without = known.without n is in absurd (without.1 (below n early (inl without.0)).own)
+  | inr late ↦ late
+]
+
+-- a directory without an entry `..` doesn't name its parent
+pub no_parent : {geometry : Geometry} {image : List ℕ} {d : ℕ} {number : Option ℕ} → IsNamed geometry image d dot_dot number → number ≡ None
+    → NamesParent geometry image d → ⊥
+no_parent {geometry = geometry} {d = d} named none names = elim (cases_eq d (root_of geometry)) [
+  | inl same ↦ let has = names.root same in let up = named.all has.0 d has.1 in cc
+  | inr other ↦ let parent = names.other other in let up = named.all parent.0 parent.1 parent.3 in cc
+]
+
+-- what the root names by `..` tells whether it is its own parent
+pub root_parent : {geometry : Geometry} {image : List ℕ} {d : ℕ} {number : Option ℕ} (up root : ℕ) → IsNamed geometry image d dot_dot number
+    → number ≡ Some up → d ≡ root → d ≡ root_of geometry → IsTrue (nat_eq up root) ↔ NamesParent geometry image d
+root_parent {d = d} up root named some own is = (
+  λ right.
+      let same : up ≡ d = eqb-true up root right ∙ sym own in
+      record { root = λ here. named.only d (some ∙ ap Some same); other = λ other. absurd (other is) },
+  λ names.
+      let has = names.root is in
+      let both : Some up ≡ Some d = sym some ∙ named.all has.0 d has.1 in
+      let same : up ≡ d = cc in
+      eq-eqb up root (same ∙ own),
+)
+
+-- and the directory of an entry for any other, whether that is its parent
+pub other_parent : {geometry : Geometry} {image : List ℕ} {ups parents : List (Option ℕ)} {d : ℕ} (up : ℕ) (b : Bool)
+    → NotesParents geometry image ups parents → IsDirectory geometry image d → IsNamed geometry image d dot_dot (get_or ups d None)
+    → get_or ups d None ≡ Some up → d ≢ root_of geometry → b ≡ option_eq eqb (get_or parents d None) (Some up) → IsTrue b ↔ NamesParent geometry image d
+other_parent {parents = parents} {d = d} up b notes is named some other test = (
+  λ right.
+      let has = named.only up some in
+      let entry = notes.only d up (same_option (get_or parents d None) up (sym test ∙ right)) in
+      record { root = λ same. absurd (other same); other = λ apart. (has.0, up, entry.0, has.1, entry.1) },
+  λ names.
+      let parent = names.other other in
+      let there = named.all parent.0 parent.1 parent.3 in
+      let both : Some parent.1 ≡ Some up = sym there ∙ some in
+      let same : parent.1 ≡ up = cc in
+      let noted = notes.named parent.1 parent.2 d is other parent.4 there in
+      elim (cases_Bool b) [
+        | inl right ↦ right
+        | inr wrong ↦ absurd (other_option (get_or parents d None) up (sym test ∙ wrong) (noted ∙ ap Some same))
+      ],
+)

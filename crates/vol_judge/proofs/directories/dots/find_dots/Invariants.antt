@@ -1,0 +1,7 @@
+use Rattle.std.proofs.Common.{ℕ, ◌<◌}
+use Rattle.vol_judge.specs.Dots.{NeedsDots, KeepsDots}
+use Rattle.vol_judge.proofs.directories.dots.find_dots.Given as goal
+
+-- the directories before d have their entries
+abbrev pub invariant-loop-d : goal.invariant-loop-d
+invariant-loop-d l = (e : ℕ) → e < l.d → NeedsDots l.geometry l.image e → KeepsDots l.geometry l.image e

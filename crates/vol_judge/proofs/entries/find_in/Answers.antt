@@ -1,0 +1,59 @@
+use Rattle.std.proofs.Common.{◌≡◌, inl, inr, refl}
+use Rattle.vol_layout.specs.Slot.{name_of, padded_name}
+use Rattle.vol_judge.specs.Naming.{is_in}
+use Rattle.vol_judge.proofs.Deciding.{not_true, not_false}
+use Rattle.vol_judge.proofs.Collecting.{below_next, names_next, twice, all_below}
+use Rattle.vol_judge.proofs.NextEntries.{entry_next}
+use Rattle.vol_judge.proofs.FirstEntries.{below_reached, named_reached}
+use Rattle.vol_judge.proofs.entries.find_in.Goals as goal
+
+pub returns-in-Some-find_wrong : goal.returns-in-Some-find_wrong
+returns-in-Some-find_wrong c =
+    let next = c.in-Some.ensures in
+    let found = c.in-Some-find_wrong.ensures in (
+      inr (
+        c.in-Some.s,
+        record {
+          name = name_of c.in-Some.slot.name;
+          inode = c.in-Some.slot.inode;
+          whole = c.loop-s.invariant.whole;
+          below = below_reached c.loop-s.invariant.below next;
+          entry = entry_next next;
+          wrong = inl found.0;
+        },
+      ),
+      λ rule. found.1 (rule.entries c.in-Some.s c.in-Some.slot.inode (name_of c.in-Some.slot.name) (entry_next next)),
+    )
+
+pub returns-then-not-branch : goal.returns-then-not-branch
+returns-then-not-branch c =
+    let next = c.in-Some.ensures in
+    let key : c.stored_name.result ≡ padded_name (name_of c.in-Some.slot.name) = c.stored_name.ensures in
+    let there = rw key at (not_false c.in_ok-insert.field-0 (is_in c.loop-s.names c.stored_name.result) c.in_ok-insert.ensures.added c.if-not-branch.true) in (
+      inr (
+        c.in-Some.s,
+        record {
+          name = name_of c.in-Some.slot.name;
+          inode = c.in-Some.slot.inode;
+          whole = c.loop-s.invariant.whole;
+          below = below_reached c.loop-s.invariant.below next;
+          entry = entry_next next;
+          wrong = inr (refl, c.in_default-find_wrong.ensures, named_reached c.loop-s.invariant.names next there);
+        },
+      ),
+      twice c.loop-s.invariant.names next there,
+    )
+
+pub loop-s-preserved : goal.loop-s-preserved
+loop-s-preserved c =
+    let next = c.in-Some.ensures in
+    let key : c.stored_name.result ≡ padded_name (name_of c.in-Some.slot.name) = c.stored_name.ensures in
+    let new = rw key at (not_true c.in_ok-insert.field-0 (is_in c.loop-s.names c.stored_name.result) c.in_ok-insert.ensures.added c.if-not-branch.false) in
+    record {
+      whole = c.loop-s.invariant.whole;
+      below = below_next c.loop-s.invariant.below c.loop-s.invariant.names next c.in_default-find_wrong.ensures new;
+      names = names_next c.loop-s.invariant.names next (rw key at c.in_ok-insert.ensures.updates);
+    }
+
+pub returns : goal.returns
+returns c = all_below c.loop-s.invariant.whole c.loop-s.invariant.below c.in_default.ensures

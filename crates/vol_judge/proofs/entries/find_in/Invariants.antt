@@ -1,0 +1,15 @@
+use Rattle.std.proofs.Common.{◌≡◌, ◌-◌, ◌%◌}
+use Rattle.vol_file.specs.Rules.{size_of}
+use Rattle.vol_judge.specs.Naming.{HasEntriesBelow, HoldsNamesBelow}
+use Rattle.vol_judge.proofs.entries.find_in.Given as goal
+
+-- rule 9 holds below slot `from`, and the names of the entries there are collected
+abbrev pub invariant-loop-s : goal.invariant-loop-s
+invariant-loop-s l = record {
+  whole : size_of l.geometry l.image l.d % 16 ≡ 0;
+  below : HasEntriesBelow l.geometry l.image l.d l.from;
+  names : HoldsNamesBelow l.geometry l.image l.d l.from l.names;
+}
+
+abbrev pub decreases-loop-s : goal.decreases-loop-s
+decreases-loop-s l = 4294967296 - l.from

@@ -1,0 +1,51 @@
+-- What breaks the rule of entries first.
+use Rattle.std.specs.Prelude.{◌≡◌, ◌≢◌, ℕ, ◌%◌, ◌<◌, ◌≤◌, ◌==◌, ◌⊎◌, true, false, List, [], Some}
+use Rattle.std.specs.List.{list_any}
+use Rattle.vol_layout.specs.Edition.{constants}
+use Rattle.vol_file.specs.Rules.{size_of, kind_at}
+use Rattle.vol_dir.specs.Entries.{entry_at, IsDirectory}
+use Rattle.vol_judge.specs.Naming.{IsValidEntry, HasEntriesBelow, HasEntriesIn, IsNamedBelow}
+use Rattle.vol_layout.specs.declared.geometry.Geometry.{Geometry}
+use Rattle.vol_layout.specs.declared.mode.Kind.TheVariants as kinds
+use Rattle.vol_judge.specs.declared.finding.Finding.{Finding}
+use Rattle.vol_judge.specs.declared.finding.Finding.TheVariants as findings
+
+-- a name is some, and without a slash (rule 9)
+abbrev pub IsName : List ℕ → Type 0
+IsName name = (name ≢ []) × (list_any (λ c. c == 47) name ≡ false)
+
+-- an i-number is one from the root's to the last (rule 9)
+abbrev pub IsNumbered : Geometry → ℕ → Type 0
+IsNumbered geometry i = ((constants geometry.edition).root ≤ i) × (i ≤ geometry.last_inode)
+
+-- what is wrong first with an entry in slot s of directory d, of a name for an i-number: the name, then the number, then what it stands for (rule 9)
+abbrev pub IsWrongEntry : Geometry → List ℕ → ℕ → ℕ → List ℕ → ℕ → Finding → Type 0
+IsWrongEntry geometry image d s name i (findings.NoName e t) = (e ≡ d) × (t ≡ s) × (name ≡ [])
+IsWrongEntry geometry image d s name i (findings.Slash e t) =
+    (e ≡ d) × (t ≡ s) × (name ≢ []) × (list_any (λ c. c == 47) name ≡ true)
+IsWrongEntry geometry image d s name i (findings.BadNumber e t) = (e ≡ d) × (t ≡ s) × IsName name × (IsNumbered geometry i → ⊥)
+IsWrongEntry geometry image d s name i (findings.FreeInode e t) =
+    (e ≡ d) × (t ≡ s) × IsName name × IsNumbered geometry i × (kind_at geometry image i ≡ kinds.Free)
+IsWrongEntry geometry image d s name i _ = ⊥
+
+-- what breaks rule 9 by slot s of directory d, before which it holds: an entry that is wrong, or one of a name that comes before (rule 9)
+pub record IsFirstSlot (geometry : Geometry) (image : List ℕ) (d s : ℕ) (finding : Finding) : Type 0 where
+  pub name : List ℕ
+  pub inode : ℕ
+  pub whole : size_of geometry image d % 16 ≡ 0
+  pub below : HasEntriesBelow geometry image d s
+  pub entry : entry_at geometry image d s ≡ Some (name, inode)
+  pub wrong : IsWrongEntry geometry image d s name inode finding
+      ⊎ ((finding ≡ findings.SameName d s) × IsValidEntry geometry image name inode × IsNamedBelow geometry image d s name)
+
+-- what breaks rule 9 first in directory d: its size, which is no whole slots, or a slot (rule 9)
+abbrev pub IsFirstIn : Geometry → List ℕ → ℕ → Finding → Type 0
+IsFirstIn geometry image d finding =
+    ((finding ≡ findings.PartSlot d) × (size_of geometry image d % 16 ≢ 0)) ⊎ ((s : ℕ) × IsFirstSlot geometry image d s finding)
+
+-- what breaks rule 9 first: of the first directory that does, its size or its first slot that does (this project)
+pub record IsFirstEntry (geometry : Geometry) (image : List ℕ) (finding : Finding) : Type 0 where
+  pub d : ℕ
+  pub directory : IsDirectory geometry image d
+  pub before : (e : ℕ) → e < d → IsDirectory geometry image e → HasEntriesIn geometry image e
+  pub first : IsFirstIn geometry image d finding

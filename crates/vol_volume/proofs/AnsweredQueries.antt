@@ -40,10 +40,9 @@ left_by false false others is = refl
 -- a bad number of a user or group is refused first, then a zero byte
 pub first_refused : (geometry : Geometry) (image : List ℕ) (cred : Cred) (path : List ℕ) (refusal : Refusal)
     → Some refusal ≡ (if is_bad_id geometry.edition cred.uid cred.gid then Some refusals.BadId else if has_zero path then Some refusals.Invalid else None)
-    → IsPathRefused (tree geometry image) cred path refusal
+    → (others : Option Refusal) → then_others (tree geometry image) cred (path ∷ []) others ≡ Some refusal
 unfolding tree
-first_refused geometry image cred path refusal is =
-    λ others. refused_by (is_bad_id geometry.edition cred.uid cred.gid) (has_zero path) (of_node (walk (tree geometry image) cred path) others) refusal is
+first_refused geometry image cred path refusal is others = refused_by (is_bad_id geometry.edition cred.uid cred.gid) (has_zero path) others refusal is
 
 -- what is asked after these
 pub asked : (geometry : Geometry) (image : List ℕ) (cred : Cred) (path : List ℕ) (others : Option Refusal)

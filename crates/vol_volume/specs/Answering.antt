@@ -1,10 +1,10 @@
--- How the answer to a query is found: the way to its node, and names as lists of bytes.
-use Rattle.std.specs.Prelude.{◌≡◌, ℕ, List, [], ◌∷◌, map, Option, Some, Ok}
+-- How the answer to a call or a query is found: the way to its node or its parent, and names as lists of bytes.
+use Rattle.std.specs.Prelude.{◌≡◌, ℕ, Bool, List, [], ◌∷◌, map, Option, Some, Ok}
 use Rattle.std.specs.Global.{Vec}
 use Rattle.vol_dir.specs.Names.{Names}
 use Rattle.vol_dir.specs.Tree.{Tree}
-use Rattle.vol_dir.specs.Walk.{walk}
-use Rattle.vol_volume.specs.Verdict.{then_others, of_node}
+use Rattle.vol_dir.specs.Walk.{walk, walk_parent}
+use Rattle.vol_volume.specs.Verdict.{first_of, then_others, of_node, of_parent}
 use Rattle.vol_dir.specs.declared.cred.Cred.{Cred}
 use Rattle.vol_dir.specs.declared.refusal.Refusal.{Refusal}
 
@@ -17,6 +17,16 @@ IsPathRefused tree cred path refusal =
 pub record LeadsTo (tree : Tree) (cred : Cred) (path : List ℕ) (i : ℕ) : Type 0 where
   pub walked : walk tree cred path ≡ Ok i
   pub asked : (others : ℕ → Option Refusal) → then_others tree cred (path ∷ []) (of_node (walk tree cred path) others) ≡ others i
+
+-- a path is refused, whatever would be asked of its parent and last name (this project)
+abbrev pub IsParentRefused : Tree → Cred → List ℕ → Refusal → Refusal → Type 0
+IsParentRefused tree cred path bare refusal =
+    (tests : ℕ → List ℕ → List (Bool × Refusal)) → then_others tree cred (path ∷ []) (of_parent (walk_parent tree cred path) bare tests) ≡ Some refusal
+
+-- a path leads to directory d and a last name, of which the rest is asked (this project)
+abbrev pub IsParentAsked : Tree → Cred → List ℕ → Refusal → ℕ → List ℕ → Type 0
+IsParentAsked tree cred path bare d name =
+    (tests : ℕ → List ℕ → List (Bool × Refusal)) → then_others tree cred (path ∷ []) (of_parent (walk_parent tree cred path) bare tests) ≡ first_of (tests d name)
 
 -- entries with their names as lists of bytes (this project)
 abbrev pub listed_names : List (Vec ℕ × ℕ) → Names

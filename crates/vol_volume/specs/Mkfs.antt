@@ -1,5 +1,5 @@
 -- What `mkfs` makes: a volume with the root alone. (mkfs of the seventh edition, without its prototype file.)
-use Rattle.std.specs.Prelude.{◌≡◌, ◌≢◌, ℕ, ◌+◌, ◌-◌, ◌*◌, ◌%◌, ◌<◌, ◌≤◌, ◌==◌, ◌&&◌, ◌||◌, Bool, true, nat_lt, nat_le, List, [], ◌∷◌, length, replicate, slice_index, Ok}
+use Rattle.std.specs.Prelude.{◌≡◌, ◌≢◌, ℕ, ◌+◌, ◌-◌, ◌*◌, ◌%◌, ◌<◌, ◌≤◌, ◌==◌, ◌&&◌, Bool, true, nat_lt, nat_le, List, [], ◌∷◌, length, replicate, slice_index, Ok}
 use Rattle.std.specs.List.{range_with_len}
 use Rattle.pdp_words.specs.Words.{long}
 use Rattle.vol_layout.specs.Edition.{constants}

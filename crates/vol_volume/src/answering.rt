@@ -1,5 +1,5 @@
 //! The answers to queries.
-ghost use Rattle.std.specs.Prelude.{◌≡◌, MatchResult, OnOk, IfOk};
+ghost use Rattle.std.specs.Prelude.{◌≡◌, OnOk, IfOk};
 ghost use Rattle.std.specs.Result.{result_err};
 ghost use Rattle.vol_layout.specs.Body.{body};
 ghost use Rattle.vol_layout.specs.Geometry.{geometry_of};
@@ -10,18 +10,18 @@ ghost use Rattle.vol_dir.specs.Tree.{tree};
 ghost use Rattle.vol_judge.specs.Sound.{IsSound};
 ghost use Rattle.vol_change.specs.Nodes.{node_at};
 ghost use Rattle.vol_volume.specs.Answer.{stat_of, list_tests, read_bytes, Answers};
-ghost use Rattle.vol_volume.specs.Answering.{IsPathRefused, LeadsTo, listed_names};
+ghost use Rattle.vol_volume.specs.Answering.{listed_names};
 ghost use Rattle.vol_volume.specs.Standing.{Rules3To7And9};
 ghost use Rattle.vol_volume.specs.Verdict.{first_of};
 
 use crate::bytes::Bytes;
 use crate::queries::{Listing, Query, Reply, Stat};
-use crate::steps::asked::{body_tests, first_tests, is_directory, is_granted, refuse_if};
+use crate::steps::asked::{body_tests, find_node, is_directory, is_granted, refuse_if};
 use crate::steps::stands;
 use pdp_words::Image;
 use std::alloc::{AllocError, Global};
 use std::collections::BTreeMap;
-use vol_dir::{Access, Cred, Refusal, next_entry, walk};
+use vol_dir::{Access, Cred, Refusal, next_entry};
 use vol_layout::i_list::{kind, size};
 use vol_layout::{Geometry, inode};
 
@@ -109,17 +109,6 @@ fn answer_list(
     list_tests(image, geometry, cred, i)?;
     let names = list(alloc, image, geometry, i).map_err(|_| Refusal::NoMemory)?;
     Ok(Reply::Names(Listing::from_vec(names)))
-}
-
-/// The i-number to which a path leads, or why the query is refused before anything is asked of a node.
-fn find_node(image: &Image, geometry: &Geometry, cred: Cred, path: &[u8]) -> Result<u16, Refusal>
-    requires stands { Rules3To7And9 geometry.now image.now }
-    ensures found { MatchResult result (LeadsTo (tree geometry.now image.now) cred path.now)
-        (IsPathRefused (tree geometry.now image.now) cred path.now) }
-    ensures used { IfOk result (λ i. IsInUse geometry.now image.now i) }
-{
-    first_tests(geometry, cred, path)?;
-    walk(image, geometry, cred, path)
 }
 
 /// What is told of i-node `i`.

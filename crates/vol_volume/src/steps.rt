@@ -70,11 +70,11 @@ pub(crate) fn check(
     match call {
         Call::Create { cred, path, .. } => {
             let (_, number) = create::check(image, geometry, free, *cred, path.as_slice())?;
-            return Ok(Done::Made(number));
+            Ok(Done::Made(number))
         }
         Call::Mkdir { cred, path, .. } => {
             let (_, number) = mkdir::check(image, geometry, free, *cred, path.as_slice())?;
-            return Ok(Done::Made(number));
+            Ok(Done::Made(number))
         }
         Call::Link {
             cred,
@@ -84,12 +84,15 @@ pub(crate) fn check(
         } => {
             let source = source.as_slice();
             link::check(image, geometry, free, *cred, source, target.as_slice())?;
+            Ok(Done::Plain)
         }
         Call::Unlink { cred, path, .. } => {
             unlink::check(image, geometry, *cred, path.as_slice())?;
+            Ok(Done::Plain)
         }
         Call::Rmdir { cred, path, .. } => {
             rmdir::check(image, geometry, *cred, path.as_slice())?;
+            Ok(Done::Plain)
         }
         Call::Write {
             cred,
@@ -100,7 +103,7 @@ pub(crate) fn check(
         } => {
             let len = bytes.as_slice().len();
             write::check(image, geometry, free, *cred, path.as_slice(), *offset, len)?;
-            return Ok(Done::Wrote(len as u32));
+            Ok(Done::Wrote(len as u32))
         }
         Call::Truncate {
             cred,
@@ -109,9 +112,11 @@ pub(crate) fn check(
             ..
         } => {
             truncate::check(image, geometry, *cred, path.as_slice(), *length)?;
+            Ok(Done::Plain)
         }
         Call::Chmod { cred, path, .. } => {
             chmod::check(image, geometry, *cred, path.as_slice())?;
+            Ok(Done::Plain)
         }
         Call::Chown {
             cred,
@@ -122,9 +127,9 @@ pub(crate) fn check(
         } => {
             let owner = new_owner(*uid, *gid);
             chown::check(image, geometry, *cred, path.as_slice(), owner)?;
+            Ok(Done::Plain)
         }
     }
-    Ok(Done::Plain)
 }
 
 /// Makes a call, where nothing speaks against it; else the refusal of [`check`], and nothing changes. `free` is

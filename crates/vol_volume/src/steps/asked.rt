@@ -10,7 +10,9 @@ ghost use Rattle.vol_dir.specs.Searching.{new_slot, slot_named};
 ghost use Rattle.vol_dir.specs.Tree.{tree, state};
 ghost use Rattle.vol_dir.specs.Walk.{IsComponent, has_zero, is_directory, walk_parent};
 ghost use Rattle.vol_change.specs.Nodes.{node_at, names_at, size_with_entry};
+ghost use Rattle.vol_volume.specs.Answering.{IsPathRefused, LeadsTo, IsParentRefused, IsParentAsked};
 ghost use Rattle.vol_volume.specs.Ids.{is_bad_id};
+ghost use Rattle.vol_volume.specs.Performing.{LeadsToParent};
 ghost use Rattle.vol_volume.specs.Standing.{Rules3To7And9};
 ghost use Rattle.vol_volume.specs.Verdict.{first_of, has_name, has_others, is_device, has_free_number, is_free_number, is_too_great, is_full, is_owner, of_parent, body_tests};
 ghost use Rattle.vol_change.specs.Ready.{entry_need};
@@ -18,7 +20,7 @@ ghost use Rattle.vol_change.specs.Ready.{entry_need};
 use crate::numbers::{is_free, next_number};
 use crate::sizes::is_bad_id;
 use pdp_words::Image;
-use vol_dir::{Access, Cred, Entry, Refusal, grants, is_empty_dir, lookup, walk_parent};
+use vol_dir::{Access, Cred, Entry, Refusal, grants, is_empty_dir, lookup, walk, walk_parent};
 use vol_file::need;
 use vol_layout::i_list::{kind, size};
 use vol_layout::slot::SLOT;
@@ -218,6 +220,22 @@ pub(crate) fn first_tests(geometry: &Geometry, cred: Cred, path: &[u8]) -> Resul
     refuse_if(has_zero(path), Refusal::Invalid)
 }
 
+/// The node that a path leads to, or why the call is refused before anything is asked of the node.
+pub(crate) fn find_node(
+    image: &Image,
+    geometry: &Geometry,
+    cred: Cred,
+    path: &[u8],
+) -> Result<u16, Refusal>
+    requires stands { Rules3To7And9 geometry.now image.now }
+    ensures found { MatchResult result (LeadsTo (tree geometry.now image.now) cred path.now)
+        (IsPathRefused (tree geometry.now image.now) cred path.now) }
+    ensures used { IfOk result (λ i. IsInUse geometry.now image.now i) }
+{
+    first_tests(geometry, cred, path)?;
+    walk(image, geometry, cred, path)
+}
+
 /// The parent that a path leads to, and its last component. A path without component is refused as `bare`.
 pub(crate) fn parent<'a>(
     image: &Image,
@@ -236,6 +254,24 @@ pub(crate) fn parent<'a>(
     ensures nonzero { has_zero path.now ≡ false → IfOk result (λ found. has_zero found.1.now ≡ false) }
 {
     walk_parent(image, geometry, cred, path).unwrap_or(Err(bare))
+}
+
+/// The parent that a path leads to, and its last component, or why the call is refused before anything is asked of them. A path
+/// without component is refused as `bare`.
+pub(crate) fn find_parent<'a>(
+    image: &Image,
+    geometry: &Geometry,
+    cred: Cred,
+    path: &'a [u8],
+    bare: Refusal,
+) -> Result<(u16, &'a [u8]), Refusal>
+    requires { Rules3To7And9 geometry.now image.now }
+    ensures exact { MatchResult result (λ found. IsParentAsked (tree geometry.now image.now) cred path.now bare found.0 found.1.now)
+        (IsParentRefused (tree geometry.now image.now) cred path.now bare) }
+    ensures leads { IfOk result (λ found. LeadsToParent geometry.now image.now cred path.now found.0 found.1.now) }
+{
+    first_tests(geometry, cred, path)?;
+    parent(image, geometry, cred, path, bare)
 }
 
 /// What is asked of i-node `i`, which is in use, where the bytes of a file are used.

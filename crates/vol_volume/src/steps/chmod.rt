@@ -9,14 +9,13 @@ ghost use Rattle.vol_volume.specs.Standing.{Rules3To7And9};
 ghost use Rattle.vol_volume.specs.Verdict.{first_of, then_others, of_node, chmod_tests, verdict};
 
 use crate::calls::{Call, Done};
-use crate::steps::asked::{first_tests, is_owner, refuse_if};
+use crate::steps::asked::{find_node, is_owner, refuse_if};
 use crate::steps::{Caller, Performed, ready_stands};
 use pdp_words::Image;
-use vol_dir::{Cred, Refusal, walk};
+use vol_dir::{Cred, Refusal};
 use vol_layout::Geometry;
 
 /// What speaks against a call for other permission bits; else the node that gets them.
-#[tactic(auto, using(crate::proofs::NodeReadings::tree_geometry))]
 pub(crate) fn check(
     image: &Image,
     geometry: &Geometry,
@@ -28,8 +27,7 @@ pub(crate) fn check(
         (of_node (walk (tree geometry.now image.now) cred path.now) (λ i. first_of (chmod_tests (tree geometry.now image.now) cred i))) }
     ensures node { IfOk result (λ i. LeadsToNode geometry.now image.now cred path.now i) }
 {
-    first_tests(geometry, cred, path)?;
-    let i = walk(image, geometry, cred, path)?;
+    let i = find_node(image, geometry, cred, path)?;
     refuse_if(!is_owner(image, geometry, i, cred), Refusal::NotOwner)?;
     Ok(i)
 }

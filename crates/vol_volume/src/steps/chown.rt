@@ -11,10 +11,10 @@ ghost use Rattle.vol_volume.specs.Verdict.{first_of, then_others, of_node, chown
 
 use crate::calls::{Call, Done};
 use crate::sizes::is_bad_id;
-use crate::steps::asked::{first_tests, refuse_if};
+use crate::steps::asked::{find_node, refuse_if};
 use crate::steps::{Caller, Performed, ready_stands};
 use pdp_words::Image;
-use vol_dir::{Cred, Refusal, walk};
+use vol_dir::{Cred, Refusal};
 use vol_layout::Geometry;
 
 /// What speaks against a call that gives a node to `owner`; else the node.
@@ -32,12 +32,10 @@ pub(crate) fn check(
         (of_node (walk (tree geometry.now image.now) cred path.now) (λ i. first_of (chown_tests cred)))) }
     ensures node { IfOk result (λ i. LeadsToNode geometry.now image.now cred path.now i) }
 {
-    refuse_if(
-        is_bad_id(geometry.edition, owner.uid, owner.gid),
-        Refusal::BadId,
-    )?;
-    first_tests(geometry, cred, path)?;
-    let i = walk(image, geometry, cred, path)?;
+    if is_bad_id(geometry.edition, owner.uid, owner.gid) {
+        return Err(Refusal::BadId);
+    }
+    let i = find_node(image, geometry, cred, path)?;
     refuse_if(cred.uid != 0, Refusal::NotOwner)?;
     Ok(i)
 }

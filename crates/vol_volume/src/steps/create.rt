@@ -11,8 +11,7 @@ ghost use Rattle.vol_volume.specs.Verdict.{first_of, then_others, of_parent, cre
 
 use crate::calls::{Call, Done};
 use crate::steps::asked::{
-    entry_need, first_tests, free_number, is_granted, is_too_great_with_entry, parent, refuse_if,
-    vacant,
+    entry_need, find_parent, free_number, is_granted, is_too_great_with_entry, refuse_if, vacant,
 };
 use crate::steps::found::{NewEntry, Place};
 use crate::steps::{Performed, ready_stands};
@@ -54,7 +53,6 @@ fn create_tests(
 }
 
 /// What speaks against a call for a new file; else where its entry goes, and the i-number that it would take.
-#[tactic(auto, using(crate::proofs::NodeReadings::tree_geometry))]
 pub(crate) fn check<'a>(
     image: &Image,
     geometry: &Geometry,
@@ -70,8 +68,7 @@ pub(crate) fn check<'a>(
     ensures place { IfOk result (λ found. IsEntryPlace geometry.now image.now found.0.dir found.0.place) }
     ensures number { IfOk result (λ found. is_free_number (tree geometry.now image.now) found.1 ≡ true) }
 {
-    first_tests(geometry, cred, path)?;
-    let (dir, name) = parent(image, geometry, cred, path, Refusal::Exists)?;
+    let (dir, name) = find_parent(image, geometry, cred, path, Refusal::Exists)?;
     let (place, number) = create_tests(image, geometry, free, cred, dir, name)?;
     Ok((NewEntry { dir, name, place }, number))
 }

@@ -10,9 +10,7 @@ ghost use Rattle.vol_volume.specs.Standing.{Rules3To7And9};
 ghost use Rattle.vol_volume.specs.Verdict.{first_of, then_others, of_parent, rmdir_tests, verdict};
 
 use crate::calls::{Call, Done};
-use crate::steps::asked::{
-    entry_of, first_tests, has_others, is_directory, is_granted, parent, refuse_if,
-};
+use crate::steps::asked::{entry_of, find_parent, has_others, is_directory, is_granted, refuse_if};
 use crate::steps::found::OldEntry;
 use crate::steps::{Caller, Performed, ready_stands};
 use pdp_words::Image;
@@ -47,7 +45,6 @@ fn rmdir_tests(
 }
 
 /// What speaks against a call by which a directory goes; else its entry.
-#[tactic(auto, using(crate::proofs::NodeReadings::tree_geometry))]
 pub(crate) fn check<'a>(
     image: &Image,
     geometry: &Geometry,
@@ -60,8 +57,7 @@ pub(crate) fn check<'a>(
     ensures leads { IfOk result (λ found. LeadsToParent geometry.now image.now cred path.now found.dir found.name.now) }
     ensures entry { IfOk result (λ found. IsEntry geometry.now image.now found.dir found.name.now found.entry) }
 {
-    first_tests(geometry, cred, path)?;
-    let (dir, name) = parent(image, geometry, cred, path, Refusal::Invalid)?;
+    let (dir, name) = find_parent(image, geometry, cred, path, Refusal::Invalid)?;
     let entry = rmdir_tests(image, geometry, cred, dir, name)?;
     Ok(OldEntry { dir, name, entry })
 }

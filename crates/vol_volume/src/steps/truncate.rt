@@ -11,10 +11,10 @@ ghost use Rattle.vol_volume.specs.Standing.{Rules3To7And9};
 ghost use Rattle.vol_volume.specs.Verdict.{first_of, then_others, of_node, truncate_tests, verdict};
 
 use crate::calls::{Call, Done};
-use crate::steps::asked::{body_tests, first_tests, refuse_if};
+use crate::steps::asked::{body_tests, find_node, refuse_if};
 use crate::steps::{Caller, Performed, ready_stands};
 use pdp_words::Image;
-use vol_dir::{Access, Cred, Refusal, walk};
+use vol_dir::{Access, Cred, Refusal};
 use vol_layout::i_list::size;
 use vol_layout::{Geometry, Kind};
 
@@ -38,7 +38,6 @@ fn truncate_tests(
 }
 
 /// What speaks against a call of which the first `length` bytes of a file stay; else the file.
-#[tactic(auto, using(crate::proofs::NodeReadings::tree_geometry))]
 pub(crate) fn check(
     image: &Image,
     geometry: &Geometry,
@@ -53,8 +52,7 @@ pub(crate) fn check(
     ensures regular { IfOk result (λ i. kind_at geometry.now image.now i ≡ Kind.Regular) }
     ensures size { IfOk result (λ i. length ≤ size_of geometry.now image.now i) }
 {
-    first_tests(geometry, cred, path)?;
-    let i = walk(image, geometry, cred, path)?;
+    let i = find_node(image, geometry, cred, path)?;
     truncate_tests(image, geometry, cred, i, length)?;
     Ok(i)
 }

@@ -10,7 +10,7 @@ ghost use Rattle.vol_volume.specs.Standing.{Rules3To7And9};
 ghost use Rattle.vol_volume.specs.Verdict.{first_of, then_others, of_parent, unlink_tests, verdict};
 
 use crate::calls::{Call, Done};
-use crate::steps::asked::{entry_of, first_tests, is_directory, is_granted, parent, refuse_if};
+use crate::steps::asked::{entry_of, find_parent, is_directory, is_granted, refuse_if};
 use crate::steps::found::OldEntry;
 use crate::steps::{Caller, Performed, ready_stands};
 use pdp_words::Image;
@@ -43,7 +43,6 @@ fn unlink_tests(
 }
 
 /// What speaks against a call by which a name goes; else its entry.
-#[tactic(auto, using(crate::proofs::NodeReadings::tree_geometry))]
 pub(crate) fn check<'a>(
     image: &Image,
     geometry: &Geometry,
@@ -56,8 +55,7 @@ pub(crate) fn check<'a>(
     ensures leads { IfOk result (λ found. LeadsToParent geometry.now image.now cred path.now found.dir found.name.now) }
     ensures entry { IfOk result (λ found. IsEntry geometry.now image.now found.dir found.name.now found.entry) }
 {
-    first_tests(geometry, cred, path)?;
-    let (dir, name) = parent(image, geometry, cred, path, Refusal::IsDirectory)?;
+    let (dir, name) = find_parent(image, geometry, cred, path, Refusal::IsDirectory)?;
     let entry = unlink_tests(image, geometry, cred, dir, name)?;
     Ok(OldEntry { dir, name, entry })
 }

@@ -12,11 +12,11 @@ ghost use Rattle.vol_volume.specs.Standing.{Rules3To7And9};
 ghost use Rattle.vol_volume.specs.Verdict.{first_of, is_too_great, write_need, is_above_free, then_others, of_node, write_tests, verdict};
 
 use crate::calls::{Call, Done};
-use crate::steps::asked::{body_tests, first_tests, refuse_if};
+use crate::steps::asked::{body_tests, find_node, refuse_if};
 use crate::steps::found::Target;
 use crate::steps::{Caller, Performed, ready_stands};
 use pdp_words::Image;
-use vol_dir::{Access, Cred, Refusal, walk};
+use vol_dir::{Access, Cred, Refusal};
 use vol_file::need;
 use vol_layout::{Geometry, Kind};
 
@@ -80,7 +80,6 @@ fn write_tests(
 
 /// What speaks against a call that writes `len` bytes from byte `offset` on; else the file, and how many blocks
 /// that needs.
-#[tactic(auto, using(crate::proofs::NodeReadings::tree_geometry))]
 pub(crate) fn check(
     image: &Image,
     geometry: &Geometry,
@@ -98,8 +97,7 @@ pub(crate) fn check(
     ensures needed { IfOk result (λ target. target.needed ≡ write_need (state geometry.now image.now) target.inode offset len) }
     ensures short { OnOk result (len < 2 ^ 32) }
 {
-    first_tests(geometry, cred, path)?;
-    let inode = walk(image, geometry, cred, path)?;
+    let inode = find_node(image, geometry, cred, path)?;
     let needed = write_tests(image, geometry, free, cred, inode, offset, len)?;
     Ok(Target { inode, needed })
 }

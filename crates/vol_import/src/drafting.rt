@@ -5,7 +5,6 @@ ghost use Rattle.vol_volume.specs.Volume.{reads_as};
 ghost use Rattle.vol_volume.specs.declared.queries.Query.TheVariants as questions;
 ghost use Rattle.vol_import.specs.Plan.{user, is_directory_kind, is_directory, with_path, is_missing, way_call, with_way_directory, is_step, steps_of, joined, with_way, with_calls, drafted};
 
-use crate::long_names::copy;
 use crate::step_path::StepPath;
 use std::alloc::{AllocError, Global};
 use std::collections::BTreeSet;

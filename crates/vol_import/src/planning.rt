@@ -5,7 +5,6 @@ ghost use Rattle.vol_import.specs.Plan.{below, check, permissions_of, moment_of,
 
 use crate::checking::{Made, MemberFault, check};
 use crate::drafting::{Draft, USER, is_missing, joined, push_way, steps_of};
-use crate::long_names::copy;
 use crate::reading::Member;
 use std::alloc::{AllocError, Global};
 use ustar::ReadHeader;
@@ -134,7 +133,7 @@ fn push_made(
 }
 
 /// The path of a member below another path.
-fn below(alloc: Global, base: &[u8], path: &[u8]) -> Result<Bytes, AllocError>
+pub fn below(alloc: Global, base: &[u8], path: &[u8]) -> Result<Bytes, AllocError>
     ensures { IfOk result (λ whole. whole ≡ below base.now path.now) }
 {
     let mut bytes = Vec::from_slice(alloc, base)?;
@@ -194,7 +193,7 @@ fn push_write(
     draft.push(Call::Write {
         cred: USER,
         now: moment,
-        path: copy(alloc, path)?,
+        path: Bytes::from_slice(alloc, path)?,
         offset: 0,
         bytes: content,
     })
@@ -215,7 +214,7 @@ fn push_file(
     draft.push(Call::Create {
         cred: USER,
         now: moment,
-        path: copy(alloc, path.as_slice())?,
+        path: Bytes::from_slice(alloc, path.as_slice())?,
         perm,
     })?;
     push_write(alloc, moment, path.as_slice(), content, draft)?;
@@ -236,7 +235,7 @@ fn push_directory(
     draft.push(Call::Mkdir {
         cred: USER,
         now: moment,
-        path: copy(alloc, path.as_slice())?,
+        path: Bytes::from_slice(alloc, path.as_slice())?,
         perm,
     })?;
     push_owner(moment, path, owner, draft)

@@ -1,12 +1,12 @@
 //! The calls that take away what a path leads to.
 ghost use Rattle.std.specs.Prelude.{◌≡◌, ◌++◌, ◌∷◌, [], IfOk, IfErr, OnOk, Some};
 ghost use Rattle.vol_volume.specs.Volume.{reads_as};
-ghost use Rattle.vol_import.specs.Plan.{below};
 ghost use Rattle.vol_removal.specs.Removal.{IsFound, IsNotFound, IsRemoval, Takes, names_of, path_of, paths_of, call_of};
 
 use crate::faults::RemovalFault;
 use std::alloc::{AllocError, Global};
 use vol_dir::{Cred, Refusal, is_dots};
+use vol_import::planning::below;
 use vol_volume::{Bytes, Call, Listing, Query, Reply, Volume};
 
 /// Who makes the calls: user 0, who passes every test.
@@ -30,15 +30,8 @@ pub fn removal(
     ensures calls { IfOk result (λ calls. IsRemoval (reads_as volume.now.edition volume.now.image).tree path.now now calls.items) }
     ensures fault { IfErr result (IsNotFound (reads_as volume.now.edition volume.now.image).tree path.now) }
 {
-    find(alloc, volume, copy(alloc, path)?)?;
-    Ok(calls_for(alloc, volume, copy(alloc, path)?, now)?)
-}
-
-/// Some bytes, copied.
-fn copy(alloc: Global, bytes: &[u8]) -> Result<Bytes, AllocError>
-    ensures { IfOk result (λ copied. copied ≡ bytes.now) }
-{
-    Ok(Bytes::from_vec(Vec::from_slice(alloc, bytes)?))
+    find(alloc, volume, Bytes::from_slice(alloc, path)?)?;
+    Ok(calls_for(alloc, volume, Bytes::from_slice(alloc, path)?, now)?)
 }
 
 /// Asks whether a path leads to anything.
@@ -77,7 +70,7 @@ fn call_for(
     ensures call { IfOk result (λ call. call ≡ call_of now path (names_of (reads_as volume.now.edition volume.now.image).tree path)) }
     ensures pending { OnOk result (pending.new.items ≡ pending.old.items ++ paths_of path (names_of (reads_as volume.now.edition volume.now.image).tree path)) }
 {
-    let Some(names) = names_of(alloc, volume, copy(alloc, path.as_slice())?)? else {
+    let Some(names) = names_of(alloc, volume, Bytes::from_slice(alloc, path.as_slice())?)? else {
         return Ok(Call::Unlink {
             cred: USER,
             now,
@@ -131,14 +124,4 @@ fn push_path(
         pending.push(below(alloc, path, name)?)?;
     }
     Ok(())
-}
-
-/// The path of a name below another path.
-fn below(alloc: Global, base: &[u8], name: &[u8]) -> Result<Bytes, AllocError>
-    ensures { IfOk result (λ whole. whole ≡ below base.now name.now) }
-{
-    let mut bytes = Vec::from_slice(alloc, base)?;
-    bytes.push(b'/')?;
-    bytes.extend_from_slice(name)?;
-    Ok(Bytes::from_vec(bytes))
 }

@@ -1,9 +1,10 @@
 //! Bytes that calls and replies hold.
-ghost use Rattle.std.specs.Prelude.{◌≡◌, ◌==◌};
+ghost use Rattle.std.specs.Prelude.{◌≡◌, ◌==◌, IfOk};
 ghost use Rattle.std.specs.Cmp.Lexicographic.{pointwise};
 ghost use Rattle.std.specs.Cmp.Rules.{comparing};
 ghost use Rattle.std.proofs.Common.{rules};
 
+use std::alloc::{AllocError, Global};
 use std::marker::Model;
 
 /// Some bytes: a path, what is to be written, or what was read. A caller sees them as a list.
@@ -26,6 +27,13 @@ impl Bytes {
         ensures { result ≡ bytes.items }
     {
         Bytes { bytes }
+    }
+
+    /// A copy of these bytes.
+    pub fn from_slice(alloc: Global, bytes: &[u8]) -> Result<Bytes, AllocError>
+        ensures { IfOk result (λ copy. copy ≡ bytes.now) }
+    {
+        Ok(Bytes::from_vec(Vec::from_slice(alloc, bytes)?))
     }
 
     /// The bytes, given back. Takes no memory.

@@ -2,7 +2,7 @@
 ghost use Rattle.std.specs.Prelude.{◌≡◌, ◌⊎◌, IfOk, IfErr, OnOk, Ok};
 ghost use Rattle.vol_judge.specs.Sound.{IsSound};
 ghost use Rattle.vol_volume.specs.Volume.{mounted, reads_as};
-ghost use Rattle.vol_import.specs.Making.{AreMade, AreStopped, IsUnmounted, unmounted, unread, unplanned, told, calls_to_make, IsStop, Tells, Imports, IsReason};
+ghost use Rattle.vol_import.specs.Making.{AreMade, AreStopped, IsUnmounted, unread, unplanned, told, calls_to_make, IsStop, Tells, Imports, IsReason};
 ghost use Rattle.vol_import.specs.Plan.{plan};
 
 use crate::checking::MemberFault;
@@ -29,6 +29,19 @@ pub enum ImportFault {
     NoMemory,
 }
 
+impl From<MountFault> for ImportFault {
+    ghost use Rattle.vol_import.specs.Making.{unmounted};
+
+    ghost from_gives = { λ why fault. fault ≡ unmounted why };
+
+    fn from(fault: MountFault) -> ImportFault {
+        match fault {
+            MountFault::Unsound(rule) => ImportFault::Unsound(rule),
+            MountFault::NoMemory => ImportFault::NoMemory,
+        }
+    }
+}
+
 /// Makes the members of an archive below the path `base` of the volume in some bytes, and answers its bytes then. All calls that
 /// [`plan`] gives are made, in their order and as user 0; or nothing is to be saved, and the fault says why: the image
 /// first, then the archive, the members, and the calls.
@@ -45,42 +58,22 @@ pub fn import(
     ensures made { IfOk result (λ bytes. Imports edition image.items (calls_to_make (reads_as edition image.items).tree archive.now base.now now) bytes.items) }
     ensures fault { IfErr result (IsReason edition image.items (calls_to_make (reads_as edition image.items).tree archive.now base.now now)) }
 {
-    let mut volume = match mount(alloc, edition, image) {
-        Ok(volume) => volume,
-        Err(fault) => return Err(fault),
-    };
-    let calls = match calls_to_make(alloc, &volume, archive, base, now) {
-        Ok(calls) => calls,
-        Err(fault) => return Err(fault),
-    };
-    match make(alloc, &mut volume, calls) {
-        Ok(()) => Ok(volume.unmount()),
-        Err(fault) => Err(fault),
-    }
+    let mut volume = mount(alloc, edition, image)?;
+    let calls = calls_to_make(alloc, &volume, archive, base, now)?;
+    make(alloc, &mut volume, calls)?;
+    Ok(volume.unmount())
 }
 
 /// Mounts the volume in some bytes. Where it isn't sound, or memory runs out, the fault says so.
 ///
 /// Takes memory and costs what [`Volume::mount`] does.
+#[tactic(auto, using(crate::proofs::ImportFaults::is_unmounted))]
 pub fn mount(alloc: Global, edition: Edition, image: Vec<u8>) -> Result<Volume, ImportFault>
     ensures mounted { IfOk result (λ volume. volume ≡ mounted edition image.items) }
     ensures sound { OnOk result (IsSound edition image.items) }
     ensures fault { IfErr result (IsUnmounted edition image.items) }
 {
-    match Volume::mount(alloc, edition, image) {
-        Ok(volume) => Ok(volume),
-        Err((fault, _)) => Err(unmounted(fault)),
-    }
-}
-
-/// A volume isn't mounted, for this reason.
-fn unmounted(fault: MountFault) -> ImportFault
-    ensures { result ≡ unmounted fault }
-{
-    match fault {
-        MountFault::Unsound(rule) => ImportFault::Unsound(rule),
-        MountFault::NoMemory => ImportFault::NoMemory,
-    }
+    Volume::mount(alloc, edition, image).map_err(|(fault, _)| ImportFault::from(fault))
 }
 
 /// An archive can't be read, for this reason.

@@ -3,7 +3,7 @@ ghost use Rattle.std.specs.Prelude.{◌≡◌};
 
 use std::alloc::AllocError;
 use vol_dir::Refusal;
-use vol_volume::Call;
+use vol_volume::{Call, MountFault};
 
 /// Why what a path leads to isn't taken away.
 #[derive(Debug, Drop)]
@@ -25,5 +25,18 @@ impl From<AllocError> for RemovalFault {
 
     fn from(_: AllocError) -> RemovalFault {
         RemovalFault::NoMemory
+    }
+}
+
+impl From<MountFault> for RemovalFault {
+    ghost use Rattle.vol_removal.specs.Removing.{unmounted};
+
+    ghost from_gives = { λ why fault. fault ≡ unmounted why };
+
+    fn from(fault: MountFault) -> RemovalFault {
+        match fault {
+            MountFault::Unsound(rule) => RemovalFault::Unsound(rule),
+            MountFault::NoMemory => RemovalFault::NoMemory,
+        }
     }
 }

@@ -3,7 +3,7 @@ ghost use Rattle.std.specs.Prelude.{◌≡◌, IfOk, IfErr, OnOk};
 ghost use Rattle.vol_judge.specs.Sound.{IsSound};
 ghost use Rattle.vol_volume.specs.Volume.{mounted};
 ghost use Rattle.vol_import.specs.Making.{AreMade};
-ghost use Rattle.vol_removal.specs.Removing.{Removes, IsReason, IsUnmounted, IsStop, unmounted};
+ghost use Rattle.vol_removal.specs.Removing.{Removes, IsReason, IsUnmounted, IsStop};
 
 use crate::faults::RemovalFault;
 use crate::planning::removal;
@@ -11,7 +11,7 @@ use std::alloc::Global;
 use vol_dir::Refusal;
 use vol_import::make_all;
 use vol_layout::Edition;
-use vol_volume::{Call, MountFault, Volume};
+use vol_volume::{Call, Volume};
 
 /// Takes away what a path of the volume in some bytes leads to, and of a directory all that is below it, and answers the bytes of
 /// the volume then, in which the path leads to nothing. All calls that [`removal`] gives are made, in their order and as user 0; or
@@ -29,40 +29,20 @@ pub fn remove_all(
     ensures removed { IfOk result (λ bytes. Removes edition image.items path.now now bytes.items) }
     ensures fault { IfErr result (IsReason edition image.items path.now now) }
 {
-    let mut volume = match mount(alloc, edition, image) {
-        Ok(volume) => volume,
-        Err(fault) => return Err(fault),
-    };
-    let calls = match removal(alloc, &volume, path, now) {
-        Ok(calls) => calls,
-        Err(fault) => return Err(fault),
-    };
-    match make(alloc, &mut volume, calls) {
-        Ok(()) => Ok(volume.unmount()),
-        Err(fault) => Err(fault),
-    }
+    let mut volume = mount(alloc, edition, image)?;
+    let calls = removal(alloc, &volume, path, now)?;
+    make(alloc, &mut volume, calls)?;
+    Ok(volume.unmount())
 }
 
 /// Mounts the volume in some bytes.
+#[tactic(auto, using(crate::proofs::Removals::is_unmounted))]
 fn mount(alloc: Global, edition: Edition, image: Vec<u8>) -> Result<Volume, RemovalFault>
     ensures mounted { IfOk result (λ volume. volume ≡ mounted edition image.items) }
     ensures sound { OnOk result (IsSound edition image.items) }
     ensures fault { IfErr result (IsUnmounted edition image.items) }
 {
-    match Volume::mount(alloc, edition, image) {
-        Ok(volume) => Ok(volume),
-        Err((fault, _)) => Err(unmounted(fault)),
-    }
-}
-
-/// A volume isn't mounted, for this reason.
-fn unmounted(fault: MountFault) -> RemovalFault
-    ensures { result ≡ unmounted fault }
-{
-    match fault {
-        MountFault::Unsound(rule) => RemovalFault::Unsound(rule),
-        MountFault::NoMemory => RemovalFault::NoMemory,
-    }
+    Volume::mount(alloc, edition, image).map_err(|(fault, _)| RemovalFault::from(fault))
 }
 
 /// Makes calls on a volume, and tells which of them is refused.

@@ -1,18 +1,24 @@
+use Rattle.std.proofs.lemmas.Result.{err_from_is_err_and}
 use Rattle.vol_import.proofs.ImportFaults.{no_volume, no_calls, not_made, all_made}
 use Rattle.vol_import.proofs.making.import.Goals as goal
 
-pub returns-in-Err-clause-fault : goal.returns-in-Err-clause-fault
-returns-in-Err-clause-fault c = no_volume _ _ _ _ c.in-Err.ensures.fault
+pub returns-in_err-volume-clause-fault : goal.returns-in_err-volume-clause-fault
+returns-in_err-volume-clause-fault c =
+    let p = err_from_is_err_and c.from_residual.result c.from_residual.ensures.1 in
+    rw (p.1, p.2) (no_volume _ _ _ _ c.in_err-volume.ensures.fault)
 
-pub returns-in-Err-calls_to_make-clause-fault : goal.returns-in-Err-calls_to_make-clause-fault
-returns-in-Err-calls_to_make-clause-fault c =
-    no_calls _ _ _ _ _ _ _ c.in-Ok.ensures.sound c.in-Ok.ensures.mounted c.in-Err-calls_to_make.ensures.fault
+pub returns-in_err-calls-clause-fault : goal.returns-in_err-calls-clause-fault
+returns-in_err-calls-clause-fault c =
+    let p = err_from_is_err_and c.from_residual-in_err-calls.result c.from_residual-in_err-calls.ensures.1 in
+    rw (p.1, p.2) (no_calls _ _ _ _ _ _ _ c.in_ok-volume.ensures.sound c.in_ok-volume.ensures.mounted c.in_err-calls.ensures.fault)
 
-pub returns-in-Err-make-clause-fault : goal.returns-in-Err-make-clause-fault
-returns-in-Err-make-clause-fault c =
-    not_made _ _ _ _ _ _ _ _ _ c.in-Ok.ensures.sound c.in-Ok.ensures.mounted c.in-Ok-calls_to_make.ensures.ok c.in-Err-make.ensures.fault
+pub returns-in_err-make-clause-fault : goal.returns-in_err-make-clause-fault
+returns-in_err-make-clause-fault c =
+    let p = err_from_is_err_and c.from_residual-in_err-make.result c.from_residual-in_err-make.ensures.1 in
+    rw (p.1, p.2)
+    (not_made _ _ _ _ _ _ _ _ _ c.in_ok-volume.ensures.sound c.in_ok-volume.ensures.mounted c.in_ok-calls.ensures.ok c.in_err-make.ensures.fault)
 
-pub returns-in-Ok-make-clause-made : goal.returns-in-Ok-make-clause-made
-returns-in-Ok-make-clause-made c =
-    all_made _ _ _ _ _ _ _ _ _ c.in-Ok.ensures.sound c.in-Ok.ensures.mounted c.in-Ok-calls_to_make.ensures.ok c.in-Ok-make.ensures.made
+pub returns-clause-made : goal.returns-clause-made
+returns-clause-made c =
+    all_made _ _ _ _ _ _ _ _ _ c.in_ok-volume.ensures.sound c.in_ok-volume.ensures.mounted c.in_ok-calls.ensures.ok c.in_ok-make.ensures.made
     c.unmount.ensures.consistent c.unmount.ensures.bytes

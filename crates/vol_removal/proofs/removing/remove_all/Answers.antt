@@ -1,17 +1,23 @@
+use Rattle.std.proofs.lemmas.Result.{err_from_is_err_and}
 use Rattle.vol_removal.proofs.Removals.{no_volume, not_found, not_made, all_removed}
 use Rattle.vol_removal.proofs.removing.remove_all.Goals as goal
 
-pub returns-in-Err-clause-fault : goal.returns-in-Err-clause-fault
-returns-in-Err-clause-fault c = no_volume _ _ _ _ _ c.in-Err.ensures.fault
+pub returns-in_err-volume-clause-fault : goal.returns-in_err-volume-clause-fault
+returns-in_err-volume-clause-fault c =
+    let p = err_from_is_err_and c.from_residual.result c.from_residual.ensures.1 in
+    rw (p.1, p.2) (no_volume _ _ _ _ _ c.in_err-volume.ensures.fault)
 
-pub returns-in-Err-removal-clause-fault : goal.returns-in-Err-removal-clause-fault
-returns-in-Err-removal-clause-fault c = not_found _ _ _ _ _ _ c.in-Ok.ensures.sound c.in-Ok.ensures.mounted c.in-Err-removal.ensures.fault
+pub returns-in_err-calls-clause-fault : goal.returns-in_err-calls-clause-fault
+returns-in_err-calls-clause-fault c =
+    let p = err_from_is_err_and c.from_residual-in_err-calls.result c.from_residual-in_err-calls.ensures.1 in
+    rw (p.1, p.2) (not_found _ _ _ _ _ _ c.in_ok-volume.ensures.sound c.in_ok-volume.ensures.mounted c.in_err-calls.ensures.fault)
 
-pub returns-in-Err-make-clause-fault : goal.returns-in-Err-make-clause-fault
-returns-in-Err-make-clause-fault c =
-    not_made _ _ _ _ _ _ _ _ c.in-Ok.ensures.sound c.in-Ok.ensures.mounted c.in-Ok-removal.ensures.calls c.in-Err-make.ensures.fault
+pub returns-in_err-make-clause-fault : goal.returns-in_err-make-clause-fault
+returns-in_err-make-clause-fault c =
+    let p = err_from_is_err_and c.from_residual-in_err-make.result c.from_residual-in_err-make.ensures.1 in
+    rw (p.1, p.2) (not_made _ _ _ _ _ _ _ _ c.in_ok-volume.ensures.sound c.in_ok-volume.ensures.mounted c.in_ok-calls.ensures.calls c.in_err-make.ensures.fault)
 
-pub returns-in-Ok-make-clause-removed : goal.returns-in-Ok-make-clause-removed
-returns-in-Ok-make-clause-removed c =
-    all_removed _ _ _ _ _ _ _ _ c.in-Ok.ensures.sound c.in-Ok.ensures.mounted c.in-Ok-removal.ensures.calls c.in-Ok-make.ensures.made
+pub returns-clause-removed : goal.returns-clause-removed
+returns-clause-removed c =
+    all_removed _ _ _ _ _ _ _ _ c.in_ok-volume.ensures.sound c.in_ok-volume.ensures.mounted c.in_ok-calls.ensures.calls c.in_ok-make.ensures.made
     c.unmount.ensures.consistent c.unmount.ensures.bytes

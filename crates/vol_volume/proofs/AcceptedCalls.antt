@@ -1,5 +1,5 @@
 -- What a volume is after a call that was performed and recorded.
-use Rattle.std.proofs.Common.{◌≡◌, ℕ, ◌∙◌, sym, subst, refl, List, [], ◌∷◌, ◌++◌, None, Some, Option, unwrap_or, Result, Ok, Err, IfOk, IfErr, OnOk, OnErr}
+use Rattle.std.proofs.Common.{◌≡◌, ℕ, ◌∙◌, sym, subst, refl, List, [], ◌∷◌, ◌++◌, None, Some, Option, unwrap_or, Result, Ok, Err, IfErr}
 use Rattle.vol_layout.specs.Geometry.{geometry_of}
 use Rattle.vol_layout.specs.declared.edition.Edition.{Edition}
 use Rattle.vol_layout.specs.declared.geometry.Geometry.{Geometry}
@@ -64,15 +64,6 @@ fields_kept geometry old new base journal longer first call done free sizes acce
   counts_new geometry old new call done free performed,
 )
 
--- the call was accepted, whatever the record of it is read as
-pub fields_accepted : (geometry : Geometry) (old new base : List ℕ) (journal longer : List Record) (first : ℕ) (call : Call) (done : Done) (free : ℕ)
-    → geometry ≡ geometry_of geometry.edition old → verdict (state geometry old) call ≡ None → IsPerformed geometry old new call done free
-    → longer ≡ journal ++ record { call = call; done = done } ∷ []
-    → Accepts (volume_of geometry.edition old base journal first) (volume_of geometry.edition new base longer first) call done
-fields_accepted geometry old new base journal longer first call done free sizes accepted performed appended =
-    subst (λ records. Accepts (volume_of geometry.edition old base journal first) (volume_of geometry.edition new base records first) call done) (sym appended)
-    (accepts geometry old new base journal first call done free sizes accepted performed)
-
 -- a call that is refused is so of what the image reads as
 pub refused : (geometry : Geometry) (image : List ℕ) (call : Call) (refusal : Refusal) → geometry ≡ geometry_of geometry.edition image
     → verdict (state geometry image) call ≡ Some refusal → Refuses (reads_as geometry.edition image) call refusal
@@ -92,42 +83,8 @@ pub refused_full : (geometry : Geometry) (image : List ℕ) (call : Call) (refus
     → refusal ≡ unwrap_or (verdict (state geometry image) call) refusals.NoMemory → Refuses (reads_as geometry.edition image) call refusal
 refused_full geometry image call refusal sizes is = refused_by geometry image call refusal (verdict (state geometry image) call) sizes refl is
 
--- what is known of a volume's fields where a call was made and recorded, or was refused and nothing changed
-pub record IsAnswered (geometry : Geometry) (old new : List ℕ) (journal longer : List Record) (call : Call) (free_old free_new : ℕ)
-    (answer : Result Done (Refusal × Call)) : Type 0 where
-  pub accepted : OnOk answer (verdict (state geometry old) call ≡ None)
-  pub performed : IfOk answer (λ done. IsPerformed geometry old new call done free_new)
-  pub records : IfOk answer (λ done. longer ≡ journal ++ record { call = call; done = done } ∷ [])
-  pub refused : IfErr answer (λ back. verdict (state geometry old) call ≡ Some back.0)
-  pub same_image : OnErr answer (new ≡ old)
-  pub same_free : OnErr answer (free_new ≡ free_old)
-  pub same_journal : OnErr answer (longer ≡ journal)
-
-module _ (geometry : Geometry) (old new base : List ℕ) (journal longer : List Record) (first : ℕ) (call : Call) (free_old free_new : ℕ)
-    (sizes : geometry ≡ geometry_of geometry.edition old) where
-  -- what every volume keeps of its fields is kept
-  pub answered_kept : (answer : Result Done (Refusal × Call)) → free_old ≡ free_count geometry (shapes geometry old)
-      → IsAnswered geometry old new journal longer call free_old free_new answer → IsConsistent (volume_of geometry.edition old base journal first)
-      → (geometry ≡ geometry_of geometry.edition new) × IsConsistent (volume_of geometry.edition new base longer first)
-      × (free_new ≡ free_count geometry (shapes geometry new))
-  answered_kept (Ok done) count answered was =
-      fields_kept geometry old new base journal longer first call done free_new sizes answered.accepted answered.performed answered.records was
-  answered_kept (Err back) count answered was = (
-    subst (λ image. geometry ≡ geometry_of geometry.edition image) (sym answered.same_image) sizes,
-    subst (λ image. IsConsistent (volume_of geometry.edition image base longer first)) (sym answered.same_image)
-        (subst (λ records. IsConsistent (volume_of geometry.edition old base records first)) (sym answered.same_journal) was),
-    subst (λ image. free_new ≡ free_count geometry (shapes geometry image)) (sym answered.same_image) (answered.same_free ∙ count),
-  )
-
-  -- the call was accepted where its answer is one
-  pub answered_accepts : (answer : Result Done (Refusal × Call)) → IsAnswered geometry old new journal longer call free_old free_new answer
-      → IfOk answer (λ done. Accepts (volume_of geometry.edition old base journal first) (volume_of geometry.edition new base longer first) call done)
-  answered_accepts (Ok done) answered =
-      fields_accepted geometry old new base journal longer first call done free_new sizes answered.accepted answered.performed answered.records
-  answered_accepts (Err back) answered = tt
-
-  -- and refused where it comes back
-  pub answered_refuses : (answer : Result Done (Refusal × Call)) → IsAnswered geometry old new journal longer call free_old free_new answer
-      → IfErr answer (λ back. Refuses (reads_as geometry.edition old) call back.0)
-  answered_refuses (Ok done) answered = tt
-  answered_refuses (Err back) answered = refused geometry old call back.0 sizes answered.refused
+-- and so is the answer to it
+pub answer_refuses : (geometry : Geometry) (image : List ℕ) (call : Call) → geometry ≡ geometry_of geometry.edition image → (answer : Result Done (Refusal × Call))
+    → IfErr answer (λ back. verdict (state geometry image) call ≡ Some back.0) → IfErr answer (λ back. Refuses (reads_as geometry.edition image) call back.0)
+answer_refuses geometry image call sizes (Ok done) says = tt
+answer_refuses geometry image call sizes (Err back) says = refused geometry image call back.0 sizes says

@@ -8,6 +8,7 @@ pub mod Journal
 pub mod Laws
 pub mod Leaving
 pub mod Mkfs
+pub mod Parts
 pub mod Performing
 pub mod Standing
 pub mod Step

@@ -4,37 +4,26 @@ ghost use Rattle.vol_volume.specs.Journal.{MayFollow};
 ghost use Rattle.vol_volume.specs.Volume.{Accepts, reads_as};
 
 use crate::calls::Record;
-use crate::volume::{Volume, accept};
-use pdp_words::Image;
+use crate::volume::{Parts, Volume, accept};
 use std::alloc::{AllocError, Global};
 use std::marker::Model;
-use vol_layout::Geometry;
 
 /// A volume whose journal has room for one record more, which is made without memory.
 #[derive(Debug, Drop)]
 pub struct Reserved {
-    geometry: Geometry,
-    current: Image,
-    free: u32,
-    base: Vec<u8>,
-    records: Vec<Record>,
-    first: u64,
+    parts: Parts,
 }
 
 impl Model for Reserved {
-    ghost use Rattle.std.specs.Prelude.{◌≡◌, ◌<◌, vec_len, vec_capacity};
-    ghost use Rattle.vol_layout.specs.Geometry.{geometry_of};
-    ghost use Rattle.vol_dir.specs.Tree.{free_count, shapes};
-    ghost use Rattle.vol_volume.specs.Volume.{Mounted, IsConsistent};
+    ghost use Rattle.std.specs.Prelude.{◌<◌, vec_len, vec_capacity};
+    ghost use Rattle.vol_volume.specs.Volume.{Mounted};
+    ghost use Rattle.vol_volume.specs.Parts.{held, IsKept};
 
     ghost Value = { Mounted };
 
-    ghost view = { λ v. record { edition = v.geometry.edition; image = v.current; base = v.base.items; journal = v.records.items; first = v.first } };
+    ghost view = { λ v. held v.parts };
 
-    ghost invariant = { λ v. (v.geometry ≡ geometry_of v.geometry.edition v.current)
-        × IsConsistent (record { edition = v.geometry.edition; image = v.current; base = v.base.items; journal = v.records.items; first = v.first })
-        × (v.free ≡ free_count v.geometry (shapes v.geometry v.current))
-        × (vec_len v.records < vec_capacity v.records) };
+    ghost invariant = { λ v. IsKept v.parts × (vec_len v.parts.records < vec_capacity v.parts.records) };
 }
 
 impl Volume {
@@ -45,26 +34,11 @@ impl Volume {
     {
         // The journal grows by the allocator that it was made with.
         let _ = alloc;
-        let mut volume = self;
-        if volume.records.reserve(1).is_err() {
-            return Err((AllocError, volume));
+        let Volume { mut parts } = self;
+        if parts.records.reserve(1).is_err() {
+            return Err((AllocError, Volume { parts }));
         }
-        let Volume {
-            geometry,
-            current,
-            free,
-            base,
-            records,
-            first,
-        } = volume;
-        Ok(Reserved {
-            geometry,
-            current,
-            free,
-            base,
-            records,
-            first,
-        })
+        Ok(Reserved { parts })
     }
 }
 
@@ -77,31 +51,10 @@ impl Reserved {
         requires { MayFollow (reads_as self.edition self.image) entry }
         ensures { Accepts self result entry.call entry.done }
     {
-        let Reserved {
-            geometry,
-            mut current,
-            mut free,
-            base,
-            mut records,
-            first,
-        } = self;
+        let Reserved { mut parts } = self;
         let Record { call, done } = entry;
-        match accept(
-            &mut current,
-            &geometry,
-            &mut free,
-            &mut records,
-            call,
-            Some(done),
-        ) {
-            Ok(_) => Volume {
-                geometry,
-                current,
-                free,
-                base,
-                records,
-                first,
-            },
+        match accept(&mut parts, call, Some(done)) {
+            Ok(_) => Volume { parts },
             Err(_) => unreachable!(),
         }
     }
@@ -110,21 +63,6 @@ impl Reserved {
     pub fn release(self) -> Volume
         ensures { result ≡ self }
     {
-        let Reserved {
-            geometry,
-            current,
-            free,
-            base,
-            records,
-            first,
-        } = self;
-        Volume {
-            geometry,
-            current,
-            free,
-            base,
-            records,
-            first,
-        }
+        Volume { parts: self.parts }
     }
 }

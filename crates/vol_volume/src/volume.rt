@@ -7,7 +7,7 @@ ghost use Rattle.vol_judge.specs.Sound.{IsSound};
 ghost use Rattle.vol_volume.specs.Faults.{IsFaultOf};
 ghost use Rattle.vol_volume.specs.Answer.{Answers};
 ghost use Rattle.vol_volume.specs.Journal.{Refuses, MayAnswer, MayFollow};
-ghost use Rattle.vol_volume.specs.Performing.{IsPerformed};
+ghost use Rattle.vol_volume.specs.Parts.{held, IsKept};
 ghost use Rattle.vol_volume.specs.Verdict.{verdict};
 ghost use Rattle.vol_volume.specs.Volume.{IsConsistent, Accepts, mounted, after_cut, reads_as};
 
@@ -39,32 +39,40 @@ pub enum MountFault {
 #[error("too many records")]
 pub struct TooManyRecords;
 
+/// What a mounted volume is made of.
+#[derive(Debug, Drop)]
+pub(crate) struct Parts {
+    /// The volume's geometry.
+    pub(crate) geometry: Geometry,
+    /// The image as the calls have left it.
+    pub(crate) current: Image,
+    /// How many blocks of it are free.
+    pub(crate) free: u32,
+    /// The bytes that were mounted or left by the last cut.
+    pub(crate) base: Vec<u8>,
+    /// The calls that were accepted since.
+    pub(crate) records: Vec<Record>,
+    /// How many records were cut before.
+    pub(crate) first: u64,
+}
+
 /// A mounted volume: a sound image, the bytes that were mounted or left by the last cut, and the journal of
 /// the calls accepted since. The image always reads as exactly the tree that the journal makes of the one
 /// mounted or last cut.
 #[derive(Debug, Drop)]
 pub struct Volume {
-    pub(crate) geometry: Geometry,
-    pub(crate) current: Image,
-    pub(crate) free: u32,
-    pub(crate) base: Vec<u8>,
-    pub(crate) records: Vec<Record>,
-    pub(crate) first: u64,
+    pub(crate) parts: Parts,
 }
 
 impl Model for Volume {
-    ghost use Rattle.std.specs.Prelude.{◌≡◌};
-    ghost use Rattle.vol_layout.specs.Geometry.{geometry_of};
-    ghost use Rattle.vol_dir.specs.Tree.{free_count, shapes};
-    ghost use Rattle.vol_volume.specs.Volume.{Mounted, IsConsistent};
+    ghost use Rattle.vol_volume.specs.Volume.{Mounted};
+    ghost use Rattle.vol_volume.specs.Parts.{held, IsKept};
 
     ghost Value = { Mounted };
 
-    ghost view = { λ v. record { edition = v.geometry.edition; image = v.current; base = v.base.items; journal = v.records.items; first = v.first } };
+    ghost view = { λ v. held v.parts };
 
-    ghost invariant = { λ v. (v.geometry ≡ geometry_of v.geometry.edition v.current)
-        × IsConsistent (record { edition = v.geometry.edition; image = v.current; base = v.base.items; journal = v.records.items; first = v.first })
-        × (v.free ≡ free_count v.geometry (shapes v.geometry v.current)) };
+    ghost invariant = { λ v. IsKept v.parts };
 }
 
 impl Volume {
@@ -107,63 +115,64 @@ impl Volume {
         let Ok(base) = Vec::from_slice(alloc, image.as_bytes()) else {
             return Err((MountFault::NoMemory, image.into_bytes()));
         };
-        Ok(Volume {
+        let parts = Parts {
             geometry: examined.geometry,
             current: image,
             free: examined.free,
             base,
             records: Vec::new(alloc),
             first: 0,
-        })
+        };
+        Ok(Volume { parts })
     }
 
     /// The edition whose layout the volume has.
     pub fn edition(&self) -> Edition
         ensures { result ≡ self.now.edition }
     {
-        self.geometry.edition
+        self.parts.geometry.edition
     }
 
     /// The volume's geometry.
     pub fn geometry(&self) -> &Geometry
         ensures { result.now ≡ geometry_of self.now.edition self.now.image }
     {
-        &self.geometry
+        &self.parts.geometry
     }
 
     /// How many blocks are free. It is kept beside the image, and nothing is counted.
     pub fn free_blocks(&self) -> u32
         ensures { result ≡ free_count (geometry_of self.now.edition self.now.image) (shapes (geometry_of self.now.edition self.now.image) self.now.image) }
     {
-        self.free
+        self.parts.free
     }
 
     /// The bytes that were mounted or left by the last cut.
     pub fn base(&self) -> &[u8]
         ensures { result.now ≡ self.now.base }
     {
-        &self.base
+        &self.parts.base
     }
 
     /// The image as the calls have left it.
     pub fn image(&self) -> &Image
         ensures { result.now ≡ self.now.image }
     {
-        &self.current
+        &self.parts.current
     }
 
     /// The calls that were accepted since, in their order.
     pub fn journal(&self) -> &[Record]
         ensures { result.now ≡ self.now.journal }
     {
-        &self.records
+        &self.parts.records
     }
 
     /// How many records were cut since the volume was mounted, which is the number of the journal's first.
     pub fn first(&self) -> u64
         ensures { result ≡ self.now.first }
     {
-        self.first
+        self.parts.first
     }
 
     /// The answer to a query: that of the tree which the image reads as, and no other. BadId comes first,
@@ -178,7 +187,7 @@ impl Volume {
     pub fn ask(&self, alloc: Global, query: &Query) -> Result<Reply, Refusal>
         ensures { Answers (reads_as self.now.edition self.now.image).tree query.now result }
     {
-        ask_image(alloc, &self.current, &self.geometry, query)
+        ask_image(alloc, &self.parts.current, &self.parts.geometry, query)
     }
 
     /// What speaks against a call as the volume stands: the refusal that [`Volume::call`] would meet first, of
@@ -189,7 +198,7 @@ impl Volume {
     pub fn refusal(&self, call: &Call) -> Option<Refusal>
         ensures { result ≡ verdict (reads_as self.now.edition self.now.image) call.now }
     {
-        refusal_of(&self.current, &self.geometry, self.free, call)
+        refusal_of(&self.parts, call)
     }
 
     /// What a call would answer as the volume stands: the answer with which it would be recorded, or what speaks
@@ -200,7 +209,7 @@ impl Volume {
         ensures foreseen { IfOk result (λ done. MayFollow (reads_as self.now.edition self.now.image) (record { call = call.now; done = done })) }
         ensures refused { IfErr result (λ refusal. verdict (reads_as self.now.edition self.now.image) call.now ≡ Some refusal) }
     {
-        foresee(&self.current, &self.geometry, self.free, call)
+        foresee(&self.parts, call)
     }
 
     /// Makes a call, where nothing speaks against it, and appends it to the journal; the answer says what
@@ -225,24 +234,11 @@ impl Volume {
     {
         // The journal grows by the allocator that it was made with.
         let _ = alloc;
-        if self.records.reserve(1).is_err() {
-            let refusal = refusal_without_room(
-                &self.current,
-                &self.geometry,
-                self.free,
-                &self.records,
-                &call,
-            );
+        if self.parts.records.reserve(1).is_err() {
+            let refusal = refusal_without_room(&self.parts, &call);
             return Err((refusal, call));
         }
-        accept(
-            &mut self.current,
-            &self.geometry,
-            &mut self.free,
-            &mut self.records,
-            call,
-            None,
-        )
+        accept(&mut self.parts, call, None)
     }
 
     /// Makes a call with the answer that is recorded for it, the i-number of what it made included, and
@@ -257,18 +253,11 @@ impl Volume {
         ensures unchanged { IfErr result (λ (error, same). self.new ≡ self.old) }
     {
         let _ = alloc;
-        if self.records.reserve(1).is_err() {
+        if self.parts.records.reserve(1).is_err() {
             return Err((AllocError, entry));
         }
         let Record { call, done } = entry;
-        match accept(
-            &mut self.current,
-            &self.geometry,
-            &mut self.free,
-            &mut self.records,
-            call,
-            Some(done),
-        ) {
+        match accept(&mut self.parts, call, Some(done)) {
             Ok(_) => Ok(()),
             Err(_) => unreachable!(),
         }
@@ -283,12 +272,13 @@ impl Volume {
         ensures fault { OnErr result (2 ^ 64 ≤ self.old.first + length self.old.journal) }
         ensures unchanged { OnErr result (self.new ≡ self.old) }
     {
-        let Some(first) = self.first.checked_add(self.records.len() as u64) else {
+        let parts = &mut self.parts;
+        let Some(first) = parts.first.checked_add(parts.records.len() as u64) else {
             return Err(TooManyRecords);
         };
-        self.base.copy_from_slice(self.current.as_bytes());
-        self.records.clear();
-        self.first = first;
+        parts.base.copy_from_slice(parts.current.as_bytes());
+        parts.records.clear();
+        parts.first = first;
         Ok(())
     }
 
@@ -297,7 +287,7 @@ impl Volume {
         ensures bytes { result.items ≡ self.image }
         ensures consistent { IsConsistent self }
     {
-        self.current.into_bytes()
+        self.parts.current.into_bytes()
     }
 
     /// Does nothing: what every volume keeps is in the contract.
@@ -305,86 +295,70 @@ impl Volume {
         ensures { IsConsistent self.now }
     {
         // What is read of a volume brings what every volume keeps into the proof.
-        let _ = &self.geometry;
+        let _ = &self.parts.geometry;
     }
 }
 
 /// Makes a call, where nothing speaks against it, and appends its record, for which there is room; else the call
 /// comes back, and nothing changes. Where an answer is recorded, it is that one.
 pub(crate) fn accept(
-    image: &mut Image,
-    geometry: &Geometry,
-    free: &mut u32,
-    records: &mut Vec<Record>,
+    parts: &mut Parts,
     call: Call,
     recorded: Option<Done>,
 ) -> Result<Done, (Refusal, Call)>
-    requires sound { IsSound geometry.now.edition image.old }
-    requires sizes { geometry.now ≡ geometry_of geometry.now.edition image.old }
-    requires count { free.old ≡ free_count geometry.now (shapes geometry.now image.old) }
-    requires recorded { IfSome recorded (λ done. MayAnswer (state geometry.now image.old) call done) }
-    requires room { vec_len records.old < vec_capacity records.old }
-    ensures accepted { OnOk result (verdict (state geometry.now image.old) call ≡ None) }
-    ensures performed { IfOk result (λ done. IsPerformed geometry.now image.old image.new call done free.new) }
+    requires kept { IsKept parts.old }
+    requires recorded { IfSome recorded (λ done. MayAnswer (state parts.old.geometry parts.old.current) call done) }
+    requires room { vec_len parts.old.records < vec_capacity parts.old.records }
+    ensures kept { IsKept parts.new }
+    ensures accepted { IfOk result (λ done. Accepts (held parts.old) (held parts.new) call done) }
     ensures recorded { IfSome recorded (λ done. IfOk result (λ answer. answer ≡ done)) }
-    ensures records { IfOk result (λ done. records.new.items ≡ records.old.items ++ record { call = call; done = done } ∷ []) }
-    ensures refused { IfErr result (λ (refusal, same). verdict (state geometry.now image.old) call ≡ Some refusal) }
+    ensures refused { IfErr result (λ (refusal, same). verdict (state parts.old.geometry parts.old.current) call ≡ Some refusal) }
     ensures handed_back { IfErr result (λ (refusal, same). same ≡ call) }
-    ensures image { OnErr result (image.new ≡ image.old) }
-    ensures free { OnErr result (free.new ≡ free.old) }
-    ensures journal { OnErr result (records.new.items ≡ records.old.items) }
+    ensures unchanged { OnErr result (held parts.new ≡ held parts.old) }
 {
-    stands(image, geometry);
-    let performed = match make(image, geometry, *free, &call, recorded) {
+    stands(&parts.current, &parts.geometry);
+    let performed = match make(
+        &mut parts.current,
+        &parts.geometry,
+        parts.free,
+        &call,
+        recorded,
+    ) {
         Ok(performed) => performed,
         Err(refusal) => return Err((refusal, call)),
     };
-    *free = performed.free;
+    parts.free = performed.free;
     let done = performed.done;
-    if records.push(Record { call, done }).is_err() {
+    if parts.records.push(Record { call, done }).is_err() {
         unreachable!();
     }
     Ok(done)
 }
 
 /// The refusal of a call for whose record a full journal has no room: what speaks against it, else NoMemory.
-fn refusal_without_room(
-    image: &Image,
-    geometry: &Geometry,
-    free: u32,
-    records: &Vec<Record>,
-    call: &Call,
-) -> Refusal
-    requires full { vec_capacity records.now < vec_len records.now + 1 }
-    requires sound { IsSound geometry.now.edition image.now }
-    requires sizes { geometry.now ≡ geometry_of geometry.now.edition image.now }
-    requires count { free ≡ free_count geometry.now (shapes geometry.now image.now) }
-    ensures { result ≡ unwrap_or (verdict (state geometry.now image.now) call.now) Refusal.NoMemory }
+fn refusal_without_room(parts: &Parts, call: &Call) -> Refusal
+    requires kept { IsKept parts.now }
+    requires full { vec_capacity parts.now.records < vec_len parts.now.records + 1 }
+    ensures { result ≡ unwrap_or (verdict (state parts.now.geometry parts.now.current) call.now) Refusal.NoMemory }
 {
-    // That the journal is full is owed, and the body needs nothing of it.
-    let _ = records;
-    refusal_of(image, geometry, free, call).unwrap_or(Refusal::NoMemory)
+    refusal_of(parts, call).unwrap_or(Refusal::NoMemory)
 }
 
 /// What speaks against a call, of what is asked beside want of memory the first, if anything does.
-fn refusal_of(image: &Image, geometry: &Geometry, free: u32, call: &Call) -> Option<Refusal>
-    requires sound { IsSound geometry.now.edition image.now }
-    requires sizes { geometry.now ≡ geometry_of geometry.now.edition image.now }
-    requires count { free ≡ free_count geometry.now (shapes geometry.now image.now) }
-    ensures { result ≡ verdict (state geometry.now image.now) call.now }
+fn refusal_of(parts: &Parts, call: &Call) -> Option<Refusal>
+    requires { IsKept parts.now }
+    ensures { result ≡ verdict (state parts.now.geometry parts.now.current) call.now }
 {
-    foresee(image, geometry, free, call).err()
+    foresee(parts, call).err()
 }
 
 /// What a call would answer where nothing speaks against it; else what does, of what is asked beside want of memory
 /// the first.
-fn foresee(image: &Image, geometry: &Geometry, free: u32, call: &Call) -> Result<Done, Refusal>
-    requires sound { IsSound geometry.now.edition image.now }
-    requires sizes { geometry.now ≡ geometry_of geometry.now.edition image.now }
-    requires count { free ≡ free_count geometry.now (shapes geometry.now image.now) }
-    ensures refusal { result_err result ≡ verdict (state geometry.now image.now) call.now }
-    ensures answered { IfOk result (λ done. MayAnswer (state geometry.now image.now) call.now done) }
+fn foresee(parts: &Parts, call: &Call) -> Result<Done, Refusal>
+    requires { IsKept parts.now }
+    ensures refusal { result_err result ≡ verdict (state parts.now.geometry parts.now.current) call.now }
+    ensures answered { IfOk result (λ done. MayAnswer (state parts.now.geometry parts.now.current) call.now done) }
 {
-    stands(image, geometry);
-    check(image, geometry, free, call)
+    stands(&parts.current, &parts.geometry);
+    check(&parts.current, &parts.geometry, parts.free, call)
 }

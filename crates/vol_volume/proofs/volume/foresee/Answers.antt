@@ -3,4 +3,4 @@ use Rattle.vol_volume.proofs.AcceptedCalls.{counted}
 use Rattle.vol_volume.proofs.volume.foresee.Goals as goal
 
 pub check-requires-clause-count : goal.check-requires-clause-count
-check-requires-clause-count c = c.requires.count ∙ sym (counted c.args.geometry.now c.args.image.now)
+check-requires-clause-count c = c.requires.2 ∙ sym (counted c.args.parts.now.geometry c.args.parts.now.current)

@@ -1,43 +1,13 @@
-use Rattle.std.proofs.Common.{◌≡◌, subst, List, [], ◌∷◌, ◌++◌, IfOk, OnErr}
-use Rattle.vol_volume.proofs.AcceptedCalls.{refused_full, IsAnswered, answered_kept, answered_accepts, answered_refuses}
-use Rattle.vol_volume.specs.declared.calls.Record.{Record}
+use Rattle.vol_volume.proofs.AcceptedCalls.{refused_full, answer_refuses}
 use Rattle.vol_volume.proofs.volume.Volume.call.Goals as goal
-use Rattle.vol_volume.proofs.volume.Volume.call.Goals.{After-accept}
 
 pub returns-then-is_err-clause-refused : goal.returns-then-is_err-clause-refused
 returns-then-is_err-clause-refused c =
     rw (← c.self.view_is)
-    (refused_full c.self.inside.geometry c.self.inside.current c.args.call c.refusal_without_room-refusal.result c.self.invariant.0
+    (refused_full c.self.inside.parts.geometry c.self.inside.parts.current c.args.call c.refusal_without_room-refusal.result c.self.invariant.0
     c.refusal_without_room-refusal.ensures)
-
--- what the call came to
-answered : (c : After-accept) → IsAnswered c.self.inside.geometry c.self.inside.current c.accept.new.image c.self.inside.records.items
-    c.accept.new.records.items c.args.call c.self.inside.free c.accept.new.free c.accept.result
-answered c = record {
-  accepted = c.accept.ensures.accepted;
-  performed = c.accept.ensures.performed;
-  records = subst (λ (items : List Record). IfOk c.accept.result (λ done. c.accept.new.records.items ≡ items ++ record { call = c.args.call; done = done } ∷ []))
-      c.reserve.ensures.items c.accept.ensures.records;
-  refused = c.accept.ensures.refused;
-  same_image = c.accept.ensures.image;
-  same_free = c.accept.ensures.free;
-  same_journal = subst (λ (items : List Record). OnErr c.accept.result (c.accept.new.records.items ≡ items)) c.reserve.ensures.items c.accept.ensures.journal;
-}
-
-pub invariant_of-self-2 : goal.invariant_of-self-2
-invariant_of-self-2 c =
-    answered_kept c.self.inside.geometry c.self.inside.current c.accept.new.image c.self.inside.base.items c.self.inside.records.items
-    c.accept.new.records.items c.self.inside.first c.args.call c.self.inside.free c.accept.new.free c.self.invariant.0 c.accept.result c.self.invariant.2 (answered c)
-    c.self.invariant.1
-
-pub returns-clause-accepted : goal.returns-clause-accepted
-returns-clause-accepted c =
-    rw (← c.self.view_is)
-    (answered_accepts c.self.inside.geometry c.self.inside.current c.accept.new.image c.self.inside.base.items c.self.inside.records.items
-    c.accept.new.records.items c.self.inside.first c.args.call c.self.inside.free c.accept.new.free c.self.invariant.0 c.accept.result (answered c))
 
 pub returns-clause-refused : goal.returns-clause-refused
 returns-clause-refused c =
     rw (← c.self.view_is)
-    (answered_refuses c.self.inside.geometry c.self.inside.current c.accept.new.image c.self.inside.base.items c.self.inside.records.items
-    c.accept.new.records.items c.self.inside.first c.args.call c.self.inside.free c.accept.new.free c.self.invariant.0 c.accept.result (answered c))
+    (answer_refuses c.self.inside.parts.geometry c.self.inside.parts.current c.args.call c.self.invariant.0 c.accept.result c.accept.ensures.refused)

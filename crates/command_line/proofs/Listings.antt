@@ -12,8 +12,8 @@ use Rattle.command_words.specs.declared.invocation.Invocation.{Invocation}
 use Rattle.command_words.specs.declared.invocation.Invocation.TheVariants.{Cat, Mkfs, Migrate, OnVolume, OnImage, OnTree, OnFiles, OnThreads}
 use Rattle.command_words.specs.declared.invocation.Copying.TheVariants as copies
 use Rattle.command_words.specs.declared.invocation.Work.TheVariants as works
-use Rattle.image_commands.specs.declared.looks.Lines.{Lines}
-use Rattle.image_commands.specs.declared.looks.Lines.TheVariants as lines
+use Rattle.vol_listing.specs.declared.options.Lines.{Lines}
+use Rattle.vol_listing.specs.declared.options.Lines.TheVariants as lines
 use Rattle.image_commands.specs.declared.looks.Look.TheVariants as looks
 use Rattle.tree_commands.specs.declared.edits.Edit.TheVariants as edits
 use Rattle.vol_commands.specs.declared.jobs.Job.TheVariants as jobs

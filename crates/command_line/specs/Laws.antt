@@ -6,7 +6,7 @@ use Rattle.command_words.specs.declared.invocation.Invocation.{Invocation}
 use Rattle.command_words.specs.declared.invocation.Invocation.TheVariants.{OnImage}
 use Rattle.command_line.specs.CommandLine.{MetAsks}
 use Rattle.command_line.specs.Words.{AreEditions, command_in, faults_of, unixvol_app}
-use Rattle.image_commands.specs.declared.looks.Lines.TheVariants as lines
+use Rattle.vol_listing.specs.declared.options.Lines.TheVariants as lines
 use Rattle.image_commands.specs.declared.looks.Look.TheVariants as looks
 use Rattle.vol_layout.specs.declared.edition.Edition.{Edition}
 

@@ -25,8 +25,8 @@ use Rattle.command_words.specs.declared.verbs.Verb.{Verb}
 use Rattle.command_words.specs.declared.verbs.Verb.TheVariants as verbs
 use Rattle.image_commands.specs.declared.looks.Form.{Form}
 use Rattle.image_commands.specs.declared.looks.Form.TheVariants as forms
-use Rattle.image_commands.specs.declared.looks.Lines.{Lines}
-use Rattle.image_commands.specs.declared.looks.Lines.TheVariants as lines
+use Rattle.vol_listing.specs.declared.options.Lines.{Lines}
+use Rattle.vol_listing.specs.declared.options.Lines.TheVariants as lines
 use Rattle.image_commands.specs.declared.looks.Look.{Look}
 use Rattle.image_commands.specs.declared.looks.Look.TheVariants as looks
 use Rattle.image_commands.specs.declared.looks.Picture.{Picture}

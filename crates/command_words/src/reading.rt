@@ -14,11 +14,12 @@ use crate::invocation::{Copying, Invocation, VolumeFile, Work};
 use crate::several::{PutFiles, file_in, files_in, no_more, not_empty, paths_in};
 use crate::texts;
 use crate::verbs::Verb;
-use image_commands::{Form, Lines, Listing, Look, Picture};
+use image_commands::{Form, Look, Picture};
 use std::alloc::Global;
 use tree_commands::Edit;
 use vol_check::Checker;
 use vol_commands::{Job, Migration};
+use vol_listing::{Lines, Listing};
 use vol_volume::NewVolume;
 
 /// Reads the words after a command. `clock` is the moment of the program's clock, in seconds since the beginning of 1970,

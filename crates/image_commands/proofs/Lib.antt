@@ -1,13 +1,7 @@
 pub mod Asked
-pub mod Calendar
-pub mod Columns
-pub mod Descents
 pub mod Exported
 pub mod InOrder
-pub mod ListingValues
 pub mod Mapped
-pub mod NamesListed
-pub mod NodesRead
 pub mod Printed
 pub mod Shown
 pub mod Told

@@ -7,7 +7,8 @@ use Rattle.vol_free.specs.declared.free_walk.FreeFault.{FreeFault}
 use Rattle.vol_inspect.specs.declared.extent.Extent.{Extent}
 use Rattle.vol_inspect.specs.declared.inode_report.InodeReport.{InodeReport}
 use Rattle.vol_inspect.specs.declared.super_report.SuperReport.{SuperReport}
-use Rattle.image_commands.specs.Json.{count, count_or_null, extent_data, fault_data, inode_data, super_data}
+use Rattle.vol_listing.specs.Json.{count}
+use Rattle.image_commands.specs.Json.{count_or_null, extent_data, fault_data, inode_data, super_data}
 
 -- none of a list of numbers
 counts_whole : (ns : List ℕ) → items_have_float (items_of (map count ns)) ≡ false

@@ -17,8 +17,8 @@ use Rattle.vol_commands.specs.declared.faults.Fault.TheVariants as faults
 use Rattle.image_commands.specs.Faults.{unstarted}
 use Rattle.image_commands.specs.Printing.{IsTold, IsBrokenOff}
 use Rattle.image_commands.specs.Telling.{TellsAll}
-use Rattle.image_commands.specs.declared.looks.Screen.{Screen}
-use Rattle.image_commands.specs.declared.looks.Screen.TheVariants as screens
+use Rattle.vol_listing.specs.declared.options.Screen.{Screen}
+use Rattle.vol_listing.specs.declared.options.Screen.TheVariants as screens
 
 -- the archive of what was met went out whole, and all is told that is to be told; the status is 1 where that is anything (this project)
 pub record IsWhole (edition : Edition) (image : List ℕ) (start : Start) (founds : List Found) (streams : Streams) (code : ℕ) : Type 0 where

@@ -1,6 +1,6 @@
 -- Reports as JSON: what stands in them, by the fields' names in the manual.
 use Rattle.std.specs.Prelude.{ℕ, ◌-◌, List, ◌++◌, map, take, codes, Option, None, Some, slice_index}
-use Rattle.serde_json.specs.Data.{Data, null, boolean, number, unsigned, string, array, object, member, no_members}
+use Rattle.serde_json.specs.Data.{Data, null, boolean, string, array, object, member, no_members}
 use Rattle.serde_json.specs.View.{items_of}
 use Rattle.serde_json.specs.Written.{compact_text}
 use Rattle.vol_layout.specs.Inode.{address_count, kind_of, permissions_of}
@@ -10,10 +10,7 @@ use Rattle.vol_inspect.specs.Texts.{kind_name}
 use Rattle.vol_inspect.specs.declared.extent.Extent.{Extent}
 use Rattle.vol_inspect.specs.declared.inode_report.InodeReport.{InodeReport}
 use Rattle.vol_inspect.specs.declared.super_report.SuperReport.{SuperReport}
-
--- a number (RFC 8259)
-abbrev pub count : ℕ → Data
-count n = number (unsigned n)
+use Rattle.vol_listing.specs.Json.{count}
 
 -- a list of numbers (RFC 8259)
 abbrev pub counts : List ℕ → Data

@@ -9,7 +9,7 @@ use Rattle.image_commands.specs.Mapping.{DrawsMap}
 use Rattle.image_commands.specs.Showing.{ShowsInode, ShowsSuper}
 use Rattle.image_commands.specs.declared.looks.Look.{Look}
 use Rattle.image_commands.specs.declared.looks.Look.TheVariants as looks
-use Rattle.image_commands.specs.declared.looks.Screen.{Screen}
+use Rattle.vol_listing.specs.declared.options.Screen.{Screen}
 
 -- what is asked for is shown (this project)
 abbrev pub Looks : Edition → List ℕ → Screen → Streams → ℕ → Look → Type 0

@@ -16,8 +16,8 @@ use Rattle.image_commands.specs.Faults.{unmeasured}
 use Rattle.image_commands.specs.Printing.{PrintsOne}
 use Rattle.image_commands.specs.declared.looks.Picture.{Picture}
 use Rattle.image_commands.specs.declared.looks.Picture.TheVariants as pictures
-use Rattle.image_commands.specs.declared.looks.Screen.{Screen}
-use Rattle.image_commands.specs.declared.looks.Screen.TheVariants as screens
+use Rattle.vol_listing.specs.declared.options.Screen.{Screen}
+use Rattle.vol_listing.specs.declared.options.Screen.TheVariants as screens
 
 -- how many cells stand in a row: as many as a terminal has columns, and 64 where that isn't known (this project)
 abbrev pub width_on : Screen → ℕ

@@ -6,7 +6,8 @@ use Rattle.vol_layout.specs.Inode.{address_count, kind_of, permissions_of}
 use Rattle.vol_inspect.specs.Texts.{kind_name}
 use Rattle.vol_inspect.specs.declared.inode_report.InodeReport.{InodeReport}
 use Rattle.vol_inspect.specs.declared.super_report.SuperReport.{SuperReport}
-use Rattle.image_commands.specs.Json.{count, counts, count_or_null, extent_data, fault_data}
+use Rattle.vol_listing.specs.Json.{count}
+use Rattle.image_commands.specs.Json.{counts, count_or_null, extent_data, fault_data}
 
 -- with the number of an i-node, and what its mode says (this project)
 unfoldable pub with_mode : InodeReport → Members → Members

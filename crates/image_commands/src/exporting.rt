@@ -6,7 +6,6 @@ ghost use Rattle.vol_commands.specs.Faults.{Gets, IsRuled};
 ghost use Rattle.image_commands.specs.Exporting.{Exports, ExportsTo, ExportsBelow, WritesBelow};
 
 use crate::faults::{unstarted, unwritten};
-use crate::looks::Screen;
 use crate::telling::tell_all;
 use pdp_words::{Image, Sink, write_all};
 use std::alloc::Global;
@@ -15,6 +14,7 @@ use vol_commands::answer::explain;
 use vol_commands::faults::Fault;
 use vol_commands::status::{DONE, REFUSED};
 use vol_layout::Edition;
+use vol_listing::Screen;
 
 /// Writes the archive of all that is below the directory to which a path leads in an image in which rules 1 and 2 hold, which may be
 /// any bytes otherwise, and answers the status: 0 of a sound image whose entries all went in; 1 where the image isn't sound, an entry

@@ -1,15 +1,16 @@
 //! Reports as JSON.
-ghost use Rattle.std.specs.Prelude.{◌≡◌, ◌≤◌, ◌++◌, codes, false, map, IfOk, OnOk, string_bytes};
-ghost use Rattle.serde_json.specs.Data.{Data, array, put as with_member};
+ghost use Rattle.std.specs.Prelude.{◌≡◌, ◌≤◌, map, IfOk, OnOk, string_bytes};
+ghost use Rattle.serde_json.specs.Data.{Data, array};
 ghost use Rattle.serde_json.specs.View.{items_of, members_view, view};
-ghost use Rattle.serde_json.specs.Written.{compact_text, has_float};
-ghost use Rattle.image_commands.specs.Json.{count, count_or_null, extent_data, fault_data, inode_data, inode_json, super_data, super_json};
+ghost use Rattle.vol_listing.specs.Json.{count};
+ghost use Rattle.image_commands.specs.Json.{count_or_null, extent_data, fault_data, inode_data, inode_json, super_data, super_json};
 ghost use Rattle.image_commands.specs.Members.{with_mode, with_owner, with_times, with_places, with_sizes, with_flags, with_free, with_cache};
 
 use serde_json::{Map, Value, json, put};
 use std::alloc::{AllocError, Global};
 use vol_free::FreeFault;
 use vol_inspect::{Extent, InodeReport, SuperReport, kind_name};
+use vol_listing::json::{line, put_count};
 
 /// An i-node as JSON, on one line.
 pub(crate) fn inode_json(alloc: Global, report: &InodeReport) -> Result<String, AllocError>
@@ -26,16 +27,6 @@ pub(crate) fn super_json(alloc: Global, report: &SuperReport) -> Result<String, 
 {
     let value = super_value(alloc, report)?;
     line(alloc, &value)
-}
-
-/// The text of a value in which no number is a float, and a newline.
-pub(crate) fn line(alloc: Global, value: &Value) -> Result<String, AllocError>
-    requires { has_float (view value.now) ≡ false }
-    ensures { IfOk result (λ text. string_bytes text ≡ compact_text (view value.now) ++ codes "\n") }
-{
-    let mut text = value.to_string(alloc)?;
-    text.push_str("\n")?;
-    Ok(text)
 }
 
 /// An i-node.
@@ -192,18 +183,6 @@ fn put_cache(
     put_count(alloc, object, "ninode", u64::from(report.cache_count))?;
     put(object, alloc, "inode", cache)?;
     put_count(alloc, object, "free i-nodes", u64::from(report.free_inodes))
-}
-
-/// Puts a number into an object.
-pub(crate) fn put_count(
-    alloc: Global,
-    object: &mut Map<String, Value>,
-    key: &str,
-    number: u64,
-) -> Result<(), AllocError>
-    ensures { OnOk result (members_view object.new.entries ≡ with_member key.now (count number) (members_view object.old.entries)) }
-{
-    put(object, alloc, key, Value::from(number))
 }
 
 /// A number that may not be there.

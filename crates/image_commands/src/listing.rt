@@ -2,25 +2,23 @@
 ghost use Rattle.std.specs.Prelude.{◌≡◌, IfErr, IfOk};
 ghost use Rattle.vol_layout.specs.Geometry.{Fits, geometry_of};
 ghost use Rattle.vol_judge.specs.Sound.{IsSound};
-ghost use Rattle.vol_dir.specs.Tree.{tree};
 ghost use Rattle.vol_volume.specs.declared.queries.Query.TheVariants as questions;
 ghost use Rattle.vol_commands.specs.Faults.{user, Gets, IsRuled};
 ghost use Rattle.vol_commands.specs.Showing.{IsObstacle};
-ghost use Rattle.image_commands.specs.Places.{IsVolume};
-ghost use Rattle.image_commands.specs.Listing.{shown_path, IsBelow, IsFound, IsListing, IsListingOf, Lists};
+ghost use Rattle.image_commands.specs.Listing.{IsFound, IsListing, Lists};
 
-use crate::directories::USER;
-use crate::lines::{Style, lines_text};
-use crate::listing_json::json_text;
-use crate::looks::{Lines, Listing, Screen};
-use crate::places::{Place, all_below};
 use crate::printing::finish_bytes;
 use pdp_words::{Image, Sink};
-use std::alloc::{AllocError, Global};
+use std::alloc::Global;
 use vol_commands::faults::Fault;
+use vol_dir::Cred;
 use vol_judge::examine;
 use vol_layout::{Edition, Geometry};
+use vol_listing::{Listing, Screen};
 use vol_volume::{Bytes, Query, Reply, ask_image};
+
+/// Who asks.
+const USER: Cred = Cred { uid: 0, gid: 0 };
 
 /// Lists what stands at a path of a sound image: the names in a directory, in ascending order of their bytes, each on a line with its
 /// i-number, and where asked for with what its i-node says; then, where asked for, those of each directory below. What is no directory
@@ -92,9 +90,8 @@ fn list_sound(
     ensures ruled { IfErr result IsRuled }
 {
     let inode = find(alloc, edition, image, geometry, path)?;
-    let path = Bytes::from_vec(shown_path(alloc, path.as_bytes())?);
-    let start = Place { path, inode };
-    Ok(list_place(alloc, image, geometry, &start, listing, screen)?)
+    let path = path.as_bytes();
+    Ok(vol_listing::list(alloc, image, geometry, path, inode, listing, screen)?)
 }
 
 /// The i-number of what stands at a path of a sound image.
@@ -118,60 +115,5 @@ fn find(
         Ok(Reply::Bytes(_)) => unreachable!(),
         Ok(Reply::Names(_)) => unreachable!(),
         Err(refusal) => Err(Fault::Refused(refusal)),
-    }
-}
-
-/// The path by which a listing begins.
-fn shown_path(alloc: Global, path: &[u8]) -> Result<Vec<u8>, AllocError>
-    ensures { IfOk result (λ shown. shown.items ≡ shown_path path.now) }
-{
-    if path.is_empty() {
-        Vec::from_slice(alloc, b"/")
-    } else {
-        Vec::from_slice(alloc, path)
-    }
-}
-
-/// The listing of what stands at a place.
-fn list_place(
-    alloc: Global,
-    image: &Image,
-    geometry: &Geometry,
-    start: &Place,
-    listing: Listing,
-    screen: Screen,
-) -> Result<Vec<u8>, AllocError>
-    requires { IsVolume geometry.now image.now }
-    ensures { IfOk result (λ text. IsListingOf (tree geometry.now image.now) listing screen start.now text.items) }
-{
-    let below = listing.below;
-    let places = places_below(alloc, image, geometry, start, below)?;
-    let is_long = match listing.lines {
-        Lines::Json => {
-            let text = json_text(alloc, image, geometry, start, &places)?;
-            return Ok(text.into_bytes());
-        }
-        Lines::Plain => false,
-        Lines::Long => true,
-    };
-    let style = Style { is_long, screen };
-    lines_text(alloc, image, geometry, style, start, &places, below)
-}
-
-/// The directories below one, where they are asked for.
-fn places_below(
-    alloc: Global,
-    image: &Image,
-    geometry: &Geometry,
-    start: &Place,
-    below: bool,
-) -> Result<Vec<Place>, AllocError>
-    requires { IsVolume geometry.now image.now }
-    ensures { IfOk result (λ places. IsBelow below (tree geometry.now image.now) start.now places.items) }
-{
-    if below {
-        all_below(alloc, image, geometry, start)
-    } else {
-        Ok(Vec::new(alloc))
     }
 }

@@ -5,12 +5,13 @@ ghost use Rattle.image_commands.specs.Looking.{Looks};
 use crate::checking::check;
 use crate::exporting::export;
 use crate::listing::list;
-use crate::looks::{Look, Screen};
+use crate::looks::Look;
 use crate::mapping::draw_map;
 use crate::showing::{show_inode, show_super};
 use pdp_words::Sink;
 use std::alloc::Global;
 use vol_layout::Edition;
+use vol_listing::Screen;
 
 /// Shows what is asked for of an image, which may be any bytes, on `output`, and answers the status: 0; 1 where the image isn't
 /// sound enough for it, or what is asked for isn't there; 3 where `output` failed, 4 where memory ran out. Why is told on `errors`.

@@ -1,5 +1,7 @@
 //! What is looked at, and how it is shown.
 
+use vol_listing::Listing;
+
 /// What a command shows of an image.
 #[derive(Clone, Copy, Debug, PartialEq, Eq)]
 pub enum Look<'a> {
@@ -15,26 +17,6 @@ pub enum Look<'a> {
     Check,
     /// List the names in a directory, or a file.
     List { path: &'a str, listing: Listing },
-}
-
-/// What is listed, and how.
-#[derive(Clone, Copy, Debug, PartialEq, Eq)]
-pub struct Listing {
-    /// What is told of each name.
-    pub lines: Lines,
-    /// Whether the directories below are listed too.
-    pub below: bool,
-}
-
-/// What is told of each name that is listed.
-#[derive(Clone, Copy, Debug, PartialEq, Eq)]
-pub enum Lines {
-    /// Its i-number, on a line.
-    Plain,
-    /// What its i-node says, on a line.
-    Long,
-    /// What its i-node says, as an object of one JSON array.
-    Json,
 }
 
 /// How a report is written.
@@ -53,13 +35,4 @@ pub enum Picture {
     Cells,
     /// A picture as SVG.
     Svg,
-}
-
-/// What shows the output.
-#[derive(Clone, Copy, Debug, PartialEq, Eq)]
-pub enum Screen {
-    /// A terminal with so many columns.
-    Terminal { columns: u16 },
-    /// A file, a pipe or a device.
-    Stream,
 }

@@ -5,13 +5,14 @@ ghost use Rattle.vol_commands.specs.Faults.{Gets, IsRuled};
 ghost use Rattle.image_commands.specs.Mapping.{width_on, is_coloured, blocks_for, uses_in, scale_text, cells_text, map_text, IsMap, IsMapFault, DrawsMap};
 
 use crate::faults::unmeasured;
-use crate::looks::{Picture, Screen};
+use crate::looks::Picture;
 use crate::printing::finish;
 use pdp_words::{Image, Sink};
 use std::alloc::{AllocError, Global};
 use vol_commands::faults::Fault;
 use vol_inspect::{block_uses, cells, draw, svg};
 use vol_layout::{Edition, Geometry};
+use vol_listing::Screen;
 
 /// How many rows of letters there are at most.
 const ROWS: usize = 32;

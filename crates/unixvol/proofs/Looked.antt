@@ -14,8 +14,8 @@ use Rattle.image_commands.specs.Looking.{Looks}
 use Rattle.image_commands.specs.Printing.{IsBrokenOff, IsTold, PrintsOne, PrintsWith}
 use Rattle.image_commands.specs.declared.looks.Look.{Look}
 use Rattle.image_commands.specs.declared.looks.Look.TheVariants as looks
-use Rattle.image_commands.specs.declared.looks.Screen.{Screen}
-use Rattle.image_commands.specs.declared.looks.Screen.TheVariants as screens
+use Rattle.vol_listing.specs.declared.options.Screen.{Screen}
+use Rattle.vol_listing.specs.declared.options.Screen.TheVariants as screens
 use Rattle.unixvol.specs.Running.{IsEnd, IsUnread, RunsLook, host_files}
 use Rattle.unixvol.specs.declared.image_file.Stamp.{Stamp}
 use Rattle.unixvol.proofs.Statuses.{fault_few}

@@ -11,8 +11,8 @@ use Rattle.vol_volume.specs.Ids.{is_bad_id}
 use Rattle.pdp_words.specs.Devices.{IsReadWhole, LosesFront}
 use Rattle.image_commands.specs.Looking.{Looks}
 use Rattle.image_commands.specs.declared.looks.Look.{Look}
-use Rattle.image_commands.specs.declared.looks.Screen.{Screen}
-use Rattle.image_commands.specs.declared.looks.Screen.TheVariants as screens
+use Rattle.vol_listing.specs.declared.options.Screen.{Screen}
+use Rattle.vol_listing.specs.declared.options.Screen.TheVariants as screens
 use Rattle.tree_commands.specs.Editing.{Edits}
 use Rattle.tree_commands.specs.declared.edits.Edit.{Edit}
 use Rattle.tree_commands.specs.declared.edits.Edit.TheVariants as edits

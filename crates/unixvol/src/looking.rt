@@ -12,11 +12,12 @@ use crate::noted::noted_writer;
 use crate::reading::read_file;
 use crate::subject::Subject;
 use command_line::VolumeFile;
-use image_commands::{Look, Screen, look};
+use image_commands::{Look, look};
 use pdp_words::Sink;
 use std::env::{self, Env};
 use std::io::Write;
 use std::process::ExitCode;
+use vol_listing::Screen;
 
 /// How many columns a terminal has where COLUMNS doesn't say it.
 const COLUMNS: u16 = 80;

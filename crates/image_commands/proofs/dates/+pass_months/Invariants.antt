@@ -1,4 +1,0 @@
-use Rattle.image_commands.proofs.dates.+pass_months.Given as goal
-
-abbrev pub decreases-pass_months : goal.decreases-pass_months
-decreases-pass_months l = l.count

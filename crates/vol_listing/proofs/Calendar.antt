@@ -1,0 +1,46 @@
+-- Years and months that are passed.
+use Rattle.std.proofs.Common.{◌≡◌, ℕ, zero, suc, ◌+◌, ◌-◌, ◌<◌, ◌≤◌, refl, ap, arith}
+use Rattle.std.proofs.lemmas.Bool.{lt-ltb, le-ltb}
+use Rattle.vol_listing.specs.Dates.{year_days, month_days, pass_years, pass_months}
+
+-- where none may be passed, none is
+pub years_none : (count year days : ℕ) → count ≡ 0 → pass_years count year days ≡ (year, days)
+unfolding pass_years
+years_none zero year days none = refl
+years_none (suc n) year days none = absurd (omega arith)
+
+-- none is passed before a day of the first
+pub years_within : (count year days : ℕ) → days < year_days year → pass_years count year days ≡ (year, days)
+unfolding pass_years
+years_within zero year days low = refl
+years_within (suc n) year days low = rw (lt-ltb days (year_days year) low) refl
+
+-- else the first is
+pub years_on : (count year days : ℕ) → 1 ≤ count → year_days year ≤ days
+    → pass_years count year days ≡ pass_years (count - 1) (year + 1) (days - year_days year)
+unfolding pass_years
+years_on zero year days some high = absurd (omega arith)
+years_on (suc n) year days some high =
+    let less : n ≡ suc n - 1 = omega arith in
+    rw (le-ltb days (year_days year) high) (ap (λ m. pass_years m (year + 1) (days - year_days year)) less)
+
+-- where none may be passed, none is
+pub months_none : (count year month days : ℕ) → count ≡ 0 → pass_months count year month days ≡ (month, days)
+unfolding pass_months
+months_none zero year month days none = refl
+months_none (suc n) year month days none = absurd (omega arith)
+
+-- none is passed before a day of the first
+pub months_within : (count year month days : ℕ) → days < month_days year month → pass_months count year month days ≡ (month, days)
+unfolding pass_months
+months_within zero year month days low = refl
+months_within (suc n) year month days low = rw (lt-ltb days (month_days year month) low) refl
+
+-- else the first is
+pub months_on : (count year month days : ℕ) → 1 ≤ count → month_days year month ≤ days
+    → pass_months count year month days ≡ pass_months (count - 1) year (month + 1) (days - month_days year month)
+unfolding pass_months
+months_on zero year month days some high = absurd (omega arith)
+months_on (suc n) year month days some high =
+    let less : n ≡ suc n - 1 = omega arith in
+    rw (le-ltb days (month_days year month) high) (ap (λ m. pass_months m year (month + 1) (days - month_days year month)) less)

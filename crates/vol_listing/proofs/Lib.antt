@@ -1,0 +1,7 @@
+pub mod Asked
+pub mod Calendar
+pub mod Columns
+pub mod Descents
+pub mod ListingValues
+pub mod NamesListed
+pub mod NodesRead

@@ -1,0 +1,130 @@
+-- The values of a listing as JSON.
+use Rattle.std.proofs.Common.{◌≡◌, ℕ, zero, suc, ◌+◌, ◌/◌, ◌%◌, ◌<◌, Bool, true, false, ◌||◌, if◌then◌else◌, List, [], ◌∷◌, ◌++◌, map, nat_le, nat_lt, slice_index, refl, ap, ◌∙◌, arith}
+use Rattle.std.specs.Prelude.{◌==◌, ◌&&◌, codes}
+use Rattle.std.specs.List.{flat_map}
+use Rattle.std.specs.Str.{IsAscii, IsUtf8}
+use Rattle.std.proofs.lemmas.Bool.Decides.{nat_tests}
+use Rattle.std.proofs.lemmas.Str.{IsAscii-append, IsUtf8-from_ascii}
+use Rattle.std.proofs.lemmas.Str.Ascii.{IsAscii-nil}
+use Rattle.serde_json.specs.Data.{Data, Members, object, member, no_members}
+use Rattle.serde_json.specs.View.{items_of}
+use Rattle.serde_json.specs.Written.{has_float, items_have_float, members_have_float}
+use Rattle.vol_dir.specs.Tree.{Tree}
+use Rattle.vol_change.specs.Nodes.{node_at}
+use Rattle.vol_dir.specs.Walk.{is_directory}
+use Rattle.vol_listing.specs.ListingJson.{all_data, device_members, entries_data, entry_data, row_data, with_device, with_file, with_numbers}
+use Rattle.vol_listing.specs.Places.{joined, names_under}
+use Rattle.vol_listing.specs.Rows.{row_of}
+use Rattle.escaped_text.specs.Escaping.{escaped, escaped_byte}
+use Rattle.vol_listing.specs.declared.places.Place.{Place}
+use Rattle.vol_listing.specs.declared.rows.Row.{Row}
+use Rattle.vol_listing.specs.declared.rows.Sort.{Sort}
+use Rattle.vol_listing.specs.declared.rows.Sort.TheVariants as sorts
+
+-- one more byte of ASCII
+ascii_more : (b : ℕ) (bytes : List ℕ) → b < 128 → IsAscii bytes → (i : ℕ) → slice_index (b ∷ bytes) i < 128
+ascii_more b bytes low rest zero = low
+ascii_more b bytes low rest (suc i) = rest i
+
+-- three octal digits behind a backslash
+digits_ascii : (b : ℕ) → b < 256 → IsAscii (92 ∷ (48 + b / 64) ∷ (48 + b / 8 % 8) ∷ (48 + b % 8) ∷ [])
+digits_ascii b byte =
+    ascii_more 92 ((48 + b / 64) ∷ (48 + b / 8 % 8) ∷ (48 + b % 8) ∷ []) (omega arith)
+    (ascii_more (48 + b / 64) ((48 + b / 8 % 8) ∷ (48 + b % 8) ∷ []) (omega arith)
+    (ascii_more (48 + b / 8 % 8) ((48 + b % 8) ∷ []) (omega arith) (ascii_more (48 + b % 8) [] (omega arith) IsAscii-nil)))
+
+-- a byte, escaped
+byte_ascii : (backslash printable : Bool) (b : ℕ) → printable ≡ (nat_le 32 b && nat_lt b 127) → b < 256
+    → IsAscii (if backslash then 92 ∷ 92 ∷ [] else if printable then b ∷ [] else 92 ∷ (48 + b / 64) ∷ (48 + b / 8 % 8) ∷ (48 + b % 8) ∷ [])
+byte_ascii true printable b is byte = ascii_more 92 (92 ∷ []) (omega arith) (ascii_more 92 [] (omega arith) IsAscii-nil)
+byte_ascii false true b is byte = let low : b < 128 = grind (arith, nat_tests) in ascii_more b [] low IsAscii-nil
+byte_ascii false false b is byte = digits_ascii b byte
+
+-- bytes, escaped
+bytes_ascii : (bytes : List ℕ) → ((i : ℕ) → slice_index bytes i < 256) → IsAscii (flat_map escaped_byte bytes)
+bytes_ascii [] bound = IsAscii-nil
+bytes_ascii (b ∷ bytes) bound =
+    IsAscii-append (escaped_byte b) (flat_map escaped_byte bytes) (byte_ascii (b == 92) (nat_le 32 b && nat_lt b 127) b refl (bound 0))
+    (bytes_ascii bytes (λ i. bound (suc i)))
+
+-- so they are text
+pub escaped_utf8 : (bytes : List ℕ) → ((i : ℕ) → slice_index bytes i < 256) → IsUtf8 (escaped bytes)
+unfolding escaped
+escaped_utf8 bytes bound = IsUtf8-from_ascii (flat_map escaped_byte bytes) (bytes_ascii bytes bound)
+
+-- the members of a device stand behind the links, and before the time
+device_in_order : (sort : Sort) (gid inode kind links modified path permissions size uid : Data)
+    → with_device sort (member (codes "gid") gid (member (codes "inode") inode (member (codes "kind") kind (member (codes "links") links
+    (member (codes "modified") modified (member (codes "path") path (member (codes "permissions") permissions (member (codes "size") size (member (codes "uid") uid no_members)))))))))
+    ≡ member (codes "gid") gid (member (codes "inode") inode (member (codes "kind") kind (member (codes "links") links (device_members sort
+    (member (codes "modified") modified (member (codes "path") path (member (codes "permissions") permissions (member (codes "size") size (member (codes "uid") uid no_members)))))))))
+device_in_order sorts.Regular gid inode kind links modified path permissions size uid = refl
+device_in_order sorts.Directory gid inode kind links modified path permissions size uid = refl
+device_in_order (sorts.Character device) gid inode kind links modified path permissions size uid = refl
+device_in_order (sorts.Block device) gid inode kind links modified path permissions size uid = refl
+
+-- the members of a row stand in the order of their keys
+row_in_order : (path : List ℕ) (row : Row) → object (with_device row.sort (with_file path row (with_numbers row no_members))) ≡ row_data path row
+unfolding row_data with_file with_numbers
+row_in_order path row = ap object (device_in_order row.sort _ _ _ _ _ _ _ _ _)
+
+-- a row, built of these
+pub row_built : (path : List ℕ) (row : Row) (none numbers file device : Members) → none ≡ no_members → numbers ≡ with_numbers row none
+    → file ≡ with_file path row numbers → device ≡ with_device row.sort file → object device ≡ row_data path row
+row_built path row none numbers file device n m f d =
+    ap object (d ∙ ap (with_device row.sort) (f ∙ ap (with_file path row) (m ∙ ap (with_numbers row) n))) ∙ row_in_order path row
+
+-- no number of a device is a fraction
+device_whole : (sort : Sort) (others : Members) → members_have_float others ≡ false → members_have_float (device_members sort others) ≡ false
+device_whole sorts.Regular others whole = whole
+device_whole sorts.Directory others whole = whole
+device_whole (sorts.Character device) others whole = whole
+device_whole (sorts.Block device) others whole = whole
+
+-- nor of a row
+row_whole : (path : List ℕ) (row : Row) → has_float (row_data path row) ≡ false
+unfolding row_data
+row_whole path row = device_whole row.sort _ refl
+
+-- none of these is, or has, a fraction
+abbrev AreWhole : List Data → Type 0
+AreWhole ds = items_have_float (items_of ds) ≡ false
+
+-- so of one more
+whole_more : (d : Data) (ds : List Data) → has_float d ≡ false → AreWhole ds → AreWhole (d ∷ ds)
+whole_more d ds here rest = rw here rest
+
+-- and of one list behind another
+whole_append : (ds es : List Data) → AreWhole ds → AreWhole es → AreWhole (ds ++ es)
+whole_append [] es whole rest = rest
+whole_append (d ∷ ds) es whole rest = both (has_float d) (items_have_float (items_of ds)) (items_have_float (items_of (ds ++ es))) whole (whole_append ds es)
+  where
+    both : (here tail all : Bool) → (here || tail) ≡ false → (tail ≡ false → AreWhole es → all ≡ false) → (here || all) ≡ false
+    both true tail all is goes = absurd (cc)
+    both false tail all is goes = goes is rest
+
+-- no number of the entries of a directory
+entries_whole : (tree : Tree) (place : Place) → AreWhole (entries_data tree place)
+unfolding entries_data
+entries_whole tree place = names_whole (names_under tree place.path)
+  where
+    names_whole : (names : List (List ℕ × ℕ)) → AreWhole (map (entry_data tree place.path) names)
+    names_whole [] = refl
+    names_whole (entry ∷ names) =
+        whole_more (entry_data tree place.path entry) (map (entry_data tree place.path) names)
+        (row_whole (joined place.path entry.0) (row_of entry.1 (node_at tree entry.1))) (names_whole names)
+
+-- of several
+places_whole : (tree : Tree) (places : List Place) → AreWhole (flat_map (entries_data tree) places)
+places_whole tree [] = refl
+places_whole tree (place ∷ places) =
+    whole_append (entries_data tree place) (flat_map (entries_data tree) places) (entries_whole tree place) (places_whole tree places)
+
+-- or of all
+pub all_whole : (tree : Tree) (place : Place) (places : List Place) → AreWhole (all_data tree place places)
+all_whole tree place places =
+    elim (is_directory (node_at tree place.inode)) as (λ b. AreWhole (if b then entries_data tree place ++ flat_map (entries_data tree) places
+    else row_data place.path (row_of place.inode (node_at tree place.inode)) ∷ [])) [
+      | true ↦ whole_append (entries_data tree place) (flat_map (entries_data tree) places) (entries_whole tree place) (places_whole tree places)
+      | false ↦ whole_more (row_data place.path (row_of place.inode (node_at tree place.inode))) [] (row_whole place.path (row_of place.inode (node_at tree place.inode))) refl
+    ]

@@ -1,0 +1,92 @@
+-- What the tree of an image says of an i-number.
+use Rattle.std.proofs.Common.{◌≡◌, ◌≢◌, ◌⊎◌, inl, inr, ℕ, ◌≤◌, ◌/◌, ◌%◌, ◌∙◌, ap, refl, sym, true, false, cond, List, None, slice_index, arith}
+use Rattle.std.specs.Option.{option_map, unwrap_or}
+use Rattle.std.proofs.lemmas.Bool.Decides.{nat_tests}
+use Rattle.vol_layout.specs.Inode.{inode_of, inode_place}
+use Rattle.vol_layout.specs.declared.geometry.Geometry.{Geometry}
+use Rattle.vol_layout.specs.declared.i_node.Inode.{Inode}
+use Rattle.vol_layout.specs.declared.mode.Kind.{Kind}
+use Rattle.vol_layout.specs.declared.mode.Kind.TheVariants as kinds
+use Rattle.vol_layout.proofs.InodeLaws.{inode_mode}
+use Rattle.vol_file.specs.Rules.{kind_at}
+use Rattle.vol_dir.specs.Tree.{Node, node_of, node_with, content_of, tree, is_number}
+use Rattle.vol_dir.specs.Walk.{is_directory}
+use Rattle.vol_dir.proofs.WalkLaws.{node_inside}
+use Rattle.vol_change.specs.Nodes.{no_node, node_at}
+use Rattle.vol_listing.specs.Rows.{row_of, row_with, special_sort}
+use Rattle.vol_listing.specs.declared.rows.Sort.{Sort}
+use Rattle.vol_listing.specs.declared.rows.Sort.TheVariants as sorts
+
+-- the node of an i-number of the volume, by the kind of its i-node
+abbrev node_by : Geometry → List ℕ → ℕ → Kind → Node
+node_by geometry image i kind = unwrap_or (option_map (node_with (inode_of geometry.edition image i)) (content_of geometry image i kind)) no_node
+
+module _ (geometry : Geometry) (image : List ℕ) (i : ℕ) where
+  -- another number has no node
+  node_outside : is_number geometry i ≡ false → node_at (tree geometry image) i ≡ no_node
+  unfolding tree
+  node_outside number = ap (λ b. unwrap_or (cond b (node_of geometry image i) None) no_node) number
+
+  node_of_kind : (kind : Kind) → kind ≡ kind_at geometry image i
+      → node_of geometry image i ≡ option_map (node_with (inode_of geometry.edition image i)) (content_of geometry image i kind)
+  unfolding node_of
+  node_of_kind kind is = ap (λ k. option_map (node_with (inode_of geometry.edition image i)) (content_of geometry image i k)) (sym is)
+
+  node_is : (kind : Kind) → is_number geometry i ≡ true → kind ≡ kind_at geometry image i → node_at (tree geometry image) i ≡ node_by geometry image i kind
+  node_is kind number is =
+      let first : 1 ≤ i = grind (arith, nat_tests) in
+      let last : i ≤ geometry.last_inode = grind (arith, nat_tests) in
+      ap (λ n. unwrap_or n no_node) (node_inside geometry image i first last ∙ node_of_kind kind is)
+
+  -- a row where there is no node
+  pub row_outside : is_number geometry i ≡ false → row_of i no_node ≡ row_of i (node_at (tree geometry image) i)
+  row_outside number = ap (row_of i) (sym (node_outside number))
+
+  -- rows of the kinds of i-nodes
+  row_free : is_number geometry i ≡ true → kinds.Free ≡ kind_at geometry image i → row_of i no_node ≡ row_of i (node_at (tree geometry image) i)
+  row_free number is = ap (row_of i) (sym (node_is kinds.Free number is))
+
+  row_odd : is_number geometry i ≡ true → kinds.Odd ≡ kind_at geometry image i → row_of i no_node ≡ row_of i (node_at (tree geometry image) i)
+  row_odd number is = ap (row_of i) (sym (node_is kinds.Odd number is))
+
+  pub row_none : (kind : Kind) → is_number geometry i ≡ true → kind ≡ kind_at geometry image i → (kind ≡ kinds.Free) ⊎ (kind ≡ kinds.Odd)
+      → row_of i no_node ≡ row_of i (node_at (tree geometry image) i)
+  row_none kind number is (inl free) = row_free number (sym free ∙ is)
+  row_none kind number is (inr odd) = row_odd number (sym odd ∙ is)
+
+  pub row_regular : (node : Inode) → is_number geometry i ≡ true → kinds.Regular ≡ kind_at geometry image i → node ≡ inode_of geometry.edition image i
+      → row_with i node sorts.Regular ≡ row_of i (node_at (tree geometry image) i)
+  row_regular node number is stored = ap (λ n. row_with i n sorts.Regular) stored ∙ ap (row_of i) (sym (node_is kinds.Regular number is))
+
+  pub row_directory : (node : Inode) → is_number geometry i ≡ true → kinds.Directory ≡ kind_at geometry image i → node ≡ inode_of geometry.edition image i
+      → row_with i node sorts.Directory ≡ row_of i (node_at (tree geometry image) i)
+  row_directory node number is stored = ap (λ n. row_with i n sorts.Directory) stored ∙ ap (row_of i) (sym (node_is kinds.Directory number is))
+
+  pub row_special : (node : Inode) (sort : Sort) → is_number geometry i ≡ true → kinds.Special ≡ kind_at geometry image i → node ≡ inode_of geometry.edition image i
+      → sort ≡ special_sort (node.mode.bits / 4096) (slice_index node.addresses 0 % 65536)
+      → row_with i node sort ≡ row_of i (node_at (tree geometry image) i)
+  row_special node sort number is stored sorted =
+      let mode = inode_mode geometry.edition image (inode_place geometry.edition i) in
+      let device = slice_index (inode_of geometry.edition image i).addresses 0 % 65536 in
+      ap (row_with i node) sorted
+      ∙ (ap (λ (n : Inode). row_with i n (special_sort (n.mode.bits / 4096) (slice_index n.addresses 0 % 65536))) stored
+      ∙ (ap (λ bits. row_with i (inode_of geometry.edition image i) (special_sort (bits / 4096) device)) mode
+      ∙ ap (row_of i) (sym (node_is kinds.Special number is))))
+
+  -- whether there is a directory
+  pub directory_outside : is_number geometry i ≡ false → is_directory (node_at (tree geometry image) i) ≡ false
+  directory_outside number = ap is_directory (node_outside number)
+
+  pub directory_is : is_number geometry i ≡ true → kinds.Directory ≡ kind_at geometry image i → is_directory (node_at (tree geometry image) i) ≡ true
+  directory_is number is = ap is_directory (node_is kinds.Directory number is)
+
+  no_directory : (kind : Kind) → kind ≢ kinds.Directory → is_directory (node_by geometry image i kind) ≡ false
+  no_directory kinds.Free other = refl
+  no_directory kinds.Regular other = refl
+  no_directory kinds.Directory other = absurd (other refl)
+  no_directory kinds.Special other = refl
+  no_directory kinds.Odd other = refl
+
+  pub directory_not : is_number geometry i ≡ true → kind_at geometry image i ≢ kinds.Directory → is_directory (node_at (tree geometry image) i) ≡ false
+  directory_not number other =
+      ap is_directory (node_is (kind_at geometry image i) number refl) ∙ no_directory (kind_at geometry image i) other

@@ -1,0 +1,10 @@
+pub mod Dates
+pub mod Digits
+pub mod Json
+pub mod Laws
+pub mod Lines
+pub mod Listing
+pub mod ListingJson
+pub mod LongLines
+pub mod Places
+pub mod Rows

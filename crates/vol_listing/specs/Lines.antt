@@ -1,0 +1,50 @@
+-- The lines of a listing.
+use Rattle.std.specs.Prelude.{ℕ, Bool, if◌then◌else◌, List, [], ◌∷◌, ◌++◌, codes}
+use Rattle.std.specs.List.{flat_map}
+use Rattle.vol_dir.specs.Tree.{Tree}
+use Rattle.vol_dir.specs.Walk.{is_directory}
+use Rattle.escaped_text.specs.Escaping.{escaped}
+use Rattle.vol_change.specs.Nodes.{node_at}
+use Rattle.vol_listing.specs.Digits.{padded_number}
+use Rattle.vol_listing.specs.LongLines.{long_line}
+use Rattle.vol_listing.specs.Places.{names_under}
+use Rattle.vol_listing.specs.Rows.{row_of}
+use Rattle.vol_listing.specs.declared.lines.Style.{Style}
+use Rattle.vol_listing.specs.declared.options.Screen.{Screen}
+use Rattle.vol_listing.specs.declared.options.Screen.TheVariants as screens
+use Rattle.vol_listing.specs.declared.places.Place.{Place}
+
+-- a name or a path as it is shown: to a terminal escaped, else as its bytes are (this project)
+abbrev pub shown : Screen → List ℕ → List ℕ
+shown (screens.Terminal columns) name = escaped name
+shown screens.Stream name = name
+
+-- the line of a name and its i-number (ls -i)
+abbrev pub entry_line : List ℕ × ℕ → List ℕ
+entry_line entry = padded_number entry.1 ++ (32 ∷ entry.0) ++ (10 ∷ [])
+
+-- the line of a name and its i-number, long or not (ls -li, ls -i)
+abbrev pub line_of : Style → Tree → List ℕ × ℕ → List ℕ
+line_of style tree entry =
+    if style.is_long
+    then long_line (row_of entry.1 (node_at tree entry.1)) (shown style.screen entry.0)
+    else entry_line (shown style.screen entry.0, entry.1)
+
+-- the lines of the names of the directory at a path, in ascending order (ls -a)
+unfoldable pub names_text : Style → Tree → List ℕ → List ℕ
+names_text style tree path = flat_map (line_of style tree) (names_under tree path)
+
+-- a directory under its path (ls -R)
+unfoldable pub section_text : Style → Tree → Place → List ℕ
+section_text style tree place = shown style.screen place.path ++ (codes ":\n" ++ names_text style tree place.path)
+
+-- the same behind an empty line (ls -R)
+abbrev pub other_text : Style → Tree → Place → List ℕ
+other_text style tree place = 10 ∷ section_text style tree place
+
+-- the names of a directory, and, where the directories below it are asked for, theirs, each directory under its path and with an empty line between; of what is no directory, its own line (ls)
+abbrev pub lines_text : Style → Tree → Bool → Place → List Place → List ℕ
+lines_text style tree below place places =
+    if is_directory (node_at tree place.inode)
+    then (if below then section_text style tree place ++ flat_map (other_text style tree) places else names_text style tree place.path)
+    else line_of style tree (place.path, place.inode)

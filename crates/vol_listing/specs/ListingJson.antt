@@ -1,0 +1,88 @@
+-- A listing as JSON.
+use Rattle.std.specs.Prelude.{ℕ, ◌/◌, ◌%◌, if◌then◌else◌, List, [], ◌∷◌, ◌++◌, codes, map}
+use Rattle.std.specs.List.{flat_map}
+use Rattle.serde_json.specs.Data.{Data, Members, string, array, object, member, no_members, put}
+use Rattle.serde_json.specs.View.{items_of}
+use Rattle.serde_json.specs.Written.{compact_text}
+use Rattle.vol_dir.specs.Tree.{Tree}
+use Rattle.vol_dir.specs.Walk.{is_directory}
+use Rattle.vol_change.specs.Nodes.{node_at}
+use Rattle.vol_listing.specs.Json.{count}
+use Rattle.vol_listing.specs.Places.{joined, names_under}
+use Rattle.vol_listing.specs.Rows.{row_of}
+use Rattle.escaped_text.specs.Escaping.{escaped}
+use Rattle.vol_listing.specs.declared.places.Place.{Place}
+use Rattle.vol_listing.specs.declared.rows.Row.{Row}
+use Rattle.vol_listing.specs.declared.rows.Sort.{Sort}
+use Rattle.vol_listing.specs.declared.rows.Sort.TheVariants as sorts
+
+-- the word for a sort (this project)
+abbrev pub sort_word : Sort → List ℕ
+sort_word sorts.Regular = codes "file"
+sort_word sorts.Directory = codes "directory"
+sort_word (sorts.Character device) = codes "character"
+sort_word (sorts.Block device) = codes "block"
+
+-- with the device of a special file before others: the high and the low byte of its number (stat.h)
+abbrev pub device_members : Sort → Members → Members
+device_members sorts.Regular others = others
+device_members sorts.Directory others = others
+device_members (sorts.Character device) others = member (codes "major") (count (device / 256)) (member (codes "minor") (count (device % 256)) others)
+device_members (sorts.Block device) others = member (codes "major") (count (device / 256)) (member (codes "minor") (count (device % 256)) others)
+
+-- what a listing says of a node at a path, whose bytes are escaped as a terminal gets them (this project)
+unfoldable pub row_data : List ℕ → Row → Data
+row_data path row =
+    object (member (codes "gid") (count row.gid)
+    (member (codes "inode") (count row.number)
+    (member (codes "kind") (string (sort_word row.sort))
+    (member (codes "links") (count row.links)
+    (device_members row.sort
+    (member (codes "modified") (count row.modified)
+    (member (codes "path") (string (escaped path))
+    (member (codes "permissions") (count row.permissions)
+    (member (codes "size") (count row.size)
+    (member (codes "uid") (count row.uid) no_members))))))))))
+
+-- what it says of an entry of the directory at a path (this project)
+abbrev pub entry_data : Tree → List ℕ → List ℕ × ℕ → Data
+entry_data tree path entry = row_data (joined path entry.0) (row_of entry.1 (node_at tree entry.1))
+
+-- what it says of the entries of a directory, in ascending order of their names (ls -a)
+unfoldable pub entries_data : Tree → Place → List Data
+entries_data tree place = map (entry_data tree place.path) (names_under tree place.path)
+
+-- what it says of all: the entries of a directory, and of those below it that are asked for; of what is no directory, itself (ls)
+abbrev pub all_data : Tree → Place → List Place → List Data
+all_data tree place places =
+    if is_directory (node_at tree place.inode)
+    then entries_data tree place ++ flat_map (entries_data tree) places
+    else row_data place.path (row_of place.inode (node_at tree place.inode)) ∷ []
+
+-- a listing as one array of objects, on one line (RFC 8259)
+abbrev pub json_text : Tree → Place → List Place → List ℕ
+json_text tree place places = compact_text (array (items_of (all_data tree place places))) ++ codes "\n"
+
+-- with what a row says in numbers that every node has (this project)
+unfoldable pub with_numbers : Row → Members → Members
+with_numbers row members =
+    put (codes "uid") (count row.uid)
+    (put (codes "gid") (count row.gid)
+    (put (codes "links") (count row.links)
+    (put (codes "inode") (count row.number) members)))
+
+-- with what a row says of the file, and its path (this project)
+unfoldable pub with_file : List ℕ → Row → Members → Members
+with_file path row members =
+    put (codes "modified") (count row.modified)
+    (put (codes "size") (count row.size)
+    (put (codes "permissions") (count row.permissions)
+    (put (codes "kind") (string (sort_word row.sort))
+    (put (codes "path") (string (escaped path)) members))))
+
+-- with the device of a special file (this project)
+abbrev pub with_device : Sort → Members → Members
+with_device sorts.Regular members = members
+with_device sorts.Directory members = members
+with_device (sorts.Character device) members = put (codes "minor") (count (device % 256)) (put (codes "major") (count (device / 256)) members)
+with_device (sorts.Block device) members = put (codes "minor") (count (device % 256)) (put (codes "major") (count (device / 256)) members)

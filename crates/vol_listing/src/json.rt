@@ -1,0 +1,31 @@
+//! Numbers and lines of JSON.
+ghost use Rattle.std.specs.Prelude.{◌≡◌, ◌++◌, codes, false, IfOk, OnOk, string_bytes};
+ghost use Rattle.serde_json.specs.Data.{put as with_member};
+ghost use Rattle.serde_json.specs.View.{members_view, view};
+ghost use Rattle.serde_json.specs.Written.{compact_text, has_float};
+ghost use Rattle.vol_listing.specs.Json.{count};
+
+use serde_json::{Map, Value, put};
+use std::alloc::{AllocError, Global};
+
+/// The text of a value in which no number is a float, and a newline.
+pub fn line(alloc: Global, value: &Value) -> Result<String, AllocError>
+    requires { has_float (view value.now) ≡ false }
+    ensures { IfOk result (λ text. string_bytes text ≡ compact_text (view value.now) ++ codes "\n") }
+{
+    let mut text = value.to_string(alloc)?;
+    text.push_str("\n")?;
+    Ok(text)
+}
+
+/// Puts a number into an object.
+pub fn put_count(
+    alloc: Global,
+    object: &mut Map<String, Value>,
+    key: &str,
+    number: u64,
+) -> Result<(), AllocError>
+    ensures { OnOk result (members_view object.new.entries ≡ with_member key.now (count number) (members_view object.old.entries)) }
+{
+    put(object, alloc, key, Value::from(number))
+}

@@ -1,0 +1,17 @@
+//! What a listing of a volume has, and how its lines look.
+#![tactic(auto)]
+
+mod dates;
+mod directories;
+pub mod json;
+pub mod laws;
+mod lines;
+pub mod listing;
+mod listing_json;
+mod long_lines;
+mod options;
+mod places;
+mod rows;
+
+pub use listing::list;
+pub use options::{Lines, Listing, Screen};

@@ -1,0 +1,207 @@
+//! The lines of a listing.
+ghost use Rattle.std.specs.Prelude.{◌≡◌, ◌++◌, IfOk, OnOk};
+ghost use Rattle.std.specs.List.{flat_map};
+ghost use Rattle.vol_dir.specs.Tree.{tree};
+ghost use Rattle.vol_layout.specs.Geometry.{Fits};
+ghost use Rattle.vol_listing.specs.Lines.{entry_line};
+ghost use Rattle.vol_listing.specs.LongLines.{long_line};
+ghost use Rattle.vol_listing.specs.Places.{IsVolume};
+ghost use Rattle.vol_listing.specs.Lines.{shown, line_of, names_text, section_text, other_text, lines_text};
+
+use crate::directories::{is_directory, names};
+use crate::long_lines::{padded, push_columns};
+use crate::options::Screen;
+use crate::places::Place;
+use crate::rows::{Row, row_at};
+use escaped_text::push_escaped;
+use pdp_words::Image;
+use std::alloc::{AllocError, Global};
+use vol_layout::Geometry;
+use vol_volume::Bytes;
+
+/// How lines are written.
+#[derive(Clone, Copy)]
+pub(crate) struct Style {
+    /// Whether they say what the i-node does.
+    pub(crate) is_long: bool,
+    /// What shows them.
+    pub(crate) screen: Screen,
+}
+
+/// The names of a directory, and, where the directories below it are asked for, theirs, each directory under its path and with an empty
+/// line between; of what is no directory, its own line.
+pub(crate) fn lines_text(
+    alloc: Global,
+    image: &Image,
+    geometry: &Geometry,
+    style: Style,
+    place: &Place,
+    places: &[Place],
+    below: bool,
+) -> Result<Vec<u8>, AllocError>
+    requires { IsVolume geometry.now image.now }
+    ensures { IfOk result (λ text. text.items ≡ lines_text style (tree geometry.now image.now) below place.now places.now) }
+{
+    let path = place.path.as_slice();
+    let mut text = Vec::new(alloc);
+    if !is_directory(image, geometry, place.inode) {
+        push_line(image, geometry, style, path, place.inode, &mut text)?;
+    } else if below {
+        push_section(alloc, image, geometry, style, place, &mut text)?;
+        push_others(alloc, image, geometry, style, places, &mut text)?;
+    } else {
+        push_names(alloc, image, geometry, style, path, &mut text)?;
+    }
+    Ok(text)
+}
+
+/// Appends directories, each under its path and behind an empty line.
+fn push_others(
+    alloc: Global,
+    image: &Image,
+    geometry: &Geometry,
+    style: Style,
+    places: &[Place],
+    text: &mut Vec<u8>,
+) -> Result<(), AllocError>
+    requires { IsVolume geometry.now image.now }
+    ensures { OnOk result (text.new.items ≡ text.old.items ++ flat_map (other_text style (tree geometry.now image.now)) places.now) }
+{
+    'places: for place in places {
+        push_other(alloc, image, geometry, style, place, text)?;
+    }
+    Ok(())
+}
+
+/// Appends a directory under its path and behind an empty line.
+fn push_other(
+    alloc: Global,
+    image: &Image,
+    geometry: &Geometry,
+    style: Style,
+    place: &Place,
+    text: &mut Vec<u8>,
+) -> Result<(), AllocError>
+    requires { IsVolume geometry.now image.now }
+    ensures { OnOk result (text.new.items ≡ text.old.items ++ other_text style (tree geometry.now image.now) place.now) }
+{
+    text.push(b'\n')?;
+    push_section(alloc, image, geometry, style, place, text)?;
+    Ok(())
+}
+
+/// Appends a directory under its path.
+fn push_section(
+    alloc: Global,
+    image: &Image,
+    geometry: &Geometry,
+    style: Style,
+    place: &Place,
+    text: &mut Vec<u8>,
+) -> Result<(), AllocError>
+    requires { IsVolume geometry.now image.now }
+    ensures { OnOk result (text.new.items ≡ text.old.items ++ section_text style (tree geometry.now image.now) place.now) }
+{
+    let path = place.path.as_slice();
+    push_shown(style.screen, path, text)?;
+    text.extend_from_slice(b":\n")?;
+    push_names(alloc, image, geometry, style, path, text)?;
+    Ok(())
+}
+
+/// Appends the lines of the names of a directory.
+#[tactic(auto, unfolding(crate::specs::Lines::names_text))]
+fn push_names(
+    alloc: Global,
+    image: &Image,
+    geometry: &Geometry,
+    style: Style,
+    path: &[u8],
+    text: &mut Vec<u8>,
+) -> Result<(), AllocError>
+    requires { IsVolume geometry.now image.now }
+    ensures { OnOk result (text.new.items ≡ text.old.items ++ names_text style (tree geometry.now image.now) path.now) }
+{
+    let names = names(alloc, image, geometry, path)?;
+    push_lines(image, geometry, style, &names, text)?;
+    Ok(())
+}
+
+/// Appends the lines of names, in their order.
+fn push_lines(
+    image: &Image,
+    geometry: &Geometry,
+    style: Style,
+    names: &[(Bytes, u16)],
+    text: &mut Vec<u8>,
+) -> Result<(), AllocError>
+    requires { Fits geometry.now image.now }
+    ensures { OnOk result (text.new.items ≡ text.old.items ++ flat_map (line_of style (tree geometry.now image.now)) names.now) }
+{
+    'names: for (name, number) in names {
+        push_line(image, geometry, style, name.as_slice(), *number, text)?;
+    }
+    Ok(())
+}
+
+/// Appends the line of a name and its i-number.
+fn push_line(
+    image: &Image,
+    geometry: &Geometry,
+    style: Style,
+    name: &[u8],
+    number: u16,
+    text: &mut Vec<u8>,
+) -> Result<(), AllocError>
+    requires { Fits geometry.now image.now }
+    ensures { OnOk result (text.new.items ≡ text.old.items ++ line_of style (tree geometry.now image.now) (name.now, number)) }
+{
+    if style.is_long {
+        let row = row_at(image, geometry, number);
+        push_long_line(style.screen, row, name, text)
+    } else {
+        push_plain_line(style.screen, number, name, text)
+    }
+}
+
+/// Appends the line of a name and its i-number, with no more.
+fn push_plain_line(
+    screen: Screen,
+    number: u16,
+    name: &[u8],
+    text: &mut Vec<u8>,
+) -> Result<(), AllocError>
+    ensures { OnOk result (text.new.items ≡ text.old.items ++ entry_line (shown screen name.now, number)) }
+{
+    text.extend_from_slice(&padded(number))?;
+    text.push(b' ')?;
+    push_shown(screen, name, text)?;
+    text.push(b'\n')?;
+    Ok(())
+}
+
+/// Appends the line of a name and what its node says.
+#[tactic(auto, unfolding(crate::specs::LongLines::long_line))]
+fn push_long_line(
+    screen: Screen,
+    row: Row,
+    name: &[u8],
+    text: &mut Vec<u8>,
+) -> Result<(), AllocError>
+    ensures { OnOk result (text.new.items ≡ text.old.items ++ long_line row (shown screen name.now)) }
+{
+    push_columns(text, row)?;
+    push_shown(screen, name, text)?;
+    text.push(b'\n')?;
+    Ok(())
+}
+
+/// Appends a name or a path as it is shown: to a terminal escaped, else as its bytes are.
+fn push_shown(screen: Screen, name: &[u8], text: &mut Vec<u8>) -> Result<(), AllocError>
+    ensures { OnOk result (text.new.items ≡ text.old.items ++ shown screen name.now) }
+{
+    match screen {
+        Screen::Terminal { .. } => push_escaped(text, name),
+        Screen::Stream => Ok(text.extend_from_slice(name)?),
+    }
+}

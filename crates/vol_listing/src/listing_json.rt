@@ -1,0 +1,207 @@
+//! A listing as JSON.
+ghost use Rattle.std.specs.Prelude.{◌≡◌, ◌++◌, IfOk, OnOk, map, string_bytes};
+ghost use Rattle.std.specs.List.{flat_map};
+ghost use Rattle.serde_json.specs.View.{members_view, view};
+ghost use Rattle.vol_dir.specs.Tree.{tree};
+ghost use Rattle.vol_layout.specs.Geometry.{Fits};
+ghost use Rattle.vol_listing.specs.ListingJson.{sort_word, row_data, entry_data, entries_data, all_data, json_text, with_numbers, with_file, with_device};
+ghost use Rattle.vol_listing.specs.Places.{IsVolume};
+ghost use Rattle.escaped_text.specs.Escaping.{escaped};
+
+use crate::directories::{is_directory, names};
+use crate::json::{line, put_count};
+use crate::places::{Place, joined};
+use crate::rows::{Row, Sort, row_at};
+use escaped_text::push_escaped;
+use pdp_words::Image;
+use serde_json::{Map, Value, put};
+use std::alloc::{AllocError, Global};
+use vol_layout::Geometry;
+use vol_volume::Bytes;
+
+/// One array on one line: an object for each entry of a directory, and of those below it that are given; of what is no directory, one
+/// for itself.
+pub(crate) fn json_text(
+    alloc: Global,
+    image: &Image,
+    geometry: &Geometry,
+    place: &Place,
+    places: &[Place],
+) -> Result<String, AllocError>
+    requires { IsVolume geometry.now image.now }
+    ensures { IfOk result (λ text. string_bytes text ≡ json_text (tree geometry.now image.now) place.now places.now) }
+{
+    let values = all_values(alloc, image, geometry, place, places)?;
+    line(alloc, &Value::Array(values))
+}
+
+/// The objects of that array.
+fn all_values(
+    alloc: Global,
+    image: &Image,
+    geometry: &Geometry,
+    place: &Place,
+    places: &[Place],
+) -> Result<Vec<Value>, AllocError>
+    requires { IsVolume geometry.now image.now }
+    ensures { IfOk result (λ values. map view values.items ≡ all_data (tree geometry.now image.now) place.now places.now) }
+{
+    let mut values = Vec::new(alloc);
+    if is_directory(image, geometry, place.inode) {
+        push_entries(alloc, image, geometry, place, &mut values)?;
+        push_all(alloc, image, geometry, places, &mut values)?;
+    } else {
+        let row = row_at(image, geometry, place.inode);
+        values.push(row_value(alloc, place.path.as_slice(), row)?)?;
+    }
+    Ok(values)
+}
+
+/// Appends the objects of the entries of directories.
+fn push_all(
+    alloc: Global,
+    image: &Image,
+    geometry: &Geometry,
+    places: &[Place],
+    values: &mut Vec<Value>,
+) -> Result<(), AllocError>
+    requires { IsVolume geometry.now image.now }
+    ensures { OnOk result (map view values.new.items ≡ map view values.old.items ++ flat_map (entries_data (tree geometry.now image.now)) places.now) }
+{
+    'places: for place in places {
+        push_entries(alloc, image, geometry, place, values)?;
+    }
+    Ok(())
+}
+
+/// Appends the objects of the entries of a directory, in ascending order of their names.
+#[tactic(auto, unfolding(crate::specs::ListingJson::entries_data))]
+fn push_entries(
+    alloc: Global,
+    image: &Image,
+    geometry: &Geometry,
+    place: &Place,
+    values: &mut Vec<Value>,
+) -> Result<(), AllocError>
+    requires { IsVolume geometry.now image.now }
+    ensures { OnOk result (map view values.new.items ≡ map view values.old.items ++ entries_data (tree geometry.now image.now) place.now) }
+{
+    let path = place.path.as_slice();
+    let names = names(alloc, image, geometry, path)?;
+    push_names(alloc, image, geometry, path, &names, values)?;
+    Ok(())
+}
+
+/// Appends the objects of entries of the directory at a path.
+fn push_names(
+    alloc: Global,
+    image: &Image,
+    geometry: &Geometry,
+    path: &[u8],
+    names: &[(Bytes, u16)],
+    values: &mut Vec<Value>,
+) -> Result<(), AllocError>
+    requires { Fits geometry.now image.now }
+    ensures { OnOk result (map view values.new.items ≡ map view values.old.items ++ map (entry_data (tree geometry.now image.now) path.now) names.now) }
+{
+    'names: for (name, number) in names {
+        let value = entry_value(alloc, image, geometry, path, name.as_slice(), *number)?;
+        values.push(value)?;
+    }
+    Ok(())
+}
+
+/// The object of an entry of the directory at a path.
+fn entry_value(
+    alloc: Global,
+    image: &Image,
+    geometry: &Geometry,
+    path: &[u8],
+    name: &[u8],
+    number: u16,
+) -> Result<Value, AllocError>
+    requires { Fits geometry.now image.now }
+    ensures { IfOk result (λ value. view value ≡ entry_data (tree geometry.now image.now) path.now (name.now, number)) }
+{
+    let path = joined(alloc, path, name)?;
+    let value = row_value(alloc, &path, row_at(image, geometry, number))?;
+    Ok(value)
+}
+
+/// The object of what is said of a node at a path.
+fn row_value(alloc: Global, path: &[u8], row: Row) -> Result<Value, AllocError>
+    ensures { IfOk result (λ value. view value ≡ row_data path.now row) }
+{
+    let mut object = Map::new(alloc);
+    put_numbers(alloc, row, &mut object)?;
+    put_file(alloc, path, row, &mut object)?;
+    put_device(alloc, row.sort, &mut object)?;
+    Ok(Value::Object(object))
+}
+
+/// Puts what a row says in numbers that every node has.
+#[tactic(auto, unfolding(crate::specs::ListingJson::with_numbers))]
+fn put_numbers(alloc: Global, row: Row, object: &mut Map<String, Value>) -> Result<(), AllocError>
+    ensures { OnOk result (members_view object.new.entries ≡ with_numbers row (members_view object.old.entries)) }
+{
+    put_count(alloc, object, "inode", u64::from(row.number))?;
+    put_count(alloc, object, "links", u64::from(row.links))?;
+    put_count(alloc, object, "gid", u64::from(row.gid))?;
+    put_count(alloc, object, "uid", u64::from(row.uid))
+}
+
+/// Puts what a row says of the file, and its path.
+#[tactic(auto, unfolding(crate::specs::ListingJson::with_file))]
+fn put_file(
+    alloc: Global,
+    path: &[u8],
+    row: Row,
+    object: &mut Map<String, Value>,
+) -> Result<(), AllocError>
+    ensures { OnOk result (members_view object.new.entries ≡ with_file path.now row (members_view object.old.entries)) }
+{
+    let path = escaped_text(alloc, path)?;
+    let kind = String::from_str(alloc, sort_word(row.sort))?;
+    put(object, alloc, "path", Value::String(path))?;
+    put(object, alloc, "kind", Value::String(kind))?;
+    put_count(alloc, object, "permissions", u64::from(row.permissions))?;
+    put_count(alloc, object, "size", u64::from(row.size))?;
+    put_count(alloc, object, "modified", u64::from(row.modified))
+}
+
+/// Puts the device of a special file.
+fn put_device(alloc: Global, sort: Sort, object: &mut Map<String, Value>) -> Result<(), AllocError>
+    ensures { OnOk result (members_view object.new.entries ≡ with_device sort (members_view object.old.entries)) }
+{
+    match sort {
+        Sort::Regular | Sort::Directory => Ok(()),
+        Sort::Character(device) | Sort::Block(device) => {
+            put_count(alloc, object, "major", u64::from(device / 256))?;
+            put_count(alloc, object, "minor", u64::from(device % 256))
+        }
+    }
+}
+
+/// The word for a sort.
+fn sort_word(sort: Sort) -> &'static str
+    ensures { result.now ≡ sort_word sort }
+{
+    match sort {
+        Sort::Regular => "file",
+        Sort::Directory => "directory",
+        Sort::Character(_) => "character",
+        Sort::Block(_) => "block",
+    }
+}
+
+/// Bytes, escaped, as text.
+fn escaped_text(alloc: Global, bytes: &[u8]) -> Result<String, AllocError>
+    ensures { IfOk result (λ text. string_bytes text ≡ escaped bytes.now) }
+{
+    let mut text = Vec::new(alloc);
+    push_escaped(&mut text, bytes)?;
+    match String::from_utf8(text) {
+        Ok(text) => Ok(text),
+        Err(_) => unreachable!(),
+    }
+}

@@ -1,0 +1,146 @@
+//! The directories of a listing.
+ghost use Rattle.std.specs.Prelude.{◌≡◌, ◌++◌, IfOk, OnOk, reverse};
+ghost use Rattle.std.specs.List.{flat_map};
+ghost use Rattle.vol_dir.specs.Tree.{tree};
+ghost use Rattle.vol_layout.specs.Geometry.{Fits};
+ghost use Rattle.vol_listing.specs.Places.{ends_in_slash, joined, place_of, directory_below, below, AllBelow, IsVolume};
+
+use crate::directories::{is_directory, names};
+use pdp_words::Image;
+use std::alloc::{AllocError, Global};
+use vol_dir::is_dots;
+use vol_layout::Geometry;
+use vol_volume::Bytes;
+
+/// A file or a directory, by its path and its i-number.
+#[derive(Drop)]
+pub(crate) struct Place {
+    /// The path.
+    pub(crate) path: Bytes,
+    /// The i-number.
+    pub(crate) inode: u16,
+}
+
+/// All directories below one, each before those in it, in ascending order of their names.
+///
+/// Costs as much as sorting the names of each, and memory for all paths.
+pub(crate) fn all_below(
+    alloc: Global,
+    image: &Image,
+    geometry: &Geometry,
+    start: &Place,
+) -> Result<Vec<Place>, AllocError>
+    requires { IsVolume geometry.now image.now }
+    ensures { IfOk result (λ places. AllBelow (tree geometry.now image.now) start.now places.items) }
+{
+    let mut places = Vec::new(alloc);
+    let mut pending = Vec::new(alloc);
+    push_below(alloc, image, geometry, start, &mut pending)?;
+    'places: while let Some(place) = pending.pop() {
+        push_below(alloc, image, geometry, &place, &mut pending)?;
+        places.push(place)?;
+    }
+    Ok(places)
+}
+
+/// Puts the directories in a directory on top of those that are pending, the first of them last.
+fn push_below(
+    alloc: Global,
+    image: &Image,
+    geometry: &Geometry,
+    place: &Place,
+    pending: &mut Vec<Place>,
+) -> Result<(), AllocError>
+    requires { IsVolume geometry.now image.now }
+    ensures { OnOk result (reverse pending.new.items ≡ below (tree geometry.now image.now) place.now ++ reverse pending.old.items) }
+{
+    let mut below = below(alloc, image, geometry, place)?;
+    'directories: while let Some(place) = below.pop() {
+        pending.push(place)?;
+    }
+    Ok(())
+}
+
+/// The directories in a directory, in ascending order of their names.
+#[tactic(auto, unfolding(crate::specs::Places::below))]
+fn below(
+    alloc: Global,
+    image: &Image,
+    geometry: &Geometry,
+    place: &Place,
+) -> Result<Vec<Place>, AllocError>
+    requires { IsVolume geometry.now image.now }
+    ensures { IfOk result (λ places. places.items ≡ below (tree geometry.now image.now) place.now) }
+{
+    let path = place.path.as_slice();
+    let names = names(alloc, image, geometry, path)?;
+    directories_among(alloc, image, geometry, path, &names)
+}
+
+/// The directories among entries of the directory at a path, but for `.` and `..`.
+fn directories_among(
+    alloc: Global,
+    image: &Image,
+    geometry: &Geometry,
+    path: &[u8],
+    names: &[(Bytes, u16)],
+) -> Result<Vec<Place>, AllocError>
+    requires { Fits geometry.now image.now }
+    ensures { IfOk result (λ places. places.items ≡ flat_map (directory_below (tree geometry.now image.now) path.now) names.now) }
+{
+    let mut places = Vec::new(alloc);
+    'names: for (name, inode) in names {
+        let name = name.as_slice();
+        push_directory(alloc, image, geometry, path, name, *inode, &mut places)?;
+    }
+    Ok(places)
+}
+
+/// Appends the place of an entry of the directory at a path, where a listing goes into it: where it is a directory, and neither `.` nor
+/// `..`.
+fn push_directory(
+    alloc: Global,
+    image: &Image,
+    geometry: &Geometry,
+    path: &[u8],
+    name: &[u8],
+    inode: u16,
+    places: &mut Vec<Place>,
+) -> Result<(), AllocError>
+    requires { Fits geometry.now image.now }
+    ensures { OnOk result (places.new.items ≡ places.old.items ++ directory_below (tree geometry.now image.now) path.now (name.now, inode)) }
+{
+    if !is_dots(name) && is_directory(image, geometry, inode) {
+        places.push(place_of(alloc, path, name, inode)?)?;
+    }
+    Ok(())
+}
+
+/// The place of an entry of the directory at a path.
+fn place_of(alloc: Global, path: &[u8], name: &[u8], inode: u16) -> Result<Place, AllocError>
+    ensures { IfOk result (λ place. place ≡ place_of path.now (name.now, inode)) }
+{
+    Ok(Place {
+        path: Bytes::from_vec(joined(alloc, path, name)?),
+        inode,
+    })
+}
+
+/// The path of a name in the directory at a path, with a slash between.
+pub(crate) fn joined(alloc: Global, path: &[u8], name: &[u8]) -> Result<Vec<u8>, AllocError>
+    ensures { IfOk result (λ bytes. bytes.items ≡ joined path.now name.now) }
+{
+    let mut bytes = Vec::from_slice(alloc, path)?;
+    if !ends_in_slash(path) {
+        bytes.push(b'/')?;
+    }
+    bytes.extend_from_slice(name)?;
+    Ok(bytes)
+}
+
+/// Whether a path ends in a slash.
+fn ends_in_slash(path: &[u8]) -> bool
+    ensures { result ≡ ends_in_slash path.now }
+{
+    !path.is_empty() && path[path.len() - 1] == b'/'
+}

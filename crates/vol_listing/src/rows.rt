@@ -1,0 +1,112 @@
+//! What a listing says of a node.
+ghost use Rattle.std.specs.Prelude.{◌≡◌, ◌/◌, ◌%◌, slice_index};
+ghost use Rattle.vol_layout.specs.Geometry.{Fits};
+ghost use Rattle.vol_dir.specs.Tree.{tree, is_number};
+ghost use Rattle.vol_change.specs.Nodes.{no_node, node_at};
+ghost use Rattle.vol_listing.specs.Rows.{row_of, row_with, special_sort};
+
+use pdp_words::Image;
+use vol_layout::i_list::kind;
+use vol_layout::{Geometry, Inode, Kind, inode};
+
+/// What a listing says of a node.
+#[derive(Clone, Copy)]
+pub(crate) struct Row {
+    /// The i-number.
+    pub(crate) number: u16,
+    /// What it is.
+    pub(crate) sort: Sort,
+    /// The permission bits, those under octal 7777.
+    pub(crate) permissions: u16,
+    /// The link count.
+    pub(crate) links: u16,
+    /// The owner.
+    pub(crate) uid: u16,
+    /// The owner's group.
+    pub(crate) gid: u16,
+    /// The size, in bytes.
+    pub(crate) size: u32,
+    /// When the file was last written, in seconds since the beginning of 1970.
+    pub(crate) modified: u32,
+}
+
+/// What a node is.
+#[derive(Clone, Copy)]
+pub(crate) enum Sort {
+    /// A regular file.
+    Regular,
+    /// A directory.
+    Directory,
+    /// A character special file, for a device.
+    Character(u16),
+    /// A block special file, for a device.
+    Block(u16),
+}
+
+/// What a listing says of node `i`. Of a number that has no node it says that of an empty file without links.
+pub(crate) fn row_at(image: &Image, geometry: &Geometry, i: u16) -> Row
+    requires { Fits geometry.now image.now }
+    ensures { result ≡ row_of i (node_at (tree geometry.now image.now) i) }
+{
+    if !is_number(geometry, i) {
+        return no_row(i);
+    }
+    let node = inode(image, geometry, i);
+    match kind(image, geometry, i) {
+        Kind::Free | Kind::Odd => no_row(i),
+        Kind::Regular => row_with(i, &node, Sort::Regular),
+        Kind::Directory => row_with(i, &node, Sort::Directory),
+        Kind::Special => row_with(i, &node, special_sort(&node)),
+    }
+}
+
+/// Whether an i-number is one of the volume.
+pub(crate) fn is_number(geometry: &Geometry, i: u16) -> bool
+    ensures { result ≡ is_number geometry.now i }
+{
+    i >= 1 && i <= geometry.last_inode
+}
+
+/// What is said of a number that has no node.
+fn no_row(number: u16) -> Row
+    ensures { result ≡ row_of number no_node }
+{
+    Row {
+        number,
+        sort: Sort::Regular,
+        permissions: 0,
+        links: 0,
+        uid: 0,
+        gid: 0,
+        size: 0,
+        modified: 0,
+    }
+}
+
+/// What is said of an i-node of some sort.
+fn row_with(number: u16, node: &Inode, sort: Sort) -> Row
+    ensures { result ≡ row_with number node.now sort }
+{
+    Row {
+        number,
+        sort,
+        permissions: node.mode.permissions(),
+        links: node.links,
+        uid: node.uid,
+        gid: node.gid,
+        size: node.size,
+        modified: node.modified,
+    }
+}
+
+/// The sort of a special file.
+fn special_sort(node: &Inode) -> Sort
+    ensures { result ≡ special_sort (node.now.mode.bits / 4096) (slice_index node.now.addresses 0 % 65536) }
+{
+    let device = (node.addresses[0] % 65_536) as u16;
+    if node.mode.bits / 4096 / 2 % 4 == 3 {
+        Sort::Block(device)
+    } else {
+        Sort::Character(device)
+    }
+}

@@ -7,7 +7,7 @@ use Rattle.vol_layout.specs.declared.edition.Edition.{Edition}
 use Rattle.vol_reports.specs.Reports.{has_faults}
 use Rattle.vol_reports.specs.declared.line.Line.{Line}
 use Rattle.unixvol.specs.Running.{IsEnd, IsUnread, RunsCheck, host_files}
-use Rattle.unixvol.specs.declared.image_file.Stamp.{Stamp}
+use Rattle.host_files.specs.declared.image_file.Stamp.{Stamp}
 
 -- a run that wants a file or memory ends so
 ends_badly : (streams : Streams) (status : ℕ) → (3 ≤ status) → (status ≤ 4) → IsEnd streams status

@@ -17,7 +17,7 @@ use Rattle.image_commands.specs.declared.looks.Look.TheVariants as looks
 use Rattle.vol_listing.specs.declared.options.Screen.{Screen}
 use Rattle.vol_listing.specs.declared.options.Screen.TheVariants as screens
 use Rattle.unixvol.specs.Running.{IsEnd, IsUnread, RunsLook, host_files}
-use Rattle.unixvol.specs.declared.image_file.Stamp.{Stamp}
+use Rattle.host_files.specs.declared.image_file.Stamp.{Stamp}
 use Rattle.unixvol.proofs.Statuses.{fault_few}
 
 -- a run ends so that meets a fault

@@ -17,7 +17,7 @@ use Rattle.vol_scripts.specs.declared.reading.ScriptsFault.{ScriptsFault}
 use Rattle.vol_scripts.specs.declared.reading.ScriptsFault.TheVariants as unread
 use Rattle.vol_volume.specs.Volume.{Mounted}
 use Rattle.unixvol.specs.Running.{EndsSaved, IsEnd, IsUnread, RunsPlay, host_files}
-use Rattle.unixvol.specs.declared.image_file.Stamp.{Stamp}
+use Rattle.host_files.specs.declared.image_file.Stamp.{Stamp}
 use Rattle.unixvol.proofs.Statuses.{fault_few}
 
 max_few : (a b : ℕ) → a ≤ 4 → b ≤ 4 → max a b ≤ 4

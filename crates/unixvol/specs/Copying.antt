@@ -19,7 +19,7 @@ use Rattle.tree_commands.specs.declared.getting.FileRead.{FileRead}
 use Rattle.tree_commands.specs.declared.getting.FilesRead.{FilesRead}
 use Rattle.tree_commands.specs.declared.putting.NewFile.{NewFile}
 use Rattle.unixvol.specs.Running.{Ends, EndsSaved, HostFiles, IsStatusOfFileOrMemory, RunsNothing}
-use Rattle.unixvol.specs.declared.image_file.Stamp.{Stamp}
+use Rattle.host_files.specs.declared.image_file.Stamp.{Stamp}
 
 -- the last name of a path; none of a path that ends in `..` or has no names (std::path)
 abbrev pub name_of : List ℕ → List ℕ

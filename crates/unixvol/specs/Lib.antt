@@ -1,4 +1,2 @@
 pub mod Copying
-pub mod Opening
 pub mod Running
-pub mod Saving

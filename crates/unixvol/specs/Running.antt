@@ -38,9 +38,9 @@ use Rattle.vol_commands.specs.declared.jobs.Job.TheVariants as jobs
 use Rattle.vol_commands.specs.declared.making.Made.{Made}
 use Rattle.vol_commands.specs.declared.migrating.Migration.{Migration}
 use Rattle.vol_volume.specs.declared.blank.NewVolume.{NewVolume}
-use Rattle.unixvol.specs.Opening.{IsOpened}
-use Rattle.unixvol.specs.Saving.{IsTaken}
-use Rattle.unixvol.specs.declared.image_file.Stamp.{Stamp}
+use Rattle.host_files.specs.Opening.{IsOpened}
+use Rattle.host_files.specs.Saving.{IsTaken}
+use Rattle.host_files.specs.declared.image_file.Stamp.{Stamp}
 
 -- some file gave these bytes, which are all that it had left (std::io::Read)
 abbrev pub GaveBytes : {F : Type 0} → (F → Option (List ℕ)) → List ℕ → Type 0

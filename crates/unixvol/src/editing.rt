@@ -7,12 +7,11 @@ ghost use Rattle.unixvol.specs.Running.{EditsToEnd, Ends, GaveBytes, IsHeardFor,
 use crate::explaining::{Named, explain_line, explain_unread, finish};
 use crate::heard::heard_writer;
 use crate::host::Host;
-use crate::image_file::ImageFiles;
-use crate::noted::noted_writer;
 use crate::reading::{ReadFile, read_image, read_open};
 use crate::saving::save_answer;
 use crate::subject::Subject;
 use command_line::VolumeFile;
+use host_files::{ImageFiles, noted_writer};
 use pdp_words::Sink;
 use std::io::{self, Read, Write};
 use std::process::ExitCode;

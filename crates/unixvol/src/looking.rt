@@ -7,11 +7,10 @@ ghost use Rattle.unixvol.specs.Running.{IsEnd, IsShownBy, LooksToEnd, RunsLook, 
 use crate::explaining::{explain_line, finish_printed};
 use crate::heard::heard_writer;
 use crate::host::Host;
-use crate::image_file::ImageFiles;
-use crate::noted::noted_writer;
 use crate::reading::read_file;
 use crate::subject::Subject;
 use command_line::VolumeFile;
+use host_files::{ImageFiles, noted_writer};
 use image_commands::{Look, look};
 use pdp_words::Sink;
 use std::env::{self, Env};

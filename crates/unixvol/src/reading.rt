@@ -1,16 +1,15 @@
 //! Files that are read to their ends.
 ghost use Rattle.std.specs.Prelude.{◌≡◌, false, true, All, IfErr, IfOk, IsErrOf, OnErr, length};
 ghost use Rattle.pdp_words.specs.Devices.{IsReadWhole, LosesFront};
-ghost use Rattle.unixvol.specs.Opening.{IsOpened};
+ghost use Rattle.host_files.specs.Opening.{IsOpened};
 ghost use Rattle.unixvol.specs.Running.{GaveBytes, IsStatusOfFileOrMemory, IsUnread};
 
 use crate::explaining::{Named, explain_no_memory, explain_unread, explain_unwritten, reason_of};
 use crate::host::Host;
-use crate::image_file::{ImageFiles, OpenFault, Stamp, open_image};
-use crate::noted::{Noted, noted_reader};
+use host_files::{ImageFiles, Noted, OpenFault, Stamp, noted_reader, open_image, open_stamped};
 use pdp_words::{LoadFault, Source, load};
 use std::fs::{self, Files};
-use std::io::{self, Read};
+use std::io::Read;
 use std::rt::Clock;
 
 /// A file that was read to its end.
@@ -69,13 +68,6 @@ pub fn read_stamped<R: ImageFiles + Eprint + AllocGlobal>(
         Ok((file, stamp)) => Ok((read_open(host, named, file)?.bytes, stamp)),
         Err(why) => Err(explain_unread(host, named, why)),
     }
-}
-
-/// Opens a file, and answers its stamp too.
-fn open_stamped<R: ImageFiles>(rt: &R, path: &str) -> io::Result<(R::File, Stamp)> {
-    let file = fs::open(rt, path)?;
-    let stamp = rt.stamp_of(&file)?;
-    Ok((file, stamp))
 }
 
 /// The image that a command is to change, and its stamp. Where it can't be read, or isn't to be changed, prints so,

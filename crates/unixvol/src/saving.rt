@@ -1,12 +1,11 @@
 //! What a command made is saved in its file, and the status after that.
 ghost use Rattle.std.specs.Prelude.{◌≡◌, ◌⊎◌, IfErr, IfSome};
 ghost use Rattle.unixvol.specs.Running.{IsStatusOfFileOrMemory, EndsPlayed, EndsSaved, MadeSaved};
-ghost use Rattle.unixvol.specs.Saving.{IsTaken, Saves};
+ghost use Rattle.host_files.specs.Saving.{IsTaken, Saves};
 
 use crate::explaining::{Named, explain_no_memory, explain_unwritten};
 use crate::host::Host;
-use crate::image_file::{ImageFiles, Kind, OpenFault, Stamp, open_image};
-use crate::saving_file::{Content, save_file};
+use host_files::{Content, ImageFiles, Kind, OpenFault, Stamp, open_image, save_file};
 use std::io;
 use std::rt::Clock;
 use vol_commands::status::BAD_FILE;

@@ -8,12 +8,11 @@ ghost use Rattle.unixvol.specs.Running.{IsEnd, RunsCheck, RunsPlay, RunsWork, Wo
 use crate::explaining::{explain_line, finish_printed};
 use crate::heard::heard_writer;
 use crate::host::Host;
-use crate::image_file::ImageFiles;
-use crate::noted::noted_writer;
 use crate::reading::{ReadFile, read_file, read_files, read_image};
 use crate::saving::save_played;
 use crate::subject::Subject;
 use command_line::{VolumeFile, Work};
+use host_files::{ImageFiles, noted_writer};
 use pdp_words::Sink;
 use std::fs::Files;
 use std::io::Write;

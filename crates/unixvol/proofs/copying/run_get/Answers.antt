@@ -1,7 +1,7 @@
 use Rattle.std.proofs.Common.{inl, inr, refl}
 use Rattle.std.proofs.KnownBytes.{Keeps-refl}
 use Rattle.vol_commands.proofs.Lines.{gets_nothing}
-use Rattle.unixvol.specs.Saving.{IsTaken}
+use Rattle.host_files.specs.Saving.{IsTaken}
 use Rattle.unixvol.proofs.Copied.{read_saved}
 use Rattle.unixvol.proofs.copying.run_get.Goals as goal
 

@@ -3,7 +3,7 @@ use Rattle.std.proofs.lemmas.List.{take_all}
 use Rattle.std.proofs.lemmas.List.Elements.{All-more}
 use Rattle.tree_commands.specs.declared.getting.FileRead.{FileRead}
 use Rattle.unixvol.specs.Copying.{AreSaved}
-use Rattle.unixvol.specs.Saving.{IsTaken}
+use Rattle.host_files.specs.Saving.{IsTaken}
 use Rattle.unixvol.proofs.Copied.{saved_one}
 use Rattle.unixvol.proofs.copying.save_files.Goals as goal
 

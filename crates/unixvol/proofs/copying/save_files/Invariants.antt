@@ -1,6 +1,6 @@
 use Rattle.std.proofs.Common.{take}
 use Rattle.unixvol.specs.Copying.{AreSaved}
-use Rattle.unixvol.specs.Saving.{IsTaken}
+use Rattle.host_files.specs.Saving.{IsTaken}
 use Rattle.unixvol.proofs.copying.save_files.Given as goal
 
 -- the files so far are saved

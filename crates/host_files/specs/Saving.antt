@@ -3,8 +3,8 @@ use Rattle.std.specs.Prelude.{◌≡◌, ◌<◌, ◌++◌, ℕ, List, Option, c
 use Rattle.std.specs.Io.KnownBytes.{Appends}
 use Rattle.std.specs.Path.{path_with_file_name}
 use Rattle.vol_volume.specs.Blank.{WritesVolume}
-use Rattle.unixvol.specs.declared.saving_file.Content.{Content}
-use Rattle.unixvol.specs.declared.saving_file.Content.TheVariants.{Bytes, Volume}
+use Rattle.host_files.specs.declared.saving_file.Content.{Content}
+use Rattle.host_files.specs.declared.saving_file.Content.TheVariants.{Bytes, Volume}
 
 -- the path is that of a new file in the folder of another path: `.unixvol-` and a number below 1000 (this project)
 abbrev pub IsBeside : List ℕ → List ℕ → Type 0

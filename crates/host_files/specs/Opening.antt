@@ -1,10 +1,10 @@
 -- Which file an image is read from that a command changes.
 use Rattle.std.specs.Prelude.{◌≢◌, ℕ, List, Option}
 use Rattle.pdp_words.specs.Devices.{IsReadWhole}
-use Rattle.unixvol.specs.declared.image_file.Kind.TheVariants as kinds
-use Rattle.unixvol.specs.declared.image_file.Stamp.{Stamp}
-use Rattle.unixvol.specs.declared.image_file.Try.{Try}
-use Rattle.unixvol.specs.declared.image_file.Try.TheVariants.{Open}
+use Rattle.host_files.specs.declared.image_file.Kind.TheVariants as kinds
+use Rattle.host_files.specs.declared.image_file.Stamp.{Stamp}
+use Rattle.host_files.specs.declared.image_file.Try.{Try}
+use Rattle.host_files.specs.declared.image_file.Try.TheVariants.{Open}
 
 -- the system said of an open file that this was its stamp, and it is no pipe, socket or terminal (this project)
 abbrev pub OpensTo : {F : Type 0} → (F → Stamp → Type 0) → F → Stamp → Type 0

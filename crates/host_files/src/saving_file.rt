@@ -1,7 +1,7 @@
 //! Saving an image in a file, so that a failure leaves the file that was there.
 ghost use Rattle.std.specs.Prelude.{◌≡◌, true, IfOk, IfSome, OnErr, OnOk};
 ghost use Rattle.std.specs.Path.{path_bytes, path_buf_bytes};
-ghost use Rattle.unixvol.specs.Saving.{IsBeside, Grows, Saves};
+ghost use Rattle.host_files.specs.Saving.{IsBeside, Grows, Saves};
 
 use crate::image_file::{ImageFiles, Stamp};
 use crate::noted::noted_writer;
@@ -40,7 +40,7 @@ const PRIVATE: u32 = 0o600;
 const RIGHTS: u32 = 0o777;
 
 /// What is saved in a file.
-#[derive(Clone, Copy, Debug)]
+#[derive(Clone, Copy)]
 pub enum Content<'a> {
     /// Bytes that stand in memory.
     Bytes(&'a [u8]),
@@ -148,18 +148,19 @@ fn expect_there<R: ImageFiles>(rt: &R, path: &str, old: Option<&Replaced>) -> io
 fn end_of_links<R: Files + AllocGlobal>(rt: &R, path: &str) -> io::Result<PathBuf> {
     let mut place = PathBuf::from_str(rt.alloc(), path)?;
     for _ in 0..=MOST_LINKS {
-        match fs::read_link(rt, place.as_path()) {
-            Ok(target) => place = place.with_file_name(rt.alloc(), target.as_str())?,
+        let target = match fs::read_link(rt, place.as_path()) {
             Err(error) if is_end(error) => return Ok(place),
-            Err(error) => return Err(error),
-        }
+            read => read?,
+        };
+        place = place.with_file_name(rt.alloc(), target.as_str())?;
     }
     Err(io::Error::new(ErrorKind::FilesystemLoop, TOO_MANY_LINKS))
 }
 
 /// Whether the system answered so of a link because none is there: what stands there is another file, or nothing does.
 fn is_end(error: io::Error) -> bool {
-    matches!(error.kind(), ErrorKind::InvalidInput | ErrorKind::NotFound)
+    let kind = error.kind();
+    kind == ErrorKind::InvalidInput || kind == ErrorKind::NotFound
 }
 
 /// Puts a new file with this content in the place of `path`, which is no symbolic link, and still has the stamp `read`, if one is given.
@@ -235,9 +236,8 @@ fn new_file<R: Files + AllocGlobal>(
         let name = format!(in rt.alloc(); ".unixvol-{number}")?;
         let beside = path.with_file_name(rt.alloc(), name.as_str())?;
         match options.open(rt, beside.as_path()) {
-            Ok(file) => return Ok((file, beside)),
             Err(error) if error.kind() == ErrorKind::AlreadyExists => {}
-            Err(error) => return Err(error),
+            opened => return Ok((opened?, beside)),
         }
     }
     Err(io::Error::new(ErrorKind::AlreadyExists, NO_NAME))

@@ -1,8 +1,8 @@
 //! The file of an image that a command changes: of which kind it is, whether it is still as it was read, and its lock.
 ghost use Rattle.std.specs.Prelude.{◌≡◌, ◌≢◌, ◌↔◌, ◌==◌, ◌&&◌, ℕ, List, Bool, true, false, IfErr, IfOk};
 ghost use Rattle.std.specs.Fs.{IsDir, IsFile, file_type, metadata_len};
-ghost use Rattle.unixvol.specs.declared.image_file.Stamp.{Stamp};
-ghost use Rattle.unixvol.specs.Opening.{IsOpenTo, OpensTo};
+ghost use Rattle.host_files.specs.declared.image_file.Stamp.{Stamp};
+ghost use Rattle.host_files.specs.Opening.{IsOpenTo, OpensTo};
 
 use std::fs::{self, File, Files, Metadata, TryLockError};
 use std::io::{self, IsTerminal};
@@ -18,7 +18,7 @@ const TRIES: u32 = 3000;
 const PAUSE: u64 = 10;
 
 /// Of which kind a file is.
-#[derive(Clone, Copy, Debug, PartialEq, Eq)]
+#[derive(Clone, Copy, PartialEq, Eq)]
 pub enum Kind {
     /// A regular file.
     Regular,
@@ -51,7 +51,7 @@ impl Kind {
 
 /// Which file it was, and when it was written last: two that are equal are of one file that stayed as it was, unless it
 /// was written twice within one tick of its clock and kept its size.
-#[derive(Clone, Copy, Debug, PartialEq, Eq)]
+#[derive(Clone, Copy, PartialEq, Eq)]
 pub struct Stamp {
     /// Of which kind the file is.
     pub kind: Kind,
@@ -167,8 +167,15 @@ impl ImageFiles for HostRuntime {
     }
 }
 
+/// Opens a file, and returns its stamp too.
+pub fn open_stamped<R: ImageFiles>(rt: &R, path: &str) -> io::Result<(R::File, Stamp)> {
+    let file = fs::open(rt, path)?;
+    let stamp = rt.stamp_of(&file)?;
+    Ok((file, stamp))
+}
+
 /// Why the file of an image can't be changed, with the reason in words.
-#[derive(Clone, Copy, Debug)]
+#[derive(Clone, Copy)]
 pub enum OpenFault {
     /// It can't be opened.
     Unread(io::Error),

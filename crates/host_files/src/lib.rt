@@ -1,0 +1,10 @@
+//! Files of the host that hold an image: opening and locking them, whether they have changed, and saving in them.
+#![tactic(auto)]
+
+mod image_file;
+mod noted;
+mod saving_file;
+
+pub use image_file::{ImageFiles, Kind, OpenFault, Stamp, open_image, open_stamped};
+pub use noted::{Noted, noted_reader, noted_writer};
+pub use saving_file::{Content, save_file};

@@ -58,37 +58,41 @@ seen (Some met) = met.0 ∷ the_word (words_by met.1) (codes "EDITION") ∷ the_
 abbrev no_options : List (List ℕ)
 no_options = codes "false" ∷ codes "false" ∷ codes "false" ∷ []
 
+-- the name of the command, and the words for the arguments of `ls`, where no option was given
+abbrev words_of : Edition → List ℕ → List ℕ → List (List ℕ)
+words_of edition image path = codes "ls" ∷ word_of edition ∷ image ∷ path ∷ no_options
+
 -- the command line takes the words of `ls`, and has them for its arguments, and no options
 abbrev IsTaken : Bor (List (Bor (List ℕ))) → Edition → List ℕ → List ℕ → List ℕ → Type 0
 IsTaken editions edition program image path =
     (faults_of (unixvol_app editions) (program ∷ codes "ls" ∷ word_of edition ∷ image ∷ path ∷ []) ≡ [])
-    × (seen (command_in (unixvol_app editions) (program ∷ codes "ls" ∷ word_of edition ∷ image ∷ path ∷ [])) ≡ codes "ls" ∷ word_of edition ∷ image ∷ path ∷ no_options)
+    × (seen (command_in (unixvol_app editions) (program ∷ codes "ls" ∷ word_of edition ∷ image ∷ path ∷ [])) ≡ words_of edition image path)
 
 -- the command line takes the words of `ls` where the file and the path begin with no hyphen
 taken : (p q r : ℕ × ℕ) (edition : Edition) (name image path : List ℕ) → IsPlainWord image → IsPlainWord path → IsTaken (names_at p q r) edition name image path
 unfolding clap_on_literals faults_of command_in unixvol_app program bare_program explain_rule with_command verb_shape with_argument named_shape argument_rule need_rule
-taken p q r V6 name [] [] image path = (refl, refl)
+taken p q r V6 name [] [] image path = (refl {a = []}, refl {a = words_of V6 [] []})
 taken p q r V6 name (x ∷ xs) [] image path =
     let e : (x == 45) ≡ false = ne_eqb _ _ image in
-    (rw (e, e) refl, rw (e, e) refl)
+    (rw (e, e) (refl {a = []}), rw (e, e) (refl {a = words_of V6 (x ∷ xs) []}))
 taken p q r V6 name [] (y ∷ ys) image path =
     let f : (y == 45) ≡ false = ne_eqb _ _ path in
-    (rw (f, f) refl, rw (f, f) refl)
+    (rw (f, f) (refl {a = []}), rw (f, f) (refl {a = words_of V6 [] (y ∷ ys)}))
 taken p q r V6 name (x ∷ xs) (y ∷ ys) image path =
     let e : (x == 45) ≡ false = ne_eqb _ _ image in
     let f : (y == 45) ≡ false = ne_eqb _ _ path in
-    (rw (e, e, f, f) refl, rw (e, e, f, f) refl)
-taken p q r V7 name [] [] image path = (refl, refl)
+    (rw (e, e, f, f) (refl {a = []}), rw (e, e, f, f) (refl {a = words_of V6 (x ∷ xs) (y ∷ ys)}))
+taken p q r V7 name [] [] image path = (refl {a = []}, refl {a = words_of V7 [] []})
 taken p q r V7 name (x ∷ xs) [] image path =
     let e : (x == 45) ≡ false = ne_eqb _ _ image in
-    (rw (e, e) refl, rw (e, e) refl)
+    (rw (e, e) (refl {a = []}), rw (e, e) (refl {a = words_of V7 (x ∷ xs) []}))
 taken p q r V7 name [] (y ∷ ys) image path =
     let f : (y == 45) ≡ false = ne_eqb _ _ path in
-    (rw (f, f) refl, rw (f, f) refl)
+    (rw (f, f) (refl {a = []}), rw (f, f) (refl {a = words_of V7 [] (y ∷ ys)}))
 taken p q r V7 name (x ∷ xs) (y ∷ ys) image path =
     let e : (x == 45) ≡ false = ne_eqb _ _ image in
     let f : (y == 45) ≡ false = ne_eqb _ _ path in
-    (rw (e, e, f, f) refl, rw (e, e, f, f) refl)
+    (rw (e, e, f, f) (refl {a = []}), rw (e, e, f, f) (refl {a = words_of V7 (x ∷ xs) (y ∷ ys)}))
 
 -- texts that are the same pass the test for that
 same : (one other : List ℕ) → one ≡ other → bytes_eq one other ≡ true
@@ -166,7 +170,7 @@ asks_listing clock given edition image path (OnThreads volume (works.Check check
 asks_listing clock given edition image path (OnThreads volume (works.Play scripts)) test e_is i_is p_is none is = absurd (true≢false (sym test))
 
 -- no option was given, by what was seen
-no_options_by : (met : List ℕ × List Row) (edition : Edition) (image path : List ℕ) → seen (Some met) ≡ codes "ls" ∷ word_of edition ∷ image ∷ path ∷ no_options
+no_options_by : (met : List ℕ × List Row) (edition : Edition) (image path : List ℕ) → seen (Some met) ≡ words_of edition image path
     → HasNoOptions (words_by met.1)
 no_options_by met edition image path is = record {
   json = ap (λ (l : List (List ℕ)). slice_index_or l 4 []) is;
@@ -175,7 +179,7 @@ no_options_by met edition image path is = record {
 }
 
 -- what `ls` asks for, by the command that was met and the rows of its words
-listed : (clock : Option ℕ) (met : Option (List ℕ × List Row)) (edition : Edition) (image path : List ℕ) (invocation : Invocation) → seen met ≡ codes "ls" ∷ word_of edition ∷ image ∷ path ∷ no_options
+listed : (clock : Option ℕ) (met : Option (List ℕ × List Row)) (edition : Edition) (image path : List ℕ) (invocation : Invocation) → seen met ≡ words_of edition image path
     → MetAsks clock met invocation → IsListing edition image path invocation
 listed clock None edition image path invocation is asks = absurd asks
 listed clock (Some met) edition image path invocation is asks =
@@ -191,7 +195,7 @@ word_names V7 = refl
 
 -- where the words of `ls` were met, they ask for that listing
 listing_asks : (clock : Option ℕ) (met : Option (List ℕ × List Row)) (edition : Edition) (image path : List ℕ) (invocation : Invocation)
-    → seen met ≡ codes "ls" ∷ word_of edition ∷ image ∷ path ∷ no_options → IsListing edition image path invocation → MetAsks clock met invocation
+    → seen met ≡ words_of edition image path → IsListing edition image path invocation → MetAsks clock met invocation
 listing_asks clock None edition image path invocation is listed = absurd (cc)
 listing_asks clock (Some met) edition image path (Cat volume ino) is listed = absurd listed
 listing_asks clock (Some met) edition image path (Mkfs i volume) is listed = absurd listed

@@ -1,7 +1,6 @@
 -- What an export comes to, by what was written of it.
 use Rattle.std.proofs.Common.{◌≡◌, ◌⊎◌, ℕ, Bool, true, List, Option, Result, Ok, Err, inl, inr, refl, ap, subst, ◌∙◌}
 use Rattle.std.proofs.KnownBytes.{Keeps-refl}
-use Rattle.std.specs.Global.{Vec}
 use Rattle.std.specs.Prelude.{IsErrAnd}
 use Rattle.vol_archive.specs.declared.exporting.Start.{Start}
 use Rattle.vol_archive.specs.declared.writing.WriteFault.{WriteFault}
@@ -13,6 +12,7 @@ use Rattle.vol_commands.specs.declared.faults.Fault.TheVariants as faults
 use Rattle.vol_layout.specs.declared.edition.Edition.{Edition}
 use Rattle.image_commands.specs.Exporting.{ExportsBelow, IsUnwritten, WritesBelow}
 use Rattle.image_commands.specs.Faults.{unwritten}
+use Rattle.image_commands.specs.declared.telling.Remarks.{Remarks}
 
 -- a fault of writing is want of memory, or standard output failed
 pub unwritten_cause : (fault : WriteFault) (after : Bool) → (fault ≡ writes.Output → after ≡ true)
@@ -21,7 +21,7 @@ unwritten_cause writes.NoMemory after cause = inl refl
 unwritten_cause writes.Output after cause = inr (refl, cause refl)
 
 -- memory ran out before the archive began
-pub unbegun_memory : (edition : Edition) (image : List ℕ) (start : Start) (known : Option (List ℕ)) (failed : Bool) (result : Result (Vec ℕ) Fault)
+pub unbegun_memory : (edition : Edition) (image : List ℕ) (start : Start) (known : Option (List ℕ)) (failed : Bool) (result : Result Remarks Fault)
     → IsErrAnd result (λ fault. fault ≡ no_memory) → WritesBelow edition image start known known failed failed result
 unbegun_memory edition image start known failed (Ok lines) is = absurd is
 unbegun_memory edition image start known failed (Err fault) is = IsUnwritten.unbegun is (Keeps-refl known) refl

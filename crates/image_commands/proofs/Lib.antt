@@ -4,5 +4,4 @@ pub mod InOrder
 pub mod Mapped
 pub mod Printed
 pub mod Shown
-pub mod Told
 pub mod Whole

@@ -1,6 +1,5 @@
 -- What an export comes to.
 use Rattle.std.specs.Prelude.{◌≡◌, ◌⊎◌, ℕ, ◌==◌, Bool, true, if◌then◌else◌, List, length, Option, Result, Ok, Err, MatchResult}
-use Rattle.std.specs.Global.{Vec}
 use Rattle.std.specs.Io.KnownBytes.{Appends, Keeps}
 use Rattle.pdp_words.specs.Devices.{AppendsFront}
 use Rattle.vol_layout.specs.declared.edition.Edition.{Edition}
@@ -19,6 +18,7 @@ use Rattle.image_commands.specs.Printing.{IsTold, IsBrokenOff}
 use Rattle.image_commands.specs.Telling.{TellsAll}
 use Rattle.vol_listing.specs.declared.options.Screen.{Screen}
 use Rattle.vol_listing.specs.declared.options.Screen.TheVariants as screens
+use Rattle.image_commands.specs.declared.telling.Remarks.{Remarks}
 
 -- the archive of what was met went out whole, and all is told that is to be told; the status is 1 where that is anything (this project)
 pub record IsWhole (edition : Edition) (image : List ℕ) (start : Start) (founds : List Found) (streams : Streams) (code : ℕ) : Type 0 where
@@ -61,9 +61,9 @@ pub data IsUnwritten (edition : Edition) (image : List ℕ) (start : Start) (old
       → (fault ≡ no_memory) ⊎ ((fault ≡ faults.Output) × (after ≡ true)) → IsUnwritten edition image start old new before after fault
 
 -- what is written of what is below a directory (this project)
-abbrev pub WritesBelow : Edition → List ℕ → Start → Option (List ℕ) → Option (List ℕ) → Bool → Bool → Result (Vec ℕ) Fault → Type 0
+abbrev pub WritesBelow : Edition → List ℕ → Start → Option (List ℕ) → Option (List ℕ) → Bool → Bool → Result Remarks Fault → Type 0
 WritesBelow edition image start old new before after result =
-    MatchResult result (λ lines. IsWritten edition image start old new before after lines.items)
+    MatchResult result (λ remarks. IsWritten edition image start old new before after remarks.lines.items)
     (λ fault. IsUnwritten edition image start old new before after fault)
 
 -- an export to a file or a pipe; a terminal gets no archive, as if it couldn't be written (this project)

@@ -1,45 +1,39 @@
 //! The command that tells which rules of soundness an image keeps.
 ghost use Rattle.std.specs.Prelude.{◌≡◌, IfErr, IfOk, OnErr, string_bytes};
-ghost use Rattle.vol_commands.specs.Faults.{Gets};
+ghost use Rattle.vol_commands.specs.Faults.{ErrorStream, Hears};
+ghost use Rattle.vol_commands.specs.Jobs.{streams};
 ghost use Rattle.vol_findings.specs.Reports.{IsReport};
 ghost use Rattle.image_commands.specs.Checking.{verdict_status, Checks};
 
 use crate::printing::print_with;
 use pdp_words::{Image, Sink};
 use std::alloc::Global;
-use vol_commands::answer::explain;
-use vol_commands::faults::Fault;
 use vol_commands::status::{DONE, REFUSED};
+use vol_commands::{Ending, Fault};
 use vol_findings::make_report;
 use vol_layout::Edition;
 
-/// Prints of each rule of soundness whether an image keeps it, what breaks it first, or that it isn't asked, and answers the status: 0
+/// Prints of each rule of soundness whether an image keeps it, what breaks it first, or that it isn't asked. The status is 0
 /// where all twelve hold, else 1; 3 where `output` failed, 4 where memory ran out. The image may be any bytes. Nothing goes out
 /// before all is known.
 ///
 /// Costs and takes memory for what [`make_report`] does.
-pub fn check<O: Sink, E: Sink>(
+pub(crate) fn check<O: Sink>(
     alloc: Global,
     edition: Edition,
     image: Vec<u8>,
     output: &mut O,
-    errors: &mut E,
-) -> u8
-    ensures { Checks edition image.items (record {
-      old = O.contents output.old;
-      new = O.contents output.new;
-      had_failed = O.failed output.old;
-      failed = O.failed output.new;
-      said = Gets (E.failed errors.new) (E.contents errors.old) (E.contents errors.new);
-    }) result }
+) -> Ending
+    ensures { (errors : ErrorStream) → Hears errors result.fault
+        → Checks edition image.items (streams O.contents O.failed output.old output.new errors) result.status }
 {
     let image = Image::from_bytes(image);
     match make_report(alloc, edition, &image) {
         Ok(report) => {
             let status = verdict_status(report.is_sound);
-            print_with(report.text.as_bytes(), status, output, errors)
+            print_with(report.text.as_bytes(), status, output)
         }
-        Err(error) => explain(Fault::from(error), errors),
+        Err(error) => Ending::from(Fault::from(error)),
     }
 }
 

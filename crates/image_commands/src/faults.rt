@@ -1,6 +1,5 @@
 //! Why a command that looks at an image doesn't show it.
 ghost use Rattle.std.specs.Prelude.{◌≡◌};
-ghost use Rattle.vol_commands.specs.Faults.{IsRuled};
 ghost use Rattle.image_commands.specs.Faults.{unmeasured, uninspected, unstarted, unwritten};
 
 use vol_archive::{StartFault, WriteFault};
@@ -11,8 +10,7 @@ use vol_layout::GeometryFault;
 
 /// The fault of a command whose image breaks rule 1 or rule 2.
 pub(crate) fn unmeasured(fault: GeometryFault) -> Fault
-    ensures value { result ≡ unmeasured fault }
-    ensures ruled { IsRuled result }
+    ensures { result ≡ unmeasured fault }
 {
     match fault {
         GeometryFault::Short => Fault::Unsound(1),
@@ -22,8 +20,7 @@ pub(crate) fn unmeasured(fault: GeometryFault) -> Fault
 
 /// The fault of a command that can't show an i-node or the super-block for this reason.
 pub(crate) fn uninspected(fault: InspectFault) -> Fault
-    ensures value { result ≡ uninspected fault }
-    ensures ruled { IsRuled result }
+    ensures { result ≡ uninspected fault }
 {
     match fault {
         InspectFault::Unsound(fault) => unmeasured(fault),
@@ -34,8 +31,7 @@ pub(crate) fn uninspected(fault: InspectFault) -> Fault
 
 /// The fault of an export that has nowhere to begin for this reason.
 pub(crate) fn unstarted(fault: StartFault) -> Fault
-    ensures value { result ≡ unstarted fault }
-    ensures ruled { IsRuled result }
+    ensures { result ≡ unstarted fault }
 {
     match fault {
         StartFault::Unsound(fault) => unmeasured(fault),
@@ -45,8 +41,7 @@ pub(crate) fn unstarted(fault: StartFault) -> Fault
 
 /// The fault of an export that doesn't end for this reason.
 pub(crate) fn unwritten(fault: WriteFault) -> Fault
-    ensures value { result ≡ unwritten fault }
-    ensures ruled { IsRuled result }
+    ensures { result ≡ unwritten fault }
 {
     match fault {
         WriteFault::NoMemory => Fault::Refused(Refusal::NoMemory),

@@ -1,16 +1,16 @@
-//! Commands that look at an image, sound or not: what each prints, and its status.
+//! Commands that look at an image, sound or not: what each prints, its status, and its fault.
 #![tactic(auto)]
 
-pub mod checking;
-pub mod exporting;
+mod checking;
+mod exporting;
 mod faults;
 mod json;
-pub mod listing;
+mod listing;
 pub mod looking;
 pub mod looks;
-pub mod mapping;
+mod mapping;
 mod printing;
-pub mod showing;
+mod showing;
 mod telling;
 
 pub use looking::look;

@@ -3,14 +3,15 @@ ghost use Rattle.std.specs.Prelude.{◌≡◌, IfErr, IfOk};
 ghost use Rattle.vol_layout.specs.Geometry.{Fits, geometry_of};
 ghost use Rattle.vol_judge.specs.Sound.{IsSound};
 ghost use Rattle.vol_volume.specs.declared.queries.Query.TheVariants as questions;
-ghost use Rattle.vol_commands.specs.Faults.{user, Gets, IsRuled};
+ghost use Rattle.vol_commands.specs.Faults.{user, ErrorStream, Hears};
+ghost use Rattle.vol_commands.specs.Jobs.{streams};
 ghost use Rattle.vol_commands.specs.Showing.{IsObstacle};
 ghost use Rattle.image_commands.specs.Listing.{IsFound, IsListing, Lists};
 
 use crate::printing::finish_bytes;
 use pdp_words::{Image, Sink};
 use std::alloc::Global;
-use vol_commands::faults::Fault;
+use vol_commands::{Ending, Fault};
 use vol_dir::Cred;
 use vol_judge::examine;
 use vol_layout::{Edition, Geometry};
@@ -22,12 +23,12 @@ const USER: Cred = Cred { uid: 0, gid: 0 };
 
 /// Lists what stands at a path of a sound image: the names in a directory, in ascending order of their bytes, each on a line with its
 /// i-number, and where asked for with what its i-node says; then, where asked for, those of each directory below. What is no directory
-/// has a line of its own. Or the same as JSON, with names escaped, as a terminal gets them. Answers the status: 0; 1 where the image
+/// has a line of its own. Or the same as JSON, with names escaped, as a terminal gets them. The status is 0; 1 where the image
 /// isn't sound, or the path leads nowhere; 3 where `output` failed, 4 where memory ran out. Nothing goes out before all is known.
 ///
 /// Costs what [`examine`] costs, a look at each i-node that is told of, and for each directory the walk of its path and sorting its
 /// names. Takes memory for that and for the text.
-pub fn list<O: Sink, E: Sink>(
+pub(crate) fn list<O: Sink>(
     alloc: Global,
     edition: Edition,
     image: Vec<u8>,
@@ -35,19 +36,13 @@ pub fn list<O: Sink, E: Sink>(
     listing: Listing,
     screen: Screen,
     output: &mut O,
-    errors: &mut E,
-) -> u8
-    ensures { Lists edition image.items path.now listing screen (record {
-      old = O.contents output.old;
-      new = O.contents output.new;
-      had_failed = O.failed output.old;
-      failed = O.failed output.new;
-      said = Gets (E.failed errors.new) (E.contents errors.old) (E.contents errors.new);
-    }) result }
+) -> Ending
+    ensures { (errors : ErrorStream) → Hears errors result.fault
+        → Lists edition image.items path.now listing screen (streams O.contents O.failed output.old output.new errors) result.status }
 {
     let image = Image::from_bytes(image);
     let text = list_image(alloc, edition, &image, path, listing, screen);
-    finish_bytes(text, output, errors)
+    finish_bytes(text, output)
 }
 
 /// The listing of what stands at a path of an image.
@@ -61,7 +56,6 @@ fn list_image(
 ) -> Result<Vec<u8>, Fault>
     ensures text { IfOk result (λ text. IsListing edition image.now path.now listing screen text.items) }
     ensures fault { IfErr result (λ fault. IsObstacle edition image.now (questions.Stat user path.now) fault) }
-    ensures ruled { IfErr result IsRuled }
 {
     match examine(alloc, edition, image, true)? {
         Ok(examined) => {
@@ -87,7 +81,6 @@ fn list_sound(
     requires fits { Fits geometry.now image.now }
     ensures text { IfOk result (λ text. IsListing edition image.now path.now listing screen text.items) }
     ensures fault { IfErr result (λ fault. IsObstacle edition image.now (questions.Stat user path.now) fault) }
-    ensures ruled { IfErr result IsRuled }
 {
     let inode = find(alloc, edition, image, geometry, path)?;
     let path = path.as_bytes();
@@ -106,7 +99,6 @@ fn find(
     requires sizes { geometry.now ≡ geometry_of edition image.now }
     ensures found { IfOk result (λ i. IsFound edition image.now path.now i) }
     ensures fault { IfErr result (λ fault. IsObstacle edition image.now (questions.Stat user path.now) fault) }
-    ensures ruled { IfErr result IsRuled }
 {
     let path = Bytes::from_vec(Vec::from_slice(alloc, path.as_bytes())?);
     let query = Query::Stat { cred: USER, path };

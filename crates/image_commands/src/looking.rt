@@ -1,5 +1,6 @@
 //! Shows what the command line asks for of an image.
-ghost use Rattle.vol_commands.specs.Faults.{Gets};
+ghost use Rattle.vol_commands.specs.Faults.{heard, ErrorStream, Hears};
+ghost use Rattle.vol_commands.specs.Jobs.{streams};
 ghost use Rattle.image_commands.specs.Looking.{Looks};
 
 use crate::checking::check;
@@ -10,12 +11,12 @@ use crate::mapping::draw_map;
 use crate::showing::{show_inode, show_super};
 use pdp_words::Sink;
 use std::alloc::Global;
+use vol_commands::Ending;
+use vol_commands::answer::tell;
 use vol_layout::Edition;
 use vol_listing::Screen;
 
-/// Shows what is asked for of an image, which may be any bytes, on `output`, and answers the status: 0; 1 where the image isn't
-/// sound enough for it, or what is asked for isn't there; 3 where `output` failed, 4 where memory ran out. Why is told on `errors`.
-/// Costs what the command does that is asked for, and takes no right to wait.
+/// Shows what is asked for of an image as [`perform`] does, writes why it isn't shown to `errors`, and answers the status.
 pub fn look<O: Sink, E: Sink>(
     alloc: Global,
     edition: Edition,
@@ -25,24 +26,33 @@ pub fn look<O: Sink, E: Sink>(
     output: &mut O,
     errors: &mut E,
 ) -> u8
-    ensures { Looks edition image.items screen (record {
-      old = O.contents output.old;
-      new = O.contents output.new;
-      had_failed = O.failed output.old;
-      failed = O.failed output.new;
-      said = Gets (E.failed errors.new) (E.contents errors.old) (E.contents errors.new);
-    }) result look.entry }
+    ensures { Looks edition image.items screen (streams O.contents O.failed output.old output.new (heard E.contents E.failed errors.old errors.new)) result look.entry }
+{
+    let ending = perform(alloc, edition, image, look, screen, output);
+    tell(&ending.fault, errors);
+    ending.status
+}
+
+/// Shows what is asked for of an image, which may be any bytes, on `output`. The status is 0; 1 where the image isn't
+/// sound enough for it, or what is asked for isn't there; 3 where `output` failed, 4 where memory ran out.
+/// Costs what the command does that is asked for, and takes no right to wait.
+pub fn perform<O: Sink>(
+    alloc: Global,
+    edition: Edition,
+    image: Vec<u8>,
+    look: Look<'_>,
+    screen: Screen,
+    output: &mut O,
+) -> Ending
+    ensures { (errors : ErrorStream) → Hears errors result.fault
+        → Looks edition image.items screen (streams O.contents O.failed output.old output.new errors) result.status look.entry }
 {
     match look {
-        Look::Export { path } => export(alloc, edition, image, path, screen, output, errors),
-        Look::Inode { number, form } => {
-            show_inode(alloc, edition, image, number, form, output, errors)
-        }
-        Look::Super { form } => show_super(alloc, edition, image, form, output, errors),
-        Look::Map { picture } => draw_map(alloc, edition, image, picture, screen, output, errors),
-        Look::Check => check(alloc, edition, image, output, errors),
-        Look::List { path, listing } => {
-            list(alloc, edition, image, path, listing, screen, output, errors)
-        }
+        Look::Export { path } => export(alloc, edition, image, path, screen, output),
+        Look::Inode { number, form } => show_inode(alloc, edition, image, number, form, output),
+        Look::Super { form } => show_super(alloc, edition, image, form, output),
+        Look::Map { picture } => draw_map(alloc, edition, image, picture, screen, output),
+        Look::Check => check(alloc, edition, image, output),
+        Look::List { path, listing } => list(alloc, edition, image, path, listing, screen, output),
     }
 }

@@ -1,7 +1,8 @@
 //! The command that draws what each block is used for.
 ghost use Rattle.std.specs.Prelude.{◌≡◌, ◌+◌, ◌*◌, ◌<◌, ◌≤◌, ◌^◌, ◌++◌, IfErr, IfOk, OnOk, string_bytes, length};
 ghost use Rattle.vol_layout.specs.Geometry.{Fits};
-ghost use Rattle.vol_commands.specs.Faults.{Gets, IsRuled};
+ghost use Rattle.vol_commands.specs.Faults.{ErrorStream, Hears};
+ghost use Rattle.vol_commands.specs.Jobs.{streams};
 ghost use Rattle.image_commands.specs.Mapping.{width_on, is_coloured, blocks_for, uses_in, scale_text, cells_text, map_text, IsMap, IsMapFault, DrawsMap};
 
 use crate::faults::unmeasured;
@@ -9,7 +10,7 @@ use crate::looks::Picture;
 use crate::printing::finish;
 use pdp_words::{Image, Sink};
 use std::alloc::{AllocError, Global};
-use vol_commands::faults::Fault;
+use vol_commands::{Ending, Fault};
 use vol_inspect::{block_uses, cells, draw, svg};
 use vol_layout::{Edition, Geometry};
 use vol_listing::Screen;
@@ -23,32 +24,26 @@ const WIDTH: usize = 64;
 /// How many squares stand in a row, and how many rows of them there are at most.
 const SQUARES: usize = 128;
 
-/// Draws what each block is used for of an image in which rules 1 and 2 hold, which may be any bytes otherwise, and answers the
-/// status: 0; 1 where the image breaks one of these rules, 3 where `output` failed, 4 where memory ran out. Nothing goes out before
+/// Draws what each block is used for of an image in which rules 1 and 2 hold, which may be any bytes otherwise. The
+/// status is 0; 1 where the image breaks one of these rules, 3 where `output` failed, 4 where memory ran out. Nothing goes out before
 /// all is known. Rows are as wide as the terminal, which alone has colours; there are at most 32, or 128 of 128 squares, so that a
 /// cell stands for several blocks of a large volume.
 ///
 /// Costs and takes memory for what [`block_uses`] does, and for the text.
-pub fn draw_map<O: Sink, E: Sink>(
+pub(crate) fn draw_map<O: Sink>(
     alloc: Global,
     edition: Edition,
     image: Vec<u8>,
     picture: Picture,
     screen: Screen,
     output: &mut O,
-    errors: &mut E,
-) -> u8
-    ensures { DrawsMap edition image.items screen picture (record {
-      old = O.contents output.old;
-      new = O.contents output.new;
-      had_failed = O.failed output.old;
-      failed = O.failed output.new;
-      said = Gets (E.failed errors.new) (E.contents errors.old) (E.contents errors.new);
-    }) result }
+) -> Ending
+    ensures { (errors : ErrorStream) → Hears errors result.fault
+        → DrawsMap edition image.items screen picture (streams O.contents O.failed output.old output.new errors) result.status }
 {
     let image = Image::from_bytes(image);
     let text = map_text(alloc, edition, &image, picture, screen);
-    finish(text, output, errors)
+    finish(text, output)
 }
 
 /// The picture of the volume in an image.
@@ -61,7 +56,6 @@ fn map_text(
 ) -> Result<String, Fault>
     ensures text { IfOk result (λ text. IsMap edition image.now screen picture (string_bytes text)) }
     ensures fault { IfErr result (λ fault. IsMapFault edition image.now fault) }
-    ensures ruled { IfErr result IsRuled }
 {
     match Geometry::read(edition, image) {
         Ok(geometry) => Ok(picture_of(alloc, image, &geometry, picture, screen)?),

@@ -1,6 +1,7 @@
 //! The commands that show an i-node and the super-block.
 ghost use Rattle.std.specs.Prelude.{◌≡◌, ◌≤◌, IfErr, IfOk, string_bytes};
-ghost use Rattle.vol_commands.specs.Faults.{Gets, IsRuled};
+ghost use Rattle.vol_commands.specs.Faults.{ErrorStream, Hears};
+ghost use Rattle.vol_commands.specs.Jobs.{streams};
 ghost use Rattle.image_commands.specs.Showing.{inode_in, super_in, IsInodeText, IsInodeFault, IsSuperText, IsSuperFault, ShowsInode, ShowsSuper};
 
 use crate::faults::uninspected;
@@ -9,60 +10,47 @@ use crate::looks::Form;
 use crate::printing::finish;
 use pdp_words::{Image, Sink};
 use std::alloc::{AllocError, Global};
-use vol_commands::faults::Fault;
+use vol_commands::{Ending, Fault};
 use vol_inspect::{InodeReport, SuperReport, inspect_inode, inspect_super};
 use vol_layout::Edition;
 
-/// Shows an i-node of an image in which rules 1 and 2 hold, which may be any bytes otherwise, and answers the status: 0; 1 where the
+/// Shows an i-node of an image in which rules 1 and 2 hold, which may be any bytes otherwise. The status is 0; 1 where the
 /// image breaks one of these rules or has no i-node of this number; 3 where `output` failed, 4 where memory ran out. Nothing goes
 /// out before all is known.
 ///
 /// Takes memory for what [`inspect_inode`] takes, and for the text.
-pub fn show_inode<O: Sink, E: Sink>(
+pub(crate) fn show_inode<O: Sink>(
     alloc: Global,
     edition: Edition,
     image: Vec<u8>,
     number: u16,
     form: Form,
     output: &mut O,
-    errors: &mut E,
-) -> u8
-    ensures { ShowsInode edition image.items number form (record {
-      old = O.contents output.old;
-      new = O.contents output.new;
-      had_failed = O.failed output.old;
-      failed = O.failed output.new;
-      said = Gets (E.failed errors.new) (E.contents errors.old) (E.contents errors.new);
-    }) result }
+) -> Ending
+    ensures { (errors : ErrorStream) → Hears errors result.fault
+        → ShowsInode edition image.items number form (streams O.contents O.failed output.old output.new errors) result.status }
 {
     let image = Image::from_bytes(image);
     let text = inode_text(alloc, edition, &image, number, form);
-    finish(text, output, errors)
+    finish(text, output)
 }
 
-/// Shows the super-block of an image in which rules 1 and 2 hold, which may be any bytes otherwise, and answers the status, as
-/// [`show_inode`] does.
+/// Shows the super-block of an image in which rules 1 and 2 hold, which may be any bytes otherwise, as [`show_inode`] does.
 ///
 /// Takes memory for what [`inspect_super`] takes, and for the text.
-pub fn show_super<O: Sink, E: Sink>(
+pub(crate) fn show_super<O: Sink>(
     alloc: Global,
     edition: Edition,
     image: Vec<u8>,
     form: Form,
     output: &mut O,
-    errors: &mut E,
-) -> u8
-    ensures { ShowsSuper edition image.items form (record {
-      old = O.contents output.old;
-      new = O.contents output.new;
-      had_failed = O.failed output.old;
-      failed = O.failed output.new;
-      said = Gets (E.failed errors.new) (E.contents errors.old) (E.contents errors.new);
-    }) result }
+) -> Ending
+    ensures { (errors : ErrorStream) → Hears errors result.fault
+        → ShowsSuper edition image.items form (streams O.contents O.failed output.old output.new errors) result.status }
 {
     let image = Image::from_bytes(image);
     let text = super_text(alloc, edition, &image, form);
-    finish(text, output, errors)
+    finish(text, output)
 }
 
 /// The text of an i-node.
@@ -75,7 +63,6 @@ fn inode_text(
 ) -> Result<String, Fault>
     ensures text { IfOk result (λ text. IsInodeText edition image.now number form (string_bytes text)) }
     ensures fault { IfErr result (λ fault. IsInodeFault edition image.now number fault) }
-    ensures ruled { IfErr result IsRuled }
 {
     match inspect_inode(alloc, edition, image, number) {
         Ok(report) => Ok(inode_in(alloc, &report, form)?),
@@ -87,7 +74,6 @@ fn inode_text(
 fn super_text(alloc: Global, edition: Edition, image: &Image, form: Form) -> Result<String, Fault>
     ensures text { IfOk result (λ text. IsSuperText edition image.now form (string_bytes text)) }
     ensures fault { IfErr result (λ fault. IsSuperFault edition image.now fault) }
-    ensures ruled { IfErr result IsRuled }
 {
     match inspect_super(alloc, edition, image) {
         Ok(report) => Ok(super_in(alloc, &report, form)?),

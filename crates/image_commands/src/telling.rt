@@ -1,5 +1,5 @@
 //! What is told of an export.
-ghost use Rattle.std.specs.Prelude.{◌≡◌, ◌≤◌, ◌++◌, IfOk, IfSome, OnOk};
+ghost use Rattle.std.specs.Prelude.{◌≡◌, ◌++◌, IfOk, OnOk};
 ghost use Rattle.vol_layout.specs.Geometry.{Fits};
 ghost use Rattle.vol_archive.specs.declared.found.Role.{Role};
 ghost use Rattle.image_commands.specs.Telling.{reason_text, role_line, left_lines, shared_line, shared_lines, rule_lines, TellsAll};
@@ -8,10 +8,19 @@ use escaped_text::push_escaped;
 use pdp_words::Image;
 use std::alloc::{AllocError, Global};
 use vol_archive::{Found, Reason, Role};
-use vol_commands::faults::Fault;
+use vol_commands::Fault;
 use vol_inspect::shared_blocks;
 use vol_judge::judge;
 use vol_layout::{Edition, Geometry};
+
+/// What is told of an export.
+#[derive(Drop)]
+pub(crate) struct Remarks {
+    /// The least rule that the image breaks, if it breaks one.
+    pub(crate) rule: Option<u8>,
+    /// The lines, of which the last names the rule.
+    pub(crate) lines: Vec<u8>,
+}
 
 /// All that is told of an export from an image, of what was met: a line for each entry that is left out; and where the image isn't
 /// sound, one for each block that two places of files name, and one for the least rule that it breaks.
@@ -23,15 +32,15 @@ pub(crate) fn tell_all(
     image: &Image,
     geometry: &Geometry,
     founds: &[Found],
-) -> Result<Vec<u8>, AllocError>
+) -> Result<Remarks, AllocError>
     requires { Fits geometry.now image.now }
-    ensures { IfOk result (λ lines. TellsAll edition image.now geometry.now founds.now lines.items) }
+    ensures { IfOk result (λ remarks. TellsAll edition image.now geometry.now founds.now remarks.lines.items) }
 {
     let mut lines = Vec::new(alloc);
     push_left(&mut lines, founds)?;
-    let least = judge(alloc, edition, image, true)?;
-    push_rule(alloc, image, geometry, least, &mut lines)?;
-    Ok(lines)
+    let rule = judge(alloc, edition, image, true)?;
+    push_rule(alloc, image, geometry, rule, &mut lines)?;
+    Ok(Remarks { rule, lines })
 }
 
 /// Appends the lines of the least rule that an image breaks, if it breaks one: first those of blocks that two places of files name.
@@ -42,8 +51,7 @@ fn push_rule(
     least: Option<u8>,
     lines: &mut Vec<u8>,
 ) -> Result<(), AllocError>
-    requires fits { Fits geometry.now image.now }
-    requires ruled { IfSome least (λ rule. (1 ≤ rule) × (rule ≤ 12)) }
+    requires { Fits geometry.now image.now }
     ensures { OnOk result (lines.new.items ≡ lines.old.items ++ rule_lines geometry.now image.now least) }
 {
     let Some(rule) = least else {
@@ -51,7 +59,7 @@ fn push_rule(
     };
     let shared = shared_blocks(alloc, image, geometry)?;
     push_shared(alloc, lines, &shared)?;
-    lines.extend_from_slice(Fault::Unsound(rule).line().as_bytes())?;
+    lines.extend_from_slice(Fault::Unsound(rule).line())?;
     Ok(())
 }
 

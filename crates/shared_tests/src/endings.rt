@@ -6,6 +6,7 @@ use std::alloc::Global;
 use std::io::ErrorKind;
 use std::process::Abort;
 use std::rt::HostRuntime;
+use vol_commands::answer::tell;
 use vol_scripts::{Played, ScriptsFault, finish, refuse};
 
 /// Ends a play of one script, with this output. Checks what is printed, the line on standard error and the status; the
@@ -22,7 +23,8 @@ fn check_ended(
     let mut all = Vec::new(alloc);
     assert!(rt; all.push(played).is_ok());
     let volume = sixth(rt, alloc);
-    let answer = finish(alloc, volume, false, all, &mut output, &mut errors);
+    let answer = finish(alloc, volume, false, all, &mut output);
+    tell(&answer.fault, &mut errors);
     assert_eq!(rt; taken(output).as_slice(), text);
     assert_eq!(rt; taken(errors).as_slice(), line);
     assert_eq!(rt; answer.status, status);
@@ -53,7 +55,8 @@ fn want_of_memory_has_its_line(rt: HostRuntime) {
     let text = b"1.1 12 NoMemory\nrecords 0\nconfirmed 0\n";
     check_ended(&rt, alloc, played, stream(alloc), (text, b"", 4));
     let mut errors = stream(alloc);
-    let answer = refuse(alloc, ScriptsFault::NoMemory, &mut errors);
+    let answer = refuse(alloc, ScriptsFault::NoMemory);
+    tell(&answer.fault, &mut errors);
     assert_eq!(rt;
         taken(errors).as_slice(),
         b"unixvol: 12 NoMemory\n".as_slice()

@@ -10,33 +10,24 @@ use Rattle.vol_dir.specs.Walk.{walk}
 use Rattle.vol_judge.specs.Sound.{IsSound}
 use Rattle.vol_volume.specs.Answer.{query_refusal, reply_of, refused_or, reply_at, read_bytes}
 use Rattle.vol_volume.specs.Volume.{Mounted, mounted, reads_as}
-use Rattle.vol_commands.proofs.Reasons.{least_within}
-use Rattle.vol_commands.specs.Faults.{no_memory, user, IsCause}
-use Rattle.vol_commands.specs.declared.faults.Fault.TheVariants as commands
+use Rattle.vol_commands.proofs.Concluded.{fault_few}
+use Rattle.vol_commands.specs.Faults.{ErrorStream, fault_line, fault_status, no_memory, says, user, IsCause}
+use Rattle.vol_commands.specs.declared.faults.Fault.{Fault}
 use Rattle.vol_dir.specs.declared.refusal.Refusal.{Refusal}
 use Rattle.vol_layout.specs.declared.edition.Edition.{Edition}
 use Rattle.vol_volume.specs.declared.queries.Query.TheVariants as queries
 use Rattle.vol_volume.specs.declared.queries.Reply.{Reply}
 use Rattle.vol_volume.specs.declared.queries.Reply.TheVariants as replies
-use Rattle.tree_commands.specs.Getting.{AreRead, GetsFiles, IsFirstRefused, IsObstacle, IsReason, IsRuled, TellsFault, body_answer, get_status}
+use Rattle.tree_commands.specs.Getting.{AreRead, GetsFiles, IsFirstRefused, IsObstacle, IsReason, TellsFault, body_answer, get_status}
 use Rattle.tree_commands.specs.declared.getting.FileRead.{FileRead}
 use Rattle.tree_commands.specs.declared.getting.FilesRead.{FilesRead}
 use Rattle.tree_commands.specs.declared.getting.GetFault.{GetFault}
 use Rattle.tree_commands.specs.declared.getting.GetFault.TheVariants.{Volume, File}
 use Rattle.tree_commands.proofs.Imported.{refusal_fails}
 
--- the rule of a reason is one of the twelve
-pub reason_ruled : (edition : Edition) (image : List ℕ) (paths : List (List ℕ)) (fault : GetFault) → IsReason edition image paths fault → IsRuled fault
-reason_ruled edition image paths (Volume (commands.Unsound rule)) reason = least_within true edition image rule reason
-reason_ruled edition image paths (Volume (commands.Refused refusal)) reason = tt
-reason_ruled edition image paths (Volume commands.Output) reason = tt
-reason_ruled edition image paths (File refusal path) reason = tt
-
 -- no reason has a status 0
 fails : (fault : GetFault) → get_status fault ≡ 0 → ⊥
-fails (Volume (commands.Unsound rule)) is = omega (arith, is)
-fails (Volume (commands.Refused refusal)) is = refusal_fails refusal is
-fails (Volume commands.Output) is = omega (arith, is)
+fails (Volume fault) is = let few = fault_few fault in omega (arith, few.0, is)
 fails (File refusal path) is = refusal_fails refusal is
 
 -- a fault that is told is a reason, if the one is that was met
@@ -46,12 +37,13 @@ told_reason edition image paths fault told reason (inl is) = subst (IsReason edi
 told_reason edition image paths fault told reason (inr is) = subst (IsReason edition image paths) (sym is) tt
 
 -- the answer where files aren't read
-pub not_read : (edition : Edition) (image : List ℕ) (paths : List (List ℕ)) (said : List ℕ → Type 0) (fault : GetFault) (answer : FilesRead)
-    → IsReason edition image paths fault → answer.files ≡ None → TellsFault fault said answer.status → GetsFiles edition image paths said answer
-not_read edition image paths said fault answer reason none tells = record {
-  answered = (λ e. absurd (fails tells.0 (sym tells.2 ∙ e)), λ some. absurd (true≢false (sym (subst IsSome none some))));
+pub not_read : (edition : Edition) (image : List ℕ) (paths : List (List ℕ)) (errors : ErrorStream) (why : GetFault) (fault : Fault) (answer : FilesRead)
+    → IsReason edition image paths why → answer.files ≡ None → answer.status ≡ fault_status fault
+    → TellsFault why (λ line. fault_line fault ≡ line) (fault_status fault) → says errors (fault_line fault) → GetsFiles edition image paths (says errors) answer
+not_read edition image paths errors why fault answer reason none status tells said = record {
+  answered = (λ e. absurd (fails tells.0 (sym (status ∙ tells.2) ∙ e)), λ some. absurd (true≢false (sym (subst IsSome none some))));
   read = rw none tt;
-  refused = λ _. (tells.0, told_reason edition image paths fault tells.0 reason tells.1, tells.2, tells.3);
+  refused = λ _. (tells.0, told_reason edition image paths why tells.0 reason tells.1, status ∙ tells.2, subst (says errors) tells.3 said);
 }
 
 -- the reply is bytes

@@ -4,13 +4,12 @@ use Rattle.vol_dir.specs.Tree.{Tree}
 use Rattle.vol_judge.specs.Sound.{IsSound}
 use Rattle.vol_volume.specs.Answer.{answer}
 use Rattle.vol_volume.specs.Volume.{reads_as}
-use Rattle.vol_commands.specs.Faults.{fault_status, fault_line, no_memory, user, IsCause, IsRuled as IsRuledFault}
+use Rattle.vol_commands.specs.Faults.{fault_status, fault_line, no_memory, refusal_status, user, IsCause}
 use Rattle.vol_dir.specs.declared.refusal.Refusal.{Refusal}
 use Rattle.vol_layout.specs.declared.edition.Edition.{Edition}
 use Rattle.vol_volume.specs.declared.queries.Query.TheVariants as queries
 use Rattle.vol_volume.specs.declared.queries.Reply.{Reply}
 use Rattle.vol_volume.specs.declared.queries.Reply.TheVariants as replies
-use Rattle.vol_commands.specs.declared.faults.Fault.TheVariants as commands
 use Rattle.tree_commands.specs.Telling.{path_line}
 use Rattle.tree_commands.specs.declared.getting.FileRead.{FileRead}
 use Rattle.tree_commands.specs.declared.getting.FilesRead.{FilesRead}
@@ -55,17 +54,12 @@ IsReason edition image paths (File refusal path) = IsSound edition image × IsFi
 -- the status that the program ends with where files aren't read (this project)
 abbrev pub get_status : GetFault → ℕ
 get_status (Volume fault) = fault_status fault
-get_status (File refusal path) = fault_status (commands.Refused refusal)
+get_status (File refusal path) = refusal_status refusal
 
 -- the line on standard error where files aren't read (this project)
 abbrev pub get_line : GetFault → List ℕ
 get_line (Volume fault) = fault_line fault
 get_line (File refusal path) = path_line refusal path.now
-
--- the rule that a fault names is one of the twelve (this project)
-abbrev pub IsRuled : GetFault → Type 0
-IsRuled (Volume fault) = IsRuledFault fault
-IsRuled (File refusal path) = Unit {0}
 
 -- a fault is told, with its status; or memory runs out, and that is told in its place (this project)
 abbrev pub TellsFault : GetFault → (List ℕ → Type 0) → ℕ → Type 0

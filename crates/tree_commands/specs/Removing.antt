@@ -1,10 +1,10 @@
 -- What taking away what a path leads to comes to.
-use Rattle.std.specs.Prelude.{◌≡◌, ◌↔◌, ℕ, List, [], IsSome, IsNone, IfSome}
+use Rattle.std.specs.Prelude.{◌≡◌, ℕ, List}
 use Rattle.vol_removal.specs.Removing.{Removes, IsReason}
 use Rattle.vol_layout.specs.declared.edition.Edition.{Edition}
 use Rattle.vol_removal.specs.declared.faults.RemovalFault.{RemovalFault}
 use Rattle.vol_removal.specs.declared.faults.RemovalFault.TheVariants as removals
-use Rattle.vol_commands.specs.Faults.{fault_status, fault_line, no_memory}
+use Rattle.vol_commands.specs.Faults.{Concludes, no_memory}
 use Rattle.vol_commands.specs.declared.answer.Answer.{Answer}
 use Rattle.vol_commands.specs.declared.faults.Fault.{Fault}
 use Rattle.vol_commands.specs.declared.faults.Fault.TheVariants as faults
@@ -23,8 +23,5 @@ pub record IsCause (edition : Edition) (image path : List ℕ) (now : ℕ) (faul
   pub reason : IsReason edition image path now why
 
 -- what the command comes to: bytes to be saved, status 0 and no line, or the status and the line of a reason (rm)
-pub record RemovesTree (edition : Edition) (image path : List ℕ) (now : ℕ) (said : List ℕ → Type 0) (answer : Answer) : Type 0 where
-  pub saved : answer.status ≡ 0 ↔ IsSome answer.image
-  pub made : IfSome answer.image (λ bytes. Removes edition image path now bytes.items × said [])
-  pub refused : IsNone answer.image
-      → (fault : Fault) × IsCause edition image path now fault × (answer.status ≡ fault_status fault) × said (fault_line fault)
+abbrev pub RemovesTree : Edition → List ℕ → List ℕ → ℕ → (List ℕ → Type 0) → Answer → Type 0
+RemovesTree edition image path now said answer = Concludes (Removes edition image path now) (IsCause edition image path now) said answer

@@ -1,5 +1,5 @@
 -- What is told of an archive that isn't imported.
-use Rattle.std.specs.Prelude.{ℕ, ◌≤◌, ◌-◌, ◌++◌, List, length, take, codes, decimal}
+use Rattle.std.specs.Prelude.{ℕ, ◌-◌, ◌++◌, List, length, take, codes, decimal}
 use Rattle.escaped_text.specs.Escaping.{escaped}
 use Rattle.ustar.specs.declared.reading.HeaderFault.{HeaderFault}
 use Rattle.ustar.specs.declared.reading.HeaderFault.TheVariants as headers
@@ -13,8 +13,7 @@ use Rattle.vol_import.specs.declared.faults.ArchiveFault.{ArchiveFault}
 use Rattle.vol_import.specs.declared.faults.ArchiveFault.TheVariants as archives
 use Rattle.vol_import.specs.declared.making.ImportFault.{ImportFault}
 use Rattle.vol_import.specs.declared.making.ImportFault.TheVariants as faults
-use Rattle.vol_commands.specs.Faults.{fault_status, line_of_refusal, line_of_rule}
-use Rattle.vol_commands.specs.declared.faults.Fault.TheVariants as commands
+use Rattle.vol_commands.specs.Faults.{line_of_refusal, line_of_rule, refusal_status}
 
 -- what is wrong with a block that is no header (POSIX, ustar interchange format)
 abbrev pub header_text : HeaderFault → List ℕ
@@ -86,7 +85,7 @@ abbrev pub import_status : ImportFault → ℕ
 import_status (faults.Unsound rule) = 1
 import_status (faults.Archive fault) = archive_status fault
 import_status (faults.Member path cause) = 1
-import_status (faults.Refused refusal call) = fault_status (commands.Refused refusal)
+import_status (faults.Refused refusal call) = refusal_status refusal
 import_status faults.NoMemory = 4
 
 -- the line on standard error where an archive isn't imported (this project)
@@ -96,11 +95,3 @@ import_line (faults.Archive fault) = archive_line fault
 import_line (faults.Member path cause) = member_line path cause
 import_line (faults.Refused refusal call) = call_line refusal call
 import_line faults.NoMemory = line_of_refusal refusals.NoMemory
-
--- the rule that a fault names is one of the twelve (this project)
-abbrev pub IsRuled : ImportFault → Type 0
-IsRuled (faults.Unsound rule) = (1 ≤ rule) × (rule ≤ 12)
-IsRuled (faults.Archive fault) = Unit {0}
-IsRuled (faults.Member path cause) = Unit {0}
-IsRuled (faults.Refused refusal call) = Unit {0}
-IsRuled faults.NoMemory = Unit {0}

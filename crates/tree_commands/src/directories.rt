@@ -2,16 +2,15 @@
 ghost use Rattle.std.specs.Prelude.{◌≡◌, ◌<◌, ◌++◌, ◌∷◌, [], IfOk, IfErr, OnOk, length};
 ghost use Rattle.vol_volume.specs.Volume.{reads_as};
 ghost use Rattle.vol_commands.specs.Changing.{Makes, IsReason, ChangesVolume};
-ghost use Rattle.vol_commands.specs.Faults.{Gets};
+ghost use Rattle.vol_commands.specs.Faults.{says, ErrorStream, Hears};
 ghost use Rattle.tree_commands.specs.Directories.{ends_name, mkdir_call, mkdir_at, missing_calls, mkdir_all_calls};
 
 use crate::finding::{Found, find, last_name};
-use crate::making::{USER, copy, make_calls, mount, push};
-use pdp_words::Sink;
+use crate::making::{make_calls, push};
 use std::alloc::{AllocError, Global};
-use vol_commands::Answer;
 use vol_commands::answer::conclude;
-use vol_commands::faults::Fault;
+use vol_commands::mounting::{USER, copy, mount};
+use vol_commands::{Answer, Fault};
 use vol_dir::is_dots;
 use vol_layout::Edition;
 use vol_volume::{Call, Volume};
@@ -23,18 +22,17 @@ const PERMISSIONS: u16 = 0o755;
 /// made, and the same bytes are to be saved. A file in its place is refused as Exists, and one on the way to it as NotDirectory.
 ///
 /// Takes memory for a copy of the path for each of its names, and walks the path up to each.
-pub fn mkdir_all<E: Sink>(
+pub(crate) fn mkdir_all(
     alloc: Global,
     edition: Edition,
     image: Vec<u8>,
     path: &str,
     now: u32,
-    errors: &mut E,
 ) -> Answer
-    ensures { ChangesVolume edition image.items (mkdir_all_calls (reads_as edition image.items).tree now path.now)
-        (Gets (E.failed errors.new) (E.contents errors.old) (E.contents errors.new)) result }
+    ensures { (errors : ErrorStream) → Hears errors result.fault
+        → ChangesVolume edition image.items (mkdir_all_calls (reads_as edition image.items).tree now path.now) (says errors) result }
 {
-    conclude(make_directories(alloc, edition, image, path, now), errors)
+    conclude(make_directories(alloc, edition, image, path, now))
 }
 
 /// Makes the calls of `mkdir -p`.

@@ -6,8 +6,8 @@ ghost use Rattle.vol_volume.specs.declared.queries.Query.TheVariants as question
 ghost use Rattle.vol_commands.specs.Faults.{user};
 ghost use Rattle.tree_commands.specs.Finding.{found_kind, found_by, last_name};
 
-use crate::making::{USER, copy};
 use std::alloc::{AllocError, Global};
+use vol_commands::mounting::{USER, copy};
 use vol_dir::split_component;
 use vol_layout::Kind;
 use vol_volume::{Query, Reply, Volume};

@@ -1,26 +1,25 @@
 //! The command that reads several files.
-ghost use Rattle.std.specs.Prelude.{◌≡◌, ◌⊎◌, None, Some, IfErr, IfOk, [], map};
+ghost use Rattle.std.specs.Prelude.{◌≡◌, ◌⊎◌, IfErr, IfOk, map};
 ghost use Rattle.vol_judge.specs.Sound.{IsSound};
-ghost use Rattle.vol_dir.specs.declared.refusal.Refusal.TheVariants as refusals;
 ghost use Rattle.vol_volume.specs.Volume.{reads_as};
 ghost use Rattle.vol_volume.specs.declared.queries.Reply.TheVariants as replies;
-ghost use Rattle.vol_commands.specs.Faults.{Gets, no_memory};
-ghost use Rattle.tree_commands.specs.Getting.{AreRead, GetsFiles, IsObstacle, IsReason, IsRuled, TellsFault, body_answer, get_line, get_status};
+ghost use Rattle.vol_commands.specs.Faults.{fault_line, fault_status, heard, no_memory, says, ErrorStream, Hears};
+ghost use Rattle.tree_commands.specs.Getting.{AreRead, GetsFiles, IsObstacle, IsReason, TellsFault, body_answer};
 ghost use Rattle.tree_commands.specs.declared.getting.GetFault.TheVariants as faults;
 
-use crate::making::{USER, copy, mount};
-use crate::telling::{line_of_fault, path_line};
-use pdp_words::{Sink, write_all};
+use crate::telling::refused_at;
+use pdp_words::Sink;
 use std::alloc::{AllocError, Global};
-use vol_commands::answer::explain;
-use vol_commands::faults::Fault;
+use vol_commands::Fault;
+use vol_commands::answer::tell;
+use vol_commands::mounting::{USER, copy, mount};
 use vol_commands::status::DONE;
 use vol_dir::Refusal;
 use vol_layout::Edition;
 use vol_volume::{Query, Reply, Volume};
 
 /// Why several files aren't read.
-#[derive(Clone, Copy, Debug, PartialEq, Eq)]
+#[derive(Debug, Drop)]
 pub enum GetFault<'a> {
     /// The image isn't sound, or an allocation was refused.
     Volume(Fault),
@@ -52,12 +51,11 @@ pub struct FilesRead<'a> {
     pub status: u8,
     /// The files, if all were read.
     pub files: Option<Vec<FileRead<'a>>>,
+    /// Why not, if they weren't.
+    pub fault: Option<Fault>,
 }
 
-/// `get -o`: the regular files at some paths, in their order, all or none. Where there are none, the line tells why: the rule that the
-/// image breaks, or the first path whose file isn't read, with the refusal.
-///
-/// Takes memory to mount the image and for the bytes, and walks each path once.
+/// Reads files as [`perform`] does, and writes the line of its fault to `errors`.
 pub fn get_all<'a, E: Sink>(
     alloc: Global,
     edition: Edition,
@@ -65,18 +63,40 @@ pub fn get_all<'a, E: Sink>(
     paths: &[&'a str],
     errors: &mut E,
 ) -> FilesRead<'a>
-    ensures { GetsFiles edition image.items (map (λ path. path.now) paths.now)
-        (Gets (E.failed errors.new) (E.contents errors.old) (E.contents errors.new)) result }
+    ensures { GetsFiles edition image.items (map (λ path. path.now) paths.now) (says (heard E.contents E.failed errors.old errors.new)) result }
+{
+    let read = perform(alloc, edition, image, paths);
+    tell(&read.fault, errors);
+    read
+}
+
+/// `get -o`: the regular files at some paths, in their order, all or none. If there are none, the fault is the rule that the
+/// image breaks, or the refusal of the first path whose file isn't read.
+///
+/// Takes memory to mount the image and for the bytes, and walks each path once.
+pub fn perform<'a>(
+    alloc: Global,
+    edition: Edition,
+    image: Vec<u8>,
+    paths: &[&'a str],
+) -> FilesRead<'a>
+    ensures { (errors : ErrorStream) → Hears errors result.fault
+        → GetsFiles edition image.items (map (λ path. path.now) paths.now) (says errors) result }
 {
     match read_all(alloc, edition, image, paths) {
         Ok(files) => FilesRead {
             status: DONE,
             files: Some(files),
+            fault: None,
         },
-        Err(fault) => FilesRead {
-            status: tell(alloc, fault, errors),
-            files: None,
-        },
+        Err(why) => {
+            let fault = fault_of(alloc, why);
+            FilesRead {
+                status: fault.status(),
+                files: None,
+                fault: Some(fault),
+            }
+        }
     }
 }
 
@@ -137,38 +157,15 @@ fn read_body<'a>(alloc: Global, volume: &Volume, path: &'a str) -> Result<Vec<u8
     }
 }
 
-/// Writes the line of why files aren't read, and answers its status; or those of want of memory, where the line has none. Where it
-/// can't be written, the status tells.
-fn tell<E: Sink>(alloc: Global, fault: GetFault<'_>, errors: &mut E) -> u8
-    requires { IsRuled fault }
-    ensures { TellsFault fault.entry (Gets (E.failed errors.new) (E.contents errors.old) (E.contents errors.new)) result }
+/// The fault of a command that doesn't read files for this reason; memory that ran out, if there is none for its line.
+fn fault_of(alloc: Global, why: GetFault<'_>) -> Fault
+    ensures { TellsFault why.entry (λ line. fault_line result ≡ line) (fault_status result) }
 {
-    match line_of(alloc, fault) {
-        Ok(line) => {
-            let _ = write_all(errors, &line);
-            status_of(fault)
-        }
-        Err(_) => explain(Fault::Refused(Refusal::NoMemory), errors),
-    }
-}
-
-/// The line on standard error where files aren't read, with its newline.
-fn line_of(alloc: Global, fault: GetFault<'_>) -> Result<Vec<u8>, AllocError>
-    requires { IsRuled fault }
-    ensures { IfOk result (λ line. line.items ≡ get_line fault.entry) }
-{
-    match fault {
-        GetFault::Volume(fault) => line_of_fault(alloc, fault),
-        GetFault::File(refusal, path) => path_line(alloc, refusal, path.as_bytes()),
-    }
-}
-
-/// The status that the program ends with where files aren't read.
-fn status_of(fault: GetFault<'_>) -> u8
-    ensures { result ≡ get_status fault.entry }
-{
-    match fault {
-        GetFault::Volume(fault) => fault.status(),
-        GetFault::File(refusal, _) => Fault::Refused(refusal).status(),
+    match why {
+        GetFault::Volume(fault) => fault,
+        GetFault::File(refusal, path) => match refused_at(alloc, refusal, path.as_bytes()) {
+            Ok(fault) => fault,
+            Err(refused) => Fault::from(refused),
+        },
     }
 }

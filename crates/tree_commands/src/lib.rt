@@ -1,16 +1,16 @@
-//! Commands that change a volume by several calls, all or nothing: what each prints, its status, and the bytes that are to be saved.
+//! Commands that change a volume by several calls, all or nothing: what each comes to, its status, its fault, and the bytes that are to be saved.
 #![tactic(auto)]
 
-pub mod directories;
+mod directories;
 pub mod editing;
 pub mod edits;
 pub mod finding;
 pub mod getting;
-pub mod importing;
+mod importing;
 mod making;
-pub mod moving;
+mod moving;
 pub mod putting;
-pub mod removing;
+mod removing;
 mod telling;
 
 pub use editing::edit;

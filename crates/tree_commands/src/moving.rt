@@ -4,37 +4,35 @@ ghost use Rattle.vol_volume.specs.Answer.{answer};
 ghost use Rattle.vol_volume.specs.Volume.{reads_as};
 ghost use Rattle.vol_volume.specs.declared.queries.Query.TheVariants as questions;
 ghost use Rattle.vol_commands.specs.Changing.{Makes, IsReason, ChangesVolume};
-ghost use Rattle.vol_commands.specs.Faults.{Gets, user};
+ghost use Rattle.vol_commands.specs.Faults.{says, user, ErrorStream, Hears};
 ghost use Rattle.vol_import.specs.Plan.{below};
 ghost use Rattle.tree_commands.specs.Finding.{found_by};
 ghost use Rattle.tree_commands.specs.Moving.{target_of, move_calls};
 
 use crate::finding::{Found, find, last_name};
-use crate::making::{USER, copy, make_calls, mount, push};
-use pdp_words::Sink;
+use crate::making::{make_calls, push};
 use std::alloc::{AllocError, Global};
-use vol_commands::Answer;
 use vol_commands::answer::conclude;
-use vol_commands::faults::Fault;
+use vol_commands::mounting::{USER, copy, mount};
+use vol_commands::{Answer, Fault};
 use vol_layout::Edition;
 use vol_volume::{Bytes, Call, Volume};
 
 /// `mv`: gives a file a further name, and takes away the one that it had. Where `to` is a directory, the new name is the last of
 /// `from` in it. A directory isn't moved, which is refused as IsDirectory; and a name that is there, also one of the same file, is
 /// refused as Exists.
-pub fn mv<E: Sink>(
+pub(crate) fn mv(
     alloc: Global,
     edition: Edition,
     image: Vec<u8>,
     from: &str,
     to: &str,
     now: u32,
-    errors: &mut E,
 ) -> Answer
-    ensures { ChangesVolume edition image.items (move_calls (reads_as edition image.items).tree now from.now to.now)
-        (Gets (E.failed errors.new) (E.contents errors.old) (E.contents errors.new)) result }
+    ensures { (errors : ErrorStream) → Hears errors result.fault
+        → ChangesVolume edition image.items (move_calls (reads_as edition image.items).tree now from.now to.now) (says errors) result }
 {
-    conclude(move_file(alloc, edition, image, from, to, now), errors)
+    conclude(move_file(alloc, edition, image, from, to, now))
 }
 
 /// Makes the calls of `mv`.

@@ -7,16 +7,18 @@ ghost use Rattle.vol_volume.specs.declared.queries.Query.TheVariants as question
 ghost use Rattle.vol_import.specs.Making.{Imports, IsReason, told};
 ghost use Rattle.vol_import.specs.Plan.{Tells};
 ghost use Rattle.vol_commands.specs.Changing.{emptying_by};
-ghost use Rattle.vol_commands.specs.Faults.{Gets, user};
+ghost use Rattle.vol_commands.specs.Faults.{heard, says, user, ErrorStream, Hears};
 ghost use Rattle.tree_commands.specs.Importing.{ImportsArchive};
 ghost use Rattle.tree_commands.specs.Putting.{calls_to_put, file_calls, onto, put_onto};
 
 use crate::importing::conclude;
-use crate::making::{USER, copy, push};
+use crate::making::push;
 use crate::moving::name_in;
 use pdp_words::Sink;
 use std::alloc::{AllocError, Global};
 use vol_commands::Answer;
+use vol_commands::answer::tell;
+use vol_commands::mounting::{USER, copy};
 use vol_dir::Refusal;
 use vol_import::making::{make, mount, unplanned};
 use vol_import::{ImportFault, MemberFault, PlanFault};
@@ -36,12 +38,7 @@ pub struct NewFile<'a> {
     pub bytes: Vec<u8>,
 }
 
-/// `put -t`: puts files into a directory, each as `put` does: one that is missing is made with permissions 0644, one that is
-/// there is made empty, and then the bytes are written. All are put, or nothing is to be saved, and the line tells why: the rule
-/// that the image breaks, the first name above 14 bytes, or the refusal of a call with its path. Of two files of one name the
-/// second is refused as Exists where the name is new, and else has the last word.
-///
-/// The bytes of the files go into the calls. Takes memory to mount the image and for two paths a file, and walks the path of each.
+/// Puts files as [`perform`] does, and writes the line of its fault to `errors`. Nothing goes to `_output`.
 pub fn put_all<O: Sink, E: Sink>(
     alloc: Global,
     edition: Edition,
@@ -53,12 +50,34 @@ pub fn put_all<O: Sink, E: Sink>(
     errors: &mut E,
 ) -> Answer
     ensures put { ImportsArchive edition image.items (told (calls_to_put (reads_as edition image.items).tree now directory.now files.entry.items))
-        (Gets (E.failed errors.new) (E.contents errors.old) (E.contents errors.new)) result }
+        (says (heard E.contents E.failed errors.old errors.new)) result }
     ensures unprinted { Keeps (O.contents _output.old) (O.contents _output.new) }
     ensures unused { O.failed _output.new ≡ O.failed _output.old }
 {
+    let answer = perform(alloc, edition, image, directory, files, now);
+    tell(&answer.fault, errors);
+    answer
+}
+
+/// `put -t`: puts files into a directory, each as `put` does: one that is missing is made with permissions 0644, one that is
+/// there is made empty, and then the bytes are written. All are put, or nothing is to be saved, and the fault is the rule
+/// that the image breaks, the first name above 14 bytes, or the refusal of a call with its path. Of two files of one name the
+/// second is refused as Exists where the name is new, and else has the last word.
+///
+/// The bytes of the files go into the calls. Takes memory to mount the image and for two paths a file, and walks the path of each.
+pub fn perform(
+    alloc: Global,
+    edition: Edition,
+    image: Vec<u8>,
+    directory: &str,
+    files: Vec<NewFile<'_>>,
+    now: u32,
+) -> Answer
+    ensures { (errors : ErrorStream) → Hears errors result.fault
+        → ImportsArchive edition image.items (told (calls_to_put (reads_as edition image.items).tree now directory.now files.entry.items)) (says errors) result }
+{
     let outcome = put_files(alloc, edition, image, directory.as_bytes(), files, now);
-    conclude(alloc, outcome, errors)
+    conclude(alloc, outcome)
 }
 
 /// Makes the calls of `put -t`.
@@ -73,18 +92,13 @@ fn put_files(
     ensures made { IfOk result (λ bytes. Imports edition image.items (told (calls_to_put (reads_as edition image.items).tree now directory.now files.entry.items)) bytes.items) }
     ensures fault { IfErr result (IsReason edition image.items (told (calls_to_put (reads_as edition image.items).tree now directory.now files.entry.items))) }
 {
-    let mut volume = match mount(alloc, edition, image) {
-        Ok(volume) => volume,
-        Err(fault) => return Err(fault),
-    };
+    let mut volume = mount(alloc, edition, image)?;
     let calls = match calls_to_put(alloc, &volume, directory, files, now) {
         Ok(calls) => calls,
         Err(fault) => return Err(unplanned(fault)),
     };
-    match make(alloc, &mut volume, calls) {
-        Ok(()) => Ok(volume.unmount()),
-        Err(fault) => Err(fault),
-    }
+    make(alloc, &mut volume, calls)?;
+    Ok(volume.unmount())
 }
 
 /// The calls of `put -t`.

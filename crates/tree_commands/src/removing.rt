@@ -1,14 +1,12 @@
 //! The command that takes away what a path leads to, with all that is below it.
 ghost use Rattle.std.specs.Prelude.{◌≡◌, IfOk, IfErr};
-ghost use Rattle.vol_commands.specs.Faults.{Gets};
+ghost use Rattle.vol_commands.specs.Faults.{says, ErrorStream, Hears};
 ghost use Rattle.vol_removal.specs.Removing.{Removes};
 ghost use Rattle.tree_commands.specs.Removing.{fault_of, IsCause, RemovesTree};
 
-use pdp_words::Sink;
 use std::alloc::Global;
-use vol_commands::Answer;
 use vol_commands::answer::conclude;
-use vol_commands::faults::Fault;
+use vol_commands::{Answer, Fault};
 use vol_dir::Refusal;
 use vol_layout::Edition;
 use vol_removal::{RemovalFault, remove_all};
@@ -18,17 +16,17 @@ use vol_removal::{RemovalFault, remove_all};
 /// last name is `.` (Invalid) or `..` (NoEntry, since what leads there is gone by then).
 ///
 /// Takes memory as [`vol_removal::remove_all`] does, and costs what that costs.
-pub fn rm_all<E: Sink>(
+pub(crate) fn rm_all(
     alloc: Global,
     edition: Edition,
     image: Vec<u8>,
     path: &str,
     now: u32,
-    errors: &mut E,
 ) -> Answer
-    ensures { RemovesTree edition image.items path.now now (Gets (E.failed errors.new) (E.contents errors.old) (E.contents errors.new)) result }
+    ensures { (errors : ErrorStream) → Hears errors result.fault
+        → RemovesTree edition image.items path.now now (says errors) result }
 {
-    conclude(remove(alloc, edition, image, path, now), errors)
+    conclude(remove(alloc, edition, image, path, now))
 }
 
 /// Takes away what a path leads to, with all that is below it.

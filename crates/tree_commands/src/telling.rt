@@ -1,77 +1,73 @@
 //! What is told of an archive that isn't imported.
 ghost use Rattle.std.specs.Prelude.{◌≡◌, ◌++◌, IfOk, OnOk};
-ghost use Rattle.vol_commands.specs.Faults.{fault_line, IsRuled as IsRuledFault};
-ghost use Rattle.tree_commands.specs.Telling.{header_text, line_at, archive_line, cause_text, member_line, path_line, path_of, unended, call_line, archive_status, import_status, import_line, IsRuled};
+ghost use Rattle.vol_commands.specs.Faults.{fault_line, fault_status, refusal_status};
+ghost use Rattle.tree_commands.specs.Importing.{TellsFault};
+ghost use Rattle.tree_commands.specs.Telling.{header_text, line_at, archive_line, cause_text, member_line, path_line, path_of, unended, archive_status, import_status, import_line};
 
 use escaped_text::push_escaped;
 use std::alloc::{AllocError, Global};
 use ustar::HeaderFault;
-use vol_commands::faults::Fault;
-use vol_commands::status::{NO_MEMORY, REFUSED};
+use vol_commands::Fault;
 use vol_dir::Refusal;
 use vol_import::{ArchiveFault, ImportFault, MemberFault};
 use vol_volume::{Bytes, Call};
 
-/// The status that the program ends with where an archive isn't imported.
-pub(crate) fn status_of(fault: &ImportFault) -> u8
-    ensures { result ≡ import_status fault.now }
+/// The fault of a command that doesn't import an archive for this reason; memory that ran out, if there is none for its line.
+pub(crate) fn fault_of(alloc: Global, why: &ImportFault) -> Fault
+    ensures { TellsFault why.now (λ line. fault_line result ≡ line) (fault_status result) }
 {
-    match fault {
-        ImportFault::Unsound(_) | ImportFault::Member(_, _) => REFUSED,
-        ImportFault::Archive(fault) => archive_status(*fault),
-        ImportFault::Refused(refusal, _) => Fault::Refused(*refusal).status(),
-        ImportFault::NoMemory => NO_MEMORY,
+    match worded(alloc, why) {
+        Ok(fault) => fault,
+        Err(refused) => Fault::from(refused),
     }
 }
 
-/// The status where it can't be read.
-fn archive_status(fault: ArchiveFault) -> u8
-    ensures { result ≡ archive_status fault }
+/// The fault of a command that doesn't import an archive for this reason.
+fn worded(alloc: Global, why: &ImportFault) -> Result<Fault, AllocError>
+    ensures status { IfOk result (λ fault. fault_status fault ≡ import_status why.now) }
+    ensures line { IfOk result (λ fault. fault_line fault ≡ import_line why.now) }
 {
-    match fault {
-        ArchiveFault::NoMemory => NO_MEMORY,
-        ArchiveFault::Truncated(_) | ArchiveFault::LoneZeroBlock(_) => REFUSED,
-        ArchiveFault::Header(_, _) => REFUSED,
-        ArchiveFault::Records(_) | ArchiveFault::Unsupported(_) => REFUSED,
-    }
-}
-
-/// The line on standard error where an archive isn't imported, with its newline.
-pub(crate) fn line_of(alloc: Global, fault: &ImportFault) -> Result<Vec<u8>, AllocError>
-    requires { IsRuled fault.now }
-    ensures { IfOk result (λ line. line.items ≡ import_line fault.now) }
-{
-    match fault {
-        ImportFault::Unsound(rule) => line_of_fault(alloc, Fault::Unsound(*rule)),
-        ImportFault::Archive(fault) => archive_line(alloc, *fault),
-        ImportFault::Member(path, cause) => member_line(alloc, path.as_slice(), *cause),
-        ImportFault::Refused(refusal, call) => call_line(alloc, *refusal, call),
-        ImportFault::NoMemory => line_of_fault(alloc, Fault::Refused(Refusal::NoMemory)),
-    }
-}
-
-/// The line of a fault that other commands have too.
-pub(crate) fn line_of_fault(alloc: Global, fault: Fault) -> Result<Vec<u8>, AllocError>
-    requires { IsRuledFault fault }
-    ensures { IfOk result (λ line. line.items ≡ fault_line fault) }
-{
-    Vec::from_slice(alloc, fault.line().as_bytes())
-}
-
-/// The line of an archive that can't be read.
-fn archive_line(alloc: Global, fault: ArchiveFault) -> Result<Vec<u8>, AllocError>
-    ensures { IfOk result (λ line. line.items ≡ archive_line fault) }
-{
-    match fault {
-        ArchiveFault::Truncated(at) => line_at(alloc, at, b"cut off"),
-        ArchiveFault::LoneZeroBlock(at) => line_at(alloc, at, b"a lone block of zeros"),
-        ArchiveFault::Header(at, fault) => line_at(alloc, at, header_text(fault)),
-        ArchiveFault::Records(at) => line_at(alloc, at, b"records of pax that can't be read"),
-        ArchiveFault::Unsupported(at) => {
-            line_at(alloc, at, b"records of pax that can't be followed")
+    match why {
+        ImportFault::Unsound(rule) => Ok(Fault::Unsound(*rule)),
+        ImportFault::Archive(fault) => unread(alloc, *fault),
+        ImportFault::Member(path, cause) => {
+            let lines = member_line(alloc, path.as_slice(), *cause)?;
+            Ok(Fault::Worded { rule: None, lines })
         }
-        ArchiveFault::NoMemory => line_of_fault(alloc, Fault::Refused(Refusal::NoMemory)),
+        ImportFault::Refused(refusal, call) => refused_at(
+            alloc,
+            *refusal,
+            path_of(call).as_slice(),
+        ),
+        ImportFault::NoMemory => Ok(Fault::Refused(Refusal::NoMemory)),
     }
+}
+
+/// The fault of a refusal whose line names a path.
+pub(crate) fn refused_at(alloc: Global, refusal: Refusal, path: &[u8]) -> Result<Fault, AllocError>
+    ensures status { IfOk result (λ fault. fault_status fault ≡ refusal_status refusal) }
+    ensures line { IfOk result (λ fault. fault_line fault ≡ path_line refusal path.now) }
+{
+    let line = path_line(alloc, refusal, path)?;
+    Ok(Fault::RefusedAt { refusal, line })
+}
+
+/// The fault of an archive that can't be read.
+fn unread(alloc: Global, fault: ArchiveFault) -> Result<Fault, AllocError>
+    ensures status { IfOk result (λ unread. fault_status unread ≡ archive_status fault) }
+    ensures line { IfOk result (λ unread. fault_line unread ≡ archive_line fault) }
+{
+    let lines = match fault {
+        ArchiveFault::Truncated(at) => line_at(alloc, at, b"cut off")?,
+        ArchiveFault::LoneZeroBlock(at) => line_at(alloc, at, b"a lone block of zeros")?,
+        ArchiveFault::Header(at, fault) => line_at(alloc, at, header_text(fault))?,
+        ArchiveFault::Records(at) => line_at(alloc, at, b"records of pax that can't be read")?,
+        ArchiveFault::Unsupported(at) => {
+            line_at(alloc, at, b"records of pax that can't be followed")?
+        }
+        ArchiveFault::NoMemory => return Ok(Fault::Refused(Refusal::NoMemory)),
+    };
+    Ok(Fault::Worded { rule: None, lines })
 }
 
 /// What is wrong with a block that is no header.
@@ -122,18 +118,11 @@ fn cause_text(cause: MemberFault) -> &'static [u8]
     }
 }
 
-/// The line of a refused call: that of the refusal, with the call's path.
-fn call_line(alloc: Global, refusal: Refusal, call: &Call) -> Result<Vec<u8>, AllocError>
-    ensures { IfOk result (λ line. line.items ≡ call_line refusal call.now) }
-{
-    path_line(alloc, refusal, path_of(call).as_slice())
-}
-
 /// The line of a refusal, with a path.
-pub(crate) fn path_line(alloc: Global, refusal: Refusal, path: &[u8]) -> Result<Vec<u8>, AllocError>
+fn path_line(alloc: Global, refusal: Refusal, path: &[u8]) -> Result<Vec<u8>, AllocError>
     ensures { IfOk result (λ line. line.items ≡ path_line refusal path.now) }
 {
-    let mut line = Vec::from_slice(alloc, unended(Fault::Refused(refusal).line().as_bytes()))?;
+    let mut line = Vec::from_slice(alloc, unended(Fault::Refused(refusal).line()))?;
     line.extend_from_slice(b": ")?;
     push_escaped(&mut line, path)?;
     line.push(b'\n')?;

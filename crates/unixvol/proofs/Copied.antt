@@ -35,12 +35,10 @@ saved_one status P (inr (inr four)) is = absurd (omega (arith, four, is))
 
 -- the status after files that were read were saved
 pub read_saved : (taken : List ℕ → Type 0) (read : FilesRead) (files : Vec FileRead) (given : List FileRead) (status : ℕ) → read.files ≡ Some files
-    → given ≡ files.items → (IsSome read.files → read.status ≡ 0) → ((status ≡ 0) × AreSaved taken given) ⊎ IsStatusOfFileOrMemory status
-    → ReadSaved taken read status
-read_saved taken read files given status is same zero (inl saved) =
-    let some : IsSome read.files = subst IsSome (sym is) refl in
+    → given ≡ files.items → ((status ≡ read.status) × AreSaved taken given) ⊎ IsStatusOfFileOrMemory status → ReadSaved taken read status
+read_saved taken read files given status is same (inl saved) =
     inl (
-      saved.0 ∙ sym (zero some),
+      saved.0,
       subst (λ (found : Option (Vec FileRead)). IfSome found (λ files. AreSaved taken files.items)) (sym is) (subst (AreSaved taken) same saved.1),
     )
-read_saved taken read files given status is same zero (inr file) = inr (subst IsSome (sym is) refl, file)
+read_saved taken read files given status is same (inr file) = inr (subst IsSome (sym is) refl, file)

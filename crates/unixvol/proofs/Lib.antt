@@ -1,9 +1,9 @@
 pub mod Asked
 pub mod Begun
 pub mod Checked
+pub mod Concluded
 pub mod Copied
+pub mod Done
 pub mod Looked
 pub mod MadeVolumes
-pub mod Migrated
 pub mod Played
-pub mod Statuses

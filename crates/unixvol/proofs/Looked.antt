@@ -4,6 +4,7 @@ use Rattle.std.proofs.lemmas.Bool.{ne_eqb}
 use Rattle.vol_archive.specs.Exporting.{start_of}
 use Rattle.vol_archive.specs.declared.exporting.Start.{Start}
 use Rattle.vol_archive.specs.declared.exporting.StartFault.{StartFault}
+use Rattle.vol_commands.proofs.Concluded.{fault_few}
 use Rattle.vol_commands.specs.Faults.{no_memory}
 use Rattle.vol_commands.specs.Jobs.{Streams}
 use Rattle.vol_commands.specs.declared.faults.Fault.{Fault}
@@ -18,7 +19,6 @@ use Rattle.vol_listing.specs.declared.options.Screen.{Screen}
 use Rattle.vol_listing.specs.declared.options.Screen.TheVariants as screens
 use Rattle.unixvol.specs.Running.{IsEnd, IsUnread, RunsLook, host_files}
 use Rattle.host_files.specs.declared.image_file.Stamp.{Stamp}
-use Rattle.unixvol.proofs.Statuses.{fault_few}
 
 -- a run ends so that meets a fault
 ends_badly : (streams : Streams) (status : ℕ) → 1 ≤ status → status ≤ 4 → IsEnd streams status

@@ -4,9 +4,10 @@ use Rattle.std.specs.Io.KnownBytes.{Keeps}
 use Rattle.vol_volume.specs.Blank.{Blank, blank_of, IsMade}
 use Rattle.vol_volume.specs.Mkfs.{is_size}
 use Rattle.vol_volume.specs.Ids.{is_bad_id}
-use Rattle.vol_commands.specs.Faults.{Gets}
+use Rattle.vol_commands.specs.Faults.{ErrorStream, Hears, line_after, says}
 use Rattle.vol_commands.specs.Jobs.{Streams}
 use Rattle.vol_commands.specs.Making.{mkfs_line_at}
+use Rattle.vol_commands.specs.declared.faults.Fault.{Fault}
 use Rattle.vol_commands.specs.declared.making.Made.{Made}
 use Rattle.vol_volume.specs.declared.blank.NewVolume.{NewVolume}
 use Rattle.unixvol.specs.Running.{IsStatusOfFileOrMemory, MadeSaved, RunsMkfs}
@@ -30,11 +31,11 @@ file_within : (status : ℕ) → IsStatusOfFileOrMemory status → (3 ≤ status
 file_within status file = elim file [ inl e ↦ (omega arith, omega arith) | inr e ↦ (omega arith, omega arith) ]
 
 -- the line that is told is that of the status
-pub told_at : (volume : NewVolume) (status known : ℕ) (failed : Bool) (old new : Option (List ℕ))
-    → Gets failed old new (mkfs_line_at (is_size volume.edition volume.blocks volume.list_blocks) status) → status ≡ known
-    → Gets failed old new (mkfs_line_at (is_size volume.edition volume.blocks volume.list_blocks) known)
-told_at volume status known failed old new line is =
-    subst (λ n. Gets failed old new (mkfs_line_at (is_size volume.edition volume.blocks volume.list_blocks) n)) is line
+pub told_at : (volume : NewVolume) (status known : ℕ) (fault : Option Fault) (errors : ErrorStream)
+    → line_after fault ≡ mkfs_line_at (is_size volume.edition volume.blocks volume.list_blocks) status → Hears errors fault → status ≡ known
+    → says errors (mkfs_line_at (is_size volume.edition volume.blocks volume.list_blocks) known)
+told_at volume status known fault errors line hears is =
+    subst (λ n. says errors (mkfs_line_at (is_size volume.edition volume.blocks volume.list_blocks) n)) is (subst (says errors) line hears)
 
 -- what `mkfs` comes to, where what it made was saved or wasn't
 pub runs_by : (streams : Streams) (taken : List ℕ → Type 0) (volume : NewVolume) (made : Made) (status : ℕ)

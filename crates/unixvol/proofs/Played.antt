@@ -1,6 +1,7 @@
 -- How a play that runs ends.
 use Rattle.std.proofs.Common.{◌≡◌, ◌∙◌, ℕ, ◌≤◌, List, [], ◌∷◌, map, fold, max, Option, Some, None, inl, inr, sym, subst, arith}
 use Rattle.std.specs.Global.{Vec}
+use Rattle.vol_commands.proofs.Concluded.{fault_few}
 use Rattle.vol_commands.specs.Faults.{fault_status}
 use Rattle.vol_commands.specs.Jobs.{Streams}
 use Rattle.vol_commands.specs.declared.answer.Answer.{Answer}
@@ -18,7 +19,6 @@ use Rattle.vol_scripts.specs.declared.reading.ScriptsFault.TheVariants as unread
 use Rattle.vol_volume.specs.Volume.{Mounted}
 use Rattle.unixvol.specs.Running.{EndsSaved, IsEnd, IsUnread, RunsPlay, host_files}
 use Rattle.host_files.specs.declared.image_file.Stamp.{Stamp}
-use Rattle.unixvol.proofs.Statuses.{fault_few}
 
 max_few : (a b : ℕ) → a ≤ 4 → b ≤ 4 → max a b ≤ 4
 max_few a b one other = omega (arith, one, other)

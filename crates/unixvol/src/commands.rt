@@ -1,15 +1,15 @@
 //! The commands of the program that one thread does and that print all or nothing: what they open, and what they save.
-ghost use Rattle.std.specs.Prelude.{◌≡◌, ◌≢◌, ◌⊎◌, [], ◌≤◌, ℕ, List, true, IfErr, IfOk, IfSome, IsErrAnd};
+ghost use Rattle.std.specs.Prelude.{◌≡◌, ◌≢◌, ◌⊎◌, [], ◌≤◌, ℕ, Bool, List, Option, true, IfErr, IfOk, IfSome, IsErrAnd};
 ghost use Rattle.std.specs.Io.KnownBytes.{Keeps};
 ghost use Rattle.std.specs.Process.{exit_status};
 ghost use Rattle.vol_commands.specs.Cat.{IsNoWriters};
-ghost use Rattle.vol_commands.specs.Faults.{Gets};
+ghost use Rattle.vol_commands.specs.Faults.{ErrorStream, Hears};
+ghost use Rattle.vol_commands.specs.Jobs.{still, streams};
 ghost use Rattle.vol_commands.specs.declared.cat.CatFault.TheVariants as faults;
 ghost use Rattle.unixvol.specs.Running.{IsPlainCommand, GaveBytes, IsGivenFor, IsUnread, CatsGiven, PrintsBody, RunsChange, RunsJob, RunsMigrate, RunsMkfs, RunsQuery, Runs, RunsRead, RunsToEnd, Ends, host_files};
 ghost use Rattle.host_files.specs.Saving.{IsTaken};
 
-use crate::explaining::{explain_cat, explain_command_line, explain_line, finish};
-use crate::heard::heard_writer;
+use crate::explaining::{explain_cat, explain_command_line, finish, tell_fault};
 use crate::host::Host;
 use crate::reading::{ReadFile, read_file, read_image, read_stamped};
 use crate::saving::{save_answer, save_made, save_migrated};
@@ -17,14 +17,17 @@ use crate::subject::Subject;
 use clap::Error;
 use command_line::{Invocation, VolumeFile};
 use host_files::{ImageFiles, noted_reader, noted_writer};
-use pdp_words::Sink;
+use pdp_words::{IntoWrite, Sink};
 use std::fs::{self, Files};
 use std::io::{self, Write};
 use std::process::ExitCode;
 use std::rt::Clock;
 use vol_commands::cat::cat;
+use vol_commands::jobs::perform;
+use vol_commands::making::make_volume;
+use vol_commands::migrating::migrate_image;
 use vol_commands::status::DONE;
-use vol_commands::{Answer, CatFault, Job, Made, Migration, do_job, migrate_command, mkfs_command};
+use vol_commands::{CatFault, Ending, Job, Migration};
 use vol_layout::Edition;
 use vol_volume::NewVolume;
 
@@ -40,75 +43,59 @@ pub fn run_to_end<R: ImageFiles + Clock + Eprint + AllocGlobal, O: Write + Drop,
     requires { IfOk read IsPlainCommand }
     ensures { RunsToEnd (host_files R.File.remaining R.File.contents R.had R.stood) (O.contents output) (E.contents errors) read.entry (exit_status result) }
 {
+    let mut errors = IntoWrite::new(errors);
     let mut output = noted_writer(output);
-    let mut errors = heard_writer(errors);
     let subject = Subject::of_read(&read);
-    let status = run(host, &mut output, &mut errors, read);
-    explain_line(host, errors.last_line(), output.error(), subject);
-    ExitCode::from(finish(host, output.into_inner().into_inner(), status))
+    let ending = run(host, &mut output, read);
+    tell_fault(host, &mut errors, &ending.fault, output.error(), subject);
+    ExitCode::from(finish(host, output.into_inner().into_inner(), ending.status))
 }
 
-/// Does what was read of the command line, and answers the status to end with, if [`finish`] goes well.
-fn run<R: ImageFiles + Clock + Eprint + AllocGlobal, O: Sink, E: Sink>(
+/// Does what was read of the command line, and answers how it ends, if [`finish`] goes well.
+fn run<R: ImageFiles + Clock + Eprint + AllocGlobal, O: Sink>(
     host: &Host<'_, R>,
     output: &mut O,
-    errors: &mut E,
     read: Result<Invocation<'_>, Error>,
-) -> u8
+) -> Ending
     requires { IfOk read IsPlainCommand }
-    ensures runs { RunsRead (record {
-      old = O.contents output.old;
-      new = O.contents output.new;
-      had_failed = O.failed output.old;
-      failed = O.failed output.new;
-      said = Gets (E.failed errors.new) (E.contents errors.old) (E.contents errors.new);
-    }) (host_files R.File.remaining R.File.contents R.had R.stood) result read.entry }
-    ensures ends { Ends (record {
-      old = O.contents output.old;
-      new = O.contents output.new;
-      had_failed = O.failed output.old;
-      failed = O.failed output.new;
-      said = Gets (E.failed errors.new) (E.contents errors.old) (E.contents errors.new);
-    }) result }
+    ensures runs { (errors : ErrorStream) → Hears errors result.fault
+        → RunsRead (streams O.contents O.failed output.old output.new errors) (host_files R.File.remaining R.File.contents R.had R.stood) result.status read.entry }
+    ensures ends { (errors : ErrorStream) → Hears errors result.fault
+        → Ends (streams O.contents O.failed output.old output.new errors) result.status }
 {
     match read {
-        Ok(invocation) => carry_out(host, output, errors, invocation),
-        Err(error) => explain_command_line(host, output, &error),
+        Ok(invocation) => carry_out(host, output, invocation),
+        Err(error) => Ending {
+            status: explain_command_line(host, output, &error),
+            fault: None,
+        },
     }
 }
 
-/// Does what the user asks for, and answers the status to end with.
-fn carry_out<R: ImageFiles + Clock + Eprint + AllocGlobal, O: Sink, E: Sink>(
+/// Does what the user asks for, and answers how it ends.
+fn carry_out<R: ImageFiles + Clock + Eprint + AllocGlobal, O: Sink>(
     host: &Host<'_, R>,
     output: &mut O,
-    errors: &mut E,
     invocation: Invocation<'_>,
-) -> u8
+) -> Ending
     requires { IsPlainCommand invocation }
-    ensures runs { Runs (record {
-      old = O.contents output.old;
-      new = O.contents output.new;
-      had_failed = O.failed output.old;
-      failed = O.failed output.new;
-      said = Gets (E.failed errors.new) (E.contents errors.old) (E.contents errors.new);
-    }) (host_files R.File.remaining R.File.contents R.had R.stood) result invocation.entry }
-    ensures ends { Ends (record {
-      old = O.contents output.old;
-      new = O.contents output.new;
-      had_failed = O.failed output.old;
-      failed = O.failed output.new;
-      said = Gets (E.failed errors.new) (E.contents errors.old) (E.contents errors.new);
-    }) result }
+    ensures runs { (errors : ErrorStream) → Hears errors result.fault
+        → Runs (streams O.contents O.failed output.old output.new errors) (host_files R.File.remaining R.File.contents R.had R.stood) result.status invocation.entry }
+    ensures ends { (errors : ErrorStream) → Hears errors result.fault
+        → Ends (streams O.contents O.failed output.old output.new errors) result.status }
 {
     match invocation {
-        Invocation::Cat { volume, ino } => run_cat(host, output, volume, ino),
-        Invocation::Mkfs { image, volume } => run_mkfs(host, output, errors, image, volume),
+        Invocation::Cat { volume, ino } => Ending {
+            status: run_cat(host, output, volume, ino),
+            fault: None,
+        },
+        Invocation::Mkfs { image, volume } => run_mkfs(host, image, volume),
         Invocation::Migrate {
             old,
             new,
             migration,
-        } => run_migrate(host, output, errors, old, new, migration),
-        Invocation::OnVolume { volume, job } => run_job(host, output, errors, volume, job),
+        } => run_migrate(host, old, new, migration),
+        Invocation::OnVolume { volume, job } => run_job(host, output, volume, job),
         Invocation::OnImage { .. }
         | Invocation::OnTree { .. }
         | Invocation::OnFiles { .. }
@@ -136,84 +123,67 @@ fn run_cat<R: Files + Eprint + AllocGlobal, O: Sink>(
     }
 }
 
-/// Makes a new volume, saves it in the file `image`, and answers the status to end with.
-fn run_mkfs<R: ImageFiles + Clock + Eprint + AllocGlobal, O: Sink, E: Sink>(
+/// Makes a new volume, saves it in the file `image`, and answers how it ends.
+fn run_mkfs<R: ImageFiles + Clock + Eprint + AllocGlobal>(
     host: &Host<'_, R>,
-    output: &mut O,
-    errors: &mut E,
     image: &str,
     volume: NewVolume,
-) -> u8
-    ensures { RunsMkfs (record {
-      old = O.contents output.old;
-      new = O.contents output.new;
-      had_failed = O.failed output.old;
-      failed = O.failed output.new;
-      said = Gets (E.failed errors.new) (E.contents errors.old) (E.contents errors.new);
-    }) (IsTaken R.File.contents) volume result }
+) -> Ending
+    ensures { (known : Option (List ℕ)) (failed : Bool) (errors : ErrorStream) → Hears errors result.fault
+        → RunsMkfs (still known failed errors) (IsTaken R.File.contents) volume result.status }
 {
-    let made = mkfs_command(host.rt.alloc(), volume, output, errors);
-    save_made(host, image, &made)
+    let made = make_volume(host.rt.alloc(), volume);
+    let status = save_made(host, image, &made);
+    Ending {
+        status,
+        fault: made.fault,
+    }
 }
 
-/// Makes a volume of the seventh edition out of the one in the file `old`, saves it in the file `new`, and answers the
-/// status to end with.
-fn run_migrate<R: ImageFiles + Clock + Eprint + AllocGlobal, O: Sink, E: Sink>(
+/// Makes a volume of the seventh edition out of the one in the file `old`, saves it in the file `new`, and answers
+/// how it ends.
+fn run_migrate<R: ImageFiles + Clock + Eprint + AllocGlobal>(
     host: &Host<'_, R>,
-    output: &mut O,
-    errors: &mut E,
     old: &str,
     new: &str,
     migration: Migration,
-) -> u8
-    ensures runs { RunsMigrate (record {
-      old = O.contents output.old;
-      new = O.contents output.new;
-      had_failed = O.failed output.old;
-      failed = O.failed output.new;
-      said = Gets (E.failed errors.new) (E.contents errors.old) (E.contents errors.new);
-    }) (host_files R.File.remaining R.File.contents R.had R.stood) migration result }
-    ensures ends { Ends (record {
-      old = O.contents output.old;
-      new = O.contents output.new;
-      had_failed = O.failed output.old;
-      failed = O.failed output.new;
-      said = Gets (E.failed errors.new) (E.contents errors.old) (E.contents errors.new);
-    }) result }
+) -> Ending
+    ensures runs { (known : Option (List ℕ)) (failed : Bool) (errors : ErrorStream) → Hears errors result.fault
+        → RunsMigrate (still known failed errors) (host_files R.File.remaining R.File.contents R.had R.stood) migration result.status }
+    ensures ends { (known : Option (List ℕ)) (failed : Bool) (errors : ErrorStream) → Hears errors result.fault
+        → Ends (still known failed errors) result.status }
 {
     let (image, stamp) = match read_stamped(host, old) {
         Ok(read) => read,
-        Err(status) => return status,
+        Err(status) => {
+            return Ending {
+                status,
+                fault: None,
+            };
+        }
     };
-    let answer = migrate_command(host.rt.alloc(), image, migration, output, errors);
-    save_migrated(host, new, stamp, &answer)
+    let answer = migrate_image(host.rt.alloc(), image, migration);
+    let status = save_migrated(host, new, stamp, &answer);
+    Ending {
+        status,
+        fault: answer.fault,
+    }
 }
 
 /// Does a job with the volume in a file, and saves the volume where it was changed.
-fn run_job<R: ImageFiles + Clock + Eprint + AllocGlobal, O: Sink, E: Sink>(
+fn run_job<R: ImageFiles + Clock + Eprint + AllocGlobal, O: Sink>(
     host: &Host<'_, R>,
     output: &mut O,
-    errors: &mut E,
     volume: VolumeFile<'_>,
     job: Job<'_>,
-) -> u8
-    ensures runs { RunsJob (record {
-      old = O.contents output.old;
-      new = O.contents output.new;
-      had_failed = O.failed output.old;
-      failed = O.failed output.new;
-      said = Gets (E.failed errors.new) (E.contents errors.old) (E.contents errors.new);
-    }) (host_files R.File.remaining R.File.contents R.had R.stood) volume.entry.edition job.entry result }
-    ensures ends { Ends (record {
-      old = O.contents output.old;
-      new = O.contents output.new;
-      had_failed = O.failed output.old;
-      failed = O.failed output.new;
-      said = Gets (E.failed errors.new) (E.contents errors.old) (E.contents errors.new);
-    }) result }
+) -> Ending
+    ensures runs { (errors : ErrorStream) → Hears errors result.fault
+        → RunsJob (streams O.contents O.failed output.old output.new errors) (host_files R.File.remaining R.File.contents R.had R.stood) volume.entry.edition job.entry result.status }
+    ensures ends { (errors : ErrorStream) → Hears errors result.fault
+        → Ends (streams O.contents O.failed output.old output.new errors) result.status }
 {
     match job {
-        Job::Get { .. } => run_query(host, output, errors, volume, job),
+        Job::Get { .. } => run_query(host, output, volume, job),
         Job::Put { .. }
         | Job::Rm { .. }
         | Job::Rmdir { .. }
@@ -221,76 +191,59 @@ fn run_job<R: ImageFiles + Clock + Eprint + AllocGlobal, O: Sink, E: Sink>(
         | Job::Ln { .. }
         | Job::Chmod { .. }
         | Job::Chown { .. }
-        | Job::Salvage => run_change(host, output, errors, volume, job),
+        | Job::Salvage => run_change(host, output, volume, job),
     }
 }
 
 /// Does a job that shows something of the volume in a file.
-fn run_query<R: ImageFiles + Eprint + AllocGlobal, O: Sink, E: Sink>(
+fn run_query<R: ImageFiles + Eprint + AllocGlobal, O: Sink>(
     host: &Host<'_, R>,
     output: &mut O,
-    errors: &mut E,
     volume: VolumeFile<'_>,
     job: Job<'_>,
-) -> u8
-    ensures runs { RunsQuery (record {
-      old = O.contents output.old;
-      new = O.contents output.new;
-      had_failed = O.failed output.old;
-      failed = O.failed output.new;
-      said = Gets (E.failed errors.new) (E.contents errors.old) (E.contents errors.new);
-    }) (host_files R.File.remaining R.File.contents R.had R.stood) volume.entry.edition job.entry result }
-    ensures ends { Ends (record {
-      old = O.contents output.old;
-      new = O.contents output.new;
-      had_failed = O.failed output.old;
-      failed = O.failed output.new;
-      said = Gets (E.failed errors.new) (E.contents errors.old) (E.contents errors.new);
-    }) result }
+) -> Ending
+    ensures runs { (errors : ErrorStream) → Hears errors result.fault
+        → RunsQuery (streams O.contents O.failed output.old output.new errors) (host_files R.File.remaining R.File.contents R.had R.stood) volume.entry.edition job.entry result.status }
+    ensures ends { (errors : ErrorStream) → Hears errors result.fault
+        → Ends (streams O.contents O.failed output.old output.new errors) result.status }
 {
     let image = match read_file(host, volume.image) {
         Ok(image) => image,
-        Err(status) => return status,
+        Err(status) => {
+            return Ending {
+                status,
+                fault: None,
+            };
+        }
     };
     let nothing = Vec::new(host.rt.alloc());
-    do_job(
-        host.rt.alloc(),
-        volume.edition,
-        image,
-        nothing,
-        job,
-        output,
-        errors,
-    )
-    .status
+    let answer = perform(host.rt.alloc(), volume.edition, image, nothing, job, output);
+    Ending {
+        status: answer.status,
+        fault: answer.fault,
+    }
 }
 
 /// Does a job that changes the volume in a file, and saves the volume.
-fn run_change<R: ImageFiles + Clock + Eprint + AllocGlobal, O: Sink, E: Sink>(
+fn run_change<R: ImageFiles + Clock + Eprint + AllocGlobal, O: Sink>(
     host: &Host<'_, R>,
     output: &mut O,
-    errors: &mut E,
     volume: VolumeFile<'_>,
     job: Job<'_>,
-) -> u8
-    ensures runs { RunsChange (record {
-      old = O.contents output.old;
-      new = O.contents output.new;
-      had_failed = O.failed output.old;
-      failed = O.failed output.new;
-      said = Gets (E.failed errors.new) (E.contents errors.old) (E.contents errors.new);
-    }) (host_files R.File.remaining R.File.contents R.had R.stood) volume.entry.edition job.entry result }
-    ensures ends { Ends (record {
-      old = O.contents output.old;
-      new = O.contents output.new;
-      had_failed = O.failed output.old;
-      failed = O.failed output.new;
-      said = Gets (E.failed errors.new) (E.contents errors.old) (E.contents errors.new);
-    }) result }
+) -> Ending
+    ensures runs { (errors : ErrorStream) → Hears errors result.fault
+        → RunsChange (streams O.contents O.failed output.old output.new errors) (host_files R.File.remaining R.File.contents R.had R.stood) volume.entry.edition job.entry result.status }
+    ensures ends { (errors : ErrorStream) → Hears errors result.fault
+        → Ends (streams O.contents O.failed output.old output.new errors) result.status }
 {
     let (read, stamp) = match read_image(host, volume.image) {
         Ok(read) => read,
-        Err(status) => return status,
+        Err(status) => {
+            return Ending {
+                status,
+                fault: None,
+            };
+        }
     };
     // Its file stays open, and so locked, until what is made of it is saved.
     let ReadFile {
@@ -299,18 +252,19 @@ fn run_change<R: ImageFiles + Clock + Eprint + AllocGlobal, O: Sink, E: Sink>(
     } = read;
     let file = match file_of(host, job) {
         Ok(file) => file,
-        Err(status) => return status,
+        Err(status) => {
+            return Ending {
+                status,
+                fault: None,
+            };
+        }
     };
-    let answer = do_job(
-        host.rt.alloc(),
-        volume.edition,
-        image,
-        file,
-        job,
-        output,
-        errors,
-    );
-    save_answer(host, volume.image, stamp, &answer)
+    let answer = perform(host.rt.alloc(), volume.edition, image, file, job, output);
+    let status = save_answer(host, volume.image, stamp, &answer);
+    Ending {
+        status,
+        fault: answer.fault,
+    }
 }
 
 /// The bytes of the file that a job puts into a volume, or none.

@@ -1,27 +1,28 @@
 //! The commands that copy several files between the host and a volume: what they open, and what they save.
-ghost use Rattle.std.specs.Prelude.{◌≡◌, ◌≢◌, ◌⊎◌, All, IfErr, IfOk, IfSome, None, map};
+ghost use Rattle.std.specs.Prelude.{◌≡◌, ◌≢◌, ◌⊎◌, ℕ, All, Bool, IfErr, IfOk, IfSome, List, None, Option, map};
 ghost use Rattle.std.specs.Process.{exit_status};
-ghost use Rattle.vol_commands.specs.Faults.{Gets};
-ghost use Rattle.unixvol.specs.Copying.{AreSaved, CopiesToEnd, IsFileToo, IsMomentAlone, RunsCopy, RunsGet, RunsPut, name_of};
+ghost use Rattle.vol_commands.specs.Faults.{ErrorStream, Hears};
+ghost use Rattle.vol_commands.specs.Jobs.{still};
+ghost use Rattle.unixvol.specs.Copying.{AreSaved, CopiesToEnd, IsFileToo, IsMomentAlone, ReadSaved, RunsCopy, RunsGet, RunsPut, name_of};
 ghost use Rattle.unixvol.specs.Running.{Ends, GaveBytes, IsStatusOfFileOrMemory, IsUnread, host_files};
 ghost use Rattle.host_files.specs.Saving.{IsTaken};
 
-use crate::explaining::{explain_line, explain_moment, explain_no_memory, finish};
-use crate::heard::heard_writer;
+use crate::explaining::{explain_moment, explain_no_memory, finish, tell_fault};
 use crate::host::Host;
 use crate::reading::{ReadFile, read_file, read_image, read_stamped};
 use crate::saving::{save_answer, save_new};
 use crate::subject::Subject;
 use command_line::{Copying, VolumeFile};
 use command_words::Moment;
-use host_files::{ImageFiles, Stamp, noted_writer};
-use pdp_words::Sink;
+use host_files::{ImageFiles, Stamp};
+use pdp_words::IntoWrite;
 use std::fs::Files;
 use std::io::Write;
 use std::path::Path;
 use std::process::ExitCode;
 use std::rt::Clock;
-use tree_commands::{FileRead, NewFile, get_all, put_all};
+use tree_commands::{FileRead, FilesRead, NewFile, getting, putting};
+use vol_commands::Ending;
 use vol_commands::status::DONE;
 
 /// Copies several files between the host and the volume in a file, and answers how the program ends. A fault is one line on
@@ -36,80 +37,63 @@ pub fn run_to_end<R: ImageFiles + Clock + Eprint + AllocGlobal, O: Write + Drop,
     ensures { CopiesToEnd (host_files R.File.remaining R.File.contents R.had R.stood) R.stands (O.contents output) (E.contents errors)
         volume.entry.edition copying.entry (exit_status result) }
 {
-    let mut output = noted_writer(output);
-    let mut errors = heard_writer(errors);
+    let mut errors = IntoWrite::new(errors);
     let subject = Subject::of_copying(volume.image, &copying);
-    let status = run(host, &mut output, &mut errors, volume, copying);
-    explain_line(host, errors.last_line(), output.error(), Some(subject));
-    ExitCode::from(finish(host, output.into_inner().into_inner(), status))
+    let ending = run(host, volume, copying);
+    tell_fault(host, &mut errors, &ending.fault, None, Some(subject));
+    ExitCode::from(finish(host, output, ending.status))
 }
 
-/// Copies several files, and answers the status to end with.
-fn run<R: ImageFiles + Clock + Eprint + AllocGlobal, O: Sink, E: Sink>(
+/// Copies several files, and answers how it ends.
+fn run<R: ImageFiles + Clock + Eprint + AllocGlobal>(
     host: &Host<'_, R>,
-    output: &mut O,
-    errors: &mut E,
     volume: VolumeFile<'_>,
     copying: Copying<'_>,
-) -> u8
-    ensures runs { RunsCopy (record {
-      old = O.contents output.old;
-      new = O.contents output.new;
-      had_failed = O.failed output.old;
-      failed = O.failed output.new;
-      said = Gets (E.failed errors.new) (E.contents errors.old) (E.contents errors.new);
-    }) (host_files R.File.remaining R.File.contents R.had R.stood) R.stands volume.entry.edition copying.entry result }
-    ensures ends { Ends (record {
-      old = O.contents output.old;
-      new = O.contents output.new;
-      had_failed = O.failed output.old;
-      failed = O.failed output.new;
-      said = Gets (E.failed errors.new) (E.contents errors.old) (E.contents errors.new);
-    }) result }
+) -> Ending
+    ensures runs { (known : Option (List ℕ)) (failed : Bool) (errors : ErrorStream) → Hears errors result.fault
+        → RunsCopy (still known failed errors) (host_files R.File.remaining R.File.contents R.had R.stood) R.stands volume.entry.edition copying.entry result.status }
+    ensures ends { (known : Option (List ℕ)) (failed : Bool) (errors : ErrorStream) → Hears errors result.fault
+        → Ends (still known failed errors) result.status }
 {
     match copying {
         Copying::Put {
             directory,
             files,
             now,
-        } => run_put(host, output, errors, volume, directory, &files, now),
-        Copying::Get { folder, paths } => run_get(host, output, errors, volume, folder, &paths),
+        } => run_put(host, volume, directory, &files, now),
+        Copying::Get { folder, paths } => run_get(host, volume, folder, &paths),
     }
 }
 
-/// Puts the files at some paths into a directory of the volume in a file, saves the volume, and answers the status to end with. Where
+/// Puts the files at some paths into a directory of the volume in a file, saves the volume, and answers how it ends. Where
 /// something stands at the word that was read as the moment, it may be one of the files: then nothing is opened.
-fn run_put<R: ImageFiles + Clock + Eprint + AllocGlobal, O: Sink, E: Sink>(
+fn run_put<R: ImageFiles + Clock + Eprint + AllocGlobal>(
     host: &Host<'_, R>,
-    output: &mut O,
-    errors: &mut E,
     volume: VolumeFile<'_>,
     directory: &str,
     paths: &[&str],
     now: Moment<'_>,
-) -> u8
-    ensures runs { RunsPut (record {
-      old = O.contents output.old;
-      new = O.contents output.new;
-      had_failed = O.failed output.old;
-      failed = O.failed output.new;
-      said = Gets (E.failed errors.new) (E.contents errors.old) (E.contents errors.new);
-    }) (host_files R.File.remaining R.File.contents R.had R.stood) R.stands volume.entry.edition directory.now
-        (map (λ path. name_of path.now) paths.now) now.entry result }
-    ensures ends { Ends (record {
-      old = O.contents output.old;
-      new = O.contents output.new;
-      had_failed = O.failed output.old;
-      failed = O.failed output.new;
-      said = Gets (E.failed errors.new) (E.contents errors.old) (E.contents errors.new);
-    }) result }
+) -> Ending
+    ensures runs { (known : Option (List ℕ)) (failed : Bool) (errors : ErrorStream) → Hears errors result.fault
+        → RunsPut (still known failed errors) (host_files R.File.remaining R.File.contents R.had R.stood) R.stands volume.entry.edition directory.now
+        (map (λ path. name_of path.now) paths.now) now.entry result.status }
+    ensures ends { (known : Option (List ℕ)) (failed : Bool) (errors : ErrorStream) → Hears errors result.fault
+        → Ends (still known failed errors) result.status }
 {
     if let Some(word) = moment_file(host.rt, now) {
-        return explain_moment(host, word);
+        return Ending {
+            status: explain_moment(host, word),
+            fault: None,
+        };
     }
     let (read, stamp) = match read_image(host, volume.image) {
         Ok(read) => read,
-        Err(status) => return status,
+        Err(status) => {
+            return Ending {
+                status,
+                fault: None,
+            };
+        }
     };
     // Its file stays open, and so locked, until what is made of it is saved.
     let ReadFile {
@@ -118,19 +102,20 @@ fn run_put<R: ImageFiles + Clock + Eprint + AllocGlobal, O: Sink, E: Sink>(
     } = read;
     let files = match read_named(host, paths) {
         Ok(files) => files,
-        Err(status) => return status,
+        Err(status) => {
+            return Ending {
+                status,
+                fault: None,
+            };
+        }
     };
-    let answer = put_all(
-        host.rt.alloc(),
-        volume.edition,
-        image,
-        directory,
-        files,
-        now.seconds,
-        output,
-        errors,
-    );
-    save_answer(host, volume.image, stamp, &answer)
+    let alloc = host.rt.alloc();
+    let answer = putting::perform(alloc, volume.edition, image, directory, files, now.seconds);
+    let status = save_answer(host, volume.image, stamp, &answer);
+    Ending {
+        status,
+        fault: answer.fault,
+    }
 }
 
 /// The word that was read as the moment, where something stands at it as a path.
@@ -171,58 +156,68 @@ fn name_of(path: &str) -> &str
 }
 
 /// Reads the files at some paths of the volume in a file, saves each in a folder under its last name once all are read, and answers
-/// the status to end with. The file of the volume isn't replaced, whatever its path.
-fn run_get<R: ImageFiles + Clock + Eprint + AllocGlobal, O: Sink, E: Sink>(
+/// how it ends. The file of the volume isn't replaced, whatever its path.
+fn run_get<R: ImageFiles + Clock + Eprint + AllocGlobal>(
     host: &Host<'_, R>,
-    _output: &mut O,
-    errors: &mut E,
     volume: VolumeFile<'_>,
     folder: &str,
     paths: &[&str],
-) -> u8
-    ensures runs { RunsGet (record {
-      old = O.contents _output.old;
-      new = O.contents _output.new;
-      had_failed = O.failed _output.old;
-      failed = O.failed _output.new;
-      said = Gets (E.failed errors.new) (E.contents errors.old) (E.contents errors.new);
-    }) (host_files R.File.remaining R.File.contents R.had R.stood) volume.entry.edition (map (λ path. path.now) paths.now) result }
-    ensures ends { Ends (record {
-      old = O.contents _output.old;
-      new = O.contents _output.new;
-      had_failed = O.failed _output.old;
-      failed = O.failed _output.new;
-      said = Gets (E.failed errors.new) (E.contents errors.old) (E.contents errors.new);
-    }) result }
+) -> Ending
+    ensures runs { (known : Option (List ℕ)) (failed : Bool) (errors : ErrorStream) → Hears errors result.fault
+        → RunsGet (still known failed errors) (host_files R.File.remaining R.File.contents R.had R.stood) volume.entry.edition (map (λ path. path.now) paths.now) result.status }
+    ensures ends { (known : Option (List ℕ)) (failed : Bool) (errors : ErrorStream) → Hears errors result.fault
+        → Ends (still known failed errors) result.status }
 {
     let (image, stamp) = match read_stamped(host, volume.image) {
         Ok(read) => read,
-        Err(status) => return status,
+        Err(status) => {
+            return Ending {
+                status,
+                fault: None,
+            };
+        }
     };
-    let read = get_all(host.rt.alloc(), volume.edition, image, paths, errors);
+    let read = getting::perform(host.rt.alloc(), volume.edition, image, paths);
+    let status = save_read(host, folder, stamp, &read);
+    Ending {
+        status,
+        fault: read.fault,
+    }
+}
+
+/// Saves the files that were read of a volume in a folder, if they were, and answers the status to end with.
+fn save_read<R: ImageFiles + Clock + Eprint + AllocGlobal>(
+    host: &Host<'_, R>,
+    folder: &str,
+    image: Stamp,
+    read: &FilesRead<'_>,
+) -> u8
+    ensures { ReadSaved (IsTaken R.File.contents) read.now result }
+{
     match &read.files {
-        Some(files) => save_files(host, folder, stamp, files),
+        Some(files) => save_files(host, folder, image, files, read.status),
         None => read.status,
     }
 }
 
-/// Saves files of a volume in a folder, each under the last name of its path, and answers the status to end with: that of the first
-/// that can't be saved, behind which none is.
+/// Saves files of a volume in a folder, each under the last name of its path, and answers the status to end with: `status`, or that
+/// of the first that can't be saved, after which none is.
 fn save_files<R: ImageFiles + Clock + Eprint + AllocGlobal>(
     host: &Host<'_, R>,
     folder: &str,
     image: Stamp,
     files: &[FileRead<'_>],
+    status: u8,
 ) -> u8
-    ensures { ((result ≡ 0) × AreSaved (IsTaken R.File.contents) files.now) ⊎ IsStatusOfFileOrMemory result }
+    ensures { ((result ≡ status) × AreSaved (IsTaken R.File.contents) files.now) ⊎ IsStatusOfFileOrMemory result }
 {
     'files: for file in files {
-        let status = save_file_read(host, folder, image, file);
-        if status != DONE {
-            return status;
+        let saved = save_file_read(host, folder, image, file);
+        if saved != DONE {
+            return saved;
         }
     }
-    DONE
+    status
 }
 
 /// Saves a file of a volume in a folder, under the last name of its path, and answers the status to end with.

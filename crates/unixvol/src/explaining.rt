@@ -6,6 +6,7 @@ ghost use Rattle.std.specs.declared.io.ErrorKind.TheVariants as io_kinds;
 ghost use Rattle.clap.specs.Words.{kind_of};
 ghost use Rattle.clap.specs.declared.error.kind.ErrorKind.TheVariants as clap_kinds;
 ghost use Rattle.vol_commands.specs.Cat.{cat_status};
+ghost use Rattle.vol_commands.specs.Faults.{Hears, heard};
 ghost use Rattle.unixvol.specs.Running.{IsStatusOfFileOrMemory};
 
 use crate::host::Host;
@@ -14,8 +15,9 @@ use crate::subject::Subject;
 use clap::error::ErrorKind;
 use pdp_words::{Sink, write_all};
 use std::io::{self, Write};
-use vol_commands::CatFault;
+use vol_commands::answer::tell;
 use vol_commands::status::{BAD_COMMAND_LINE, BAD_FILE, DONE, NO_MEMORY};
+use vol_commands::{CatFault, Fault};
 
 /// What the line of a fault calls standard output and standard input.
 const STREAM: &str = "-";
@@ -103,12 +105,25 @@ fn tell_why<R: Eprint + AllocGlobal>(host: &Host<'_, R>, file: Named<'_>, why: i
     }
 }
 
-/// Prints the second line of the line that a command printed last, if it is wanted: that of standard output, where this answered
-/// an error, or else what the line means. A line that says in words what is wrong has none, and where there is no memory for it,
-/// it is left out.
-pub fn explain_line<R: Eprint + AllocGlobal>(
+/// Prints the line of a fault, if a run met one, and its second line, if that is wanted.
+pub fn tell_fault<R: Eprint + AllocGlobal, E: Sink>(
     host: &Host<'_, R>,
-    line: &[u8],
+    errors: &mut E,
+    fault: &Option<Fault>,
+    output: Option<io::Error>,
+    subject: Option<Subject<'_>>,
+)
+    ensures { Hears (heard E.contents E.failed errors.old errors.new) fault.now }
+{
+    tell(fault, errors);
+    explain(host, fault, output, subject);
+}
+
+/// Prints the second line of a run, if it is wanted: the system's error, if standard output failed, or else what the fault
+/// means. A fault that says in words what is wrong has none, and if there is no memory for it, it is left out.
+fn explain<R: Eprint + AllocGlobal>(
+    host: &Host<'_, R>,
+    fault: &Option<Fault>,
     output: Option<io::Error>,
     subject: Option<Subject<'_>>,
 ) {
@@ -121,7 +136,10 @@ pub fn explain_line<R: Eprint + AllocGlobal>(
     let Some(subject) = subject else {
         return;
     };
-    if let Ok(Some(meaning)) = meaning_of(host.rt.alloc(), line, subject) {
+    let Some(fault) = fault else {
+        return;
+    };
+    if let Ok(Some(meaning)) = meaning_of(host.rt.alloc(), fault, subject) {
         let _ = eprintln!(host.rt; "unixvol: {meaning}");
     }
 }
@@ -142,7 +160,7 @@ pub fn explain_cat<R: Eprint + AllocGlobal>(
             // Where standard error can't be written either, the status tells.
             let line = fault.line();
             let _ = eprint!(host.rt; "{line}");
-            explain_line(host, line.trim_end().as_bytes(), None, Some(subject));
+            explain(host, &fault.as_fault(), None, Some(subject));
             fault.status()
         }
     }

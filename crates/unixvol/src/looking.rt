@@ -1,21 +1,23 @@
 //! The commands that look at an image, sound or not. They may have printed something whatever their status is.
 ghost use Rattle.std.specs.Prelude.{◌≡◌, ◌≤◌};
 ghost use Rattle.std.specs.Process.{exit_status};
-ghost use Rattle.vol_commands.specs.Faults.{Gets};
+ghost use Rattle.vol_commands.specs.Faults.{ErrorStream, Hears};
+ghost use Rattle.vol_commands.specs.Jobs.{streams};
 ghost use Rattle.unixvol.specs.Running.{IsEnd, IsShownBy, LooksToEnd, RunsLook, host_files};
 
-use crate::explaining::{explain_line, finish_printed};
-use crate::heard::heard_writer;
+use crate::explaining::{finish_printed, tell_fault};
 use crate::host::Host;
 use crate::reading::read_file;
 use crate::subject::Subject;
 use command_line::VolumeFile;
 use host_files::{ImageFiles, noted_writer};
-use image_commands::{Look, look};
-use pdp_words::Sink;
+use image_commands::Look;
+use image_commands::looking::perform;
+use pdp_words::{IntoWrite, Sink};
 use std::env::{self, Env};
 use std::io::Write;
 use std::process::ExitCode;
+use vol_commands::Ending;
 use vol_listing::Screen;
 
 /// How many columns a terminal has where COLUMNS doesn't say it.
@@ -57,49 +59,41 @@ pub fn run_to_end<R: ImageFiles + Eprint + AllocGlobal, O: Write + Drop, E: Writ
     ensures { LooksToEnd (host_files R.File.remaining R.File.contents R.had R.stood) screen (O.contents output) (E.contents errors)
         volume.entry.edition look.entry (exit_status result) }
 {
+    let mut errors = IntoWrite::new(errors);
     let mut output = noted_writer(output);
-    let mut errors = heard_writer(errors);
-    let status = run(host, screen, &mut output, &mut errors, volume, look);
+    let ending = run(host, screen, &mut output, volume, look);
     let subject = Subject::of_look(volume.image, look);
-    explain_line(host, errors.last_line(), output.error(), Some(subject));
-    ExitCode::from(finish_printed(host, output.into_inner().into_inner(), status))
+    tell_fault(
+        host,
+        &mut errors,
+        &ending.fault,
+        output.error(),
+        Some(subject),
+    );
+    ExitCode::from(finish_printed(host, output.into_inner().into_inner(), ending.status))
 }
 
-/// Shows what is asked for of the image in a file, and answers the status to end with, if [`finish_printed`] goes well.
-fn run<R: ImageFiles + Eprint + AllocGlobal, O: Sink, E: Sink>(
+/// Shows what is asked for of the image in a file, and answers how it ends, if [`finish_printed`] goes well.
+fn run<R: ImageFiles + Eprint + AllocGlobal, O: Sink>(
     host: &Host<'_, R>,
     screen: Screen,
     output: &mut O,
-    errors: &mut E,
     volume: VolumeFile<'_>,
-    asked: Look<'_>,
-) -> u8
-    ensures runs { RunsLook (record {
-      old = O.contents output.old;
-      new = O.contents output.new;
-      had_failed = O.failed output.old;
-      failed = O.failed output.new;
-      said = Gets (E.failed errors.new) (E.contents errors.old) (E.contents errors.new);
-    }) (host_files R.File.remaining R.File.contents R.had R.stood) screen volume.entry.edition asked.entry result }
-    ensures ends { IsEnd (record {
-      old = O.contents output.old;
-      new = O.contents output.new;
-      had_failed = O.failed output.old;
-      failed = O.failed output.new;
-      said = Gets (E.failed errors.new) (E.contents errors.old) (E.contents errors.new);
-    }) result }
+    look: Look<'_>,
+) -> Ending
+    ensures runs { (errors : ErrorStream) → Hears errors result.fault
+        → RunsLook (streams O.contents O.failed output.old output.new errors) (host_files R.File.remaining R.File.contents R.had R.stood) screen volume.entry.edition look.entry result.status }
+    ensures ends { (errors : ErrorStream) → Hears errors result.fault
+        → IsEnd (streams O.contents O.failed output.old output.new errors) result.status }
 {
     let image = match read_file(host, volume.image) {
         Ok(image) => image,
-        Err(status) => return status,
+        Err(status) => {
+            return Ending {
+                status,
+                fault: None,
+            };
+        }
     };
-    look(
-        host.rt.alloc(),
-        volume.edition,
-        image,
-        asked,
-        screen,
-        output,
-        errors,
-    )
+    perform(host.rt.alloc(), volume.edition, image, look, screen, output)
 }

@@ -5,8 +5,6 @@ mod commands;
 mod copying;
 mod editing;
 mod explaining;
-mod fault_line;
-mod heard;
 mod host;
 mod looking;
 mod meanings;

@@ -1,10 +1,10 @@
-//! What the lines of faults mean, in words.
+//! What faults mean, in words.
 
-use crate::fault_line::FaultLine;
 use crate::subject::{About, Subject};
 use command_words::Verb;
 use escaped_text::push_escaped;
 use std::alloc::{AllocError, Global};
+use vol_commands::Fault;
 use vol_dir::Refusal;
 use vol_findings::Rule;
 
@@ -15,23 +15,40 @@ pub const NO_MEMORY: &str = "there was too little memory for this";
 const BAD_ID: &str =
     "the user or the group is above the edition's highest, 255 in the sixth and 32767 in the seventh";
 
-/// What a command's line on standard error means, and what it is about. `None` of a line that says in words what is wrong, as
-/// those of `export` and `import` do of entries and members.
+/// The rules of soundness, in the order of their numbers.
+static RULES: [Rule; 12] = [
+    Rule::Whole,
+    Rule::Bounded,
+    Rule::Kinds,
+    Rule::Sizes,
+    Rule::Zoned,
+    Rule::Listed,
+    Rule::Apart,
+    Rule::Covered,
+    Rule::Entries,
+    Rule::Dots,
+    Rule::Tree,
+    Rule::Links,
+];
+
+/// What a fault means, and what it is about. `None` of one that says in words what is wrong, as those of `export` and
+/// `import` do of entries and members.
 pub fn meaning_of(
     alloc: Global,
-    line: &[u8],
+    fault: &Fault,
     subject: Subject<'_>,
 ) -> Result<Option<String>, AllocError> {
-    match FaultLine::read(line, subject.verb) {
-        Some(FaultLine::Unsound(rule)) => rule_meaning(alloc, rule, subject),
-        Some(FaultLine::BadLine { script, line }) => script_meaning(alloc, script, line, subject),
-        Some(FaultLine::Refused(refusal)) => refusal_meaning(alloc, refusal, subject),
-        Some(FaultLine::RefusedAt(refusal)) => named_meaning(alloc, refusal, subject),
-        Some(FaultLine::Bounds) => {
+    match fault {
+        Fault::Unsound(rule) => rule_meaning(alloc, Some(*rule), subject),
+        Fault::Worded { rule, .. } => rule_meaning(alloc, *rule, subject),
+        Fault::BadLine { script, number, .. } => script_meaning(alloc, *script, *number, subject),
+        Fault::Refused(refusal) => refusal_meaning(alloc, *refusal, subject),
+        Fault::RefusedAt { refusal, .. } => named_meaning(alloc, *refusal, subject),
+        Fault::Bounds => {
             let about = about_in(alloc, subject)?;
             meaning(alloc, about, "no volume of the edition has these sizes")
         }
-        Some(FaultLine::HasDevice) => {
+        Fault::HasDevice => {
             let image = shown(alloc, subject.image)?;
             meaning(
                 alloc,
@@ -39,12 +56,12 @@ pub fn meaning_of(
                 "the volume has a special file, and migrate makes none",
             )
         }
-        // Where standard output failed, the system's reason is told in the place of this.
-        Some(FaultLine::Unwritten) if subject.verb == Verb::Export => {
+        // If standard output failed, the system's error is printed instead.
+        Fault::Output if subject.verb == Verb::Export => {
             let output = shown(alloc, "standard output")?;
             meaning(alloc, output, "it is a terminal, which gets no archive")
         }
-        Some(FaultLine::Unwritten) | None => Ok(None),
+        Fault::Output => Ok(None),
     }
 }
 
@@ -56,9 +73,12 @@ fn meaning(alloc: Global, about: String, words: &str) -> Result<Option<String>, 
 /// What it means that an image breaks a rule.
 fn rule_meaning(
     alloc: Global,
-    rule: Rule,
+    rule: Option<u8>,
     subject: Subject<'_>,
 ) -> Result<Option<String>, AllocError> {
+    let Some(rule) = rule_of(rule) else {
+        return Ok(None);
+    };
     let image = shown(alloc, subject.image)?;
     let number = rule.number();
     let sentence = rule.sentence();
@@ -70,11 +90,17 @@ fn rule_meaning(
     Ok(Some(text))
 }
 
+/// The rule of a number.
+fn rule_of(number: Option<u8>) -> Option<Rule> {
+    let number = number?;
+    RULES.iter().copied().find(|rule| rule.number() == number)
+}
+
 /// What it means that a line of a script can't be read.
 fn script_meaning(
     alloc: Global,
-    script: usize,
-    line: &str,
+    script: u64,
+    line: u64,
     subject: Subject<'_>,
 ) -> Result<Option<String>, AllocError> {
     let script = match subject.about {
@@ -92,8 +118,9 @@ fn script_meaning(
 }
 
 /// The script of a number, of which the first is 1.
-fn script_at<'a>(scripts: &'a [&'a str], number: usize) -> Option<&'a str> {
-    scripts.get(number.checked_sub(1)?).copied()
+fn script_at<'a>(scripts: &'a [&'a str], number: u64) -> Option<&'a str> {
+    let place = usize::try_from(number.checked_sub(1)?).ok()?;
+    scripts.get(place).copied()
 }
 
 /// What a refusal means that is about a member or a file, which the line names itself.

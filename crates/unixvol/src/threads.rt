@@ -2,18 +2,18 @@
 ghost use Rattle.std.specs.Prelude.{◌≡◌, ◌⊎◌, ◌≤◌, length};
 ghost use Rattle.std.specs.Process.{exit_status};
 ghost use Rattle.command_words.specs.Asking.{IsWorkable};
-ghost use Rattle.vol_commands.specs.Faults.{Gets};
+ghost use Rattle.vol_commands.specs.Faults.{ErrorStream, Hears};
+ghost use Rattle.vol_commands.specs.Jobs.{streams};
 ghost use Rattle.unixvol.specs.Running.{IsEnd, RunsCheck, RunsPlay, RunsWork, WorksToEnd, host_files};
 
-use crate::explaining::{explain_line, finish_printed};
-use crate::heard::heard_writer;
+use crate::explaining::{finish_printed, tell_fault};
 use crate::host::Host;
 use crate::reading::{ReadFile, read_file, read_files, read_image};
 use crate::saving::save_played;
 use crate::subject::Subject;
 use command_line::{VolumeFile, Work};
 use host_files::{ImageFiles, noted_writer};
-use pdp_words::Sink;
+use pdp_words::{IntoWrite, Sink};
 use std::fs::Files;
 use std::io::Write;
 use std::process::ExitCode;
@@ -21,8 +21,7 @@ use std::rt::Clock;
 use std::sync::Wait;
 use std::thread::Threads;
 use vol_check::{Checker, Open};
-use vol_commands::checking::check;
-use vol_play::play;
+use vol_commands::{Ending, checking};
 
 /// Does with the volume in a file what several threads are asked for, and answers how the program ends. What it prints goes
 /// to `output`, which is standard output; a fault is one line on standard error. `errors` writes to standard error too.
@@ -35,71 +34,63 @@ pub fn run_to_end<
     ensures { WorksToEnd (host_files R.File.remaining R.File.contents R.had R.stood) (O.contents output) (E.contents errors)
         volume.entry.edition work.entry (exit_status result) }
 {
+    let mut errors = IntoWrite::new(errors);
     let mut output = noted_writer(output);
-    let mut errors = heard_writer(errors);
-    let status = run(host, &mut output, &mut errors, volume, &work);
+    let ending = run(host, &mut output, volume, &work);
     let subject = Subject::of_work(volume.image, &work);
-    explain_line(host, errors.last_line(), output.error(), Some(subject));
-    ExitCode::from(finish_printed(host, output.into_inner().into_inner(), status))
+    tell_fault(
+        host,
+        &mut errors,
+        &ending.fault,
+        output.error(),
+        Some(subject),
+    );
+    ExitCode::from(finish_printed(host, output.into_inner().into_inner(), ending.status))
 }
 
-/// Does with the volume in a file what several threads are asked for, and answers the status to end with, if
+/// Does with the volume in a file what several threads are asked for, and answers how it ends, if
 /// [`finish_printed`] goes well.
-fn run<R: ImageFiles + Clock + Eprint + AllocGlobal + Threads + Wait + Sync, O: Sink, E: Sink>(
+fn run<R: ImageFiles + Clock + Eprint + AllocGlobal + Threads + Wait + Sync, O: Sink>(
     host: &Host<'_, R>,
     output: &mut O,
-    errors: &mut E,
     volume: VolumeFile<'_>,
     work: &Work<'_>,
-) -> u8
+) -> Ending
     requires { IsWorkable work.now }
-    ensures runs { RunsWork (record {
-      old = O.contents output.old;
-      new = O.contents output.new;
-      had_failed = O.failed output.old;
-      failed = O.failed output.new;
-      said = Gets (E.failed errors.new) (E.contents errors.old) (E.contents errors.new);
-    }) (host_files R.File.remaining R.File.contents R.had R.stood) volume.entry.edition work.now result }
-    ensures ends { IsEnd (record {
-      old = O.contents output.old;
-      new = O.contents output.new;
-      had_failed = O.failed output.old;
-      failed = O.failed output.new;
-      said = Gets (E.failed errors.new) (E.contents errors.old) (E.contents errors.new);
-    }) result }
+    ensures runs { (errors : ErrorStream) → Hears errors result.fault
+        → RunsWork (streams O.contents O.failed output.old output.new errors) (host_files R.File.remaining R.File.contents R.had R.stood) volume.entry.edition work.now result.status }
+    ensures ends { (errors : ErrorStream) → Hears errors result.fault
+        → IsEnd (streams O.contents O.failed output.old output.new errors) result.status }
 {
     match work {
-        Work::Check { checker, workers } => {
-            run_check(host, output, errors, volume, *checker, *workers)
-        }
-        Work::Play { scripts } => run_play(host, output, errors, volume, scripts),
+        Work::Check { checker, workers } => run_check(host, output, volume, *checker, *workers),
+        Work::Play { scripts } => run_play(host, output, volume, scripts),
     }
 }
 
-/// Prints what a checker finds in the volume in a file, by so many threads, and answers the status to end with.
-fn run_check<R: ImageFiles + Eprint + AllocGlobal + Threads + Wait + Sync, O: Sink, E: Sink>(
+/// Prints what a checker finds in the volume in a file, by so many threads, and answers how it ends.
+fn run_check<R: ImageFiles + Eprint + AllocGlobal + Threads + Wait + Sync, O: Sink>(
     host: &Host<'_, R>,
     output: &mut O,
-    errors: &mut E,
     volume: VolumeFile<'_>,
     checker: Checker,
     workers: usize,
-) -> u8
+) -> Ending
     requires first { 1 ≤ workers }
     requires last { workers ≤ 64 }
-    ensures { RunsCheck (record {
-      old = O.contents output.old;
-      new = O.contents output.new;
-      had_failed = O.failed output.old;
-      failed = O.failed output.new;
-      said = Gets (E.failed errors.new) (E.contents errors.old) (E.contents errors.new);
-    }) (host_files R.File.remaining R.File.contents R.had R.stood) volume.entry.edition checker result }
+    ensures { (errors : ErrorStream) → Hears errors result.fault
+        → RunsCheck (streams O.contents O.failed output.old output.new errors) (host_files R.File.remaining R.File.contents R.had R.stood) volume.entry.edition checker result.status }
 {
     let image = match read_file(host, volume.image) {
         Ok(image) => image,
-        Err(status) => return status,
+        Err(status) => {
+            return Ending {
+                status,
+                fault: None,
+            };
+        }
     };
-    check(
+    checking::perform(
         host.rt,
         host.rt.alloc(),
         volume.edition,
@@ -107,32 +98,30 @@ fn run_check<R: ImageFiles + Eprint + AllocGlobal + Threads + Wait + Sync, O: Si
         checker,
         workers,
         output,
-        errors,
     )
 }
 
-/// Plays the scripts in some files on the volume in a file, each by a thread of its own, saves the volume, and answers the
-/// status to end with.
-fn run_play<R: ImageFiles + Clock + Eprint + AllocGlobal + Threads + Wait + Sync, O: Sink, E: Sink>(
+/// Plays the scripts in some files on the volume in a file, each by a thread of its own, saves the volume, and answers
+/// how it ends.
+fn run_play<R: ImageFiles + Clock + Eprint + AllocGlobal + Threads + Wait + Sync, O: Sink>(
     host: &Host<'_, R>,
     output: &mut O,
-    errors: &mut E,
     volume: VolumeFile<'_>,
     scripts: &[&str],
-) -> u8
+) -> Ending
     requires first { 1 ≤ length scripts.now }
     requires last { length scripts.now ≤ 64 }
-    ensures { RunsPlay (record {
-      old = O.contents output.old;
-      new = O.contents output.new;
-      had_failed = O.failed output.old;
-      failed = O.failed output.new;
-      said = Gets (E.failed errors.new) (E.contents errors.old) (E.contents errors.new);
-    }) (host_files R.File.remaining R.File.contents R.had R.stood) volume.entry.edition (length scripts.now) result }
+    ensures { (errors : ErrorStream) → Hears errors result.fault
+        → RunsPlay (streams O.contents O.failed output.old output.new errors) (host_files R.File.remaining R.File.contents R.had R.stood) volume.entry.edition (length scripts.now) result.status }
 {
     let (read, stamp) = match read_image(host, volume.image) {
         Ok(read) => read,
-        Err(status) => return status,
+        Err(status) => {
+            return Ending {
+                status,
+                fault: None,
+            };
+        }
     };
     // Its file stays open, and so locked, until what is made of it is saved.
     let ReadFile {
@@ -141,9 +130,14 @@ fn run_play<R: ImageFiles + Clock + Eprint + AllocGlobal + Threads + Wait + Sync
     } = read;
     let files = match read_files(host, scripts) {
         Ok(files) => files,
-        Err(status) => return status,
+        Err(status) => {
+            return Ending {
+                status,
+                fault: None,
+            };
+        }
     };
-    let answer = play(
+    let answer = vol_play::perform(
         host.rt,
         host.rt.alloc(),
         volume.edition,
@@ -151,7 +145,10 @@ fn run_play<R: ImageFiles + Clock + Eprint + AllocGlobal + Threads + Wait + Sync
         &files,
         &Open,
         output,
-        errors,
     );
-    save_played(host, volume.image, stamp, &answer)
+    let status = save_played(host, volume.image, stamp, &answer);
+    Ending {
+        status,
+        fault: answer.fault,
+    }
 }

@@ -1,5 +1,5 @@
 -- What the commands that change a volume make, and why they don't.
-use Rattle.std.specs.Prelude.{◌≡◌, ◌⊎◌, ◌↔◌, ℕ, List, [], ◌∷◌, map, IsSome, IsNone, IfSome, Result, Err}
+use Rattle.std.specs.Prelude.{◌≡◌, ◌⊎◌, ℕ, List, [], ◌∷◌, map, Result, Err}
 use Rattle.vol_layout.specs.Geometry.{geometry_of}
 use Rattle.vol_dir.specs.Tree.{Tree, State}
 use Rattle.vol_judge.specs.Sound.{IsSound}
@@ -8,7 +8,7 @@ use Rattle.vol_volume.specs.Answer.{answer}
 use Rattle.vol_volume.specs.Journal.{Refuses, MayFollow, IsLegal, after}
 use Rattle.vol_volume.specs.Step.{step}
 use Rattle.vol_volume.specs.Volume.{Performs, reads_as}
-use Rattle.vol_commands.specs.Faults.{user, fault_status, fault_line, IsCause}
+use Rattle.vol_commands.specs.Faults.{user, Concludes, IsCause}
 use Rattle.vol_dir.specs.declared.refusal.Refusal.{Refusal}
 use Rattle.vol_dir.specs.declared.refusal.Refusal.TheVariants as refusals
 use Rattle.vol_layout.specs.declared.edition.Edition.{Edition}
@@ -50,11 +50,8 @@ abbrev pub IsReason : Edition → List ℕ → List Call → Fault → Type 0
 IsReason edition image calls fault = IsCause edition image (AreRefused (reads_as edition image) calls) fault
 
 -- what a command that makes calls comes to: bytes to be saved, status 0 and no line, or the status and the line of a reason (this project)
-pub record ChangesVolume (edition : Edition) (image : List ℕ) (calls : List Call) (said : List ℕ → Type 0) (answer : Answer) : Type 0 where
-  pub saved : answer.status ≡ 0 ↔ IsSome answer.image
-  pub made : IfSome answer.image (λ bytes. Makes edition image calls bytes.items × said [])
-  pub refused : IsNone answer.image
-      → (fault : Fault) × IsReason edition image calls fault × (answer.status ≡ fault_status fault) × said (fault_line fault)
+abbrev pub ChangesVolume : Edition → List ℕ → List Call → (List ℕ → Type 0) → Answer → Type 0
+ChangesVolume edition image calls said answer = Concludes (Makes edition image calls) (IsReason edition image calls) said answer
 
 -- the call that makes a file empty: a create with permissions 0644 where a question for it answers that it is missing, else a truncate (this project)
 abbrev pub emptying_by : Result Reply Refusal → ℕ → List ℕ → Call

@@ -1,5 +1,5 @@
 -- What the commands on a volume have in common: their user, and what they answer where they fail.
-use Rattle.std.specs.Prelude.{◌≡◌, ℕ, ◌≤◌, ◌+◌, ◌/◌, ◌%◌, ◌++◌, Bool, false, true, nat_lt, if◌then◌else◌, List, [], ◌∷◌, Option, codes}
+use Rattle.std.specs.Prelude.{◌≡◌, ◌↔◌, ℕ, ◌+◌, ◌/◌, ◌%◌, ◌++◌, ◌&&◌, Bool, false, true, nat_lt, if◌then◌else◌, List, [], ◌∷◌, Option, None, Some, IsNone, IsSome, IfSome, codes}
 use Rattle.std.specs.Io.KnownBytes.{Appends}
 use Rattle.pdp_words.specs.Devices.{AppendsFront}
 use Rattle.vol_judge.specs.Sound.{IsSound, IsLeastBroken}
@@ -7,10 +7,15 @@ use Rattle.vol_dir.specs.declared.cred.Cred.{Cred}
 use Rattle.vol_dir.specs.declared.refusal.Refusal.{Refusal}
 use Rattle.vol_dir.specs.declared.refusal.Refusal.TheVariants as refusals
 use Rattle.vol_layout.specs.declared.edition.Edition.{Edition}
+use Rattle.vol_migrate.specs.declared.fault.MigrateFault.{MigrateFault}
+use Rattle.vol_migrate.specs.declared.fault.MigrateFault.TheVariants as migrations
 use Rattle.vol_check.specs.declared.salvaging.SalvageFault.{SalvageFault}
 use Rattle.vol_check.specs.declared.salvaging.SalvageFault.TheVariants as salvages
+use Rattle.vol_volume.specs.declared.blank.MkfsFault.{MkfsFault}
+use Rattle.vol_volume.specs.declared.blank.MkfsFault.TheVariants as blanks
 use Rattle.vol_volume.specs.declared.volume.MountFault.{MountFault}
 use Rattle.vol_volume.specs.declared.volume.MountFault.TheVariants as mounts
+use Rattle.vol_commands.specs.declared.answer.Answer.{Answer}
 use Rattle.vol_commands.specs.declared.faults.Fault.{Fault}
 use Rattle.vol_commands.specs.declared.faults.Fault.TheVariants as faults
 
@@ -18,11 +23,20 @@ use Rattle.vol_commands.specs.declared.faults.Fault.TheVariants as faults
 abbrev pub user : Cred
 user = record { uid = 0; gid = 0 }
 
--- the status that the program ends with at a fault of a command on a mounted volume: 1 for a refusal, 3 for the output, 4 for memory (this project)
+-- the status of a refusal: 1, or 4 for memory (this project)
+abbrev pub refusal_status : Refusal → ℕ
+refusal_status refusals.NoMemory = 4
+refusal_status _ = 1
+
+-- the status that the program ends with at a fault: 1 for a refusal, 2 for a script, 3 for the output, 4 for memory (this project)
 abbrev pub fault_status : Fault → ℕ
 fault_status (faults.Unsound rule) = 1
-fault_status (faults.Refused refusals.NoMemory) = 4
-fault_status (faults.Refused _) = 1
+fault_status (faults.Refused refusal) = refusal_status refusal
+fault_status (faults.RefusedAt refusal line) = refusal_status refusal
+fault_status faults.Bounds = 1
+fault_status faults.HasDevice = 1
+fault_status (faults.BadLine script number line) = 2
+fault_status (faults.Worded rule lines) = 1
 fault_status faults.Output = 3
 
 -- the line of a refusal: its number and its name (this project)
@@ -47,15 +61,26 @@ line_of_refusal refusals.BadId = codes "unixvol: 104 BadId\n"
 abbrev pub short_decimal : ℕ → List ℕ
 short_decimal n = if nat_lt n 10 then (48 + n) ∷ [] else (48 + n / 10) ∷ (48 + n % 10) ∷ []
 
--- the line of a rule that an image breaks (this project)
+-- the line of a rule that an image breaks, one of the twelve (this project)
 abbrev pub line_of_rule : ℕ → List ℕ
-line_of_rule rule = codes "unixvol: unsound, rule " ++ short_decimal rule ++ codes "\n"
+line_of_rule rule =
+    if nat_lt 0 rule && nat_lt rule 13 then codes "unixvol: unsound, rule " ++ short_decimal rule ++ codes "\n" else codes "unixvol: unsound\n"
 
--- the line on standard error of a fault of a command on a mounted volume (this project)
+-- the line on standard error of a fault, or several (this project)
 abbrev pub fault_line : Fault → List ℕ
 fault_line (faults.Unsound rule) = line_of_rule rule
 fault_line (faults.Refused refusal) = line_of_refusal refusal
+fault_line (faults.RefusedAt refusal line) = line.items
+fault_line faults.Bounds = codes "unixvol: bounds\n"
+fault_line faults.HasDevice = codes "unixvol: 105 HasDevice\n"
+fault_line (faults.BadLine script number line) = line.items
+fault_line (faults.Worded rule lines) = lines.items
 fault_line faults.Output = codes "unixvol: cannot write -\n"
+
+-- the line of a fault, if there is one (this project)
+abbrev pub line_after : Option Fault → List ℕ
+line_after None = []
+line_after (Some fault) = fault_line fault
 
 -- the fault of a command that wants memory (this project)
 abbrev pub no_memory : Fault
@@ -71,19 +96,52 @@ abbrev pub unsalvaged : SalvageFault → Fault
 unsalvaged (salvages.Unsound rule) = faults.Unsound rule
 unsalvaged salvages.NoMemory = no_memory
 
--- the rule that a fault names is one of the twelve (this project)
-abbrev pub IsRuled : Fault → Type 0
-IsRuled (faults.Unsound rule) = (1 ≤ rule) × (rule ≤ 12)
-IsRuled (faults.Refused refusal) = Unit {0}
-IsRuled faults.Output = Unit {0}
+-- the fault of `mkfs` that makes no volume for this reason (this project)
+abbrev pub unmade : MkfsFault → Fault
+unmade blanks.Bounds = faults.Bounds
+unmade blanks.BadId = faults.Refused refusals.BadId
+unmade blanks.NoMemory = no_memory
+
+-- the fault of `migrate` that makes no volume for this reason (this project)
+abbrev pub unmigrated : MigrateFault → Fault
+unmigrated migrations.Invalid = faults.Refused refusals.Invalid
+unmigrated migrations.Bounds = faults.Bounds
+unmigrated migrations.HasDevice = faults.HasDevice
+unmigrated migrations.NoInode = faults.Refused refusals.NoInode
+unmigrated migrations.NoSpace = faults.Refused refusals.NoSpace
+unmigrated migrations.NoMemory = no_memory
 
 -- a reason not to do what was asked: want of memory, the least rule that the image breaks, or a refusal of which this holds, of a sound image (this project)
 abbrev pub IsCause : Edition → List ℕ → (Refusal → Type 0) → Fault → Type 0
 IsCause edition image refused (faults.Unsound rule) = IsLeastBroken true edition image rule
 IsCause edition image refused (faults.Refused refusals.NoMemory) = Unit {0}
 IsCause edition image refused (faults.Refused refusal) = IsSound edition image × refused refusal
-IsCause edition image refused faults.Output = ⊥
+IsCause edition image refused _ = ⊥
 
 -- a stream got these bytes, where it didn't fail, and else the front of them (this project)
 abbrev pub Gets : Bool → Option (List ℕ) → Option (List ℕ) → List ℕ → Type 0
 Gets failed old new bytes = (failed ≡ false → Appends old new bytes) × ((count : ℕ) × AppendsFront old new bytes count)
+
+-- the stream of errors: what it held and holds, and whether it has failed (this project)
+pub record ErrorStream : Type 0 where
+  pub old : Option (List ℕ)
+  pub new : Option (List ℕ)
+  pub failed : Bool
+
+-- a sink, as it was and is, as the stream of errors (this project)
+abbrev pub heard : {S : Type 0} → (S → Option (List ℕ)) → (S → Bool) → S → S → ErrorStream
+heard contents failed old new = record { old = contents old; new = contents new; failed = failed new }
+
+-- the stream of errors got these bytes (this project)
+abbrev pub says : ErrorStream → List ℕ → Type 0
+says errors = Gets errors.failed errors.old errors.new
+
+-- the stream of errors got the line of a fault, or nothing if there is none (this project)
+abbrev pub Hears : ErrorStream → Option Fault → Type 0
+Hears errors fault = says errors (line_after fault)
+
+-- what a command that makes bytes comes to: bytes of which this holds are to be saved, with status 0 and no line; or there are the status and the line of a reason (this project)
+pub record Concludes (makes : List ℕ → Type 0) (is_reason : Fault → Type 0) (said : List ℕ → Type 0) (answer : Answer) : Type 0 where
+  pub saved : answer.status ≡ 0 ↔ IsSome answer.image
+  pub made : IfSome answer.image (λ bytes. makes bytes.items × said [])
+  pub refused : IsNone answer.image → (fault : Fault) × is_reason fault × (answer.status ≡ fault_status fault) × said (fault_line fault)

@@ -3,7 +3,7 @@ use Rattle.std.specs.Prelude.{◌≡◌, ℕ, List, [], ◌∷◌, Option, Bool}
 use Rattle.std.specs.Io.KnownBytes.{Keeps}
 use Rattle.vol_volume.specs.Volume.{reads_as}
 use Rattle.vol_commands.specs.Changing.{ChangesVolume, put_calls}
-use Rattle.vol_commands.specs.Faults.{user}
+use Rattle.vol_commands.specs.Faults.{ErrorStream, says, user}
 use Rattle.vol_commands.specs.Salvaging.{SalvagesVolume}
 use Rattle.vol_commands.specs.Showing.{Shows, Prints}
 use Rattle.vol_layout.specs.declared.edition.Edition.{Edition}
@@ -22,6 +22,15 @@ pub record Streams : Type 1 where
   pub had_failed : Bool
   pub failed : Bool
   pub said : List ℕ → Type 0
+
+-- what two streams were and are, by a sink for standard output and the stream of errors (this project)
+abbrev pub streams : {S : Type 0} → (S → Option (List ℕ)) → (S → Bool) → S → S → ErrorStream → Streams
+streams contents failed old new errors =
+    record { old = contents old; new = contents new; had_failed = failed old; failed = failed new; said = says errors }
+
+-- what two streams were and are, if nothing went to standard output (this project)
+abbrev pub still : Option (List ℕ) → Bool → ErrorStream → Streams
+still known failed errors = record { old = known; new = known; had_failed = failed; failed = failed; said = says errors }
 
 -- a query is shown (this project)
 abbrev pub Asks : Edition → List ℕ → Streams → Answer → Query → Type 0

@@ -1,6 +1,6 @@
-//! What the commands that make, change or show a volume answer.
-ghost use Rattle.std.specs.Prelude.{◌≡◌, IfOk, IfErr, OnOk, Some, None, []};
-ghost use Rattle.vol_commands.specs.Faults.{fault_status, fault_line, IsRuled, Gets};
+//! What the commands come to: the status, what is to be saved, and the fault that was met.
+ghost use Rattle.std.specs.Prelude.{◌≡◌, IfOk, IfErr, OnOk, Some, None};
+ghost use Rattle.vol_commands.specs.Faults.{fault_status, Hears, heard};
 
 use crate::faults::Fault;
 use crate::status::DONE;
@@ -13,56 +13,71 @@ pub struct Answer {
     pub status: u8,
     /// The bytes that are to be saved, if any are.
     pub image: Option<Vec<u8>>,
+    /// Why the command failed, if it did.
+    pub fault: Option<Fault>,
 }
 
-/// The answer of a command that made bytes to be saved, or met a fault, whose line goes to `errors`. Where
-/// that line can't be written, the status tells.
-#[tactic(auto, using(crate::proofs::Lines::gets_nothing))]
-pub fn conclude<E: Sink>(outcome: Result<Vec<u8>, Fault>, errors: &mut E) -> Answer
-    requires { IfErr outcome IsRuled }
-    ensures made { IfOk outcome (λ bytes. (result.image ≡ Some bytes) × (result.status ≡ 0)
-        × Gets (E.failed errors.new) (E.contents errors.old) (E.contents errors.new) []) }
-    ensures fault { IfErr outcome (λ fault. (result.image ≡ None) × (result.status ≡ fault_status fault)
-        × Gets (E.failed errors.new) (E.contents errors.old) (E.contents errors.new) (fault_line fault)) }
+/// How a command ends that saves nothing.
+#[derive(Drop)]
+pub struct Ending {
+    /// The status that the program ends with.
+    pub status: u8,
+    /// Why the command failed, if it did.
+    pub fault: Option<Fault>,
+}
+
+impl From<Fault> for Ending {
+    ghost from_gives = { λ fault ending. (ending.status ≡ fault_status fault) × (ending.fault ≡ Some fault) };
+
+    fn from(fault: Fault) -> Ending {
+        Ending {
+            status: fault.status(),
+            fault: Some(fault),
+        }
+    }
+}
+
+/// The answer of a command that made bytes to be saved, or met a fault.
+pub fn conclude(outcome: Result<Vec<u8>, Fault>) -> Answer
+    ensures made { IfOk outcome (λ bytes. (result.image ≡ Some bytes) × (result.status ≡ 0) × (result.fault ≡ None)) }
+    ensures fault { IfErr outcome (λ fault. (result.image ≡ None) × (result.status ≡ fault_status fault) × (result.fault ≡ Some fault)) }
 {
     match outcome {
         Ok(bytes) => Answer {
             status: DONE,
             image: Some(bytes),
+            fault: None,
+        },
+        Err(fault) => report(Err(fault)),
+    }
+}
+
+/// The answer of a command that printed what was asked for, or met a fault.
+pub fn report(outcome: Result<(), Fault>) -> Answer
+    ensures unsaved { result.image ≡ None }
+    ensures shown { OnOk outcome ((result.status ≡ 0) × (result.fault ≡ None)) }
+    ensures fault { IfErr outcome (λ fault. (result.status ≡ fault_status fault) × (result.fault ≡ Some fault)) }
+{
+    match outcome {
+        Ok(()) => Answer {
+            status: DONE,
+            image: None,
+            fault: None,
         },
         Err(fault) => Answer {
-            status: explain(fault, errors),
+            status: fault.status(),
             image: None,
+            fault: Some(fault),
         },
     }
 }
 
-/// The answer of a command that printed what was asked for, or met a fault, whose line goes to `errors`. Where
-/// that line can't be written, the status tells.
+/// Writes the line of a fault, if there is one. If it can't be written, the status tells.
 #[tactic(auto, using(crate::proofs::Lines::gets_nothing))]
-pub fn report<E: Sink>(outcome: Result<(), Fault>, errors: &mut E) -> Answer
-    requires { IfErr outcome IsRuled }
-    ensures unsaved { result.image ≡ None }
-    ensures shown { OnOk outcome ((result.status ≡ 0) × Gets (E.failed errors.new) (E.contents errors.old) (E.contents errors.new) []) }
-    ensures fault { IfErr outcome (λ fault. (result.status ≡ fault_status fault)
-        × Gets (E.failed errors.new) (E.contents errors.old) (E.contents errors.new) (fault_line fault)) }
+pub fn tell<E: Sink>(fault: &Option<Fault>, errors: &mut E)
+    ensures { Hears (heard E.contents E.failed errors.old errors.new) fault.now }
 {
-    let status = match outcome {
-        Ok(()) => DONE,
-        Err(fault) => explain(fault, errors),
-    };
-    Answer {
-        status,
-        image: None,
+    if let Some(fault) = fault {
+        let _ = write_all(errors, fault.line());
     }
-}
-
-/// Writes the line of a fault, and answers its status. Where the line can't be written, the status tells.
-pub fn explain<E: Sink>(fault: Fault, errors: &mut E) -> u8
-    requires { IsRuled fault }
-    ensures status { result ≡ fault_status fault }
-    ensures line { Gets (E.failed errors.new) (E.contents errors.old) (E.contents errors.new) (fault_line fault) }
-{
-    let _ = write_all(errors, fault.line().as_bytes());
-    fault.status()
 }

@@ -1,12 +1,13 @@
 //! `cat`: prints the body of a file, from the image's bytes to the output's.
-ghost use Rattle.std.specs.Prelude.{◌≡◌, ◌≢◌, ℕ, ◌≤◌, false, true, Ok, Err, IfErr, OnOk, OnErr, IsErrOf, IsErrAnd, IfOk};
+ghost use Rattle.std.specs.Prelude.{◌≡◌, ◌≢◌, ℕ, ◌≤◌, false, true, Ok, Err, IfErr, OnOk, OnErr, IsErrOf, IsErrAnd, IfOk, MatchOption};
 ghost use Rattle.std.specs.Io.KnownBytes.{Appends};
 ghost use Rattle.pdp_words.specs.Devices.{AppendsFront};
 ghost use Rattle.vol_layout.specs.Geometry.{Fits};
 ghost use Rattle.vol_layout.specs.Body.{body};
+ghost use Rattle.vol_commands.specs.Faults.{fault_line};
 ghost use Rattle.vol_commands.specs.Cat.{file_of, Cats, cat_line, cat_status, IsNoWriters, IsOfImage};
 
-use crate::faults::{CANNOT_WRITE, refusal_line, unsound_line};
+use crate::faults::{CANNOT_WRITE, Fault, refusal_line, unsound_line};
 use crate::status::{BAD_FILE, NO_MEMORY, REFUSED};
 use pdp_words::{Image, LoadFault, Sink, Source, load, write_all};
 use std::alloc::Global;
@@ -57,6 +58,21 @@ impl CatFault {
             CatFault::NoEntry => refusal_line(Refusal::NoEntry),
             CatFault::NotRegular => refusal_line(Refusal::NotRegular),
             CatFault::Writer(_) => CANNOT_WRITE,
+        }
+    }
+
+    /// The fault of a command that it is; `None` of an image that can't be read.
+    pub fn as_fault(self) -> Option<Fault>
+        ensures { MatchOption result (self ≡ CatFault.Device) (λ fault. fault_line fault ≡ cat_line self) }
+    {
+        match self {
+            CatFault::Device => None,
+            CatFault::NoMemory => Some(Fault::Refused(Refusal::NoMemory)),
+            CatFault::Unsound(GeometryFault::Short) => Some(Fault::Unsound(1)),
+            CatFault::Unsound(GeometryFault::Bounds) => Some(Fault::Unsound(2)),
+            CatFault::NoEntry => Some(Fault::Refused(Refusal::NoEntry)),
+            CatFault::NotRegular => Some(Fault::Refused(Refusal::NotRegular)),
+            CatFault::Writer(_) => Some(Fault::Output),
         }
     }
 }

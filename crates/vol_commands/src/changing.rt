@@ -10,12 +10,11 @@ ghost use Rattle.vol_dir.specs.declared.refusal.Refusal.{Refusal};
 ghost use Rattle.vol_volume.specs.declared.calls.Call.TheVariants as asked;
 ghost use Rattle.vol_volume.specs.declared.queries.Query.TheVariants as questions;
 ghost use Rattle.vol_commands.specs.Changing.{Makes, IsReason, ChangesVolume, put_calls, emptying_by};
-ghost use Rattle.vol_commands.specs.Faults.{user, Gets};
+ghost use Rattle.vol_commands.specs.Faults.{user, says, ErrorStream, Hears};
 
 use crate::answer::{Answer, conclude};
 use crate::faults::Fault;
 use crate::mounting::{USER, copy, mount};
-use pdp_words::Sink;
 use std::alloc::{AllocError, Global};
 use vol_dir::{Cred, Refusal};
 use vol_layout::Edition;
@@ -32,35 +31,33 @@ const DIRECTORY_PERMISSIONS: u16 = 0o755;
 ///
 /// Takes memory for what [`Volume::mount`] takes, and for two copies of the path, which the journal keeps; the
 /// file's bytes are in memory once. Walks the path once a call, and if it is missing once more before them.
-pub(crate) fn put<E: Sink>(
+pub(crate) fn put(
     alloc: Global,
     edition: Edition,
     image: Vec<u8>,
     path: &str,
     file: Vec<u8>,
     now: u32,
-    errors: &mut E,
 ) -> Answer
-    ensures { ChangesVolume edition image.items (put_calls (reads_as edition image.items).tree now path.now file.items)
-        (Gets (E.failed errors.new) (E.contents errors.old) (E.contents errors.new)) result }
+    ensures { (errors : ErrorStream) → Hears errors result.fault
+        → ChangesVolume edition image.items (put_calls (reads_as edition image.items).tree now path.now file.items) (says errors) result }
 {
-    conclude(put_file(alloc, edition, image, path, file, now), errors)
+    conclude(put_file(alloc, edition, image, path, file, now))
 }
 
 /// Makes one call on the volume in some bytes, if there was memory for its words.
 ///
 /// Takes memory for what [`Volume::mount`] and [`Volume::call`] take.
-pub(crate) fn make<E: Sink>(
+pub(crate) fn make(
     alloc: Global,
     edition: Edition,
     image: Vec<u8>,
     call: Result<Call, AllocError>,
-    errors: &mut E,
 ) -> Answer
-    ensures { (wanted : Call) → IfOk call (λ call. call ≡ wanted) → ChangesVolume edition image.items (wanted ∷ [])
-        (Gets (E.failed errors.new) (E.contents errors.old) (E.contents errors.new)) result }
+    ensures { (wanted : Call) → IfOk call (λ call. call ≡ wanted) → (errors : ErrorStream) → Hears errors result.fault
+        → ChangesVolume edition image.items (wanted ∷ []) (says errors) result }
 {
-    conclude(change(alloc, edition, image, call), errors)
+    conclude(change(alloc, edition, image, call))
 }
 
 /// Makes the calls of `put`.
@@ -94,6 +91,7 @@ fn fill(
     ensures fault { IfErr result (IsReason volume.old.edition volume.old.image
         (put_calls (reads_as volume.old.edition volume.old.image).tree now path.now file.items)) }
 {
+    let path = path.as_bytes();
     let target = copy(alloc, path)?;
     let emptied = copy(alloc, path)?;
     empty(alloc, volume, emptied, now)?;
@@ -159,7 +157,7 @@ pub(crate) fn unlink_call(alloc: Global, path: &str, now: u32) -> Result<Call, A
     Ok(Call::Unlink {
         cred: USER,
         now,
-        path: copy(alloc, path)?,
+        path: copy(alloc, path.as_bytes())?,
     })
 }
 
@@ -170,7 +168,7 @@ pub(crate) fn rmdir_call(alloc: Global, path: &str, now: u32) -> Result<Call, Al
     Ok(Call::Rmdir {
         cred: USER,
         now,
-        path: copy(alloc, path)?,
+        path: copy(alloc, path.as_bytes())?,
     })
 }
 
@@ -181,7 +179,7 @@ pub(crate) fn mkdir_call(alloc: Global, path: &str, now: u32) -> Result<Call, Al
     Ok(Call::Mkdir {
         cred: USER,
         now,
-        path: copy(alloc, path)?,
+        path: copy(alloc, path.as_bytes())?,
         perm: DIRECTORY_PERMISSIONS,
     })
 }
@@ -193,8 +191,8 @@ pub(crate) fn link_call(alloc: Global, from: &str, to: &str, now: u32) -> Result
     Ok(Call::Link {
         cred: USER,
         now,
-        source: copy(alloc, from)?,
-        target: copy(alloc, to)?,
+        source: copy(alloc, from.as_bytes())?,
+        target: copy(alloc, to.as_bytes())?,
     })
 }
 
@@ -205,7 +203,7 @@ pub(crate) fn chmod_call(alloc: Global, path: &str, perm: u16, now: u32) -> Resu
     Ok(Call::Chmod {
         cred: USER,
         now,
-        path: copy(alloc, path)?,
+        path: copy(alloc, path.as_bytes())?,
         perm,
     })
 }
@@ -222,7 +220,7 @@ pub(crate) fn chown_call(
     Ok(Call::Chown {
         cred: USER,
         now,
-        path: copy(alloc, path)?,
+        path: copy(alloc, path.as_bytes())?,
         uid: owner.uid,
         gid: owner.gid,
     })

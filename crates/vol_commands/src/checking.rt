@@ -5,9 +5,10 @@ ghost use Rattle.pdp_words.specs.Devices.{AppendsFront};
 ghost use Rattle.vol_check.specs.Reporting.{IsReport};
 ghost use Rattle.vol_reports.specs.Texts.{report_text};
 ghost use Rattle.vol_commands.specs.Checking.{Checks, IsUnreported, PrintsReport, report_status};
-ghost use Rattle.vol_commands.specs.Faults.{Gets, no_memory};
+ghost use Rattle.vol_commands.specs.Faults.{heard, no_memory, ErrorStream, Hears};
+ghost use Rattle.vol_commands.specs.Jobs.{streams};
 
-use crate::answer::explain;
+use crate::answer::{Ending, tell};
 use crate::faults::Fault;
 use crate::status::{DONE, REFUSED};
 use pdp_words::{Image, Sink, write_all};
@@ -18,10 +19,8 @@ use vol_check::{Checker, Open, dcheck, icheck, ncheck};
 use vol_layout::Edition;
 use vol_reports::Report;
 
-/// Prints what a checker finds, by so many threads, and answers the status: 0, or 1 where the report tells of faults,
-/// 3 where `output` failed, 4 where memory ran out. Nothing goes out before all is known.
-///
-/// Takes memory for what the checker takes, and for the text.
+/// Prints what a checker finds, by so many threads, as [`perform`] does, writes the line of its fault to `errors`, and
+/// answers the status.
 pub fn check<R: Threads + Wait + Sync, O: Sink, E: Sink>(
     rt: &R,
     alloc: Global,
@@ -34,17 +33,34 @@ pub fn check<R: Threads + Wait + Sync, O: Sink, E: Sink>(
 ) -> u8
     requires first { 1 ≤ workers }
     requires last { workers ≤ 64 }
-    ensures { Checks checker edition image.items (record {
-      old = O.contents output.old;
-      new = O.contents output.new;
-      had_failed = O.failed output.old;
-      failed = O.failed output.new;
-      said = Gets (E.failed errors.new) (E.contents errors.old) (E.contents errors.new);
-    }) result }
+    ensures { Checks checker edition image.items (streams O.contents O.failed output.old output.new (heard E.contents E.failed errors.old errors.new)) result }
+{
+    let ending = perform(rt, alloc, edition, image, checker, workers, output);
+    tell(&ending.fault, errors);
+    ending.status
+}
+
+/// Prints what a checker finds, by so many threads. The status is 0, or 1 where the report tells of faults,
+/// 3 where `output` failed, 4 where memory ran out. Nothing goes out before all is known.
+///
+/// Takes memory for what the checker takes, and for the text.
+pub fn perform<R: Threads + Wait + Sync, O: Sink>(
+    rt: &R,
+    alloc: Global,
+    edition: Edition,
+    image: Vec<u8>,
+    checker: Checker,
+    workers: usize,
+    output: &mut O,
+) -> Ending
+    requires first { 1 ≤ workers }
+    requires last { workers ≤ 64 }
+    ensures { (errors : ErrorStream) → Hears errors result.fault
+        → Checks checker edition image.items (streams O.contents O.failed output.old output.new errors) result.status }
 {
     let image = Image::from_bytes(image);
     let report = find(rt, alloc, edition, &image, checker, workers);
-    show(alloc, report, output, errors)
+    show(alloc, report, output)
 }
 
 /// What a checker finds in an image.
@@ -67,34 +83,22 @@ fn find<R: Threads + Wait + Sync>(
     }
 }
 
-/// Prints a report, if there was the memory for it, and answers the status.
-fn show<O: Sink, E: Sink>(
-    alloc: Global,
-    report: Result<Report, AllocError>,
-    output: &mut O,
-    errors: &mut E,
-) -> u8
-    ensures printed { IfOk report (λ report. PrintsReport (record {
-      old = O.contents output.old;
-      new = O.contents output.new;
-      had_failed = O.failed output.old;
-      failed = O.failed output.new;
-      said = Gets (E.failed errors.new) (E.contents errors.old) (E.contents errors.new);
-    }) report result) }
-    ensures unprinted { OnErr report (IsUnreported (record {
-      old = O.contents output.old;
-      new = O.contents output.new;
-      had_failed = O.failed output.old;
-      failed = O.failed output.new;
-      said = Gets (E.failed errors.new) (E.contents errors.old) (E.contents errors.new);
-    }) result) }
+/// Prints a report, if there was the memory for it.
+fn show<O: Sink>(alloc: Global, report: Result<Report, AllocError>, output: &mut O) -> Ending
+    ensures printed { (errors : ErrorStream) → Hears errors result.fault
+        → IfOk report (λ report. PrintsReport (streams O.contents O.failed output.old output.new errors) report result.status) }
+    ensures unprinted { (errors : ErrorStream) → Hears errors result.fault
+        → OnErr report (IsUnreported (streams O.contents O.failed output.old output.new errors) result.status) }
 {
     match report {
         Ok(report) => match print(alloc, &report, output) {
-            Ok(()) => status_of(&report),
-            Err(fault) => explain(fault, errors),
+            Ok(()) => Ending {
+                status: status_of(&report),
+                fault: None,
+            },
+            Err(fault) => Ending::from(fault),
         },
-        Err(refused) => explain(Fault::from(refused), errors),
+        Err(refused) => Ending::from(Fault::from(refused)),
     }
 }
 

@@ -1,49 +1,74 @@
-//! Why a command on a mounted volume fails.
-ghost use Rattle.std.specs.Prelude.{◌≡◌, ◌≤◌};
-ghost use Rattle.vol_commands.specs.Faults.{fault_status, fault_line, line_of_rule, line_of_refusal, no_memory, unmounted, unsalvaged, IsRuled};
+//! Why a command fails: its status and its line.
+ghost use Rattle.std.specs.Prelude.{◌≡◌};
+ghost use Rattle.vol_commands.specs.Faults.{fault_status, fault_line, line_of_rule, line_of_refusal, no_memory, unmade, refusal_status, unmigrated, unmounted, unsalvaged};
 
-use crate::status::{BAD_FILE, NO_MEMORY, REFUSED};
+use crate::status::{BAD_COMMAND_LINE, BAD_FILE, NO_MEMORY, REFUSED};
 use std::alloc::AllocError;
-use vol_dir::Refusal;
 use vol_check::SalvageFault;
-use vol_volume::MountFault;
+use vol_dir::Refusal;
+use vol_migrate::MigrateFault;
+use vol_volume::{MkfsFault, MountFault};
 
-/// The line where standard output fails.
+/// The line of standard output that can't be written.
 pub(crate) const CANNOT_WRITE: &str = "unixvol: cannot write -\n";
 
-/// Why a command on a mounted volume did not do what it was asked for.
-#[derive(Clone, Copy, Debug, PartialEq, Eq)]
+/// Why a command did not do what it was asked for.
+#[derive(Debug, Drop)]
 pub enum Fault {
     /// The image isn't sound. The least of the twelve rules that it breaks.
     Unsound(u8),
     /// A call or a query was refused, or an allocation.
     Refused(Refusal),
+    /// A call or a query was refused, and the line names its path.
+    RefusedAt {
+        refusal: Refusal,
+        line: Vec<u8>,
+    },
+    /// No volume of the edition has the sizes.
+    Bounds,
+    /// The volume has a special file, and the command makes none.
+    HasDevice,
+    /// A line of a script can't be read. The numbers of the script and of its line count from 1.
+    BadLine {
+        script: u64,
+        number: u64,
+        line: Vec<u8>,
+    },
+    /// Lines say in words what is wrong. If the last of them names a broken rule, `rule` is that.
+    Worded {
+        rule: Option<u8>,
+        lines: Vec<u8>,
+    },
     /// Standard output failed.
     Output,
 }
 
 impl Fault {
-    /// The status that the program ends with: 1 for a refusal, 3 for the output, 4 for memory.
-    pub fn status(self) -> u8
-        ensures { result ≡ fault_status self }
+    /// The status that the program ends with: 1 for a refusal, 2 for a script, 3 for the output, 4 for memory.
+    pub fn status(&self) -> u8
+        ensures { result ≡ fault_status self.now }
     {
         match self {
-            Fault::Unsound(_) => REFUSED,
-            Fault::Refused(Refusal::NoMemory) => NO_MEMORY,
-            Fault::Refused(_) => REFUSED,
+            Fault::Refused(refusal) | Fault::RefusedAt { refusal, .. } => status_of(*refusal),
+            Fault::Unsound(_) | Fault::Bounds | Fault::HasDevice | Fault::Worded { .. } => REFUSED,
+            Fault::BadLine { .. } => BAD_COMMAND_LINE,
             Fault::Output => BAD_FILE,
         }
     }
 
-    /// The line on standard error, with its newline.
-    pub fn line(self) -> &'static str
-        requires { IsRuled self }
-        ensures { result.now ≡ fault_line self }
+    /// The line on standard error, with its newline, or several.
+    pub fn line(&self) -> &[u8]
+        ensures { result.now ≡ fault_line self.now }
     {
         match self {
-            Fault::Unsound(rule) => unsound_line(rule),
-            Fault::Refused(refusal) => refusal_line(refusal),
-            Fault::Output => CANNOT_WRITE,
+            Fault::Unsound(rule) => unsound_line(*rule).as_bytes(),
+            Fault::Refused(refusal) => refusal_line(*refusal).as_bytes(),
+            Fault::RefusedAt { line, .. } => line.as_slice(),
+            Fault::Bounds => b"unixvol: bounds\n",
+            Fault::HasDevice => b"unixvol: 105 HasDevice\n",
+            Fault::BadLine { line, .. } => line.as_slice(),
+            Fault::Worded { lines, .. } => lines.as_slice(),
+            Fault::Output => CANNOT_WRITE.as_bytes(),
         }
     }
 }
@@ -78,10 +103,45 @@ impl From<SalvageFault> for Fault {
     }
 }
 
-/// The line of a rule that an image breaks.
+impl From<MkfsFault> for Fault {
+    ghost from_gives = { λ why fault. fault ≡ unmade why };
+
+    fn from(why: MkfsFault) -> Fault {
+        match why {
+            MkfsFault::Bounds => Fault::Bounds,
+            MkfsFault::BadId => Fault::Refused(Refusal::BadId),
+            MkfsFault::NoMemory => Fault::Refused(Refusal::NoMemory),
+        }
+    }
+}
+
+impl From<MigrateFault> for Fault {
+    ghost from_gives = { λ why fault. fault ≡ unmigrated why };
+
+    fn from(why: MigrateFault) -> Fault {
+        match why {
+            MigrateFault::Invalid => Fault::Refused(Refusal::Invalid),
+            MigrateFault::Bounds => Fault::Bounds,
+            MigrateFault::HasDevice => Fault::HasDevice,
+            MigrateFault::NoInode => Fault::Refused(Refusal::NoInode),
+            MigrateFault::NoSpace => Fault::Refused(Refusal::NoSpace),
+            MigrateFault::NoMemory => Fault::Refused(Refusal::NoMemory),
+        }
+    }
+}
+
+/// The status of a refusal.
+fn status_of(refusal: Refusal) -> u8
+    ensures { result ≡ refusal_status refusal }
+{
+    match refusal {
+        Refusal::NoMemory => NO_MEMORY,
+        _ => REFUSED,
+    }
+}
+
+/// The line of a rule that an image breaks. There are twelve; no other number is named.
 pub(crate) fn unsound_line(rule: u8) -> &'static str
-    requires least { 1 ≤ rule }
-    requires most { rule ≤ 12 }
     ensures { result.now ≡ line_of_rule rule }
 {
     match rule {
@@ -97,7 +157,7 @@ pub(crate) fn unsound_line(rule: u8) -> &'static str
         10 => "unixvol: unsound, rule 10\n",
         11 => "unixvol: unsound, rule 11\n",
         12 => "unixvol: unsound, rule 12\n",
-        _ => unreachable!(),
+        _ => "unixvol: unsound\n",
     }
 }
 

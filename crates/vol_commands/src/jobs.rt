@@ -1,8 +1,8 @@
 //! Does what the command line asks for with a volume.
-ghost use Rattle.vol_commands.specs.Faults.{Gets};
-ghost use Rattle.vol_commands.specs.Jobs.{Does};
+ghost use Rattle.vol_commands.specs.Faults.{heard, ErrorStream, Hears};
+ghost use Rattle.vol_commands.specs.Jobs.{Does, streams};
 
-use crate::answer::Answer;
+use crate::answer::{Answer, tell};
 use crate::changing::{
     chmod_call, chown_call, link_call, make, mkdir_call, put, rmdir_call, unlink_call,
 };
@@ -65,9 +65,7 @@ pub enum Job<'a> {
     Salvage,
 }
 
-/// Does a job with the volume in some bytes; `file` has the bytes that are put. The answer's status is 0, or 1
-/// where the image is unsound or the call or query is refused, or 4 where memory ran out; for `get` it
-/// is 3 where `output` failed.
+/// Does a job as [`perform`] does, and writes the line of its fault to `errors`.
 pub fn do_job<O: Sink, E: Sink>(
     alloc: Global,
     edition: Edition,
@@ -77,20 +75,31 @@ pub fn do_job<O: Sink, E: Sink>(
     output: &mut O,
     errors: &mut E,
 ) -> Answer
-    ensures { Does edition image.items file.items (record {
-      old = O.contents output.old;
-      new = O.contents output.new;
-      had_failed = O.failed output.old;
-      failed = O.failed output.new;
-      said = Gets (E.failed errors.new) (E.contents errors.old) (E.contents errors.new);
-    }) result job.entry }
+    ensures { Does edition image.items file.items (streams O.contents O.failed output.old output.new (heard E.contents E.failed errors.old errors.new)) result job.entry }
+{
+    let answer = perform(alloc, edition, image, file, job, output);
+    tell(&answer.fault, errors);
+    answer
+}
+
+/// Does a job with the volume in some bytes; `file` has the bytes that are put. The answer's status is 0, or 1
+/// where the image is unsound or the call or query is refused, or 4 where memory ran out; for `get` it
+/// is 3 where `output` failed.
+pub fn perform<O: Sink>(
+    alloc: Global,
+    edition: Edition,
+    image: Vec<u8>,
+    file: Vec<u8>,
+    job: Job<'_>,
+    output: &mut O,
+) -> Answer
+    ensures { (errors : ErrorStream) → Hears errors result.fault
+        → Does edition image.items file.items (streams O.contents O.failed output.old output.new errors) result job.entry }
 {
     let call = match job {
-        Job::Get { path } => return get(alloc, edition, image, path, output, errors),
-        Job::Put { path, now, .. } => {
-            return put(alloc, edition, image, path, file, now, errors);
-        }
-        Job::Salvage => return salvage(alloc, edition, image, errors),
+        Job::Get { path } => return get(alloc, edition, image, path, output),
+        Job::Put { path, now, .. } => return put(alloc, edition, image, path, file, now),
+        Job::Salvage => return salvage(alloc, edition, image),
         Job::Rm { path, now } => unlink_call(alloc, path, now),
         Job::Rmdir { path, now } => rmdir_call(alloc, path, now),
         Job::Mkdir { path, now } => mkdir_call(alloc, path, now),
@@ -103,5 +112,5 @@ pub fn do_job<O: Sink, E: Sink>(
             now,
         } => chown_call(alloc, path, Cred { uid, gid }, now),
     };
-    make(alloc, edition, image, call, errors)
+    make(alloc, edition, image, call)
 }

@@ -1,4 +1,4 @@
-//! The commands of the program over devices: what each prints, its status, and the bytes that are to be saved.
+//! The commands of the program over devices: what each prints, its status, its fault, and the bytes that are to be saved.
 #![tactic(auto)]
 
 pub mod answer;
@@ -10,13 +10,14 @@ pub mod jobs;
 pub mod laws;
 pub mod making;
 pub mod migrating;
-mod mounting;
+pub mod mounting;
 pub mod salvaging;
 pub mod showing;
 pub mod status;
 
-pub use answer::Answer;
+pub use answer::{Answer, Ending};
 pub use cat::CatFault;
+pub use faults::Fault;
 pub use jobs::{Job, do_job};
 pub use making::{Made, mkfs_command};
 pub use migrating::{Migration, migrate_command};

@@ -1,4 +1,4 @@
-//! What all commands on a mounted volume do first.
+//! Mounting the volume in some bytes.
 ghost use Rattle.std.specs.Prelude.{◌≡◌, IfOk, IfErr, OnOk, List};
 ghost use Rattle.vol_judge.specs.Sound.{IsSound};
 ghost use Rattle.vol_volume.specs.Volume.{mounted};
@@ -11,11 +11,11 @@ use vol_dir::Cred;
 use vol_layout::Edition;
 use vol_volume::{Bytes, Volume};
 
-/// Who the commands act as.
-pub(crate) const USER: Cred = Cred { uid: 0, gid: 0 };
+/// Who the commands act as: user 0, who passes every test.
+pub const USER: Cred = Cred { uid: 0, gid: 0 };
 
 /// Mounts the volume in some bytes.
-pub(crate) fn mount(alloc: Global, edition: Edition, image: Vec<u8>) -> Result<Volume, Fault>
+pub fn mount(alloc: Global, edition: Edition, image: Vec<u8>) -> Result<Volume, Fault>
     ensures mounted { IfOk result (λ volume. volume ≡ mounted edition image.items) }
     ensures sound { OnOk result (IsSound edition image.items) }
     ensures fault { IfErr result (λ fault. (calls : List Call) → IsReason edition image.items calls fault) }
@@ -23,9 +23,9 @@ pub(crate) fn mount(alloc: Global, edition: Edition, image: Vec<u8>) -> Result<V
     Volume::mount(alloc, edition, image).map_err(|(fault, _)| Fault::from(fault))
 }
 
-/// The bytes of a word.
-pub(crate) fn copy(alloc: Global, text: &str) -> Result<Bytes, AllocError>
-    ensures { IfOk result (λ bytes. bytes ≡ text.now) }
+/// A copy of some bytes.
+pub fn copy(alloc: Global, bytes: &[u8]) -> Result<Bytes, AllocError>
+    ensures { IfOk result (λ copied. copied ≡ bytes.now) }
 {
-    Ok(Bytes::from_vec(Vec::from_slice(alloc, text.as_bytes())?))
+    Ok(Bytes::from_vec(Vec::from_slice(alloc, bytes)?))
 }

@@ -1,12 +1,11 @@
 //! `salvage`: makes the free list of the volume in some bytes anew, and answers the bytes that are to be saved.
 ghost use Rattle.std.specs.Prelude.{IfOk, IfErr};
 ghost use Rattle.vol_check.specs.Salvaging.{IsSalvaged};
-ghost use Rattle.vol_commands.specs.Faults.{Gets};
+ghost use Rattle.vol_commands.specs.Faults.{says, ErrorStream, Hears};
 ghost use Rattle.vol_commands.specs.Salvaging.{SalvagesVolume, IsUnsalvaged};
 
 use crate::answer::{Answer, conclude};
 use crate::faults::Fault;
-use pdp_words::Sink;
 use std::alloc::Global;
 use vol_layout::Edition;
 
@@ -14,15 +13,10 @@ use vol_layout::Edition;
 /// those of the free list. A volume that breaks another one isn't to be saved.
 ///
 /// Takes memory for what [`vol_check::salvage`] takes.
-pub(crate) fn salvage<E: Sink>(
-    alloc: Global,
-    edition: Edition,
-    image: Vec<u8>,
-    errors: &mut E,
-) -> Answer
-    ensures { SalvagesVolume edition image.items (Gets (E.failed errors.new) (E.contents errors.old) (E.contents errors.new)) result }
+pub(crate) fn salvage(alloc: Global, edition: Edition, image: Vec<u8>) -> Answer
+    ensures { (errors : ErrorStream) → Hears errors result.fault → SalvagesVolume edition image.items (says errors) result }
 {
-    conclude(salvaged(alloc, edition, image), errors)
+    conclude(salvaged(alloc, edition, image))
 }
 
 /// The bytes of a volume with its new free list.

@@ -1,8 +1,9 @@
 //! The command that shows a file of a volume: it asks one query of the volume in some bytes, as user 0, and prints the reply.
 ghost use Rattle.std.specs.Prelude.{◌≡◌};
 ghost use Rattle.vol_volume.specs.declared.queries.Query.TheVariants as questions;
-ghost use Rattle.vol_commands.specs.Faults.{user, Gets};
-ghost use Rattle.vol_commands.specs.Showing.{Shows, Prints, text_of};
+ghost use Rattle.vol_commands.specs.Faults.{user, ErrorStream, Hears};
+ghost use Rattle.vol_commands.specs.Jobs.{Asks, streams};
+ghost use Rattle.vol_commands.specs.Showing.{Prints, text_of};
 
 use crate::answer::{Answer, report};
 use crate::faults::Fault;
@@ -15,20 +16,17 @@ use vol_volume::{Query, Reply, ask};
 /// `get`: prints the bytes of a regular file. Nothing goes out before all is known.
 ///
 /// Takes memory for what [`vol_volume::ask`] takes.
-pub(crate) fn get<O: Sink, E: Sink>(
+pub(crate) fn get<O: Sink>(
     alloc: Global,
     edition: Edition,
     image: Vec<u8>,
     path: &str,
     output: &mut O,
-    errors: &mut E,
 ) -> Answer
-    ensures { Shows edition image.items (questions.Read user path.now 0 4294967295)
-        (Prints edition image.items (questions.Read user path.now 0 4294967295) (O.contents output.old) (O.contents output.new)
-        (O.failed output.old) (O.failed output.new))
-        (Gets (E.failed errors.new) (E.contents errors.old) (E.contents errors.new)) result }
+    ensures { (errors : ErrorStream) → Hears errors result.fault
+        → Asks edition image.items (streams O.contents O.failed output.old output.new errors) result (questions.Read user path.now 0 4294967295) }
 {
-    report(read(alloc, edition, image, path, output), errors)
+    report(read(alloc, edition, image, path, output))
 }
 
 /// Asks for the bytes of a regular file, and prints them.
@@ -42,7 +40,7 @@ fn read<O: Sink>(
     ensures { Prints edition image.items (questions.Read user path.now 0 4294967295) (O.contents output.old)
         (O.contents output.new) (O.failed output.old) (O.failed output.new) result }
 {
-    let path = copy(alloc, path)?;
+    let path = copy(alloc, path.as_bytes())?;
     let query = Query::Read {
         cred: USER,
         path,

@@ -4,11 +4,6 @@ use Rattle.std.proofs.lemmas.Bool.{leb-false}
 use Rattle.std.specs.Prelude.{Vec, cond, count_by, drop, nat_le, ◌&&◌, if◌then◌else◌}
 use Rattle.std.specs.Result.{result_map_both}
 use Rattle.std.specs.Global.{Global}
-use Rattle.vol_commands.specs.Faults.{IsRuled}
-use Rattle.vol_commands.proofs.Reasons.{least_within}
-use Rattle.vol_commands.specs.declared.faults.Fault.{Fault}
-use Rattle.vol_commands.specs.declared.faults.Fault.TheVariants as faults
-use Rattle.vol_layout.specs.declared.edition.Edition.{Edition}
 use Rattle.vol_scripts.specs.Grammar.{query_in, step_in}
 use Rattle.vol_scripts.specs.Reading.{asked_in, before_scripts, is_for_view, script_after, scripts_from, views_after}
 use Rattle.vol_scripts.specs.declared.steps.Script.{Script}
@@ -16,7 +11,6 @@ use Rattle.vol_scripts.specs.declared.steps.Script.TheVariants as kinds
 use Rattle.vol_scripts.specs.declared.steps.Step.{Step}
 use Rattle.vol_volume.specs.declared.queries.Query.{Query}
 use Rattle.vol_play.specs.Players.{is_view}
-use Rattle.vol_play.specs.Playing.{IsUnplayed}
 use Rattle.vol_play.proofs.ListLaws.{counted_first}
 
 -- where scripts were read, the first was, and those after it
@@ -70,9 +64,3 @@ read_views number views (script ∷ scripts) read few is =
     let others = read_views (number + 1) (views_after views script.items) scripts parts.1 one.1 parts.3 in
     let count = ap (count_by is_view) parts.4 in
     omega (arith, one.0, counted_first is_view parts.0 parts.1)
-
--- a reason to play none names a rule of the twelve, if any
-pub unplayed_ruled : (edition : Edition) (image : List ℕ) (fault : Fault) → IsUnplayed edition image fault → IsRuled fault
-unplayed_ruled edition image (faults.Unsound rule) why = least_within true edition image rule why
-unplayed_ruled edition image (faults.Refused refusal) why = tt
-unplayed_ruled edition image faults.Output why = tt

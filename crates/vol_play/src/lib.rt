@@ -12,4 +12,4 @@ mod queries;
 mod running;
 mod steps;
 
-pub use playing::play;
+pub use playing::{perform, play};

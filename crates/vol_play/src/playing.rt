@@ -1,7 +1,8 @@
 //! The command `play`: from the bytes of an image and of scripts to what is printed, the status and the bytes to be saved.
 ghost use Rattle.std.specs.Prelude.{◌≡◌, ◌≤◌, IfOk, IfErr, count_by, length};
 ghost use Rattle.std.specs.List.{list_any};
-ghost use Rattle.vol_commands.specs.Faults.{Gets};
+ghost use Rattle.vol_commands.specs.Faults.{heard, ErrorStream, Hears};
+ghost use Rattle.vol_commands.specs.Jobs.{streams};
 ghost use Rattle.vol_play.specs.Players.{is_view};
 ghost use Rattle.vol_play.specs.Playing.{PlaysVolume, IsPlayed, IsUnplayed, any_cut, script_cuts, is_cut};
 
@@ -11,22 +12,13 @@ use std::alloc::Global;
 use std::sync::Wait;
 use std::thread::Threads;
 use vol_check::Gate;
-use vol_commands::Answer;
-use vol_commands::answer::report;
-use vol_commands::faults::Fault;
+use vol_commands::answer::{report, tell};
+use vol_commands::{Answer, Fault};
 use vol_layout::Edition;
 use vol_scripts::{Played, Script, Step, finish, read_scripts, refuse};
 use vol_volume::Volume;
 
-/// Plays 1 to 64 scripts on the volume in some bytes, each by one session, or one view where its first line says so, in one
-/// thread; a script whose thread can't be started is played by the calling thread. The gate is called round each script, with its number from 0.
-///
-/// All scripts are read before the first call. Where a line can't be read, the volume isn't mounted or memory runs out
-/// before the first call, nothing is to be saved, and `errors` gets the line of the fault; the status is 2 for a line, 1
-/// for an image that isn't sound, 4 for memory. Else the scripts are played, and all ends as [`finish`] says: a line for
-/// each step on `output`, and the bytes of the volume to be saved, whatever the status.
-///
-/// Takes memory for the scripts, what [`Volume::mount`] takes, for each step and call, and what [`finish`] takes.
+/// Plays scripts as [`perform`] does, and writes the line of its fault to `errors`.
 pub fn play<R: Threads + Wait + Sync, G: Gate, O: Sink, E: Sink>(
     rt: &R,
     alloc: Global,
@@ -39,22 +31,44 @@ pub fn play<R: Threads + Wait + Sync, G: Gate, O: Sink, E: Sink>(
 ) -> Answer
     requires first { 1 ≤ length scripts.now }
     requires last { length scripts.now ≤ 64 }
-    ensures { PlaysVolume edition image.items scripts.now (record {
-      old = O.contents output.old;
-      new = O.contents output.new;
-      had_failed = O.failed output.old;
-      failed = O.failed output.new;
-      said = Gets (E.failed errors.new) (E.contents errors.old) (E.contents errors.new);
-    }) result }
+    ensures { PlaysVolume edition image.items scripts.now (streams O.contents O.failed output.old output.new (heard E.contents E.failed errors.old errors.new)) result }
+{
+    let answer = perform(rt, alloc, edition, image, scripts, gate, output);
+    tell(&answer.fault, errors);
+    answer
+}
+
+/// Plays 1 to 64 scripts on the volume in some bytes, each by one session, or one view where its first line says so, in one
+/// thread; a script whose thread can't be started is played by the calling thread. The gate is called round each script, with its number from 0.
+///
+/// All scripts are read before the first call. Where a line can't be read, the volume isn't mounted or memory runs out
+/// before the first call, nothing is to be saved, and that is the fault; the status is 2 for a line, 1
+/// for an image that isn't sound, 4 for memory. Else the scripts are played, and all ends as [`finish`] says: a line for
+/// each step on `output`, and the bytes of the volume to be saved, whatever the status.
+///
+/// Takes memory for the scripts, what [`Volume::mount`] takes, for each step and call, and what [`finish`] takes.
+pub fn perform<R: Threads + Wait + Sync, G: Gate, O: Sink>(
+    rt: &R,
+    alloc: Global,
+    edition: Edition,
+    image: Vec<u8>,
+    scripts: &[Vec<u8>],
+    gate: &G,
+    output: &mut O,
+) -> Answer
+    requires first { 1 ≤ length scripts.now }
+    requires last { length scripts.now ≤ 64 }
+    ensures { (errors : ErrorStream) → Hears errors result.fault
+        → PlaysVolume edition image.items scripts.now (streams O.contents O.failed output.old output.new errors) result }
 {
     let scripts = match read_scripts(alloc, scripts) {
         Ok(scripts) => scripts,
-        Err(fault) => return refuse(alloc, fault, errors),
+        Err(fault) => return refuse(alloc, fault),
     };
     let cuts = any_cut(&scripts);
     match play_image(rt, alloc, edition, image, scripts, gate) {
-        Ok((volume, played)) => finish(alloc, volume, cuts, played, output, errors),
-        Err(fault) => report(Err(fault), errors),
+        Ok((volume, played)) => finish(alloc, volume, cuts, played, output),
+        Err(fault) => report(Err(fault)),
     }
 }
 

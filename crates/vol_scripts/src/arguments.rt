@@ -6,7 +6,8 @@ ghost use Rattle.vol_scripts.specs.Reading.{Reads};
 use crate::lines::LineFault;
 use crate::numbers::{bytes_in, long_in, permissions_in, short_in};
 use crate::pieces::Pieces;
-use std::alloc::{AllocError, Global};
+use std::alloc::Global;
+use vol_commands::mounting::copy;
 use vol_dir::Cred;
 use vol_volume::Bytes;
 
@@ -128,11 +129,4 @@ pub(crate) fn path_and_range(
     let offset = long_in(offset).ok_or(LineFault::Unreadable)?;
     let len = long_in(len).ok_or(LineFault::Unreadable)?;
     Ok((copy(alloc, path)?, offset, len))
-}
-
-/// A copy of a path.
-fn copy(alloc: Global, path: &[u8]) -> Result<Bytes, AllocError>
-    ensures { IfOk result (λ bytes. bytes ≡ path.now) }
-{
-    Ok(Bytes::from_vec(Vec::from_slice(alloc, path)?))
 }

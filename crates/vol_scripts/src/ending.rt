@@ -1,18 +1,16 @@
 //! How a play ends, once no thread shares its volume any more: what it prints, its status, and the bytes that
 //! are to be saved.
-ghost use Rattle.std.specs.Prelude.{◌≡◌, ◌++◌, [], IfOk, IfErr, OnOk, count_by, nat_lt};
+ghost use Rattle.std.specs.Prelude.{◌≡◌, ◌++◌, IfOk, IfErr, None, OnOk, Some, count_by, nat_lt};
 ghost use Rattle.std.specs.String.{string_bytes};
-ghost use Rattle.vol_commands.specs.Faults.{Gets, IsRuled, fault_line, fault_status};
+ghost use Rattle.vol_commands.specs.Faults.{fault_status, says, ErrorStream, Hears};
 ghost use Rattle.vol_scripts.specs.Ending.{AreConfirmed, Finishes, PrintsPlay, Reports, all_receipts, receipts_in, script_status, scripts_status, scripts_text, step_status};
 
 use crate::played::Played;
 use crate::report::{push_lines, push_totals};
 use pdp_words::{Sink, write_all};
 use std::alloc::{AllocError, Global};
-use vol_commands::Answer;
-use vol_commands::answer::report;
-use vol_commands::faults::Fault;
 use vol_commands::status::{DONE, NO_MEMORY, REFUSED};
+use vol_commands::{Answer, Ending, Fault};
 use vol_receipts::{Confirmed, Outcome, Receipt, confirm_all};
 use vol_volume::Volume;
 
@@ -23,41 +21,40 @@ use vol_volume::Volume;
 /// The status is 3 where `output` failed; else 4 where a step, this report or its confirming ran out of memory,
 /// in the last case no receipt counts as confirmed, or where a view couldn't take what is published; else 1 where
 /// a step was refused; else 0. Without memory for the
-/// report nothing of it goes out. A fault of the output and want of memory for the report have their line on
-/// `errors`.
+/// report nothing of it goes out. The fault is that of the output, or of memory for the report.
 ///
 /// Takes memory for the report, a list of the receipts, and confirming them.
-pub fn finish<O: Sink, E: Sink>(
+pub fn finish<O: Sink>(
     alloc: Global,
     volume: Volume,
     cuts: bool,
     scripts: Vec<Vec<Played>>,
     output: &mut O,
-    errors: &mut E,
 ) -> Answer
-    ensures { Finishes volume cuts scripts.items
+    ensures { (errors : ErrorStream) → Hears errors result.fault → Finishes volume cuts scripts.items
         (PrintsPlay volume cuts scripts.items (O.contents output.old) (O.contents output.new) (O.failed output.old) (O.failed output.new))
-        (Gets (E.failed errors.new) (E.contents errors.old) (E.contents errors.new)) result }
+        (says errors) result }
 {
     let printed = print_report(alloc, &volume, cuts, scripts, output);
+    let Ending { status, fault } = ending_of(printed);
     Answer {
-        status: status_after(printed, errors),
+        status,
         image: Some(volume.unmount()),
+        fault,
     }
 }
 
-/// The status after what was printed, or a fault, whose line goes to `errors`.
-#[tactic(auto, using(vol_commands::proofs::Lines::gets_nothing))]
-fn status_after<E: Sink>(printed: Result<u8, Fault>, errors: &mut E) -> u8
-    requires { IfErr printed IsRuled }
-    ensures printed { IfOk printed (λ status. (result ≡ status)
-        × Gets (E.failed errors.new) (E.contents errors.old) (E.contents errors.new) []) }
-    ensures fault { IfErr printed (λ fault. (result ≡ fault_status fault)
-        × Gets (E.failed errors.new) (E.contents errors.old) (E.contents errors.new) (fault_line fault)) }
+/// How a play ends whose report was printed, or met a fault.
+fn ending_of(printed: Result<u8, Fault>) -> Ending
+    ensures printed { IfOk printed (λ status. (result.status ≡ status) × (result.fault ≡ None)) }
+    ensures fault { IfErr printed (λ fault. (result.status ≡ fault_status fault) × (result.fault ≡ Some fault)) }
 {
     match printed {
-        Ok(status) => status,
-        Err(fault) => report(Err(fault), errors).status,
+        Ok(status) => Ending {
+            status,
+            fault: None,
+        },
+        Err(fault) => Ending::from(fault),
     }
 }
 

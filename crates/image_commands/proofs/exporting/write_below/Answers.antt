@@ -11,18 +11,18 @@ use Rattle.image_commands.specs.Telling.{TellsAll}
 use Rattle.image_commands.proofs.Exported.{unbegun_memory, unwritten_cause}
 use Rattle.image_commands.proofs.exporting.write_below.Goals as goal
 
-pub returns-in_err-founds-clause-written : goal.returns-in_err-founds-clause-written
-returns-in_err-founds-clause-written g c =
+pub returns-in_err-founds : goal.returns-in_err-founds
+returns-in_err-founds g c =
     unbegun_memory c.args.edition c.args.image.now c.args.start.now (g.O.Sink.contents c.args.output.now) (g.O.Sink.failed c.args.output.now)
     c.from_residual.result c.from_residual.ensures.1
 
-pub returns-in_err-lines-clause-written : goal.returns-in_err-lines-clause-written
-returns-in_err-lines-clause-written g c =
+pub returns-in_err-remarks : goal.returns-in_err-remarks
+returns-in_err-remarks g c =
     unbegun_memory c.args.edition c.args.image.now c.args.start.now (g.O.Sink.contents c.args.output.now) (g.O.Sink.failed c.args.output.now)
-    c.from_residual-in_err-lines.result c.from_residual-in_err-lines.ensures.1
+    c.from_residual-in_err-remarks.result c.from_residual-in_err-remarks.ensures.1
 
-pub returns-in-Ok-clause-written : goal.returns-in-Ok-clause-written
-returns-in-Ok-clause-written g c =
+pub returns-in-Ok : goal.returns-in-Ok
+returns-in-Ok g c =
     let old = g.O.Sink.contents c.args.output.now in
     let new = g.O.Sink.contents c.put_archive.new.sink in
     record {
@@ -30,12 +30,12 @@ returns-in-Ok-clause-written g c =
       walk = c.in_ok-founds.ensures;
       bytes = subst (λ (fs : List Found). Appends old new (archive_bytes c.args.start.now.geometry c.args.image.now fs)) c.deref-2.ensures.value c.in-Ok.ensures.0;
       working = c.in-Ok.ensures.1;
-      told = subst (λ (fs : List Found). TellsAll c.args.edition c.args.image.now c.args.start.now.geometry fs c.in_ok-lines.lines.items) c.deref.ensures.value
-          c.in_ok-lines.ensures;
+      told = subst (λ (fs : List Found). TellsAll c.args.edition c.args.image.now c.args.start.now.geometry fs c.in_ok-remarks.remarks.lines.items) c.deref.ensures.value
+          c.in_ok-remarks.ensures;
     }
 
-pub returns-clause-written : goal.returns-clause-written
-returns-clause-written g c =
+pub returns : goal.returns
+returns g c =
     let old = g.O.Sink.contents c.args.output.now in
     let new = g.O.Sink.contents c.put_archive.new.sink in
     let after = g.O.Sink.failed c.put_archive.new.sink in
@@ -44,5 +44,5 @@ returns-clause-written g c =
       cut.count,
       subst (λ (fs : List Found). AppendsFront old new (archive_bytes c.args.start.now.geometry c.args.image.now fs) cut.count) c.deref-2.ensures.value cut.front,
     )
-    (subst (λ (f : Fault). (f ≡ no_memory) ⊎ ((f ≡ faults.Output) × (after ≡ true))) (sym c.unwritten.ensures.value)
+    (subst (λ (f : Fault). (f ≡ no_memory) ⊎ ((f ≡ faults.Output) × (after ≡ true))) (sym c.unwritten.ensures)
     (unwritten_cause c.in-Err.fault after cut.cause))

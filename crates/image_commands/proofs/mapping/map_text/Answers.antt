@@ -11,4 +11,4 @@ returns-in_err-picture_of-in-Ok-clause-fault c = map_memory c.args.edition c.arg
 
 pub returns-in-Err-clause-fault : goal.returns-in-Err-clause-fault
 returns-in-Err-clause-fault c =
-    subst (IsMapFault c.args.edition c.args.image.now) (sym c.unmeasured.ensures.value) (IsMapFault.unsound c.in-Err.fault (sym c.in-Err.ensures.exact))
+    subst (IsMapFault c.args.edition c.args.image.now) (sym c.unmeasured.ensures) (IsMapFault.unsound c.in-Err.fault (sym c.in-Err.ensures.exact))

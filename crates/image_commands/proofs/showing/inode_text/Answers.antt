@@ -8,4 +8,4 @@ pub returns-in_err-inode_in-in-Ok-clause-fault : goal.returns-in_err-inode_in-in
 returns-in_err-inode_in-in-Ok-clause-fault c = inode_memory c.args.edition c.args.image.now c.args.number c.in-Ok.report c.from_residual.result c.in-Ok.ensures c.from_residual.ensures.1
 
 pub returns-in-Err-clause-fault : goal.returns-in-Err-clause-fault
-returns-in-Err-clause-fault c = (c.in-Err.fault, c.in-Err.ensures, c.uninspected.ensures.value)
+returns-in-Err-clause-fault c = (c.in-Err.fault, c.in-Err.ensures, c.uninspected.ensures)

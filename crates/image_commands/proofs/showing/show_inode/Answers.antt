@@ -1,25 +1,18 @@
 use Rattle.std.proofs.Common.{List, ℕ, IfOk, IfErr, subst}
 use Rattle.std.specs.String.{string_bytes}
-use Rattle.vol_commands.specs.Faults.{Gets}
-use Rattle.vol_commands.specs.Jobs.{Streams}
+use Rattle.vol_commands.specs.Jobs.{Streams, streams}
 use Rattle.image_commands.specs.Showing.{IsInodeText, IsInodeFault}
 use Rattle.image_commands.proofs.Printed.{one_of}
 use Rattle.image_commands.proofs.showing.show_inode.Goals as goal
 
 pub returns : goal.returns
-returns g c =
+returns g c errors hears =
     let edition = c.args.edition in
     let number = c.args.number in
     let form = c.args.form in
     let text = c.inode_text-text in
-    let streams : Streams = record {
-      old = g.O.Sink.contents c.args.output.now;
-      new = g.O.Sink.contents c.finish.new.output;
-      had_failed = g.O.Sink.failed c.args.output.now;
-      failed = g.O.Sink.failed c.finish.new.output;
-      said = Gets (g.E.Sink.failed c.finish.new.errors) (g.E.Sink.contents c.args.errors.now) (g.E.Sink.contents c.finish.new.errors);
-    } in
-    one_of (IsInodeText edition c.args.image.items number form) (IsInodeFault edition c.args.image.items number) streams c.finish.result text.result
+    let both : Streams = streams g.O.Sink.contents g.O.Sink.failed c.args.output.now c.finish.new.output errors in
+    one_of (IsInodeText edition c.args.image.items number form) (IsInodeFault edition c.args.image.items number) both c.finish.result.status text.result
     (subst (λ (image : List ℕ). IfOk text.result (λ t. IsInodeText edition image number form (string_bytes t))) c.from_bytes-image.ensures text.ensures.text)
     (subst (λ (image : List ℕ). IfErr text.result (IsInodeFault edition image number)) c.from_bytes-image.ensures text.ensures.fault)
-    c.finish.ensures.printed c.finish.ensures.told
+    (c.finish.ensures.printed errors hears) (c.finish.ensures.told errors hears)

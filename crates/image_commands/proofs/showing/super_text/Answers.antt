@@ -8,4 +8,4 @@ pub returns-in_err-super_in-in-Ok-clause-fault : goal.returns-in_err-super_in-in
 returns-in_err-super_in-in-Ok-clause-fault c = super_memory c.args.edition c.args.image.now c.in-Ok.report c.from_residual.result c.in-Ok.ensures.report c.from_residual.ensures.1
 
 pub returns-in-Err-clause-fault : goal.returns-in-Err-clause-fault
-returns-in-Err-clause-fault c = (c.in-Err.fault, c.in-Err.ensures.report, c.uninspected.ensures.value)
+returns-in-Err-clause-fault c = (c.in-Err.fault, c.in-Err.ensures.report, c.uninspected.ensures)

@@ -1,17 +1,14 @@
 use Rattle.std.proofs.Common.{List, ℕ, IfErr, IfOk, subst}
 use Rattle.vol_volume.specs.Volume.{reads_as}
 use Rattle.vol_import.specs.Making.{Imports, IsReason, calls_to_make}
-use Rattle.tree_commands.proofs.Imported.{concluded, outcome_ruled}
+use Rattle.tree_commands.proofs.Imported.{concluded}
 use Rattle.tree_commands.proofs.importing.import_archive.Goals as goal
 
-pub conclude-requires : goal.conclude-requires
-conclude-requires g c = outcome_ruled _ _ _ _ c.import-outcome.ensures.fault
-
 pub returns : goal.returns
-returns g c =
-    concluded _ _ _ _ _ _
+returns c errors hears =
+    concluded _ _ _ errors _ _
     (subst (λ (path : List ℕ). IfOk c.import-outcome.result (λ bytes. Imports c.args.edition c.args.image.items
     (calls_to_make (reads_as c.args.edition c.args.image.items).tree c.args.archive.now path c.args.now) bytes.items)) c.as_bytes.ensures.value c.import-outcome.ensures.made)
     (subst (λ (path : List ℕ). IfErr c.import-outcome.result (IsReason c.args.edition c.args.image.items
     (calls_to_make (reads_as c.args.edition c.args.image.items).tree c.args.archive.now path c.args.now))) c.as_bytes.ensures.value c.import-outcome.ensures.fault)
-    c.conclude.ensures.made c.conclude.ensures.fault
+    c.conclude.ensures.made c.conclude.ensures.fault hears

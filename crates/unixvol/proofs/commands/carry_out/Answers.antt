@@ -1,22 +1,34 @@
-use Rattle.vol_commands.proofs.Lines.{gets_nothing}
 use Rattle.unixvol.proofs.commands.carry_out.Goals as goal
 
 pub returns-in-OnVolume-clause-runs : goal.returns-in-OnVolume-clause-runs
-returns-in-OnVolume-clause-runs g c = rw c.in-OnVolume.is c.run_job.ensures.runs
+returns-in-OnVolume-clause-runs g c errors hears = rw c.in-OnVolume.is (c.run_job.ensures.runs errors hears)
 
 pub returns-in-Mkfs-clause-runs : goal.returns-in-Mkfs-clause-runs
-returns-in-Mkfs-clause-runs g c = rw c.in-Mkfs.is c.run_mkfs.ensures
+returns-in-Mkfs-clause-runs g c errors hears =
+    rw c.in-Mkfs.is (c.run_mkfs.ensures (g.O.Sink.contents c.args.output.now) (g.O.Sink.failed c.args.output.now) errors hears)
+
+pub returns-in-Mkfs-clause-ends : goal.returns-in-Mkfs-clause-ends
+returns-in-Mkfs-clause-ends g c errors hears =
+    let runs = c.run_mkfs.ensures (g.O.Sink.contents c.args.output.now) (g.O.Sink.failed c.args.output.now) errors hears in
+    record { within = runs.within.0; silent = λ _ _. runs.unprinted; whole = λ e. (runs.unused, runs.quiet e) }
 
 pub returns-in-Migrate-clause-runs : goal.returns-in-Migrate-clause-runs
-returns-in-Migrate-clause-runs g c = rw c.in-Migrate.is c.run_migrate.ensures.runs
+returns-in-Migrate-clause-runs g c errors hears =
+    rw c.in-Migrate.is (c.run_migrate.ensures.runs (g.O.Sink.contents c.args.output.now) (g.O.Sink.failed c.args.output.now) errors hears)
 
 pub returns-in-Cat-clause-runs : goal.returns-in-Cat-clause-runs
-returns-in-Cat-clause-runs g c = rw c.in-Cat.is (c.run_cat.ensures.shown, c.run_cat.ensures.whole, gets_nothing (g.E.Sink.failed c.args.errors.now) (g.E.Sink.contents c.args.errors.now))
+returns-in-Cat-clause-runs g c errors hears = rw c.in-Cat.is (c.run_cat.ensures.shown, c.run_cat.ensures.whole, hears)
 
 pub returns-in-Cat-clause-ends : goal.returns-in-Cat-clause-ends
-returns-in-Cat-clause-ends g c =
+returns-in-Cat-clause-ends g c errors hears =
     record {
       within = c.run_cat.ensures.within;
       silent = c.run_cat.ensures.silent;
-      whole = λ e. (c.run_cat.ensures.whole e, gets_nothing (g.E.Sink.failed c.args.errors.now) (g.E.Sink.contents c.args.errors.now));
+      whole = λ e. (c.run_cat.ensures.whole e, hears);
     }
+
+pub returns-in-OnVolume-clause-ends : goal.returns-in-OnVolume-clause-ends
+returns-in-OnVolume-clause-ends g c errors hears = c.run_job.ensures.ends errors hears
+
+pub returns-in-Migrate-clause-ends : goal.returns-in-Migrate-clause-ends
+returns-in-Migrate-clause-ends g c errors hears = c.run_migrate.ensures.ends (g.O.Sink.contents c.args.output.now) (g.O.Sink.failed c.args.output.now) errors hears

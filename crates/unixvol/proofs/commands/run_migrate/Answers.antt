@@ -1,28 +1,25 @@
 use Rattle.std.proofs.Common.{inl, inr, refl}
 use Rattle.std.proofs.KnownBytes.{Keeps-refl}
-use Rattle.vol_commands.proofs.Lines.{gets_nothing}
-use Rattle.unixvol.proofs.Migrated.{ends_migrated}
+use Rattle.vol_commands.specs.Jobs.{still}
+use Rattle.vol_commands.specs.Migrating.{IsObstacle, Migrates}
+use Rattle.host_files.specs.Saving.{IsTaken}
+use Rattle.unixvol.proofs.Concluded.{ends_concluded, ends_unread}
 use Rattle.unixvol.proofs.commands.run_migrate.Goals as goal
 
 pub returns-in-Err-clause-runs : goal.returns-in-Err-clause-runs
-returns-in-Err-clause-runs g c =
-    inl (c.in-Err.ensures.fault, Keeps-refl (g.O.Sink.contents c.args.output.now), refl, gets_nothing (g.E.Sink.failed c.args.errors.now) (g.E.Sink.contents c.args.errors.now))
+returns-in-Err-clause-runs g c known failed errors hears = inl (c.in-Err.ensures.fault, Keeps-refl known, refl, hears)
 
 pub returns-clause-runs : goal.returns-clause-runs
-returns-clause-runs g c =
-    let answer = c.migrate_command-answer in
-    inr (
-      c.in-Ok.read.0.items,
-      answer.result,
-      c.in-Ok.ensures.given,
-      answer.ensures.migrated,
-      answer.ensures.unprinted,
-      answer.ensures.unused,
-      c.save_migrated.ensures,
-    )
+returns-clause-runs g c known failed errors hears =
+    let answer = c.migrate_image-answer in
+    inr (c.in-Ok.read.0.items, answer.result, c.in-Ok.ensures.given, answer.ensures errors hears, Keeps-refl known, refl, c.save_migrated-status.ensures)
 
 pub returns-clause-ends : goal.returns-clause-ends
-returns-clause-ends g c =
-    let answer = c.migrate_command-answer in
-    ends_migrated _ _ c.in-Ok.read.0.items c.args.migration answer.result c.save_migrated.result answer.ensures.migrated answer.ensures.unprinted
-    answer.ensures.unused c.save_migrated.ensures
+returns-clause-ends g c known failed errors hears =
+    let answer = c.migrate_image-answer in
+    ends_concluded (Migrates c.in-Ok.read.0.items c.args.migration) (IsObstacle c.in-Ok.read.0.items c.args.migration) (still known failed errors)
+    (IsTaken g.R.File.Write.contents) answer.result c.save_migrated-status.result (answer.ensures errors hears) (Keeps-refl known) refl c.save_migrated-status.ensures
+
+pub returns-in-Err-clause-ends : goal.returns-in-Err-clause-ends
+returns-in-Err-clause-ends g c known failed errors hears =
+    ends_unread g.R.File.Read.remaining (still known failed errors) c.in-Err.status c.in-Err.ensures.fault (Keeps-refl known)

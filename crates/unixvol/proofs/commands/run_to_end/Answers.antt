@@ -1,4 +1,6 @@
 use Rattle.std.specs.Process.{exit_status}
+use Rattle.pdp_words.specs.Adapters.{writer_in, has_write_failed}
+use Rattle.vol_commands.specs.Faults.{heard}
 use Rattle.unixvol.specs.Running.{RunsRead, Ends, host_files}
 use Rattle.unixvol.proofs.Begun.{begun, ended}
 use Rattle.unixvol.proofs.commands.run_to_end.Goals as goal
@@ -6,15 +8,16 @@ use Rattle.unixvol.proofs.commands.run_to_end.Goals as goal
 pub returns : goal.returns
 returns g c =
     let files = host_files g.R.File.Read.remaining g.R.File.Write.contents g.R.ImageFiles.had g.R.ImageFiles.stood in
-    let status = c.run-status.result in (
+    let status = c.run-ending.result.status in
+    let after = heard (λ sink. g.E.Write.contents (writer_in sink)) has_write_failed c.new-errors.result c.tell_fault.new.errors in (
       _,
       _,
       _,
       _,
       status,
       begun (λ streams. RunsRead streams files status c.args.read) (g.O.Write.contents c.args.output) (g.E.Write.contents c.args.errors) _ _ _ _ _ _ _
-          c.noted_writer-output.ensures.bytes c.heard_writer-errors.ensures.bytes c.noted_writer-output.ensures.fresh c.run-status.ensures.runs,
+          c.noted_writer-output.ensures.bytes c.new-errors.ensures.bytes c.noted_writer-output.ensures.fresh (c.run-ending.ensures.runs after c.tell_fault.ensures),
       begun (λ streams. Ends streams status) (g.O.Write.contents c.args.output) (g.E.Write.contents c.args.errors) _ _ _ _ _ _ _
-          c.noted_writer-output.ensures.bytes c.heard_writer-errors.ensures.bytes c.noted_writer-output.ensures.fresh c.run-status.ensures.ends,
+          c.noted_writer-output.ensures.bytes c.new-errors.ensures.bytes c.noted_writer-output.ensures.fresh (c.run-ending.ensures.ends after c.tell_fault.ensures),
       ended status c.finish.result (exit_status c.from.result) c.from.ensures c.finish.ensures,
     )

@@ -1,46 +1,68 @@
-use Rattle.std.proofs.Common.{inl, inr, refl}
+use Rattle.std.proofs.Common.{arith, inl, inr, refl}
 use Rattle.std.proofs.KnownBytes.{Keeps-refl}
-use Rattle.vol_commands.proofs.Lines.{gets_nothing}
+use Rattle.vol_commands.specs.Jobs.{still}
+use Rattle.unixvol.proofs.Concluded.{ends_imported, ends_unread}
 use Rattle.unixvol.proofs.copying.run_put.Goals as goal
 
 pub returns-in-Some-clause-runs : goal.returns-in-Some-clause-runs
-returns-in-Some-clause-runs g c =
+returns-in-Some-clause-runs g c known failed errors hears =
     inl (
       c.explain_moment.ensures,
       (c.in-Some.word, c.in-Some.ensures.some),
-      Keeps-refl (g.O.Sink.contents c.args.output.now),
+      Keeps-refl known,
       refl,
-      gets_nothing (g.E.Sink.failed c.args.errors.now) (g.E.Sink.contents c.args.errors.now),
+      hears,
     )
 
 pub returns-in-Err-clause-runs : goal.returns-in-Err-clause-runs
-returns-in-Err-clause-runs g c =
+returns-in-Err-clause-runs g c known failed errors hears =
     inr (
       c.moment_file.ensures.none c.in_default.is,
-      inl (c.in-Err.ensures.fault, Keeps-refl (g.O.Sink.contents c.args.output.now), refl, gets_nothing (g.E.Sink.failed c.args.errors.now) (g.E.Sink.contents c.args.errors.now)),
+      inl (c.in-Err.ensures.fault, Keeps-refl known, refl, hears),
     )
 
 pub returns-in-Err-read_named-clause-runs : goal.returns-in-Err-read_named-clause-runs
-returns-in-Err-read_named-clause-runs g c =
+returns-in-Err-read_named-clause-runs g c known failed errors hears =
     inr (
       c.moment_file.ensures.none c.in_default.is,
-      inl (c.in-Err-read_named.ensures.fault, Keeps-refl (g.O.Sink.contents c.args.output.now), refl, gets_nothing (g.E.Sink.failed c.args.errors.now) (g.E.Sink.contents c.args.errors.now)),
+      inl (c.in-Err-read_named.ensures.fault, Keeps-refl known, refl, hears),
     )
 
 pub returns-clause-runs : goal.returns-clause-runs
-returns-clause-runs g c =
+returns-clause-runs g c known failed errors hears =
     inr (
       c.moment_file.ensures.none c.in_default.is,
       inr (
         c.in-Ok.read.0.bytes.items,
         c.in-Ok.read.1,
         c.in-Ok-read_named.files.items,
-        c.put_all-answer.result,
+        c.perform-answer.result,
         c.in-Ok.ensures.given,
         (c.in-Ok-read_named.ensures.given, c.in-Ok-read_named.ensures.named),
-        c.put_all-answer.ensures.put,
-        c.put_all-answer.ensures.unprinted,
-        c.put_all-answer.ensures.unused,
-        c.save_answer.ensures,
+        c.perform-answer.ensures errors hears,
+        Keeps-refl known,
+        refl,
+        c.save_answer-status.ensures,
       ),
     )
+
+pub returns-in-Err-clause-ends : goal.returns-in-Err-clause-ends
+returns-in-Err-clause-ends g c known failed errors hears =
+    ends_unread g.R.File.Read.remaining (still known failed errors) c.in-Err.status c.in-Err.ensures.fault (Keeps-refl known)
+
+pub returns-in-Err-read_named-clause-ends : goal.returns-in-Err-read_named-clause-ends
+returns-in-Err-read_named-clause-ends g c known failed errors hears =
+    ends_unread g.R.File.Read.remaining (still known failed errors) c.in-Err-read_named.status c.in-Err-read_named.ensures.fault (Keeps-refl known)
+
+pub returns-clause-ends : goal.returns-clause-ends
+returns-clause-ends g c known failed errors hears =
+    ends_imported c.args.volume.edition c.in-Ok.read.0.bytes.items _ (still known failed errors) _ c.perform-answer.result c.save_answer-status.result
+    (c.perform-answer.ensures errors hears) (Keeps-refl known) refl c.save_answer-status.ensures
+
+pub returns-in-Some-clause-ends : goal.returns-in-Some-clause-ends
+returns-in-Some-clause-ends g c known failed errors hears =
+    record {
+      within = omega (arith, c.explain_moment.ensures);
+      silent = λ _ _. Keeps-refl known;
+      whole = λ e. absurd (omega (arith, c.explain_moment.ensures, e));
+    }

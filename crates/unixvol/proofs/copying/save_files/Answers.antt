@@ -11,7 +11,7 @@ pub files-preserved : goal.files-preserved
 files-preserved g c =
     All-more (λ (file : FileRead). IsTaken g.R.File.Write.contents file.bytes.items) c.args.files.now c.files.file-index c.file-item.result (omega arith)
     c.files.invariant
-    (subst (λ (file : FileRead). IsTaken g.R.File.Write.contents file.bytes.items) c.file-item.is (saved_one _ _ c.save_file_read-status.ensures (omega arith)))
+    (subst (λ (file : FileRead). IsTaken g.R.File.Write.contents file.bytes.items) c.file-item.is (saved_one _ _ c.save_file_read-saved.ensures (omega arith)))
 
 pub returns : goal.returns
 returns g c =

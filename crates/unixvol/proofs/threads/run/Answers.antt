@@ -3,9 +3,11 @@ use Rattle.unixvol.proofs.Played.{ends_played}
 use Rattle.unixvol.proofs.threads.run.Goals as goal
 
 pub returns-in-Check-clause-ends : goal.returns-in-Check-clause-ends
-returns-in-Check-clause-ends g c =
-    ends_checked g.R.File.Read.remaining g.R.File.Write.contents g.R.ImageFiles.had g.R.ImageFiles.stood _ c.args.volume.edition _ c.run_check.result c.run_check.ensures
+returns-in-Check-clause-ends g c errors hears =
+    ends_checked g.R.File.Read.remaining g.R.File.Write.contents g.R.ImageFiles.had g.R.ImageFiles.stood _ c.args.volume.edition _ c.run_check.result.status
+    (c.run_check.ensures errors hears)
 
 pub returns-in-Play-clause-ends : goal.returns-in-Play-clause-ends
-returns-in-Play-clause-ends g c =
-    ends_played g.R.File.Read.remaining g.R.File.Write.contents g.R.ImageFiles.had g.R.ImageFiles.stood _ c.args.volume.edition _ c.run_play.result c.run_play.ensures
+returns-in-Play-clause-ends g c errors hears =
+    ends_played g.R.File.Read.remaining g.R.File.Write.contents g.R.ImageFiles.had g.R.ImageFiles.stood _ c.args.volume.edition _ c.run_play.result.status
+    (c.run_play.ensures errors hears)

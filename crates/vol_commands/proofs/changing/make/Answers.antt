@@ -1,5 +1,6 @@
-use Rattle.vol_commands.proofs.Reasons.{call_ruled}
+use Rattle.vol_commands.proofs.Concluded.{concluded}
 use Rattle.vol_commands.proofs.changing.make.Goals as goal
 
-pub conclude-requires : goal.conclude-requires
-conclude-requires g c = call_ruled c.args.edition c.args.image.items c.args.call c.change.result c.change.ensures.fault
+pub returns : goal.returns
+returns c wanted is errors hears =
+    concluded _ _ errors _ _ (c.change.ensures.made wanted is) (c.change.ensures.fault wanted is) c.conclude.ensures.made c.conclude.ensures.fault hears

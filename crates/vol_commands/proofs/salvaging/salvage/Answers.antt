@@ -1,5 +1,5 @@
-use Rattle.vol_commands.proofs.Reasons.{salvaging_ruled}
+use Rattle.vol_commands.proofs.Concluded.{concluded}
 use Rattle.vol_commands.proofs.salvaging.salvage.Goals as goal
 
-pub conclude-requires : goal.conclude-requires
-conclude-requires g c = salvaging_ruled _ _ _ c.salvaged.ensures.fault
+pub returns : goal.returns
+returns c errors hears = concluded _ _ errors _ _ c.salvaged.ensures.salvaged c.salvaged.ensures.fault c.conclude.ensures.made c.conclude.ensures.fault hears

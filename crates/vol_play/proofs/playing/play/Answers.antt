@@ -1,35 +1,5 @@
-use Rattle.std.proofs.Common.{◌∙◌, Bool, arith, ap, inr, subst}
-use Rattle.vol_commands.specs.Faults.{Gets}
-use Rattle.vol_scripts.specs.Ending.{Finishes, PrintsPlay}
-use Rattle.vol_play.specs.Playing.{any_cut}
-use Rattle.vol_play.proofs.ReadLaws.{read_many, read_views, unplayed_ruled}
+use Rattle.vol_commands.specs.Faults.{heard}
 use Rattle.vol_play.proofs.playing.play.Goals as goal
 
-pub play_image-requires-clause-first : goal.play_image-requires-clause-first
-play_image-requires-clause-first g c =
-    let many = read_many 1 0 c.args.scripts.now c.in-Ok.scripts.items c.in-Ok.ensures in omega (arith, many, c.requires.first)
-
-pub play_image-requires-clause-last : goal.play_image-requires-clause-last
-play_image-requires-clause-last g c =
-    let many = read_many 1 0 c.args.scripts.now c.in-Ok.scripts.items c.in-Ok.ensures in omega (arith, many, c.requires.last)
-
-pub play_image-requires-clause-views : goal.play_image-requires-clause-views
-play_image-requires-clause-views g c =
-    let few = read_views 1 0 c.args.scripts.now c.in-Ok.scripts.items (omega arith) c.in-Ok.ensures in omega arith
-
-pub report-requires : goal.report-requires
-report-requires g c = unplayed_ruled c.args.edition c.args.image.items c.in-Err-play_image.fault c.in-Err-play_image.ensures.fault
-
-pub returns-in-Ok-play_image : goal.returns-in-Ok-play_image
-returns-in-Ok-play_image g c =
-    let last = c.in-Ok-play_image.volume in
-    let played = c.in-Ok-play_image.played.items in
-    let ends =
-    subst
-    (λ (cuts : Bool).
-    Finishes last cuts played
-    (PrintsPlay last cuts played (g.O.Sink.contents c.args.output.now) (g.O.Sink.contents c.finish.new.output) (g.O.Sink.failed c.args.output.now) (g.O.Sink.failed c.finish.new.output))
-    (Gets (g.E.Sink.failed c.finish.new.errors) (g.E.Sink.contents c.args.errors.now) (g.E.Sink.contents c.finish.new.errors)) c.finish.result)
-    (c.any_cut-cuts.ensures ∙ ap any_cut c.deref.ensures.value) c.finish.ensures
-    in
-    inr (c.in-Ok.scripts.items, c.in-Ok.ensures, inr (last, played, c.in-Ok-play_image.ensures.played, ends))
+pub returns : goal.returns
+returns g c = c.perform-answer.ensures (heard g.E.Sink.contents g.E.Sink.failed c.args.errors.now c.tell.new.errors) c.tell.ensures

@@ -1,16 +1,16 @@
-use Rattle.std.proofs.Common.{◌∙◌, inl, subst}
-use Rattle.vol_commands.specs.Faults.{Gets}
+use Rattle.std.proofs.Common.{Option, ℕ, ap, inl, subst, ◌∙◌}
+use Rattle.std.specs.Global.{Vec}
+use Rattle.vol_commands.specs.Faults.{Hears, says}
+use Rattle.vol_commands.specs.declared.faults.Fault.{Fault}
 use Rattle.vol_scripts.proofs.refusing.refuse.Goals as goal
 
 pub returns-in-Ok : goal.returns-in-Ok
-returns-in-Ok g c =
-    let answer = c.answer_unread.ensures in
+returns-in-Ok c errors hears =
     rw c.in-Line.is
     (inl
     (record {
-      unsaved = answer.unsaved;
-      ends = answer.ends;
+      unsaved = c.report.ensures.unsaved;
+      ends = c.report.ensures.fault.0;
       line =
-          subst (Gets (g.E.Sink.failed c.answer_unread.new.errors) (g.E.Sink.contents c.args.errors.now) (g.E.Sink.contents c.answer_unread.new.errors)) (c.as_str.ensures.value ∙ c.in-Ok.ensures)
-          answer.line;
+          subst (says errors) (ap (λ (bytes : Vec ℕ). bytes.items) c.into_bytes.ensures.value ∙ c.in-Ok.ensures) (subst (λ (fault : Option Fault). Hears errors fault) c.report.ensures.fault.1 hears);
     }))

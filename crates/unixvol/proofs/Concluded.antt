@@ -1,0 +1,123 @@
+-- How a run ends that saves what a command made, or one that reads no file.
+use Rattle.std.proofs.Common.{◌≡◌, ◌∙◌, true≢false, ℕ, ◌≤◌, List, [], Option, None, Some, IsSome, IfSome, Result, inl, inr, refl, sym, subst, arith}
+use Rattle.std.specs.Global.{Vec}
+use Rattle.std.specs.Io.KnownBytes.{Keeps}
+use Rattle.vol_commands.proofs.Concluded.{fault_few, refusal_few}
+use Rattle.vol_commands.specs.Faults.{Concludes, refusal_status}
+use Rattle.vol_commands.specs.Jobs.{Streams}
+use Rattle.vol_commands.specs.declared.answer.Answer.{Answer}
+use Rattle.vol_commands.specs.declared.faults.Fault.{Fault}
+use Rattle.vol_dir.specs.declared.refusal.Refusal.{Refusal}
+use Rattle.vol_import.specs.declared.faults.ArchiveFault.{ArchiveFault}
+use Rattle.vol_import.specs.declared.faults.ArchiveFault.TheVariants as archives
+use Rattle.vol_import.specs.declared.making.ImportFault.{ImportFault}
+use Rattle.vol_import.specs.declared.making.ImportFault.TheVariants as imports
+use Rattle.vol_layout.specs.declared.edition.Edition.{Edition}
+use Rattle.vol_volume.specs.declared.calls.Call.{Call}
+use Rattle.tree_commands.specs.Getting.{GetsFiles, get_status}
+use Rattle.tree_commands.specs.Importing.{ImportsArchive}
+use Rattle.tree_commands.specs.Telling.{archive_status, import_status}
+use Rattle.tree_commands.specs.declared.getting.FileRead.{FileRead}
+use Rattle.tree_commands.specs.declared.getting.FilesRead.{FilesRead}
+use Rattle.tree_commands.specs.declared.getting.GetFault.{GetFault}
+use Rattle.tree_commands.specs.declared.getting.GetFault.TheVariants.{Volume, File}
+use Rattle.unixvol.specs.Copying.{ReadSaved}
+use Rattle.unixvol.specs.Running.{EndsSaved, Ends, IsUnread}
+
+-- a run that reads no file ends
+pub ends_unread : {F : Type 0} (remaining : F → Option (List ℕ)) (streams : Streams) (status : ℕ) → IsUnread remaining status
+    → Keeps streams.old streams.new → Ends streams status
+ends_unread remaining streams status (inl is) kept =
+    record { within = omega (arith, is); silent = λ _ _. kept; whole = λ e. absurd (omega (arith, is, e)) }
+ends_unread remaining streams status (inr memory) kept =
+    record { within = omega (arith, memory.0); silent = λ _ _. kept; whole = λ e. absurd (omega (arith, memory.0, e)) }
+
+-- a run ends with the status of an answer, or that of a file; nothing went out, and where it is 0 no fault was told
+pub ends_answer : (streams : Streams) (taken : List ℕ → Type 0) (answer : Answer) (status : ℕ) → answer.status ≤ 4
+    → (answer.status ≡ 0 → streams.said []) → Keeps streams.old streams.new → streams.failed ≡ streams.had_failed → EndsSaved taken answer status
+    → Ends streams status
+ends_answer streams taken answer status few quiet unprinted unused (inl own) = record {
+  within = subst (λ n. n ≤ 4) (sym own.0) few;
+  silent = λ _ _. unprinted;
+  whole = λ e. (unused, quiet (sym own.0 ∙ e));
+}
+ends_answer streams taken answer status few quiet unprinted unused (inr file) = record {
+  within = elim file.1 [ inl e ↦ omega (arith, e) | inr e ↦ omega (arith, e) ];
+  silent = λ _ _. unprinted;
+  whole = λ e. absurd (elim file.1 [ inl three ↦ omega (arith, three, e) | inr four ↦ omega (arith, four, e) ]);
+}
+
+-- where something was made, no fault is told
+quiet : {A : Type 0} (makes : A → Type 0) (said : List ℕ → Type 0) (made : Option A) → IsSome made → IfSome made (λ a. makes a × said []) → said []
+quiet makes said (Some a) some given = given.1
+quiet makes said None some given = absurd (true≢false (sym some))
+
+-- the status of an answer is at most 4, where that of each reason is
+few : {A : Type 0} (made : Option A) (status : ℕ) → (IsSome made → status ≡ 0) → (made ≡ None → status ≤ 4) → status ≤ 4
+few (Some a) status zero some_few = let is = zero refl in omega (arith, is)
+few None status zero some_few = some_few refl
+
+-- what a command that makes bytes comes to ends so
+pub ends_concluded : (makes : List ℕ → Type 0) (is_reason : Fault → Type 0) (streams : Streams) (taken : List ℕ → Type 0) (answer : Answer) (status : ℕ)
+    → Concludes makes is_reason streams.said answer → Keeps streams.old streams.new → streams.failed ≡ streams.had_failed
+    → EndsSaved taken answer status → Ends streams status
+ends_concluded makes is_reason streams taken answer status concludes unprinted unused saved =
+    ends_answer streams taken answer status
+    (few answer.image answer.status concludes.saved.1
+    (λ none. let why = concludes.refused (rw none refl) in subst (λ n. n ≤ 4) (sym why.2) (fault_few why.0).1))
+    (λ e. quiet (λ (bytes : Vec ℕ). makes bytes.items) streams.said answer.image (concludes.saved.0 e) concludes.made) unprinted unused saved
+
+refusal_within : (refusal : Refusal) → refusal_status refusal ≤ 4
+refusal_within refusal = elim (refusal_few refusal) [ inl one ↦ omega (arith, one) | inr four ↦ omega (arith, four) ]
+
+archive_few : (fault : ArchiveFault) → archive_status fault ≤ 4
+archive_few (archives.Truncated at) = omega arith
+archive_few (archives.LoneZeroBlock at) = omega arith
+archive_few (archives.Header at fault) = omega arith
+archive_few (archives.Records at) = omega arith
+archive_few (archives.Unsupported at) = omega arith
+archive_few archives.NoMemory = omega arith
+
+import_few : (fault : ImportFault) → import_status fault ≤ 4
+import_few (imports.Unsound rule) = omega arith
+import_few (imports.Archive fault) = archive_few fault
+import_few (imports.Member path cause) = omega arith
+import_few (imports.Refused refusal call) = refusal_within refusal
+import_few imports.NoMemory = omega arith
+
+-- what the import of an archive comes to ends so
+pub ends_imported : (edition : Edition) (image : List ℕ) (wanted : Result (List Call) ImportFault) (streams : Streams) (taken : List ℕ → Type 0) (answer : Answer)
+    (status : ℕ) → ImportsArchive edition image wanted streams.said answer → Keeps streams.old streams.new → streams.failed ≡ streams.had_failed
+    → EndsSaved taken answer status → Ends streams status
+ends_imported edition image wanted streams taken answer status imports unprinted unused saved =
+    ends_answer streams taken answer status
+    (few answer.image answer.status imports.saved.1
+    (λ none. let why = imports.refused (rw none refl) in subst (λ n. n ≤ 4) (sym why.2) (import_few why.0)))
+    (λ e. quiet _ streams.said answer.image (imports.saved.0 e) imports.made) unprinted unused saved
+
+get_few : (fault : GetFault) → get_status fault ≤ 4
+get_few (Volume fault) = (fault_few fault).1
+get_few (File refusal path) = refusal_within refusal
+
+-- where files were read, no fault is told
+quiet_got : (P Q : List FileRead → Type 0) (said : List ℕ → Type 0) (files : Option (Vec FileRead)) → IsSome files
+    → IfSome files (λ files. P files.items × Q files.items × said []) → said []
+quiet_got P Q said (Some files) some given = given.2
+quiet_got P Q said None some given = absurd (true≢false (sym some))
+
+-- the reading of files, and their saving, ends so
+pub ends_got : (edition : Edition) (image : List ℕ) (paths : List (List ℕ)) (streams : Streams) (taken : List ℕ → Type 0) (read : FilesRead) (status : ℕ)
+    → GetsFiles edition image paths streams.said read → Keeps streams.old streams.new → streams.failed ≡ streams.had_failed → ReadSaved taken read status
+    → Ends streams status
+ends_got edition image paths streams taken read status gets unprinted unused (inl own) = record {
+  within =
+      subst (λ n. n ≤ 4) (sym own.0)
+      (few read.files read.status gets.answered.1 (λ none. let why = gets.refused (rw none refl) in subst (λ n. n ≤ 4) (sym why.2) (get_few why.0)));
+  silent = λ _ _. unprinted;
+  whole = λ e. (unused, quiet_got _ _ streams.said read.files (gets.answered.0 (sym own.0 ∙ e)) gets.read);
+}
+ends_got edition image paths streams taken read status gets unprinted unused (inr file) = record {
+  within = elim file.1 [ inl e ↦ omega (arith, e) | inr e ↦ omega (arith, e) ];
+  silent = λ _ _. unprinted;
+  whole = λ e. absurd (elim file.1 [ inl three ↦ omega (arith, three, e) | inr four ↦ omega (arith, four, e) ]);
+}

@@ -1,10 +1,11 @@
 //! The volume with its file, and many queries and calls one after the other.
 ghost use Rattle.std.specs.Prelude.{◌≡◌, Some};
 
-use crate::volume::{ROOT, bytes_of, new_volume};
+use crate::volume::{bytes_of, new_volume};
 use std::alloc::Global;
 use std::sync::Wait;
 use std::sync::atomic::{AtomicBool, Ordering};
+use vol_dir::Cred;
 use vol_shared::{Outcome, Receipt, Session, Shared, View};
 use vol_volume::{Bytes, Call, Query, Volume};
 
@@ -18,7 +19,7 @@ const UNCUT: u64 = 100;
 pub(crate) fn new_volume_with_file(alloc: Global, blocks: u32) -> Option<Volume> {
     let mut volume = new_volume(alloc, blocks, 10)?;
     let create = Call::Create {
-        cred: ROOT,
+        cred: Cred::ROOT,
         now: 1,
         path: bytes_of(alloc, FILE)?,
         perm: 0o644,
@@ -30,7 +31,7 @@ pub(crate) fn new_volume_with_file(alloc: Global, blocks: u32) -> Option<Volume>
 /// The query for what the file is.
 fn stat(alloc: Global) -> Option<Query> {
     Some(Query::Stat {
-        cred: ROOT,
+        cred: Cred::ROOT,
         path: bytes_of(alloc, FILE)?,
     })
 }
@@ -39,7 +40,7 @@ fn stat(alloc: Global) -> Option<Query> {
 fn write(alloc: Global, length: u32) -> Option<Call> {
     let bytes = vec![in alloc; 7u8; length as usize].ok()?;
     Some(Call::Write {
-        cred: ROOT,
+        cred: Cred::ROOT,
         now: 2,
         path: bytes_of(alloc, FILE)?,
         offset: 0,

@@ -5,8 +5,9 @@
 //! Makes a volume of the seventh edition of 16,000 blocks, in it so many directories, and in each so many empty files. With
 //! `write` it then writes one byte into each of them. Prints how many calls were accepted or, with a further word, the bytes of
 //! the volume.
-use crate::volume::{ROOT, bytes_of, new_volume};
+use crate::volume::{bytes_of, new_volume};
 use std::alloc::Global;
+use vol_dir::Cred;
 use vol_volume::{Bytes, Call, Volume};
 
 /// What is made.
@@ -69,7 +70,7 @@ impl Task {
 fn mkdir(alloc: Global, d: u32) -> Option<Call> {
     let path = format!(in alloc; "/d{d}").ok()?;
     Some(Call::Mkdir {
-        cred: ROOT,
+        cred: Cred::ROOT,
         now: 1,
         path: Bytes::from_vec(path.into_bytes()),
         perm: 0o755,
@@ -79,7 +80,7 @@ fn mkdir(alloc: Global, d: u32) -> Option<Call> {
 /// The call that makes file number `n` of a directory.
 fn create(alloc: Global, d: u32, n: u32) -> Option<Call> {
     Some(Call::Create {
-        cred: ROOT,
+        cred: Cred::ROOT,
         now: 2,
         path: file_path(alloc, d, n)?,
         perm: 0o644,
@@ -89,7 +90,7 @@ fn create(alloc: Global, d: u32, n: u32) -> Option<Call> {
 /// The call that writes a byte into file number `n` of a directory.
 fn write(alloc: Global, d: u32, n: u32) -> Option<Call> {
     Some(Call::Write {
-        cred: ROOT,
+        cred: Cred::ROOT,
         now: 3,
         path: file_path(alloc, d, n)?,
         offset: 0,

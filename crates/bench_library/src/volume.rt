@@ -1,11 +1,7 @@
 //! New volumes, and who calls them.
 use std::alloc::Global;
-use vol_dir::Cred;
 use vol_layout::Edition;
 use vol_volume::{Bytes, Volume, mkfs};
-
-/// The user who makes all calls and queries, to whom everything is permitted.
-pub(crate) const ROOT: Cred = Cred { uid: 0, gid: 0 };
 
 /// A new volume of the seventh edition, mounted.
 pub(crate) fn new_volume(alloc: Global, blocks: u32, list_blocks: u16) -> Option<Volume> {

@@ -6,10 +6,10 @@ use Rattle.vol_volume.specs.declared.queries.Query.TheVariants as queries
 use Rattle.vol_volume.specs.declared.queries.Reply.TheVariants as replies
 use Rattle.vol_volume.specs.declared.queries.Stat.{Stat}
 use Rattle.vol_layout.specs.declared.edition.Edition.{Edition}
+use Rattle.vol_dir.specs.Access.{user}
 use Rattle.vol_listing.specs.Listing.{start_of, IsListingOf}
 use Rattle.vol_listing.specs.declared.options.Listing.{Listing}
 use Rattle.vol_listing.specs.declared.options.Screen.{Screen}
-use Rattle.vol_commands.specs.Faults.{user}
 use Rattle.vol_commands.specs.Jobs.{Streams}
 use Rattle.vol_commands.specs.Showing.{answer_of, IsObstacle}
 use Rattle.image_commands.specs.Printing.{PrintsOne}

@@ -3,10 +3,11 @@ ghost use Rattle.std.specs.Prelude.{◌≡◌, IfErr, IfOk};
 ghost use Rattle.vol_layout.specs.Geometry.{Fits, geometry_of};
 ghost use Rattle.vol_judge.specs.Sound.{IsSound};
 ghost use Rattle.vol_volume.specs.declared.queries.Query.TheVariants as questions;
-ghost use Rattle.vol_commands.specs.Faults.{user, ErrorStream, Hears};
+ghost use Rattle.vol_commands.specs.Faults.{ErrorStream, Hears};
 ghost use Rattle.vol_commands.specs.Jobs.{streams};
 ghost use Rattle.vol_commands.specs.Showing.{IsObstacle};
 ghost use Rattle.image_commands.specs.Listing.{IsFound, IsListing, Lists};
+ghost use Rattle.vol_dir.specs.Access.{user};
 
 use crate::printing::finish_bytes;
 use pdp_words::{Image, Sink};
@@ -17,9 +18,6 @@ use vol_judge::examine;
 use vol_layout::{Edition, Geometry};
 use vol_listing::{Listing, Screen};
 use vol_volume::{Bytes, Query, Reply, ask_image};
-
-/// Who asks.
-const USER: Cred = Cred { uid: 0, gid: 0 };
 
 /// Lists what stands at a path of a sound image: the names in a directory, in ascending order of their bytes, each on a line with its
 /// i-number, and where asked for with what its i-node says; then, where asked for, those of each directory below. What is no directory
@@ -101,7 +99,10 @@ fn find(
     ensures fault { IfErr result (λ fault. IsObstacle edition image.now (questions.Stat user path.now) fault) }
 {
     let path = Bytes::from_vec(Vec::from_slice(alloc, path.as_bytes())?);
-    let query = Query::Stat { cred: USER, path };
+    let query = Query::Stat {
+        cred: Cred::ROOT,
+        path,
+    };
     match ask_image(alloc, image, geometry, &query) {
         Ok(Reply::Stat(stat)) => Ok(stat.number),
         Ok(Reply::Bytes(_)) => unreachable!(),

@@ -7,9 +7,6 @@ use vol_dir::{Cred, Refusal};
 use vol_layout::Edition;
 use vol_volume::{Bytes, Call, Done, MkfsFault, MountFault, Query, Reply, Volume, mkfs};
 
-/// The user who may do everything.
-pub const ROOT: Cred = Cred { uid: 0, gid: 0 };
-
 /// The moment of all that is made.
 pub const NOW: u32 = 0x0A0B_0C0D;
 
@@ -119,7 +116,7 @@ pub fn sixth(alloc: Global, found: &mut Found) -> Option<Volume> {
 /// The call that makes a file.
 pub fn create(alloc: Global, path: &[u8]) -> Option<Call> {
     Some(Call::Create {
-        cred: ROOT,
+        cred: Cred::ROOT,
         now: NOW,
         path: bytes_of(alloc, path)?,
         perm: 0o644,
@@ -129,7 +126,7 @@ pub fn create(alloc: Global, path: &[u8]) -> Option<Call> {
 /// The call that writes some bytes from the beginning of a file on.
 pub fn write(alloc: Global, path: &[u8], bytes: &[u8]) -> Option<Call> {
     Some(Call::Write {
-        cred: ROOT,
+        cred: Cred::ROOT,
         now: NOW,
         path: bytes_of(alloc, path)?,
         offset: 0,
@@ -140,7 +137,7 @@ pub fn write(alloc: Global, path: &[u8], bytes: &[u8]) -> Option<Call> {
 /// The query for the first 1,024 bytes of a file.
 pub fn read(alloc: Global, path: &[u8]) -> Option<Query> {
     Some(Query::Read {
-        cred: ROOT,
+        cred: Cred::ROOT,
         path: bytes_of(alloc, path)?,
         offset: 0,
         len: 1024,
@@ -150,7 +147,7 @@ pub fn read(alloc: Global, path: &[u8]) -> Option<Query> {
 /// The query for the names in a directory.
 pub fn list(alloc: Global, path: &[u8]) -> Option<Query> {
     Some(Query::List {
-        cred: ROOT,
+        cred: Cred::ROOT,
         path: bytes_of(alloc, path)?,
     })
 }
@@ -158,7 +155,7 @@ pub fn list(alloc: Global, path: &[u8]) -> Option<Query> {
 /// The query for what a node is.
 pub fn stat(alloc: Global, path: &[u8]) -> Option<Query> {
     Some(Query::Stat {
-        cred: ROOT,
+        cred: Cred::ROOT,
         path: bytes_of(alloc, path)?,
     })
 }

@@ -17,9 +17,6 @@ const MADE: u32 = 0x0A0B_0C0D;
 /// The moment of the calls.
 const LATER: u32 = 0x0102_0304;
 
-/// The user who may do everything.
-const ROOT: Cred = Cred { uid: 0, gid: 0 };
-
 /// Some bytes.
 pub(crate) fn copied(rt: &impl Abort, alloc: Global, bytes: &[u8]) -> Vec<u8> {
     Vec::from_slice(alloc, bytes).expect(rt, "memory for the bytes")
@@ -47,7 +44,7 @@ pub(crate) fn new_volume(rt: &impl Abort, alloc: Global, edition: Edition) -> Vo
 /// A call that makes an empty file.
 pub(crate) fn create(rt: &impl Abort, alloc: Global, path: &[u8]) -> Call {
     Call::Create {
-        cred: ROOT,
+        cred: Cred::ROOT,
         now: LATER,
         path: bytes_of(rt, alloc, path),
         perm: 0o644,
@@ -57,7 +54,7 @@ pub(crate) fn create(rt: &impl Abort, alloc: Global, path: &[u8]) -> Call {
 /// A call that gives a node other permission bits.
 pub(crate) fn chmod(rt: &impl Abort, alloc: Global, path: &[u8], perm: u16) -> Call {
     Call::Chmod {
-        cred: ROOT,
+        cred: Cred::ROOT,
         now: LATER,
         path: bytes_of(rt, alloc, path),
         perm,
@@ -67,7 +64,7 @@ pub(crate) fn chmod(rt: &impl Abort, alloc: Global, path: &[u8], perm: u16) -> C
 /// A call that writes one byte.
 pub(crate) fn write(rt: &impl Abort, alloc: Global, path: &[u8], offset: u32) -> Call {
     Call::Write {
-        cred: ROOT,
+        cred: Cred::ROOT,
         now: LATER,
         path: bytes_of(rt, alloc, path),
         offset,
@@ -78,7 +75,7 @@ pub(crate) fn write(rt: &impl Abort, alloc: Global, path: &[u8], offset: u32) ->
 /// A query for the first bytes of a file, at most 512.
 pub(crate) fn read(rt: &impl Abort, alloc: Global, path: &[u8]) -> Query {
     Query::Read {
-        cred: ROOT,
+        cred: Cred::ROOT,
         path: bytes_of(rt, alloc, path),
         offset: 0,
         len: 512,
@@ -88,7 +85,7 @@ pub(crate) fn read(rt: &impl Abort, alloc: Global, path: &[u8]) -> Query {
 /// A query for the names in a directory.
 pub(crate) fn list(rt: &impl Abort, alloc: Global, path: &[u8]) -> Query {
     Query::List {
-        cred: ROOT,
+        cred: Cred::ROOT,
         path: bytes_of(rt, alloc, path),
     }
 }
@@ -96,7 +93,7 @@ pub(crate) fn list(rt: &impl Abort, alloc: Global, path: &[u8]) -> Query {
 /// A query for what a node is.
 pub(crate) fn stat(rt: &impl Abort, alloc: Global, path: &[u8]) -> Query {
     Query::Stat {
-        cred: ROOT,
+        cred: Cred::ROOT,
         path: bytes_of(rt, alloc, path),
     }
 }

@@ -11,10 +11,11 @@ use Rattle.vol_judge.specs.Sound.{IsSound}
 use Rattle.vol_volume.specs.Answer.{query_refusal, reply_of, refused_or, reply_at, read_bytes}
 use Rattle.vol_volume.specs.Volume.{Mounted, mounted, reads_as}
 use Rattle.vol_commands.proofs.Concluded.{fault_few}
-use Rattle.vol_commands.specs.Faults.{ErrorStream, fault_line, fault_status, no_memory, says, user, IsCause}
+use Rattle.vol_commands.specs.Faults.{ErrorStream, fault_line, fault_status, no_memory, says, IsCause}
 use Rattle.vol_commands.specs.declared.faults.Fault.{Fault}
 use Rattle.vol_dir.specs.declared.refusal.Refusal.{Refusal}
 use Rattle.vol_layout.specs.declared.edition.Edition.{Edition}
+use Rattle.vol_dir.specs.Access.{user}
 use Rattle.vol_volume.specs.declared.queries.Query.TheVariants as queries
 use Rattle.vol_volume.specs.declared.queries.Reply.{Reply}
 use Rattle.vol_volume.specs.declared.queries.Reply.TheVariants as replies

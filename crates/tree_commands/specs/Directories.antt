@@ -3,11 +3,11 @@ use Rattle.std.specs.Prelude.{ℕ, ◌+◌, ◌==◌, ◌&&◌, ◌||◌, Bool, 
 use Rattle.std.specs.List.{flat_map, range_with_len}
 use Rattle.vol_dir.specs.Names.{is_dots}
 use Rattle.vol_dir.specs.Tree.{Tree}
+use Rattle.vol_dir.specs.Access.{user}
 use Rattle.vol_volume.specs.Answer.{answer}
 use Rattle.vol_volume.specs.declared.calls.Call.{Call}
 use Rattle.vol_volume.specs.declared.calls.Call.TheVariants as calls
 use Rattle.vol_volume.specs.declared.queries.Query.TheVariants as queries
-use Rattle.vol_commands.specs.Faults.{user}
 use Rattle.tree_commands.specs.Finding.{found_by, last_name}
 use Rattle.tree_commands.specs.declared.finding.Found.{Found}
 use Rattle.tree_commands.specs.declared.finding.Found.TheVariants.{Directory, File, Nothing}

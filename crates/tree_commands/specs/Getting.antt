@@ -4,9 +4,10 @@ use Rattle.vol_dir.specs.Tree.{Tree}
 use Rattle.vol_judge.specs.Sound.{IsSound}
 use Rattle.vol_volume.specs.Answer.{answer}
 use Rattle.vol_volume.specs.Volume.{reads_as}
-use Rattle.vol_commands.specs.Faults.{fault_status, fault_line, no_memory, refusal_status, user, IsCause}
+use Rattle.vol_commands.specs.Faults.{fault_status, fault_line, no_memory, refusal_status, IsCause}
 use Rattle.vol_dir.specs.declared.refusal.Refusal.{Refusal}
 use Rattle.vol_layout.specs.declared.edition.Edition.{Edition}
+use Rattle.vol_dir.specs.Access.{user}
 use Rattle.vol_volume.specs.declared.queries.Query.TheVariants as queries
 use Rattle.vol_volume.specs.declared.queries.Reply.{Reply}
 use Rattle.vol_volume.specs.declared.queries.Reply.TheVariants as replies

@@ -9,9 +9,9 @@ use crate::finding::{Found, find, last_name};
 use crate::making::{make_calls, push};
 use std::alloc::{AllocError, Global};
 use vol_commands::answer::conclude;
-use vol_commands::mounting::{USER, copy, mount};
+use vol_commands::mounting::{copy, mount};
 use vol_commands::{Answer, Fault};
-use vol_dir::is_dots;
+use vol_dir::{Cred, is_dots};
 use vol_layout::Edition;
 use vol_volume::{Call, Volume};
 
@@ -122,7 +122,7 @@ fn push_mkdir(alloc: Global, path: &[u8], now: u32, calls: &mut Vec<Call>) -> Re
     ensures { OnOk result (calls.new.items ≡ calls.old.items ++ mkdir_call now path.now ∷ []) }
 {
     let call = Call::Mkdir {
-        cred: USER,
+        cred: Cred::ROOT,
         now,
         path: copy(alloc, path)?,
         perm: PERMISSIONS,

@@ -3,12 +3,12 @@ ghost use Rattle.std.specs.Prelude.{◌≡◌, IfOk};
 ghost use Rattle.vol_volume.specs.Answer.{answer};
 ghost use Rattle.vol_volume.specs.Volume.{reads_as};
 ghost use Rattle.vol_volume.specs.declared.queries.Query.TheVariants as questions;
-ghost use Rattle.vol_commands.specs.Faults.{user};
 ghost use Rattle.tree_commands.specs.Finding.{found_kind, found_by, last_name};
+ghost use Rattle.vol_dir.specs.Access.{user};
 
 use std::alloc::{AllocError, Global};
-use vol_commands::mounting::{USER, copy};
-use vol_dir::split_component;
+use vol_commands::mounting::copy;
+use vol_dir::{Cred, split_component};
 use vol_layout::Kind;
 use vol_volume::{Query, Reply, Volume};
 
@@ -28,7 +28,7 @@ pub(crate) fn find(alloc: Global, volume: &Volume, path: &[u8]) -> Result<Found,
     ensures { IfOk result (λ found. found ≡ found_by (answer (reads_as volume.now.edition volume.now.image).tree (questions.Stat user path.now))) }
 {
     let query = Query::Stat {
-        cred: USER,
+        cred: Cred::ROOT,
         path: copy(alloc, path)?,
     };
     match volume.ask(alloc, &query) {

@@ -12,9 +12,9 @@ use pdp_words::Sink;
 use std::alloc::{AllocError, Global};
 use vol_commands::Fault;
 use vol_commands::answer::tell;
-use vol_commands::mounting::{USER, copy, mount};
+use vol_commands::mounting::{copy, mount};
 use vol_commands::status::DONE;
-use vol_dir::Refusal;
+use vol_dir::{Cred, Refusal};
 use vol_layout::Edition;
 use vol_volume::{Query, Reply, Volume};
 
@@ -143,7 +143,7 @@ fn read_body<'a>(alloc: Global, volume: &Volume, path: &'a str) -> Result<Vec<u8
         ⊎ ((refusal : Refusal) × (fault ≡ faults.File refusal path.entry) × (body_answer (reads_as volume.now.edition volume.now.image).tree path.entry.now ≡ Err refusal))) }
 {
     let query = Query::Read {
-        cred: USER,
+        cred: Cred::ROOT,
         path: copy(alloc, path.as_bytes())?,
         offset: 0,
         len: u32::MAX,

@@ -4,17 +4,19 @@ ghost use Rattle.vol_volume.specs.Answer.{answer};
 ghost use Rattle.vol_volume.specs.Volume.{reads_as};
 ghost use Rattle.vol_volume.specs.declared.queries.Query.TheVariants as questions;
 ghost use Rattle.vol_commands.specs.Changing.{Makes, IsReason, ChangesVolume};
-ghost use Rattle.vol_commands.specs.Faults.{says, user, ErrorStream, Hears};
+ghost use Rattle.vol_commands.specs.Faults.{says, ErrorStream, Hears};
 ghost use Rattle.vol_import.specs.Plan.{below};
 ghost use Rattle.tree_commands.specs.Finding.{found_by};
 ghost use Rattle.tree_commands.specs.Moving.{target_of, move_calls};
+ghost use Rattle.vol_dir.specs.Access.{user};
 
 use crate::finding::{Found, find, last_name};
 use crate::making::{make_calls, push};
 use std::alloc::{AllocError, Global};
 use vol_commands::answer::conclude;
-use vol_commands::mounting::{USER, copy, mount};
+use vol_commands::mounting::{copy, mount};
 use vol_commands::{Answer, Fault};
+use vol_dir::Cred;
 use vol_layout::Edition;
 use vol_volume::{Bytes, Call, Volume};
 
@@ -64,13 +66,13 @@ fn move_calls(
     ensures { IfOk result (λ calls. calls.items ≡ move_calls (reads_as volume.now.edition volume.now.image).tree now from.now to.now) }
 {
     let link = Call::Link {
-        cred: USER,
+        cred: Cred::ROOT,
         now,
         source: copy(alloc, from)?,
         target: target_of(alloc, volume, from, to)?,
     };
     let unlink = Call::Unlink {
-        cred: USER,
+        cred: Cred::ROOT,
         now,
         path: copy(alloc, from)?,
     };

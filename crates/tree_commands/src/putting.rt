@@ -7,9 +7,10 @@ ghost use Rattle.vol_volume.specs.declared.queries.Query.TheVariants as question
 ghost use Rattle.vol_import.specs.Making.{Imports, IsReason, told};
 ghost use Rattle.vol_import.specs.Plan.{Tells};
 ghost use Rattle.vol_commands.specs.Changing.{emptying_by};
-ghost use Rattle.vol_commands.specs.Faults.{heard, says, user, ErrorStream, Hears};
+ghost use Rattle.vol_commands.specs.Faults.{heard, says, ErrorStream, Hears};
 ghost use Rattle.tree_commands.specs.Importing.{ImportsArchive};
 ghost use Rattle.tree_commands.specs.Putting.{calls_to_put, file_calls, onto, put_onto};
+ghost use Rattle.vol_dir.specs.Access.{user};
 
 use crate::importing::conclude;
 use crate::making::push;
@@ -18,8 +19,8 @@ use pdp_words::Sink;
 use std::alloc::{AllocError, Global};
 use vol_commands::Answer;
 use vol_commands::answer::tell;
-use vol_commands::mounting::{USER, copy};
-use vol_dir::Refusal;
+use vol_commands::mounting::copy;
+use vol_dir::{Cred, Refusal};
 use vol_import::making::{make, mount, unplanned};
 use vol_import::{ImportFault, MemberFault, PlanFault};
 use vol_layout::Edition;
@@ -155,7 +156,7 @@ fn push_calls(
     let path = name_in(alloc, directory, file.name.as_bytes())?;
     let empty = emptying_call(alloc, volume, path.as_slice(), now)?;
     let write = Call::Write {
-        cred: USER,
+        cred: Cred::ROOT,
         now,
         path,
         offset: 0,
@@ -170,19 +171,19 @@ fn emptying_call(alloc: Global, volume: &Volume, path: &[u8], now: u32) -> Resul
     ensures { IfOk result (λ call. call ≡ emptying_by (answer (reads_as volume.now.edition volume.now.image).tree (questions.Stat user path.now)) now path.now) }
 {
     let query = Query::Stat {
-        cred: USER,
+        cred: Cred::ROOT,
         path: copy(alloc, path)?,
     };
     let path = copy(alloc, path)?;
     match volume.ask(alloc, &query) {
         Err(Refusal::NoEntry) => Ok(Call::Create {
-            cred: USER,
+            cred: Cred::ROOT,
             now,
             path,
             perm: PERMISSIONS,
         }),
         _ => Ok(Call::Truncate {
-            cred: USER,
+            cred: Cred::ROOT,
             now,
             path,
             length: 0,

@@ -16,7 +16,7 @@ use Rattle.vol_dir.specs.Walk.{components, and_then, walk_from}
 use Rattle.vol_archive.proofs.PathNames.{walk_from-append, components-nil}
 use Rattle.vol_dir.proofs.WalkLaws.{search-directory}
 use Rattle.vol_dir.specs.declared.refusal.Refusal.TheVariants as refusals
-use Rattle.vol_archive.specs.Exporting.{user}
+use Rattle.vol_dir.specs.Access.{user}
 use Rattle.vol_archive.specs.Laws.{is_kept, MembersAreOfTree}
 use Rattle.vol_archive.specs.Walking.{Walks, IsWalk, met, below, entries_below, role_of, node_role, file_role, role_after, link_role, has_room, first_met}
 use Rattle.vol_archive.specs.declared.found.Found.{Found}

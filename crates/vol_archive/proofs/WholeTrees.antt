@@ -18,7 +18,7 @@ use Rattle.vol_dir.specs.Tree.{tree, is_number}
 use Rattle.vol_dir.specs.Walk.{search, components, and_then, walk_from}
 use Rattle.vol_dir.proofs.WalkLaws.{search-outside, search-directory, search-other}
 use Rattle.vol_dir.specs.declared.refusal.Refusal.TheVariants as refusals
-use Rattle.vol_archive.specs.Exporting.{user}
+use Rattle.vol_dir.specs.Access.{user}
 use Rattle.vol_archive.specs.Laws.{is_kept, members_of, HasMetAllOf, MembersAreTheTree}
 use Rattle.vol_archive.specs.Walking.{Walks, is_plain, path_below, first_met}
 use Rattle.vol_archive.specs.declared.found.Found.{Found}

@@ -10,7 +10,7 @@ use Rattle.vol_dir.specs.Tree.{tree}
 use Rattle.vol_dir.specs.Walk.{components, walk_from}
 use Rattle.vol_judge.specs.Directories.{IsTree}
 use Rattle.vol_layout.specs.declared.geometry.Geometry.{Geometry}
-use Rattle.vol_archive.specs.Exporting.{user}
+use Rattle.vol_dir.specs.Access.{user}
 use Rattle.vol_archive.specs.Walking.{path_below, IsWalk}
 use Rattle.vol_archive.specs.declared.found.Found.{Found}
 use Rattle.vol_archive.specs.declared.found.Role.{Role}

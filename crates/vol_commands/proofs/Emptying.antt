@@ -1,7 +1,7 @@
 -- A file is missing exactly where the call that makes it empty is refused so.
 use Rattle.std.proofs.Common.{◌≡◌, ◌≢◌, ℕ, Bool, true, false, not, nat_lt, if◌then◌else◌, List, [], ◌∷◌, Option, Some, None, Result, Ok, Err, IfErr, OnOk, refl, sym, subst}
 use Rattle.vol_change.specs.Nodes.{node_at}
-use Rattle.vol_dir.specs.Access.{grants, may_write}
+use Rattle.vol_dir.specs.Access.{grants, may_write, user}
 use Rattle.vol_dir.specs.Tree.{State}
 use Rattle.vol_dir.specs.Walk.{is_directory, walk}
 use Rattle.vol_volume.specs.Answer.{answer, query_refusal, refused_or, reply_at, reply_of}
@@ -9,7 +9,6 @@ use Rattle.vol_volume.specs.Journal.{Refuses}
 use Rattle.vol_volume.specs.Verdict.{first_of, is_device, of_node, verdict}
 use Rattle.vol_volume.specs.Volume.{Mounted, Accepts, reads_as}
 use Rattle.vol_commands.specs.Changing.{emptying_by}
-use Rattle.vol_commands.specs.Faults.{user}
 use Rattle.vol_dir.specs.declared.cred.Cred.{Cred}
 use Rattle.vol_dir.specs.declared.refusal.Refusal.{Refusal}
 use Rattle.vol_dir.specs.declared.refusal.Refusal.TheVariants as refusals

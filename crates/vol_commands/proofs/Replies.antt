@@ -14,7 +14,6 @@ use Rattle.vol_change.specs.Edits.{body_of}
 use Rattle.vol_change.specs.Nodes.{no_node, node_at}
 use Rattle.vol_volume.specs.Answer.{refused_or, reply_at, reply_of, query_refusal, read_bytes}
 use Rattle.vol_volume.specs.Volume.{reads_as}
-use Rattle.vol_commands.specs.Faults.{user}
 use Rattle.vol_commands.specs.Laws.{PrintsWhole}
 use Rattle.vol_commands.specs.Showing.{text_of}
 use Rattle.vol_dir.specs.declared.refusal.Refusal.{Refusal}
@@ -24,6 +23,7 @@ use Rattle.vol_layout.specs.declared.geometry.Geometry.{Geometry}
 use Rattle.vol_layout.specs.declared.i_node.Inode.{Inode}
 use Rattle.vol_layout.specs.declared.mode.Kind.{Kind}
 use Rattle.vol_layout.specs.declared.mode.Kind.TheVariants as kinds
+use Rattle.vol_dir.specs.Access.{user}
 use Rattle.vol_volume.specs.declared.queries.Query.TheVariants as queries
 use Rattle.vol_volume.specs.declared.queries.Reply.{Reply}
 use Rattle.vol_volume.specs.declared.queries.Reply.TheVariants as replies

@@ -19,10 +19,6 @@ use Rattle.vol_commands.specs.declared.answer.Answer.{Answer}
 use Rattle.vol_commands.specs.declared.faults.Fault.{Fault}
 use Rattle.vol_commands.specs.declared.faults.Fault.TheVariants as faults
 
--- who the commands act as: user 0, group 0 (this project)
-abbrev pub user : Cred
-user = record { uid = 0; gid = 0 }
-
 -- the status of a refusal: 1, or 4 for memory (this project)
 abbrev pub refusal_status : Refusal → ℕ
 refusal_status refusals.NoMemory = 4

@@ -3,10 +3,11 @@ use Rattle.std.specs.Prelude.{◌≡◌, ℕ, List, [], ◌∷◌, Option, Bool}
 use Rattle.std.specs.Io.KnownBytes.{Keeps}
 use Rattle.vol_volume.specs.Volume.{reads_as}
 use Rattle.vol_commands.specs.Changing.{ChangesVolume, put_calls}
-use Rattle.vol_commands.specs.Faults.{ErrorStream, says, user}
+use Rattle.vol_commands.specs.Faults.{ErrorStream, says}
 use Rattle.vol_commands.specs.Salvaging.{SalvagesVolume}
 use Rattle.vol_commands.specs.Showing.{Shows, Prints}
 use Rattle.vol_layout.specs.declared.edition.Edition.{Edition}
+use Rattle.vol_dir.specs.Access.{user}
 use Rattle.vol_volume.specs.declared.calls.Call.{Call}
 use Rattle.vol_volume.specs.declared.calls.Call.TheVariants as calls
 use Rattle.vol_volume.specs.declared.queries.Query.{Query}

@@ -4,9 +4,9 @@ use Rattle.vol_dir.specs.Walk.{walk}
 use Rattle.vol_change.specs.Edits.{body_of}
 use Rattle.vol_change.specs.Nodes.{node_at}
 use Rattle.vol_volume.specs.Volume.{reads_as}
-use Rattle.vol_commands.specs.Faults.{user}
 use Rattle.vol_commands.specs.Showing.{answer_of, text_of}
 use Rattle.vol_layout.specs.declared.edition.Edition.{Edition}
+use Rattle.vol_dir.specs.Access.{user}
 use Rattle.vol_volume.specs.declared.queries.Query.TheVariants as queries
 use Rattle.vol_volume.specs.declared.queries.Reply.{Reply}
 

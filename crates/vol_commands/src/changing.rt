@@ -10,11 +10,12 @@ ghost use Rattle.vol_dir.specs.declared.refusal.Refusal.{Refusal};
 ghost use Rattle.vol_volume.specs.declared.calls.Call.TheVariants as asked;
 ghost use Rattle.vol_volume.specs.declared.queries.Query.TheVariants as questions;
 ghost use Rattle.vol_commands.specs.Changing.{Makes, IsReason, ChangesVolume, put_calls, emptying_by};
-ghost use Rattle.vol_commands.specs.Faults.{user, says, ErrorStream, Hears};
+ghost use Rattle.vol_commands.specs.Faults.{says, ErrorStream, Hears};
+ghost use Rattle.vol_dir.specs.Access.{user};
 
 use crate::answer::{Answer, conclude};
 use crate::faults::Fault;
-use crate::mounting::{USER, copy, mount};
+use crate::mounting::{copy, mount};
 use std::alloc::{AllocError, Global};
 use vol_dir::{Cred, Refusal};
 use vol_layout::Edition;
@@ -96,7 +97,7 @@ fn fill(
     let emptied = copy(alloc, path)?;
     empty(alloc, volume, emptied, now)?;
     let write = Call::Write {
-        cred: USER,
+        cred: Cred::ROOT,
         now,
         path: target,
         offset: 0,
@@ -113,7 +114,7 @@ fn empty(alloc: Global, volume: &mut Volume, path: Bytes, now: u32) -> Result<()
         × Refuses (reads_as volume.old.edition volume.old.image)
         (emptying_by (answer (reads_as volume.old.edition volume.old.image).tree (questions.Stat user path)) now path) refusal) }
 {
-    let cred = USER;
+    let cred = Cred::ROOT;
     let truncate = Call::Truncate {
         cred,
         now,
@@ -155,7 +156,7 @@ pub(crate) fn unlink_call(alloc: Global, path: &str, now: u32) -> Result<Call, A
     ensures { IfOk result (λ call. call ≡ asked.Unlink user now path.now) }
 {
     Ok(Call::Unlink {
-        cred: USER,
+        cred: Cred::ROOT,
         now,
         path: copy(alloc, path.as_bytes())?,
     })
@@ -166,7 +167,7 @@ pub(crate) fn rmdir_call(alloc: Global, path: &str, now: u32) -> Result<Call, Al
     ensures { IfOk result (λ call. call ≡ asked.Rmdir user now path.now) }
 {
     Ok(Call::Rmdir {
-        cred: USER,
+        cred: Cred::ROOT,
         now,
         path: copy(alloc, path.as_bytes())?,
     })
@@ -177,7 +178,7 @@ pub(crate) fn mkdir_call(alloc: Global, path: &str, now: u32) -> Result<Call, Al
     ensures { IfOk result (λ call. call ≡ asked.Mkdir user now path.now 0o755) }
 {
     Ok(Call::Mkdir {
-        cred: USER,
+        cred: Cred::ROOT,
         now,
         path: copy(alloc, path.as_bytes())?,
         perm: DIRECTORY_PERMISSIONS,
@@ -189,7 +190,7 @@ pub(crate) fn link_call(alloc: Global, from: &str, to: &str, now: u32) -> Result
     ensures { IfOk result (λ call. call ≡ asked.Link user now from.now to.now) }
 {
     Ok(Call::Link {
-        cred: USER,
+        cred: Cred::ROOT,
         now,
         source: copy(alloc, from.as_bytes())?,
         target: copy(alloc, to.as_bytes())?,
@@ -201,7 +202,7 @@ pub(crate) fn chmod_call(alloc: Global, path: &str, perm: u16, now: u32) -> Resu
     ensures { IfOk result (λ call. call ≡ asked.Chmod user now path.now perm) }
 {
     Ok(Call::Chmod {
-        cred: USER,
+        cred: Cred::ROOT,
         now,
         path: copy(alloc, path.as_bytes())?,
         perm,
@@ -218,7 +219,7 @@ pub(crate) fn chown_call(
     ensures { IfOk result (λ call. call ≡ asked.Chown user now path.now owner.uid owner.gid) }
 {
     Ok(Call::Chown {
-        cred: USER,
+        cred: Cred::ROOT,
         now,
         path: copy(alloc, path.as_bytes())?,
         uid: owner.uid,

@@ -7,12 +7,8 @@ ghost use Rattle.vol_commands.specs.Changing.{IsReason};
 
 use crate::faults::Fault;
 use std::alloc::{AllocError, Global};
-use vol_dir::Cred;
 use vol_layout::Edition;
 use vol_volume::{Bytes, Volume};
-
-/// Who the commands act as: user 0, who passes every test.
-pub const USER: Cred = Cred { uid: 0, gid: 0 };
 
 /// Mounts the volume in some bytes.
 pub fn mount(alloc: Global, edition: Edition, image: Vec<u8>) -> Result<Volume, Fault>

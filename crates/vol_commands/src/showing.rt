@@ -1,15 +1,17 @@
 //! The command that shows a file of a volume: it asks one query of the volume in some bytes, as user 0, and prints the reply.
 ghost use Rattle.std.specs.Prelude.{◌≡◌};
 ghost use Rattle.vol_volume.specs.declared.queries.Query.TheVariants as questions;
-ghost use Rattle.vol_commands.specs.Faults.{user, ErrorStream, Hears};
+ghost use Rattle.vol_commands.specs.Faults.{ErrorStream, Hears};
 ghost use Rattle.vol_commands.specs.Jobs.{Asks, streams};
 ghost use Rattle.vol_commands.specs.Showing.{Prints, text_of};
+ghost use Rattle.vol_dir.specs.Access.{user};
 
 use crate::answer::{Answer, report};
 use crate::faults::Fault;
-use crate::mounting::{USER, copy};
+use crate::mounting::copy;
 use pdp_words::{Image, Sink, write_all};
 use std::alloc::Global;
+use vol_dir::Cred;
 use vol_layout::Edition;
 use vol_volume::{Query, Reply, ask};
 
@@ -42,7 +44,7 @@ fn read<O: Sink>(
 {
     let path = copy(alloc, path.as_bytes())?;
     let query = Query::Read {
-        cred: USER,
+        cred: Cred::ROOT,
         path,
         offset: 0,
         len: u32::MAX,

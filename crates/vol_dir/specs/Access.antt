@@ -8,6 +8,10 @@ use Rattle.vol_dir.specs.declared.access.Access.{Access}
 use Rattle.vol_dir.specs.declared.access.Access.TheVariants.{Read, Write, Execute}
 use Rattle.vol_dir.specs.declared.cred.Cred.{Cred}
 
+-- user 0 of group 0, who passes every test of permissions (Lions, suser)
+abbrev pub user : Cred
+user = record { uid = 0; gid = 0 }
+
 -- the bit of a triple of permissions that lets read (manual section 5, file system)
 abbrev pub may_read : ℕ
 may_read = 4

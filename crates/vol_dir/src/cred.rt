@@ -8,3 +8,8 @@ pub struct Cred {
     /// The group number.
     pub gid: u16,
 }
+
+impl Cred {
+    /// User 0 of group 0, who passes every test of permissions.
+    pub const ROOT: Cred = Cred { uid: 0, gid: 0 };
+}

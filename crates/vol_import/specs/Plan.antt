@@ -17,6 +17,7 @@ use Rattle.vol_dir.specs.declared.refusal.Refusal.{Refusal}
 use Rattle.vol_layout.specs.declared.edition.Edition.{Edition}
 use Rattle.vol_layout.specs.declared.mode.Kind.{Kind}
 use Rattle.vol_layout.specs.declared.mode.Kind.TheVariants as kinds
+use Rattle.vol_dir.specs.Access.{user}
 use Rattle.vol_volume.specs.Answer.{answer}
 use Rattle.vol_volume.specs.Ids.{is_bad_id}
 use Rattle.vol_volume.specs.declared.calls.Call.{Call}
@@ -32,10 +33,6 @@ use Rattle.vol_import.specs.declared.drafting.Draft.{Draft}
 use Rattle.vol_import.specs.declared.planning.PlanFault.{PlanFault}
 use Rattle.vol_import.specs.declared.planning.PlanFault.TheVariants as plans
 use Rattle.vol_import.specs.declared.reading.Member.{Member}
-
--- who makes the calls: user 0, group 0 (this project)
-abbrev pub user : Cred
-user = record { uid = 0; gid = 0 }
 
 -- what comes after an Ok; a fault ends it (this project)
 abbrev pub and_then : {X Y : Type 0} → Result X MemberFault → (X → Result Y MemberFault) → Result Y MemberFault

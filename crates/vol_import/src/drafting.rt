@@ -3,7 +3,8 @@ ghost use Rattle.std.specs.Prelude.{◌≡◌, ◌++◌, ◌∷◌, [], IfOk, On
 ghost use Rattle.vol_volume.specs.Answer.{answer};
 ghost use Rattle.vol_volume.specs.Volume.{reads_as};
 ghost use Rattle.vol_volume.specs.declared.queries.Query.TheVariants as questions;
-ghost use Rattle.vol_import.specs.Plan.{user, is_directory_kind, is_directory, with_path, is_missing, way_call, with_way_directory, is_step, steps_of, joined, with_way, with_calls, drafted};
+ghost use Rattle.vol_import.specs.Plan.{is_directory_kind, is_directory, with_path, is_missing, way_call, with_way_directory, is_step, steps_of, joined, with_way, with_calls, drafted};
+ghost use Rattle.vol_dir.specs.Access.{user};
 
 use crate::step_path::StepPath;
 use std::alloc::{AllocError, Global};
@@ -11,9 +12,6 @@ use std::collections::BTreeSet;
 use vol_dir::{Cred, split_component};
 use vol_layout::Kind;
 use vol_volume::{Bytes, Call, Query, Reply, Volume};
-
-/// Who makes the calls: user 0, who passes every test.
-pub(crate) const USER: Cred = Cred { uid: 0, gid: 0 };
 
 /// Permissions of a directory on the way to a member.
 const PERMISSIONS: u16 = 0o755;
@@ -88,7 +86,13 @@ fn behind(alloc: Global, base: &[u8], path: &[u8]) -> Result<Bytes, AllocError>
 fn is_there(alloc: Global, volume: &Volume, path: Bytes) -> bool
     ensures { result ≡ is_directory (answer (reads_as volume.now.edition volume.now.image).tree (questions.Stat user path)) }
 {
-    match volume.ask(alloc, &Query::Stat { cred: USER, path }) {
+    match volume.ask(
+        alloc,
+        &Query::Stat {
+            cred: Cred::ROOT,
+            path,
+        },
+    ) {
         Ok(Reply::Stat(stat)) => is_directory_kind(stat.kind),
         Ok(_) => false,
         Err(_) => false,
@@ -179,7 +183,7 @@ fn push_way_directory(
 {
     if is_missing(alloc, volume, base, path, &mut draft.known)? {
         draft.push(Call::Mkdir {
-            cred: USER,
+            cred: Cred::ROOT,
             now,
             path: behind(alloc, base, path)?,
             perm: PERMISSIONS,

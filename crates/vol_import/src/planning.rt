@@ -4,7 +4,7 @@ ghost use Rattle.vol_volume.specs.Volume.{reads_as};
 ghost use Rattle.vol_import.specs.Plan.{below, check, permissions_of, moment_of, owner_calls, write_calls, file_calls, directory_calls, way_of, steps_of, with_way, with_calls, with_made, drafted, onto, plan, Tells, no_memory};
 
 use crate::checking::{Made, MemberFault, check};
-use crate::drafting::{Draft, USER, is_missing, joined, push_way, steps_of};
+use crate::drafting::{Draft, is_missing, joined, push_way, steps_of};
 use crate::reading::Member;
 use std::alloc::{AllocError, Global};
 use ustar::ReadHeader;
@@ -124,7 +124,7 @@ fn push_made(
             Ok(())
         }
         Made::Link => draft.push(Call::Link {
-            cred: USER,
+            cred: Cred::ROOT,
             now: moment,
             source: below(alloc, base, member.link.as_slice())?,
             target: path,
@@ -169,7 +169,7 @@ fn push_owner(moment: u32, path: Bytes, owner: Cred, draft: &mut Draft) -> Resul
         return Ok(());
     }
     draft.push(Call::Chown {
-        cred: USER,
+        cred: Cred::ROOT,
         now: moment,
         path,
         uid: owner.uid,
@@ -191,7 +191,7 @@ fn push_write(
         return Ok(());
     }
     draft.push(Call::Write {
-        cred: USER,
+        cred: Cred::ROOT,
         now: moment,
         path: Bytes::from_slice(alloc, path)?,
         offset: 0,
@@ -212,7 +212,7 @@ fn push_file(
     ensures { OnOk result (drafted draft.new ≡ with_calls (drafted draft.old) (file_calls moment path perm owner content)) }
 {
     draft.push(Call::Create {
-        cred: USER,
+        cred: Cred::ROOT,
         now: moment,
         path: Bytes::from_slice(alloc, path.as_slice())?,
         perm,
@@ -233,7 +233,7 @@ fn push_directory(
     ensures { OnOk result (drafted draft.new ≡ with_calls (drafted draft.old) (directory_calls moment path perm owner)) }
 {
     draft.push(Call::Mkdir {
-        cred: USER,
+        cred: Cred::ROOT,
         now: moment,
         path: Bytes::from_slice(alloc, path.as_slice())?,
         perm,

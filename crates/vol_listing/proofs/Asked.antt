@@ -5,11 +5,12 @@ use Rattle.std.specs.Prelude.{OnOk}
 use Rattle.vol_dir.specs.Tree.{Tree}
 use Rattle.vol_dir.specs.declared.refusal.Refusal.{Refusal}
 use Rattle.vol_dir.specs.declared.refusal.Refusal.TheVariants as refusals
+use Rattle.vol_dir.specs.Access.{user}
 use Rattle.vol_volume.specs.Answer.{answer, Answers}
 use Rattle.vol_volume.specs.declared.queries.Query.{Query}
 use Rattle.vol_volume.specs.declared.queries.Query.TheVariants as queries
 use Rattle.vol_volume.specs.declared.queries.Reply.{Reply}
-use Rattle.vol_listing.specs.Places.{names_in, names_under, user}
+use Rattle.vol_listing.specs.Places.{names_in, names_under}
 
 -- what is no want of memory is the answer
 answer_is : (tree : Tree) (query : Query) (result : Result Reply Refusal) → Answers tree query result → result ≢ Err refusals.NoMemory → result ≡ answer tree query

@@ -5,13 +5,14 @@ use Rattle.vol_dir.specs.Tree.{Tree}
 use Rattle.vol_dir.specs.Walk.{walk}
 use Rattle.vol_change.specs.Nodes.{names_at}
 use Rattle.vol_dir.specs.declared.refusal.Refusal.{Refusal}
+use Rattle.vol_dir.specs.Access.{user}
 use Rattle.vol_volume.specs.Answer.{reply_of, reply_at, refused_or, query_refusal}
 use Rattle.vol_volume.specs.declared.queries.Query.TheVariants as queries
 use Rattle.vol_volume.specs.declared.queries.Reply.{Reply}
 use Rattle.vol_volume.specs.declared.queries.Reply.TheVariants as replies
 use Rattle.vol_listing.specs.Laws.{ListsNames}
 use Rattle.vol_listing.specs.Lines.{names_text, line_of}
-use Rattle.vol_listing.specs.Places.{names_in, names_under, user}
+use Rattle.vol_listing.specs.Places.{names_in, names_under}
 
 -- a reply to List has the names of the directory that the walk leads to
 names_replied : (tree : Tree) (refusal : Option Refusal) (walked : Result ℕ Refusal) (reply : Reply)

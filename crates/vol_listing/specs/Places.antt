@@ -10,6 +10,7 @@ use Rattle.vol_dir.specs.Walk.{is_directory}
 use Rattle.vol_change.specs.Nodes.{node_at}
 use Rattle.vol_dir.specs.declared.cred.Cred.{Cred}
 use Rattle.vol_dir.specs.declared.refusal.Refusal.{Refusal}
+use Rattle.vol_dir.specs.Access.{user}
 use Rattle.vol_volume.specs.Answer.{answer}
 use Rattle.vol_volume.specs.declared.queries.Query.TheVariants as queries
 use Rattle.vol_volume.specs.declared.queries.Reply.{Reply}
@@ -21,10 +22,6 @@ pub record IsVolume (geometry : Geometry) (image : List ℕ) : Type 0 where
   pub sound : IsSound geometry.edition image
   pub sizes : geometry ≡ geometry_of geometry.edition image
   pub fits : Fits geometry image
-
--- who a listing's queries are made as: user 0, group 0 (this project)
-abbrev pub user : Cred
-user = record { uid = 0; gid = 0 }
 
 -- the names of a reply; there are none where a query was refused, or another one was asked (this project)
 abbrev pub names_in : Result Reply Refusal → Names

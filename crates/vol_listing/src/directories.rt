@@ -14,9 +14,6 @@ use vol_layout::i_list::kind;
 use vol_layout::{Geometry, Kind};
 use vol_volume::{Bytes, Query, Reply, ask_image};
 
-/// Who asks.
-pub(crate) const USER: Cred = Cred { uid: 0, gid: 0 };
-
 /// Whether node `i` is a directory.
 #[tactic(auto, using(crate::proofs::NodesRead::directory_is, crate::proofs::NodesRead::directory_not, crate::proofs::NodesRead::directory_outside))]
 pub(crate) fn is_directory(image: &Image, geometry: &Geometry, i: u16) -> bool
@@ -40,7 +37,10 @@ pub(crate) fn names(
     ensures { IfOk result (λ names. names.items ≡ names_under (tree geometry.now image.now) path.now) }
 {
     let path = Bytes::from_vec(Vec::from_slice(alloc, path)?);
-    let query = Query::List { cred: USER, path };
+    let query = Query::List {
+        cred: Cred::ROOT,
+        path,
+    };
     let answer = ask_image(alloc, image, geometry, &query);
     names_in(alloc, answer)
 }

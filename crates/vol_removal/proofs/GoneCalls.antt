@@ -17,13 +17,13 @@ use Rattle.vol_volume.specs.Ids.{is_bad_id}
 use Rattle.vol_volume.specs.Step.{on_parent, changed_by, step}
 use Rattle.vol_volume.specs.Verdict.{verdict, then_others, of_node, of_parent, unlink_tests, rmdir_tests}
 use Rattle.vol_volume.specs.Volume.{Mounted, Accepts}
-use Rattle.vol_import.specs.Plan.{user}
 use Rattle.vol_removal.specs.Removal.{call_of}
 use Rattle.vol_removal.proofs.GoneNames.{walk_gone}
 use Rattle.vol_removal.proofs.GoneTrees.{Stays, without, loses, stays_unlink, stays_rmdir, names_lead, root_there}
 use Rattle.vol_dir.specs.declared.refusal.Refusal.{Refusal}
 use Rattle.vol_dir.specs.declared.refusal.Refusal.TheVariants as refusals
 use Rattle.vol_layout.specs.declared.geometry.Geometry.{Geometry}
+use Rattle.vol_dir.specs.Access.{user}
 use Rattle.vol_volume.specs.declared.calls.Call.TheVariants.{Unlink, Rmdir}
 use Rattle.vol_volume.specs.declared.calls.Done.{Done}
 use Rattle.vol_volume.specs.declared.queries.Query.TheVariants as queries

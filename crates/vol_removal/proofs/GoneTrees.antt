@@ -18,9 +18,9 @@ use Rattle.vol_dir.specs.Names.{Names, get, names_of, remove}
 use Rattle.vol_dir.specs.Tree.{Content, Body, Directory, Device, Node, Tree, State, tree, node_with, node_of, content_of, is_number}
 use Rattle.vol_dir.specs.Walk.{root, map_of, search, search_node}
 use Rattle.vol_dir.proofs.WalkLaws.{found_in_use, IsInUse-root, search-outside, search-directory, search-other}
-use Rattle.vol_import.specs.Plan.{user}
 use Rattle.vol_dir.specs.declared.refusal.Refusal.{Refusal}
 use Rattle.vol_dir.specs.declared.refusal.Refusal.TheVariants as refusals
+use Rattle.vol_dir.specs.Access.{user}
 use Rattle.vol_change.specs.Edits.{set_at, change_names, modified, stamped, at_time, remove_entry, drop_link, release, remove_node}
 use Rattle.vol_change.specs.Effects.{after_unlink, after_rmdir}
 use Rattle.vol_change.specs.Nodes.{node_at, number_of_name}

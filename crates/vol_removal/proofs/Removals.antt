@@ -7,7 +7,6 @@ use Rattle.vol_volume.specs.Answer.{answer}
 use Rattle.vol_volume.specs.Faults.{IsFaultOf}
 use Rattle.vol_volume.specs.Volume.{Mounted, IsConsistent, Accepts, mounted, reads_as}
 use Rattle.vol_import.specs.Making.{AreMade}
-use Rattle.vol_import.specs.Plan.{user}
 use Rattle.vol_import.proofs.MadeCalls.{imported}
 use Rattle.vol_removal.specs.Removal.{IsRemoval, IsNotFound, names_of, call_of}
 use Rattle.vol_removal.specs.Removing.{Removes, IsReason, IsUnmounted, IsStop, unmounted}
@@ -15,6 +14,7 @@ use Rattle.vol_removal.proofs.GoneCalls.{call_gone}
 use Rattle.vol_removal.proofs.TakenPaths.{takes_last}
 use Rattle.vol_dir.specs.declared.refusal.Refusal.TheVariants as refusals
 use Rattle.vol_layout.specs.declared.edition.Edition.{Edition}
+use Rattle.vol_dir.specs.Access.{user}
 use Rattle.vol_volume.specs.declared.calls.Call.{Call}
 use Rattle.vol_volume.specs.declared.calls.Done.{Done}
 use Rattle.vol_volume.specs.declared.queries.Query.TheVariants as queries

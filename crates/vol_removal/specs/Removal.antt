@@ -4,8 +4,9 @@ use Rattle.std.specs.List.{flat_map}
 use Rattle.vol_dir.specs.Names.{Names, is_dots}
 use Rattle.vol_dir.specs.Tree.{Tree}
 use Rattle.vol_volume.specs.Answer.{answer}
-use Rattle.vol_import.specs.Plan.{user, below}
+use Rattle.vol_import.specs.Plan.{below}
 use Rattle.vol_dir.specs.declared.refusal.Refusal.{Refusal}
+use Rattle.vol_dir.specs.Access.{user}
 use Rattle.vol_volume.specs.declared.calls.Call.{Call}
 use Rattle.vol_volume.specs.declared.calls.Call.TheVariants.{Unlink, Rmdir}
 use Rattle.vol_volume.specs.declared.queries.Query.TheVariants.{Stat, List as ListNames}

@@ -5,10 +5,10 @@ use Rattle.vol_volume.specs.Answer.{answer}
 use Rattle.vol_volume.specs.Faults.{IsFaultOf}
 use Rattle.vol_volume.specs.Volume.{Mounted, mounted, reads_as}
 use Rattle.vol_import.specs.Making.{AreStopped, ImportsCalls}
-use Rattle.vol_import.specs.Plan.{user}
 use Rattle.vol_dir.specs.declared.refusal.Refusal.{Refusal}
 use Rattle.vol_dir.specs.declared.refusal.Refusal.TheVariants.{NoEntry}
 use Rattle.vol_layout.specs.declared.edition.Edition.{Edition}
+use Rattle.vol_dir.specs.Access.{user}
 use Rattle.vol_volume.specs.declared.calls.Call.{Call}
 use Rattle.vol_volume.specs.declared.queries.Query.TheVariants as queries
 use Rattle.vol_removal.specs.Removal.{IsRemoval}

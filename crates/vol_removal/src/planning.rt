@@ -9,9 +9,6 @@ use vol_dir::{Cred, Refusal, is_dots};
 use vol_import::planning::below;
 use vol_volume::{Bytes, Call, Listing, Query, Reply, Volume};
 
-/// Who makes the calls: user 0, who passes every test.
-const USER: Cred = Cred { uid: 0, gid: 0 };
-
 /// The calls that take away what a path of a volume leads to, as user 0 and at the moment `now`: of a directory first all that is
 /// below it, the names of each directory in ascending order of their bytes, and then the directory itself by an Rmdir; of what is
 /// no directory the one name, by an Unlink, whatever other names it has. The path of what is in a directory is that of the
@@ -39,7 +36,13 @@ fn find(alloc: Global, volume: &Volume, path: Bytes) -> Result<(), RemovalFault>
     ensures found { OnOk result (IsFound (reads_as volume.now.edition volume.now.image).tree path) }
     ensures fault { IfErr result (IsNotFound (reads_as volume.now.edition volume.now.image).tree path) }
 {
-    match volume.ask(alloc, &Query::Stat { cred: USER, path }) {
+    match volume.ask(
+        alloc,
+        &Query::Stat {
+            cred: Cred::ROOT,
+            path,
+        },
+    ) {
         Ok(_) => Ok(()),
         Err(refusal) => Err(RemovalFault::Missing(refusal)),
     }
@@ -72,14 +75,14 @@ fn call_for(
 {
     let Some(names) = names_of(alloc, volume, Bytes::from_slice(alloc, path.as_slice())?)? else {
         return Ok(Call::Unlink {
-            cred: USER,
+            cred: Cred::ROOT,
             now,
             path,
         });
     };
     push_paths(alloc, path.as_slice(), names.as_slice(), pending)?;
     Ok(Call::Rmdir {
-        cred: USER,
+        cred: Cred::ROOT,
         now,
         path,
     })
@@ -89,7 +92,13 @@ fn call_for(
 fn names_of(alloc: Global, volume: &Volume, path: Bytes) -> Result<Option<Listing>, AllocError>
     ensures { IfOk result (λ names. names ≡ names_of (reads_as volume.now.edition volume.now.image).tree path) }
 {
-    match volume.ask(alloc, &Query::List { cred: USER, path }) {
+    match volume.ask(
+        alloc,
+        &Query::List {
+            cred: Cred::ROOT,
+            path,
+        },
+    ) {
         Ok(Reply::Names(names)) => Ok(Some(names)),
         Err(Refusal::NoMemory) => Err(AllocError),
         _ => Ok(None),

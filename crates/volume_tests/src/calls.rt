@@ -4,10 +4,10 @@ ghost use Rattle.vol_volume.specs.Journal.{MayAnswer, MayFollow};
 ghost use Rattle.vol_volume.specs.Verdict.{is_free_number};
 ghost use Rattle.vol_volume.specs.Volume.{reads_as};
 
-use crate::fixtures::{ROOT, bytes_of, check_bytes, check_whole, copied, mount, new_volume, stat};
+use crate::fixtures::{bytes_of, check_bytes, check_whole, copied, mount, new_volume, stat};
 use std::alloc::Global;
 use std::process::Abort;
-use vol_dir::Refusal;
+use vol_dir::{Cred, Refusal};
 use vol_layout::i_list::mode;
 use vol_layout::{Edition, Geometry};
 use vol_volume::Done::{Made, Plain};
@@ -61,7 +61,7 @@ static RUN: [Asked; 14] = [
 
 /// Returns a call of user 0.
 fn call_of(rt: &impl Abort, alloc: Global, asked: Asked) -> Call {
-    let (cred, now) = (ROOT, LATER);
+    let (cred, now) = (Cred::ROOT, LATER);
     let of = |bytes| bytes_of(rt, alloc, bytes);
     match asked {
         Create(path, perm) => {
@@ -293,7 +293,7 @@ fn a_recorded_i_number_is_the_one_used(rt: HostRuntime) {
         check_bytes(&rt, volume.image().as_bytes(), place, bytes);
     }
     for (path, number) in [(b"/f".as_slice(), 20), (b"/d/.", 2), (b"/d/g", 32)] {
-        assert_eq!(rt; stat(&rt, alloc, &volume, ROOT, path).number, number);
+        assert_eq!(rt; stat(&rt, alloc, &volume, Cred::ROOT, path).number, number);
     }
     check_redone(&rt, alloc, &volume);
 }

@@ -15,9 +15,6 @@ pub(crate) type Piece = (usize, &'static [u8]);
 /// The moment of the worked volumes, which stands on the disk as 0B 0A 0D 0C.
 pub(crate) const NOW: u32 = 0x0A0B_0C0D;
 
-/// The user who may do everything.
-pub(crate) const ROOT: Cred = Cred { uid: 0, gid: 0 };
-
 /// So many of one byte.
 pub(crate) fn filled(rt: &impl Abort, alloc: Global, len: usize, byte: u8) -> Vec<u8> {
     vec![in alloc; byte; len].expect(rt, "memory for the bytes")

@@ -1,7 +1,8 @@
 //! A volume with two trees.
-use crate::fixtures::{ROOT, bytes_of, mount};
+use crate::fixtures::{bytes_of, mount};
 use std::alloc::Global;
 use std::process::Abort;
+use vol_dir::Cred;
 use vol_layout::Edition;
 use vol_volume::{Call, Volume, mkfs};
 
@@ -48,7 +49,7 @@ static STEPS: [Step; 13] = [
 
 /// The call of a step.
 fn call_of(rt: &impl Abort, alloc: Global, step: Step) -> Call {
-    let (cred, now) = (ROOT, MADE);
+    let (cred, now) = (Cred::ROOT, MADE);
     match step {
         Step::Mkdir(path) => Call::Mkdir {
             cred,

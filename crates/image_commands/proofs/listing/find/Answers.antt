@@ -1,6 +1,6 @@
 use Rattle.std.proofs.Common.{subst}
 use Rattle.vol_dir.specs.Tree.{tree}
-use Rattle.vol_commands.specs.Faults.{user}
+use Rattle.vol_dir.specs.Access.{user}
 use Rattle.image_commands.proofs.Asked.{IsStat, stat_answered}
 use Rattle.image_commands.proofs.listing.find.Goals as goal
 

@@ -1,6 +1,6 @@
 use Rattle.std.proofs.Common.{List, ℕ, IfOk, IfErr, subst}
+use Rattle.vol_dir.specs.Access.{user}
 use Rattle.vol_volume.specs.declared.queries.Query.TheVariants as questions
-use Rattle.vol_commands.specs.Faults.{user}
 use Rattle.vol_commands.specs.Jobs.{Streams, streams}
 use Rattle.vol_commands.specs.Showing.{IsObstacle}
 use Rattle.image_commands.specs.Listing.{IsListing}

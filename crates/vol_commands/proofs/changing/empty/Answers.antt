@@ -1,8 +1,8 @@
 use Rattle.std.proofs.Common.{refl, subst}
+use Rattle.vol_dir.specs.Access.{user}
 use Rattle.vol_volume.specs.Journal.{Refuses}
 use Rattle.vol_volume.specs.Volume.{reads_as}
 use Rattle.vol_volume.specs.declared.calls.Call.TheVariants as calls
-use Rattle.vol_commands.specs.Faults.{user}
 use Rattle.vol_commands.proofs.Emptying.{emptied, made, not_emptied, not_made, path_kept}
 use Rattle.vol_commands.proofs.changing.empty.Goals as goal
 

@@ -1,6 +1,6 @@
 use Rattle.std.proofs.Common.{refl}
+use Rattle.vol_dir.specs.Access.{user}
 use Rattle.vol_volume.specs.declared.calls.Call.TheVariants as calls
-use Rattle.vol_commands.specs.Faults.{user}
 use Rattle.vol_commands.proofs.TwoCalls.{made_then, refused_then}
 use Rattle.vol_commands.proofs.changing.fill.Goals as goal
 

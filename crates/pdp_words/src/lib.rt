@@ -1,7 +1,8 @@
 //! Bytes as the PDP-11 saw them: words, longs and three-byte addresses, the image of a volume, and
-//! the devices that an image is loaded from and saved to.
+//! the devices that an image is loaded from and saved to. Also bytes that are handed on as one value.
 #![tactic(auto)]
 
+pub mod bytes;
 pub mod device;
 pub mod from_read;
 pub mod image;
@@ -11,6 +12,7 @@ pub mod saving;
 pub mod testing;
 pub mod words;
 
+pub use bytes::Bytes;
 pub use device::{Sink, Source};
 pub use from_read::FromRead;
 pub use image::{BLOCK, Image};

@@ -2,7 +2,7 @@
 ghost use Rattle.std.specs.Prelude.{◌≡◌};
 ghost use Rattle.vol_archive.specs.Walking.{is_first};
 
-use crate::member_path::MemberPath;
+use pdp_words::Bytes;
 
 /// Why an entry is left out of an archive.
 #[derive(Clone, Copy, Debug, PartialEq, Eq)]
@@ -46,8 +46,8 @@ impl Role {
 /// An entry that was met below a directory.
 #[derive(Debug, Drop)]
 pub struct Found {
-    /// Its path, from that directory on.
-    pub path: MemberPath,
+    /// Its path, from that directory on, without a slash at its front or its end.
+    pub path: Bytes,
     /// Its i-number.
     pub inode: u16,
     /// What it is in an archive.

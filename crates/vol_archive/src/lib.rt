@@ -4,7 +4,6 @@
 pub mod exporting;
 pub mod found;
 pub mod laws;
-pub mod member_path;
 mod members;
 mod names;
 mod pending;
@@ -13,7 +12,6 @@ pub mod writing;
 
 pub use exporting::{Start, StartFault, export, start_of};
 pub use found::{Found, Reason, Role};
-pub use member_path::MemberPath;
 pub use members::put_archive;
 pub use walking::walk;
 pub use writing::WriteFault;

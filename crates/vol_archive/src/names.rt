@@ -6,9 +6,8 @@ ghost use Rattle.vol_dir.specs.Names.{names_of};
 ghost use Rattle.vol_archive.specs.Listing.{by_bytes, put_first};
 ghost use Rattle.vol_archive.specs.Walking.{is_plain, path_below, entry_below, pending_below, entries_below};
 
-use crate::member_path::MemberPath;
 use crate::pending::Pending;
-use pdp_words::Image;
+use pdp_words::{Bytes, Image};
 use std::alloc::{AllocError, Global};
 use std::collections::BTreeMap;
 use vol_dir::{is_dots, next_entry};
@@ -37,7 +36,7 @@ pub(crate) fn entries_below(
 fn pending_below(
     alloc: Global,
     path: &[u8],
-    names: &[(MemberPath, u16)],
+    names: &[(Bytes, u16)],
 ) -> Result<Vec<Pending>, AllocError>
     ensures { IfOk result (λ entries. entries.items ≡ pending_below path.now names.now) }
 {
@@ -69,7 +68,7 @@ fn push_entry(
 }
 
 /// The path of a name in the directory at a path.
-fn path_below(alloc: Global, path: &[u8], name: &[u8]) -> Result<MemberPath, AllocError>
+fn path_below(alloc: Global, path: &[u8], name: &[u8]) -> Result<Bytes, AllocError>
     ensures { IfOk result (λ joined. joined ≡ path_below path.now name.now) }
 {
     let mut bytes = Vec::from_slice(alloc, path)?;
@@ -77,7 +76,7 @@ fn path_below(alloc: Global, path: &[u8], name: &[u8]) -> Result<MemberPath, All
         bytes.push(b'/')?;
     }
     bytes.extend_from_slice(name)?;
-    Ok(MemberPath::from_vec(bytes))
+    Ok(Bytes::from_vec(bytes))
 }
 
 /// The path of a directory as its member has it, with a slash at its end.
@@ -102,7 +101,7 @@ fn list(
     image: &Image,
     geometry: &Geometry,
     dir: u16,
-) -> Result<Vec<(MemberPath, u16)>, AllocError>
+) -> Result<Vec<(Bytes, u16)>, AllocError>
     requires fits { Fits geometry.now image.now }
     requires directory { IsDirectory geometry.now image.now dir }
     ensures { IfOk result (λ names. names.items ≡ names_of (slots geometry.now image.now dir)) }
@@ -110,7 +109,7 @@ fn list(
     let names = collect_names(alloc, image, geometry, dir)?;
     names
         .into_iter()
-        .map(|(name, i)| (MemberPath::from_vec(name), i))
+        .map(|(name, i)| (Bytes::from_vec(name), i))
         .collect(alloc)
 }
 

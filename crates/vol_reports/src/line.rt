@@ -1,5 +1,5 @@
 //! The lines of a report.
-use crate::path::Path;
+use pdp_words::Bytes;
 use vol_free::FreeFault;
 
 /// What one of the last lines of a block report counts.
@@ -53,6 +53,6 @@ pub enum Line {
     /// An i-number, and a path to it.
     Name {
         inode: u16,
-        path: Path,
+        path: Bytes,
     },
 }

@@ -9,10 +9,10 @@ ghost use Rattle.vol_reports.specs.Climbing.{HasNaming, PutsNaming, path_in, see
 use crate::climbing::entry_path;
 use crate::entered::Entered;
 use crate::line::Line;
-use crate::path::Path;
 use crate::report::Report;
 use crate::words::{name_word, rank};
 use count_table::Summed;
+use pdp_words::Bytes;
 use std::alloc::{AllocError, Global};
 use vol_layout::Geometry;
 
@@ -94,7 +94,7 @@ fn lines_of(alloc: Global, paths: Vec<(u16, Vec<u8>)>) -> Result<Vec<Line>, Allo
 {
     let mut lines = Vec::new(alloc);
     for (inode, bytes) in paths {
-        let path = Path::from_vec(bytes);
+        let path = Bytes::from_vec(bytes);
         lines.push(Line::Name { inode, path })?;
     }
     Ok(lines)

@@ -14,11 +14,10 @@ ghost use Rattle.vol_volume.specs.Answering.{listed_names};
 ghost use Rattle.vol_volume.specs.Standing.{Rules3To7And9};
 ghost use Rattle.vol_volume.specs.Verdict.{first_of};
 
-use crate::bytes::Bytes;
 use crate::queries::{Listing, Query, Reply, Stat};
 use crate::steps::asked::{body_tests, find_node, is_directory, is_granted, refuse_if};
 use crate::steps::stands;
-use pdp_words::Image;
+use pdp_words::{Bytes, Image};
 use std::alloc::{AllocError, Global};
 use std::collections::BTreeMap;
 use vol_dir::{Access, Cred, Refusal, next_entry};

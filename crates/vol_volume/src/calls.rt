@@ -1,5 +1,5 @@
 //! What is asked of a volume to change it.
-use crate::bytes::Bytes;
+use pdp_words::Bytes;
 use vol_dir::Cred;
 
 /// A call, in the name of a user and at a moment in seconds, which becomes the time of the super-block

@@ -5,7 +5,7 @@ ghost use Rattle.std.specs.Cmp.Rules.{comparing};
 ghost use Rattle.std.specs.Ordering.{eq_of_both, on};
 ghost use Rattle.std.proofs.Common.{rules};
 
-use crate::bytes::Bytes;
+use pdp_words::Bytes;
 use std::marker::Model;
 use vol_dir::Cred;
 use vol_layout::Kind;

@@ -1,4 +1,4 @@
-//! Bytes that calls and replies hold.
+//! Bytes that are handed on as one value: a path, or a part of a file.
 ghost use Rattle.std.specs.Prelude.{◌≡◌, ◌==◌, IfOk};
 ghost use Rattle.std.specs.Cmp.Lexicographic.{pointwise};
 ghost use Rattle.std.specs.Cmp.Rules.{comparing};
@@ -22,28 +22,28 @@ impl Model for Bytes {
 }
 
 impl Bytes {
-    /// These bytes. Takes no memory.
+    /// Takes these bytes over, without a copy.
     pub fn from_vec(bytes: Vec<u8>) -> Bytes
         ensures { result ≡ bytes.items }
     {
         Bytes { bytes }
     }
 
-    /// A copy of these bytes.
+    /// Copies these bytes.
     pub fn from_slice(alloc: Global, bytes: &[u8]) -> Result<Bytes, AllocError>
         ensures { IfOk result (λ copy. copy ≡ bytes.now) }
     {
         Ok(Bytes::from_vec(Vec::from_slice(alloc, bytes)?))
     }
 
-    /// The bytes, given back. Takes no memory.
+    /// Gives the bytes back, without a copy.
     pub fn into_vec(self) -> Vec<u8>
         ensures { result.items ≡ self }
     {
         self.bytes
     }
 
-    /// All the bytes.
+    /// Returns all the bytes.
     pub fn as_slice(&self) -> &[u8]
         ensures { result.now ≡ self.now }
     {
@@ -56,7 +56,7 @@ impl PartialEq for Bytes {
 
     ghost laws = { Prim.search (comparing, rules) };
 
-    /// Whether they are the same bytes.
+    /// True if they are the same bytes.
     fn eq(&self, other: &Bytes) -> bool {
         self.as_slice() == other.as_slice()
     }

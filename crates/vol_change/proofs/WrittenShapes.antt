@@ -8,8 +8,8 @@ use Rattle.vol_layout.specs.Inode.{inode_place, inode_of, is_large}
 use Rattle.vol_layout.specs.Names.{mode_of, form_at, IsFile}
 use Rattle.vol_layout.specs.Places.{places}
 use Rattle.vol_layout.specs.declared.geometry.Geometry.{Geometry}
-use Rattle.vol_layout.specs.declared.places.Form.{Form}
-use Rattle.vol_layout.specs.declared.places.Form.TheVariants.{Large}
+use Rattle.vol_layout.specs.declared.block_map.Form.{Form}
+use Rattle.vol_layout.specs.declared.block_map.Form.TheVariants.{Large}
 use Rattle.vol_file.specs.Changes.{Writes}
 use Rattle.vol_file.specs.Laws.{IsAmong}
 use Rattle.vol_file.specs.Need.{missing_count, need_of}

@@ -16,8 +16,8 @@ use Rattle.vol_layout.proofs.BodyLaws.{length-body}
 use Rattle.vol_layout.proofs.NameLaws.{named_stops, zero_out, zone_some, stored_is, stored_none}
 use Rattle.vol_layout.proofs.PlaceLaws.{has_no_way}
 use Rattle.vol_layout.specs.declared.geometry.Geometry.{Geometry}
-use Rattle.vol_layout.specs.declared.places.Form.{Form}
-use Rattle.vol_layout.specs.declared.places.Form.TheVariants.{Small, Large, Deep, Bare}
+use Rattle.vol_layout.specs.declared.block_map.Form.{Form}
+use Rattle.vol_layout.specs.declared.block_map.Form.TheVariants.{Small, Large, Deep, Bare}
 use Rattle.vol_file.specs.Changes.{spliced, Writes}
 use Rattle.vol_file.specs.Need.{missing_count, need, need_of}
 use Rattle.vol_file.specs.Rules.{size_of, Rules3To7With}

@@ -17,8 +17,8 @@ use Rattle.vol_layout.specs.declared.geometry.Geometry.{Geometry}
 use Rattle.vol_layout.specs.declared.i_node.Inode.{Inode}
 use Rattle.vol_layout.specs.declared.mode.Kind.{Kind}
 use Rattle.vol_layout.specs.declared.mode.Kind.TheVariants as kinds
-use Rattle.vol_layout.specs.declared.places.Form.{Form}
-use Rattle.vol_layout.specs.declared.places.Form.TheVariants.{Small, Large, Deep}
+use Rattle.vol_layout.specs.declared.block_map.Form.{Form}
+use Rattle.vol_layout.specs.declared.block_map.Form.TheVariants.{Small, Large, Deep}
 
 -- what a node holds: a regular file its bytes, a directory its map, a special file the type bits of its mode and its
 -- addresses, which nobody interprets (manual section 5, file system)

@@ -9,7 +9,7 @@ use Rattle.vol_layout.specs.Places.{IsPlace, levels_below, last_place}
 use Rattle.vol_layout.specs.Names.{mode_of, form_at, IsFile, IsPlaceOf, named, stored, NamesBlock}
 use Rattle.vol_layout.specs.Body.{body_byte, zone_byte}
 use Rattle.vol_layout.specs.declared.geometry.Geometry.{Geometry}
-use Rattle.vol_layout.specs.declared.places.Form.{Form}
+use Rattle.vol_layout.specs.declared.block_map.Form.{Form}
 use Rattle.pdp_words.proofs.Outside.{widen}
 use Rattle.vol_layout.proofs.CopyLaws.{copy_block}
 use Rattle.vol_layout.proofs.InodeLaws.{KeepsInode, mode_kept, size_kept}

@@ -4,9 +4,9 @@ use Rattle.vol_layout.specs.Edition.{constants}
 use Rattle.vol_layout.specs.Places.{first_count, pointer_count, last_place, place_to, end_of}
 use Rattle.vol_layout.specs.Names.{mode_of, form_at, pointer_in, named}
 use Rattle.vol_layout.specs.declared.geometry.Geometry.{Geometry}
-use Rattle.vol_layout.specs.declared.places.Form.{Form}
-use Rattle.vol_layout.specs.declared.places.Form.TheVariants.{Small, Large, Deep, Bare}
-use Rattle.vol_layout.specs.declared.places.Way.{Way}
+use Rattle.vol_layout.specs.declared.block_map.Form.{Form}
+use Rattle.vol_layout.specs.declared.block_map.Form.TheVariants.{Small, Large, Deep, Bare}
+use Rattle.vol_layout.specs.declared.block_map.Way.{Way}
 use Rattle.vol_layout.proofs.CopyLaws.{number_room}
 use Rattle.vol_layout.proofs.FrameLaws.{pointers_of}
 use Rattle.vol_layout.proofs.PlaceLaws.{way_place, entry_to}

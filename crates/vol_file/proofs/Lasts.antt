@@ -8,8 +8,8 @@ use Rattle.vol_layout.specs.Places.{last_place, place_to, end_of, fronts, way}
 use Rattle.vol_layout.specs.Laws.{IsFront}
 use Rattle.vol_layout.specs.Names.{form_at}
 use Rattle.vol_layout.specs.declared.geometry.Geometry.{Geometry}
-use Rattle.vol_layout.specs.declared.places.Form.{Form}
-use Rattle.vol_layout.specs.declared.places.Way.{Way}
+use Rattle.vol_layout.specs.declared.block_map.Form.{Form}
+use Rattle.vol_layout.specs.declared.block_map.Way.{Way}
 use Rattle.vol_layout.proofs.PlaceLaws.{front_to, way_place}
 use Rattle.vol_file.specs.Steps.{Reaches, IsWanted, MayName, NamesNext, MayNameEntry, MayNameWay, WantsWay, NamesWay, has_front, unnamed_of}
 use Rattle.vol_file.specs.Shape.{is_named}

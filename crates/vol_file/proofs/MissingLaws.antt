@@ -11,8 +11,8 @@ use Rattle.std.specs.Prelude.{nat_le, nat_lt}
 use Rattle.std.proofs.Math.Bool.{or-false, or_assoc}
 use Rattle.vol_layout.specs.Places.{pointer_count, levels, levels_below, IsPlace, block_limit, last_place, place_to, fronts, way, places}
 use Rattle.vol_layout.specs.Laws.{IsFront}
-use Rattle.vol_layout.specs.declared.places.Form.{Form}
-use Rattle.vol_layout.specs.declared.places.Form.TheVariants.{Small, Large, Deep, Bare}
+use Rattle.vol_layout.specs.declared.block_map.Form.{Form}
+use Rattle.vol_layout.specs.declared.block_map.Form.TheVariants.{Small, Large, Deep, Bare}
 use Rattle.vol_layout.proofs.PlaceLaws.{last_leaf, has_no_way}
 use Rattle.vol_file.specs.Shape.{touched, is_on_ways, moved_down, grows_large}
 use Rattle.vol_file.specs.Need.{missing_count, need_of}

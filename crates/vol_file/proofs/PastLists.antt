@@ -6,7 +6,7 @@ use Rattle.vol_layout.specs.Places.{IsPlace, levels_below, pointer_count, places
 use Rattle.vol_layout.specs.Laws.{IsFront}
 use Rattle.vol_layout.specs.Names.{named}
 use Rattle.vol_layout.specs.declared.geometry.Geometry.{Geometry}
-use Rattle.vol_layout.specs.declared.places.Form.{Form}
+use Rattle.vol_layout.specs.declared.block_map.Form.{Form}
 use Rattle.vol_layout.proofs.PlaceLaws.{front_above}
 use Rattle.vol_file.specs.Clears.{blocks_at, places_among, places_below}
 use Rattle.vol_file.proofs.BlockLists.{at_nil, at_append, at_zero, at_some, at_same}

@@ -11,7 +11,7 @@ use Rattle.vol_layout.specs.Laws.{IsFront}
 use Rattle.vol_layout.proofs.PlaceLaws.{place_front, last_leaf}
 use Rattle.vol_layout.specs.Names.{form_at}
 use Rattle.vol_layout.specs.declared.geometry.Geometry.{Geometry}
-use Rattle.vol_layout.specs.declared.places.Form.{Form}
+use Rattle.vol_layout.specs.declared.block_map.Form.{Form}
 use Rattle.vol_layout.proofs.InodeLaws.{form_same}
 use Rattle.vol_file.specs.Laws.{IsAmong}
 use Rattle.vol_file.specs.Need.{missing_on_way, missing_places}

@@ -10,9 +10,9 @@ use Rattle.vol_layout.specs.Inode.{kind_of, inode_place, address_at}
 use Rattle.vol_layout.specs.Names.{mode_of, form_at, pointer_in, named, stored}
 use Rattle.vol_layout.specs.Places.{form_of, file_form, has_places, block_limit, pointer_count, last_place, place_to, end_of}
 use Rattle.vol_layout.specs.declared.geometry.Geometry.{Geometry}
-use Rattle.vol_layout.specs.declared.places.Form.{Form}
-use Rattle.vol_layout.specs.declared.places.Form.TheVariants.{Small, Large, Deep, Bare}
-use Rattle.vol_layout.specs.declared.places.Way.{Way}
+use Rattle.vol_layout.specs.declared.block_map.Form.{Form}
+use Rattle.vol_layout.specs.declared.block_map.Form.TheVariants.{Small, Large, Deep, Bare}
+use Rattle.vol_layout.specs.declared.block_map.Way.{Way}
 use Rattle.vol_layout.proofs.FrameLaws.{pointers_in}
 use Rattle.vol_layout.proofs.NameLaws.{zero_out, named_stops}
 use Rattle.vol_layout.proofs.PlaceLaws.{has_no_way, last_none, last_leaf, entry_to, way_place}

@@ -16,7 +16,7 @@ use Rattle.vol_layout.specs.Body.{zone_byte, body_byte, body, body_size}
 use Rattle.vol_layout.specs.declared.edition.Edition.{Edition}
 use Rattle.vol_layout.specs.declared.edition.Edition.TheVariants.{V6, V7}
 use Rattle.vol_layout.specs.declared.geometry.Geometry.{Geometry}
-use Rattle.vol_layout.specs.declared.places.Form.{Form}
+use Rattle.vol_layout.specs.declared.block_map.Form.{Form}
 use Rattle.vol_layout.proofs.AddressLaws.{addresses_before, size_within, mode_within, size_above}
 use Rattle.vol_layout.proofs.InodeLaws.{place_from, place_room, form_same}
 use Rattle.vol_layout.proofs.PlaceLaws.{last_leaf}

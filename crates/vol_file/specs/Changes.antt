@@ -11,7 +11,7 @@ use Rattle.vol_file.specs.Shape.{is_named, touched, is_on_ways, grows_large, fil
 use Rattle.vol_file.specs.Need.{need, places_taken}
 use Rattle.vol_file.specs.Rules.{size_of, Rules3To7With, IsCovered}
 use Rattle.vol_free.specs.Stack.{IsIn}
-use Rattle.vol_layout.specs.declared.places.Form.{Form}
+use Rattle.vol_layout.specs.declared.block_map.Form.{Form}
 use Rattle.vol_layout.specs.declared.edition.Edition.{Edition}
 use Rattle.vol_layout.specs.declared.edition.Edition.TheVariants.{V6, V7}
 use Rattle.vol_layout.specs.declared.geometry.Geometry.{Geometry}

@@ -8,7 +8,7 @@ use Rattle.vol_file.specs.Shape.{touched, is_on_ways}
 use Rattle.vol_file.specs.Need.{missing_count, need_of, need, missing_places, places_taken}
 use Rattle.vol_file.specs.Missing.{missing_from}
 use Rattle.vol_layout.specs.declared.geometry.Geometry.{Geometry}
-use Rattle.vol_layout.specs.declared.places.Form.{Form}
+use Rattle.vol_layout.specs.declared.block_map.Form.{Form}
 
 -- p is one of the places of a list (membership)
 abbrev pub IsAmong : List ℕ → List (List ℕ) → Type 0

@@ -3,8 +3,8 @@ use Rattle.std.specs.Prelude.{ℕ, zero, suc, ◌+◌, ◌==◌, ◌||◌, Bool,
 use Rattle.std.specs.Option.{option_map_or}
 use Rattle.vol_layout.specs.Places.{last_place}
 use Rattle.vol_file.specs.Shape.{moved_down}
-use Rattle.vol_layout.specs.declared.places.Form.{Form}
-use Rattle.vol_layout.specs.declared.places.Form.TheVariants.{Small, Large, Deep, Bare}
+use Rattle.vol_layout.specs.declared.block_map.Form.{Form}
+use Rattle.vol_layout.specs.declared.block_map.Form.TheVariants.{Small, Large, Deep, Bare}
 
 -- how many fronts of a place name nothing: all of them where the whole way counts, else those that are on the way of no
 -- earlier block, which are those with no index after them but 0 (Lions on bmap)

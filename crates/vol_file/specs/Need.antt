@@ -6,7 +6,7 @@ use Rattle.vol_layout.specs.Names.{form_at}
 use Rattle.vol_layout.specs.Places.{way, places}
 use Rattle.vol_file.specs.Shape.{is_named, touched, is_on_ways, grows_large, fit_form, fit_names}
 use Rattle.vol_layout.specs.declared.geometry.Geometry.{Geometry}
-use Rattle.vol_layout.specs.declared.places.Form.{Form}
+use Rattle.vol_layout.specs.declared.block_map.Form.{Form}
 
 -- how many places on the ways of these logical blocks name nothing (Lions on bmap)
 unfoldable pub missing_count : Form → (List ℕ → Bool) → List ℕ → ℕ

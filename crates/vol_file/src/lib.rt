@@ -1,7 +1,8 @@
 //! The files of a volume: where the blocks of a file lie, and its bytes.
 #![tactic(auto)]
 
-pub mod block_map;
+mod block_taking;
+pub mod following;
 pub mod holes;
 pub mod laws;
 pub mod needing;
@@ -10,10 +11,9 @@ pub mod pointers;
 pub mod reading;
 pub mod truncating;
 pub mod visiting;
-mod ways;
 pub mod writing;
 
-pub use block_map::block_at;
+pub use following::block_at;
 pub use holes::next_block;
 pub use needing::need;
 pub use pointers::next_pointer;

@@ -6,7 +6,7 @@ ghost use Rattle.vol_file.specs.Shape.{is_named, moved_down};
 ghost use Rattle.vol_file.specs.Need.{need};
 ghost use Rattle.vol_file.specs.Missing.{missing_at, missing_from, grows_at, grown_form, grown_names};
 
-use crate::block_map::entry;
+use crate::following::entry;
 use pdp_words::{BLOCK, Image};
 use vol_layout::i_list::{address, mode};
 use vol_layout::{Form, Geometry};

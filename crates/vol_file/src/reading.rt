@@ -4,7 +4,7 @@ ghost use Rattle.vol_layout.specs.Geometry.{Fits};
 ghost use Rattle.vol_layout.specs.Names.{form_at};
 ghost use Rattle.vol_layout.specs.Body.{zone_byte, body_byte, body_size, body};
 
-use crate::block_map::number_at;
+use crate::following::number_at;
 use pdp_words::{BLOCK, Image};
 use vol_layout::i_list::{mode, size};
 use vol_layout::{Form, Geometry};

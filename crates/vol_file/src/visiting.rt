@@ -5,7 +5,7 @@ ghost use Rattle.vol_layout.specs.Body.{zone_byte};
 ghost use Rattle.vol_layout.specs.Geometry.{Fits};
 ghost use Rattle.vol_file.specs.Visits.{Visits};
 
-use crate::block_map::number_at;
+use crate::following::number_at;
 use pdp_words::{BLOCK, Image};
 use vol_layout::i_list::mode;
 use vol_layout::{Form, Geometry};

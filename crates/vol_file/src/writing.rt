@@ -10,9 +10,9 @@ ghost use Rattle.vol_file.specs.Changes.{Writes};
 ghost use Rattle.vol_file.specs.Rules.{Rules3To7With, Rules3To7};
 ghost use Rattle.vol_file.specs.Steps.{MayEnlarge, Enlarges, HasRoom, MayFill, Fills, Puts};
 
+use crate::block_taking::name_ways;
 use crate::needing::grows_large;
 use crate::pieces::{clear_between, put_text};
-use crate::ways::name_ways;
 use pdp_words::{BLOCK, Image};
 use vol_free::take;
 use vol_layout::i_list::{mode, size};

@@ -7,8 +7,8 @@ use Rattle.vol_layout.specs.Geometry.{in_zone, Fits}
 use Rattle.vol_layout.specs.Names.{pointer_in}
 use Rattle.vol_layout.specs.Places.{first_count, levels}
 use Rattle.vol_layout.specs.declared.geometry.Geometry.{Geometry}
-use Rattle.vol_layout.specs.declared.places.Form.{Form}
-use Rattle.vol_layout.specs.declared.places.Form.TheVariants.{Small, Large, Deep, Bare}
+use Rattle.vol_layout.specs.declared.block_map.Form.{Form}
+use Rattle.vol_layout.specs.declared.block_map.Form.TheVariants.{Small, Large, Deep, Bare}
 use Rattle.vol_layout.proofs.NameLaws.{entry_out, holds_named, named_holds}
 use Rattle.vol_free.specs.Stack.{IsIn}
 use Rattle.vol_file.specs.Changes.{blocks_of}

@@ -12,8 +12,8 @@ use Rattle.vol_layout.specs.Laws.{IsFront}
 use Rattle.vol_layout.specs.declared.edition.Edition.{Edition}
 use Rattle.vol_layout.specs.declared.edition.Edition.TheVariants.{V6, V7}
 use Rattle.vol_layout.specs.declared.geometry.Geometry.{Geometry}
-use Rattle.vol_layout.specs.declared.places.Form.{Form}
-use Rattle.vol_layout.specs.declared.places.Form.TheVariants.{Small, Large, Bare}
+use Rattle.vol_layout.specs.declared.block_map.Form.{Form}
+use Rattle.vol_layout.specs.declared.block_map.Form.TheVariants.{Small, Large, Bare}
 use Rattle.vol_layout.proofs.CopyLaws.{IsCopy, copy_above, copy_block, number_copied, number_room}
 use Rattle.vol_layout.proofs.InodeLaws.{KeepsInode, inode_kept, form_kept, address_kept, body_size_kept}
 use Rattle.vol_layout.proofs.PlaceLaws.{last_leaf, place_front, front_above, front_self}

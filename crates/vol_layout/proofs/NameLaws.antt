@@ -4,7 +4,7 @@ use Rattle.vol_layout.specs.Edition.{number}
 use Rattle.vol_layout.specs.Geometry.{in_zone, Fits}
 use Rattle.vol_layout.specs.Names.{pointer_in, named, Holds, stored}
 use Rattle.vol_layout.specs.Places.{last_place}
-use Rattle.vol_layout.specs.declared.places.Form.{Form}
+use Rattle.vol_layout.specs.declared.block_map.Form.{Form}
 use Rattle.std.specs.Option.{option_map_or}
 use Rattle.vol_layout.specs.Laws.{IsFront}
 use Rattle.vol_layout.specs.declared.geometry.Geometry.{Geometry}

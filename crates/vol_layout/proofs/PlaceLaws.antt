@@ -4,9 +4,9 @@ use Rattle.std.proofs.lemmas.Bool.{ltb-true, ltb-false, cases_eq}
 use Rattle.std.proofs.lemmas.Bool.Decides.{nat_tests}
 use Rattle.vol_layout.specs.Places.{pointer_count, levels, levels_below, IsPlace, block_limit, last_place, place_to, end_of}
 use Rattle.vol_layout.specs.Laws.{IsFront}
-use Rattle.vol_layout.specs.declared.places.Form.{Form}
-use Rattle.vol_layout.specs.declared.places.Way.{Way}
-use Rattle.vol_layout.specs.declared.places.Form.TheVariants.{Small, Large, Deep, Bare}
+use Rattle.vol_layout.specs.declared.block_map.Form.{Form}
+use Rattle.vol_layout.specs.declared.block_map.Way.{Way}
+use Rattle.vol_layout.specs.declared.block_map.Form.TheVariants.{Small, Large, Deep, Bare}
 
 -- the logical block whose way ends at a place with nothing below it
 abbrev pub leaf_block : Form → List ℕ → ℕ

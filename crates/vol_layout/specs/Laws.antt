@@ -11,8 +11,8 @@ use Rattle.vol_layout.specs.Body.{body, body_size}
 use Rattle.vol_layout.specs.declared.edition.Edition.{Edition}
 use Rattle.vol_layout.specs.declared.edition.Edition.TheVariants.{V6, V7}
 use Rattle.vol_layout.specs.declared.geometry.Geometry.{Geometry}
-use Rattle.vol_layout.specs.declared.places.Form.{Form}
-use Rattle.vol_layout.specs.declared.places.Form.TheVariants.{Large}
+use Rattle.vol_layout.specs.declared.block_map.Form.{Form}
+use Rattle.vol_layout.specs.declared.block_map.Form.TheVariants.{Large}
 
 -- q is a front of place p, or p itself: a place that the way to p goes through (Lions on bmap)
 abbrev pub IsFront : List ℕ → List ℕ → Type 0

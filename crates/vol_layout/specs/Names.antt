@@ -7,7 +7,7 @@ use Rattle.vol_layout.specs.Geometry.{in_zone}
 use Rattle.vol_layout.specs.Inode.{inode_place, address_at, kind_of}
 use Rattle.vol_layout.specs.Places.{form_of, has_places, IsPlace, last_place}
 use Rattle.vol_layout.specs.declared.geometry.Geometry.{Geometry}
-use Rattle.vol_layout.specs.declared.places.Form.{Form}
+use Rattle.vol_layout.specs.declared.block_map.Form.{Form}
 
 -- the mode of i-node i, a word at its first byte in both editions (manual section 5, file system; ino.h)
 abbrev pub mode_of : Geometry → List ℕ → ℕ → ℕ

@@ -2,6 +2,7 @@
 //! slots, each read from its place in the image and put there.
 #![tactic(auto)]
 
+pub mod block_map;
 pub mod edition;
 pub mod geometry;
 pub mod i_list;
@@ -9,10 +10,10 @@ pub mod i_node;
 pub mod laws;
 pub mod mode;
 pub mod numbers;
-pub mod places;
 pub mod slot;
 pub mod super_block;
 
+pub use block_map::{Form, Way};
 pub use edition::{Constants, Edition};
 pub use geometry::{Geometry, GeometryFault};
 pub use i_list::{
@@ -21,6 +22,5 @@ pub use i_list::{
 pub use i_node::Inode;
 pub use mode::{Kind, Mode};
 pub use numbers::{number, put_number};
-pub use places::{Form, Way};
 pub use slot::Slot;
 pub use super_block::{Flag, Super};

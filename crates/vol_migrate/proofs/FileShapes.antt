@@ -12,7 +12,7 @@ use Rattle.vol_layout.specs.declared.edition.Edition.TheVariants.{V6}
 use Rattle.vol_layout.specs.declared.geometry.Geometry.{Geometry}
 use Rattle.vol_layout.specs.declared.mode.Kind.{Kind}
 use Rattle.vol_layout.specs.declared.mode.Kind.TheVariants as kinds
-use Rattle.vol_layout.specs.declared.places.Form.{Form}
+use Rattle.vol_layout.specs.declared.block_map.Form.{Form}
 use Rattle.vol_layout.proofs.PlaceLaws.{last_leaf}
 use Rattle.vol_file.specs.Changes.{whole_blocks}
 use Rattle.vol_file.specs.Holes.{IsNextStored}

@@ -14,8 +14,8 @@ use Rattle.vol_layout.specs.declared.geometry.Geometry.{Geometry}
 use Rattle.vol_layout.specs.declared.i_node.Inode.{Inode}
 use Rattle.vol_layout.specs.declared.mode.Kind.{Kind}
 use Rattle.vol_layout.specs.declared.mode.Kind.TheVariants as kinds
-use Rattle.vol_layout.specs.declared.places.Form.{Form}
-use Rattle.vol_layout.specs.declared.places.Form.TheVariants.{Small, Deep}
+use Rattle.vol_layout.specs.declared.block_map.Form.{Form}
+use Rattle.vol_layout.specs.declared.block_map.Form.TheVariants.{Small, Deep}
 use Rattle.vol_layout.proofs.FrameLaws.{addresses_of}
 use Rattle.vol_layout.proofs.InodeLaws.{KeepsInode, inode_address, inode_of_kept, place_from, place_room}
 use Rattle.vol_layout.proofs.KindLaws.{kind_zero}

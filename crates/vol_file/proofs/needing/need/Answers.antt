@@ -1,7 +1,7 @@
 use Rattle.std.proofs.Common.{◌≡◌, ℕ, ◌+◌, ◌-◌, ◌/◌, ◌≤◌, ◌∙◌, ap, sym, refl, arith, rules, List, Bool, if◌then◌else◌}
 use Rattle.vol_layout.specs.Names.{form_at}
 use Rattle.vol_layout.specs.Places.{form_of}
-use Rattle.vol_layout.specs.declared.places.Form.{Form}
+use Rattle.vol_layout.specs.declared.block_map.Form.{Form}
 use Rattle.vol_file.specs.Shape.{is_named, touched}
 use Rattle.vol_file.specs.Need.{need_of}
 use Rattle.vol_file.specs.Missing.{missing_from, grows_at, grown_form, grown_names}

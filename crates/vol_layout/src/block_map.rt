@@ -1,4 +1,4 @@
-//! The forms of a file, by which its blocks are found.
+//! The block maps of both editions: the form of a file, and the way of each of its logical blocks.
 ghost use Rattle.std.specs.Prelude.{◌≡◌, ◌≤◌, IfSome};
 ghost use Rattle.std.specs.Option.{option_map};
 

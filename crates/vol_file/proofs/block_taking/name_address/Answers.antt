@@ -1,6 +1,6 @@
 use Rattle.std.proofs.Common.{[], ◌∷◌, sym, ◌∙◌}
 use Rattle.vol_file.proofs.Reaching.{steps_named, steps_out, steps_address, reaches_first, taken_zoned, zone_limit}
-use Rattle.vol_file.proofs.ways.name_address.Goals as goal
+use Rattle.vol_file.proofs.block_taking.name_address.Goals as goal
 
 pub returns-then-named-ne0 : goal.returns-then-named-ne0
 returns-then-named-ne0 c = λ wanted blocks want.

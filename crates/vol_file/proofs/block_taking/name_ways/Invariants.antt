@@ -1,6 +1,6 @@
 use Rattle.std.proofs.Common.{ℕ, ◌-◌, List, Bool}
 use Rattle.vol_file.specs.Steps.{WantsWays, NamesWays}
-use Rattle.vol_file.proofs.ways.name_ways.Given as goal
+use Rattle.vol_file.proofs.block_taking.name_ways.Given as goal
 
 -- the ways up to b are named
 abbrev pub invariant-loop-b : goal.invariant-loop-b

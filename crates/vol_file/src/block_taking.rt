@@ -1,4 +1,4 @@
-//! Naming blocks: giving each place on the way of a logical block a block where it has none.
+//! Blocks taken for a write: each place on the way of a logical block gets one if it names none.
 ghost use Rattle.std.specs.Prelude.{◌≡◌, ℕ, ◌-◌, ◌*◌, ◌≤◌, Bool, List, [], ◌∷◌};
 ghost use Rattle.vol_layout.specs.Names.{form_at};
 ghost use Rattle.vol_file.specs.Steps.{

@@ -3,7 +3,7 @@ use Rattle.vol_layout.specs.Edition.{constants}
 use Rattle.vol_layout.specs.declared.edition.Edition.{Edition}
 use Rattle.vol_layout.specs.declared.edition.Edition.TheVariants.{V6, V7}
 use Rattle.vol_file.proofs.Reaching.{steps_named, steps_out, steps_entry, reaches_next, wanted_next, reached_zone, taken_zoned, zone_limit, entry_room, next_index, next_named}
-use Rattle.vol_file.proofs.ways.name_entry.Goals as goal
+use Rattle.vol_file.proofs.block_taking.name_entry.Goals as goal
 
 pub number-named-requires : goal.number-named-requires
 number-named-requires c =

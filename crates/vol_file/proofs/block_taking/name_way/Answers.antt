@@ -2,7 +2,7 @@ use Rattle.std.proofs.Common.{◌<◌, sym, subst, arith}
 use Rattle.vol_layout.specs.Places.{block_limit}
 use Rattle.vol_layout.proofs.PlaceLaws.{last_none}
 use Rattle.vol_file.proofs.Lasts.{way_wanted, way_named, way_next, may_first, may_next}
-use Rattle.vol_file.proofs.ways.name_way.Goals as goal
+use Rattle.vol_file.proofs.block_taking.name_way.Goals as goal
 
 pub returns-in_default : goal.returns-in_default
 returns-in_default c = λ wanted blocks wants.

@@ -2,7 +2,7 @@ use Rattle.std.proofs.Common.{◌≡◌, ◌+◌, ◌-◌, subst, sym, ◌∙◌
 use Rattle.vol_layout.proofs.InodeLaws.{form_same}
 use Rattle.vol_file.specs.Steps.{NamesWays}
 use Rattle.vol_file.proofs.Ranges.{ways_none, ways_next, ways_more}
-use Rattle.vol_file.proofs.ways.name_ways.Goals as goal
+use Rattle.vol_file.proofs.block_taking.name_ways.Goals as goal
 
 pub loop-b-init : goal.loop-b-init
 loop-b-init c = record {

@@ -1,4 +1,4 @@
-//! The block map of a file: which block holds which of its logical blocks.
+//! Following the way of a logical block to the number of the block that holds it.
 ghost use Rattle.std.specs.Prelude.{◌≡◌, ◌+◌, ◌*◌, ◌≤◌};
 ghost use Rattle.vol_layout.specs.Edition.{constants};
 ghost use Rattle.vol_layout.specs.Geometry.{Fits};

@@ -1,7 +1,7 @@
 use Rattle.std.proofs.Common.{ℕ, Bool, List}
 use Rattle.vol_layout.specs.Places.{place_to}
 use Rattle.vol_file.specs.Steps.{Reaches, WantsWay}
-use Rattle.vol_file.proofs.ways.name_way.Given as goal
+use Rattle.vol_file.proofs.block_taking.name_way.Given as goal
 
 -- the place that the first d entries lead to is reached
 abbrev pub invariant-loop-d : goal.invariant-loop-d

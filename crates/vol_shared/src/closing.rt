@@ -2,8 +2,8 @@
 ghost use Rattle.std.specs.Prelude.{◌≡◌, ◌≤◌, [], ◌∷◌, length, vec_len, All, false};
 ghost use Rattle.vol_shared.specs.Closing.{IsGathered, IsSettled};
 
+use crate::board::Board;
 use crate::knowledge::{Gather, Lock, Place};
-use crate::opening::Board;
 use crate::session::Session;
 use crate::stock::Stock;
 

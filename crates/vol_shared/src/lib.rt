@@ -2,12 +2,12 @@
 //! each call and query. Views answer queries without the lock. At the end each receipt can be compared with the journal.
 #![tactic(auto)]
 
+mod board;
 mod closed;
 mod closing;
 mod kept;
 mod knowledge;
 mod lock;
-mod opening;
 mod publishing;
 mod session;
 mod shared;

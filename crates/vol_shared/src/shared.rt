@@ -8,10 +8,10 @@ ghost use Rattle.vol_shared.specs.Sessions.{new_session, Got, HasCut};
 ghost use Rattle.vol_shared.specs.Stored.{stored_of, unpublished, next_number, Continues};
 ghost use Rattle.vol_shared.specs.Watching.{IsNewView, Covers};
 
+use crate::board::{Board, deal, lay};
 use crate::closed::Closed;
 use crate::closing::{finish, gather};
 use crate::lock::{give_answered, give_back, give_cut};
-use crate::opening::{Board, deal, lay};
 use crate::session::{Session, enter, note};
 use crate::stock::Stock;
 use crate::watching::{settle, watch};

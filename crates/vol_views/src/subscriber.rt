@@ -1,4 +1,4 @@
-//! Who reads what is published.
+//! A place of one thread at what is published. How a view learns is in `view.rt`.
 ghost use Rattle.std.specs.Prelude.{◌≡◌, ◌≢◌, [], IfOk, IfErr};
 ghost use mathlib.Core.List.{IsPrefix};
 ghost use Rattle.vol_volume.specs.Answer.{Answers};

@@ -4,7 +4,7 @@ use Rattle.vol_views.specs.Views.{book_in}
 use Rattle.vol_shared.specs.Plays.{fresh, kept_part, given_part}
 use Rattle.vol_shared.specs.Sessions.{Known, new_session}
 use Rattle.vol_shared.proofs.Seats.{splits}
-use Rattle.vol_shared.proofs.opening.deal.Goals as goal
+use Rattle.vol_shared.proofs.board.deal.Goals as goal
 
 pub split_seat-part-requires : goal.split_seat-part-requires
 split_seat-part-requires c =

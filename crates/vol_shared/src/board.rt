@@ -1,4 +1,4 @@
-//! The lock's table is made, and its sessions are dealt out.
+//! The lock's table, a `Board`: made, and its place dealt out to sessions.
 ghost use Rattle.std.specs.Prelude.{◌≡◌, ◌+◌, ◌<◌, ◌≤◌, [], ◌∷◌, ◌++◌, length, vec_len, vec_capacity, All, IsSome, IfOk, IfErr, IfSome};
 ghost use Rattle.vol_views.specs.Logs.{number_of};
 ghost use Rattle.vol_views.specs.Views.{book_in};

@@ -1,7 +1,7 @@
 use Rattle.std.proofs.Common.{[], ◌∷◌, ◌++◌, ◌∙◌, sym, ap, Some}
 use Rattle.vol_shared.proofs.Seats.{opens}
 use Rattle.vol_shared.specs.Stored.{Stored}
-use Rattle.vol_shared.proofs.opening.lay.Goals as goal
+use Rattle.vol_shared.proofs.board.lay.Goals as goal
 
 pub new-requires : goal.new-requires
 new-requires c =

@@ -1,7 +1,7 @@
 use Rattle.std.proofs.Common.{◌≡◌, ◌+◌, ◌-◌, [], length, vec_capacity, All}
 use Rattle.vol_shared.specs.Plays.{fresh}
 use Rattle.vol_shared.specs.Sessions.{new_session}
-use Rattle.vol_shared.proofs.opening.deal.Given as goal
+use Rattle.vol_shared.proofs.board.deal.Given as goal
 
 abbrev pub invariant-loop-i : goal.invariant-loop-i
 invariant-loop-i l = record {

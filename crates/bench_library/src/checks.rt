@@ -10,7 +10,7 @@ use pdp_words::Image;
 use std::alloc::Global;
 use std::sync::Wait;
 use std::thread::Threads;
-use vol_check::{Open, dcheck, icheck, ncheck};
+use vol_check::{MOST_WORKERS, Open, dcheck, icheck, ncheck};
 use vol_layout::Edition;
 
 /// A checker.
@@ -33,7 +33,7 @@ pub(crate) struct Task {
 impl Task {
     /// The task that these words ask for, of which the first is its name.
     pub(crate) fn read(words: &[String]) -> Option<Task>
-        ensures { IfSome result (λ task. (1 ≤ task.workers) × (task.workers ≤ 64)) }
+        ensures { IfSome result (λ task. (1 ≤ task.workers) × (task.workers ≤ MOST_WORKERS)) }
     {
         let edition = match words.get(1)?.as_str() {
             "6" => Edition::V6,
@@ -48,7 +48,7 @@ impl Task {
         };
         let workers = words.get(3)?.as_str().parse::<usize>().ok()?;
         let times = words.get(4)?.as_str().parse::<u32>().ok()?;
-        if workers < 1 || workers > 64 {
+        if workers < 1 || workers > MOST_WORKERS {
             return None;
         }
         Some(Task {
@@ -62,7 +62,7 @@ impl Task {
     /// Checks an image once, and returns how many lines the report has.
     fn check<R: Threads + Wait + Sync>(self, rt: &R, alloc: Global, image: &Image) -> Option<u64>
         requires first { 1 ≤ self.workers }
-        requires last { self.workers ≤ 64 }
+        requires last { self.workers ≤ MOST_WORKERS }
     {
         let Task {
             edition,
@@ -85,7 +85,7 @@ impl Task {
         image: &Image,
     ) -> Option<Vec<u8>>
         requires first { 1 ≤ self.workers }
-        requires last { self.workers ≤ 64 }
+        requires last { self.workers ≤ MOST_WORKERS }
     {
         let mut lines: u64 = 0;
         for _ in 0..self.times {

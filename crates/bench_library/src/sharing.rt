@@ -8,7 +8,7 @@ use std::sync::Wait;
 use std::sync::atomic::{AtomicBool, AtomicU64, Ordering};
 use std::thread;
 use std::thread::Threads;
-use vol_shared::{Session, Shared, View};
+use vol_shared::{MOST_VIEWS, Session, Shared, View};
 use vol_volume::Volume;
 
 /// So many calls by one session of a volume without views.
@@ -29,7 +29,7 @@ pub(crate) fn share_published<R: Threads + Wait + Sync>(
     views: usize,
     task: Task,
 ) -> Option<u64>
-    requires { views ≤ 16 }
+    requires { views ≤ MOST_VIEWS }
 {
     let Ok((shared, mut sessions, mut views)) = Shared::open_with(rt, alloc, volume, 2, views)
     else {

@@ -63,7 +63,7 @@ impl Task {
             Job::Calls if self.views == 0 => share(rt, alloc, volume, self),
             Job::Views if self.views > 4 => None,
             Job::Views => share_published(rt, alloc, volume, 4 * self.views, self),
-            _ if self.views > 16 => None,
+            _ if self.views > MOST_VIEWS => None,
             _ => share_published(rt, alloc, volume, self.views, self),
         }?;
         let line = format!(in alloc; "{done} done\n").ok()?;

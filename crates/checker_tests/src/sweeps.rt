@@ -14,7 +14,7 @@ use std::alloc::{AllocError, Global};
 use std::process::Abort;
 use std::thread;
 use std::thread::Threads;
-use vol_check::{CheckSeat, Checker, Sweep};
+use vol_check::{CheckSeat, Checker, MOST_WORKERS, Sweep};
 use vol_layout::{Edition, Geometry};
 use vol_reports::Report;
 
@@ -26,7 +26,7 @@ const ENOUGH: u64 = 40_000;
 enum Division {
     /// One seat does them all.
     OneSeat,
-    /// 64 seats take turns.
+    /// As many seats as there may be take turns.
     Turns,
     /// Seven threads have a seat each.
     SevenThreads,
@@ -36,11 +36,11 @@ impl Division {
     /// How many seats there are.
     fn seats(self) -> usize
         ensures first { 1 ≤ result }
-        ensures last { result ≤ 64 }
+        ensures last { result ≤ MOST_WORKERS }
     {
         match self {
             Division::OneSeat => 1,
-            Division::Turns => 64,
+            Division::Turns => MOST_WORKERS,
             Division::SevenThreads => 7,
         }
     }

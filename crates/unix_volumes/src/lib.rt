@@ -35,7 +35,8 @@ pub use pdp_words::{
 };
 pub use vol_archive::{Start, StartFault, WriteFault, export, start_of};
 pub use vol_check::{
-    CheckSeat, Checker, Gate, Open, Piece, SalvageFault, Sweep, dcheck, icheck, ncheck, salvage,
+    CheckSeat, Checker, Gate, MOST_WORKERS, Open, Piece, SalvageFault, Sweep, dcheck, icheck,
+    ncheck, salvage,
 };
 pub use vol_dir::{Cred, Refusal};
 pub use vol_findings as rules;
@@ -44,8 +45,8 @@ pub use vol_layout::{Edition, Geometry, GeometryFault, Kind};
 pub use vol_migrate::{MigrateFault, migrate};
 pub use vol_receipts::{Asked, ConfirmFault, Confirmed, Outcome, Receipt, confirm, confirm_all};
 pub use vol_reports::{FreeFault, Line, Report, Total};
-pub use vol_shared::{Closed, OpenFault, Session, Shared};
-pub use vol_views::{View, ViewFault};
+pub use vol_shared::{Closed, MOST_SESSIONS, OpenFault, Session, Shared};
+pub use vol_views::{MOST_VIEWS, View, ViewFault};
 pub use vol_volume::{
     BlankVolume, Bytes, Call, Done, Listing, MkfsFault, MountFault, NewVolume, Query, Record,
     Reply, Stat, TooManyRecords, Volume, ask, judge, mkfs,

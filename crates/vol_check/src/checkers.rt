@@ -13,6 +13,9 @@ use std::thread::Threads;
 use vol_layout::Edition;
 use vol_reports::Report;
 
+/// The most threads that a check may have, and the most seats of a sweep.
+pub const MOST_WORKERS: usize = 64;
+
 /// The block report of an image, by so many threads, which wait for no lock; where one can't be started, the others
 /// do its pieces. The gate is called round each piece.
 ///
@@ -28,7 +31,7 @@ pub fn icheck<R: Threads + Sync, W: Wait, G: Gate>(
     gate: &G,
 ) -> Result<Report, AllocError>
     requires first { 1 ≤ workers }
-    requires last { workers ≤ 64 }
+    requires last { workers ≤ MOST_WORKERS }
     ensures { IfOk result (λ report. report ≡ block_report edition image.now) }
 {
     check(
@@ -56,7 +59,7 @@ pub fn dcheck<R: Threads + Sync, W: Wait, G: Gate>(
     gate: &G,
 ) -> Result<Report, AllocError>
     requires first { 1 ≤ workers }
-    requires last { workers ≤ 64 }
+    requires last { workers ≤ MOST_WORKERS }
     ensures { IfOk result (λ report. report ≡ entry_report edition image.now) }
 {
     check(
@@ -84,7 +87,7 @@ pub fn ncheck<R: Threads + Sync, W: Wait, G: Gate>(
     gate: &G,
 ) -> Result<Report, AllocError>
     requires first { 1 ≤ workers }
-    requires last { workers ≤ 64 }
+    requires last { workers ≤ MOST_WORKERS }
     ensures { IfOk result (λ report. IsNameReport edition image.now report) }
 {
     check(
@@ -109,7 +112,7 @@ fn check<R: Threads + Sync, G: Gate>(
     gate: &G,
 ) -> Result<Report, AllocError>
     requires first { 1 ≤ workers }
-    requires last { workers ≤ 64 }
+    requires last { workers ≤ MOST_WORKERS }
     ensures { IfOk result (λ report. IsReport checker edition image.now report) }
 {
     let (sweep, mut seats) = Sweep::new(alloc, edition, image, checker, workers)?;

@@ -14,6 +14,7 @@ ghost use Rattle.vol_check.specs.Layouts.{IsFor, HasSameHead, IsSeatIn, HasSwept
 ghost use Rattle.vol_check.specs.Seats.{IsFresh};
 
 use crate::checker::Checker;
+use crate::checkers::MOST_WORKERS;
 use crate::parts::part_starts;
 use crate::seats::CheckSeat;
 use crate::sweeps::Sweep;
@@ -37,7 +38,7 @@ impl Sweep {
         seats: usize,
     ) -> Result<(Sweep, Vec<CheckSeat>), AllocError>
         requires first { 1 ≤ seats }
-        requires last { seats ≤ 64 }
+        requires last { seats ≤ MOST_WORKERS }
         ensures edition { IfOk result (λ s. s.0.edition ≡ edition) }
         ensures checker { IfOk result (λ s. s.0.checker ≡ checker) }
         ensures image { IfOk result (λ s. IsFor s.0 image.now) }

@@ -18,7 +18,7 @@ mod sweep;
 mod sweeps;
 
 pub use checker::Checker;
-pub use checkers::{dcheck, icheck, ncheck};
+pub use checkers::{MOST_WORKERS, dcheck, icheck, ncheck};
 pub use gate::{Gate, Open};
 pub use salvaging::{SalvageFault, salvage};
 pub use seats::{CheckSeat, Piece};

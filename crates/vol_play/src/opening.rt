@@ -5,11 +5,11 @@ ghost use Rattle.vol_play.specs.Opened.{Closes, IsOpened, IsReturned};
 
 use std::alloc::{AllocError, Global};
 use std::sync::Wait;
-use vol_shared::{Closed, Session, Shared, View};
+use vol_shared::{Closed, MOST_SESSIONS, MOST_VIEWS, Session, Shared, View};
 use vol_volume::Volume;
 
-/// Shares a volume, with so many sessions, 1 to 64, and so many views, at most 16. No place for a view counts as want of
-/// memory.
+/// Shares a volume, with so many sessions, 1 to [`MOST_SESSIONS`], and so many views, at most [`MOST_VIEWS`]. If there is
+/// no place for a view, that counts as out of memory.
 ///
 /// Takes what [`Shared::open`] takes, and with views what [`Shared::open_with`] takes.
 pub(crate) fn open<R: Wait>(
@@ -20,8 +20,8 @@ pub(crate) fn open<R: Wait>(
     views: usize,
 ) -> Result<(Shared, Vec<Session>, Vec<View>), AllocError>
     requires least { 1 ≤ sessions }
-    requires most { sessions ≤ 64 }
-    requires most_views { views ≤ 16 }
+    requires most { sessions ≤ MOST_SESSIONS }
+    requires most_views { views ≤ MOST_VIEWS }
     ensures { IfOk result (λ (shared, all, seen). IsOpened (stored_of volume) sessions views shared all.items seen.items) }
 {
     if views == 0 {
@@ -38,7 +38,7 @@ fn open_plain(
     sessions: usize,
 ) -> Result<(Shared, Vec<Session>, Vec<View>), AllocError>
     requires least { 1 ≤ sessions }
-    requires most { sessions ≤ 64 }
+    requires most { sessions ≤ MOST_SESSIONS }
     ensures { IfOk result (λ (shared, all, seen). IsOpened (stored_of volume) sessions 0 shared all.items seen.items) }
 {
     match Shared::open(alloc, volume, sessions) {
@@ -56,9 +56,9 @@ fn open_published<R: Wait>(
     views: usize,
 ) -> Result<(Shared, Vec<Session>, Vec<View>), AllocError>
     requires least { 1 ≤ sessions }
-    requires most { sessions ≤ 64 }
+    requires most { sessions ≤ MOST_SESSIONS }
     requires least_views { 1 ≤ views }
-    requires most_views { views ≤ 16 }
+    requires most_views { views ≤ MOST_VIEWS }
     ensures { IfOk result (λ (shared, all, seen). IsOpened (stored_of volume) sessions views shared all.items seen.items) }
 {
     match Shared::open_with(rt, alloc, volume, sessions, views) {

@@ -15,7 +15,7 @@ use std::sync::Wait;
 use std::thread::Threads;
 use vol_check::Gate;
 use vol_scripts::{Played, Script};
-use vol_shared::{Session, Shared, View};
+use vol_shared::{MOST_SESSIONS, MOST_VIEWS, Session, Shared, View};
 use vol_volume::Volume;
 
 /// Plays scripts on a volume, each by a session or a view of its own, and returns the volume and what came of their lines.
@@ -28,8 +28,8 @@ pub(crate) fn play_on<R: Threads + Wait + Sync, G: Gate>(
     gate: &G,
 ) -> Result<(Volume, Vec<Vec<Played>>), AllocError>
     requires first { 1 ≤ length scripts.items }
-    requires last { length scripts.items ≤ 64 }
-    requires views { count_by is_view scripts.items ≤ 16 }
+    requires last { length scripts.items ≤ MOST_SESSIONS }
+    requires views { count_by is_view scripts.items ≤ MOST_VIEWS }
     ensures { IfOk result (λ made. ArePlayed (stored_of volume) scripts.items made.0 made.1.items) }
 {
     let views = count_views(&scripts);

@@ -16,6 +16,7 @@ use vol_commands::answer::{report, tell};
 use vol_commands::{Answer, Fault};
 use vol_layout::Edition;
 use vol_scripts::{Played, Script, Step, finish, read_scripts, refuse};
+use vol_shared::{MOST_SESSIONS, MOST_VIEWS};
 use vol_volume::Volume;
 
 /// Plays scripts as [`perform`] does, and writes the line of its fault to `errors`.
@@ -30,7 +31,7 @@ pub fn play<R: Threads + Wait + Sync, G: Gate, O: Sink, E: Sink>(
     errors: &mut E,
 ) -> Answer
     requires first { 1 ≤ length scripts.now }
-    requires last { length scripts.now ≤ 64 }
+    requires last { length scripts.now ≤ MOST_SESSIONS }
     ensures { PlaysVolume edition image.items scripts.now (streams O.contents O.failed output.old output.new (heard E.contents E.failed errors.old errors.new)) result }
 {
     let answer = perform(rt, alloc, edition, image, scripts, gate, output);
@@ -38,8 +39,9 @@ pub fn play<R: Threads + Wait + Sync, G: Gate, O: Sink, E: Sink>(
     answer
 }
 
-/// Plays 1 to 64 scripts on the volume in some bytes, each by one session, or one view where its first line says so, in one
-/// thread; a script whose thread can't be started is played by the calling thread. The gate is called round each script, with its number from 0.
+/// Plays 1 to [`MOST_SESSIONS`] scripts on the volume in some bytes, each by one session, or one view where its first
+/// line says so, in one thread; a script whose thread can't be started is played by the calling thread. The gate is
+/// called round each script, with its number from 0.
 ///
 /// All scripts are read before the first call. Where a line can't be read, the volume isn't mounted or memory runs out
 /// before the first call, nothing is to be saved, and that is the fault; the status is 2 for a line, 1
@@ -57,7 +59,7 @@ pub fn perform<R: Threads + Wait + Sync, G: Gate, O: Sink>(
     output: &mut O,
 ) -> Answer
     requires first { 1 ≤ length scripts.now }
-    requires last { length scripts.now ≤ 64 }
+    requires last { length scripts.now ≤ MOST_SESSIONS }
     ensures { (errors : ErrorStream) → Hears errors result.fault
         → PlaysVolume edition image.items scripts.now (streams O.contents O.failed output.old output.new errors) result }
 {
@@ -82,8 +84,8 @@ fn play_image<R: Threads + Wait + Sync, G: Gate>(
     gate: &G,
 ) -> Result<(Volume, Vec<Vec<Played>>), Fault>
     requires first { 1 ≤ length scripts.items }
-    requires last { length scripts.items ≤ 64 }
-    requires views { count_by is_view scripts.items ≤ 16 }
+    requires last { length scripts.items ≤ MOST_SESSIONS }
+    requires views { count_by is_view scripts.items ≤ MOST_VIEWS }
     ensures played { IfOk result (λ made. IsPlayed edition image.items scripts.items made.0 made.1.items) }
     ensures fault { IfErr result (IsUnplayed edition image.items) }
 {

@@ -6,6 +6,7 @@ use crate::lines::{FromLine, LineFault};
 use crate::pieces::Pieces;
 use crate::steps::{Script, Sequence};
 use std::alloc::{AllocError, Global};
+use vol_views::MOST_VIEWS;
 
 /// Why a script wasn't read.
 #[derive(Clone, Copy, Debug, PartialEq, Eq)]
@@ -28,9 +29,6 @@ impl From<AllocError> for ScriptFault {
 
 /// The line that says that a script is for a view.
 const VIEW_LINE: &[u8] = b"view\n";
-
-/// How many scripts may be for views.
-const MOST_VIEWS: u64 = 16;
 
 /// What a script asks for: of a view, where its first line is the word `view`, else of a session. Each line ends with
 /// a newline, and a script of no bytes has none. What is asked of a view are queries alone.
@@ -97,8 +95,8 @@ pub enum ScriptsFault {
     NoMemory,
 }
 
-/// What several scripts ask for, as [`read_script`] reads each; at most 16 may be for views, and the first line of a
-/// further one can't be read. Takes memory as it does, and a list of the scripts.
+/// What several scripts ask for, as [`read_script`] reads each; at most [`MOST_VIEWS`] may be for views, and the first
+/// line of a further one can't be read. Takes memory as it does, and a list of the scripts.
 pub fn read_scripts(alloc: Global, scripts: &[Vec<u8>]) -> Result<Vec<Script>, ScriptsFault>
     ensures { ReadsScripts scripts.now result }
 {
@@ -119,13 +117,13 @@ pub fn read_scripts(alloc: Global, scripts: &[Vec<u8>]) -> Result<Vec<Script>, S
 
 /// What a script asks for, where so many before it are for views.
 fn read_next(alloc: Global, views: &mut u64, script: &[u8]) -> Result<Script, ScriptFault>
-    requires { views.old ≤ 16 }
+    requires { views.old ≤ MOST_VIEWS }
     ensures read { ReadsScript (script_after views.old script.now) result }
     ensures views { OnOk result (views.new ≡ views_after views.old script.now) }
-    ensures most { views.new ≤ 16 }
+    ensures most { views.new ≤ MOST_VIEWS }
 {
     if script.starts_with(VIEW_LINE) {
-        if *views == MOST_VIEWS {
+        if *views == MOST_VIEWS as u64 {
             return Err(ScriptFault::Line(1));
         }
         *views += 1;

@@ -16,6 +16,6 @@ mod watching;
 
 pub use closed::Closed;
 pub use session::Session;
-pub use shared::{OpenFault, Shared};
+pub use shared::{MOST_SESSIONS, OpenFault, Shared};
 pub use vol_receipts::{Asked, ConfirmFault, Confirmed, Outcome, Receipt};
-pub use vol_views::{View, ViewFault};
+pub use vol_views::{MOST_VIEWS, View, ViewFault};

@@ -20,8 +20,11 @@ use std::marker::Model;
 use std::sync::Wait;
 use thiserror::Error;
 use vol_receipts::Receipt;
-use vol_views::{Publisher, View};
+use vol_views::{MOST_VIEWS, Publisher, View};
 use vol_volume::{Call, Query, Volume};
+
+/// The most sessions that a volume may be opened with.
+pub const MOST_SESSIONS: usize = 64;
 
 /// A volume that threads share. One thread at a time calls it, by a session of its own; the others wait for it. It is never
 /// dropped: [`Shared::close`] ends it, with all its sessions.
@@ -54,7 +57,7 @@ impl Model for Shared {
 }
 
 impl Shared {
-    /// A volume under a lock, with so many sessions, 1 to 64. Where memory runs out, the volume comes back.
+    /// A volume under a lock, with so many sessions, 1 to [`MOST_SESSIONS`]. Where memory runs out, the volume comes back.
     ///
     /// Takes a few bytes for the lock and for each session. Memory counts as run out too where the volume's next
     /// record has no number below 2^64.
@@ -64,7 +67,7 @@ impl Shared {
         sessions: usize,
     ) -> Result<(Shared, Vec<Session>), (AllocError, Volume)>
         requires least { 1 ≤ sessions }
-        requires most { sessions ≤ 64 }
+        requires most { sessions ≤ MOST_SESSIONS }
         ensures stored { IfOk result (λ (shared, all). shared.stored ≡ stored_of volume) }
         ensures unpublished { IfOk result (λ (shared, all). shared.of.book ≡ None) }
         ensures sessions { IfOk result (λ (shared, all). shared.sessions ≡ sessions) }
@@ -93,8 +96,9 @@ impl Shared {
         Ok((shared, all))
     }
 
-    /// A volume under a lock, with so many sessions, 1 to 64, and so many views, at most 16. Where memory runs out, or there
-    /// is no place for a view, the volume comes back. It is ended by [`Shared::close_with`].
+    /// A volume under a lock, with so many sessions, 1 to [`MOST_SESSIONS`], and so many views, at most
+    /// [`MOST_VIEWS`]. Where memory runs out, or there is no place for a view, the volume comes back. It is ended by
+    /// [`Shared::close_with`].
     ///
     /// Takes memory for two copies of the image, and a few bytes for the lock, for each session and for each view. Memory
     /// counts as run out too where the volume's next record has no number below 2^64.
@@ -107,8 +111,8 @@ impl Shared {
         views: usize,
     ) -> Result<(Shared, Vec<Session>, Vec<View>), (OpenFault, Volume)>
         requires least { 1 ≤ sessions }
-        requires most { sessions ≤ 64 }
-        requires most_views { views ≤ 16 }
+        requires most { sessions ≤ MOST_SESSIONS }
+        requires most_views { views ≤ MOST_VIEWS }
         ensures stored { IfOk result (λ (shared, all, seen). unpublished shared.stored ≡ stored_of volume) }
         ensures sessions { IfOk result (λ (shared, all, seen). (shared.sessions ≡ sessions) × (length all.items ≡ sessions)) }
         ensures views { IfOk result (λ (shared, all, seen). (shared.views ≡ views) × (length seen.items ≡ views)) }
@@ -293,7 +297,7 @@ fn publish<R: Wait>(
     volume: Volume,
     views: usize,
 ) -> Result<(Stock, Vec<View>), (OpenFault, Volume)>
-    requires { views ≤ 16 }
+    requires { views ≤ MOST_VIEWS }
     ensures stored { IfOk result (λ (stock, seen). unpublished stock ≡ stored_of volume) }
     ensures count { IfOk result (λ (stock, seen). length seen.items ≡ views) }
     ensures new_views { IfOk result (λ (stock, seen). All (IsNewView stock) seen.items) }

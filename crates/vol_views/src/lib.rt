@@ -27,4 +27,4 @@ pub use publisher::Publisher;
 pub use subscriber::{Answered, Subscriber};
 pub use told::{Informed, Told};
 pub use version::Version;
-pub use view::{View, ViewFault};
+pub use view::{MOST_VIEWS, View, ViewFault};

@@ -19,6 +19,9 @@ use vol_dir::Refusal;
 use vol_receipts::{Asked, Outcome, Receipt};
 use vol_volume::Query;
 
+/// The most views that a volume may be opened with.
+pub const MOST_VIEWS: usize = 16;
+
 /// A view of a volume, for one thread at a time: it answers queries from what is published, and takes no lock. What it
 /// answers is never older than what it answered or learnt before. It keeps, for contracts alone, its receipts.
 #[derive(Drop)]

@@ -1,9 +1,8 @@
-//! The changes that accepted calls make of a volume, once their paths are walked: each of the nine, and
-//! the changes of one node of the tree, of which they are made.
+//! The change that each of the nine calls makes of a volume, once its paths are walked.
 #![tactic(auto)]
 
 mod calls;
-pub mod entries;
+mod entries;
 mod freeing;
 mod links;
 mod new_nodes;

@@ -1,4 +1,3 @@
-pub mod Faults
 pub mod Raised
 pub mod Refusing
 pub mod Migrating

@@ -1,7 +1,4 @@
 //! Why a volume isn't migrated.
-ghost use Rattle.std.specs.Prelude.{◌≡◌};
-ghost use Rattle.vol_migrate.specs.Faults.{migrate_fault_line};
-
 use thiserror::Error;
 
 /// Why a volume wasn't migrated.
@@ -25,20 +22,4 @@ pub enum MigrateFault {
     /// An allocation was refused.
     #[error("12 NoMemory")]
     NoMemory,
-}
-
-impl MigrateFault {
-    /// The line on standard error, with its newline.
-    pub fn line(self) -> &'static str
-        ensures { result.now ≡ migrate_fault_line self }
-    {
-        match self {
-            MigrateFault::Invalid => "unixvol: 22 Invalid\n",
-            MigrateFault::Bounds => "unixvol: bounds\n",
-            MigrateFault::HasDevice => "unixvol: 105 HasDevice\n",
-            MigrateFault::NoInode => "unixvol: 103 NoInode\n",
-            MigrateFault::NoSpace => "unixvol: 28 NoSpace\n",
-            MigrateFault::NoMemory => "unixvol: 12 NoMemory\n",
-        }
-    }
 }

@@ -29,7 +29,5 @@ fn what_a_fault_is_called(rt: HostRuntime) {
     for (fault, words) in faults {
         let told = format!(in alloc; "{fault}").expect(&rt, "memory for the words");
         assert_eq!(&rt; told.as_str(), words);
-        let line = format!(in alloc; "unixvol: {words}\n").expect(&rt, "memory for the line");
-        assert_eq!(&rt; fault.line(), line.as_str());
     }
 }

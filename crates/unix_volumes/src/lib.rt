@@ -43,7 +43,9 @@ pub use vol_findings as rules;
 pub use vol_import::{ArchiveFault, ImportFault, import};
 pub use vol_layout::{Edition, Geometry, GeometryFault, Kind};
 pub use vol_migrate::{MigrateFault, migrate};
-pub use vol_receipts::{Asked, ConfirmFault, Confirmed, Outcome, Receipt, confirm, confirm_all};
+pub use vol_receipts::{
+    Asked, ConfirmFault, Confirmed, Finding, Outcome, Receipt, confirm, confirm_all, find_all,
+};
 pub use vol_reports::{FreeFault, Line, Report, Total};
 pub use vol_shared::{Closed, MOST_SESSIONS, OpenFault, Session, Shared};
 pub use vol_views::{MOST_VIEWS, View, ViewFault};

@@ -1,49 +1,16 @@
 // Gates: two workers that are at work at the same time, and each piece between two calls.
 use crate::fixtures::{SIXTH, check_report, image_of};
 use std::sync::atomic::{AtomicU64, Ordering};
-use std::thread;
+use vol_check::testing::Meeting;
 use vol_check::{Gate, icheck};
-
-/// Turns for which a gate holds a piece.
-const TURNS: u32 = 20_000_000;
-
-/// Holds pieces 0 and 1, each until the other is before the gate too.
-#[derive(Drop)]
-struct Meeting {
-    /// How many of the two have come.
-    came: AtomicU64,
-    /// How many of them went on without the other.
-    missed: AtomicU64,
-}
-
-impl Gate for Meeting {
-    fn before(&self, piece: u64) {
-        if piece > 1 {
-            return;
-        }
-        self.came.fetch_add(1, Ordering::SeqCst);
-        for _ in 0..TURNS {
-            if self.came.load(Ordering::SeqCst) == 2 {
-                return;
-            }
-            thread::yield_now();
-        }
-        self.missed.fetch_add(1, Ordering::SeqCst);
-    }
-
-    fn after(&self, _piece: u64) {}
-}
 
 #[test]
 fn two_workers_meet_before_their_first_pieces(rt: HostRuntime) {
     let alloc = rt.alloc();
     let image = image_of(&rt, alloc, &SIXTH);
-    let gate = Meeting {
-        came: AtomicU64::new(0),
-        missed: AtomicU64::new(0),
-    };
+    let gate = Meeting::new();
     let report = icheck(&rt, &rt, alloc, SIXTH.edition, &image, 2, &gate);
-    assert_eq!(rt; gate.missed.load(Ordering::SeqCst), 0);
+    assert_eq!(rt; gate.missed(), 0);
     let wanted = b"files 0\ndirectories 1\nspecial 0\nodd 0\nused 1\nfree 15\nmissing 0\n";
     check_report(&rt, alloc, report, (wanted, false));
 }

@@ -16,6 +16,7 @@ mod seats;
 mod slots;
 mod sweep;
 mod sweeps;
+pub mod testing;
 
 pub use checker::Checker;
 pub use checkers::{MOST_WORKERS, dcheck, icheck, ncheck};

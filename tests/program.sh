@@ -622,6 +622,23 @@ changed made7 damaged 25602 '00 00 32 00' # block 50, which has the rest of the 
 refuses 1 'unixvol: unsound, rule 6' ls 7 damaged /
 prints none salvage 7 damaged
 saves 'a volume with a free list that goes round, salvaged' damaged made7
+# A volume with files, cached i-numbers and bytes past the end of a file: but for the free list all stays.
+cp "$samples/linux_made.v7" files
+put files $((20 * 512 + 500)) 'AA BB' # block 20 has the eight bytes of /etc/motd
+changed files damaged 518 '30 00'
+refuses 1 'unixvol: unsound, rule 8' ls 7 damaged /
+prints none salvage 7 damaged
+# stays LABEL FROM COUNT: these bytes of the salvaged volume are as they were
+stays() { has "$1 of a salvaged volume" "$(od -An -v -tx1 -j "$2" -N "$3" files)" "$(od -An -v -tx1 -j "$2" -N "$3" damaged)"; }
+stays 'the boot block and the sizes' 0 518
+stays 'the cache, the flags and the time' 720 304
+stays 'the i-list' 1024 6144
+stays 'the block of a file, past its end too,' $((20 * 512)) 512
+"$program" export 7 files > wanted
+prints wanted export 7 damaged
+cp damaged before
+prints none salvage 7 damaged
+saves 'a volume that was salvaged before' damaged before
 # Two files of one block each, and the second one names the block of the first.
 cp made twice
 printf A > one_letter

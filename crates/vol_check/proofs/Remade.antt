@@ -236,4 +236,8 @@ salvaged edition old new used rules fits after marked keeps free =
       sound = sound_by edition geometry new same (whole_kept edition old new same keeps.len (rules 1)) (bounded_kept edition old new same (rules 2)) whole graph;
       reads = ap (λ g. state g new) same ∙ remade_state geometry old new used fits marked keeps (rules 5);
       around = around;
+      used = used;
+      named = marked;
+      free = free;
+      stays = keeps;
     }

@@ -1,14 +1,17 @@
 #!/usr/bin/env bash
 # Prints what the gate costs: processor and wall minutes by crate and by part, as the processes of the run took them.
 #
-#   bench/gate.sh             runs `rt ci --anew`: everything from nothing, whatever earlier runs kept
+#   bench/gate.sh             runs the gate with everything from nothing: `rt ci --anew`, or `rt ci` of a toolchain that keeps nothing from run to run
 #   bench/gate.sh COMMAND..   runs this command instead (`rt ci`, `rt ci vol_free`)
 #
 # The parts: proof (of a crate), tests (the proof of its test functions), base (the check that its wrong bodies are tried over), bodies (the wrong bodies), build (of a
 # program, by both compilers). What rt itself takes, links and runs is the row `rt`. Times are read every half second: of a process that ends between two readings the rest is missing.
 set -euo pipefail
 cd "$(dirname "$0")/.."
-(($#)) || set -- "${RT:-rt}" ci --anew
+if ((!$#)); then
+    set -- "${RT:-rt}" ci
+    if "$1" help 2>&1 | grep -q -e --anew; then set -- "$@" --anew; fi
+fi
 
 declare -A cost=() first=() last=() name=() kind=()
 ticks=$(getconf CLK_TCK)

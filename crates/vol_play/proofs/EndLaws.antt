@@ -1,5 +1,5 @@
 -- What is known of a volume once all scripts were played, by what came of their lines.
-use Rattle.std.proofs.Common.{◌≡◌, ◌∙◌, ℕ, ◌+◌, ◌≤◌, List, [], ◌∷◌, ◌++◌, Some, map, max, All, refl, ap, sym, arith}
+use Rattle.std.proofs.Common.{◌≡◌, ◌∙◌, ℕ, ◌+◌, ◌≤◌, List, [], ◌∷◌, ◌++◌, Some, map, max, All, true≢false, false, refl, ap, sym, arith}
 use Rattle.std.proofs.lemmas.List.Elements.{All-append, All-cons, All-head, All-nil, All-same, All-tail, All-weaker}
 use Rattle.std.specs.Prelude.{Vec}
 use Rattle.std.specs.Global.{Global}
@@ -21,7 +21,7 @@ use Rattle.vol_volume.specs.Volume.{Mounted}
 use Rattle.vol_play.specs.Opened.{Closes, fresh_session}
 use Rattle.vol_play.specs.Players.{InPairs, played_by, sessions_of, views_of}
 use Rattle.vol_play.specs.Playing.{ArePlayed}
-use Rattle.vol_play.specs.Steps.{CameOfScript, cuts_made, places_made}
+use Rattle.vol_play.specs.Steps.{CameOfScript, is_seen, cuts_made, places_made}
 use Rattle.vol_play.specs.declared.preparing.Player.{Player}
 use Rattle.vol_play.specs.declared.preparing.Player.TheVariants.{Caller, Viewer}
 use Rattle.vol_play.proofs.ListLaws.{all_after, greatest_none, total_none}
@@ -94,6 +94,22 @@ module _ (shared : Opened) where
       (All-same fits (receipts_in played.items) view.receipts (sym all.0.3) (All-head (λ (v : Watched). All fits v.receipts) view (views_of players) views))
       (receipts_dealt fits players all.1 sessions (All-tail (λ (v : Watched). All fits v.receipts) view (views_of players) views))
 
+  -- what holds of the receipts of all sessions holds of those of the scripts for sessions
+  called_dealt : (fits : Receipt → Type 0) (players : List Player) → AllByRecursion (IsEnded shared) players
+      → All (λ s. All fits s.receipts) (sessions_of players)
+      → All (λ came. is_seen came.items ≡ false → All fits (receipts_in came.items)) (map played_by players)
+  called_dealt fits [] all sessions = All-nil (λ (came : Vec Played Global). is_seen came.items ≡ false → All fits (receipts_in came.items))
+  called_dealt fits (Caller session steps played ∷ players) all sessions =
+      All-cons (λ (came : Vec Played Global). is_seen came.items ≡ false → All fits (receipts_in came.items)) played (map played_by players)
+      (λ called.
+      All-same fits (receipts_in played.items) session.receipts (sym (ap (λ (s : Known). s.receipts) all.0 ∙ known_receipts (fresh_session shared) played.items))
+      (All-head (λ (s : Known). All fits s.receipts) session (sessions_of players) sessions))
+      (called_dealt fits players all.1 (All-tail (λ (s : Known). All fits s.receipts) session (sessions_of players) sessions))
+  called_dealt fits (Viewer view queries played ∷ players) all sessions =
+      All-cons (λ (came : Vec Played Global). is_seen came.items ≡ false → All fits (receipts_in came.items)) played (map played_by players)
+      (λ called. absurd (true≢false (sym all.0.4 ∙ called)))
+      (called_dealt fits players all.1 sessions)
+
   -- the same, with the sessions that no script had
   module _ (left : List Known) (unused : All (λ s. s ≡ fresh_session shared) left) (players : List Player) (ended : AllByRecursion (IsEnded shared) players) where
     pub own_sessions : All (λ s. s.of ≡ shared.of) (left ++ sessions_of players)
@@ -134,6 +150,10 @@ module _ (shared : Opened) where
     ended_receipts fits sessions views =
         receipts_dealt fits players ended (all_after (λ (s : Known). All fits s.receipts) left (sessions_of players) sessions) views
 
+    ended_called : (fits : Receipt → Type 0) → All (λ s. All fits s.receipts) (left ++ sessions_of players)
+        → All (λ came. is_seen came.items ≡ false → All fits (receipts_in came.items)) (map played_by players)
+    ended_called fits sessions = called_dealt fits players ended (all_after (λ (s : Known). All fits s.receipts) left (sessions_of players) sessions)
+
     -- what is known of the volume once it ended is what a play comes to
     pub whole_played : (scripts : List Script) (last : Mounted) → InPairs (λ script came. CameOfScript script (next_number shared.stored) came.items) scripts (map played_by players)
         → Closes shared.stored (left ++ sessions_of players) (views_of players) last → ArePlayed (unpublished shared.stored) scripts last (map played_by players)
@@ -147,6 +167,7 @@ module _ (shared : Opened) where
           starts = closes.goes_on.1.starts;
           begins = closes.goes_on.1.begins;
         },
+        ended_called (Agrees shared.stored.origin (closes.goes_on.0 ++ last.journal)) closes.goes_on.2,
       );
       uncut = λ none. closes.uncut (ended_uncut none);
       first = closes.first ∙ ap (λ n. max shared.stored.origin.first n) ended_cuts;

@@ -1,5 +1,5 @@
 -- Players before and after all scripts were played.
-use Rattle.std.proofs.Common.{◌≡◌, ◌∙◌, ℕ, ◌+◌, ◌≤◌, List, [], ◌∷◌, ◌++◌, Some, length, map, All, refl, ap, sym, subst, append_assoc, length-append, arith}
+use Rattle.std.proofs.Common.{◌≡◌, ◌∙◌, ℕ, ◌+◌, ◌≤◌, List, [], ◌∷◌, ◌++◌, Some, length, map, All, true, refl, ap, sym, subst, append_assoc, length-append, arith}
 use Rattle.std.proofs.lemmas.List.Elements.{All-cons, All-head, All-nil, All-tail}
 use Rattle.std.specs.Prelude.{Vec, cond, count_by, vec_capacity}
 use Rattle.std.specs.Global.{Global}
@@ -19,12 +19,12 @@ use Rattle.vol_volume.specs.declared.calls.Record.{Record}
 use Rattle.vol_volume.specs.declared.queries.Query.{Query}
 use Rattle.vol_play.specs.Opened.{fresh_session, IsFreshView}
 use Rattle.vol_play.specs.Players.{CanPlay, HasPlayed, InPairs, IsDealt, IsDealtTo, IsPrepared, is_session, is_view, lines_of, played_by, sessions_of, views_of, wants_session, wants_view}
-use Rattle.vol_play.specs.Steps.{CameInTurn, CameOf, CameOfScript, CameOfView, cuts_made, known_after_all, places_made}
+use Rattle.vol_play.specs.Steps.{CameInTurn, CameOf, CameOfScript, CameOfView, is_seen, cuts_made, known_after_all, places_made}
 use Rattle.vol_play.specs.declared.preparing.Prepared.{Prepared}
 use Rattle.vol_play.specs.declared.preparing.Player.{Player}
 use Rattle.vol_play.specs.declared.preparing.Player.TheVariants.{Caller, Viewer}
 use Rattle.vol_play.proofs.ListLaws.{counted_first}
-use Rattle.vol_play.proofs.QueryLaws.{view_cuts, view_places}
+use Rattle.vol_play.proofs.QueryLaws.{view_cuts, view_places, view_seen}
 
 -- the sessions of players are that of the first and those of the others
 pub sessions_first : (player : Player) (players : List Player) → sessions_of (player ∷ players) ≡ sessions_of (player ∷ []) ++ sessions_of players
@@ -176,14 +176,20 @@ module _ (shared : Opened) where
   abbrev pub IsEnded : Player → Type 0
   IsEnded (Caller session steps played) = session ≡ known_after_all (fresh_session shared) played.items
   IsEnded (Viewer view queries played) = (places_made played.items ≡ []) × (cuts_made played.items ≡ [])
-      × (shared.of.book ≡ Some view.book) × (view.receipts ≡ receipts_in played.items)
+      × (shared.of.book ≡ Some view.book) × (view.receipts ≡ receipts_in played.items) × (is_seen played.items ≡ true)
 
   ended_player : (script : Script) (player : Player) → EndedAs script player → IsEnded player
   ended_player (kinds.Session wanted) (Caller session steps played) ended = ended.1
   ended_player (kinds.Session wanted) (Viewer view queries played) ended = absurd ended
   ended_player (kinds.View wanted) (Caller session steps played) ended = absurd ended
   ended_player (kinds.View wanted) (Viewer view queries played) ended =
-      (view_places wanted (next_number shared.stored) played.items ended.0, view_cuts wanted (next_number shared.stored) played.items ended.0, ended.1, ended.2)
+      (
+        view_places wanted (next_number shared.stored) played.items ended.0,
+        view_cuts wanted (next_number shared.stored) played.items ended.0,
+        ended.1,
+        ended.2,
+        view_seen wanted (next_number shared.stored) played.items ended.0,
+      )
 
   pub ended_players : (prepared : List Prepared) (players : List Player) → InPairs HasEnded prepared players → AllByRecursion IsEnded players
   ended_players [] [] all = tt

@@ -1,5 +1,5 @@
 -- What comes of the queries of a view.
-use Rattle.std.proofs.Common.{◌≡◌, ℕ, ◌≤◌, ◌-◌, List, [], ◌∷◌, length, refl, ap, subst, arith, length-append}
+use Rattle.std.proofs.Common.{◌≡◌, ℕ, ◌≤◌, ◌-◌, List, [], ◌∷◌, length, true, refl, ap, subst, arith, length-append}
 use Rattle.vol_views.specs.declared.history.LogEntry.{LogEntry}
 use Rattle.vol_views.specs.Logs.{history_of, number_of, origin_in}
 use Rattle.vol_receipts.specs.Agrees.{AgreesAfter, next_of, place_of}
@@ -14,14 +14,7 @@ use Rattle.vol_scripts.specs.declared.played.Played.TheVariants as played
 use Rattle.vol_views.specs.Views.{AgreesIn, GoesOn}
 use Rattle.vol_volume.specs.declared.calls.Record.{Record}
 use Rattle.vol_volume.specs.declared.queries.Query.{Query}
-use Rattle.vol_play.specs.Steps.{CameInTurn, CameOfQuery, CameOfView, cuts_made, next_after, places_made}
-
--- what goes on from a log has no lesser number
-pub number_on : (a b : List LogEntry) → GoesOn a b → number_of a ≤ number_of b
-number_on a b on =
-    let first = ap (λ (o : Origin). o.first) on.origin in
-    let longer = ap length on.records.1 in
-    omega (arith, first, longer, length-append (history_of a) on.records.0)
+use Rattle.vol_play.specs.Steps.{CameInTurn, CameOfQuery, CameOfView, is_seen, cuts_made, next_after, places_made}
 
 -- the receipt of a query has no place
 question_after : (origin : Origin) (journal : List Record) (count : ℕ) (query : Query) (at : ℕ) (outcome : Outcome)
@@ -103,3 +96,12 @@ view_cuts queries next (played.Cut first ∷ others) all = absurd all
 view_cuts queries next (played.NoMemory ∷ others) all = absurd all
 view_cuts queries next (played.NotEntered ∷ others) all = absurd all
 view_cuts queries next (played.View ∷ others) all = queries_cuts queries next others all
+
+-- what came of a view's script says that it is one
+pub view_seen : (queries : List Query) (next : ℕ) (came : List Played) → CameOfView queries next came → is_seen came ≡ true
+view_seen queries next [] all = absurd all
+view_seen queries next (played.Told receipt ∷ others) all = absurd all
+view_seen queries next (played.Cut first ∷ others) all = absurd all
+view_seen queries next (played.NoMemory ∷ others) all = absurd all
+view_seen queries next (played.NotEntered ∷ others) all = absurd all
+view_seen queries next (played.View ∷ others) all = refl

@@ -40,7 +40,7 @@ pub record IsReturned (shared : Opened) (all : List Known) (seen : List Watched)
 
 -- what is known of a shared volume that ends, by its sessions and views (this project)
 pub record Closes (opened : Stored) (all : List Known) (seen : List Watched) (last : Mounted) : Type 0 where
-  pub goes_on : Continues opened (stored_of last)
+  pub goes_on : Continues opened (stored_of last) (λ agrees. All (λ s. All agrees s.receipts) all)
   pub uncut : All (λ s. s.cuts ≡ []) all → (origin_of last ≡ opened.origin) × BeginsWith last.journal opened.journal
   pub first : last.first ≡ max opened.origin.first (greatest (λ s. greatest_of s.cuts) all)
   pub places : (weight : ℕ → ℕ) → total (λ s. total weight s.places) all + below weight (next_number opened) ≡ below weight (next_number (stored_of last))

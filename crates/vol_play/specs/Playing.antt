@@ -15,7 +15,7 @@ use Rattle.vol_scripts.specs.Ending.{Finishes, PrintsPlay, receipts_in}
 use Rattle.vol_scripts.specs.Reading.{ReadsScripts, scripts_in}
 use Rattle.vol_scripts.specs.Refusing.{AnswersFault, SavesNothing}
 use Rattle.vol_play.specs.Players.{InPairs}
-use Rattle.vol_play.specs.Steps.{CameOfScript, places_made, cuts_made}
+use Rattle.vol_play.specs.Steps.{CameOfScript, is_seen, places_made, cuts_made}
 use Rattle.vol_layout.specs.declared.edition.Edition.{Edition}
 use Rattle.vol_commands.specs.declared.answer.Answer.{Answer}
 use Rattle.vol_commands.specs.declared.faults.Fault.{Fault}
@@ -41,10 +41,10 @@ script_cuts (kinds.View queries) = false
 abbrev pub any_cut : List Script → Bool
 any_cut scripts = list_any script_cuts scripts
 
--- scripts were played on a volume: something came of each line of each script, in order; the volume goes on from what it was, and where no script cut the journal, that goes on from the one that there was; the journal's first number is the greatest that a cut answered, or that of the start; the accepted calls of all scripts have the numbers of the records made since, each once; and each receipt agrees with the journal, but for those with lesser numbers than its first (this project)
+-- scripts were played on a volume: something came of each line of each script, in order; the volume goes on from what it was by records with which all receipts of sessions agree, those of before a cut too, and where no script cut the journal, that goes on from the one that there was; the journal's first number is the greatest that a cut answered, or that of the start; the accepted calls of all scripts have the numbers of the records made since, each once; and each receipt agrees with the journal, but for those with lesser numbers than its first (this project)
 pub record ArePlayed (opened : Stored) (scripts : List Script) (last : Mounted) (played : List (Vec Played Global)) : Type 0 where
   pub came : InPairs (λ script came. CameOfScript script (next_number opened) came.items) scripts played
-  pub goes_on : Continues opened (stored_of last)
+  pub goes_on : Continues opened (stored_of last) (λ agrees. All (λ came. is_seen came.items ≡ false → All agrees (receipts_in came.items)) played)
   pub uncut : All (λ came. cuts_made came.items ≡ []) played → (origin_of last ≡ opened.origin) × BeginsWith last.journal opened.journal
   pub first : last.first ≡ max opened.origin.first (greatest (λ came. greatest_of (cuts_made came.items)) played)
   pub places : (weight : ℕ → ℕ) → total (λ came. total weight (places_made came.items)) played + below weight (next_number opened)

@@ -1,5 +1,5 @@
 -- What comes of the lines of a script, and what its session is then.
-use Rattle.std.specs.Prelude.{◌≡◌, ℕ, ◌≤◌, List, [], ◌∷◌, ◌++◌, true}
+use Rattle.std.specs.Prelude.{◌≡◌, ℕ, ◌≤◌, Bool, List, [], ◌∷◌, ◌++◌, true, false}
 use Rattle.vol_receipts.specs.Agrees.{place_of, next_of}
 use Rattle.vol_receipts.specs.declared.receipts.Asked.TheVariants as asked
 use Rattle.vol_shared.specs.Sessions.{Known}
@@ -53,6 +53,11 @@ CameInTurn came_of (line ∷ lines) next (came ∷ others) = came_of line next c
 abbrev pub CameOfView : List Query → ℕ → List Played → Type 0
 CameOfView queries next (played.View ∷ others) = CameInTurn CameOfQuery queries next others
 CameOfView queries next _ = ⊥
+
+-- something came of a script for a view: of its first line (this project)
+abbrev pub is_seen : List Played → Bool
+is_seen (played.View ∷ others) = true
+is_seen _ = false
 
 -- what may come of the lines of a script (this project)
 abbrev pub CameOfScript : Script → ℕ → List Played → Type 0

@@ -6,10 +6,11 @@ use Rattle.vol_volume.specs.Volume.{Mounted}
 use Rattle.vol_volume.specs.declared.calls.Record.{Record}
 use Rattle.vol_receipts.specs.Agrees.{Agrees}
 use Rattle.vol_receipts.specs.declared.receipts.Origin.{Origin}
+use Rattle.vol_receipts.proofs.Agreement.{agrees_after_cut}
 use Rattle.vol_shared.specs.Lists.{BeginsWith, greatest, greatest_of}
 use Rattle.vol_shared.specs.Closing.{IsGathered, IsSettled}
 use Rattle.vol_shared.specs.Sessions.{Known}
-use Rattle.vol_shared.specs.Stored.{Stored, stored_of, next_number}
+use Rattle.vol_shared.specs.Stored.{Stored, stored_of, next_number, Continues}
 use Rattle.vol_shared.specs.declared.knowledge.Knowledge.{Knowledge}
 use Rattle.vol_shared.proofs.Lists.{total_flat, greatest_flat, length_flat, flat_none, all_flat, no_length}
 
@@ -70,6 +71,17 @@ module _ (opened : Stored) (sessions : List Known) (v : Knowledge) (last : Store
       let c = counts opened v last is in
       omega arith
 
+  pub end_goes_on : Continues opened last (λ agrees. All (λ s. All agrees s.receipts) sessions)
+  end_goes_on =
+      let gone = is.goes_on.0 in (
+        gone,
+        is.goes_on.1,
+        all_flat (λ (s : Known). s.receipts) (Agrees opened.origin (gone ++ last.journal)) sessions
+            (subst (All (Agrees opened.origin (gone ++ last.journal))) gathered.receipts is.goes_on.2),
+      )
+
   pub end_agree : All (λ s. All (λ r. last.origin.first ≤ r.at → Agrees last.origin last.journal r) s.receipts) sessions
-  end_agree = all_flat (λ (s : Known). s.receipts) (λ r. last.origin.first ≤ r.at → Agrees last.origin last.journal r) sessions
-      (subst (All (λ r. last.origin.first ≤ r.at → Agrees last.origin last.journal r)) gathered.receipts is.agree)
+  end_agree k d lt j e low le =
+      let gone = is.goes_on.0 in
+      let follows = is.goes_on.1 in
+      agrees_after_cut opened.origin last.origin gone last.journal _ follows.first follows.starts le (end_goes_on.2 k d lt j e low)

@@ -146,6 +146,10 @@ covers_view last log view is behind = record {
   first = is.first ∙ ap (λ (o : Origin). o.first + length is.gone) behind.goes_on.origin;
   starts = is.starts ∙ ap (λ (o : Origin). after (start o) is.gone) behind.goes_on.origin;
   front = subst (λ (l : List Record). IsPrefix (history_of view.log) l) is.records behind.goes_on.records;
+  agree = λ k d lt.
+      subst (λ (o : Origin). Agrees o (is.gone ++ last.journal) (lib.ListN.get_or view.receipts k d)) behind.goes_on.origin
+      (subst (λ (l : List Record). Agrees (origin_in log) l (lib.ListN.get_or view.receipts k d)) is.records
+      (agree_on view.log log behind.goes_on (lib.ListN.get_or view.receipts k d) (behind.agree k d lt)));
 }
 
 -- and a receipt of the view agrees with its journal, if it isn't of before the last cut
@@ -196,11 +200,11 @@ settled_alone opened v last is = record {
   goes_on = (
     is.goes_on.0,
     record { edition = is.goes_on.1.edition; first = is.goes_on.1.first; starts = is.goes_on.1.starts; begins = is.goes_on.1.begins },
+    is.goes_on.2,
   );
   places = is.places;
   first = is.first;
   uncut = is.uncut;
-  agree = is.agree;
 }
 
 -- a view that is made of what is published of a volume just opened

@@ -13,7 +13,7 @@ use Rattle.count_table.proofs.Totals.{total_nil, total_cons, total_append, total
 use Rattle.vol_volume.specs.declared.calls.Record.{Record}
 use Rattle.vol_receipts.specs.Agrees.{Agrees}
 use Rattle.vol_receipts.specs.declared.receipts.Receipt.{Receipt}
-use Rattle.vol_receipts.proofs.Agreement.{agrees_grows, agrees_after_cut}
+use Rattle.vol_receipts.proofs.Agreement.{agrees_grows}
 use Rattle.vol_shared.specs.Lists.{BeginsWith, longer, greatest, greatest_of}
 use Rattle.vol_shared.specs.Stored.{Stored, Follows}
 use Rattle.vol_shared.specs.Rule.{hold_of, SeatFits, Locked}
@@ -217,21 +217,19 @@ module _ (key : Start) (s : State (Option Stored) Knowledge) (kept : Locked key 
       at_most j x e (inr ne) =
           let c = ap greatest_of ((kept.each j x e).spent (others_spent j x ne e)).2 in let n = greatest_nil (λ (k : ℕ). k) in omega arith
 
-  agree_end : All (λ r. kept.last.origin.first ≤ r.at → Agrees kept.last.origin kept.last.journal r) v.receipts
-  agree_end k d lt le = agrees_after_cut key.stock.origin kept.last.origin kept.gone kept.last.journal _ kept.follows.first kept.follows.starts le
-      (agree_front key.stock v.history (kept.gone ++ kept.last.journal) v.receipts (kept.each id v at).front (kept.each id v at).agree k d lt)
+  agree_end : All (Agrees key.stock.origin (kept.gone ++ kept.last.journal)) v.receipts
+  agree_end = agree_front key.stock v.history (kept.gone ++ kept.last.journal) v.receipts (kept.each id v at).front (kept.each id v at).agree
 
   -- what holds at the end
   pub ends : v.holds ≡ false → (get_elem? s.homes 0 ≡ some (some (Some kept.last))) × IsSettled key.stock v kept.last
   ends free = (
     kept.home (kept.lock ∙ (alone hold_of refl (λ x spent. idle x spent.0) ∙ idle v free)),
     record {
-      goes_on = (kept.gone, kept.follows);
+      goes_on = (kept.gone, kept.follows, agree_end);
       places = λ weight. let a = alone (λ x. total weight x.places) (total_nil weight) (λ x spent. ap (total weight) spent.1 ∙ total_nil weight) in
           let k = kept.places weight in omega arith;
       first = let g = greatest_alone in let k = kept.first in omega arith;
       uncut = λ e. kept.uncut (alone (λ x. length x.cuts) refl (λ x spent. ap length spent.2) ∙ e);
-      agree = agree_end;
     },
   )
 

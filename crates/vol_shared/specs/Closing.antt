@@ -3,7 +3,6 @@ use Rattle.std.specs.Prelude.{◌≡◌, ℕ, ◌+◌, ◌≤◌, List, length, 
 use Rattle.std.specs.List.{flat_map}
 use Rattle.atomic_table.specs.Seated.{TableId}
 use Rattle.count_table.specs.Sums.{total, below}
-use Rattle.vol_receipts.specs.Agrees.{Agrees}
 use Rattle.vol_shared.specs.Lists.{greatest_of}
 use Rattle.vol_shared.specs.Sessions.{Known}
 use Rattle.vol_shared.specs.Stored.{Stored, next_number, Continues}
@@ -25,10 +24,9 @@ pub record IsGathered (sessions : List Known) (v : Knowledge) : Type 0 where
   pub cuts : v.cuts ≡ flat_map (λ s. s.cuts) sessions
   pub receipts : v.receipts ≡ flat_map (λ s. s.receipts) sessions
 
--- the volume at the end, by what the seat that stands for all sessions did: it goes on from the one that was opened; the seat's places are the numbers of the records made since, each once; the journal's first number is the greatest that its cuts answered, or that of the start; and its receipts agree with the journal, but for those with lesser numbers (this project)
+-- the volume at the end, by what the seat that stands for all sessions did: it goes on from the one that was opened, by records with which its receipts agree; the seat's places are the numbers of the records made since, each once; the journal's first number is the greatest that its cuts answered, or that of the start (this project)
 pub record IsSettled (opened : Stored) (v : Knowledge) (last : Stored) : Type 0 where
-  pub goes_on : Continues opened last
+  pub goes_on : Continues opened last (λ agrees. All agrees v.receipts)
   pub places : (weight : ℕ → ℕ) → total weight v.places + below weight (next_number opened) ≡ below weight (next_number last)
   pub first : last.origin.first ≡ max opened.origin.first (greatest_of v.cuts)
   pub uncut : length v.cuts ≡ 0 → last.origin ≡ opened.origin
-  pub agree : All (λ r. last.origin.first ≤ r.at → Agrees last.origin last.journal r) v.receipts

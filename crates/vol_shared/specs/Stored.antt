@@ -5,8 +5,9 @@ use Rattle.vol_volume.specs.Journal.{after}
 use Rattle.vol_volume.specs.Volume.{Mounted}
 use Rattle.vol_volume.specs.declared.calls.Record.{Record}
 use Rattle.vol_layout.specs.declared.edition.Edition.TheVariants as editions
-use Rattle.vol_receipts.specs.Agrees.{origin_of, start}
+use Rattle.vol_receipts.specs.Agrees.{origin_of, start, Agrees}
 use Rattle.vol_receipts.specs.declared.receipts.Origin.{Origin}
+use Rattle.vol_receipts.specs.declared.receipts.Receipt.{Receipt}
 use Rattle.vol_shared.specs.Lists.{BeginsWith}
 
 -- what lies under the lock: what its journal starts from, the journal, the image, and the log in which its records are published, if they are (this project)
@@ -43,9 +44,9 @@ pub record Follows (opened : Stored) (gone : List Record) (last : Stored) : Type
   pub starts : start last.origin ≡ after (start opened.origin) gone
   pub begins : BeginsWith (gone ++ last.journal) opened.journal
 
--- a volume goes on from another, whatever records were cut since (this project)
-abbrev pub Continues : Stored → Stored → Type 0
-Continues opened last = (gone : List Record) × Follows opened gone last
+-- a volume goes on from another, whatever records were cut since; and of these records, with the journal behind them, some receipts are true, those of before a cut too (this project)
+abbrev pub Continues : Stored → Stored → ((Receipt → Type 0) → Type 0) → Type 0
+Continues opened last are_true = (gone : List Record) × Follows opened gone last × are_true (Agrees opened.origin (gone ++ last.journal))
 
 -- a volume has the same journal, from the same start, and the same image, and is published in the same log (this project)
 pub record IsUnchanged (old new : Stored) : Type 0 where

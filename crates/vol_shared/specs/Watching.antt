@@ -3,7 +3,7 @@ use Rattle.std.specs.Prelude.{◌≡◌, ◌+◌, List, [], ◌++◌, length, Al
 use mathlib.Core.List.{IsPrefix}
 use Rattle.vol_volume.specs.Journal.{after}
 use Rattle.vol_volume.specs.declared.calls.Record.{Record}
-use Rattle.vol_receipts.specs.Agrees.{start}
+use Rattle.vol_receipts.specs.Agrees.{start, Agrees}
 use Rattle.vol_views.specs.declared.history.LogEntry.{LogEntry}
 use Rattle.vol_views.specs.Logs.{history_of, origin_in}
 use Rattle.vol_views.specs.Views.{Watched, GoesOn, AgreesIn}
@@ -21,9 +21,10 @@ pub record IsBehind (log : List LogEntry) (view : Watched) : Type 0 where
   pub goes_on : GoesOn view.log log
   pub agree : All (AgreesIn view.log) view.receipts
 
--- a volume covers what a view knows: the records cut since the log began, and then the journal, go on from it (this project)
+-- a volume covers what a view knows: the records cut since the log began, and then the journal, go on from it, and all receipts of the view agree with them (this project)
 pub record Covers (last : Stored) (view : Watched) : Type 0 where
   pub gone : List Record
   pub first : last.origin.first ≡ (origin_in view.log).first + length gone
   pub starts : start last.origin ≡ after (start (origin_in view.log)) gone
   pub front : IsPrefix (history_of view.log) (gone ++ last.journal)
+  pub agree : All (Agrees (origin_in view.log) (gone ++ last.journal)) view.receipts

@@ -236,14 +236,15 @@ impl Shared {
 
     /// Ends a shared volume that was opened without views, with all its sessions. Where none cut the journal, the volume starts from what it did when it
     /// was opened, and its journal goes on from that one. Each record made since is that of one accepted call of one
-    /// session, and each receipt agrees with the journal, if it isn't of before the last cut.
+    /// session. Each receipt agrees with the records made, those that were cut and then the journal; and with the journal alone, if it
+    /// isn't of before the last cut.
     ///
     /// Takes no memory.
     pub fn close(self, sessions: Vec<Session>) -> Closed
         requires unpublished { self.of.book ≡ None }
         requires count { length sessions.items ≡ self.sessions }
         requires own { All (λ s. s.of ≡ self.of) sessions.items }
-        ensures goes_on { Continues self.stored (stored_of result) }
+        ensures goes_on { Continues self.stored (stored_of result) (λ agrees. All (λ s. All agrees s.receipts) sessions.items) }
         ensures uncut { All (λ s. s.cuts ≡ []) sessions.items → (origin_of result ≡ self.stored.origin) × BeginsWith result.journal self.stored.journal }
         ensures first { result.first ≡ max self.stored.origin.first (greatest (λ s. greatest_of s.cuts) sessions.items) }
         ensures places { (weight : ℕ → ℕ) → total (λ s. total weight s.places) sessions.items + below weight (next_number self.stored) ≡ below weight (next_number (stored_of result)) }
@@ -260,8 +261,8 @@ impl Shared {
         Closed::new(stock.into_volume(), records, calls)
     }
 
-    /// Ends a shared volume with all its sessions and views, as [`Shared::close`] does. The journal goes on from what each
-    /// view knows, and each receipt of a view agrees with it, if it isn't of before the last cut.
+    /// Ends a shared volume with all its sessions and views, as [`Shared::close`] does. The records go on from what each
+    /// view knows, and each receipt of a view agrees with them; and with the journal alone, if it isn't of before the last cut.
     ///
     /// Takes no memory. Waits for a view that still reads.
     pub fn close_with<R: Wait>(self, rt: &R, sessions: Vec<Session>, views: Vec<View>) -> Closed
@@ -269,7 +270,7 @@ impl Shared {
         requires own { All (λ s. s.of ≡ self.of) sessions.items }
         requires views { length views.items ≡ self.views }
         requires own_views { All (λ v. self.of.book ≡ Some v.book) views.items }
-        ensures goes_on { Continues self.stored (stored_of result) }
+        ensures goes_on { Continues self.stored (stored_of result) (λ agrees. All (λ s. All agrees s.receipts) sessions.items) }
         ensures uncut { All (λ s. s.cuts ≡ []) sessions.items → (origin_of result ≡ self.stored.origin) × BeginsWith result.journal self.stored.journal }
         ensures first { result.first ≡ max self.stored.origin.first (greatest (λ s. greatest_of s.cuts) sessions.items) }
         ensures places { (weight : ℕ → ℕ) → total (λ s. total weight s.places) sessions.items + below weight (next_number self.stored) ≡ below weight (next_number (stored_of result)) }

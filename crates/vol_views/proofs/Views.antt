@@ -1,5 +1,5 @@
 -- Fronts that go on from one another, and receipts that go on to agree.
-use Rattle.std.proofs.Common.{◌≡◌, ◌≢◌, ◌⊎◌, ℕ, ◌-◌, ◌≤◌, List, [], ◌∷◌, ◌++◌, length, All, refl, ap, sym, subst, ⊎_elim, arith}
+use Rattle.std.proofs.Common.{◌≡◌, ◌≢◌, ◌⊎◌, ℕ, ◌-◌, ◌≤◌, List, [], ◌∷◌, ◌++◌, length, All, refl, ap, sym, subst, ⊎_elim, arith, length-append}
 use Rattle.std.proofs.lemmas.List.Elements.{All-append, All-cons, All-nil}
 use Rattle.std.proofs.Math.Seq.{take-length}
 use mathlib.Core.List.{IsPrefix}
@@ -19,6 +19,13 @@ use Rattle.vol_views.proofs.Beginnings.{prefix_self, prefix_whole}
 use Rattle.vol_views.specs.Logs.{history_of, origin_in, number_of}
 use Rattle.vol_views.proofs.Logs.{history_append}
 use Rattle.vol_views.specs.Views.{GoesOn, AgreesIn}
+
+-- what goes on from a log has no lesser number
+pub number_on : (a b : List LogEntry) → GoesOn a b → number_of a ≤ number_of b
+number_on a b on =
+    let first = ap (λ (o : Origin). o.first) on.origin in
+    let longer = ap length on.records.1 in
+    omega (arith, first, longer, length-append (history_of a) on.records.0)
 
 -- the start is said by the first entry
 origin_append : (a b : List LogEntry) → a ≢ [] → origin_in (a ++ b) ≡ origin_in a

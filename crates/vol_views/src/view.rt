@@ -75,9 +75,11 @@ impl View {
     /// where what is published couldn't be taken. Either leaves the receipts as they were, and NotEntered leaves all.
     ///
     /// Takes memory and costs what [`Subscriber::ask`] does, and waits for nobody.
+    #[tactic(auto, using(crate::proofs::Views::number_on))]
     pub fn ask(&mut self, alloc: Global, query: Query) -> Result<Receipt, (ViewFault, Query)>
         ensures book { self.new.book ≡ self.old.book }
         ensures goes_on { GoesOn self.old.log self.new.log }
+        ensures never_less { number_of self.old.log ≤ number_of self.new.log }
         ensures asked { IfOk result (λ receipt. receipt.asked ≡ Question query) }
         ensures sees { IfOk result (λ receipt. Sees self.old self.new receipt) }
         ensures receipts { OnErr result (self.new.receipts ≡ self.old.receipts) }
@@ -159,12 +161,14 @@ impl View {
     /// Learns what a session was told: from now on each answer stands after all that the session knows of.
     ///
     /// Takes no memory.
+    #[tactic(auto, using(crate::proofs::Views::number_on))]
     pub fn learn<S: Informed>(&mut self, session: &mut S)
         requires { S.book session.old ≡ Some self.old.book }
         ensures session { session.new ≡ session.old }
         ensures book { self.new.book ≡ self.old.book }
         ensures receipts { self.new.receipts ≡ self.old.receipts }
         ensures goes_on { GoesOn self.old.log self.new.log }
+        ensures never_less { number_of self.old.log ≤ number_of self.new.log }
         ensures learnt { S.next session.old ≤ number_of self.new.log }
     {
         let Some(told) = session.told() else {

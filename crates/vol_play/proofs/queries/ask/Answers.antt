@@ -1,5 +1,6 @@
 use Rattle.std.proofs.Common.{arith}
-use Rattle.vol_play.proofs.QueryLaws.{number_on, question_next, question_place}
+use Rattle.vol_views.proofs.Views.{number_on}
+use Rattle.vol_play.proofs.QueryLaws.{question_next, question_place}
 use Rattle.vol_play.proofs.queries.ask.Goals as goal
 
 pub returns-in-Ok : goal.returns-in-Ok

@@ -2,7 +2,7 @@ use Rattle.std.proofs.Common.{◌∙◌, sym, ap, subst, arith}
 use Rattle.vol_shared.specs.Closing.{IsSettled}
 use Rattle.vol_shared.specs.Opened.{Opened}
 use Rattle.vol_shared.specs.Stored.{Stored, stored_of, next_number}
-use Rattle.vol_shared.proofs.Ending.{counts, end_first, end_uncut, end_places, end_count, end_agree}
+use Rattle.vol_shared.proofs.Ending.{counts, end_first, end_uncut, end_places, end_count, end_goes_on, end_agree}
 use Rattle.vol_shared.proofs.shared.Shared.close.Goals as goal
 use Rattle.vol_shared.proofs.shared.Shared.close.Goals.{After-new}
 
@@ -22,7 +22,8 @@ at_end c =
     (subst (IsSettled c.self.inside.table.shared.key.stock v) (sym (ap stored_of c.new.ensures ∙ c.into_volume.ensures.stored)) c.finish-stock.ensures.settled)
 
 pub returns-clause-goes_on : goal.returns-clause-goes_on
-returns-clause-goes_on c = (at_end c).goes_on
+returns-clause-goes_on c =
+    end_goes_on c.args.self.stored c.args.sessions.items c.gather-place.result.0.me.0 (stored_of c.new.result) c.gather-place.ensures.gathered (at_end c)
 
 pub returns-clause-uncut : goal.returns-clause-uncut
 returns-clause-uncut c =

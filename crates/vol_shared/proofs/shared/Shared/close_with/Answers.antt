@@ -2,7 +2,7 @@ use Rattle.std.proofs.Common.{◌∙◌, sym, ap, subst, arith}
 use Rattle.vol_shared.specs.Closing.{IsSettled}
 use Rattle.vol_shared.specs.Opened.{Opened}
 use Rattle.vol_shared.specs.Stored.{Stored, stored_of, next_number}
-use Rattle.vol_shared.proofs.Ending.{counts, end_first, end_uncut, end_places, end_count, end_agree}
+use Rattle.vol_shared.proofs.Ending.{counts, end_first, end_uncut, end_places, end_count, end_goes_on, end_agree}
 use Rattle.vol_shared.proofs.Fronts.{settled_alone}
 use Rattle.vol_shared.proofs.shared.Shared.close_with.Goals as goal
 use Rattle.vol_shared.proofs.shared.Shared.close_with.Goals.{After-drop-views}
@@ -23,7 +23,8 @@ at_end g c =
     (subst (IsSettled c.self.inside.table.shared.key.stock v) (sym (ap stored_of c.new.ensures ∙ c.settle-volume.ensures.stored)) (settled_alone c.self.inside.table.shared.key.stock v c.finish-stock.result c.finish-stock.ensures.settled))
 
 pub returns-clause-goes_on : goal.returns-clause-goes_on
-returns-clause-goes_on g c = (at_end g c).goes_on
+returns-clause-goes_on g c =
+    end_goes_on c.args.self.stored c.args.sessions.items c.gather-place.result.0.me.0 (stored_of c.new.result) c.gather-place.ensures.gathered (at_end g c)
 
 pub returns-clause-uncut : goal.returns-clause-uncut
 returns-clause-uncut g c =

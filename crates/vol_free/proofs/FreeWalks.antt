@@ -1,5 +1,5 @@
 -- The walk over the free list, block after block.
-use Rattle.std.proofs.Common.{◌≡◌, ℕ, zero, suc, ◌+◌, ◌-◌, ◌<◌, ◌≤◌, ◌∙◌, sym, ap, Bool, true, false, ◌||◌, ◌==◌, List, [], ◌∷◌, ◌++◌, length, get_or, set, slice_index_or, Option, refl, arith, inl, inr, length-set, get_or-set_same, get_or-set_other}
+use Rattle.std.proofs.Common.{◌≡◌, ℕ, zero, suc, ◌+◌, ◌-◌, ◌<◌, ◌≤◌, ◌∙◌, sym, ap, Bool, true, false, ◌||◌, ◌==◌, List, [], ◌∷◌, ◌++◌, length, get_or, set, slice_index_or, Option, Some, Result, Ok, refl, arith, inl, inr, subst, length-set, get_or-set_same, get_or-set_other}
 use Rattle.std.proofs.lemmas.Bool.{cases_eq, eq-eqb, ne_eqb}
 use Rattle.std.specs.List.{list_any}
 use Rattle.pdp_words.specs.Words.{word}
@@ -8,7 +8,7 @@ use Rattle.vol_layout.specs.Super.{free_head}
 use Rattle.vol_layout.specs.declared.geometry.Geometry.{Geometry}
 use Rattle.vol_free.specs.Stack.{IsIn, Once}
 use Rattle.vol_free.specs.FreeWalk.{walk_rest, free_walk}
-use Rattle.vol_free.specs.Walking.{HasMet, AreZoned, next_count}
+use Rattle.vol_free.specs.Walking.{HasMet, StepFinds, AreZoned, next_count}
 use Rattle.vol_free.specs.declared.free_walk.FreeFault.{FreeFault}
 use Rattle.vol_free.specs.declared.free_walk.FreeWalk.{FreeWalk}
 use Rattle.vol_free.proofs.FreeFaults.{in_any}
@@ -75,6 +75,11 @@ module _ {g : Geometry} {image : List ℕ} {marks : List Bool} {walk : FreeWalk}
             ∙ (sym (on (g.zone_end - g.zone_start - walk.met))
             ∙ (ap (λ n. walk_rest g image n walk.head walk.count met) (sym more) ∙ w.rest));
       }
+
+-- a step that finds a block met it
+pub met_one : (g : Geometry) (image : List ℕ) (old new : List Bool) (walk next : FreeWalk) {found : Result ℕ (FreeFault × ℕ)} {b : ℕ} {met : List ℕ}
+    → found ≡ Ok b → StepFinds g image old new walk next (Some found) → HasMet g image old walk met → HasMet g image new next (b ∷ met)
+met_one g image old new walk next {met = met} is finds w = subst (λ r. StepFinds g image old new walk next (Some r)) is finds met w
 
 -- the block met last is a data block
 pub zoned_last : {g : Geometry} {image : List ℕ} {marks : List Bool} {walk : FreeWalk} {b : ℕ} {met : List ℕ} → HasMet g image marks walk (b ∷ met) → in_zone g b ≡ true

@@ -12,7 +12,7 @@ use Rattle.vol_free.specs.declared.free_walk.FreeFault.{FreeFault}
 use Rattle.vol_free.specs.declared.free_walk.FreeWalk.{FreeWalk}
 use Rattle.vol_free.specs.FreeWalk.{Walked, free_walk}
 use Rattle.vol_free.specs.Walking.{HasMet, StepFinds}
-use Rattle.vol_free.proofs.FreeWalks.{met_most, zoned_last}
+use Rattle.vol_free.proofs.FreeWalks.{met_most, met_one, zoned_last}
 use Rattle.vol_reports.specs.Words.{free_word}
 use Rattle.vol_check.specs.Pieces.{Adds, free_weight}
 use Rattle.vol_check.proofs.Adding.{added, adds_none, adds_then, adds_as}
@@ -26,11 +26,6 @@ walk-init c =
       adds_none c.args.tally.now c.args.seat.now (λ weight. total (λ b. weight (mark (free_word g b) 1)) []) c.requires.own
           (λ weight. total_nil (λ b. weight (mark (free_word g b) 1))),
     )
-
--- one block more
-met_one : (g : Geometry) (image : List ℕ) (old new : List Bool) (walk next : FreeWalk) {found : Result ℕ (FreeFault × ℕ)} {b : ℕ} {met : List ℕ}
-    → found ≡ Ok b → StepFinds g image old new walk next (Some found) → HasMet g image old walk met → HasMet g image new next (b ∷ met)
-met_one g image old new walk next {met = met} is finds w = subst (λ r. StepFinds g image old new walk next (Some r)) is finds met w
 
 pub free_word-requires : goal.free_word-requires
 free_word-requires c =

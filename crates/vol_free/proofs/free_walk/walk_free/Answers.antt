@@ -1,22 +1,21 @@
-use Rattle.std.proofs.Common.{◌∷◌, [], Some, reverse, sym, ap, ◌∙◌, subst, arith}
+use Rattle.std.proofs.Common.{◌∷◌, [], reverse, sym, ap, ◌∙◌, subst, arith}
 use Rattle.std.specs.Vec.{with_items}
 use Rattle.std.proofs.lemmas.List.{reverse-append, with_items_is}
-use Rattle.vol_free.specs.Walking.{HasMet, StepFinds, AreZoned}
-use Rattle.vol_free.proofs.FreeWalks.{met_most, zoned_last, zoned_more}
+use Rattle.vol_free.specs.Walking.{HasMet, AreZoned}
+use Rattle.vol_free.proofs.FreeWalks.{met_most, met_one, zoned_last, zoned_more}
 use Rattle.vol_free.proofs.free_walk.walk_free.Goals as goal
 
 -- one block more
-met_one : (c : goal.In_ok-push-in-Some-Ok) → HasMet c.args.geometry.now c.args.image.now c.next.new.marks c.next.new.self (c.in-Some-Ok.b ∷ reverse c.walk.met.items)
-met_one c =
+met_next : (c : goal.In_ok-push-in-Some-Ok) → HasMet c.args.geometry.now c.args.image.now c.next.new.marks c.next.new.self (c.in-Some-Ok.b ∷ reverse c.walk.met.items)
+met_next c =
     let g = c.args.geometry.now in
     let image = c.args.image.now in
-    subst (λ r. StepFinds g image c.deref_mut.result.now c.next.new.marks c.walk.walk c.next.new.self (Some r)) c.in-Some-Ok.field-0-is c.in-Some-Ok.ensures
-    (reverse c.walk.met.items)
+    met_one g image c.deref_mut.result.now c.next.new.marks c.walk.walk c.next.new.self c.in-Some-Ok.field-0-is c.in-Some-Ok.ensures
     (subst (λ ms. HasMet g image ms c.walk.walk (reverse c.walk.met.items)) (sym c.deref_mut.ensures.value) c.walk.invariant.walking)
 
 pub walk-smaller : goal.walk-smaller
 walk-smaller c =
-    let next = met_one c in
+    let next = met_next c in
     let w = c.walk.invariant.walking in
     omega (arith, met_most next, next.counted, w.counted)
 
@@ -27,7 +26,7 @@ walk-preserved c =
     let met = c.walk.met.items in
     let b = c.in-Some-Ok.b in
     let w = c.walk.invariant.walking in
-    let next = met_one c in
+    let next = met_next c in
     let pushed = c.in_ok-push-in-Some-Ok.ensures.items in
     let same = with_items_is c.walk.marks c.next.new.marks (omega (arith, next.len, w.len)) in
     let turned = ap reverse pushed ∙ reverse-append met (b ∷ []) in

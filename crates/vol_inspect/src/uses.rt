@@ -40,7 +40,7 @@ pub enum Use {
 /// free list up to that list's first fault. The image may be any bytes otherwise.
 ///
 /// Costs at most two reads of each indirect block for each of the levels at which it stands in directories, and two for those at which
-/// it stands in regular files, however they lead to one another. Takes nine bytes for each block, and four for each free one.
+/// it stands in regular files, however they lead to one another. Takes some ten bytes for each block.
 pub fn block_uses(alloc: Global, image: &Image, geometry: &Geometry) -> Result<Vec<Use>, AllocError>
     requires { Fits geometry.now image.now }
     ensures { IfOk result (λ uses. uses.items ≡ map (use_of geometry.now image.now) (range_with_len 0 geometry.now.zone_end)) }

@@ -1,5 +1,3 @@
-pub mod Cuts
-pub mod NamedFree
 pub mod Noted
 pub mod Soundness
 pub mod Telling

@@ -7,7 +7,7 @@ use Rattle.vol_judge.specs.Sound.{Rule, IsSound}
 use Rattle.vol_judge.proofs.Numbering.{judged}
 use Rattle.vol_judge.specs.Dots.{IsFirstDots}
 use Rattle.vol_judge.specs.Entries.{IsFirstEntry}
-use Rattle.vol_findings.specs.FreeList.{IsFirstFault}
+use Rattle.vol_judge.specs.FreeList.{IsFirstFault}
 use Rattle.vol_judge.specs.INodes.{IsFirstKind, IsFirstSize}
 use Rattle.vol_judge.specs.Links.{IsFirstLink}
 use Rattle.vol_judge.specs.Lost.{IsFirstUncovered}

@@ -12,7 +12,7 @@ use Rattle.vol_judge.specs.Directories.{HasDots, IsTree, HasLinks}
 use Rattle.vol_judge.specs.Sound.{Rule, IsNoneLost}
 use Rattle.vol_judge.specs.Dots.{IsFirstDots}
 use Rattle.vol_judge.specs.Entries.{IsFirstEntry}
-use Rattle.vol_findings.specs.FreeList.{IsFirstFault}
+use Rattle.vol_judge.specs.FreeList.{IsFirstFault}
 use Rattle.vol_judge.specs.INodes.{IsFirstKind, IsFirstSize}
 use Rattle.vol_judge.specs.Links.{IsFirstLink}
 use Rattle.vol_judge.specs.Lost.{IsFirstUncovered}

@@ -1,4 +1,3 @@
-pub mod FreeList
 pub mod Outcomes
 pub mod Reports
 pub mod Texts

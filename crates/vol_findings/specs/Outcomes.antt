@@ -10,7 +10,7 @@ use Rattle.vol_layout.specs.declared.edition.Edition.{Edition}
 use Rattle.vol_layout.specs.declared.geometry.Geometry.{Geometry}
 use Rattle.vol_judge.specs.Dots.{IsFirstDots}
 use Rattle.vol_judge.specs.Entries.{IsFirstEntry}
-use Rattle.vol_findings.specs.FreeList.{IsFirstFault}
+use Rattle.vol_judge.specs.FreeList.{IsFirstFault}
 use Rattle.vol_judge.specs.INodes.{IsFirstKind, IsFirstSize}
 use Rattle.vol_judge.specs.Links.{IsFirstLink}
 use Rattle.vol_judge.specs.Lost.{IsFirstUncovered}
@@ -19,6 +19,7 @@ use Rattle.vol_judge.specs.Tree.{IsFirstTree}
 use Rattle.vol_judge.specs.Zones.{IsFirstOutside}
 use Rattle.vol_judge.specs.declared.finding.Finding.{Finding}
 use Rattle.vol_judge.specs.declared.finding.Finding.TheVariants.{TooShort, BadSizes}
+use Rattle.vol_findings.specs.declared.blocks.BlockOutcomes.{BlockOutcomes}
 use Rattle.vol_findings.specs.declared.outcome.Outcome.{Outcome}
 use Rattle.vol_findings.specs.declared.outcome.Outcome.TheVariants.{Holds, Broken, NotAsked}
 use Rattle.vol_findings.specs.declared.outcome.Outcomes.{Outcomes}
@@ -37,6 +38,13 @@ outcome_of (Some finding) = Broken finding
 -- why rule 7 isn't asked: rule 5 fails, or rule 6 does and no two places name one block (this project)
 abbrev pub IsTwiceUnasked : Geometry → List ℕ → Type 0
 IsTwiceUnasked geometry image = (IsZoned geometry image → ⊥) ⊎ (IsApart geometry image × (HasStack geometry image → ⊥))
+
+-- what is said of the rules of blocks of a volume whose geometry is known (this project)
+pub record TellsBlocks (geometry : Geometry) (image : List ℕ) (found : BlockOutcomes) : Type 0 where
+  pub zoned : Says (IsZoned geometry image) (IsFirstOutside geometry image) ⊥ found.zoned
+  pub listed : Says (HasStack geometry image) (IsFirstFault geometry image) ⊥ found.listed
+  pub apart : Says (IsUsedOnce geometry image) (IsFirstTwice geometry image) (IsTwiceUnasked geometry image) found.apart
+  pub covered : Says (IsNoneLost geometry image) (IsFirstUncovered geometry image) (HasStack geometry image → ⊥) found.covered
 
 -- what is said of the rules of a volume whose geometry is known: 7 isn't asked for the reason above, 8 where 6 fails, 10 where 9 does (this project)
 pub record TellsVolume (geometry : Geometry) (image : List ℕ) (found : Outcomes) : Type 0 where

@@ -1,28 +1,19 @@
 //! What is found of each rule.
 ghost use Rattle.std.specs.Prelude.{◌≡◌, ◌+◌, IfOk, length};
 ghost use Rattle.vol_layout.specs.Geometry.{Fits};
-ghost use Rattle.vol_free.specs.Stack.{HasStack};
-ghost use Rattle.vol_file.specs.Rules.{IsZoned};
 ghost use Rattle.vol_dir.specs.Entries.{HasEntries};
 ghost use Rattle.vol_judge.specs.Directories.{HasDots};
-ghost use Rattle.vol_judge.specs.Sound.{IsNoneLost};
 ghost use Rattle.vol_judge.specs.Dots.{KnowsDots, IsFirstDots};
 ghost use Rattle.vol_judge.specs.Entries.{IsFirstEntry};
-ghost use Rattle.vol_findings.specs.FreeList.{IsFirstFault};
-ghost use Rattle.vol_judge.specs.Lost.{IsFirstUncovered};
-ghost use Rattle.vol_judge.specs.Sharing.{IsUsedOnce, IsFirstTwice};
 ghost use Rattle.vol_judge.specs.Tree.{NotesParents};
-ghost use Rattle.vol_judge.specs.Zones.{IsFirstOutside};
-ghost use Rattle.vol_findings.specs.Outcomes.{Says, IsTwiceUnasked, TellsVolume, Tells, outcome_of};
+ghost use Rattle.vol_findings.specs.Outcomes.{Says, TellsVolume, Tells, outcome_of};
 
-use crate::free_list::find_fault;
-use crate::lost::find_unused;
-use crate::sharing::find_used_twice;
+use crate::blocks::check_blocks;
 use pdp_words::Image;
 use std::alloc::{AllocError, Global};
 use vol_judge::{
-    Finding, Ups, find_dots, find_entered, find_entry, find_kind, find_link, find_outside,
-    find_size, find_tree, find_ups,
+    Finding, Ups, find_dots, find_entered, find_entry, find_kind, find_link, find_size, find_tree,
+    find_ups,
 };
 use vol_layout::{Edition, Geometry, GeometryFault};
 
@@ -90,7 +81,7 @@ pub fn check_rules(alloc: Global, edition: Edition, image: &Image) -> Result<Out
 
 impl Outcome {
     /// What is found of a rule that is asked.
-    fn of(found: Option<Finding>) -> Outcome
+    pub(crate) fn of(found: Option<Finding>) -> Outcome
         ensures { result ≡ outcome_of found }
     {
         match found {
@@ -143,11 +134,7 @@ fn check_volume(alloc: Global, image: &Image, geometry: &Geometry) -> Result<Out
 {
     let kinds = Outcome::of(find_kind(image, geometry));
     let sizes = Outcome::of(find_size(image, geometry));
-    let mut marks = vec![in alloc; 0; geometry.zone_end as usize]?;
-    let zoned = Outcome::of(find_outside(image, geometry, &mut marks));
-    let listed = Outcome::of(find_fault(alloc, image, geometry)?);
-    let apart = check_apart(alloc, image, geometry, zoned, listed, &mut marks)?;
-    let covered = check_covered(alloc, image, geometry, listed, &mut marks)?;
+    let blocks = check_blocks(alloc, image, geometry)?;
     let entries = Outcome::of(find_entry(alloc, image, geometry)?);
     let ups = ups_of(alloc, image, geometry, entries)?;
     let found = find_entered(alloc, image, geometry, &ups.numbers)?;
@@ -159,62 +146,15 @@ fn check_volume(alloc: Global, image: &Image, geometry: &Geometry) -> Result<Out
         bounded: Outcome::Holds,
         kinds,
         sizes,
-        zoned,
-        listed,
-        apart,
-        covered,
+        zoned: blocks.zoned,
+        listed: blocks.listed,
+        apart: blocks.apart,
+        covered: blocks.covered,
         entries,
         dots,
         tree,
         links,
     })
-}
-
-/// What is found of rule 7, by what is found of rules 5 and 6. Two places that name one block break it even if the free list is broken.
-/// There is a mark for each block, whose value at first doesn't matter.
-fn check_apart(
-    alloc: Global,
-    image: &Image,
-    geometry: &Geometry,
-    zoned: Outcome,
-    listed: Outcome,
-    marks: &mut [u8],
-) -> Result<Outcome, AllocError>
-    requires fits { Fits geometry.now image.now }
-    requires len { length marks.old ≡ geometry.now.zone_end }
-    requires zoned { Says (IsZoned geometry.now image.now) (IsFirstOutside geometry.now image.now) ⊥ zoned }
-    requires listed { Says (HasStack geometry.now image.now) (IsFirstFault geometry.now image.now) ⊥ listed }
-    ensures { IfOk result (Says (IsUsedOnce geometry.now image.now) (IsFirstTwice geometry.now image.now) (IsTwiceUnasked geometry.now image.now)) }
-{
-    match zoned {
-        Outcome::Holds => match find_used_twice(alloc, image, geometry, marks)? {
-            Some(finding) => Ok(Outcome::Broken(finding)),
-            None => match listed {
-                Outcome::Holds => Ok(Outcome::Holds),
-                Outcome::Broken(_) | Outcome::NotAsked => Ok(Outcome::NotAsked),
-            },
-        },
-        Outcome::Broken(_) | Outcome::NotAsked => Ok(Outcome::NotAsked),
-    }
-}
-
-/// What is found of rule 8, by what is found of rule 6. There is a mark for each block, whose value at first doesn't matter.
-fn check_covered(
-    alloc: Global,
-    image: &Image,
-    geometry: &Geometry,
-    listed: Outcome,
-    marks: &mut [u8],
-) -> Result<Outcome, AllocError>
-    requires fits { Fits geometry.now image.now }
-    requires len { length marks.old ≡ geometry.now.zone_end }
-    requires listed { Says (HasStack geometry.now image.now) (IsFirstFault geometry.now image.now) ⊥ listed }
-    ensures { IfOk result (Says (IsNoneLost geometry.now image.now) (IsFirstUncovered geometry.now image.now) (HasStack geometry.now image.now → ⊥)) }
-{
-    match listed {
-        Outcome::Holds => Ok(Outcome::of(find_unused(alloc, image, geometry, marks)?)),
-        Outcome::Broken(_) | Outcome::NotAsked => Ok(Outcome::NotAsked),
-    }
 }
 
 /// What directories name by `..`, where rule 9 holds; nothing, where it doesn't.

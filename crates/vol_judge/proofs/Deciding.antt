@@ -1,5 +1,5 @@
 -- Tests and the facts that they decide.
-use Rattle.std.proofs.Common.{◌≡◌, Bool, true, false, not, ℕ, eqb, Option, None, Some, IfNone, IfSome, OnSome, IsTrue, ◌↔◌, inl, inr, refl, sym, ◌∙◌, ap}
+use Rattle.std.proofs.Common.{◌≡◌, Bool, true, false, not, ℕ, eqb, Option, None, Some, IfNone, IsTrue, ◌↔◌, inl, inr, refl, sym, ◌∙◌, ap}
 use Rattle.std.specs.Option.{option_eq, is_some}
 use Rattle.std.proofs.lemmas.Bool.{cases_Bool, eqb-true, eq-eqb}
 use Rattle.vol_judge.specs.Finds.{Finds}
@@ -46,16 +46,6 @@ pub if_none : {A P : Type 0} (o : Option A) → is_some o ≡ false → IfNone o
 if_none None none holds = holds
 if_none (Some x) none holds = absurd (cc)
 
--- what is refuted where something was found is refuted then
-pub if_some : {A P : Type 0} (o : Option A) → is_some o ≡ true → IfSome o (λ x. P → ⊥) → P → ⊥
-if_some None some broken holds = absurd (cc)
-if_some (Some x) some broken holds = broken holds
-
--- what holds where nothing was found holds, where a find would break a fact that holds
-pub if_kept : {A P Q : Type 0} (o : Option A) → IfNone o P → IfSome o (λ x. Q → ⊥) → Q → P
-if_kept None holds broken fact = holds
-if_kept (Some x) holds broken fact = absurd (broken fact)
-
 -- where a search finds nothing the rule holds
 pub finds_none : {rule : Type 0} (first : Finding → Type 0) (found : Option Finding) → is_some found ≡ false → Finds rule first found → rule
 finds_none first None none finds = finds
@@ -66,7 +56,7 @@ pub finds_some : {rule : Type 0} (first : Finding → Type 0) (found : Option Fi
 finds_some first None some finds = absurd (cc)
 finds_some first (Some finding) some finds = finds.1
 
--- what is said of what was found holds, where nothing found would break a fact that holds
-pub some_kept : {A P Q : Type 0} (o : Option A) → OnSome o P → IfNone o (Q → ⊥) → Q → P
-some_kept None holds broken fact = absurd (broken fact)
-some_kept (Some x) holds broken fact = holds
+-- where the rule holds, what is said where nothing is found holds
+pub finds_kept : {rule P : Type 0} (first : Finding → Type 0) (found : Option Finding) → IfNone found P → Finds rule first found → rule → P
+finds_kept first None none finds kept = none
+finds_kept first (Some finding) none finds kept = absurd (finds.1 kept)

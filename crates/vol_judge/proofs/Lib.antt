@@ -22,6 +22,7 @@ pub mod Insides
 pub mod Limiting
 pub mod MadeGraphs
 pub mod MarkLists
+pub mod NamedFree
 pub mod NamedGraphs
 pub mod NamedOnce
 pub mod NextEntries

@@ -3,7 +3,8 @@ pub mod Directories
 pub mod Dots
 pub mod Entries
 pub mod Finds
-pub mod FreeWalk
+pub mod FreeList
+pub mod FreeMarks
 pub mod Graph
 pub mod GraphEdits
 pub mod INodes

@@ -1,18 +1,20 @@
 //! The twelve rules in their order, up to the first that fails.
-ghost use Rattle.std.specs.Prelude.{◌≡◌, ℕ, false, true, IfNone, IfSome, IfOk, List, length, slice_index_or};
+ghost use Rattle.std.specs.Prelude.{◌≡◌, ℕ, false, true, IfNone, IfOk, List, length, slice_index_or};
 ghost use Rattle.std.specs.Result.{result_err};
 ghost use Rattle.vol_layout.specs.Geometry.{Fits, geometry_of};
 ghost use Rattle.vol_free.specs.Stack.{IsFree};
 ghost use Rattle.vol_file.specs.Rules.{IsApart};
+ghost use Rattle.vol_judge.specs.Finds.{Finds};
 ghost use Rattle.vol_judge.specs.Judging.{IsFirstBroken};
 ghost use Rattle.vol_judge.specs.Marks.{MarksNamed};
+ghost use Rattle.vol_judge.specs.Sharing.{IsFirstTwice};
 ghost use Rattle.vol_judge.specs.Sound.{Asked, IsJudged, free_rules, block_rules, volume_rules};
 
-use crate::blocks::{are_apart, find_lost};
 use crate::directories::judge_directories;
 use crate::finding::Finding;
-use crate::free_marks::mark_free;
+use crate::free_list::find_fault;
 use crate::i_nodes::{find_kind, find_size};
+use crate::lost::find_lost;
 use crate::marking::find_twice;
 use crate::zones::find_outside;
 use pdp_words::Image;
@@ -138,9 +140,8 @@ fn judge_free(
 ) -> Result<Result<u32, u8>, AllocError>
     requires fits { Fits geometry.now image.now }
     requires room { length named.now ≡ geometry.now.zone_end }
-    requires holds { IfNone twice (IsApart geometry.now image.now) }
+    requires twice { Finds (IsApart geometry.now image.now) (IsFirstTwice geometry.now image.now) twice }
     requires marks { IfNone twice (MarksNamed geometry.now image.now named.now) }
-    requires broken { IfSome twice (λ _. IsApart geometry.now image.now → ⊥) }
     ensures least { IfOk result (λ found. IsFirstBroken 6 (free_rules true geometry.now image.now) (result_err found)) }
     ensures count { IfOk result (λ found. IfOk found (λ count.
         (blocks : List ℕ) → IsFree geometry.now image.now blocks → count ≡ length blocks)) }
@@ -162,20 +163,19 @@ fn judge_marks(
     requires room { length named.now ≡ geometry.now.zone_end }
     requires free_room { length free.old ≡ geometry.now.zone_end }
     requires clear { (k : ℕ) → slice_index_or free.old k false ≡ false }
-    requires holds { IfNone twice (IsApart geometry.now image.now) }
+    requires twice { Finds (IsApart geometry.now image.now) (IsFirstTwice geometry.now image.now) twice }
     requires marks { IfNone twice (MarksNamed geometry.now image.now named.now) }
-    requires broken { IfSome twice (λ _. IsApart geometry.now image.now → ⊥) }
     ensures least { IsFirstBroken 6 (free_rules true geometry.now image.now) (result_err result) }
     ensures count { IfOk result (λ count. (blocks : List ℕ) → IsFree geometry.now image.now blocks → count ≡ length blocks) }
 {
-    let Some(count) = mark_free(image, geometry, free) else {
+    let Ok(stack) = find_fault(image, geometry, named, free) else {
         return Err(6);
     };
-    if twice.is_some() || !are_apart(named, free) {
+    if twice.is_some() || stack.named.is_some() {
         return Err(7);
     }
     if find_lost(geometry, named, free).is_some() {
         return Err(8);
     }
-    Ok(count)
+    Ok(stack.count)
 }

@@ -3,6 +3,7 @@ ghost use Rattle.std.specs.Prelude.{◌≡◌, ◌≢◌, ℕ, ◌≤◌, ◌↔
 ghost use Rattle.vol_layout.specs.Geometry.{Fits};
 ghost use Rattle.vol_file.specs.Rules.{IsZoned, IsApart};
 ghost use Rattle.vol_file.specs.Changes.{blocks_of};
+ghost use Rattle.vol_judge.specs.Finds.{Finds};
 ghost use Rattle.vol_judge.specs.Marks.{IsInside, IsFileZoned, blocks_from, marked, MarksNamed, AreNamed};
 ghost use Rattle.vol_judge.specs.Sharing.{IsFirstTwice, again};
 
@@ -16,7 +17,7 @@ use vol_layout::{Form, Geometry, number};
 /// Whether a place names each block of the volume, where each number that a place names is a data block's, and
 /// none is named twice.
 ///
-/// Costs what judging rules 5 and 7 does. Takes two bytes for each block.
+/// Costs what [`find_twice`] does, and a look at each mark. Takes two bytes for each block.
 pub fn named_blocks(
     alloc: Global,
     image: &Image,
@@ -55,19 +56,17 @@ pub(crate) fn clear(marks: &mut [u8])
     marks.fill(0);
 }
 
-/// The first block that two places of files name, by i-number and in the order of the places, where each number that they name is a
-/// data block's. There is a mark for each block, whose value at first doesn't matter; the blocks that places name are then marked, if
-/// none is named twice.
+/// What breaks rule 7 first, of files alone: the first block that two places name, by i-number and in the order of the places, where
+/// each number that they name is a data block's. There is a mark for each block, whose value at first doesn't matter; the blocks that
+/// places name are then marked, if none is named twice.
 ///
 /// Costs a read of each i-node, and at most two of each entry of the indirect blocks. Takes no memory.
 pub fn find_twice(image: &Image, geometry: &Geometry, marks: &mut [u8]) -> Option<Finding>
     requires fits { Fits geometry.now image.now }
     requires zoned { IsZoned geometry.now image.now }
     requires len { length marks.old ≡ geometry.now.zone_end }
-    ensures holds { IfNone result (IsApart geometry.now image.now) }
+    ensures twice { Finds (IsApart geometry.now image.now) (IsFirstTwice geometry.now image.now) result }
     ensures marks { IfNone result (MarksNamed geometry.now image.now marks.new) }
-    ensures twice { IfSome result (IsFirstTwice geometry.now image.now) }
-    ensures broken { IfSome result (λ _. IsApart geometry.now image.now → ⊥) }
 {
     clear(marks);
     for i in 1..=geometry.last_inode {

@@ -1,14 +1,11 @@
 use Rattle.std.proofs.Common.{refl}
-use Rattle.vol_free.specs.Stack.{HasStack}
-use Rattle.vol_file.specs.Rules.{HasKinds, HasSizes, IsZoned}
+use Rattle.vol_file.specs.Rules.{HasKinds, HasSizes}
 use Rattle.vol_dir.specs.Entries.{HasEntries}
 use Rattle.vol_judge.specs.Directories.{IsTree, HasLinks}
 use Rattle.vol_judge.specs.Entries.{IsFirstEntry}
-use Rattle.vol_findings.specs.FreeList.{IsFirstFault}
 use Rattle.vol_judge.specs.INodes.{IsFirstKind, IsFirstSize}
 use Rattle.vol_judge.specs.Links.{IsFirstLink}
 use Rattle.vol_judge.specs.Tree.{IsFirstTree}
-use Rattle.vol_judge.specs.Zones.{IsFirstOutside}
 use Rattle.vol_findings.proofs.Telling.{said_as}
 use Rattle.vol_findings.proofs.outcome.check_volume.Goals as goal
 
@@ -22,12 +19,10 @@ returns c =
       bounded = refl;
       kinds = said_as (HasKinds g image) (IsFirstKind g image) ⊥ c.find_kind.result c.of-kinds.result asked c.find_kind.ensures c.of-kinds.ensures;
       sizes = said_as (HasSizes g image) (IsFirstSize g image) ⊥ c.find_size.result c.of-sizes.result asked c.find_size.ensures c.of-sizes.ensures;
-      zoned = said_as (IsZoned g image) (IsFirstOutside g image) ⊥ c.find_outside.result c.of-zoned.result asked
-          c.find_outside.ensures c.of-zoned.ensures;
-      listed = said_as (HasStack g image) (IsFirstFault g image) ⊥ c.in_ok-find_fault.field-0 c.of-listed.result asked
-          c.in_ok-find_fault.ensures c.of-listed.ensures;
-      apart = c.in_ok-apart.ensures;
-      covered = c.in_ok-covered.ensures;
+      zoned = c.in_ok-blocks.ensures.zoned;
+      listed = c.in_ok-blocks.ensures.listed;
+      apart = c.in_ok-blocks.ensures.apart;
+      covered = c.in_ok-blocks.ensures.covered;
       entries = said_as (HasEntries g image) (IsFirstEntry g image) ⊥ c.in_ok-find_entry.field-0 c.of-entries.result asked
           c.in_ok-find_entry.ensures c.of-entries.ensures;
       dots = c.check_dots-dots.ensures;

@@ -1,64 +1,72 @@
-use Rattle.std.proofs.Common.{inl, inr, refl, sym, arith}
+use Rattle.std.proofs.Common.{inl, inr, refl, sym}
 use Rattle.vol_judge.specs.Lost.{IsFirstUncovered}
-use Rattle.vol_judge.proofs.Comparing.{free_apart, apart_marks}
-use Rattle.vol_judge.proofs.Deciding.{if_none, if_some, finds_none, finds_some}
+use Rattle.vol_judge.specs.Sharing.{IsFirstTwice}
+use Rattle.vol_judge.proofs.Deciding.{if_none, finds_none, finds_some}
 use Rattle.vol_judge.proofs.judging.judge_marks.Goals as goal
-use Rattle.vol_judge.proofs.judging.judge_marks.Goals.{then-is_some-via-then-is_some, then-is_some-via-else-is_some+then-not-are_apart}
+use Rattle.vol_judge.proofs.judging.judge_marks.Goals.{then-is_some-via-then-is_some, then-is_some-via-else-is_some+then-is_some-2}
 
-pub mark_free-requires-clause-clear : goal.mark_free-requires-clause-clear
-mark_free-requires-clause-clear c = c.requires.clear
+pub find_fault-requires-clause-clear : goal.find_fault-requires-clause-clear
+find_fault-requires-clause-clear c = c.requires.clear
 
 pub returns-in_default-clause-least : goal.returns-in_default-clause-least
-returns-in_default-clause-least c = inl (refl, c.in_default.ensures.broken)
-
-pub are_apart-requires : goal.are_apart-requires
-are_apart-requires c = omega (arith, c.mark_free.auto.marks, c.requires.free_room, c.requires.room)
+returns-in_default-clause-least c = inl (refl, c.in_default.ensures.fault.1)
 
 pub returns-then-is_some-clause-least : goal.returns-then-is_some-clause-least
 returns-then-is_some-clause-least c =
-    let set = c.in-Some.ensures.marked in
+    let g = c.args.geometry.now in
+    let image = c.args.image.now in
     inr (
-      record { blocks = set.blocks; free = set.free },
+      c.in-Ok.ensures.fault,
       inl (
         refl,
         λ apart. elim c.then-is_some.branch [
-          | then-is_some-via-then-is_some w ↦ if_some c.args.twice (sym w.if-is_some.ensures) c.requires.broken apart.0
-          | then-is_some-via-else-is_some+then-not-are_apart w ↦
+          | then-is_some-via-then-is_some w ↦ finds_some (IsFirstTwice g image) c.args.twice (sym w.if-is_some.ensures) c.requires.twice apart.0
+          | then-is_some-via-else-is_some+then-is_some-2 w ↦
               let marks = if_none c.args.twice (sym w.if-is_some.ensures) c.requires.marks in
-              absurd (cc (w.are_apart.ensures.1 (apart_marks c.args.named.now c.mark_free.new.marks marks set apart.1), w.if-not-are_apart.true))
+              finds_some (IsFirstTwice g image) c.in-Ok.stack.named (sym w.if-is_some-2.ensures)
+              (c.in-Ok.ensures.named apart.0 (λ b zone. marks b)) apart.1
         ],
       ),
     )
 
-pub returns-then-is_some-2-clause-least : goal.returns-then-is_some-2-clause-least
-returns-then-is_some-2-clause-least c =
-    let set = c.in-Some.ensures.marked in
+pub returns-then-is_some-3-clause-least : goal.returns-then-is_some-3-clause-least
+returns-then-is_some-3-clause-least c =
+    let g = c.args.geometry.now in
+    let image = c.args.image.now in
     let marks = if_none c.args.twice (sym c.if-is_some.ensures) c.requires.marks in
+    let apart = finds_none (IsFirstTwice g image) c.args.twice (sym c.if-is_some.ensures) c.requires.twice in
     inr (
-      record { blocks = set.blocks; free = set.free },
+      c.in-Ok.ensures.fault,
       inr (
         (
-          if_none c.args.twice (sym c.if-is_some.ensures) c.requires.holds,
-          free_apart c.args.named.now c.mark_free.new.marks c.requires.fits marks set (c.are_apart.ensures.0 c.if-not-are_apart.false),
+          apart,
+          finds_none (IsFirstTwice g image) c.in-Ok.stack.named (sym c.if-is_some-2.ensures) (c.in-Ok.ensures.named apart (λ b zone. marks b)),
         ),
         inl (
           refl,
-          finds_some (IsFirstUncovered c.args.geometry.now c.args.image.now) c.find_lost.result (sym c.if-is_some-2.ensures) (c.find_lost.ensures c.args.image.now c.requires.fits (λ b zone. marks b) set),
+          finds_some (IsFirstUncovered g image) c.find_lost.result (sym c.if-is_some-3.ensures)
+              (c.find_lost.ensures image c.requires.fits (λ b zone. marks b) c.in-Ok.ensures.marked),
         ),
       ),
     )
 
 pub returns-clause-least : goal.returns-clause-least
 returns-clause-least c =
-    let set = c.in-Some.ensures.marked in
+    let g = c.args.geometry.now in
+    let image = c.args.image.now in
     let marks = if_none c.args.twice (sym c.if-is_some.ensures) c.requires.marks in
+    let apart = finds_none (IsFirstTwice g image) c.args.twice (sym c.if-is_some.ensures) c.requires.twice in
     inr (
-      record { blocks = set.blocks; free = set.free },
+      c.in-Ok.ensures.fault,
       inr (
         (
-          if_none c.args.twice (sym c.if-is_some.ensures) c.requires.holds,
-          free_apart c.args.named.now c.mark_free.new.marks c.requires.fits marks set (c.are_apart.ensures.0 c.if-not-are_apart.false),
+          apart,
+          finds_none (IsFirstTwice g image) c.in-Ok.stack.named (sym c.if-is_some-2.ensures) (c.in-Ok.ensures.named apart (λ b zone. marks b)),
         ),
-        inr (finds_none (IsFirstUncovered c.args.geometry.now c.args.image.now) c.find_lost.result (sym c.if-is_some-2.ensures) (c.find_lost.ensures c.args.image.now c.requires.fits (λ b zone. marks b) set), refl),
+        inr (
+          finds_none (IsFirstUncovered g image) c.find_lost.result (sym c.if-is_some-3.ensures)
+              (c.find_lost.ensures image c.requires.fits (λ b zone. marks b) c.in-Ok.ensures.marked),
+          refl,
+        ),
       ),
     )

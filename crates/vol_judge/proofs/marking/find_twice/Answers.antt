@@ -8,14 +8,12 @@ pub loop-i-init : goal.loop-i-init
 loop-i-init c = files_none c.args.geometry.now c.args.image.now c.clear.new.marks (1 - 1) (omega arith)
 
 pub returns-in-Some-clause-twice : goal.returns-in-Some-clause-twice
-returns-in-Some-clause-twice c =
-    file_twice c.args.geometry.now c.args.image.now c.loop-i.i c.in-Some.b c.clear.new.marks c.loop-i.marks (omega (arith, c.loop-i.auto.i)) (omega arith)
-    c.requires.zoned (omega (arith, c.clear.auto.marks, c.requires.len)) c.clear.ensures c.loop-i.invariant c.in-Some.ensures.twice
-
-pub returns-in-Some-clause-broken : goal.returns-in-Some-clause-broken
-returns-in-Some-clause-broken c =
-    file_breaks c.args.geometry.now c.args.image.now c.loop-i.i c.in-Some.b c.clear.new.marks c.loop-i.marks (omega (arith, c.loop-i.auto.i)) (omega arith)
-    c.requires.zoned (omega (arith, c.clear.auto.marks, c.requires.len)) c.clear.ensures c.loop-i.invariant c.in-Some.ensures.twice
+returns-in-Some-clause-twice c = (
+  file_twice c.args.geometry.now c.args.image.now c.loop-i.i c.in-Some.b c.clear.new.marks c.loop-i.marks (omega (arith, c.loop-i.auto.i)) (omega arith)
+      c.requires.zoned (omega (arith, c.clear.auto.marks, c.requires.len)) c.clear.ensures c.loop-i.invariant c.in-Some.ensures.twice,
+  file_breaks c.args.geometry.now c.args.image.now c.loop-i.i c.in-Some.b c.clear.new.marks c.loop-i.marks (omega (arith, c.loop-i.auto.i)) (omega arith)
+      c.requires.zoned (omega (arith, c.clear.auto.marks, c.requires.len)) c.clear.ensures c.loop-i.invariant c.in-Some.ensures.twice,
+)
 
 pub loop-i-preserved : goal.loop-i-preserved
 loop-i-preserved c =
@@ -32,4 +30,4 @@ returns-in_default c =
     (omega (arith, c.loop-i.auto.i)) (omega (arith, c.loop-i.auto.i, last)) c.loop-i.invariant c.in_default.ensures.fresh in
     let all = all_marked g image c.clear.new.marks c.again_in.new.marks c.requires.fits c.requires.zoned
     (omega (arith, c.clear.auto.marks, c.requires.len)) c.clear.ensures (ap (marked c.clear.new.marks) (sym (files_all g image)) ∙ files) in
-    record { holds = all.0; marks = all.1; twice = tt; broken = tt }
+    record { twice = all.0; marks = all.1 }

@@ -1,6 +1,7 @@
 use Rattle.std.proofs.Common.{◌≡◌, ◌++◌, ◌∙◌, sym, subst, take, drop, length, arith}
 use Rattle.vol_judge.specs.Marks.{MarksNamed}
-use Rattle.vol_judge.proofs.Deciding.{if_kept}
+use Rattle.vol_judge.specs.Sharing.{IsFirstTwice}
+use Rattle.vol_judge.proofs.Deciding.{finds_kept}
 use Rattle.vol_judge.proofs.Once.{marks_written}
 use Rattle.vol_judge.proofs.marking.named_blocks.Goals as goal
 
@@ -15,5 +16,5 @@ returns-clause-named c =
     let read : c.deref.result.now ≡ new =
     c.deref.ensures.value ∙ marks_written c.in_ok-marks.marks.len new c.in_ok-marks.marks.items (omega (arith, c.find_twice.auto.marks, c.deref_mut.ensures.len)) in
     let named : MarksNamed g image c.deref.result.now =
-    subst (MarksNamed g image) (sym read) (if_kept c.find_twice.result c.find_twice.ensures.marks c.find_twice.ensures.broken c.requires.apart) in
+    subst (MarksNamed g image) (sym read) (finds_kept (IsFirstTwice g image) c.find_twice.result c.find_twice.ensures.marks c.find_twice.ensures.twice c.requires.apart) in
     rw kept (λ b. (λ set. (named b).0 ((c.set_marked.ensures b).0 set), λ by. (c.set_marked.ensures b).1 ((named b).1 by)))

@@ -1,6 +1,6 @@
 use Rattle.std.proofs.Common.{arith}
 use Rattle.vol_judge.proofs.Comparing.{first_lost, none_lost}
-use Rattle.vol_judge.proofs.blocks.find_lost.Goals as goal
+use Rattle.vol_judge.proofs.lost.find_lost.Goals as goal
 
 pub returns-then-not-free-b : goal.returns-then-not-free-b
 returns-then-not-free-b c = λ image fits marks set.

@@ -1,5 +1,5 @@
 use Rattle.std.proofs.Common.{◌≡◌, ℕ, ◌<◌, ◌≤◌, true, false, get_or}
-use Rattle.vol_judge.proofs.blocks.find_lost.Given as goal
+use Rattle.vol_judge.proofs.lost.find_lost.Given as goal
 
 -- each data block before b is named or free
 abbrev pub invariant-loop-b : goal.invariant-loop-b

@@ -1,0 +1,133 @@
+//! What is found of the rules of blocks: 5 to 8.
+ghost use Rattle.std.specs.Prelude.{◌≡◌, ℕ, List, false, length, slice_index_or, IfOk};
+ghost use Rattle.std.specs.Result.{result_err};
+ghost use Rattle.vol_layout.specs.Geometry.{Fits};
+ghost use Rattle.vol_free.specs.Stack.{HasStack};
+ghost use Rattle.vol_file.specs.Rules.{IsZoned, IsApart};
+ghost use Rattle.vol_judge.specs.Finds.{Finds};
+ghost use Rattle.vol_judge.specs.FreeList.{IsFirstFault};
+ghost use Rattle.vol_judge.specs.FreeMarks.{AreFreeMarks};
+ghost use Rattle.vol_judge.specs.Lost.{IsFirstUncovered};
+ghost use Rattle.vol_judge.specs.Marks.{MarksNamed};
+ghost use Rattle.vol_judge.specs.Sharing.{IsUsedOnce, IsFirstTwice};
+ghost use Rattle.vol_judge.specs.Sound.{IsFreeApart, IsNoneLost};
+ghost use Rattle.vol_judge.specs.Zones.{IsFirstOutside};
+ghost use Rattle.vol_findings.specs.Outcomes.{Says, IsTwiceUnasked, TellsBlocks};
+
+use crate::outcome::Outcome;
+use pdp_words::Image;
+use std::alloc::{AllocError, Global};
+use vol_judge::{Finding, FreeStack, find_fault, find_lost, find_outside, find_twice, mark_named};
+use vol_layout::Geometry;
+
+/// What is found of the rules of blocks.
+#[derive(Clone, Copy, Debug)]
+pub(crate) struct BlockOutcomes {
+    /// Rule 5: each number that is named is a data block's.
+    pub zoned: Outcome,
+    /// Rule 6: the free list is a stack.
+    pub listed: Outcome,
+    /// Rule 7: no block is used twice.
+    pub apart: Outcome,
+    /// Rule 8: no block is lost.
+    pub covered: Outcome,
+}
+
+/// What is found of the rules of blocks. Reads the free list once. Takes two bytes for each block.
+pub(crate) fn check_blocks(
+    alloc: Global,
+    image: &Image,
+    geometry: &Geometry,
+) -> Result<BlockOutcomes, AllocError>
+    requires { Fits geometry.now image.now }
+    ensures { IfOk result (TellsBlocks geometry.now image.now) }
+{
+    let mut named = vec![in alloc; 0; geometry.zone_end as usize]?;
+    let mut free = vec![in alloc; false; geometry.zone_end as usize]?;
+    Ok(check_marks(image, geometry, &mut named, &mut free))
+}
+
+/// What is found of the rules of blocks, by marks of those that files name and of the free ones. There are both for each block: the
+/// values of `named` don't matter at first, and none of `free` is set.
+fn check_marks(
+    image: &Image,
+    geometry: &Geometry,
+    named: &mut [u8],
+    free: &mut [bool],
+) -> BlockOutcomes
+    requires fits { Fits geometry.now image.now }
+    requires room { length named.old ≡ geometry.now.zone_end }
+    requires free_room { length free.old ≡ geometry.now.zone_end }
+    requires clear { (k : ℕ) → slice_index_or free.old k false ≡ false }
+    ensures { TellsBlocks geometry.now image.now result }
+{
+    let zoned = Outcome::of(find_outside(image, geometry, named));
+    let files = check_files(image, geometry, zoned, named);
+    let list = find_fault(image, geometry, named, free);
+    let listed = Outcome::of(list.err());
+    let apart = check_apart(files, list);
+    let covered = check_covered(image, geometry, list, named, free);
+    BlockOutcomes {
+        zoned,
+        listed,
+        apart,
+        covered,
+    }
+}
+
+/// What is found of rule 7 for files alone, by what is found of rule 5. If it holds, the blocks that files name are marked.
+fn check_files(image: &Image, geometry: &Geometry, zoned: Outcome, named: &mut [u8]) -> Outcome
+    requires fits { Fits geometry.now image.now }
+    requires room { length named.old ≡ geometry.now.zone_end }
+    requires zoned { Says (IsZoned geometry.now image.now) (IsFirstOutside geometry.now image.now) ⊥ zoned }
+    ensures files { Says (IsApart geometry.now image.now) (IsFirstTwice geometry.now image.now) (IsZoned geometry.now image.now → ⊥) result }
+    ensures marks { result ≡ Outcome.Holds → MarksNamed geometry.now image.now named.new }
+{
+    match zoned {
+        Outcome::Holds => Outcome::of(find_twice(image, geometry, named)),
+        Outcome::Broken(_) | Outcome::NotAsked => Outcome::NotAsked,
+    }
+}
+
+/// What is found of rule 7, by what is found of it for files alone, and of the free list. Two places that name one block break it even
+/// if the free list is broken.
+fn check_apart(files: Outcome, list: Result<FreeStack, Finding>) -> Outcome
+    ensures { (geometry : Geometry) (image : List ℕ)
+        → Says (IsApart geometry image) (IsFirstTwice geometry image) (IsZoned geometry image → ⊥) files
+        → Finds (HasStack geometry image) (IsFirstFault geometry image) (result_err list)
+        → IfOk list (λ stack. files ≡ Outcome.Holds → Finds (IsFreeApart geometry image) (IsFirstTwice geometry image) stack.named)
+        → Says (IsUsedOnce geometry image) (IsFirstTwice geometry image) (IsTwiceUnasked geometry image) result }
+{
+    match files {
+        Outcome::Holds => match list {
+            Ok(stack) => Outcome::of(stack.named),
+            Err(_) => Outcome::NotAsked,
+        },
+        Outcome::Broken(_) | Outcome::NotAsked => files,
+    }
+}
+
+/// What is found of rule 8, by what is found of the free list, and the marks of its blocks. There is a mark in `named` for each block,
+/// whose value at first doesn't matter.
+fn check_covered(
+    image: &Image,
+    geometry: &Geometry,
+    list: Result<FreeStack, Finding>,
+    named: &mut [u8],
+    free: &[bool],
+) -> Outcome
+    requires fits { Fits geometry.now image.now }
+    requires room { length named.old ≡ geometry.now.zone_end }
+    requires free_room { length free.now ≡ geometry.now.zone_end }
+    requires list { Finds (HasStack geometry.now image.now) (IsFirstFault geometry.now image.now) (result_err list) }
+    requires marked { IfOk list (λ _. AreFreeMarks geometry.now image.now free.now) }
+    ensures { Says (IsNoneLost geometry.now image.now) (IsFirstUncovered geometry.now image.now) (HasStack geometry.now image.now → ⊥) result }
+{
+    match list {
+        Ok(_) => {
+            mark_named(image, geometry, named);
+            Outcome::of(find_lost(geometry, named, free))
+        }
+        Err(_) => Outcome::NotAsked,
+    }
+}

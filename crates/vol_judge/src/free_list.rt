@@ -1,0 +1,86 @@
+//! Rule 6: the blocks of the free list form a stack, each of which is a data block and stands in it once. The blocks that it
+//! names are marked, and compared with those that files name.
+ghost use Rattle.std.specs.Prelude.{◌≡◌, ℕ, ◌<◌, ◌++◌, ◌∷◌, [], false, length, slice_index_or, List, IfOk, MatchOption};
+ghost use Rattle.std.specs.Option.{option_map};
+ghost use Rattle.std.specs.Result.{result_err};
+ghost use Rattle.vol_layout.specs.Geometry.{Fits};
+ghost use Rattle.vol_free.specs.Stack.{HasStack, IsFree};
+ghost use Rattle.vol_file.specs.Rules.{IsApart};
+ghost use Rattle.vol_judge.specs.Finds.{Finds};
+ghost use Rattle.vol_judge.specs.FreeList.{IsFirstFault};
+ghost use Rattle.vol_judge.specs.FreeMarks.{AreFreeMarks};
+ghost use Rattle.vol_judge.specs.Marks.{MarksZone};
+ghost use Rattle.vol_judge.specs.Sharing.{AreClear, IsFirstMarked, IsFirstTwice};
+ghost use Rattle.vol_judge.specs.Sound.{IsFreeApart};
+
+use crate::finding::Finding;
+use pdp_words::Image;
+use vol_free::FreeWalk;
+use vol_layout::Geometry;
+
+/// What is found of a free list that is a stack.
+#[derive(Clone, Copy, Debug)]
+pub struct FreeStack {
+    /// The number of free blocks.
+    pub count: u32,
+    /// The first of them that is marked as named, in the order of the list. It breaks rule 7, if no two places of files name one
+    /// block.
+    pub named: Option<Finding>,
+}
+
+/// What breaks rule 6 first: the first fault of the free list, from its top on; else the number of free blocks, and the first of
+/// them that is marked in `named`. There is a mark for each block: none of `free` is set before, and after an `Ok` those of the
+/// free blocks are. `named` may hold any marks, as it does if rule 5 or 7 fails.
+///
+/// Reads the free list, and no block of it twice. Takes no memory.
+pub fn find_fault(
+    image: &Image,
+    geometry: &Geometry,
+    named: &[u8],
+    free: &mut [bool],
+) -> Result<FreeStack, Finding>
+    requires fits { Fits geometry.now image.now }
+    requires room { length named.now ≡ geometry.now.zone_end }
+    requires free_room { length free.old ≡ geometry.now.zone_end }
+    requires clear { (k : ℕ) → slice_index_or free.old k false ≡ false }
+    ensures fault { Finds (HasStack geometry.now image.now) (IsFirstFault geometry.now image.now) (result_err result) }
+    ensures marked { IfOk result (λ _. AreFreeMarks geometry.now image.now free.new) }
+    ensures count { IfOk result (λ stack. (blocks : List ℕ) → IsFree geometry.now image.now blocks → stack.count ≡ length blocks) }
+    ensures named { IfOk result (λ stack. IsApart geometry.now image.now → MarksZone geometry.now image.now named.now
+        → Finds (IsFreeApart geometry.now image.now) (IsFirstTwice geometry.now image.now) stack.named) }
+{
+    let mut walk = FreeWalk::new(image, geometry);
+    let mut first = None;
+    'walk: loop {
+        match walk.next(image, geometry, free) {
+            Some(Ok(b)) => first = first_named(first, named, b),
+            Some(Err((fault, number))) => return Err(Finding::FreeList(fault, number)),
+            None => {
+                return Ok(FreeStack {
+                    count: walk.met,
+                    named: used_and_free(first),
+                });
+            }
+        }
+    }
+}
+
+/// The first of some blocks that is marked, by the first of those before the last, which is block `b`.
+fn first_named(first: Option<u32>, named: &[u8], b: u32) -> Option<u32>
+    requires { b < length named.now }
+    ensures { (blocks : List ℕ) → MatchOption first (AreClear named.now blocks) (IsFirstMarked named.now blocks)
+        → MatchOption result (AreClear named.now (blocks ++ b ∷ [])) (IsFirstMarked named.now (blocks ++ b ∷ [])) }
+{
+    match first {
+        Some(_) => first,
+        None if named[b as usize] != 0 => Some(b),
+        None => None,
+    }
+}
+
+/// What breaks rule 7 first, by the first free block that is marked as named.
+fn used_and_free(first: Option<u32>) -> Option<Finding>
+    ensures { result ≡ option_map Finding.UsedAndFree first }
+{
+    first.map(Finding::UsedAndFree)
+}

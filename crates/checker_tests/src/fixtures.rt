@@ -6,7 +6,7 @@ use std::process::Abort;
 use vol_check::Checker;
 use vol_layout::Edition;
 use vol_reports::Report;
-use vol_volume::mkfs;
+use vol_mkfs::mkfs::mkfs;
 
 /// An image: what `mkfs` makes with two blocks of i-nodes, and bytes that are put in places.
 #[derive(Clone, Copy)]

@@ -38,7 +38,7 @@ use Rattle.vol_check.specs.declared.checker.Checker.TheVariants as checkers
 use Rattle.vol_commands.specs.declared.jobs.Job.{Job}
 use Rattle.vol_commands.specs.declared.jobs.Job.TheVariants as jobs
 use Rattle.vol_commands.specs.declared.migrating.Migration.{Migration}
-use Rattle.vol_volume.specs.declared.blank.NewVolume.{NewVolume}
+use Rattle.vol_mkfs.specs.declared.blank.NewVolume.{NewVolume}
 
 -- the words that were given for each argument, by its name (this project)
 abbrev pub Words : Type 0

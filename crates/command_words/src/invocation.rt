@@ -4,7 +4,7 @@ use tree_commands::Edit;
 use vol_check::Checker;
 use vol_commands::{Job, Migration};
 use vol_layout::Edition;
-use vol_volume::NewVolume;
+use vol_mkfs::NewVolume;
 
 /// A volume in a file.
 #[derive(Clone, Copy, Debug, PartialEq, Eq)]

@@ -20,7 +20,7 @@ use tree_commands::Edit;
 use vol_check::Checker;
 use vol_commands::{Job, Migration};
 use vol_listing::{Lines, Listing};
-use vol_volume::NewVolume;
+use vol_mkfs::NewVolume;
 
 /// Reads the words after a command. `clock` is the moment of the program's clock, in seconds since the beginning of 1970,
 /// if it tells one; a command whose moment was left out means it. Where a word is no value of its argument, or a word

@@ -2,7 +2,7 @@
 use Rattle.std.specs.Prelude.{◌≡◌, ◌<◌, ◌++◌, ℕ, List, Option, codes, decimal}
 use Rattle.std.specs.Io.KnownBytes.{Appends}
 use Rattle.std.specs.Path.{path_with_file_name}
-use Rattle.vol_volume.specs.Blank.{WritesVolume}
+use Rattle.vol_mkfs.specs.Blank.{WritesVolume}
 use Rattle.host_files.specs.declared.saving_file.Content.{Content}
 use Rattle.host_files.specs.declared.saving_file.Content.TheVariants.{Bytes, Volume}
 

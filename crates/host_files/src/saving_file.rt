@@ -10,7 +10,7 @@ use std::fs::{self, Files, Metadata, OpenFile, OpenOptions, Permissions};
 use std::io::{self, ErrorKind, Write};
 use std::os::unix::fs::{MetadataExt, OpenOptionsExt, PermissionsExt};
 use std::path::{Path, PathBuf};
-use vol_volume::BlankVolume;
+use vol_mkfs::BlankVolume;
 
 /// How many names are tried for the new file.
 const TRIES: u32 = 1000;

@@ -3,9 +3,9 @@ pub use Rattle.vol_layout.specs.Geometry
 pub use Rattle.vol_dir.specs.Tree
 pub use Rattle.vol_judge.specs.Sound
 pub use Rattle.vol_volume.specs.Answer
-pub use Rattle.vol_volume.specs.Blank
+pub use Rattle.vol_mkfs.specs.Blank
 pub use Rattle.vol_volume.specs.Journal
-pub use Rattle.vol_volume.specs.Mkfs
+pub use Rattle.vol_mkfs.specs.Mkfs
 pub use Rattle.vol_volume.specs.Step
 pub use Rattle.vol_volume.specs.Verdict
 pub use Rattle.vol_volume.specs.Volume

@@ -43,6 +43,8 @@ pub use vol_findings as rules;
 pub use vol_import::{ArchiveFault, ImportFault, import};
 pub use vol_layout::{Edition, Geometry, GeometryFault, Kind};
 pub use vol_migrate::{MigrateFault, migrate};
+pub use vol_mkfs::mkfs::mkfs;
+pub use vol_mkfs::{BlankVolume, MkfsFault, NewVolume};
 pub use vol_receipts::{
     Asked, ConfirmFault, Confirmed, Finding, Outcome, Receipt, confirm, confirm_all, find_all,
 };
@@ -50,6 +52,6 @@ pub use vol_reports::{FreeFault, Line, Report, Total};
 pub use vol_shared::{Closed, MOST_SESSIONS, OpenFault, Session, Shared};
 pub use vol_views::{MOST_VIEWS, View, ViewFault};
 pub use vol_volume::{
-    BlankVolume, Bytes, Call, Done, Listing, MkfsFault, MountFault, NewVolume, Query, Record,
-    Reply, Stat, TooManyRecords, Volume, ask, judge, mkfs,
+    Bytes, Call, Done, Listing, MountFault, Query, Record, Reply, Stat, TooManyRecords, Volume, ask,
+    judge,
 };

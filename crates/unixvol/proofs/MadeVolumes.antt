@@ -1,15 +1,15 @@
 -- What a run of `mkfs` comes to, by what it made and by whether that was saved.
 use Rattle.std.proofs.Common.{◌≡◌, ◌≢◌, ◌↔◌, ◌⊎◌, ◌∙◌, ℕ, zero, suc, ◌≤◌, Bool, true≢false, true, false, List, [], Option, None, Some, IsSome, IfSome, inl, inr, sym, subst, arith}
 use Rattle.std.specs.Io.KnownBytes.{Keeps}
-use Rattle.vol_volume.specs.Blank.{Blank, blank_of, IsMade}
-use Rattle.vol_volume.specs.Mkfs.{is_size}
-use Rattle.vol_volume.specs.Ids.{is_bad_id}
+use Rattle.vol_mkfs.specs.Blank.{Blank, blank_of, IsMade}
+use Rattle.vol_mkfs.specs.Mkfs.{is_size}
+use Rattle.vol_layout.specs.Ids.{is_bad_id}
 use Rattle.vol_commands.specs.Faults.{ErrorStream, Hears, line_after, says}
 use Rattle.vol_commands.specs.Jobs.{Streams}
 use Rattle.vol_commands.specs.Making.{mkfs_line_at}
 use Rattle.vol_commands.specs.declared.faults.Fault.{Fault}
 use Rattle.vol_commands.specs.declared.making.Made.{Made}
-use Rattle.vol_volume.specs.declared.blank.NewVolume.{NewVolume}
+use Rattle.vol_mkfs.specs.declared.blank.NewVolume.{NewVolume}
 use Rattle.unixvol.specs.Running.{IsStatusOfFileOrMemory, MadeSaved, RunsMkfs}
 
 -- the volume asked for was taken, where one was made and taken

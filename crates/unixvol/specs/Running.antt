@@ -5,9 +5,9 @@ use Rattle.clap.specs.Words.{kind_of}
 use Rattle.clap.specs.declared.error.Error.{Error}
 use Rattle.clap.specs.declared.error.kind.ErrorKind.{ErrorKind}
 use Rattle.clap.specs.declared.error.kind.ErrorKind.TheVariants as kinds
-use Rattle.vol_volume.specs.Blank.{blank_of, IsMade}
-use Rattle.vol_volume.specs.Mkfs.{is_size}
-use Rattle.vol_volume.specs.Ids.{is_bad_id}
+use Rattle.vol_mkfs.specs.Blank.{blank_of, IsMade}
+use Rattle.vol_mkfs.specs.Mkfs.{is_size}
+use Rattle.vol_layout.specs.Ids.{is_bad_id}
 use Rattle.pdp_words.specs.Devices.{IsReadWhole, LosesFront}
 use Rattle.image_commands.specs.Looking.{Looks}
 use Rattle.image_commands.specs.declared.looks.Look.{Look}
@@ -37,7 +37,7 @@ use Rattle.vol_commands.specs.declared.jobs.Job.{Job}
 use Rattle.vol_commands.specs.declared.jobs.Job.TheVariants as jobs
 use Rattle.vol_commands.specs.declared.making.Made.{Made}
 use Rattle.vol_commands.specs.declared.migrating.Migration.{Migration}
-use Rattle.vol_volume.specs.declared.blank.NewVolume.{NewVolume}
+use Rattle.vol_mkfs.specs.declared.blank.NewVolume.{NewVolume}
 use Rattle.host_files.specs.Opening.{IsOpened}
 use Rattle.host_files.specs.Saving.{IsTaken}
 use Rattle.host_files.specs.declared.image_file.Stamp.{Stamp}

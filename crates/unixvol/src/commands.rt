@@ -29,7 +29,7 @@ use vol_commands::migrating::migrate_image;
 use vol_commands::status::DONE;
 use vol_commands::{CatFault, Ending, Job, Migration};
 use vol_layout::Edition;
-use vol_volume::NewVolume;
+use vol_mkfs::NewVolume;
 
 /// Does what was read of the command line, and answers how the program ends. What it prints goes to `output`,
 /// which is standard output; a fault is one line on standard error, or clap's text. `errors` writes to

@@ -3,7 +3,6 @@ use Rattle.std.proofs.Common.{◌≡◌, ◌∙◌, sym, ap, subst, ℕ, ◌*◌
 use Rattle.std.specs.Option.{unwrap_or}
 use Rattle.vol_layout.specs.Edition.{constants}
 use Rattle.vol_layout.specs.declared.edition.Edition.{Edition}
-use Rattle.vol_layout.specs.declared.edition.Edition.TheVariants.{V6, V7}
 use Rattle.vol_layout.specs.declared.geometry.Geometry.{Geometry}
 use Rattle.vol_layout.specs.declared.mode.Kind.TheVariants as kinds
 use Rattle.vol_file.specs.Need.{need}
@@ -74,11 +73,6 @@ none_twice geometry image i shape is has = record {
   once = λ name s t first second.
       absurd (true≢false (sym first ∙ ap (holds name) (no_entry geometry image i s shape is has)));
 }
-
--- both entries are within the greatest file
-pub dots_fit : (edition : Edition) → 32 ≤ (constants edition).greatest
-dots_fit V6 = omega arith
-dots_fit V7 = omega arith
 
 -- `.` takes a block
 pub dot_need : (geometry : Geometry) (image : List ℕ) (i : ℕ) → HoldsNames (state geometry image) i [] 0 no_shape

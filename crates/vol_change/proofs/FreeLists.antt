@@ -21,7 +21,8 @@ use Rattle.vol_change.specs.Alone.{KeepsContent}
 use Rattle.vol_change.specs.Changed.{FreeBecomes, as_before, blocks_freed}
 use Rattle.vol_change.specs.Whole.{Rules3To8}
 use Rattle.vol_change.proofs.Contents.{kind_same}
-use Rattle.vol_change.proofs.WholeLaws.{super_order, zone_behind}
+use Rattle.vol_layout.proofs.EditionLaws.{super_order}
+use Rattle.vol_change.proofs.WholeLaws.{zone_behind}
 
 -- a write behind the free list's head and before the data zone leaves it
 free_below : (geometry : Geometry) (old new : List ℕ) (from to : ℕ) → SameOutside old new from to → free_head geometry.edition + 202 ≤ from

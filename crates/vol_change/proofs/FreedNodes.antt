@@ -9,12 +9,12 @@ use Rattle.vol_layout.specs.Inode.{inode_of, inode_place, kind_of}
 use Rattle.vol_layout.specs.Names.{mode_of, IsPlaceOf, named}
 use Rattle.vol_layout.specs.Places.{has_places}
 use Rattle.vol_layout.specs.declared.edition.Edition.{Edition}
-use Rattle.vol_layout.specs.declared.edition.Edition.TheVariants.{V6, V7}
 use Rattle.vol_layout.specs.declared.geometry.Geometry.{Geometry}
 use Rattle.vol_layout.specs.declared.mode.Kind.TheVariants as kinds
 use Rattle.vol_layout.proofs.InodeLaws.{place_from, place_room}
 use Rattle.vol_layout.proofs.KindLaws.{kind_zero}
 use Rattle.vol_layout.specs.Super.{cache_head}
+use Rattle.vol_layout.proofs.EditionLaws.{mode_room}
 use Rattle.vol_free.specs.Numbers.{cache_len, Cached}
 use Rattle.vol_free.proofs.Frames.{IsFree-before_zone}
 use Rattle.vol_file.specs.Rules.{kind_at, Rules3To7With}
@@ -53,11 +53,6 @@ truncated_list geometry old new i rules file truncates =
     subst (λ t. FreeBecomes geometry old new (λ blocks. (if t then blocks_of geometry old i else []) ++ blocks)) (sym file)
     (subst (λ gone. FreeBecomes geometry old new (λ blocks. gone ++ blocks)) (past_all geometry old i)
     (truncated_free geometry old new i 0 rules (truncates rules.blocks rules.sound)))
-
--- an i-node has room for its mode
-pub mode_room : (edition : Edition) → 2 ≤ (constants edition).inode_bytes
-mode_room V6 = omega arith
-mode_room V7 = omega arith
 
 module _ (geometry : Geometry) (old new : List ℕ) (i : ℕ) (rules : Rules3To8 geometry old) (above : (constants geometry.edition).root < i)
     (last : i ≤ geometry.last_inode) (none : (p : List ℕ) → IsPlaceOf geometry old i p → named geometry old i p ≡ 0)

@@ -34,7 +34,6 @@ pub mod PlaceCounts
 pub mod ReadyLaws
 pub mod ShapePlaces
 pub mod SideStates
-pub mod SoundVolumes
 pub mod States
 pub mod TimedEdits
 pub mod UnusedBytes

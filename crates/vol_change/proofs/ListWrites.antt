@@ -29,7 +29,8 @@ use Rattle.vol_change.specs.Whole.{Rules3To8, Keeps}
 use Rattle.vol_change.proofs.Contents.{KeepsReading, reading, form_by, kind_same, entry_reads, shape_reads, shape_same, node_same, node_of_reading}
 use Rattle.vol_dir.proofs.WalkLaws.{node_inside}
 use Rattle.vol_change.proofs.States.{makes_node, makes_time}
-use Rattle.vol_change.proofs.WholeLaws.{whole_kept, whole_reading, around_list, zone_behind, super_order}
+use Rattle.vol_layout.proofs.EditionLaws.{super_order}
+use Rattle.vol_change.proofs.WholeLaws.{whole_kept, whole_reading, around_list, zone_behind}
 
 -- a write below the data zone keeps what i-node i holds, where its kind, the bits of its mode above the permissions, its size and its
 -- addresses stay

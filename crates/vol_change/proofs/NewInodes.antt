@@ -10,16 +10,12 @@ use Rattle.vol_layout.specs.declared.edition.Edition.{Edition}
 use Rattle.vol_layout.specs.declared.edition.Edition.TheVariants.{V6, V7}
 use Rattle.vol_layout.specs.declared.geometry.Geometry.{Geometry}
 use Rattle.vol_layout.specs.declared.mode.Mode.{Mode}
+use Rattle.vol_layout.proofs.EditionLaws.{few_links}
 use Rattle.vol_free.specs.Numbers.{IsFreeNumber}
 use Rattle.vol_dir.specs.Tree.{Content, node_with}
 use Rattle.vol_dir.specs.declared.cred.Cred.{Cred}
 use Rattle.vol_change.specs.Edits.{new_node}
 use Rattle.vol_change.specs.Inodes.{MakesInode}
-
--- one link or two are within the limit
-pub few_links : (edition : Edition) → 2 ≤ (constants edition).link_limit
-few_links V6 = omega arith
-few_links V7 = omega arith
 
 -- it reads as the new node
 pub reads_new : (edition : Edition) (bits : Mode) (count : ℕ) (owner : Cred) (now permissions : ℕ) (content : Content)

@@ -32,7 +32,8 @@ use Rattle.vol_change.specs.Whole.{Rules3To8, Keeps, StaysAround}
 use Rattle.vol_change.proofs.Contents.{kind_same, entry_same, shape_same, node_same}
 use Rattle.vol_change.proofs.ListWrites.{content_kept}
 use Rattle.vol_change.proofs.States.{shape_at, makes_both, makes_time}
-use Rattle.vol_change.proofs.WholeLaws.{around_then, around_list, super_order, whole_kept, zone_behind}
+use Rattle.vol_layout.proofs.EditionLaws.{super_order}
+use Rattle.vol_change.proofs.WholeLaws.{around_then, around_list, whole_kept, zone_behind}
 
 -- what stays by one change and by the next stays by both
 pub content_then : (geometry : Geometry) (old mid new : List ℕ) (j : ℕ) → KeepsContent geometry old mid j → KeepsContent geometry mid new j

@@ -16,7 +16,7 @@ use Rattle.vol_file.specs.Changes.{ChangesFileAlone, is_kept_byte}
 use Rattle.vol_file.specs.Rules.{kind_at}
 use Rattle.vol_change.specs.Unused.{KeepsUnused, IsCleared}
 use Rattle.vol_change.proofs.OneNode.{alone_inode}
-use Rattle.vol_change.proofs.WholeLaws.{super_order}
+use Rattle.vol_layout.proofs.EditionLaws.{super_order}
 
 -- where all bytes of an i-node stay, so does that one
 byte_kept : (edition : Edition) (old new : List ℕ) (j : ℕ)

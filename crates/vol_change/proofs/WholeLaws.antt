@@ -13,6 +13,7 @@ use Rattle.vol_layout.specs.declared.edition.Edition.TheVariants.{V6, V7}
 use Rattle.vol_layout.specs.declared.geometry.Geometry.{Geometry}
 use Rattle.vol_layout.specs.declared.mode.Kind.TheVariants as kinds
 use Rattle.vol_layout.proofs.NameLaws.{zero_out, named_holds, holds_named}
+use Rattle.vol_layout.proofs.EditionLaws.{super_order}
 use Rattle.vol_free.specs.Stack.{IsIn, IsFree}
 use Rattle.vol_free.proofs.Frames.{free_zone}
 use Rattle.vol_file.specs.Rules.{kind_at, HasKinds, HasSizes}
@@ -64,12 +65,6 @@ geometry_kept geometry old new around = sizes_kept geometry.edition old new arou
 -- the data zone begins behind blocks 0 and 1
 pub zone_behind : (geometry : Geometry) (image : List ℕ) → Fits geometry image → 1024 ≤ 512 * geometry.zone_start
 zone_behind geometry image fits = omega (arith, fits.i_list)
-
--- the parts of the super-block stand one behind another
-pub super_order : (edition : Edition) → (free_head edition + 202 ≡ cache_head edition) × (free_head edition + 404 ≤ time_place edition)
-    × (720 ≤ time_place edition) × (time_place edition + 4 ≤ 1024)
-super_order V6 = (omega arith, omega arith, omega arith, omega arith)
-super_order V7 = (omega arith, omega arith, omega arith, omega arith)
 
 -- a write of some of the bytes from the i-list on, up to the data zone, keeps what no call changes
 pub around_list : (geometry : Geometry) (old new : List ℕ) (from to : ℕ) → Fits geometry old → SameOutside old new from to → 1024 ≤ from

@@ -35,7 +35,8 @@ use Rattle.vol_change.specs.Edits.{at_time}
 use Rattle.vol_change.specs.Whole.{Rules3To8, StaysAround}
 use Rattle.vol_change.proofs.Contents.{kind_same, entry_same, file_by, shape_same, node_same}
 use Rattle.vol_change.proofs.States.{makes_time}
-use Rattle.vol_change.proofs.WholeLaws.{geometry_kept, names_stay, sizes_stay, super_order, zone_behind}
+use Rattle.vol_layout.proofs.EditionLaws.{super_order}
+use Rattle.vol_change.proofs.WholeLaws.{geometry_kept, names_stay, sizes_stay, zone_behind}
 use Rattle.vol_change.proofs.ReadyLaws.{bounded_kept, whole_kept, sound_by}
 use Rattle.vol_check.specs.Salvaging.{IsSalvaged}
 

@@ -11,8 +11,8 @@ use Rattle.vol_migrate.specs.declared.fault.MigrateFault.{MigrateFault}
 use Rattle.vol_migrate.specs.declared.fault.MigrateFault.TheVariants as migrations
 use Rattle.vol_check.specs.declared.salvaging.SalvageFault.{SalvageFault}
 use Rattle.vol_check.specs.declared.salvaging.SalvageFault.TheVariants as salvages
-use Rattle.vol_volume.specs.declared.blank.MkfsFault.{MkfsFault}
-use Rattle.vol_volume.specs.declared.blank.MkfsFault.TheVariants as blanks
+use Rattle.vol_mkfs.specs.declared.blank.MkfsFault.{MkfsFault}
+use Rattle.vol_mkfs.specs.declared.blank.MkfsFault.TheVariants as blanks
 use Rattle.vol_volume.specs.declared.volume.MountFault.{MountFault}
 use Rattle.vol_volume.specs.declared.volume.MountFault.TheVariants as mounts
 use Rattle.vol_commands.specs.declared.answer.Answer.{Answer}

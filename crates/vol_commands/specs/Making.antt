@@ -1,7 +1,7 @@
 -- What `mkfs` prints and answers.
 use Rattle.std.specs.Prelude.{ℕ, ◌==◌, Bool, if◌then◌else◌, List, []}
 use Rattle.vol_commands.specs.Faults.{fault_line, unmade}
-use Rattle.vol_volume.specs.declared.blank.MkfsFault.TheVariants.{Bounds, BadId, NoMemory}
+use Rattle.vol_mkfs.specs.declared.blank.MkfsFault.TheVariants.{Bounds, BadId, NoMemory}
 
 -- what `mkfs` writes to standard error by its status, and by whether the sizes are those of a volume: they are asked first (this project)
 abbrev pub mkfs_line_at : Bool → ℕ → List ℕ

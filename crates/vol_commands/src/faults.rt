@@ -7,7 +7,8 @@ use std::alloc::AllocError;
 use vol_check::SalvageFault;
 use vol_dir::Refusal;
 use vol_migrate::MigrateFault;
-use vol_volume::{MkfsFault, MountFault};
+use vol_mkfs::MkfsFault;
+use vol_volume::MountFault;
 
 /// The line of standard output that can't be written.
 pub(crate) const CANNOT_WRITE: &str = "unixvol: cannot write -\n";

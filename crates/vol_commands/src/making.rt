@@ -1,9 +1,9 @@
 //! `mkfs`: makes a new volume, and answers it, to be saved.
 ghost use Rattle.std.specs.Prelude.{◌≡◌, ◌≢◌, ◌↔◌, ◌⊎◌, false, true, IsSome, IfSome, None};
 ghost use Rattle.std.specs.Io.KnownBytes.{Keeps};
-ghost use Rattle.vol_volume.specs.Blank.{blank_of};
-ghost use Rattle.vol_volume.specs.Mkfs.{is_size};
-ghost use Rattle.vol_volume.specs.Ids.{is_bad_id};
+ghost use Rattle.vol_mkfs.specs.Blank.{blank_of};
+ghost use Rattle.vol_mkfs.specs.Mkfs.{is_size};
+ghost use Rattle.vol_layout.specs.Ids.{is_bad_id};
 ghost use Rattle.vol_commands.specs.Faults.{heard, says, fault_line, fault_status, line_after, unmade};
 ghost use Rattle.vol_commands.specs.Making.{mkfs_line_at};
 
@@ -12,7 +12,7 @@ use crate::faults::Fault;
 use crate::status::DONE;
 use pdp_words::Sink;
 use std::alloc::Global;
-use vol_volume::{BlankVolume, MkfsFault, NewVolume};
+use vol_mkfs::{BlankVolume, MkfsFault, NewVolume};
 
 /// What `mkfs` comes to.
 #[derive(Drop)]

@@ -19,7 +19,7 @@ use Rattle.vol_layout.specs.declared.mode.Kind.{Kind}
 use Rattle.vol_layout.specs.declared.mode.Kind.TheVariants as kinds
 use Rattle.vol_dir.specs.Access.{user}
 use Rattle.vol_volume.specs.Answer.{answer}
-use Rattle.vol_volume.specs.Ids.{is_bad_id}
+use Rattle.vol_layout.specs.Ids.{is_bad_id}
 use Rattle.vol_volume.specs.declared.calls.Call.{Call}
 use Rattle.vol_volume.specs.declared.calls.Call.TheVariants as calls
 use Rattle.vol_volume.specs.declared.queries.Query.TheVariants as queries

@@ -2,7 +2,9 @@ pub mod AddressLaws
 pub mod BitLaws
 pub mod BodyLaws
 pub mod CopyLaws
+pub mod EditionLaws
 pub mod FrameLaws
+pub mod GeometryLaws
 pub mod InodeLaws
 pub mod KindLaws
 pub mod LastPlaces

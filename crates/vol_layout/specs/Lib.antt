@@ -1,5 +1,6 @@
 pub mod Edition
 pub mod Geometry
+pub mod Ids
 pub mod Inode
 pub mod Super
 pub mod Slot

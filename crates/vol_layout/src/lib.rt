@@ -7,6 +7,7 @@ pub mod edition;
 pub mod geometry;
 pub mod i_list;
 pub mod i_node;
+pub mod ids;
 pub mod laws;
 pub mod mode;
 pub mod numbers;
@@ -20,6 +21,7 @@ pub use i_list::{
     clear_addresses, clear_inode, copy_addresses, inode, put_address, put_inode, put_mode, put_size,
 };
 pub use i_node::Inode;
+pub use ids::is_bad_id;
 pub use mode::{Kind, Mode};
 pub use numbers::{number, put_number};
 pub use slot::Slot;

@@ -27,7 +27,8 @@ use Rattle.vol_free.specs.Rebuilding.{KeepsUsed, unused, unused_from}
 use Rattle.vol_free.proofs.Rebuilding.{unused_end, unused_given, unused_in}
 use Rattle.vol_file.specs.Rules.{HasKinds, HasSizes, kind_at, size_of}
 use Rattle.vol_dir.specs.Tree.{shapes}
-use Rattle.vol_change.proofs.WholeLaws.{super_order, zone_behind}
+use Rattle.vol_layout.proofs.EditionLaws.{super_order}
+use Rattle.vol_change.proofs.WholeLaws.{zone_behind}
 use Rattle.vol_migrate.specs.Stages.{IsUsed, IsVacant, MayMigrate, HasInodes, HasSuper, IsCarried, IsStage, progress}
 use Rattle.vol_migrate.proofs.CarriedBlocks.{none_below}
 use Rattle.vol_migrate.proofs.StageSteps.{carried_kind, carried_size, form_seventh, progress_self, progress_after, super_stays}

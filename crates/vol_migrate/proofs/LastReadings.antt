@@ -22,7 +22,7 @@ use Rattle.vol_dir.proofs.PlaceTests.{place_passed, place_test}
 use Rattle.vol_dir.proofs.WalkLaws.{node_inside}
 use Rattle.vol_change.proofs.ShapePlaces.{guarded, ways_place}
 use Rattle.vol_change.proofs.States.{shape_here}
-use Rattle.vol_volume.specs.Mkfs.{volume_of}
+use Rattle.vol_mkfs.specs.Mkfs.{volume_of}
 use Rattle.vol_migrate.specs.Raised.{raised, raised_node, raised_content, raised_shape, size_in, stored_blocks}
 use Rattle.vol_migrate.specs.Stages.{IsUsed, MayMigrate}
 use Rattle.vol_migrate.proofs.RaisedNames.{names_raised, names_in_raised}

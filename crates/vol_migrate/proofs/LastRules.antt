@@ -15,7 +15,7 @@ use Rattle.vol_judge.specs.Sound.{KeepsRules}
 use Rattle.vol_judge.proofs.ImageGraphs.{graph_within, rules_from_graph}
 use Rattle.vol_judge.proofs.Numbering.{judged}
 use Rattle.vol_change.proofs.ReadyLaws.{ready_graph}
-use Rattle.vol_volume.proofs.NewSizes.{read_makeable}
+use Rattle.vol_mkfs.proofs.NewSizes.{read_makeable}
 use Rattle.vol_migrate.specs.Stages.{MayMigrate}
 use Rattle.vol_migrate.proofs.RaisedGraphs.{raised_sound}
 use Rattle.vol_migrate.proofs.LastStages.{IsLast, graph_raised}

@@ -16,15 +16,16 @@ use Rattle.vol_judge.specs.Marks.{AreNamed}
 use Rattle.vol_judge.specs.Sound.{IsSound, KeepsRules, Rule}
 use Rattle.vol_change.specs.Ready.{Rules1To12}
 use Rattle.vol_change.proofs.ReadyLaws.{ready_whole}
-use Rattle.vol_change.proofs.WholeLaws.{super_order, zone_behind}
+use Rattle.vol_layout.proofs.EditionLaws.{super_order}
+use Rattle.vol_change.proofs.WholeLaws.{zone_behind}
 use Rattle.vol_check.proofs.Remade.{salvaged}
-use Rattle.vol_volume.specs.Mkfs.{is_size, volume_of, IsMakeable}
+use Rattle.vol_mkfs.specs.Mkfs.{is_size, volume_of, IsMakeable}
 use Rattle.vol_migrate.specs.Migrating.{IsMigrated, IsRelisted}
 use Rattle.vol_migrate.specs.Raised.{raised}
 use Rattle.vol_migrate.specs.Refusing.{has_device, has_above, places_needed, refusal}
 use Rattle.vol_migrate.specs.Stages.{HasInodes, HasSuper, IsStage, MayMigrate}
 use Rattle.vol_migrate.specs.declared.fault.MigrateFault.TheVariants as faults
-use Rattle.vol_volume.proofs.NewSizes.{fits_makeable}
+use Rattle.vol_mkfs.proofs.NewSizes.{fits_makeable}
 use Rattle.vol_migrate.proofs.FirstStages.{first_stage}
 use Rattle.vol_migrate.proofs.LastReadings.{state_raised}
 use Rattle.vol_migrate.proofs.LastStages.{IsLast}

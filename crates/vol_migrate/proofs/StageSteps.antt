@@ -28,8 +28,8 @@ use Rattle.vol_file.proofs.Alone.{elsewhere_inode}
 use Rattle.vol_dir.specs.Tree.{shapes}
 use Rattle.vol_dir.proofs.Replacing.{spliced_before, spliced_inside, spliced_after}
 use Rattle.vol_change.proofs.FileInodes.{KeepsFields, fields_kept}
-use Rattle.vol_change.proofs.WholeLaws.{super_order}
-use Rattle.vol_volume.proofs.NewSizes.{sizes_kept}
+use Rattle.vol_layout.proofs.EditionLaws.{super_order}
+use Rattle.vol_mkfs.proofs.NewSizes.{sizes_kept}
 use Rattle.vol_migrate.specs.Raised.{names_block}
 use Rattle.vol_migrate.specs.Stages.{IsUsed, IsCarried, HasSuper, progress, carried_byte}
 use Rattle.vol_migrate.proofs.CarriedBlocks.{on_more}

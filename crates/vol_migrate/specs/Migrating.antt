@@ -6,7 +6,7 @@ use Rattle.vol_free.specs.Stack.{IsFree}
 use Rattle.vol_judge.specs.Sound.{IsSound}
 use Rattle.vol_layout.specs.declared.geometry.Geometry.{Geometry}
 use Rattle.vol_check.specs.Salvaging.{IsSalvaged}
-use Rattle.vol_volume.specs.Mkfs.{volume_of}
+use Rattle.vol_mkfs.specs.Mkfs.{volume_of}
 use Rattle.vol_volume.specs.Volume.{reads_as}
 use Rattle.vol_migrate.specs.Raised.{raised}
 

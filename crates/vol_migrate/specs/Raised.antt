@@ -11,7 +11,7 @@ use Rattle.vol_file.specs.Changes.{whole_blocks}
 use Rattle.vol_file.specs.Shape.{is_on_ways}
 use Rattle.vol_dir.specs.Names.{Names}
 use Rattle.vol_dir.specs.Tree.{Body, Directory, Device, Content, Node, Shape, State, form_in}
-use Rattle.vol_volume.specs.Mkfs.{volume_of}
+use Rattle.vol_mkfs.specs.Mkfs.{volume_of}
 
 -- the map of a directory, with each i-number one higher: the seventh edition keeps i-number 1 for bad blocks (this project)
 abbrev pub raised_names : Names → Names

@@ -5,7 +5,7 @@ use Rattle.std.specs.Option.{option_map_or}
 use Rattle.vol_layout.specs.declared.edition.Edition.{Edition}
 use Rattle.vol_layout.specs.declared.edition.Edition.TheVariants.{V6, V7}
 use Rattle.vol_dir.specs.Tree.{Node, Tree, State, place_count}
-use Rattle.vol_volume.specs.Mkfs.{is_size}
+use Rattle.vol_mkfs.specs.Mkfs.{is_size}
 use Rattle.vol_volume.specs.Verdict.{is_device}
 use Rattle.vol_migrate.specs.Raised.{raised_shape, size_in}
 use Rattle.vol_migrate.specs.declared.fault.MigrateFault.{MigrateFault}

@@ -21,7 +21,7 @@ use Rattle.vol_file.specs.Rules.{Rules3To7With, kind_at, size_of}
 use Rattle.vol_file.specs.Shape.{is_named, is_on_ways}
 use Rattle.vol_dir.specs.Tree.{Shape, shapes, state}
 use Rattle.vol_change.specs.Ready.{Rules1To12}
-use Rattle.vol_volume.specs.Mkfs.{IsMakeable}
+use Rattle.vol_mkfs.specs.Mkfs.{IsMakeable}
 use Rattle.vol_migrate.specs.Raised.{names_block, stored_blocks, raised_slot}
 use Rattle.vol_migrate.specs.Refusing.{places_needed}
 

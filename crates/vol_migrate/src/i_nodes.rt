@@ -5,7 +5,7 @@ ghost use Rattle.vol_layout.specs.Geometry.{Fits};
 ghost use Rattle.vol_free.specs.Stack.{IsFree};
 ghost use Rattle.vol_free.specs.Rebuilding.{KeepsUsed, unused};
 ghost use Rattle.vol_file.specs.Rules.{kind_at};
-ghost use Rattle.vol_volume.specs.Mkfs.{IsMakeable};
+ghost use Rattle.vol_mkfs.specs.Mkfs.{IsMakeable};
 ghost use Rattle.vol_migrate.specs.Stages.{HasInodes, HasInodesBelow, HasSuper, MayMigrate};
 
 use pdp_words::Image;

@@ -5,7 +5,7 @@ ghost use Rattle.vol_free.specs.Stack.{IsFree};
 ghost use Rattle.vol_free.specs.Rebuilding.{unused};
 ghost use Rattle.vol_dir.specs.Tree.{state};
 ghost use Rattle.vol_judge.specs.Sound.{IsSound, KeepsRules};
-ghost use Rattle.vol_volume.specs.Mkfs.{is_size, volume_of, IsMakeable};
+ghost use Rattle.vol_mkfs.specs.Mkfs.{is_size, volume_of, IsMakeable};
 ghost use Rattle.vol_volume.specs.Volume.{reads_as};
 ghost use Rattle.vol_migrate.specs.Migrating.{IsMigrated, IsRelisted};
 ghost use Rattle.vol_migrate.specs.Refusing.{refusal};

@@ -2,7 +2,7 @@
 ghost use Rattle.std.specs.Prelude.{◌≡◌, ◌≤◌};
 ghost use Rattle.vol_layout.specs.Geometry.{Fits};
 ghost use Rattle.vol_dir.specs.Tree.{tree};
-ghost use Rattle.vol_volume.specs.Mkfs.{is_size};
+ghost use Rattle.vol_mkfs.specs.Mkfs.{is_size};
 ghost use Rattle.vol_migrate.specs.Refusing.{has_device, is_device_at, has_above, is_node_at};
 
 use pdp_words::Image;

@@ -13,7 +13,7 @@ use Rattle.vol_change.specs.Effects.{after_unlink, after_rmdir}
 use Rattle.vol_change.specs.Ready.{Rules1To12, Becomes}
 use Rattle.vol_change.proofs.ReadyLaws.{ready_whole, ready_entries}
 use Rattle.vol_volume.specs.Answer.{answer, query_refusal, reply_of, refused_or}
-use Rattle.vol_volume.specs.Ids.{is_bad_id}
+use Rattle.vol_layout.specs.Ids.{is_bad_id}
 use Rattle.vol_volume.specs.Step.{on_parent, changed_by, step}
 use Rattle.vol_volume.specs.Verdict.{verdict, then_others, of_node, of_parent, unlink_tests, rmdir_tests}
 use Rattle.vol_volume.specs.Volume.{Mounted, Accepts}

@@ -10,7 +10,7 @@ use Rattle.vol_dir.specs.Tree.{Tree, State}
 use Rattle.vol_dir.specs.Walk.{has_zero, walk, walk_parent, is_directory}
 use Rattle.vol_change.specs.Nodes.{node_at, names_at, number_of_name}
 use Rattle.vol_change.specs.Ready.{TakesName, entry_need, free_in}
-use Rattle.vol_volume.specs.Ids.{is_bad_id}
+use Rattle.vol_layout.specs.Ids.{is_bad_id}
 use Rattle.vol_volume.specs.Verdict.{first_of, has_name, has_others, is_device, has_free_number, then_others, of_node, of_parent, create_tests, mkdir_tests, link_tests, unlink_tests, rmdir_tests, write_tests, chown_tests, write_need, link_refusal}
 use Rattle.vol_dir.specs.declared.cred.Cred.{Cred}
 use Rattle.vol_dir.specs.declared.refusal.Refusal.{Refusal}

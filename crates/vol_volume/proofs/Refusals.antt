@@ -7,7 +7,7 @@ use Rattle.vol_dir.specs.Access.{grants, may_execute, may_read}
 use Rattle.vol_dir.specs.Names.{Names, get}
 use Rattle.vol_dir.specs.Tree.{Node, Tree, State}
 use Rattle.vol_dir.specs.Walk.{has_zero, map_of, search_node, search, and_then, find_in, walk_from, walk, parent_from, walk_parent, split_last, components, root, is_directory}
-use Rattle.vol_volume.specs.Ids.{is_bad_id}
+use Rattle.vol_layout.specs.Ids.{is_bad_id}
 use Rattle.vol_change.specs.Nodes.{node_at}
 use Rattle.vol_volume.specs.Journal.{Refuses}
 use Rattle.vol_volume.specs.Verdict.{first_of, then_others, of_node, of_parent, link_refusal, verdict, create_tests, mkdir_tests, link_tests, unlink_tests, rmdir_tests, body_tests, write_tests, truncate_tests, chmod_tests, chown_tests}

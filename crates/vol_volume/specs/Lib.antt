@@ -1,13 +1,10 @@
 pub mod Answer
 pub mod Answering
-pub mod Blank
 pub mod Faults
-pub mod Ids
 pub mod Inodes
 pub mod Journal
 pub mod Laws
 pub mod Leaving
-pub mod Mkfs
 pub mod Parts
 pub mod Performing
 pub mod Standing

@@ -7,7 +7,7 @@ use Rattle.vol_dir.specs.Access.{grants, may_write}
 use Rattle.vol_dir.specs.Names.{get, is_dots}
 use Rattle.vol_dir.specs.Tree.{Content, Body, Directory, Device, Node, Tree, State}
 use Rattle.vol_dir.specs.Walk.{root, has_zero, is_directory, walk, walk_parent}
-use Rattle.vol_volume.specs.Ids.{is_bad_id}
+use Rattle.vol_layout.specs.Ids.{is_bad_id}
 use Rattle.vol_change.specs.Nodes.{node_at, names_at, number_of_name, size_with_entry}
 use Rattle.vol_change.specs.Shapes.{need_in}
 use Rattle.vol_change.specs.Ready.{entry_need, free_in}

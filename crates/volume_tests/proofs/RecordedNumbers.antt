@@ -8,7 +8,7 @@ use Rattle.vol_layout.specs.declared.geometry.Geometry.{Geometry}
 use Rattle.vol_free.specs.Numbers.{IsFreeNumber}
 use Rattle.vol_dir.specs.Tree.{tree}
 use Rattle.vol_judge.specs.Sound.{IsSound}
-use Rattle.vol_change.proofs.SoundVolumes.{geometry_is}
+use Rattle.vol_layout.proofs.GeometryLaws.{geometry_is}
 use Rattle.vol_volume.specs.Verdict.{is_free_number}
 use Rattle.vol_volume.specs.Volume.{reads_as}
 use Rattle.vol_volume.proofs.FreeNumbers.{number_free}

@@ -11,20 +11,19 @@ ghost use Rattle.vol_dir.specs.Tree.{tree, state};
 ghost use Rattle.vol_dir.specs.Walk.{IsComponent, has_zero, is_directory, walk_parent};
 ghost use Rattle.vol_change.specs.Nodes.{node_at, names_at, size_with_entry};
 ghost use Rattle.vol_volume.specs.Answering.{IsPathRefused, LeadsTo, IsParentRefused, IsParentAsked};
-ghost use Rattle.vol_volume.specs.Ids.{is_bad_id};
+ghost use Rattle.vol_layout.specs.Ids.{is_bad_id};
 ghost use Rattle.vol_volume.specs.Performing.{LeadsToParent};
 ghost use Rattle.vol_volume.specs.Standing.{Rules3To7And9};
 ghost use Rattle.vol_volume.specs.Verdict.{first_of, has_name, has_others, is_device, has_free_number, is_free_number, is_too_great, is_full, is_owner, of_parent, body_tests};
 ghost use Rattle.vol_change.specs.Ready.{entry_need};
 
 use crate::numbers::{is_free, next_number};
-use crate::sizes::is_bad_id;
 use pdp_words::Image;
 use vol_dir::{Access, Cred, Entry, Refusal, grants, is_empty_dir, lookup, walk, walk_parent};
 use vol_file::need;
 use vol_layout::i_list::{kind, size};
 use vol_layout::slot::SLOT;
-use vol_layout::{Geometry, Kind, inode};
+use vol_layout::{Geometry, Kind, inode, is_bad_id};
 
 /// Whether i-node `i` is a directory.
 #[tactic(auto, using(crate::proofs::NodeReadings::directory_is, crate::proofs::NodeReadings::directory_not))]

@@ -4,18 +4,17 @@ ghost use Rattle.std.specs.Result.{result_err};
 ghost use Rattle.vol_dir.specs.Tree.{tree, state};
 ghost use Rattle.vol_dir.specs.Walk.{walk};
 ghost use Rattle.vol_change.specs.Ready.{Rules1To12, free_in};
-ghost use Rattle.vol_volume.specs.Ids.{is_bad_id};
+ghost use Rattle.vol_layout.specs.Ids.{is_bad_id};
 ghost use Rattle.vol_volume.specs.Performing.{LeadsToNode, IsPerformed};
 ghost use Rattle.vol_volume.specs.Standing.{Rules3To7And9};
 ghost use Rattle.vol_volume.specs.Verdict.{first_of, then_others, of_node, chown_tests, verdict};
 
 use crate::calls::{Call, Done};
-use crate::sizes::is_bad_id;
 use crate::steps::asked::{find_node, refuse_if};
 use crate::steps::{Caller, Performed, ready_stands};
 use pdp_words::Image;
 use vol_dir::{Cred, Refusal};
-use vol_layout::Geometry;
+use vol_layout::{Geometry, is_bad_id};
 
 /// What speaks against a call that gives a node to `owner`; else the node.
 #[tactic(auto, using(crate::proofs::NodeReadings::tree_geometry))]

@@ -1,7 +1,8 @@
 use Rattle.std.proofs.Common.{◌∙◌, sym, subst, arith}
 use Rattle.vol_layout.specs.Inode.{IsStorable}
 use Rattle.vol_layout.proofs.NewInodes.{new_storable}
-use Rattle.vol_change.proofs.NewInodes.{few_links, makes_new, unused_zero}
+use Rattle.vol_layout.proofs.EditionLaws.{few_links}
+use Rattle.vol_change.proofs.NewInodes.{makes_new, unused_zero}
 use Rattle.vol_change.proofs.new_nodes.make_node.Goals as goal
 
 pub put_inode-requires-clause-storable : goal.put_inode-requires-clause-storable

@@ -3,7 +3,7 @@ use Rattle.std.proofs.Common.{◌≡◌, ◌+◌, ◌≤◌, min, arith, refl, s
 use Rattle.std.proofs.lemmas.List.{take_all, take-take}
 use Rattle.vol_layout.specs.Body.{body, body_size}
 use Rattle.vol_layout.proofs.BodyLaws.{length-body}
-use Rattle.vol_volume.proofs.Outputs.{Appends-more}
+use Rattle.pdp_words.proofs.Outputs.{Appends-more}
 use Rattle.vol_commands.proofs.cat.show.Goals as goal
 
 pub returns-then-count-eq0-clause-ok : goal.returns-then-count-eq0-clause-ok

@@ -1,7 +1,7 @@
 -- Nothing speaks against it.
 use Rattle.std.proofs.Common.{sym, subst}
 use Rattle.vol_dir.specs.Tree.{state}
-use Rattle.vol_volume.specs.Mkfs.{IsMakeable}
+use Rattle.vol_mkfs.specs.Mkfs.{IsMakeable}
 use Rattle.vol_migrate.specs.Stages.{MayMigrate}
 use Rattle.vol_migrate.proofs.Migrated.{allowed, may_migrate}
 use Rattle.vol_migrate.proofs.migrating.migrate_image.Goals as goal

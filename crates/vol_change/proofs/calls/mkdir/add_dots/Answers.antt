@@ -17,7 +17,8 @@ use Rattle.vol_change.specs.Ready.{entry_need}
 use Rattle.vol_change.specs.Contents.{put_entry}
 use Rattle.vol_change.proofs.WholeLaws.{keeps_then}
 use Rattle.vol_change.proofs.DotGraphs.{dots_added}
-use Rattle.vol_change.proofs.DotImages.{names_held, size_held, first_slot, no_entry, none_twice, dots_fit, dot_room, dot_there, second_slot, dot_dot_new, dot_dot_room, dots_size, dot_need, dot_dot_need, dots_places}
+use Rattle.vol_layout.proofs.EditionLaws.{dots_fit}
+use Rattle.vol_change.proofs.DotImages.{names_held, size_held, first_slot, no_entry, none_twice, dot_room, dot_there, second_slot, dot_dot_new, dot_dot_room, dots_size, dot_need, dot_dot_need, dots_places}
 use Rattle.vol_change.proofs.UnusedBytes.{unused_then}
 use Rattle.vol_change.proofs.calls.mkdir.add_dots.Goals as goal
 use Rattle.vol_change.proofs.calls.mkdir.add_dots.Goals.{After-add_name-2}

@@ -1,0 +1,13 @@
+//! The user and group numbers of an edition.
+ghost use Rattle.std.specs.Prelude.{◌≡◌};
+ghost use Rattle.vol_layout.specs.Ids.{is_bad_id};
+
+use crate::edition::Edition;
+
+/// Returns true if the user or group number is above the edition's highest.
+pub fn is_bad_id(edition: Edition, uid: u16, gid: u16) -> bool
+    ensures { result ≡ is_bad_id edition uid gid }
+{
+    let limit = edition.constants().id_limit;
+    limit < uid || limit < gid
+}

@@ -1,0 +1,11 @@
+pub mod BlankBlocks
+pub mod BlankHeads
+pub mod BlankStacks
+pub mod BlankVolumes
+pub mod BlankWrites
+pub mod NewDirectories
+pub mod NewFiles
+pub mod NewRules
+pub mod NewSizes
+pub mod NewVolumes
+pub mod RootModes

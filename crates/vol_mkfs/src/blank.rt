@@ -1,0 +1,138 @@
+//! A new volume that isn't written yet.
+ghost use Rattle.std.specs.Prelude.{◌≡◌, ◌↔◌, true, false, IfOk, IfErr, OnOk, OnErr, IsErrOf};
+ghost use Rattle.vol_mkfs.specs.Blank.{blank_of, IsMade, WritesVolume, WritesFront};
+ghost use Rattle.vol_mkfs.specs.Mkfs.{is_size};
+ghost use Rattle.vol_layout.specs.Ids.{is_bad_id};
+
+mod blocks;
+mod first;
+
+use crate::sizes::{is_size, volume_of};
+use blocks::{gather, write_blocks};
+use first::{FIRST_BYTES, fill};
+use pdp_words::{BLOCK, Image, SaveFault, Sink};
+use std::alloc::{AllocError, Global};
+use std::marker::Model;
+use thiserror::Error;
+use vol_layout::{Edition, Geometry, is_bad_id};
+
+/// How many blocks of a volume stand up to the first of the i-list.
+const FIRST_BLOCKS: u32 = 3;
+
+/// The volume that is to be made: its sizes, in blocks of 512 bytes, the root's user and group, and the
+/// moment, in seconds since the beginning of 1970.
+#[derive(Clone, Copy, Debug, PartialEq, Eq)]
+pub struct NewVolume {
+    /// The edition of Unix.
+    pub edition: Edition,
+    /// All blocks of the volume.
+    pub blocks: u32,
+    /// The blocks of the i-list.
+    pub list_blocks: u16,
+    /// The root's user.
+    pub uid: u16,
+    /// The root's group.
+    pub gid: u16,
+    /// The time of the super-block and the root.
+    pub now: u32,
+}
+
+/// Why no volume was made.
+#[derive(Clone, Copy, Debug, PartialEq, Eq, Error)]
+pub enum MkfsFault {
+    /// The sizes aren't those of a volume: rule 2 would fail, or a sixth edition volume would have more
+    /// than 65,535 blocks.
+    #[error("bounds")]
+    Bounds,
+    /// The user or group number is above 255 in the sixth edition, or 32,767 in the seventh.
+    #[error("104 BadId")]
+    BadId,
+    /// An allocation was refused.
+    #[error("12 NoMemory")]
+    NoMemory,
+}
+
+/// A new volume whose bytes aren't in memory: the root alone is on it, and all other data blocks are
+/// free. Only its blocks 0, 1 and 2 and the root's are kept; all others follow from its sizes.
+#[derive(Debug, Drop)]
+pub struct BlankVolume {
+    geometry: Geometry,
+    first: Image,
+}
+
+impl Model for BlankVolume {
+    ghost use Rattle.vol_mkfs.specs.Blank.{Blank, blank_in, IsBlank};
+
+    ghost Value = { Blank };
+
+    ghost view = { λ v. blank_in v.geometry v.first };
+
+    ghost invariant = { λ v. IsBlank v.geometry v.first };
+}
+
+impl BlankVolume {
+    /// The volume that is to be made, whose root has permissions 0777. `Bounds` comes before `BadId`, and
+    /// `NoMemory` last.
+    ///
+    /// Takes memory for four blocks.
+    pub fn new(alloc: Global, volume: NewVolume) -> Result<BlankVolume, MkfsFault>
+        ensures blank { IfOk result (λ blank. blank ≡ blank_of volume) }
+        ensures size { OnOk result (is_size volume.edition volume.blocks volume.list_blocks ≡ true) }
+        ensures id { OnOk result (is_bad_id volume.edition volume.uid volume.gid ≡ false) }
+        ensures bounds { IsErrOf result MkfsFault.Bounds ↔ (is_size volume.edition volume.blocks volume.list_blocks ≡ false) }
+        ensures bad_id { IsErrOf result MkfsFault.BadId ↔ ((is_size volume.edition volume.blocks volume.list_blocks ≡ true)
+            × (is_bad_id volume.edition volume.uid volume.gid ≡ true)) }
+    {
+        let NewVolume {
+            edition,
+            blocks,
+            list_blocks,
+            uid,
+            gid,
+            now,
+        } = volume;
+        if !is_size(edition, blocks, list_blocks) {
+            return Err(MkfsFault::Bounds);
+        }
+        if is_bad_id(edition, uid, gid) {
+            return Err(MkfsFault::BadId);
+        }
+        let Ok(zeros) = vec![in alloc; 0; FIRST_BYTES] else {
+            return Err(MkfsFault::NoMemory);
+        };
+        let mut first = Image::from_bytes(zeros);
+        let geometry = volume_of(edition, blocks, list_blocks);
+        fill(&mut first, &geometry, uid, gid, now);
+        Ok(BlankVolume { geometry, first })
+    }
+
+    /// All bytes of the volume.
+    ///
+    /// Takes memory for them, once.
+    pub fn to_bytes(&self, alloc: Global) -> Result<Vec<u8>, AllocError>
+        ensures { IfOk result (λ bytes. IsMade self.now bytes.items) }
+    {
+        let mut bytes = vec![in alloc; 0; self.geometry.zone_end as usize * BLOCK]?;
+        gather(
+            &self.first,
+            &self.geometry,
+            0,
+            self.geometry.zone_end,
+            &mut bytes,
+        );
+        Ok(bytes)
+    }
+
+    /// Writes the volume to `sink`, in the order of its bytes. A fault only where the sink failed, and
+    /// then the sink took exactly the first `written` bytes.
+    ///
+    /// Takes no memory: the bytes go out through a buffer of 64 KiB.
+    pub fn write_to<W: Sink>(&self, sink: &mut W) -> Result<(), SaveFault>
+        ensures ok { OnOk result (WritesVolume self.now (W.contents sink.old) (W.contents sink.new)) }
+        ensures working { OnOk result (W.failed sink.new ≡ W.failed sink.old) }
+        ensures part { IfErr result (λ e. WritesFront self.now (W.contents sink.old) (W.contents sink.new) e.written) }
+        ensures fault { OnErr result (W.failed sink.new ≡ true) }
+    {
+        write_blocks(sink, &self.first, &self.geometry)
+    }
+}

@@ -1,7 +1,7 @@
 //! The volume with its file, and many queries and calls one after the other.
 ghost use Rattle.std.specs.Prelude.{◌≡◌, Some};
 
-use crate::volume::{bytes_of, new_volume};
+use crate::volume::new_volume;
 use std::alloc::Global;
 use std::sync::Wait;
 use std::sync::atomic::{AtomicBool, Ordering};
@@ -21,7 +21,7 @@ pub(crate) fn new_volume_with_file(alloc: Global, blocks: u32) -> Option<Volume>
     let create = Call::Create {
         cred: Cred::ROOT,
         now: 1,
-        path: bytes_of(alloc, FILE)?,
+        path: Bytes::from_slice(alloc, FILE).ok()?,
         perm: 0o644,
     };
     volume.call(alloc, create).ok()?;
@@ -32,7 +32,7 @@ pub(crate) fn new_volume_with_file(alloc: Global, blocks: u32) -> Option<Volume>
 fn stat(alloc: Global) -> Option<Query> {
     Some(Query::Stat {
         cred: Cred::ROOT,
-        path: bytes_of(alloc, FILE)?,
+        path: Bytes::from_slice(alloc, FILE).ok()?,
     })
 }
 
@@ -42,7 +42,7 @@ fn write(alloc: Global, length: u32) -> Option<Call> {
     Some(Call::Write {
         cred: Cred::ROOT,
         now: 2,
-        path: bytes_of(alloc, FILE)?,
+        path: Bytes::from_slice(alloc, FILE).ok()?,
         offset: 0,
         bytes: Bytes::from_vec(bytes),
     })

@@ -5,7 +5,7 @@
 //! Makes a volume of the seventh edition of 16,000 blocks, in it so many directories, and in each so many empty files. With
 //! `write` it then writes one byte into each of them. Prints how many calls were accepted or, with a further word, the bytes of
 //! the volume.
-use crate::volume::{bytes_of, new_volume};
+use crate::volume::new_volume;
 use std::alloc::Global;
 use vol_dir::Cred;
 use vol_volume::{Bytes, Call, Volume};
@@ -94,7 +94,7 @@ fn write(alloc: Global, d: u32, n: u32) -> Option<Call> {
         now: 3,
         path: file_path(alloc, d, n)?,
         offset: 0,
-        bytes: bytes_of(alloc, b"x")?,
+        bytes: Bytes::from_slice(alloc, b"x").ok()?,
     })
 }
 

@@ -1,15 +1,10 @@
 //! New volumes, and who calls them.
 use std::alloc::Global;
 use vol_layout::Edition;
-use vol_volume::{Bytes, Volume, mkfs};
+use vol_volume::{Volume, mkfs};
 
 /// A new volume of the seventh edition, mounted.
 pub(crate) fn new_volume(alloc: Global, blocks: u32, list_blocks: u16) -> Option<Volume> {
     let bytes = mkfs(alloc, Edition::V7, blocks, list_blocks, 0, 0, 0).ok()?;
     Volume::mount(alloc, Edition::V7, bytes).ok()
-}
-
-/// A path, or bytes that are written.
-pub(crate) fn bytes_of(alloc: Global, bytes: &[u8]) -> Option<Bytes> {
-    Some(Bytes::from_vec(Vec::from_slice(alloc, bytes).ok()?))
 }

@@ -19,7 +19,8 @@ use Rattle.vol_dir.specs.Entries.{entry_in, entry_at, slot_count, slots}
 use Rattle.vol_dir.specs.Names.{Names, get, names_of, is_dots}
 use Rattle.vol_dir.specs.Walk.{onto_first, pieces, is_nil, components}
 use Rattle.vol_dir.proofs.NameMaps.{sorted}
-use Rattle.vol_archive.proofs.PathNames.{components-join, components-nil}
+use Rattle.vol_dir.proofs.Components.{components-nil}
+use Rattle.vol_dir.proofs.PathJoins.{components-join}
 use Rattle.vol_archive.specs.Walking.{is_plain, path_below, entry_below, pending_below, entries_below}
 use Rattle.vol_archive.specs.declared.pending.Pending.{Pending}
 use Rattle.vol_archive.proofs.Each.{Each, each_append, each_both}

@@ -8,7 +8,6 @@ pub mod MetOnce
 pub mod NameOrder
 pub mod NamedEntries
 pub mod Outputs
-pub mod PathNames
 pub mod Rings
 pub mod Roles
 pub mod TreeMembers

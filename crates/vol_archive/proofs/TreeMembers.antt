@@ -13,7 +13,8 @@ use Rattle.vol_dir.specs.Entries.{slots, IsDirectory}
 use Rattle.vol_dir.specs.Names.{get, names_of}
 use Rattle.vol_dir.specs.Tree.{tree, is_number}
 use Rattle.vol_dir.specs.Walk.{components, and_then, walk_from}
-use Rattle.vol_archive.proofs.PathNames.{walk_from-append, components-nil}
+use Rattle.vol_dir.proofs.Components.{components-nil}
+use Rattle.vol_dir.proofs.PathJoins.{walk_from-append}
 use Rattle.vol_dir.proofs.WalkLaws.{search-directory}
 use Rattle.vol_dir.specs.declared.refusal.Refusal.TheVariants as refusals
 use Rattle.vol_dir.specs.Access.{user}

@@ -31,7 +31,7 @@ use Rattle.vol_archive.proofs.Each.{Each, Has, each_map, each_both, each_of_all,
 use Rattle.vol_archive.proofs.EntryLists.{IsShort, directory_short, component_below}
 use Rattle.vol_archive.proofs.MetOnce.{met_once}
 use Rattle.vol_archive.proofs.NamedEntries.{names_plain, entries_have_nodes}
-use Rattle.vol_archive.proofs.PathNames.{components-nil}
+use Rattle.vol_dir.proofs.Components.{components-nil}
 use Rattle.vol_archive.proofs.Roles.{directory_kept}
 use Rattle.vol_archive.proofs.TreeMembers.{WalksTo, rest_of, walk_is, members_lead}
 use Rattle.vol_archive.proofs.WholeDirectories.{directories_whole}

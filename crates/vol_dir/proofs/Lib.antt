@@ -1,6 +1,6 @@
-mod Components
+pub mod Components
 mod ParentLaws
-mod PathJoins
+pub mod PathJoins
 pub mod Finding
 pub mod GoneEntries
 pub mod NameMaps

@@ -176,7 +176,7 @@ abbrev pub cleared : List ℕ → Option (List ℕ × ℕ) → Option (List ℕ 
 cleared name slot = cond (holds name slot) None slot
 
 -- what the map answers once a name is removed
-get_remove : (names : Names) (name q : List ℕ) → get (remove names name) q ≡ cond (bytes_eq name q) None (get names q)
+pub get_remove : (names : Names) (name q : List ℕ) → get (remove names name) q ≡ cond (bytes_eq name q) None (get names q)
 get_remove names name q =
     find-where_key (slice_cmp nat_cmp) (λ other. not (eq_by_cmp (slice_cmp nat_cmp) name other)) q
     (λ x e. ap (λ other. not (eq_by_cmp (slice_cmp nat_cmp) name other)) (sym (exact_bytes q x e))) names

@@ -50,7 +50,8 @@ pub walk-nothing : BeginsAtRoot
 unfolding walk walk_parent
 walk-nothing tree cred path e = (ap (walk_from tree cred (root tree)) e, ap (parent_over tree cred) e)
 
-walk_from-append : (tree : Tree) (cred : Cred) (i : ℕ) (names others : List (List ℕ))
+-- a walk over more names goes on from where the first lead
+pub walk_from-append : (tree : Tree) (cred : Cred) (i : ℕ) (names others : List (List ℕ))
     → walk_from tree cred i (names ++ others) ≡ and_then (walk_from tree cred i names) (λ j. walk_from tree cred j others)
 walk_from-append tree cred i [] others = refl
 walk_from-append tree cred i (name ∷ names) others =

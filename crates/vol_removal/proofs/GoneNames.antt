@@ -1,30 +1,13 @@
 -- Walks in a tree where a directory lost a name.
-use Rattle.std.proofs.Common.{◌≡◌, ◌≢◌, ◌∙◌, sym, ap, subst, refl, ℕ, Bool, true, false, cond, List, [], ◌∷◌, ◌++◌, None, Some, Ok, Err}
-use Rattle.std.specs.Prelude.{Option, Result, not}
+use Rattle.std.proofs.Common.{◌≡◌, ◌≢◌, ◌∙◌, sym, ap, subst, refl, ℕ, List, [], ◌∷◌, ◌++◌, None, Some, Ok, Err}
+use Rattle.std.specs.Prelude.{Option, Result}
 use Rattle.std.specs.Option.{ok_or}
-use Rattle.std.specs.Str.{bytes_eq}
-use Rattle.std.specs.Ordering.{nat_cmp, eq_by_cmp}
-use Rattle.std.specs.Cmp.Lexicographic.{slice_cmp}
-use Rattle.std.specs.FinMap.Entries.{find-where_key}
-use Rattle.std.proofs.lemmas.Map.Lookups.{exact_bytes}
-use Rattle.std.proofs.lemmas.Map.Text.{is_eq-slice_cmp}
-use Rattle.vol_dir.specs.Names.{Names, get, remove}
+use Rattle.vol_dir.specs.Names.{Names, get}
 use Rattle.vol_dir.specs.Tree.{Tree}
 use Rattle.vol_dir.specs.Walk.{search, and_then, walk_from}
 use Rattle.vol_dir.specs.declared.cred.Cred.{Cred}
 use Rattle.vol_dir.specs.declared.refusal.Refusal.{Refusal}
 use Rattle.vol_dir.specs.declared.refusal.Refusal.TheVariants as refusals
-
--- what a map without a name answers
-pub get_remove : (names : Names) (name q : List ℕ) → get (remove names name) q ≡ cond (bytes_eq name q) None (get names q)
-get_remove names name q =
-    find-where_key (slice_cmp nat_cmp) (λ other. not (eq_by_cmp (slice_cmp nat_cmp) name other)) q
-    (λ x e. ap (λ other. not (eq_by_cmp (slice_cmp nat_cmp) name other)) (sym (exact_bytes q x e))) names
-    ∙ (ap (λ b. cond (not b) (get names q) None) (is_eq-slice_cmp name q) ∙ not_cond (bytes_eq name q) (get names q) None)
-  where
-    not_cond : {X : Type 0} (b : Bool) (x y : X) → cond (not b) x y ≡ cond b y x
-    not_cond true x y = refl
-    not_cond false x y = refl
 
 -- the new tree is the old one, but that directory d has lost a name, and that what no name leads to may be gone
 pub record LosesName (old new : Tree) (cred : Cred) (d : ℕ) (name : List ℕ) : Type 0 where

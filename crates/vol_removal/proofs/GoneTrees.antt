@@ -17,6 +17,7 @@ use Rattle.vol_dir.specs.Entries.{slots, IsDirectory, IsInUse, HasEntries}
 use Rattle.vol_dir.specs.Names.{Names, get, names_of, remove}
 use Rattle.vol_dir.specs.Tree.{Content, Body, Directory, Device, Node, Tree, State, tree, node_with, node_of, content_of, is_number}
 use Rattle.vol_dir.specs.Walk.{root, map_of, search, search_node}
+use Rattle.vol_dir.proofs.NameMaps.{get_remove}
 use Rattle.vol_dir.proofs.WalkLaws.{found_in_use, IsInUse-root, search-outside, search-directory, search-other}
 use Rattle.vol_dir.specs.declared.refusal.Refusal.{Refusal}
 use Rattle.vol_dir.specs.declared.refusal.Refusal.TheVariants as refusals
@@ -26,7 +27,7 @@ use Rattle.vol_change.specs.Effects.{after_unlink, after_rmdir}
 use Rattle.vol_change.specs.Nodes.{node_at, number_of_name}
 use Rattle.vol_change.proofs.SideStates.{set_beside}
 use Rattle.vol_change.proofs.NodeEdits.{set_here}
-use Rattle.vol_removal.proofs.GoneNames.{get_remove, LosesName}
+use Rattle.vol_removal.proofs.GoneNames.{LosesName}
 
 -- what user 0 finds to search in a node, if there is one
 abbrev pub searched : Option Node → Result Names Refusal

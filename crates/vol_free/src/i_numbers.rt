@@ -31,27 +31,17 @@ pub fn take_inode(image: &mut Image, geometry: &Geometry) -> Option<u16>
     }
 }
 
-/// Whether an i-number above the root's is free. Reads the i-list only where no i-number of the cache is
-/// free. Takes no memory.
-pub fn any_inode(image: &Image, geometry: &Geometry) -> bool
+/// The i-number that [`take_inode`] would take, which nothing changes for: the last of the cache that is free, or if
+/// none of it is, the last of the first hundred that are free in the i-list. None exactly if none is free.
+pub fn next_inode(image: &Image, geometry: &Geometry) -> Option<u16>
     requires { Fits geometry.now image.now }
-    ensures { IsTrue result ↔ ((i : ℕ) × IsFreeNumber geometry.now image.now i) }
+    ensures free { IfSome result (λ i. IsFreeNumber geometry.now image.now i) }
+    ensures none { result ≡ None → (i : ℕ) → IsFreeNumber geometry.now image.now i → ⊥ }
 {
-    let super_block = Super {
-        edition: geometry.edition,
-    };
-    for n in 0..cache_len(image, geometry.edition) {
-        if is_free(image, geometry, super_block.cached(image, n as usize)) {
-            return true;
-        }
+    match next_cached(image, geometry) {
+        Some(i) => Some(i),
+        None => next_listed(image, geometry),
     }
-    let last = geometry.last_inode;
-    for i in geometry.edition.constants().root + 1..=last {
-        if is_free(image, geometry, i) {
-            return true;
-        }
-    }
-    false
 }
 
 /// Gives i-number `i` to the cache, if it has room; else nothing changes. Takes no memory.
@@ -84,7 +74,7 @@ fn take_cached(image: &mut Image, geometry: &Geometry) -> Option<u16>
     for n in (0..cache_len(image, geometry.edition)).rev() {
         let i = super_block.cached(image, n as usize);
         super_block.put_cache_count(image, n);
-        if is_free(image, geometry, i) {
+        if is_free_inode(image, geometry, i) {
             return Some(i);
         }
     }
@@ -110,13 +100,51 @@ fn take_listed(image: &mut Image, geometry: &Geometry) -> Option<u16>
         if count == CACHE_SLOTS {
             break;
         }
-        if is_free(image, geometry, i) {
+        if is_free_inode(image, geometry, i) {
             super_block.put_cached(image, count as usize, i);
             count += 1;
             last_found = Some(i);
         }
     }
     super_block.put_cache_count(image, count.saturating_sub(1));
+    last_found
+}
+
+/// The last i-number of the cache that is free. None where none of them is.
+fn next_cached(image: &Image, geometry: &Geometry) -> Option<u16>
+    requires { Fits geometry.now image.now }
+    ensures { IfSome result (λ i. IsFreeNumber geometry.now image.now i) }
+{
+    let super_block = Super {
+        edition: geometry.edition,
+    };
+    for n in (0..cache_len(image, geometry.edition)).rev() {
+        let i = super_block.cached(image, n as usize);
+        if is_free_inode(image, geometry, i) {
+            return Some(i);
+        }
+    }
+    None
+}
+
+/// The last of the first hundred i-numbers that are free in the i-list. None where none is.
+fn next_listed(image: &Image, geometry: &Geometry) -> Option<u16>
+    requires { Fits geometry.now image.now }
+    ensures free { IfSome result (λ i. IsFreeNumber geometry.now image.now i) }
+    ensures none { result ≡ None → (i : ℕ) → IsFreeNumber geometry.now image.now i → ⊥ }
+{
+    let mut count = 0;
+    let mut last_found = None;
+    let last = geometry.last_inode;
+    for i in geometry.edition.constants().root + 1..=last {
+        if count == CACHE_SLOTS {
+            break;
+        }
+        if is_free_inode(image, geometry, i) {
+            count += 1;
+            last_found = Some(i);
+        }
+    }
     last_found
 }
 
@@ -131,7 +159,7 @@ fn cache_len(image: &Image, edition: Edition) -> u16
 }
 
 /// Whether i-number `i`, which may be any, is above the root's, of the volume and free.
-fn is_free(image: &Image, geometry: &Geometry, i: u16) -> bool
+pub fn is_free_inode(image: &Image, geometry: &Geometry, i: u16) -> bool
     requires { Fits geometry.now image.now }
     ensures { IsTrue result ↔ IsFreeNumber geometry.now image.now i }
 {

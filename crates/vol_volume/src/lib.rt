@@ -6,7 +6,6 @@ pub mod applying;
 pub mod asking;
 pub mod calls;
 pub mod laws;
-mod numbers;
 pub mod queries;
 pub mod reserved;
 mod steps;

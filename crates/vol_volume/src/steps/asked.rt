@@ -17,10 +17,10 @@ ghost use Rattle.vol_volume.specs.Standing.{Rules3To7And9};
 ghost use Rattle.vol_volume.specs.Verdict.{first_of, has_name, has_others, is_device, has_free_number, is_free_number, is_too_great, is_full, is_owner, of_parent, body_tests};
 ghost use Rattle.vol_change.specs.Ready.{entry_need};
 
-use crate::numbers::{is_free, next_number};
 use pdp_words::Image;
 use vol_dir::{Access, Cred, Entry, Refusal, grants, is_empty_dir, lookup, walk, walk_parent};
 use vol_file::need;
+use vol_free::{is_free_inode, next_inode};
 use vol_layout::i_list::{kind, size};
 use vol_layout::slot::SLOT;
 use vol_layout::{Geometry, Kind, inode, is_bad_id};
@@ -148,7 +148,7 @@ pub(crate) fn free_number(image: &Image, geometry: &Geometry) -> Result<u16, Ref
     ensures none { IfErr result (λ refusal. (has_free_number (tree geometry.now image.now) ≡ false)
         × (refusal ≡ Refusal.NoInode)) }
 {
-    match next_number(image, geometry) {
+    match next_inode(image, geometry) {
         Some(i) => Ok(i),
         None => Err(Refusal::NoInode),
     }
@@ -160,7 +160,7 @@ pub(crate) fn is_free_number(image: &Image, geometry: &Geometry, i: u16) -> bool
     requires { Rules3To7And9 geometry.now image.now }
     ensures { IsTrue result ↔ (is_free_number (tree geometry.now image.now) i ≡ true) }
 {
-    is_free(image, geometry, i)
+    is_free_inode(image, geometry, i)
 }
 
 /// Whether directory `dir`, whose next entry goes to `slot`, would be greater than the greatest file with that

@@ -1,6 +1,6 @@
 use Rattle.std.proofs.Common.{◌≡◌, ℕ, ◌<◌, ◌≤◌, IfSome, None}
 use Rattle.vol_free.specs.Numbers.{IsFreeNumber}
-use Rattle.vol_volume.proofs.numbers.next_listed.Given as goal
+use Rattle.vol_free.proofs.i_numbers.next_listed.Given as goal
 
 -- the last i-number found is free, and where none was found none below i is
 abbrev pub invariant-loop-i : goal.invariant-loop-i

@@ -1,7 +1,6 @@
 pub mod Each
 pub mod EntryLists
 pub mod FirstMarks
-pub mod Listings
 pub mod MemberLists
 pub mod MemberOrder
 pub mod MetOnce

@@ -1,6 +1,5 @@
 pub mod Exporting
 pub mod Laws
-pub mod Listing
 pub mod Marks
 pub mod Members
 pub mod Walking

@@ -1,16 +1,13 @@
-//! The names of a directory, in ascending order.
+//! The entries below a directory, in ascending order of their names.
 ghost use Rattle.std.specs.Prelude.{◌≡◌, ◌++◌, ◌∷◌, [], IfOk, OnOk};
 ghost use Rattle.vol_layout.specs.Geometry.{Fits};
-ghost use Rattle.vol_dir.specs.Entries.{slots, IsDirectory};
-ghost use Rattle.vol_dir.specs.Names.{names_of};
-ghost use Rattle.vol_archive.specs.Listing.{by_bytes, put_first};
+ghost use Rattle.vol_dir.specs.Entries.{IsDirectory};
 ghost use Rattle.vol_archive.specs.Walking.{is_plain, path_below, entry_below, pending_below, entries_below};
 
 use crate::pending::Pending;
 use pdp_words::{Bytes, Image};
 use std::alloc::{AllocError, Global};
-use std::collections::BTreeMap;
-use vol_dir::{is_dots, next_entry};
+use vol_dir::{is_dots, list_names};
 use vol_layout::Geometry;
 
 /// The entries of the directory `dir` at a path, but for `.` and `..`, in ascending order of their names. Of entries with one name
@@ -28,7 +25,7 @@ pub(crate) fn entries_below(
     requires directory { IsDirectory geometry.now image.now dir }
     ensures { IfOk result (λ entries. entries.items ≡ entries_below geometry.now image.now path.now dir) }
 {
-    let names = list(alloc, image, geometry, dir)?;
+    let names = list_names(alloc, image, geometry, dir)?;
     pending_below(alloc, path, &names)
 }
 
@@ -93,57 +90,4 @@ fn is_plain(name: &[u8]) -> bool
     ensures { result ≡ is_plain name.now }
 {
     !name.is_empty() && !name.contains(&b'/')
-}
-
-/// The names of directory `dir`, in ascending order of their bytes, with their i-numbers.
-fn list(
-    alloc: Global,
-    image: &Image,
-    geometry: &Geometry,
-    dir: u16,
-) -> Result<Vec<(Bytes, u16)>, AllocError>
-    requires fits { Fits geometry.now image.now }
-    requires directory { IsDirectory geometry.now image.now dir }
-    ensures { IfOk result (λ names. names.items ≡ names_of (slots geometry.now image.now dir)) }
-{
-    let names = collect_names(alloc, image, geometry, dir)?;
-    names
-        .into_iter()
-        .map(|(name, i)| (Bytes::from_vec(name), i))
-        .collect(alloc)
-}
-
-/// The names of directory `dir`, with the i-numbers that their first entries have.
-fn collect_names(
-    alloc: Global,
-    image: &Image,
-    geometry: &Geometry,
-    dir: u16,
-) -> Result<BTreeMap<Vec<u8>, u16>, AllocError>
-    requires fits { Fits geometry.now image.now }
-    requires directory { IsDirectory geometry.now image.now dir }
-    ensures { IfOk result (λ names. by_bytes names.entries ≡ names_of (slots geometry.now image.now dir)) }
-{
-    let mut names = BTreeMap::new(alloc);
-    let mut from = 0;
-    while let Some((s, slot)) = next_entry(image, geometry, dir, from) {
-        put_first(alloc, &mut names, slot.name(), slot.inode)?;
-        from = s + 1;
-    }
-    Ok(names)
-}
-
-/// Puts a name among others, unless it is there.
-fn put_first(
-    alloc: Global,
-    names: &mut BTreeMap<Vec<u8>, u16>,
-    name: &[u8],
-    inode: u16,
-) -> Result<(), AllocError>
-    ensures { OnOk result (by_bytes names.new.entries ≡ put_first (by_bytes names.old.entries) name.now inode) }
-{
-    if !names.contains_key(name) {
-        names.insert(Vec::from_slice(alloc, name)?, inode)?;
-    }
-    Ok(())
 }

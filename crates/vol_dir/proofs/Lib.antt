@@ -5,6 +5,8 @@ pub mod Finding
 pub mod GoneEntries
 pub mod NameMaps
 pub mod NewEntries
+pub mod NextEntries
+pub mod ListedNames
 pub mod PlaceTests
 pub mod Replacing
 pub mod SlotReading

@@ -2,6 +2,7 @@ pub mod Access
 pub mod DirectoryLaws
 pub mod Editing
 pub mod Entries
+pub mod Listing
 pub mod Names
 pub mod PathLaws
 pub mod Refusals

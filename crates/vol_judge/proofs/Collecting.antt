@@ -18,7 +18,7 @@ use Rattle.vol_file.specs.Rules.{size_of}
 use Rattle.vol_dir.specs.Entries.{entry_at, slot_count, IsDirectory, HasEntry, HasEntries}
 use Rattle.vol_dir.specs.Scanning.{IsNextEntry}
 use Rattle.vol_judge.specs.Naming.{IsValidEntry, HasEntriesBelow, HasEntriesIn, is_in, HoldsNamesBelow}
-use Rattle.vol_judge.proofs.NextEntries.{entry_next, none_from}
+use Rattle.vol_dir.proofs.NextEntries.{entry_next, none_from}
 
 -- zero bytes are no name
 zeros : (k : ℕ) → name_of (replicate k 0) ≡ []

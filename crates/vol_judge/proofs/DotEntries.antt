@@ -10,7 +10,7 @@ use Rattle.vol_dir.specs.Entries.{entry_at, slot_count, IsDirectory, HasEntry, H
 use Rattle.vol_dir.specs.Scanning.{IsNextEntry}
 use Rattle.vol_judge.specs.InodeMarks.{IsNamed, IsNamedUpTo}
 use Rattle.vol_judge.proofs.Collecting.{same_entry, none_some}
-use Rattle.vol_judge.proofs.NextEntries.{entry_next, none_from}
+use Rattle.vol_dir.proofs.NextEntries.{entry_next, none_from}
 
 -- before the first slot nothing is named
 pub named_first : (geometry : Geometry) (image : List ℕ) (d : ℕ) (name : List ℕ) → IsNamedUpTo geometry image d 0 name None

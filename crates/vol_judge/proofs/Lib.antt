@@ -25,7 +25,6 @@ pub mod MarkLists
 pub mod NamedFree
 pub mod NamedGraphs
 pub mod NamedOnce
-pub mod NextEntries
 pub mod Numbering
 pub mod Once
 pub mod Outsides

@@ -10,7 +10,7 @@ use Rattle.vol_dir.specs.Scanning.{IsNextEntry}
 use Rattle.vol_dir.proofs.SlotReading.{entry_at_past}
 use Rattle.vol_judge.specs.Stepping.{rank, IsNextSlot, IsPastEntries}
 use Rattle.vol_judge.proofs.Collecting.{count_low, next_low, same_entry, none_some}
-use Rattle.vol_judge.proofs.NextEntries.{entry_next, none_from}
+use Rattle.vol_dir.proofs.NextEntries.{entry_next, none_from}
 
 -- the slot of an entry is one of the directory
 pub entry_within : (geometry : Geometry) (image : List ℕ) (d s : ℕ) (entry : List ℕ × ℕ) → entry_at geometry image d s ≡ Some entry → s < slot_count geometry image d

@@ -2,7 +2,6 @@ pub mod Accepted
 pub mod AcceptedCalls
 mod AnsweredQueries
 pub mod Journals
-mod ListedNames
 mod MappedErrors
 pub mod FirstTests
 pub mod FreeNumbers

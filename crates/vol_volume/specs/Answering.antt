@@ -1,7 +1,5 @@
--- How the answer to a call or a query is found: the way to its node or its parent, and names as lists of bytes.
-use Rattle.std.specs.Prelude.{◌≡◌, ℕ, Bool, List, [], ◌∷◌, map, Option, Some, Ok}
-use Rattle.std.specs.Global.{Vec}
-use Rattle.vol_dir.specs.Names.{Names}
+-- How the answer to a call or a query is found: the way to its node or its parent.
+use Rattle.std.specs.Prelude.{◌≡◌, ℕ, Bool, List, [], ◌∷◌, Option, Some, Ok}
 use Rattle.vol_dir.specs.Tree.{Tree}
 use Rattle.vol_dir.specs.Walk.{walk, walk_parent}
 use Rattle.vol_volume.specs.Verdict.{first_of, then_others, of_node, of_parent}
@@ -27,7 +25,3 @@ IsParentRefused tree cred path bare refusal =
 abbrev pub IsParentAsked : Tree → Cred → List ℕ → Refusal → ℕ → List ℕ → Type 0
 IsParentAsked tree cred path bare d name =
     (tests : ℕ → List ℕ → List (Bool × Refusal)) → then_others tree cred (path ∷ []) (of_parent (walk_parent tree cred path) bare tests) ≡ first_of (tests d name)
-
--- entries with their names as lists of bytes (this project)
-abbrev pub listed_names : List (Vec ℕ × ℕ) → Names
-listed_names entries = map (λ (entry : Vec ℕ × ℕ). (entry.0.items, entry.1)) entries

@@ -4,13 +4,11 @@ ghost use Rattle.std.specs.Result.{result_err};
 ghost use Rattle.vol_layout.specs.Body.{body};
 ghost use Rattle.vol_layout.specs.Geometry.{geometry_of};
 ghost use Rattle.vol_layout.specs.Names.{IsFile};
-ghost use Rattle.vol_dir.specs.Entries.{slots, IsDirectory, IsInUse};
-ghost use Rattle.vol_dir.specs.Names.{names_of};
+ghost use Rattle.vol_dir.specs.Entries.{IsDirectory, IsInUse};
 ghost use Rattle.vol_dir.specs.Tree.{tree};
 ghost use Rattle.vol_judge.specs.Sound.{IsSound};
 ghost use Rattle.vol_change.specs.Nodes.{node_at};
 ghost use Rattle.vol_volume.specs.Answer.{stat_of, list_tests, read_bytes, Answers};
-ghost use Rattle.vol_volume.specs.Answering.{listed_names};
 ghost use Rattle.vol_volume.specs.Standing.{Rules3To7And9};
 ghost use Rattle.vol_volume.specs.Verdict.{first_of};
 
@@ -19,8 +17,7 @@ use crate::steps::asked::{body_tests, find_node, is_directory, is_granted, refus
 use crate::steps::stands;
 use pdp_words::{Bytes, Image};
 use std::alloc::{AllocError, Global};
-use std::collections::BTreeMap;
-use vol_dir::{Access, Cred, Refusal, next_entry};
+use vol_dir::{Access, Cred, Refusal, list_names};
 use vol_layout::i_list::{kind, size};
 use vol_layout::{Geometry, inode};
 
@@ -106,7 +103,7 @@ fn answer_list(
 {
     let i = find_node(image, geometry, cred, path)?;
     list_tests(image, geometry, cred, i)?;
-    let names = list(alloc, image, geometry, i).map_err(|_| Refusal::NoMemory)?;
+    let names = list_names(alloc, image, geometry, i).map_err(|_| Refusal::NoMemory)?;
     Ok(Reply::Names(Listing::from_vec(names)))
 }
 
@@ -162,42 +159,4 @@ fn read(
     let mut bytes = vec![in alloc; 0; count as usize]?;
     vol_file::read(image, geometry, i, offset, &mut bytes);
     Ok(bytes)
-}
-
-/// The names of directory `dir`, in ascending order of their bytes, with their i-numbers.
-fn list(
-    alloc: Global,
-    image: &Image,
-    geometry: &Geometry,
-    dir: u16,
-) -> Result<Vec<(Bytes, u16)>, AllocError>
-    requires stands { Rules3To7And9 geometry.now image.now }
-    requires directory { IsDirectory geometry.now image.now dir }
-    ensures { IfOk result (λ names. names.items ≡ names_of (slots geometry.now image.now dir)) }
-{
-    let names = collect_names(alloc, image, geometry, dir)?;
-    names
-        .into_iter()
-        .map(|(name, i)| (Bytes::from_vec(name), i))
-        .collect(alloc)
-}
-
-/// The names of directory `dir`, with their i-numbers.
-fn collect_names(
-    alloc: Global,
-    image: &Image,
-    geometry: &Geometry,
-    dir: u16,
-) -> Result<BTreeMap<Vec<u8>, u16>, AllocError>
-    requires stands { Rules3To7And9 geometry.now image.now }
-    requires directory { IsDirectory geometry.now image.now dir }
-    ensures { IfOk result (λ names. listed_names names.entries ≡ names_of (slots geometry.now image.now dir)) }
-{
-    let mut names = BTreeMap::new(alloc);
-    let mut from = 0;
-    while let Some((s, slot)) = next_entry(image, geometry, dir, from) {
-        names.insert(Vec::from_slice(alloc, slot.name())?, slot.inode)?;
-        from = s + 1;
-    }
-    Ok(names)
 }

@@ -23,7 +23,7 @@ pub returns : goal.returns
 returns c =
     list_replied (tree c.args.geometry.now c.args.image.now) c.args.cred c.args.path.now c.in_ok-i.i c.from_vec.result
     c.in_ok-i.ensures.found c.in_ok-list_tests.ensures.exact
-    (c.from_vec.ensures ∙ (mapped_value _ _ c.list.result c.in_ok-names.names c.in_ok-names.ensures.cases c.list.ensures
+    (c.from_vec.ensures ∙ (mapped_value _ _ c.list_names.result c.in_ok-names.names c.in_ok-names.ensures.cases c.list_names.ensures
     ∙ sym (names_are c.args.geometry.now c.args.image.now c.in_ok-i.i c.in_ok-list_tests.ensures.directory)))
 
 pub returns-in_err-names : goal.returns-in_err-names

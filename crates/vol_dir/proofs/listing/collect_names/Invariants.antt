@@ -1,6 +1,6 @@
 use Rattle.std.proofs.Common.{◌-◌}
-use Rattle.vol_volume.proofs.ListedNames.{HasCollected}
-use Rattle.vol_volume.proofs.answering.collect_names.Given as goal
+use Rattle.vol_dir.proofs.ListedNames.{HasCollected}
+use Rattle.vol_dir.proofs.listing.collect_names.Given as goal
 
 -- the names before slot `from` are collected
 abbrev pub invariant-loop-s : goal.invariant-loop-s

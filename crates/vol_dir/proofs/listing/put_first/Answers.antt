@@ -1,6 +1,6 @@
 use Rattle.std.proofs.Common.{sym, ◌∙◌}
-use Rattle.vol_archive.proofs.Listings.{listed_put, listed_kept}
-use Rattle.vol_archive.proofs.names.put_first.Goals as goal
+use Rattle.vol_dir.proofs.ListedNames.{listed_put, listed_kept}
+use Rattle.vol_dir.proofs.listing.put_first.Goals as goal
 
 pub returns-in_ok-insert : goal.returns-in_ok-insert
 returns-in_ok-insert c =

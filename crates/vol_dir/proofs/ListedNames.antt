@@ -23,8 +23,8 @@ use Rattle.vol_dir.specs.Entries.{entry_at, slot_count, slots}
 use Rattle.vol_dir.specs.Names.{Names, get, insert, names_of}
 use Rattle.vol_dir.specs.Scanning.{IsNextEntry}
 use Rattle.vol_dir.proofs.NameMaps.{sorted}
-use Rattle.vol_judge.proofs.NextEntries.{entry_next}
-use Rattle.vol_archive.specs.Listing.{by_bytes, put_first}
+use Rattle.vol_dir.proofs.NextEntries.{entry_next}
+use Rattle.vol_dir.specs.Listing.{by_bytes, put_first}
 
 -- the entries in the slots of directory d below slot n
 unfoldable pub slots_below : Geometry → List ℕ → ℕ → ℕ → List (Option (List ℕ × ℕ))

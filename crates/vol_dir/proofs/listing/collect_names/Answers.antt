@@ -1,5 +1,5 @@
-use Rattle.vol_archive.proofs.Listings.{collected_none, collected_next, collected_all}
-use Rattle.vol_archive.proofs.names.collect_names.Goals as goal
+use Rattle.vol_dir.proofs.ListedNames.{collected_none, collected_next, collected_all}
+use Rattle.vol_dir.proofs.listing.collect_names.Goals as goal
 
 pub loop-s-init : goal.loop-s-init
 loop-s-init c = collected_none c.args.geometry.now c.args.image.now c.args.dir c.new-names.result.entries c.new-names.ensures.empty

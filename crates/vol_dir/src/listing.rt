@@ -1,0 +1,68 @@
+//! The names of a directory, in ascending order.
+ghost use Rattle.std.specs.Prelude.{◌≡◌, IfOk, OnOk};
+ghost use Rattle.vol_layout.specs.Geometry.{Fits};
+ghost use Rattle.vol_dir.specs.Entries.{slots, IsDirectory};
+ghost use Rattle.vol_dir.specs.Listing.{by_bytes, put_first};
+ghost use Rattle.vol_dir.specs.Names.{names_of};
+
+use crate::entries::next_entry;
+use pdp_words::{Bytes, Image};
+use std::alloc::{AllocError, Global};
+use std::collections::BTreeMap;
+use vol_layout::Geometry;
+
+/// The names of directory `dir`, in ascending order of their bytes, with their i-numbers. Of entries with one name the
+/// first counts.
+///
+/// Costs as much as going over the slots and sorting the names.
+pub fn list_names(
+    alloc: Global,
+    image: &Image,
+    geometry: &Geometry,
+    dir: u16,
+) -> Result<Vec<(Bytes, u16)>, AllocError>
+    requires fits { Fits geometry.now image.now }
+    requires directory { IsDirectory geometry.now image.now dir }
+    ensures { IfOk result (λ names. names.items ≡ names_of (slots geometry.now image.now dir)) }
+{
+    let names = collect_names(alloc, image, geometry, dir)?;
+    names
+        .into_iter()
+        .map(|(name, i)| (Bytes::from_vec(name), i))
+        .collect(alloc)
+}
+
+/// The names of directory `dir`, with the i-numbers that their first entries have.
+fn collect_names(
+    alloc: Global,
+    image: &Image,
+    geometry: &Geometry,
+    dir: u16,
+) -> Result<BTreeMap<Vec<u8>, u16>, AllocError>
+    requires fits { Fits geometry.now image.now }
+    requires directory { IsDirectory geometry.now image.now dir }
+    ensures { IfOk result (λ names. by_bytes names.entries ≡ names_of (slots geometry.now image.now dir)) }
+{
+    let mut names = BTreeMap::new(alloc);
+    let mut from = 0;
+    while let Some((s, slot)) = next_entry(image, geometry, dir, from) {
+        put_first(alloc, &mut names, slot.name(), slot.inode)?;
+        from = s + 1;
+    }
+    Ok(names)
+}
+
+/// Puts a name among others, unless it is there.
+fn put_first(
+    alloc: Global,
+    names: &mut BTreeMap<Vec<u8>, u16>,
+    name: &[u8],
+    inode: u16,
+) -> Result<(), AllocError>
+    ensures { OnOk result (by_bytes names.new.entries ≡ put_first (by_bytes names.old.entries) name.now inode) }
+{
+    if !names.contains_key(name) {
+        names.insert(Vec::from_slice(alloc, name)?, inode)?;
+    }
+    Ok(())
+}

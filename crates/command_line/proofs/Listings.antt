@@ -9,14 +9,13 @@ use Rattle.clap.specs.Words.{Row}
 use Rattle.command_words.specs.Asking.{AreLinesGiven, IsEditionNamed, IsGiven, Words, first_word, is_set, the_word, verb_of}
 use Rattle.command_words.specs.Verbs.{verb_name}
 use Rattle.command_words.specs.declared.invocation.Invocation.{Invocation}
-use Rattle.command_words.specs.declared.invocation.Invocation.TheVariants.{Cat, Mkfs, Migrate, OnVolume, OnImage, OnTree, OnFiles, OnThreads}
+use Rattle.command_words.specs.declared.invocation.Invocation.TheVariants as invocations
 use Rattle.command_words.specs.declared.invocation.Copying.TheVariants as copies
 use Rattle.command_words.specs.declared.invocation.Work.TheVariants as works
 use Rattle.vol_listing.specs.declared.options.Lines.{Lines}
 use Rattle.vol_listing.specs.declared.options.Lines.TheVariants as lines
-use Rattle.image_commands.specs.declared.looks.Look.TheVariants as looks
-use Rattle.tree_commands.specs.declared.edits.Edit.TheVariants as edits
-use Rattle.vol_commands.specs.declared.jobs.Job.TheVariants as jobs
+use Rattle.command_reads.specs.declared.looks.Look.TheVariants as looks
+use Rattle.command_changes.specs.declared.changes.Change.TheVariants as changes
 use Rattle.vol_check.specs.declared.checker.Checker.TheVariants as checkers
 use Rattle.vol_layout.specs.declared.edition.Edition.{Edition}
 use Rattle.vol_layout.specs.declared.edition.Edition.TheVariants.{V6, V7}
@@ -134,40 +133,40 @@ plain_given given form none is =
 asks_listing : (clock : Option ℕ) (given : Words) (edition : Edition) (image path : List ℕ) (invocation : Invocation) → bytes_eq (codes "ls") (verb_name (verb_of invocation)) ≡ true
     → the_word given (codes "EDITION") ≡ word_of edition → the_word given (codes "IMAGE") ≡ image → the_word given (codes "PATH") ≡ path → HasNoOptions given
     → IsGiven clock given invocation → IsListing edition image path invocation
-asks_listing clock given edition image path (Cat volume ino) test e_is i_is p_is none is = absurd (true≢false (sym test))
-asks_listing clock given edition image path (Mkfs i volume) test e_is i_is p_is none is = absurd (true≢false (sym test))
-asks_listing clock given edition image path (Migrate old new migration) test e_is i_is p_is none is = absurd (true≢false (sym test))
-asks_listing clock given edition image path (OnVolume volume (jobs.Get p)) test e_is i_is p_is none is = absurd (true≢false (sym test))
-asks_listing clock given edition image path (OnVolume volume (jobs.Put p file now)) test e_is i_is p_is none is = absurd (true≢false (sym test))
-asks_listing clock given edition image path (OnVolume volume (jobs.Rm p now)) test e_is i_is p_is none is = absurd (true≢false (sym test))
-asks_listing clock given edition image path (OnVolume volume (jobs.Rmdir p now)) test e_is i_is p_is none is = absurd (true≢false (sym test))
-asks_listing clock given edition image path (OnVolume volume (jobs.Mkdir p now)) test e_is i_is p_is none is = absurd (true≢false (sym test))
-asks_listing clock given edition image path (OnVolume volume (jobs.Ln from to now)) test e_is i_is p_is none is = absurd (true≢false (sym test))
-asks_listing clock given edition image path (OnVolume volume (jobs.Chmod p perm now)) test e_is i_is p_is none is = absurd (true≢false (sym test))
-asks_listing clock given edition image path (OnVolume volume (jobs.Chown p uid gid now)) test e_is i_is p_is none is = absurd (true≢false (sym test))
-asks_listing clock given edition image path (OnVolume volume jobs.Salvage) test e_is i_is p_is none is = absurd (true≢false (sym test))
-asks_listing clock given edition image path (OnImage volume (looks.Export p)) test e_is i_is p_is none is = absurd (true≢false (sym test))
-asks_listing clock given edition image path (OnImage volume (looks.Inode number form)) test e_is i_is p_is none is = absurd (true≢false (sym test))
-asks_listing clock given edition image path (OnImage volume (looks.Super form)) test e_is i_is p_is none is = absurd (true≢false (sym test))
-asks_listing clock given edition image path (OnImage volume (looks.Map picture)) test e_is i_is p_is none is = absurd (true≢false (sym test))
-asks_listing clock given edition image path (OnImage volume looks.Check) test e_is i_is p_is none is = absurd (true≢false (sym test))
-asks_listing clock given edition image path (OnImage volume (looks.List directory listing)) test e_is i_is p_is none is = (
+asks_listing clock given edition image path (invocations.Cat volume ino) test e_is i_is p_is none is = absurd (true≢false (sym test))
+asks_listing clock given edition image path (invocations.Mkfs i volume) test e_is i_is p_is none is = absurd (true≢false (sym test))
+asks_listing clock given edition image path (invocations.Migrate old new migration) test e_is i_is p_is none is = absurd (true≢false (sym test))
+asks_listing clock given edition image path (invocations.Get volume p) test e_is i_is p_is none is = absurd (true≢false (sym test))
+asks_listing clock given edition image path (invocations.Change volume (changes.Put p file now)) test e_is i_is p_is none is = absurd (true≢false (sym test))
+asks_listing clock given edition image path (invocations.Change volume (changes.Import p now)) test e_is i_is p_is none is = absurd (true≢false (sym test))
+asks_listing clock given edition image path (invocations.Change volume (changes.Rm p now)) test e_is i_is p_is none is = absurd (true≢false (sym test))
+asks_listing clock given edition image path (invocations.Change volume (changes.RmAll p now)) test e_is i_is p_is none is = absurd (true≢false (sym test))
+asks_listing clock given edition image path (invocations.Change volume (changes.Rmdir p now)) test e_is i_is p_is none is = absurd (true≢false (sym test))
+asks_listing clock given edition image path (invocations.Change volume (changes.Mkdir p now)) test e_is i_is p_is none is = absurd (true≢false (sym test))
+asks_listing clock given edition image path (invocations.Change volume (changes.MkdirAll p now)) test e_is i_is p_is none is = absurd (true≢false (sym test))
+asks_listing clock given edition image path (invocations.Change volume (changes.Ln from to now)) test e_is i_is p_is none is = absurd (true≢false (sym test))
+asks_listing clock given edition image path (invocations.Change volume (changes.Mv from to now)) test e_is i_is p_is none is = absurd (true≢false (sym test))
+asks_listing clock given edition image path (invocations.Change volume (changes.Chmod p perm now)) test e_is i_is p_is none is = absurd (true≢false (sym test))
+asks_listing clock given edition image path (invocations.Change volume (changes.Chown p uid gid now)) test e_is i_is p_is none is = absurd (true≢false (sym test))
+asks_listing clock given edition image path (invocations.Change volume changes.Salvage) test e_is i_is p_is none is = absurd (true≢false (sym test))
+asks_listing clock given edition image path (invocations.Look volume (looks.Export p)) test e_is i_is p_is none is = absurd (true≢false (sym test))
+asks_listing clock given edition image path (invocations.Look volume (looks.Inode number form)) test e_is i_is p_is none is = absurd (true≢false (sym test))
+asks_listing clock given edition image path (invocations.Look volume (looks.Super form)) test e_is i_is p_is none is = absurd (true≢false (sym test))
+asks_listing clock given edition image path (invocations.Look volume (looks.Map picture)) test e_is i_is p_is none is = absurd (true≢false (sym test))
+asks_listing clock given edition image path (invocations.Look volume looks.Check) test e_is i_is p_is none is = absurd (true≢false (sym test))
+asks_listing clock given edition image path (invocations.Look volume (looks.List directory listing)) test e_is i_is p_is none is = (
   edition_is volume.edition edition (subst (IsEditionNamed volume.edition) e_is is.0.0),
   is.0.1 ∙ i_is,
   is.1.0 ∙ p_is,
   plain given listing.lines none is.1.1,
   is.1.2 ∙ unset (given (codes "recursive")) none.below,
 )
-asks_listing clock given edition image path (OnTree volume (edits.Import p now)) test e_is i_is p_is none is = absurd (true≢false (sym test))
-asks_listing clock given edition image path (OnTree volume (edits.MkdirAll p now)) test e_is i_is p_is none is = absurd (true≢false (sym test))
-asks_listing clock given edition image path (OnTree volume (edits.RmAll p now)) test e_is i_is p_is none is = absurd (true≢false (sym test))
-asks_listing clock given edition image path (OnTree volume (edits.Move from to now)) test e_is i_is p_is none is = absurd (true≢false (sym test))
-asks_listing clock given edition image path (OnFiles volume (copies.Put directory files now)) test e_is i_is p_is none is = absurd (true≢false (sym test))
-asks_listing clock given edition image path (OnFiles volume (copies.Get folder paths)) test e_is i_is p_is none is = absurd (true≢false (sym test))
-asks_listing clock given edition image path (OnThreads volume (works.Check checkers.Blocks workers)) test e_is i_is p_is none is = absurd (true≢false (sym test))
-asks_listing clock given edition image path (OnThreads volume (works.Check checkers.Entries workers)) test e_is i_is p_is none is = absurd (true≢false (sym test))
-asks_listing clock given edition image path (OnThreads volume (works.Check checkers.Names workers)) test e_is i_is p_is none is = absurd (true≢false (sym test))
-asks_listing clock given edition image path (OnThreads volume (works.Play scripts)) test e_is i_is p_is none is = absurd (true≢false (sym test))
+asks_listing clock given edition image path (invocations.Copy volume (copies.Put directory files now)) test e_is i_is p_is none is = absurd (true≢false (sym test))
+asks_listing clock given edition image path (invocations.Copy volume (copies.Get folder paths)) test e_is i_is p_is none is = absurd (true≢false (sym test))
+asks_listing clock given edition image path (invocations.Work volume (works.Check checkers.Blocks workers)) test e_is i_is p_is none is = absurd (true≢false (sym test))
+asks_listing clock given edition image path (invocations.Work volume (works.Check checkers.Entries workers)) test e_is i_is p_is none is = absurd (true≢false (sym test))
+asks_listing clock given edition image path (invocations.Work volume (works.Check checkers.Names workers)) test e_is i_is p_is none is = absurd (true≢false (sym test))
+asks_listing clock given edition image path (invocations.Work volume (works.Play scripts)) test e_is i_is p_is none is = absurd (true≢false (sym test))
 
 -- no option was given, by what was seen
 no_options_by : (met : List ℕ × List Row) (edition : Edition) (image path : List ℕ) → seen (Some met) ≡ words_of edition image path
@@ -197,24 +196,16 @@ word_names V7 = refl
 listing_asks : (clock : Option ℕ) (met : Option (List ℕ × List Row)) (edition : Edition) (image path : List ℕ) (invocation : Invocation)
     → seen met ≡ words_of edition image path → IsListing edition image path invocation → MetAsks clock met invocation
 listing_asks clock None edition image path invocation is listed = absurd (cc)
-listing_asks clock (Some met) edition image path (Cat volume ino) is listed = absurd listed
-listing_asks clock (Some met) edition image path (Mkfs i volume) is listed = absurd listed
-listing_asks clock (Some met) edition image path (Migrate old new migration) is listed = absurd listed
-listing_asks clock (Some met) edition image path (OnVolume volume (jobs.Get p)) is listed = absurd listed
-listing_asks clock (Some met) edition image path (OnVolume volume (jobs.Put p file now)) is listed = absurd listed
-listing_asks clock (Some met) edition image path (OnVolume volume (jobs.Rm p now)) is listed = absurd listed
-listing_asks clock (Some met) edition image path (OnVolume volume (jobs.Rmdir p now)) is listed = absurd listed
-listing_asks clock (Some met) edition image path (OnVolume volume (jobs.Mkdir p now)) is listed = absurd listed
-listing_asks clock (Some met) edition image path (OnVolume volume (jobs.Ln from to now)) is listed = absurd listed
-listing_asks clock (Some met) edition image path (OnVolume volume (jobs.Chmod p perm now)) is listed = absurd listed
-listing_asks clock (Some met) edition image path (OnVolume volume (jobs.Chown p uid gid now)) is listed = absurd listed
-listing_asks clock (Some met) edition image path (OnVolume volume jobs.Salvage) is listed = absurd listed
-listing_asks clock (Some met) edition image path (OnImage v (looks.Export p)) is listed = absurd listed
-listing_asks clock (Some met) edition image path (OnImage v (looks.Inode number form)) is listed = absurd listed
-listing_asks clock (Some met) edition image path (OnImage v (looks.Super form)) is listed = absurd listed
-listing_asks clock (Some met) edition image path (OnImage v (looks.Map picture)) is listed = absurd listed
-listing_asks clock (Some met) edition image path (OnImage v looks.Check) is listed = absurd listed
-listing_asks clock (Some met) edition image path (OnImage volume (looks.List directory listing)) is listed =
+listing_asks clock (Some met) edition image path (invocations.Cat volume ino) is listed = absurd listed
+listing_asks clock (Some met) edition image path (invocations.Mkfs i volume) is listed = absurd listed
+listing_asks clock (Some met) edition image path (invocations.Migrate old new migration) is listed = absurd listed
+listing_asks clock (Some met) edition image path (invocations.Get volume p) is listed = absurd listed
+listing_asks clock (Some met) edition image path (invocations.Look v (looks.Export p)) is listed = absurd listed
+listing_asks clock (Some met) edition image path (invocations.Look v (looks.Inode number form)) is listed = absurd listed
+listing_asks clock (Some met) edition image path (invocations.Look v (looks.Super form)) is listed = absurd listed
+listing_asks clock (Some met) edition image path (invocations.Look v (looks.Map picture)) is listed = absurd listed
+listing_asks clock (Some met) edition image path (invocations.Look v looks.Check) is listed = absurd listed
+listing_asks clock (Some met) edition image path (invocations.Look volume (looks.List directory listing)) is listed =
     let name : met.0 ≡ codes "ls" = ap (λ (l : List (List ℕ)). slice_index_or l 0 []) is in
     let word : the_word (words_by met.1) (codes "EDITION") ≡ word_of edition = ap (λ (l : List (List ℕ)). slice_index_or l 1 []) is in
     let file : the_word (words_by met.1) (codes "IMAGE") ≡ image = ap (λ (l : List (List ℕ)). slice_index_or l 2 []) is in
@@ -233,9 +224,9 @@ listing_asks clock (Some met) edition image path (OnImage volume (looks.List dir
         ),
       ),
     )
-listing_asks clock (Some met) edition image path (OnTree v edit) is listed = absurd listed
-listing_asks clock (Some met) edition image path (OnFiles v copying) is listed = absurd listed
-listing_asks clock (Some met) edition image path (OnThreads v work) is listed = absurd listed
+listing_asks clock (Some met) edition image path (invocations.Change v change) is listed = absurd listed
+listing_asks clock (Some met) edition image path (invocations.Copy v copying) is listed = absurd listed
+listing_asks clock (Some met) edition image path (invocations.Work v work) is listed = absurd listed
 
 -- the words of `ls` ask for a listing, where they have its edition's word
 abbrev AsksListing : Option ℕ → Bor (List (Bor (List ℕ))) → Edition → List ℕ → List ℕ → List ℕ → List ℕ → Type 0

@@ -16,7 +16,7 @@ use Rattle.command_words.specs.declared.fault.Fault.{Fault}
 use Rattle.command_words.specs.declared.fault.Fault.TheVariants as faults
 use Rattle.command_words.specs.Verbs.{IsNoCommand, verb_name}
 use Rattle.command_words.specs.declared.invocation.Invocation.{Invocation}
-use Rattle.command_words.specs.declared.invocation.Invocation.TheVariants.{OnThreads}
+use Rattle.command_words.specs.declared.invocation.Invocation.TheVariants as invocations
 use Rattle.command_words.specs.declared.invocation.VolumeFile.{VolumeFile}
 use Rattle.command_words.specs.declared.invocation.Work.{Work}
 use Rattle.command_words.specs.declared.invocation.Work.TheVariants as works
@@ -172,11 +172,11 @@ work_given : (given : Words) (work : Work) → IsWorkGiven given work → IsWork
 work_given given (works.Check checker workers) is = rw is.1 (is.0.1, is.0.2)
 work_given given (works.Play scripts) is = (is.1, is.2)
 
-work_asked : (clock : Option ℕ) (met : Option (List ℕ × List Row)) (volume : VolumeFile) (work : Work) → MetAsks clock met (OnThreads volume work) → IsWorkable work
+work_asked : (clock : Option ℕ) (met : Option (List ℕ × List Row)) (volume : VolumeFile) (work : Work) → MetAsks clock met (invocations.Work volume work) → IsWorkable work
 work_asked clock None volume work asks = absurd asks
 work_asked clock (Some met) volume work asks = work_given (words_by met.1) work asks.1.1
 
 -- what the words ask several threads for, they can do
-pub workable : (clock : Option ℕ) (words : List (List ℕ)) (volume : VolumeFile) (work : Work) → IsRead clock words (OnThreads volume work) → IsWorkable work
+pub workable : (clock : Option ℕ) (words : List (List ℕ)) (volume : VolumeFile) (work : Work) → IsRead clock words (invocations.Work volume work) → IsWorkable work
 unfolding IsRead
 workable clock words volume work read = work_asked clock (command_in (unixvol_app read.0) words) volume work read.2.1

@@ -3,11 +3,11 @@ use Rattle.std.specs.Prelude.{◌≡◌, ◌≢◌, ◌↔◌, ◌∷◌, false,
 use Rattle.std.specs.Borrow.{Bor}
 use Rattle.command_words.specs.Asking.{IsEditionNamed}
 use Rattle.command_words.specs.declared.invocation.Invocation.{Invocation}
-use Rattle.command_words.specs.declared.invocation.Invocation.TheVariants.{OnImage}
+use Rattle.command_words.specs.declared.invocation.Invocation.TheVariants as invocations
 use Rattle.command_line.specs.CommandLine.{MetAsks}
 use Rattle.command_line.specs.Words.{AreEditions, command_in, faults_of, unixvol_app}
 use Rattle.vol_listing.specs.declared.options.Lines.TheVariants as lines
-use Rattle.image_commands.specs.declared.looks.Look.TheVariants as looks
+use Rattle.command_reads.specs.declared.looks.Look.TheVariants as looks
 use Rattle.vol_layout.specs.declared.edition.Edition.{Edition}
 
 -- a word that begins with no hyphen (this project)
@@ -16,7 +16,7 @@ IsPlainWord word = slice_index word 0 ≢ 45
 
 -- what is asked for is the names in the directory of this path, each with its i-number, of the volume of this edition in this file (this project)
 abbrev pub IsListing : Edition → List ℕ → List ℕ → Invocation → Type 0
-IsListing edition image path (OnImage volume (looks.List directory listing)) =
+IsListing edition image path (invocations.Look volume (looks.List directory listing)) =
     (volume.edition ≡ edition) × (volume.image.now ≡ image) × (directory.now ≡ path) × (listing.lines ≡ lines.Plain) × (listing.below ≡ false)
 IsListing edition image path _ = ⊥
 

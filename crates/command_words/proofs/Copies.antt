@@ -3,15 +3,14 @@ use Rattle.std.proofs.Common.{◌≡◌, ◌⊎◌, ◌∙◌, ℕ, List, [], Op
 use Rattle.command_words.specs.Asking.{AreFilesGiven, ArePathsGiven, AsksForNothing, IsFirstWord, IsGiven, IsLeftOut, IsMomentGiven, IsNonEmptyWord, IsValue, Words, get_words, put_words, verb_of}
 use Rattle.command_words.specs.declared.invocation.Copying.TheVariants as copies
 use Rattle.command_words.specs.declared.invocation.Invocation.{Invocation}
-use Rattle.command_words.specs.declared.invocation.Invocation.TheVariants.{Cat, Mkfs, Migrate, OnVolume, OnImage, OnTree, OnFiles, OnThreads}
+use Rattle.command_words.specs.declared.invocation.Invocation.TheVariants as invocations
 use Rattle.command_words.specs.declared.invocation.Work.TheVariants as works
 use Rattle.command_words.specs.declared.parameters.Kind.TheVariants as kinds
 use Rattle.command_words.specs.declared.verbs.Verb.{Verb}
 use Rattle.command_words.specs.declared.verbs.Verb.TheVariants as verbs
-use Rattle.image_commands.specs.declared.looks.Look.TheVariants as looks
-use Rattle.tree_commands.specs.declared.edits.Edit.TheVariants as edits
+use Rattle.command_reads.specs.declared.looks.Look.TheVariants as looks
 use Rattle.vol_check.specs.declared.checker.Checker.TheVariants as checkers
-use Rattle.vol_commands.specs.declared.jobs.Job.TheVariants as jobs
+use Rattle.command_changes.specs.declared.changes.Change.TheVariants as changes
 use Rattle.command_words.proofs.Values.{no_value}
 
 -- one file is put, or several are
@@ -39,53 +38,57 @@ is_get _ = false
 -- what `put` is asked for
 puts : (clock : Option ℕ) (given : Words) (invocation : Invocation) → is_put (verb_of invocation) ≡ true → IsGiven clock given invocation → IsPut clock given
 unfolding is_put
-puts clock given (OnVolume volume (jobs.Put path file now)) put is = inl (file.now, now, is.1.1, is.1.2, is.1.3, is.1.4)
-puts clock given (OnFiles volume (copies.Put directory files now)) put is =
+puts clock given (invocations.Change volume (changes.Put path file now)) put is = inl (file.now, now, is.1.1, is.1.2, is.1.3, is.1.4)
+puts clock given (invocations.Copy volume (copies.Put directory files now)) put is =
     inr (directory.now, map (λ file. file.now) files.items, now.seconds, option_map (λ word. word.now) now.word, is.1.0, is.1.1)
-puts clock given (OnVolume volume job) put is = absurd (true≢false (sym put))
-puts clock given (OnFiles volume copying) put is = absurd (true≢false (sym put))
-puts clock given (OnThreads volume (works.Check checkers.Blocks workers)) put is = absurd (true≢false (sym put))
-puts clock given (OnThreads volume (works.Check checkers.Entries workers)) put is = absurd (true≢false (sym put))
-puts clock given (OnThreads volume (works.Check checkers.Names workers)) put is = absurd (true≢false (sym put))
-puts clock given (OnThreads volume (works.Play scripts)) put is = absurd (true≢false (sym put))
-puts clock given (OnImage volume (looks.Export path)) put is = absurd (true≢false (sym put))
-puts clock given (OnImage volume (looks.Inode number form)) put is = absurd (true≢false (sym put))
-puts clock given (OnImage volume (looks.Super form)) put is = absurd (true≢false (sym put))
-puts clock given (OnImage volume (looks.Map picture)) put is = absurd (true≢false (sym put))
-puts clock given (OnImage volume looks.Check) put is = absurd (true≢false (sym put))
-puts clock given (OnImage volume (looks.List path listing)) put is = absurd (true≢false (sym put))
-puts clock given (OnTree volume (edits.Import path now)) put is = absurd (true≢false (sym put))
-puts clock given (OnTree volume (edits.MkdirAll path now)) put is = absurd (true≢false (sym put))
-puts clock given (OnTree volume (edits.RmAll path now)) put is = absurd (true≢false (sym put))
-puts clock given (OnTree volume (edits.Move from to now)) put is = absurd (true≢false (sym put))
-puts clock given (Cat volume ino) put is = absurd (true≢false (sym put))
-puts clock given (Mkfs i volume) put is = absurd (true≢false (sym put))
-puts clock given (Migrate old new migration) put is = absurd (true≢false (sym put))
+puts clock given (invocations.Change volume change) put is = absurd (true≢false (sym put))
+puts clock given (invocations.Get volume path) put is = absurd (true≢false (sym put))
+puts clock given (invocations.Copy volume copying) put is = absurd (true≢false (sym put))
+puts clock given (invocations.Work volume (works.Check checkers.Blocks workers)) put is = absurd (true≢false (sym put))
+puts clock given (invocations.Work volume (works.Check checkers.Entries workers)) put is = absurd (true≢false (sym put))
+puts clock given (invocations.Work volume (works.Check checkers.Names workers)) put is = absurd (true≢false (sym put))
+puts clock given (invocations.Work volume (works.Play scripts)) put is = absurd (true≢false (sym put))
+puts clock given (invocations.Look volume (looks.Export path)) put is = absurd (true≢false (sym put))
+puts clock given (invocations.Look volume (looks.Inode number form)) put is = absurd (true≢false (sym put))
+puts clock given (invocations.Look volume (looks.Super form)) put is = absurd (true≢false (sym put))
+puts clock given (invocations.Look volume (looks.Map picture)) put is = absurd (true≢false (sym put))
+puts clock given (invocations.Look volume looks.Check) put is = absurd (true≢false (sym put))
+puts clock given (invocations.Look volume (looks.List path listing)) put is = absurd (true≢false (sym put))
+puts clock given (invocations.Cat volume ino) put is = absurd (true≢false (sym put))
+puts clock given (invocations.Mkfs i volume) put is = absurd (true≢false (sym put))
+puts clock given (invocations.Migrate old new migration) put is = absurd (true≢false (sym put))
 
 -- what `get` is asked for
 gets : (clock : Option ℕ) (given : Words) (invocation : Invocation) → is_get (verb_of invocation) ≡ true → IsGiven clock given invocation → IsGot given
 unfolding is_get
-gets clock given (OnVolume volume (jobs.Get path)) got is = inl (is.1.1, is.1.2)
-gets clock given (OnFiles volume (copies.Get folder paths)) got is = inr (folder.now, map (λ path. path.now) paths.items, is.1.0, is.1.1)
-gets clock given (OnVolume volume job) got is = absurd (true≢false (sym got))
-gets clock given (OnFiles volume copying) got is = absurd (true≢false (sym got))
-gets clock given (OnThreads volume (works.Check checkers.Blocks workers)) got is = absurd (true≢false (sym got))
-gets clock given (OnThreads volume (works.Check checkers.Entries workers)) got is = absurd (true≢false (sym got))
-gets clock given (OnThreads volume (works.Check checkers.Names workers)) got is = absurd (true≢false (sym got))
-gets clock given (OnThreads volume (works.Play scripts)) got is = absurd (true≢false (sym got))
-gets clock given (OnImage volume (looks.Export path)) got is = absurd (true≢false (sym got))
-gets clock given (OnImage volume (looks.Inode number form)) got is = absurd (true≢false (sym got))
-gets clock given (OnImage volume (looks.Super form)) got is = absurd (true≢false (sym got))
-gets clock given (OnImage volume (looks.Map picture)) got is = absurd (true≢false (sym got))
-gets clock given (OnImage volume looks.Check) got is = absurd (true≢false (sym got))
-gets clock given (OnImage volume (looks.List path listing)) got is = absurd (true≢false (sym got))
-gets clock given (OnTree volume (edits.Import path now)) got is = absurd (true≢false (sym got))
-gets clock given (OnTree volume (edits.MkdirAll path now)) got is = absurd (true≢false (sym got))
-gets clock given (OnTree volume (edits.RmAll path now)) got is = absurd (true≢false (sym got))
-gets clock given (OnTree volume (edits.Move from to now)) got is = absurd (true≢false (sym got))
-gets clock given (Cat volume ino) got is = absurd (true≢false (sym got))
-gets clock given (Mkfs i volume) got is = absurd (true≢false (sym got))
-gets clock given (Migrate old new migration) got is = absurd (true≢false (sym got))
+gets clock given (invocations.Get volume path) got is = inl (is.1.1, is.1.2)
+gets clock given (invocations.Copy volume (copies.Get folder paths)) got is = inr (folder.now, map (λ path. path.now) paths.items, is.1.0, is.1.1)
+gets clock given (invocations.Change volume (changes.Put p file now)) got is = absurd (true≢false (sym got))
+gets clock given (invocations.Change volume (changes.Import p now)) got is = absurd (true≢false (sym got))
+gets clock given (invocations.Change volume (changes.Rm p now)) got is = absurd (true≢false (sym got))
+gets clock given (invocations.Change volume (changes.RmAll p now)) got is = absurd (true≢false (sym got))
+gets clock given (invocations.Change volume (changes.Rmdir p now)) got is = absurd (true≢false (sym got))
+gets clock given (invocations.Change volume (changes.Mkdir p now)) got is = absurd (true≢false (sym got))
+gets clock given (invocations.Change volume (changes.MkdirAll p now)) got is = absurd (true≢false (sym got))
+gets clock given (invocations.Change volume (changes.Ln from to now)) got is = absurd (true≢false (sym got))
+gets clock given (invocations.Change volume (changes.Mv from to now)) got is = absurd (true≢false (sym got))
+gets clock given (invocations.Change volume (changes.Chmod p perm now)) got is = absurd (true≢false (sym got))
+gets clock given (invocations.Change volume (changes.Chown p uid gid now)) got is = absurd (true≢false (sym got))
+gets clock given (invocations.Change volume changes.Salvage) got is = absurd (true≢false (sym got))
+gets clock given (invocations.Copy volume copying) got is = absurd (true≢false (sym got))
+gets clock given (invocations.Work volume (works.Check checkers.Blocks workers)) got is = absurd (true≢false (sym got))
+gets clock given (invocations.Work volume (works.Check checkers.Entries workers)) got is = absurd (true≢false (sym got))
+gets clock given (invocations.Work volume (works.Check checkers.Names workers)) got is = absurd (true≢false (sym got))
+gets clock given (invocations.Work volume (works.Play scripts)) got is = absurd (true≢false (sym got))
+gets clock given (invocations.Look volume (looks.Export path)) got is = absurd (true≢false (sym got))
+gets clock given (invocations.Look volume (looks.Inode number form)) got is = absurd (true≢false (sym got))
+gets clock given (invocations.Look volume (looks.Super form)) got is = absurd (true≢false (sym got))
+gets clock given (invocations.Look volume (looks.Map picture)) got is = absurd (true≢false (sym got))
+gets clock given (invocations.Look volume looks.Check) got is = absurd (true≢false (sym got))
+gets clock given (invocations.Look volume (looks.List path listing)) got is = absurd (true≢false (sym got))
+gets clock given (invocations.Cat volume ino) got is = absurd (true≢false (sym got))
+gets clock given (invocations.Mkfs i volume) got is = absurd (true≢false (sym got))
+gets clock given (invocations.Migrate old new migration) got is = absurd (true≢false (sym got))
 
 -- where neither one file nor several are put, nothing is asked for
 no_put : (clock : Option ℕ) (given : Words) → (IsPut clock given → ⊥) → AsksForNothing clock verbs.Put given

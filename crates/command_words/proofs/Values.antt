@@ -4,17 +4,16 @@ use Rattle.std.specs.Borrow.{Bor}
 use Rattle.std.proofs.lemmas.List.{length-map}
 use Rattle.vol_layout.specs.declared.edition.Edition.{Edition}
 use Rattle.vol_layout.specs.declared.edition.Edition.TheVariants.{V6, V7}
-use Rattle.image_commands.specs.declared.looks.Look.TheVariants as looks
-use Rattle.tree_commands.specs.declared.edits.Edit.TheVariants as edits
+use Rattle.command_reads.specs.declared.looks.Look.TheVariants as looks
 use Rattle.vol_check.specs.declared.checker.Checker.TheVariants as checkers
-use Rattle.vol_commands.specs.declared.jobs.Job.TheVariants as jobs
+use Rattle.command_changes.specs.declared.changes.Change.TheVariants as changes
 use Rattle.command_words.specs.Asking.{AreValues, AsksForNothing, IsEditionNamed, IsGiven, IsOneWrong, NameAsksFor, TellsOf, Words, verb_of}
 use Rattle.command_words.specs.Verbs.{Argument, IsNoCommand, arguments_of, verb_name}
 use Rattle.command_words.specs.declared.fault.Fault.{Fault}
 use Rattle.command_words.specs.declared.fault.Fault.TheVariants as faults
 use Rattle.command_words.specs.declared.invocation.Copying.TheVariants as copies
 use Rattle.command_words.specs.declared.invocation.Invocation.{Invocation}
-use Rattle.command_words.specs.declared.invocation.Invocation.TheVariants.{Cat, Mkfs, Migrate, OnVolume, OnImage, OnTree, OnFiles, OnThreads}
+use Rattle.command_words.specs.declared.invocation.Invocation.TheVariants as invocations
 use Rattle.command_words.specs.declared.invocation.Work.TheVariants as works
 use Rattle.command_words.specs.declared.verbs.Verb.{Verb}
 use Rattle.command_words.proofs.Names.{verb_name-injective}
@@ -36,41 +35,41 @@ scripts_value items words are least most =
 -- the words of what is asked for are values of its command's arguments
 pub values_given : (clock : Option ℕ) (given : Words) (invocation : Invocation) → IsGiven clock given invocation
     → AreValues clock given (arguments_of (verb_of invocation))
-values_given clock given (Cat volume ino) is = (edition_value volume.edition _ is.0.0, (tt, (is.1.0, tt)))
-values_given clock given (Mkfs image volume) is = (
+values_given clock given (invocations.Cat volume ino) is = (edition_value volume.edition _ is.0.0, (tt, (is.1.0, tt)))
+values_given clock given (invocations.Mkfs image volume) is = (
   edition_value volume.edition _ is.1.0,
   (tt, (is.1.1.0, (is.1.2.0, (is.1.3.0, (is.1.4.0, ((volume.now, is.1.5), tt)))))),
 )
-values_given clock given (Migrate old new migration) is = (tt, (tt, (is.2.0.0, (is.2.1.0, ((migration.now, is.2.2), tt)))))
-values_given clock given (OnVolume volume (jobs.Get path)) is = (edition_value volume.edition _ is.0.0, (tt, (tt, (tt, (tt, tt)))))
-values_given clock given (OnVolume volume (jobs.Put path file now)) is = (edition_value volume.edition _ is.0.0, (tt, (tt, (tt, (tt, (tt, (tt, tt)))))))
-values_given clock given (OnVolume volume (jobs.Rm path now)) is = (edition_value volume.edition _ is.0.0, (tt, (tt, ((now, is.1.1), (tt, tt)))))
-values_given clock given (OnVolume volume (jobs.Rmdir path now)) is = (edition_value volume.edition _ is.0.0, (tt, (tt, ((now, is.1.1), tt))))
-values_given clock given (OnVolume volume (jobs.Mkdir path now)) is = (edition_value volume.edition _ is.0.0, (tt, (tt, ((now, is.1.1), (tt, tt)))))
-values_given clock given (OnVolume volume (jobs.Ln from to now)) is =
+values_given clock given (invocations.Migrate old new migration) is = (tt, (tt, (is.2.0.0, (is.2.1.0, ((migration.now, is.2.2), tt)))))
+values_given clock given (invocations.Get volume path) is = (edition_value volume.edition _ is.0.0, (tt, (tt, (tt, (tt, tt)))))
+values_given clock given (invocations.Change volume (changes.Put path file now)) is = (edition_value volume.edition _ is.0.0, (tt, (tt, (tt, (tt, (tt, (tt, tt)))))))
+values_given clock given (invocations.Change volume (changes.Rm path now)) is = (edition_value volume.edition _ is.0.0, (tt, (tt, ((now, is.1.1), (tt, tt)))))
+values_given clock given (invocations.Change volume (changes.Rmdir path now)) is = (edition_value volume.edition _ is.0.0, (tt, (tt, ((now, is.1.1), tt))))
+values_given clock given (invocations.Change volume (changes.Mkdir path now)) is = (edition_value volume.edition _ is.0.0, (tt, (tt, ((now, is.1.1), (tt, tt)))))
+values_given clock given (invocations.Change volume (changes.Ln from to now)) is =
     (edition_value volume.edition _ is.0.0, (tt, (tt, (tt, ((now, is.1.2), tt)))))
-values_given clock given (OnVolume volume (jobs.Chmod path perm now)) is =
+values_given clock given (invocations.Change volume (changes.Chmod path perm now)) is =
     (edition_value volume.edition _ is.0.0, (tt, (tt, (is.1.1.0, ((now, is.1.2), tt)))))
-values_given clock given (OnVolume volume (jobs.Chown path uid gid now)) is =
+values_given clock given (invocations.Change volume (changes.Chown path uid gid now)) is =
     (edition_value volume.edition _ is.0.0, (tt, (tt, (is.1.1.0, (is.1.2.0, ((now, is.1.3), tt))))))
-values_given clock given (OnVolume volume jobs.Salvage) is = (edition_value volume.edition _ is.0.0, (tt, tt))
-values_given clock given (OnImage volume (looks.Export path)) is = (edition_value volume.edition _ is.0.0, (tt, (tt, tt)))
-values_given clock given (OnImage volume (looks.Inode number form)) is = (edition_value volume.edition _ is.0.0, (tt, (is.1.0.0, (tt, tt))))
-values_given clock given (OnImage volume (looks.Super form)) is = (edition_value volume.edition _ is.0.0, (tt, (tt, tt)))
-values_given clock given (OnImage volume (looks.Map picture)) is = (edition_value volume.edition _ is.0.0, (tt, (tt, tt)))
-values_given clock given (OnImage volume looks.Check) is = (edition_value volume.edition _ is.0.0, (tt, tt))
-values_given clock given (OnImage volume (looks.List path listing)) is = (edition_value volume.edition _ is.0.0, (tt, (tt, (tt, (tt, (tt, tt))))))
-values_given clock given (OnTree volume (edits.Import path now)) is = (edition_value volume.edition _ is.0.0, (tt, (tt, ((now, is.1.1), tt))))
-values_given clock given (OnTree volume (edits.MkdirAll path now)) is = (edition_value volume.edition _ is.0.0, (tt, (tt, ((now, is.1.1), (tt, tt)))))
-values_given clock given (OnTree volume (edits.RmAll path now)) is = (edition_value volume.edition _ is.0.0, (tt, (tt, ((now, is.1.1), (tt, tt)))))
-values_given clock given (OnTree volume (edits.Move from to now)) is =
+values_given clock given (invocations.Change volume changes.Salvage) is = (edition_value volume.edition _ is.0.0, (tt, tt))
+values_given clock given (invocations.Look volume (looks.Export path)) is = (edition_value volume.edition _ is.0.0, (tt, (tt, tt)))
+values_given clock given (invocations.Look volume (looks.Inode number form)) is = (edition_value volume.edition _ is.0.0, (tt, (is.1.0.0, (tt, tt))))
+values_given clock given (invocations.Look volume (looks.Super form)) is = (edition_value volume.edition _ is.0.0, (tt, (tt, tt)))
+values_given clock given (invocations.Look volume (looks.Map picture)) is = (edition_value volume.edition _ is.0.0, (tt, (tt, tt)))
+values_given clock given (invocations.Look volume looks.Check) is = (edition_value volume.edition _ is.0.0, (tt, tt))
+values_given clock given (invocations.Look volume (looks.List path listing)) is = (edition_value volume.edition _ is.0.0, (tt, (tt, (tt, (tt, (tt, tt))))))
+values_given clock given (invocations.Change volume (changes.Import path now)) is = (edition_value volume.edition _ is.0.0, (tt, (tt, ((now, is.1.1), tt))))
+values_given clock given (invocations.Change volume (changes.MkdirAll path now)) is = (edition_value volume.edition _ is.0.0, (tt, (tt, ((now, is.1.1), (tt, tt)))))
+values_given clock given (invocations.Change volume (changes.RmAll path now)) is = (edition_value volume.edition _ is.0.0, (tt, (tt, ((now, is.1.1), (tt, tt)))))
+values_given clock given (invocations.Change volume (changes.Mv from to now)) is =
     (edition_value volume.edition _ is.0.0, (tt, (tt, (tt, ((now, is.1.2), tt)))))
-values_given clock given (OnFiles volume (copies.Put directory files now)) is = (edition_value volume.edition _ is.0.0, (tt, (tt, (tt, (tt, (tt, (tt, tt)))))))
-values_given clock given (OnFiles volume (copies.Get folder paths)) is = (edition_value volume.edition _ is.0.0, (tt, (tt, (tt, (tt, tt)))))
-values_given clock given (OnThreads volume (works.Check checkers.Blocks workers)) is = (edition_value volume.edition _ is.0.0, (tt, (is.1.0, tt)))
-values_given clock given (OnThreads volume (works.Check checkers.Entries workers)) is = (edition_value volume.edition _ is.0.0, (tt, (is.1.0, tt)))
-values_given clock given (OnThreads volume (works.Check checkers.Names workers)) is = (edition_value volume.edition _ is.0.0, (tt, (is.1.0, tt)))
-values_given clock given (OnThreads volume (works.Play scripts)) is =
+values_given clock given (invocations.Copy volume (copies.Put directory files now)) is = (edition_value volume.edition _ is.0.0, (tt, (tt, (tt, (tt, (tt, (tt, tt)))))))
+values_given clock given (invocations.Copy volume (copies.Get folder paths)) is = (edition_value volume.edition _ is.0.0, (tt, (tt, (tt, (tt, tt)))))
+values_given clock given (invocations.Work volume (works.Check checkers.Blocks workers)) is = (edition_value volume.edition _ is.0.0, (tt, (is.1.0, tt)))
+values_given clock given (invocations.Work volume (works.Check checkers.Entries workers)) is = (edition_value volume.edition _ is.0.0, (tt, (is.1.0, tt)))
+values_given clock given (invocations.Work volume (works.Check checkers.Names workers)) is = (edition_value volume.edition _ is.0.0, (tt, (is.1.0, tt)))
+values_given clock given (invocations.Work volume (works.Play scripts)) is =
     (edition_value volume.edition _ is.0.0, (tt, (scripts_value scripts.items _ is.1.0 is.1.1 is.1.2, tt)))
 
 -- words that are all values have none that is no value

@@ -1,6 +1,5 @@
 -- What the words after a command ask for.
-use Rattle.std.specs.Prelude.{◌≡◌, ◌≢◌, ◌⊎◌, ◌∷◌, ◌≤◌, ◌-◌, ◌&&◌, ℕ, List, [], length, map, take, get_or, slice_get, flat_map, Option, Some, None, option_map}
-use Rattle.std.specs.Prelude.{Bool, false, true, not, codes}
+use Rattle.std.specs.Prelude.{◌≡◌, ◌≢◌, ◌⊎◌, ◌∷◌, ◌≤◌, ◌-◌, ◌&&◌, ℕ, List, [], length, map, take, get_or, slice_get, flat_map, Option, Some, None, option_map, Bool, false, true, not, codes}
 use Rattle.std.specs.List.{list_any}
 use Rattle.std.specs.Path.{path_file_name}
 use Rattle.std.specs.Str.{bytes_eq}
@@ -17,27 +16,25 @@ use Rattle.command_words.specs.declared.parameters.Kind.TheVariants as kinds
 use Rattle.command_words.specs.declared.invocation.Copying.{Copying}
 use Rattle.command_words.specs.declared.invocation.Copying.TheVariants as copies
 use Rattle.command_words.specs.declared.invocation.Invocation.{Invocation}
-use Rattle.command_words.specs.declared.invocation.Invocation.TheVariants.{Cat, Mkfs, Migrate, OnVolume, OnImage, OnTree, OnFiles, OnThreads}
+use Rattle.command_words.specs.declared.invocation.Invocation.TheVariants as invocations
 use Rattle.command_words.specs.declared.invocation.VolumeFile.{VolumeFile}
 use Rattle.command_words.specs.declared.invocation.Work.{Work}
 use Rattle.command_words.specs.declared.invocation.Work.TheVariants as works
 use Rattle.command_words.specs.declared.verbs.Verb.{Verb}
 use Rattle.command_words.specs.declared.verbs.Verb.TheVariants as verbs
-use Rattle.image_commands.specs.declared.looks.Form.{Form}
-use Rattle.image_commands.specs.declared.looks.Form.TheVariants as forms
+use Rattle.command_reads.specs.declared.looks.Form.{Form}
+use Rattle.command_reads.specs.declared.looks.Form.TheVariants as forms
 use Rattle.vol_listing.specs.declared.options.Lines.{Lines}
 use Rattle.vol_listing.specs.declared.options.Lines.TheVariants as lines
-use Rattle.image_commands.specs.declared.looks.Look.{Look}
-use Rattle.image_commands.specs.declared.looks.Look.TheVariants as looks
-use Rattle.image_commands.specs.declared.looks.Picture.{Picture}
-use Rattle.image_commands.specs.declared.looks.Picture.TheVariants as pictures
-use Rattle.tree_commands.specs.declared.edits.Edit.{Edit}
-use Rattle.tree_commands.specs.declared.edits.Edit.TheVariants as edits
+use Rattle.command_reads.specs.declared.looks.Look.{Look}
+use Rattle.command_reads.specs.declared.looks.Look.TheVariants as looks
+use Rattle.command_reads.specs.declared.looks.Picture.{Picture}
+use Rattle.command_reads.specs.declared.looks.Picture.TheVariants as pictures
 use Rattle.vol_check.specs.declared.checker.Checker.{Checker}
 use Rattle.vol_check.specs.declared.checker.Checker.TheVariants as checkers
-use Rattle.vol_commands.specs.declared.jobs.Job.{Job}
-use Rattle.vol_commands.specs.declared.jobs.Job.TheVariants as jobs
-use Rattle.vol_commands.specs.declared.migrating.Migration.{Migration}
+use Rattle.command_changes.specs.declared.changes.Change.{Change}
+use Rattle.command_changes.specs.declared.changes.Change.TheVariants as changes
+use Rattle.command_changes.specs.declared.migrate.Migration.{Migration}
 use Rattle.vol_mkfs.specs.declared.blank.NewVolume.{NewVolume}
 
 -- the words that were given for each argument, by its name (this project)
@@ -112,17 +109,20 @@ abbrev pub work_verb : Work → Verb
 work_verb (works.Check checker workers) = checker_verb checker
 work_verb (works.Play scripts) = verbs.Play
 
--- the command of a job (this project)
-abbrev pub job_verb : Job → Verb
-job_verb (jobs.Get path) = verbs.Get
-job_verb (jobs.Put path file now) = verbs.Put
-job_verb (jobs.Rm path now) = verbs.Rm
-job_verb (jobs.Rmdir path now) = verbs.Rmdir
-job_verb (jobs.Mkdir path now) = verbs.Mkdir
-job_verb (jobs.Ln from to now) = verbs.Ln
-job_verb (jobs.Chmod path perm now) = verbs.Chmod
-job_verb (jobs.Chown path uid gid now) = verbs.Chown
-job_verb jobs.Salvage = verbs.Salvage
+-- the command of a change (this project)
+abbrev pub change_verb : Change → Verb
+change_verb (changes.Put path file now) = verbs.Put
+change_verb (changes.Import path now) = verbs.Import
+change_verb (changes.Rm path now) = verbs.Rm
+change_verb (changes.RmAll path now) = verbs.Rm
+change_verb (changes.Rmdir path now) = verbs.Rmdir
+change_verb (changes.Mkdir path now) = verbs.Mkdir
+change_verb (changes.MkdirAll path now) = verbs.Mkdir
+change_verb (changes.Ln from to now) = verbs.Ln
+change_verb (changes.Mv from to now) = verbs.Mv
+change_verb (changes.Chmod path perm now) = verbs.Chmod
+change_verb (changes.Chown path uid gid now) = verbs.Chown
+change_verb changes.Salvage = verbs.Salvage
 
 -- the command of what is looked at (this project)
 abbrev pub look_verb : Look → Verb
@@ -133,13 +133,6 @@ look_verb (looks.Map picture) = verbs.Map
 look_verb looks.Check = verbs.Check
 look_verb (looks.List path listing) = verbs.Ls
 
--- the command of a change by several calls (this project)
-abbrev pub edit_verb : Edit → Verb
-edit_verb (edits.Import path now) = verbs.Import
-edit_verb (edits.MkdirAll path now) = verbs.Mkdir
-edit_verb (edits.RmAll path now) = verbs.Rm
-edit_verb (edits.Move from to now) = verbs.Mv
-
 -- the command that copies files (this project)
 abbrev pub copying_verb : Copying → Verb
 copying_verb (copies.Put directory files now) = verbs.Put
@@ -147,14 +140,14 @@ copying_verb (copies.Get folder paths) = verbs.Get
 
 -- the command that asks for this (this project)
 abbrev pub verb_of : Invocation → Verb
-verb_of (Cat volume ino) = verbs.Cat
-verb_of (Mkfs image volume) = verbs.Mkfs
-verb_of (Migrate old new migration) = verbs.Migrate
-verb_of (OnVolume volume job) = job_verb job
-verb_of (OnImage volume look) = look_verb look
-verb_of (OnTree volume edit) = edit_verb edit
-verb_of (OnFiles volume copying) = copying_verb copying
-verb_of (OnThreads volume work) = work_verb work
+verb_of (invocations.Cat volume ino) = verbs.Cat
+verb_of (invocations.Mkfs image volume) = verbs.Mkfs
+verb_of (invocations.Migrate old new migration) = verbs.Migrate
+verb_of (invocations.Get volume path) = verbs.Get
+verb_of (invocations.Change volume change) = change_verb change
+verb_of (invocations.Look volume look) = look_verb look
+verb_of (invocations.Copy volume copying) = copying_verb copying
+verb_of (invocations.Work volume work) = work_verb work
 
 -- the words name this volume (this project)
 abbrev pub IsVolumeGiven : Words → VolumeFile → Type 0
@@ -176,26 +169,36 @@ IsMigrationGiven clock given migration = IsNumberGiven 4294967295 (the_word give
     × IsNumberGiven 65535 (the_word given (codes "IBLOCKS")) migration.list_blocks
     × IsMomentGiven clock (given (codes "NOW")) migration.now
 
--- the words describe this job; none describe a listing, which is a look (this project)
-abbrev pub IsJobGiven : Option ℕ → Words → Job → Type 0
-IsJobGiven clock given (jobs.Get path) =
-    (path.now ≡ the_word given (codes "PATH")) × IsLeftOut given (codes "MORE") × IsLeftOut given (codes "output")
-IsJobGiven clock given (jobs.Put path file now) = (path.now ≡ the_word given (codes "PATH")) × IsFirstWord given (codes "FILE") file.now
+-- the words ask for this one file of a volume, and for no other (this project)
+abbrev pub IsPathGiven : Words → List ℕ → Type 0
+IsPathGiven given path = (path ≡ the_word given (codes "PATH")) × IsLeftOut given (codes "MORE") × IsLeftOut given (codes "output")
+
+-- the words describe this change (this project)
+abbrev pub IsChangeGiven : Option ℕ → Words → Change → Type 0
+IsChangeGiven clock given (changes.Put path file now) = (path.now ≡ the_word given (codes "PATH")) × IsFirstWord given (codes "FILE") file.now
     × IsMomentGiven clock (given (codes "NOW")) now × IsLeftOut given (codes "MORE") × IsLeftOut given (codes "target-directory")
-IsJobGiven clock given (jobs.Rm path now) =
-    (path.now ≡ the_word given (codes "PATH")) × IsMomentGiven clock (given (codes "NOW")) now × (is_set (given (codes "recursive")) ≡ false)
-IsJobGiven clock given (jobs.Rmdir path now) =
+IsChangeGiven clock given (changes.Import path now) =
     (path.now ≡ the_word given (codes "PATH")) × IsMomentGiven clock (given (codes "NOW")) now
-IsJobGiven clock given (jobs.Mkdir path now) =
+IsChangeGiven clock given (changes.Rm path now) =
+    (path.now ≡ the_word given (codes "PATH")) × IsMomentGiven clock (given (codes "NOW")) now × (is_set (given (codes "recursive")) ≡ false)
+IsChangeGiven clock given (changes.RmAll path now) =
+    (path.now ≡ the_word given (codes "PATH")) × IsMomentGiven clock (given (codes "NOW")) now × (is_set (given (codes "recursive")) ≡ true)
+IsChangeGiven clock given (changes.Rmdir path now) =
+    (path.now ≡ the_word given (codes "PATH")) × IsMomentGiven clock (given (codes "NOW")) now
+IsChangeGiven clock given (changes.Mkdir path now) =
     (path.now ≡ the_word given (codes "PATH")) × IsMomentGiven clock (given (codes "NOW")) now × (is_set (given (codes "parents")) ≡ false)
-IsJobGiven clock given (jobs.Ln from to now) = (from.now ≡ the_word given (codes "FROM"))
+IsChangeGiven clock given (changes.MkdirAll path now) =
+    (path.now ≡ the_word given (codes "PATH")) × IsMomentGiven clock (given (codes "NOW")) now × (is_set (given (codes "parents")) ≡ true)
+IsChangeGiven clock given (changes.Ln from to now) = (from.now ≡ the_word given (codes "FROM"))
     × (to.now ≡ the_word given (codes "TO")) × IsMomentGiven clock (given (codes "NOW")) now
-IsJobGiven clock given (jobs.Chmod path perm now) = (path.now ≡ the_word given (codes "PATH"))
+IsChangeGiven clock given (changes.Mv from to now) = (from.now ≡ the_word given (codes "FROM"))
+    × (to.now ≡ the_word given (codes "TO")) × IsMomentGiven clock (given (codes "NOW")) now
+IsChangeGiven clock given (changes.Chmod path perm now) = (path.now ≡ the_word given (codes "PATH"))
     × IsOctalGiven 4095 (the_word given (codes "PERM")) perm × IsMomentGiven clock (given (codes "NOW")) now
-IsJobGiven clock given (jobs.Chown path uid gid now) = (path.now ≡ the_word given (codes "PATH"))
+IsChangeGiven clock given (changes.Chown path uid gid now) = (path.now ≡ the_word given (codes "PATH"))
     × IsNumberGiven 65535 (the_word given (codes "UID")) uid × IsNumberGiven 65535 (the_word given (codes "GID")) gid
     × IsMomentGiven clock (given (codes "NOW")) now
-IsJobGiven clock given jobs.Salvage = Unit {0}
+IsChangeGiven clock given changes.Salvage = Unit {0}
 
 -- the words ask for a report of this form: JSON where they say so (this project)
 abbrev pub IsFormGiven : Words → Form → Type 0
@@ -222,17 +225,6 @@ IsLookGiven given (looks.Map picture) = IsPictureGiven given picture
 IsLookGiven given looks.Check = Unit {0}
 IsLookGiven given (looks.List path listing) = (path.now ≡ the_word given (codes "PATH")) × AreLinesGiven given listing.lines
     × (listing.below ≡ is_set (given (codes "recursive")))
-
--- the words describe a change by several calls (this project)
-abbrev pub IsEditGiven : Option ℕ → Words → Edit → Type 0
-IsEditGiven clock given (edits.Import path now) =
-    (path.now ≡ the_word given (codes "PATH")) × IsMomentGiven clock (given (codes "NOW")) now
-IsEditGiven clock given (edits.MkdirAll path now) =
-    (path.now ≡ the_word given (codes "PATH")) × IsMomentGiven clock (given (codes "NOW")) now × (is_set (given (codes "parents")) ≡ true)
-IsEditGiven clock given (edits.RmAll path now) =
-    (path.now ≡ the_word given (codes "PATH")) × IsMomentGiven clock (given (codes "NOW")) now × (is_set (given (codes "recursive")) ≡ true)
-IsEditGiven clock given (edits.Move from to now) = (from.now ≡ the_word given (codes "FROM"))
-    × (to.now ≡ the_word given (codes "TO")) × IsMomentGiven clock (given (codes "NOW")) now
 
 -- the words of `put` for several files, in their order (this project)
 abbrev pub put_words : Words → List (List ℕ)
@@ -294,15 +286,15 @@ IsWorkGiven given (works.Play scripts) =
 
 -- the words describe what is asked for (this project)
 abbrev pub IsGiven : Option ℕ → Words → Invocation → Type 0
-IsGiven clock given (Cat volume ino) = IsVolumeGiven given volume × IsNumberGiven 65535 (the_word given (codes "INO")) ino
-IsGiven clock given (Mkfs image volume) = (image.now ≡ the_word given (codes "IMAGE")) × IsNewVolumeGiven clock given volume
-IsGiven clock given (Migrate old new migration) = (old.now ≡ the_word given (codes "OLD"))
+IsGiven clock given (invocations.Cat volume ino) = IsVolumeGiven given volume × IsNumberGiven 65535 (the_word given (codes "INO")) ino
+IsGiven clock given (invocations.Mkfs image volume) = (image.now ≡ the_word given (codes "IMAGE")) × IsNewVolumeGiven clock given volume
+IsGiven clock given (invocations.Migrate old new migration) = (old.now ≡ the_word given (codes "OLD"))
     × (new.now ≡ the_word given (codes "NEW")) × IsMigrationGiven clock given migration
-IsGiven clock given (OnVolume volume job) = IsVolumeGiven given volume × IsJobGiven clock given job
-IsGiven clock given (OnTree volume edit) = IsVolumeGiven given volume × IsEditGiven clock given edit
-IsGiven clock given (OnImage volume look) = IsVolumeGiven given volume × IsLookGiven given look
-IsGiven clock given (OnFiles volume copying) = IsVolumeGiven given volume × IsCopyGiven clock given copying
-IsGiven clock given (OnThreads volume work) = IsVolumeGiven given volume × IsWorkGiven given work
+IsGiven clock given (invocations.Get volume path) = IsVolumeGiven given volume × IsPathGiven given path.now
+IsGiven clock given (invocations.Change volume change) = IsVolumeGiven given volume × IsChangeGiven clock given change
+IsGiven clock given (invocations.Look volume look) = IsVolumeGiven given volume × IsLookGiven given look
+IsGiven clock given (invocations.Copy volume copying) = IsVolumeGiven given volume × IsCopyGiven clock given copying
+IsGiven clock given (invocations.Work volume work) = IsVolumeGiven given volume × IsWorkGiven given work
 
 -- the command with the words for its arguments asks for this (this project)
 abbrev pub AsksFor : Option ℕ → Verb → Words → Invocation → Type 0

@@ -1,8 +1,7 @@
 //! What the user asks for.
-use image_commands::Look;
-use tree_commands::Edit;
+use command_changes::{Change, Migration};
+use command_reads::Look;
 use vol_check::Checker;
-use vol_commands::{Job, Migration};
 use vol_layout::Edition;
 use vol_mkfs::NewVolume;
 
@@ -57,6 +56,11 @@ pub enum Invocation<'a> {
         volume: VolumeFile<'a>,
         ino: u16,
     },
+    /// Print a file of the volume in a file.
+    Get {
+        volume: VolumeFile<'a>,
+        path: &'a str,
+    },
     /// Make a volume in the file `image`.
     Mkfs {
         image: &'a str,
@@ -68,28 +72,23 @@ pub enum Invocation<'a> {
         new: &'a str,
         migration: Migration,
     },
-    /// Do something with the volume in a file.
-    OnVolume {
+    /// Change the volume in a file.
+    Change {
         volume: VolumeFile<'a>,
-        job: Job<'a>,
+        change: Change<'a>,
     },
     /// Look at the image in a file, sound or not.
-    OnImage {
+    Look {
         volume: VolumeFile<'a>,
         look: Look<'a>,
     },
-    /// Change the volume in a file by several calls.
-    OnTree {
-        volume: VolumeFile<'a>,
-        edit: Edit<'a>,
-    },
     /// Copy several files into the volume in a file, or out of it.
-    OnFiles {
+    Copy {
         volume: VolumeFile<'a>,
         copying: Copying<'a>,
     },
     /// Do something with the volume in a file, by several threads.
-    OnThreads {
+    Work {
         volume: VolumeFile<'a>,
         work: Work<'a>,
     },

@@ -14,11 +14,10 @@ use crate::invocation::{Copying, Invocation, VolumeFile, Work};
 use crate::several::{PutFiles, file_in, files_in, no_more, not_empty, paths_in};
 use crate::texts;
 use crate::verbs::Verb;
-use image_commands::{Form, Look, Picture};
+use command_changes::{Change, Migration};
+use command_reads::{Form, Look, Picture};
 use std::alloc::Global;
-use tree_commands::Edit;
 use vol_check::Checker;
-use vol_commands::{Job, Migration};
 use vol_listing::{Lines, Listing};
 use vol_mkfs::NewVolume;
 
@@ -84,7 +83,7 @@ fn read_ls<'a, G: Given<'a>>(given: &G) -> Result<Invocation<'a>, Fault<'a>>
         lines: lines_in(given),
         below: flag_in(given, "recursive"),
     };
-    Ok(Invocation::OnImage {
+    Ok(Invocation::Look {
         volume,
         look: Look::List { path, listing },
     })
@@ -114,13 +113,12 @@ fn read_get<'a, G: Given<'a>>(alloc: Global, given: &G) -> Result<Invocation<'a>
             not_empty("FOLDER", folder, texts::EMPTY_FOLDER)?;
             let paths = paths_in(alloc, given)?;
             let copying = Copying::Get { folder, paths };
-            Ok(Invocation::OnFiles { volume, copying })
+            Ok(Invocation::Copy { volume, copying })
         }
         None => {
             let path = text_in(given, "PATH");
             no_more(given, texts::WANTS_OUTPUT)?;
-            let job = Job::Get { path };
-            Ok(Invocation::OnVolume { volume, job })
+            Ok(Invocation::Get { volume, path })
         }
     }
 }
@@ -132,7 +130,7 @@ fn read_export<'a, G: Given<'a>>(given: &G) -> Result<Invocation<'a>, Fault<'a>>
 {
     let volume = volume_in(given)?;
     let path = text_in(given, "PATH");
-    Ok(Invocation::OnImage {
+    Ok(Invocation::Look {
         volume,
         look: Look::Export { path },
     })
@@ -146,7 +144,7 @@ fn read_inode<'a, G: Given<'a>>(given: &G) -> Result<Invocation<'a>, Fault<'a>>
     let volume = volume_in(given)?;
     let number = word_in(given, "INO")?;
     let form = form_in(given);
-    Ok(Invocation::OnImage {
+    Ok(Invocation::Look {
         volume,
         look: Look::Inode { number, form },
     })
@@ -159,7 +157,7 @@ fn read_super<'a, G: Given<'a>>(given: &G) -> Result<Invocation<'a>, Fault<'a>>
 {
     let volume = volume_in(given)?;
     let form = form_in(given);
-    Ok(Invocation::OnImage {
+    Ok(Invocation::Look {
         volume,
         look: Look::Super { form },
     })
@@ -172,7 +170,7 @@ fn read_map<'a, G: Given<'a>>(given: &G) -> Result<Invocation<'a>, Fault<'a>>
 {
     let volume = volume_in(given)?;
     let picture = picture_in(given);
-    Ok(Invocation::OnImage {
+    Ok(Invocation::Look {
         volume,
         look: Look::Map { picture },
     })
@@ -184,7 +182,7 @@ fn read_check<'a, G: Given<'a>>(given: &G) -> Result<Invocation<'a>, Fault<'a>>
     ensures refused { IfErr result (TellsOf (IsOneWrong None (G.words given.now) (arguments_of verbs.Check))) }
 {
     let volume = volume_in(given)?;
-    Ok(Invocation::OnImage {
+    Ok(Invocation::Look {
         volume,
         look: Look::Check,
     })
@@ -270,15 +268,15 @@ fn read_put<'a, G: Given<'a>>(
                 files,
                 now,
             };
-            Ok(Invocation::OnFiles { volume, copying })
+            Ok(Invocation::Copy { volume, copying })
         }
         None => {
             let path = text_in(given, "PATH");
             let file = file_in(given)?;
             no_more(given, texts::WANTS_TARGET)?;
             let now = moment_in(given, clock)?;
-            let job = Job::Put { path, file, now };
-            Ok(Invocation::OnVolume { volume, job })
+            let change = Change::Put { path, file, now };
+            Ok(Invocation::Change { volume, change })
         }
     }
 }
@@ -291,9 +289,9 @@ fn read_import<'a, G: Given<'a>>(given: &G, clock: Option<u32>) -> Result<Invoca
     let volume = volume_in(given)?;
     let path = text_in(given, "PATH");
     let now = moment_in(given, clock)?;
-    Ok(Invocation::OnTree {
+    Ok(Invocation::Change {
         volume,
-        edit: Edit::Import { path, now },
+        change: Change::Import { path, now },
     })
 }
 
@@ -306,14 +304,14 @@ fn read_rm<'a, G: Given<'a>>(given: &G, clock: Option<u32>) -> Result<Invocation
     let path = text_in(given, "PATH");
     let now = moment_in(given, clock)?;
     if flag_in(given, "recursive") {
-        return Ok(Invocation::OnTree {
+        return Ok(Invocation::Change {
             volume,
-            edit: Edit::RmAll { path, now },
+            change: Change::RmAll { path, now },
         });
     }
-    Ok(Invocation::OnVolume {
+    Ok(Invocation::Change {
         volume,
-        job: Job::Rm { path, now },
+        change: Change::Rm { path, now },
     })
 }
 
@@ -325,9 +323,9 @@ fn read_rmdir<'a, G: Given<'a>>(given: &G, clock: Option<u32>) -> Result<Invocat
     let volume = volume_in(given)?;
     let path = text_in(given, "PATH");
     let now = moment_in(given, clock)?;
-    Ok(Invocation::OnVolume {
+    Ok(Invocation::Change {
         volume,
-        job: Job::Rmdir { path, now },
+        change: Change::Rmdir { path, now },
     })
 }
 
@@ -340,14 +338,14 @@ fn read_mkdir<'a, G: Given<'a>>(given: &G, clock: Option<u32>) -> Result<Invocat
     let path = text_in(given, "PATH");
     let now = moment_in(given, clock)?;
     if flag_in(given, "parents") {
-        return Ok(Invocation::OnTree {
+        return Ok(Invocation::Change {
             volume,
-            edit: Edit::MkdirAll { path, now },
+            change: Change::MkdirAll { path, now },
         });
     }
-    Ok(Invocation::OnVolume {
+    Ok(Invocation::Change {
         volume,
-        job: Job::Mkdir { path, now },
+        change: Change::Mkdir { path, now },
     })
 }
 
@@ -360,9 +358,9 @@ fn read_ln<'a, G: Given<'a>>(given: &G, clock: Option<u32>) -> Result<Invocation
     let from = text_in(given, "FROM");
     let to = text_in(given, "TO");
     let now = moment_in(given, clock)?;
-    Ok(Invocation::OnVolume {
+    Ok(Invocation::Change {
         volume,
-        job: Job::Ln { from, to, now },
+        change: Change::Ln { from, to, now },
     })
 }
 
@@ -375,9 +373,9 @@ fn read_mv<'a, G: Given<'a>>(given: &G, clock: Option<u32>) -> Result<Invocation
     let from = text_in(given, "FROM");
     let to = text_in(given, "TO");
     let now = moment_in(given, clock)?;
-    Ok(Invocation::OnTree {
+    Ok(Invocation::Change {
         volume,
-        edit: Edit::Move { from, to, now },
+        change: Change::Mv { from, to, now },
     })
 }
 
@@ -390,9 +388,9 @@ fn read_chmod<'a, G: Given<'a>>(given: &G, clock: Option<u32>) -> Result<Invocat
     let path = text_in(given, "PATH");
     let perm = permissions_in(given, "PERM")?;
     let now = moment_in(given, clock)?;
-    Ok(Invocation::OnVolume {
+    Ok(Invocation::Change {
         volume,
-        job: Job::Chmod { path, perm, now },
+        change: Change::Chmod { path, perm, now },
     })
 }
 
@@ -406,9 +404,9 @@ fn read_chown<'a, G: Given<'a>>(given: &G, clock: Option<u32>) -> Result<Invocat
     let uid = word_in(given, "UID")?;
     let gid = word_in(given, "GID")?;
     let now = moment_in(given, clock)?;
-    Ok(Invocation::OnVolume {
+    Ok(Invocation::Change {
         volume,
-        job: Job::Chown {
+        change: Change::Chown {
             path,
             uid,
             gid,
@@ -423,9 +421,9 @@ fn read_salvage<'a, G: Given<'a>>(given: &G) -> Result<Invocation<'a>, Fault<'a>
     ensures refused { IfErr result (TellsOf (IsOneWrong None (G.words given.now) (arguments_of verbs.Salvage))) }
 {
     let volume = volume_in(given)?;
-    Ok(Invocation::OnVolume {
+    Ok(Invocation::Change {
         volume,
-        job: Job::Salvage,
+        change: Change::Salvage,
     })
 }
 
@@ -437,7 +435,7 @@ fn read_checker<'a, G: Given<'a>>(given: &G, checker: Checker) -> Result<Invocat
     let volume = volume_in(given)?;
     let workers = threads_in(given, "WORKERS")?;
     let work = Work::Check { checker, workers };
-    Ok(Invocation::OnThreads { volume, work })
+    Ok(Invocation::Work { volume, work })
 }
 
 /// Reads the words of `play`.
@@ -448,7 +446,7 @@ fn read_play<'a, G: Given<'a>>(alloc: Global, given: &G) -> Result<Invocation<'a
     let volume = volume_in(given)?;
     let scripts = scripts_in(alloc, given)?;
     let work = Work::Play { scripts };
-    Ok(Invocation::OnThreads { volume, work })
+    Ok(Invocation::Work { volume, work })
 }
 
 /// The edition and the file of the volume that were given.

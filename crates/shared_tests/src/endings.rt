@@ -1,12 +1,12 @@
 //! What a play prints and answers of steps that the program's tests don't bring about.
 use crate::fixtures::{sixth, stream, taken};
+use command_faults::answer::tell;
 use pdp_words::IntoWrite;
 use pdp_words::testing::{ScriptedWriter, WriteMishap};
 use std::alloc::Global;
 use std::io::ErrorKind;
 use std::process::Abort;
 use std::rt::HostRuntime;
-use vol_commands::answer::tell;
 use vol_scripts::{Played, ScriptsFault, finish, refuse};
 
 /// Ends a play of one script, with this output. Checks what is printed, the line on standard error and the status; the

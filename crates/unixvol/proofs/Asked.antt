@@ -5,18 +5,18 @@ use Rattle.clap.specs.declared.error.Error.{Error}
 use Rattle.command_line.specs.CommandLine.{IsRead}
 use Rattle.command_words.specs.Asking.{IsWorkable}
 use Rattle.command_words.specs.declared.invocation.Invocation.{Invocation}
-use Rattle.command_words.specs.declared.invocation.Invocation.TheVariants.{OnThreads}
+use Rattle.command_words.specs.declared.invocation.Invocation.TheVariants as invocations
 use Rattle.command_words.specs.declared.invocation.VolumeFile.{VolumeFile}
 use Rattle.command_words.specs.declared.invocation.Work.{Work}
 use Rattle.command_line.proofs.Reading.{workable}
-use Rattle.vol_commands.specs.Jobs.{Streams}
+use Rattle.command_faults.specs.Streams.{Streams}
 use Rattle.unixvol.specs.Running.{HostFiles, RunsRead, Tells}
 
 -- what was read of some words asks several threads only for what they can do
 pub asked : {E : Type 0} (clock : Option ℕ) (result : Result Invocation E) (words : List (List ℕ)) (volume : VolumeFile) (work : Work) → IfOk result (IsRead clock words)
-    → result ≡ Ok (OnThreads volume work) → IsWorkable work
+    → result ≡ Ok (invocations.Work volume work) → IsWorkable work
 asked clock (Ok invocation) words volume work read is =
-    let same : invocation ≡ OnThreads volume work = cc in workable clock words volume work (subst (λ (i : Invocation). IsRead clock words i) same read)
+    let same : invocation ≡ invocations.Work volume work = cc in workable clock words volume work (subst (λ (i : Invocation). IsRead clock words i) same read)
 asked clock (Err e) words volume work read is = absurd (cc)
 
 -- what is told of words that are refused is what runs of them

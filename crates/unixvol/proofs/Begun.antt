@@ -1,7 +1,6 @@
 -- What a run of the program comes to, from what its two streams held before.
 use Rattle.std.proofs.Common.{◌≡◌, ◌⊎◌, ◌∙◌, Bool, false, ℕ, List, Option, inl, inr, subst}
-use Rattle.vol_commands.specs.Faults.{Gets}
-use Rattle.vol_commands.specs.Jobs.{Streams}
+use Rattle.command_faults.specs.Streams.{Gets, Streams}
 
 -- what the two streams were and are
 abbrev pub streams_of : Option (List ℕ) → Option (List ℕ) → Bool → Bool → Option (List ℕ) → Option (List ℕ) → Bool → Streams

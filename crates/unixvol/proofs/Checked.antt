@@ -1,7 +1,7 @@
 -- How a checker that runs ends.
 use Rattle.std.proofs.Common.{ℕ, ◌≤◌, Bool, true, false, if◌then◌else◌, List, Option, inl, inr, sym, subst, arith}
-use Rattle.vol_commands.specs.Checking.{Checks, IsUnreported, PrintsReport}
-use Rattle.vol_commands.specs.Jobs.{Streams}
+use Rattle.command_reads.specs.Checkers.{Checks, IsUnreported, PrintsReport}
+use Rattle.command_faults.specs.Streams.{Streams}
 use Rattle.vol_check.specs.declared.checker.Checker.{Checker}
 use Rattle.vol_layout.specs.declared.edition.Edition.{Edition}
 use Rattle.vol_reports.specs.Reports.{has_faults}

@@ -2,11 +2,11 @@
 use Rattle.std.proofs.Common.{◌≡◌, ◌∙◌, true≢false, ℕ, ◌≤◌, List, [], Option, None, Some, IsSome, IfSome, Result, inl, inr, refl, sym, subst, arith}
 use Rattle.std.specs.Global.{Vec}
 use Rattle.std.specs.Io.KnownBytes.{Keeps}
-use Rattle.vol_commands.proofs.Concluded.{fault_few, refusal_few}
-use Rattle.vol_commands.specs.Faults.{Concludes, refusal_status}
-use Rattle.vol_commands.specs.Jobs.{Streams}
-use Rattle.vol_commands.specs.declared.answer.Answer.{Answer}
-use Rattle.vol_commands.specs.declared.faults.Fault.{Fault}
+use Rattle.command_faults.proofs.Concluded.{fault_few, refusal_few}
+use Rattle.command_faults.specs.Faults.{Concludes, refusal_status}
+use Rattle.command_faults.specs.Streams.{Streams}
+use Rattle.command_faults.specs.declared.answer.Answer.{Answer}
+use Rattle.command_faults.specs.declared.fault.Fault.{Fault}
 use Rattle.vol_dir.specs.declared.refusal.Refusal.{Refusal}
 use Rattle.vol_import.specs.declared.faults.ArchiveFault.{ArchiveFault}
 use Rattle.vol_import.specs.declared.faults.ArchiveFault.TheVariants as archives
@@ -14,13 +14,13 @@ use Rattle.vol_import.specs.declared.making.ImportFault.{ImportFault}
 use Rattle.vol_import.specs.declared.making.ImportFault.TheVariants as imports
 use Rattle.vol_layout.specs.declared.edition.Edition.{Edition}
 use Rattle.vol_volume.specs.declared.calls.Call.{Call}
-use Rattle.tree_commands.specs.Getting.{GetsFiles, get_status}
-use Rattle.tree_commands.specs.Importing.{ImportsArchive}
-use Rattle.tree_commands.specs.Telling.{archive_status, import_status}
-use Rattle.tree_commands.specs.declared.getting.FileRead.{FileRead}
-use Rattle.tree_commands.specs.declared.getting.FilesRead.{FilesRead}
-use Rattle.tree_commands.specs.declared.getting.GetFault.{GetFault}
-use Rattle.tree_commands.specs.declared.getting.GetFault.TheVariants.{Volume, File}
+use Rattle.command_reads.specs.GetFiles.{GetsFiles, get_status}
+use Rattle.command_changes.specs.Import.{ImportsArchive}
+use Rattle.command_changes.specs.ImportLines.{archive_status, import_status}
+use Rattle.command_reads.specs.declared.get.FileRead.{FileRead}
+use Rattle.command_reads.specs.declared.get.FilesRead.{FilesRead}
+use Rattle.command_reads.specs.declared.get.GetFault.{GetFault}
+use Rattle.command_reads.specs.declared.get.GetFault.TheVariants.{Volume, File}
 use Rattle.unixvol.specs.Copying.{ReadSaved}
 use Rattle.unixvol.specs.Running.{EndsSaved, Ends, IsUnread}
 

@@ -3,9 +3,9 @@ use Rattle.std.proofs.Common.{◌≡◌, ◌⊎◌, ◌∙◌, ◌<◌, ◌+◌,
 use Rattle.std.specs.Borrow.{Bor}
 use Rattle.std.specs.Global.{Vec}
 use Rattle.std.proofs.lemmas.List.{map-append, take_more}
-use Rattle.tree_commands.specs.declared.getting.FileRead.{FileRead}
-use Rattle.tree_commands.specs.declared.getting.FilesRead.{FilesRead}
-use Rattle.tree_commands.specs.declared.putting.NewFile.{NewFile}
+use Rattle.command_reads.specs.declared.get.FileRead.{FileRead}
+use Rattle.command_reads.specs.declared.get.FilesRead.{FilesRead}
+use Rattle.command_changes.specs.declared.put.NewFile.{NewFile}
 use Rattle.unixvol.specs.Copying.{AreSaved, ReadSaved, name_of}
 use Rattle.unixvol.specs.Running.{IsStatusOfFileOrMemory}
 

@@ -4,17 +4,17 @@ use Rattle.std.proofs.lemmas.Bool.{ne_eqb}
 use Rattle.vol_archive.specs.Exporting.{start_of}
 use Rattle.vol_archive.specs.declared.exporting.Start.{Start}
 use Rattle.vol_archive.specs.declared.exporting.StartFault.{StartFault}
-use Rattle.vol_commands.proofs.Concluded.{fault_few}
-use Rattle.vol_commands.specs.Faults.{no_memory}
-use Rattle.vol_commands.specs.Jobs.{Streams}
-use Rattle.vol_commands.specs.declared.faults.Fault.{Fault}
+use Rattle.command_faults.proofs.Concluded.{fault_few}
+use Rattle.command_faults.specs.Faults.{no_memory}
+use Rattle.command_faults.specs.Streams.{Streams}
+use Rattle.command_faults.specs.declared.fault.Fault.{Fault}
 use Rattle.vol_layout.specs.declared.edition.Edition.{Edition}
-use Rattle.image_commands.specs.Checking.{Checks, verdict_status}
-use Rattle.image_commands.specs.Exporting.{ExportsBelow, ExportsFrom, ExportsTo, whole, broken, short, unbegun}
-use Rattle.image_commands.specs.Looking.{Looks}
-use Rattle.image_commands.specs.Printing.{IsBrokenOff, IsTold, PrintsOne, PrintsWith}
-use Rattle.image_commands.specs.declared.looks.Look.{Look}
-use Rattle.image_commands.specs.declared.looks.Look.TheVariants as looks
+use Rattle.command_reads.specs.Check.{Checks, verdict_status}
+use Rattle.command_reads.specs.Export.{ExportsBelow, ExportsFrom, ExportsTo, whole, broken, short, unbegun}
+use Rattle.command_reads.specs.Looking.{Looks}
+use Rattle.command_reads.specs.Printing.{IsBrokenOff, IsTold, PrintsOne, PrintsWith}
+use Rattle.command_reads.specs.declared.looks.Look.{Look}
+use Rattle.command_reads.specs.declared.looks.Look.TheVariants as looks
 use Rattle.vol_listing.specs.declared.options.Screen.{Screen}
 use Rattle.vol_listing.specs.declared.options.Screen.TheVariants as screens
 use Rattle.unixvol.specs.Running.{IsEnd, IsUnread, RunsLook, host_files}

@@ -4,11 +4,11 @@ use Rattle.std.specs.Io.KnownBytes.{Keeps}
 use Rattle.vol_mkfs.specs.Blank.{Blank, blank_of, IsMade}
 use Rattle.vol_mkfs.specs.Mkfs.{is_size}
 use Rattle.vol_layout.specs.Ids.{is_bad_id}
-use Rattle.vol_commands.specs.Faults.{ErrorStream, Hears, line_after, says}
-use Rattle.vol_commands.specs.Jobs.{Streams}
-use Rattle.vol_commands.specs.Making.{mkfs_line_at}
-use Rattle.vol_commands.specs.declared.faults.Fault.{Fault}
-use Rattle.vol_commands.specs.declared.making.Made.{Made}
+use Rattle.command_faults.specs.Streams.{ErrorStream, Hears, says, Streams}
+use Rattle.command_faults.specs.Faults.{line_after}
+use Rattle.command_changes.specs.Mkfs.{mkfs_line_at}
+use Rattle.command_faults.specs.declared.fault.Fault.{Fault}
+use Rattle.command_changes.specs.declared.mkfs.Made.{Made}
 use Rattle.vol_mkfs.specs.declared.blank.NewVolume.{NewVolume}
 use Rattle.unixvol.specs.Running.{IsStatusOfFileOrMemory, MadeSaved, RunsMkfs}
 

@@ -1,10 +1,10 @@
 -- How a play that runs ends.
 use Rattle.std.proofs.Common.{◌≡◌, ◌∙◌, ℕ, ◌≤◌, List, [], ◌∷◌, map, fold, max, Option, Some, None, inl, inr, sym, subst, arith}
 use Rattle.std.specs.Global.{Vec}
-use Rattle.vol_commands.proofs.Concluded.{fault_few}
-use Rattle.vol_commands.specs.Faults.{fault_status}
-use Rattle.vol_commands.specs.Jobs.{Streams}
-use Rattle.vol_commands.specs.declared.answer.Answer.{Answer}
+use Rattle.command_faults.proofs.Concluded.{fault_few}
+use Rattle.command_faults.specs.Faults.{fault_status}
+use Rattle.command_faults.specs.Streams.{Streams}
+use Rattle.command_faults.specs.declared.answer.Answer.{Answer}
 use Rattle.vol_layout.specs.declared.edition.Edition.{Edition}
 use Rattle.vol_play.specs.Playing.{PlaysVolume}
 use Rattle.vol_receipts.specs.declared.finding.Confirmed.{Confirmed}

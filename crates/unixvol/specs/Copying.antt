@@ -5,19 +5,18 @@ use Rattle.std.specs.Io.KnownBytes.{Keeps}
 use Rattle.std.specs.Path.{path_file_name}
 use Rattle.vol_import.specs.Making.{told}
 use Rattle.vol_volume.specs.Volume.{reads_as}
-use Rattle.vol_commands.specs.Faults.{Gets}
-use Rattle.vol_commands.specs.Jobs.{Streams}
-use Rattle.vol_commands.specs.declared.answer.Answer.{Answer}
+use Rattle.command_faults.specs.Streams.{Gets, Streams}
+use Rattle.command_faults.specs.declared.answer.Answer.{Answer}
 use Rattle.vol_layout.specs.declared.edition.Edition.{Edition}
 use Rattle.command_words.specs.declared.invocation.Copying.{Copying}
 use Rattle.command_words.specs.declared.invocation.Copying.TheVariants as copyings
 use Rattle.command_words.specs.declared.invocation.Moment.{Moment}
-use Rattle.tree_commands.specs.Getting.{GetsFiles}
-use Rattle.tree_commands.specs.Importing.{ImportsArchive}
-use Rattle.tree_commands.specs.Putting.{calls_to_put}
-use Rattle.tree_commands.specs.declared.getting.FileRead.{FileRead}
-use Rattle.tree_commands.specs.declared.getting.FilesRead.{FilesRead}
-use Rattle.tree_commands.specs.declared.putting.NewFile.{NewFile}
+use Rattle.command_reads.specs.GetFiles.{GetsFiles}
+use Rattle.command_changes.specs.Import.{ImportsArchive}
+use Rattle.command_changes.specs.Put.{calls_to_put}
+use Rattle.command_reads.specs.declared.get.FileRead.{FileRead}
+use Rattle.command_reads.specs.declared.get.FilesRead.{FilesRead}
+use Rattle.command_changes.specs.declared.put.NewFile.{NewFile}
 use Rattle.unixvol.specs.Running.{Ends, EndsSaved, HostFiles, IsStatusOfFileOrMemory, RunsNothing}
 use Rattle.host_files.specs.declared.image_file.Stamp.{Stamp}
 

@@ -9,34 +9,32 @@ use Rattle.vol_mkfs.specs.Blank.{blank_of, IsMade}
 use Rattle.vol_mkfs.specs.Mkfs.{is_size}
 use Rattle.vol_layout.specs.Ids.{is_bad_id}
 use Rattle.pdp_words.specs.Devices.{IsReadWhole, LosesFront}
-use Rattle.image_commands.specs.Looking.{Looks}
-use Rattle.image_commands.specs.declared.looks.Look.{Look}
+use Rattle.command_reads.specs.Get.{GetsFile}
+use Rattle.command_reads.specs.Looking.{Looks}
+use Rattle.command_reads.specs.declared.looks.Look.{Look}
 use Rattle.vol_listing.specs.declared.options.Screen.{Screen}
 use Rattle.vol_listing.specs.declared.options.Screen.TheVariants as screens
-use Rattle.tree_commands.specs.Editing.{Edits}
-use Rattle.tree_commands.specs.declared.edits.Edit.{Edit}
-use Rattle.tree_commands.specs.declared.edits.Edit.TheVariants as edits
-use Rattle.vol_commands.specs.Checking.{Checks}
-use Rattle.vol_commands.specs.Cat.{PrintsFile, IsNoWriters, cat_status, file_of}
-use Rattle.vol_commands.specs.Faults.{Gets}
-use Rattle.vol_commands.specs.Jobs.{Streams, Does}
-use Rattle.vol_commands.specs.Making.{mkfs_line_at}
-use Rattle.vol_commands.specs.Migrating.{MigratesVolume}
+use Rattle.command_changes.specs.Changes.{Changes}
+use Rattle.command_changes.specs.declared.changes.Change.{Change}
+use Rattle.command_changes.specs.declared.changes.Change.TheVariants as changes
+use Rattle.command_reads.specs.Checkers.{Checks}
+use Rattle.command_reads.specs.Cat.{PrintsFile, IsNoWriters, cat_status, file_of}
+use Rattle.command_faults.specs.Streams.{Gets, Streams}
+use Rattle.command_changes.specs.Mkfs.{mkfs_line_at}
+use Rattle.command_changes.specs.Migrate.{MigratesVolume}
 use Rattle.vol_layout.specs.declared.edition.Edition.{Edition}
 use Rattle.std.specs.Global.{Vec}
 use Rattle.vol_play.specs.Playing.{PlaysVolume}
-use Rattle.vol_commands.specs.declared.answer.Answer.{Answer}
-use Rattle.vol_commands.specs.declared.cat.CatFault.{CatFault}
-use Rattle.vol_commands.specs.declared.cat.CatFault.TheVariants.{Device, NoMemory, Writer}
+use Rattle.command_faults.specs.declared.answer.Answer.{Answer}
+use Rattle.command_reads.specs.declared.cat.CatFault.{CatFault}
+use Rattle.command_reads.specs.declared.cat.CatFault.TheVariants.{Device, NoMemory, Writer}
 use Rattle.command_words.specs.declared.invocation.Invocation.{Invocation}
 use Rattle.command_words.specs.declared.invocation.Invocation.TheVariants as invocations
 use Rattle.command_words.specs.declared.invocation.Work.{Work}
 use Rattle.command_words.specs.declared.invocation.Work.TheVariants as works
 use Rattle.vol_check.specs.declared.checker.Checker.{Checker}
-use Rattle.vol_commands.specs.declared.jobs.Job.{Job}
-use Rattle.vol_commands.specs.declared.jobs.Job.TheVariants as jobs
-use Rattle.vol_commands.specs.declared.making.Made.{Made}
-use Rattle.vol_commands.specs.declared.migrating.Migration.{Migration}
+use Rattle.command_changes.specs.declared.mkfs.Made.{Made}
+use Rattle.command_changes.specs.declared.migrate.Migration.{Migration}
 use Rattle.vol_mkfs.specs.declared.blank.NewVolume.{NewVolume}
 use Rattle.host_files.specs.Opening.{IsOpened}
 use Rattle.host_files.specs.Saving.{IsTaken}
@@ -62,11 +60,6 @@ pub record HostFiles : Type 1 where
 abbrev pub host_files : {F : Type 0} → (F → Option (List ℕ)) → (F → Option (List ℕ)) → (F → Stamp → Type 0) → (Stamp → Type 0) → HostFiles
 host_files remaining contents had stood =
     record { unread = IsUnread remaining; given = GaveBytes remaining; opened = IsOpened remaining had; taken = IsTaken contents; stood = stood }
-
--- a file gave the bytes that a job puts into a volume; other jobs put none (this project)
-abbrev pub IsGivenFor : (List ℕ → Type 0) → Job → List ℕ → Type 0
-IsGivenFor given (jobs.Put path file now) bytes = given bytes
-IsGivenFor given _ bytes = Unit {0}
 
 -- the status where a file can't be read or written, or where memory ran out (this project)
 abbrev pub IsStatusOfFileOrMemory : ℕ → Type 0
@@ -137,23 +130,10 @@ RunsMigrate streams files migration status =
     ⊎ ((image : List ℕ) × (answer : Answer) × files.given image × MigratesVolume image migration streams.said answer
     × Keeps streams.old streams.new × (streams.failed ≡ streams.had_failed) × EndsSaved files.taken answer status)
 
--- a job that shows something runs: nothing is done; or it is done with an image that a file gave (this project)
-abbrev pub RunsQuery : Streams → HostFiles → Edition → Job → ℕ → Type 0
-RunsQuery streams files edition job status =
-    RunsNothing streams files status
-    ⊎ ((image : List ℕ) × (answer : Answer) × files.given image × Does edition image [] streams answer job × (status ≡ answer.status))
-
--- a job that changes an image runs: nothing is done; or it is done with an image that a file gave which may be changed, the bytes that it puts are those of a file too, and what it makes is saved where a file still stood that had the stamp of the one that was read (this project)
-abbrev pub RunsChange : Streams → HostFiles → Edition → Job → ℕ → Type 0
-RunsChange streams files edition job status =
-    RunsNothing streams files status
-    ⊎ ((image : List ℕ) × (stamp : Stamp) × (bytes : List ℕ) × (answer : Answer) × files.opened image stamp × IsGivenFor files.given job bytes
-    × Does edition image bytes streams answer job × EndsSaved (λ saved. files.taken saved × files.stood stamp) answer status)
-
--- a job runs (this project)
-abbrev pub RunsJob : Streams → HostFiles → Edition → Job → ℕ → Type 0
-RunsJob streams files edition (jobs.Get path) status = RunsQuery streams files edition (jobs.Get path) status
-RunsJob streams files edition job status = RunsChange streams files edition job status
+-- `get` runs: nothing is done; or the file at a path is printed of an image that a file gave (this project)
+abbrev pub RunsGetOne : Streams → HostFiles → Edition → List ℕ → ℕ → Type 0
+RunsGetOne streams files edition path status =
+    RunsNothing streams files status ⊎ ((image : List ℕ) × files.given image × GetsFile edition image path streams status)
 
 -- a checker runs: nothing is done; or what it finds in an image that a file gave is printed (this project)
 abbrev pub RunsCheck : Streams → HostFiles → Edition → Checker → ℕ → Type 0
@@ -194,56 +174,63 @@ pub record HostInput : Type 1 where
 abbrev pub host_input : {F : Type 0} → (F → Option (List ℕ)) → HostInput
 host_input remaining = record { unread = IsUnread remaining; given = GaveBytes remaining }
 
--- nothing is done: standard input isn't read, and nothing goes out (this project)
-abbrev pub HearsNothing : Streams → HostInput → ℕ → Type 0
-HearsNothing streams input status =
-    input.unread status × Keeps streams.old streams.new × (streams.failed ≡ streams.had_failed) × streams.said []
+-- the bytes that a change takes aren't read, with this status: those of the file that is put, or of the archive that standard input gives (this project)
+abbrev pub IsUngiven : (ℕ → Type 0) → (ℕ → Type 0) → Change → ℕ → Type 0
+IsUngiven unread unheard (changes.Put path file now) status = unread status
+IsUngiven unread unheard (changes.Import path now) status = unheard status
+IsUngiven unread unheard _ status = ⊥
 
--- standard input gave the archive that a change imports; other changes import none (this project)
-abbrev pub IsHeardFor : (List ℕ → Type 0) → Edit → List ℕ → Type 0
-IsHeardFor given (edits.Import path now) bytes = given bytes
-IsHeardFor given _ bytes = Unit {0}
+-- nothing is done: the bytes that a change takes aren't read, and nothing goes out (this project)
+abbrev pub TakesNothing : Streams → HostFiles → HostInput → Change → ℕ → Type 0
+TakesNothing streams files input change status =
+    IsUngiven files.unread input.unread change status × Keeps streams.old streams.new × (streams.failed ≡ streams.had_failed) × streams.said []
+
+-- a file gave the bytes that are put, and standard input the archive that is imported; other changes take no bytes (this project)
+abbrev pub IsGivenTo : (List ℕ → Type 0) → (List ℕ → Type 0) → Change → List ℕ → Type 0
+IsGivenTo given heard (changes.Put path file now) bytes = given bytes
+IsGivenTo given heard (changes.Import path now) bytes = heard bytes
+IsGivenTo given heard _ bytes = Unit {0}
 
 -- whether a change imports an archive from standard input, and this is a terminal, which gives none (this project)
-abbrev pub wants_terminal : Bool → Edit → Bool
-wants_terminal is_terminal (edits.Import path now) = is_terminal
+abbrev pub wants_terminal : Bool → Change → Bool
+wants_terminal is_terminal (changes.Import path now) = is_terminal
 wants_terminal is_terminal _ = false
 
 -- nothing is done, since an archive is wanted of a terminal: the status is that of a file that can't be read, and nothing goes out (this project)
 abbrev pub LeavesTerminal : Streams → ℕ → Type 0
 LeavesTerminal streams status = (status ≡ 3) × Keeps streams.old streams.new × (streams.failed ≡ streams.had_failed) × streams.said []
 
--- a volume is changed by several calls: nothing is done; or they are made on an image that a file gave which may be changed, an archive is standard input's, and what the calls make is saved where a file still stood that had the stamp of the one that was read (this project)
-abbrev pub EditsVolume : Streams → HostFiles → HostInput → Edition → Edit → ℕ → Type 0
-EditsVolume streams files input edition edit status =
-    RunsNothing streams files status ⊎ (HearsNothing streams input status
-    ⊎ ((image : List ℕ) × (stamp : Stamp) × (bytes : List ℕ) × (answer : Answer) × files.opened image stamp × IsHeardFor input.given edit bytes
-    × Edits edition image bytes streams answer edit × EndsSaved (λ saved. files.taken saved × files.stood stamp) answer status))
+-- a volume is changed: nothing is done; or it is changed in an image that a file gave which may be changed, by the bytes that were given, and what is made is saved where a file still stood that had the stamp of the one that was read (this project)
+abbrev pub ChangesImage : Streams → HostFiles → HostInput → Edition → Change → ℕ → Type 0
+ChangesImage streams files input edition change status =
+    RunsNothing streams files status ⊎ (TakesNothing streams files input change status
+    ⊎ ((image : List ℕ) × (stamp : Stamp) × (bytes : List ℕ) × (answer : Answer) × files.opened image stamp × IsGivenTo files.given input.given change bytes
+    × Changes edition image bytes streams answer change × EndsSaved (λ saved. files.taken saved × files.stood stamp) answer status))
 
--- several calls are to be made on a volume: where an archive is wanted of a terminal, nothing is done; else they are made (this project)
-abbrev pub RunsEdit : Streams → HostFiles → HostInput → Bool → Edition → Edit → ℕ → Type 0
-RunsEdit streams files input is_terminal edition edit status =
-    ((wants_terminal is_terminal edit ≡ true) × LeavesTerminal streams status)
-    ⊎ ((wants_terminal is_terminal edit ≡ false) × EditsVolume streams files input edition edit status)
+-- a change runs: where an archive is wanted of a terminal, nothing is done; else the volume is changed (this project)
+abbrev pub RunsChange : Streams → HostFiles → HostInput → Bool → Edition → Change → ℕ → Type 0
+RunsChange streams files input is_terminal edition change status =
+    ((wants_terminal is_terminal change ≡ true) × LeavesTerminal streams status)
+    ⊎ ((wants_terminal is_terminal change ≡ false) × ChangesImage streams files input edition change status)
 
--- what is asked for is a plain command: no look at an image, no change by several calls, no copies of several files, nothing for several threads (this project)
+-- what is asked for is a plain command: no look at an image, no change, no copies of several files, nothing for several threads (this project)
 abbrev pub IsPlainCommand : Invocation → Type 0
-IsPlainCommand (invocations.OnImage volume look) = ⊥
-IsPlainCommand (invocations.OnTree volume edit) = ⊥
-IsPlainCommand (invocations.OnFiles volume copying) = ⊥
-IsPlainCommand (invocations.OnThreads volume work) = ⊥
+IsPlainCommand (invocations.Look volume look) = ⊥
+IsPlainCommand (invocations.Change volume change) = ⊥
+IsPlainCommand (invocations.Copy volume copying) = ⊥
+IsPlainCommand (invocations.Work volume work) = ⊥
 IsPlainCommand _ = Unit {0}
 
 -- what a plain command asks for runs: what goes out, what files give and take, and the status; other things run elsewhere (this project)
 abbrev pub Runs : Streams → HostFiles → ℕ → Invocation → Type 0
 Runs streams files status (invocations.Cat volume i) = RunsCat streams files.given volume.edition i status
+Runs streams files status (invocations.Get volume path) = RunsGetOne streams files volume.edition path.now status
 Runs streams files status (invocations.Mkfs image volume) = RunsMkfs streams files.taken volume status
 Runs streams files status (invocations.Migrate old new migration) = RunsMigrate streams files migration status
-Runs streams files status (invocations.OnVolume volume job) = RunsJob streams files volume.edition job status
-Runs streams files status (invocations.OnImage volume look) = ⊥
-Runs streams files status (invocations.OnTree volume edit) = ⊥
-Runs streams files status (invocations.OnFiles volume copying) = ⊥
-Runs streams files status (invocations.OnThreads volume work) = ⊥
+Runs streams files status (invocations.Look volume look) = ⊥
+Runs streams files status (invocations.Change volume change) = ⊥
+Runs streams files status (invocations.Copy volume copying) = ⊥
+Runs streams files status (invocations.Work volume work) = ⊥
 
 -- what an error of the command line comes to: the status by its kind, which is 3 only where standard output failed, and no line of a command (this project)
 pub record Tells (streams : Streams) (kind : ErrorKind) (status : ℕ) : Type 0 where
@@ -293,10 +280,10 @@ LooksToEnd files screen output errors edition look end =
     × IsEnd (record { old = output; new = new; had_failed = false; failed = failed; said = Gets untold errors told }) status
     × ((end ≡ status) ⊎ (end ≡ 3))
 
--- a change by several calls runs to its end, as a plain command does (this project)
-abbrev pub EditsToEnd : HostFiles → HostInput → Bool → Option (List ℕ) → Option (List ℕ) → Edition → Edit → ℕ → Type 0
-EditsToEnd files input is_terminal output errors edition edit end =
+-- a change runs to its end, as a plain command does (this project)
+abbrev pub ChangesToEnd : HostFiles → HostInput → Bool → Option (List ℕ) → Option (List ℕ) → Edition → Change → ℕ → Type 0
+ChangesToEnd files input is_terminal output errors edition change end =
     (new : Option (List ℕ)) × (failed : Bool) × (told : Option (List ℕ)) × (untold : Bool) × (status : ℕ)
-    × RunsEdit (record { old = output; new = new; had_failed = false; failed = failed; said = Gets untold errors told }) files input is_terminal edition edit status
+    × RunsChange (record { old = output; new = new; had_failed = false; failed = failed; said = Gets untold errors told }) files input is_terminal edition change status
     × Ends (record { old = output; new = new; had_failed = false; failed = failed; said = Gets untold errors told }) status
     × ((end ≡ status) ⊎ ((status ≡ 0) × (end ≡ 3)))

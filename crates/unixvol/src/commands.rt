@@ -1,33 +1,34 @@
-//! The commands of the program that one thread does and that print all or nothing: what they open, and what they save.
+//! `cat`, `get`, `mkfs` and `migrate`, which print all or nothing: what they open, and what they save.
 ghost use Rattle.std.specs.Prelude.{◌≡◌, ◌≢◌, ◌⊎◌, [], ◌≤◌, ℕ, Bool, List, Option, true, IfErr, IfOk, IfSome, IsErrAnd};
 ghost use Rattle.std.specs.Io.KnownBytes.{Keeps};
 ghost use Rattle.std.specs.Process.{exit_status};
-ghost use Rattle.vol_commands.specs.Cat.{IsNoWriters};
-ghost use Rattle.vol_commands.specs.Faults.{ErrorStream, Hears};
-ghost use Rattle.vol_commands.specs.Jobs.{still, streams};
-ghost use Rattle.vol_commands.specs.declared.cat.CatFault.TheVariants as faults;
-ghost use Rattle.unixvol.specs.Running.{IsPlainCommand, GaveBytes, IsGivenFor, IsUnread, CatsGiven, PrintsBody, RunsChange, RunsJob, RunsMigrate, RunsMkfs, RunsQuery, Runs, RunsRead, RunsToEnd, Ends, host_files};
+ghost use Rattle.command_reads.specs.Cat.{IsNoWriters};
+ghost use Rattle.command_faults.specs.Streams.{ErrorStream, Hears, still, streams};
+ghost use Rattle.command_reads.specs.declared.cat.CatFault.TheVariants as faults;
+ghost use Rattle.unixvol.specs.Running.{IsPlainCommand, GaveBytes, CatsGiven, PrintsBody, RunsMigrate, RunsMkfs, Runs, RunsRead, RunsToEnd, Ends, host_files};
 ghost use Rattle.host_files.specs.Saving.{IsTaken};
 
 use crate::explaining::{explain_cat, explain_command_line, finish, tell_fault};
 use crate::host::Host;
-use crate::reading::{ReadFile, read_file, read_image, read_stamped};
-use crate::saving::{save_answer, save_made, save_migrated};
+use crate::looks::run_get;
+use crate::reading::read_stamped;
+use crate::saving::{save_made, save_migrated};
 use crate::subject::Subject;
 use clap::Error;
+use command_changes::Migration;
+use command_changes::migrate::migrate_image;
+use command_changes::mkfs::make_volume;
+use command_faults::Ending;
+use command_faults::status::DONE;
 use command_line::{Invocation, VolumeFile};
+use command_reads::CatFault;
+use command_reads::cat::cat;
 use host_files::{ImageFiles, noted_reader, noted_writer};
 use pdp_words::{IntoWrite, Sink};
 use std::fs::{self, Files};
 use std::io::{self, Write};
 use std::process::ExitCode;
 use std::rt::Clock;
-use vol_commands::cat::cat;
-use vol_commands::jobs::perform;
-use vol_commands::making::make_volume;
-use vol_commands::migrating::migrate_image;
-use vol_commands::status::DONE;
-use vol_commands::{CatFault, Ending, Job, Migration};
 use vol_layout::Edition;
 use vol_mkfs::NewVolume;
 
@@ -89,17 +90,17 @@ fn carry_out<R: ImageFiles + Clock + Eprint + AllocGlobal, O: Sink>(
             status: run_cat(host, output, volume, ino),
             fault: None,
         },
+        Invocation::Get { volume, path } => run_get(host, output, volume, path),
         Invocation::Mkfs { image, volume } => run_mkfs(host, image, volume),
         Invocation::Migrate {
             old,
             new,
             migration,
         } => run_migrate(host, old, new, migration),
-        Invocation::OnVolume { volume, job } => run_job(host, output, volume, job),
-        Invocation::OnImage { .. }
-        | Invocation::OnTree { .. }
-        | Invocation::OnFiles { .. }
-        | Invocation::OnThreads { .. } => unreachable!(),
+        Invocation::Look { .. }
+        | Invocation::Change { .. }
+        | Invocation::Copy { .. }
+        | Invocation::Work { .. } => unreachable!(),
     }
 }
 
@@ -167,114 +168,6 @@ fn run_migrate<R: ImageFiles + Clock + Eprint + AllocGlobal>(
     Ending {
         status,
         fault: answer.fault,
-    }
-}
-
-/// Does a job with the volume in a file, and saves the volume where it was changed.
-fn run_job<R: ImageFiles + Clock + Eprint + AllocGlobal, O: Sink>(
-    host: &Host<'_, R>,
-    output: &mut O,
-    volume: VolumeFile<'_>,
-    job: Job<'_>,
-) -> Ending
-    ensures runs { (errors : ErrorStream) → Hears errors result.fault
-        → RunsJob (streams O.contents O.failed output.old output.new errors) (host_files R.File.remaining R.File.contents R.had R.stood) volume.entry.edition job.entry result.status }
-    ensures ends { (errors : ErrorStream) → Hears errors result.fault
-        → Ends (streams O.contents O.failed output.old output.new errors) result.status }
-{
-    match job {
-        Job::Get { .. } => run_query(host, output, volume, job),
-        Job::Put { .. }
-        | Job::Rm { .. }
-        | Job::Rmdir { .. }
-        | Job::Mkdir { .. }
-        | Job::Ln { .. }
-        | Job::Chmod { .. }
-        | Job::Chown { .. }
-        | Job::Salvage => run_change(host, output, volume, job),
-    }
-}
-
-/// Does a job that shows something of the volume in a file.
-fn run_query<R: ImageFiles + Eprint + AllocGlobal, O: Sink>(
-    host: &Host<'_, R>,
-    output: &mut O,
-    volume: VolumeFile<'_>,
-    job: Job<'_>,
-) -> Ending
-    ensures runs { (errors : ErrorStream) → Hears errors result.fault
-        → RunsQuery (streams O.contents O.failed output.old output.new errors) (host_files R.File.remaining R.File.contents R.had R.stood) volume.entry.edition job.entry result.status }
-    ensures ends { (errors : ErrorStream) → Hears errors result.fault
-        → Ends (streams O.contents O.failed output.old output.new errors) result.status }
-{
-    let image = match read_file(host, volume.image) {
-        Ok(image) => image,
-        Err(status) => {
-            return Ending {
-                status,
-                fault: None,
-            };
-        }
-    };
-    let nothing = Vec::new(host.rt.alloc());
-    let answer = perform(host.rt.alloc(), volume.edition, image, nothing, job, output);
-    Ending {
-        status: answer.status,
-        fault: answer.fault,
-    }
-}
-
-/// Does a job that changes the volume in a file, and saves the volume.
-fn run_change<R: ImageFiles + Clock + Eprint + AllocGlobal, O: Sink>(
-    host: &Host<'_, R>,
-    output: &mut O,
-    volume: VolumeFile<'_>,
-    job: Job<'_>,
-) -> Ending
-    ensures runs { (errors : ErrorStream) → Hears errors result.fault
-        → RunsChange (streams O.contents O.failed output.old output.new errors) (host_files R.File.remaining R.File.contents R.had R.stood) volume.entry.edition job.entry result.status }
-    ensures ends { (errors : ErrorStream) → Hears errors result.fault
-        → Ends (streams O.contents O.failed output.old output.new errors) result.status }
-{
-    let (read, stamp) = match read_image(host, volume.image) {
-        Ok(read) => read,
-        Err(status) => {
-            return Ending {
-                status,
-                fault: None,
-            };
-        }
-    };
-    // Its file stays open, and so locked, until what is made of it is saved.
-    let ReadFile {
-        bytes: image,
-        file: _locked,
-    } = read;
-    let file = match file_of(host, job) {
-        Ok(file) => file,
-        Err(status) => {
-            return Ending {
-                status,
-                fault: None,
-            };
-        }
-    };
-    let answer = perform(host.rt.alloc(), volume.edition, image, file, job, output);
-    let status = save_answer(host, volume.image, stamp, &answer);
-    Ending {
-        status,
-        fault: answer.fault,
-    }
-}
-
-/// The bytes of the file that a job puts into a volume, or none.
-fn file_of<R: Files + Eprint + AllocGlobal>(host: &Host<'_, R>, job: Job<'_>) -> Result<Vec<u8>, u8>
-    ensures given { IfOk result (λ file. IsGivenFor (GaveBytes R.File.remaining) job.entry file.items) }
-    ensures fault { IfErr result (IsUnread R.File.remaining) }
-{
-    match job {
-        Job::Put { file, .. } => read_file(host, file),
-        _ => Ok(Vec::new(host.rt.alloc())),
     }
 }
 

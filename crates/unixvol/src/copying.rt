@@ -1,8 +1,7 @@
 //! The commands that copy several files between the host and a volume: what they open, and what they save.
 ghost use Rattle.std.specs.Prelude.{◌≡◌, ◌≢◌, ◌⊎◌, ℕ, All, Bool, IfErr, IfOk, IfSome, List, None, Option, map};
 ghost use Rattle.std.specs.Process.{exit_status};
-ghost use Rattle.vol_commands.specs.Faults.{ErrorStream, Hears};
-ghost use Rattle.vol_commands.specs.Jobs.{still};
+ghost use Rattle.command_faults.specs.Streams.{ErrorStream, Hears, still};
 ghost use Rattle.unixvol.specs.Copying.{AreSaved, CopiesToEnd, IsFileToo, IsMomentAlone, ReadSaved, RunsCopy, RunsGet, RunsPut, name_of};
 ghost use Rattle.unixvol.specs.Running.{Ends, GaveBytes, IsStatusOfFileOrMemory, IsUnread, host_files};
 ghost use Rattle.host_files.specs.Saving.{IsTaken};
@@ -12,7 +11,11 @@ use crate::host::Host;
 use crate::reading::{ReadFile, read_file, read_image, read_stamped};
 use crate::saving::{save_answer, save_new};
 use crate::subject::Subject;
+use command_changes::put::{NewFile, put_files};
+use command_faults::Ending;
+use command_faults::status::DONE;
 use command_line::{Copying, VolumeFile};
+use command_reads::get::{FileRead, FilesRead, get_files};
 use command_words::Moment;
 use host_files::{ImageFiles, Stamp};
 use pdp_words::IntoWrite;
@@ -21,9 +24,6 @@ use std::io::Write;
 use std::path::Path;
 use std::process::ExitCode;
 use std::rt::Clock;
-use tree_commands::{FileRead, FilesRead, NewFile, getting, putting};
-use vol_commands::Ending;
-use vol_commands::status::DONE;
 
 /// Copies several files between the host and the volume in a file, and answers how the program ends. A fault is one line on
 /// standard error. `errors` writes to standard error too. Nothing goes to `output`, which is standard output.
@@ -110,7 +110,7 @@ fn run_put<R: ImageFiles + Clock + Eprint + AllocGlobal>(
         }
     };
     let alloc = host.rt.alloc();
-    let answer = putting::perform(alloc, volume.edition, image, directory, files, now.seconds);
+    let answer = put_files(alloc, volume.edition, image, directory, files, now.seconds);
     let status = save_answer(host, volume.image, stamp, &answer);
     Ending {
         status,
@@ -177,7 +177,7 @@ fn run_get<R: ImageFiles + Clock + Eprint + AllocGlobal>(
             };
         }
     };
-    let read = getting::perform(host.rt.alloc(), volume.edition, image, paths);
+    let read = get_files(host.rt.alloc(), volume.edition, image, paths);
     let status = save_read(host, folder, stamp, &read);
     Ending {
         status,

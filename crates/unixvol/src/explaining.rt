@@ -5,19 +5,20 @@ ghost use Rattle.std.specs.IoError.{error_kind};
 ghost use Rattle.std.specs.declared.io.ErrorKind.TheVariants as io_kinds;
 ghost use Rattle.clap.specs.Words.{kind_of};
 ghost use Rattle.clap.specs.declared.error.kind.ErrorKind.TheVariants as clap_kinds;
-ghost use Rattle.vol_commands.specs.Cat.{cat_status};
-ghost use Rattle.vol_commands.specs.Faults.{Hears, heard};
+ghost use Rattle.command_reads.specs.Cat.{cat_status};
+ghost use Rattle.command_faults.specs.Streams.{Hears, heard};
 ghost use Rattle.unixvol.specs.Running.{IsStatusOfFileOrMemory};
 
 use crate::host::Host;
 use crate::meanings::{self, meaning_of, shown};
 use crate::subject::Subject;
 use clap::error::ErrorKind;
+use command_faults::Fault;
+use command_faults::answer::tell;
+use command_faults::status::{BAD_COMMAND_LINE, BAD_FILE, DONE, NO_MEMORY};
+use command_reads::CatFault;
 use pdp_words::{Sink, write_all};
 use std::io::{self, Write};
-use vol_commands::answer::tell;
-use vol_commands::status::{BAD_COMMAND_LINE, BAD_FILE, DONE, NO_MEMORY};
-use vol_commands::{CatFault, Fault};
 
 /// What the line of a fault calls standard output and standard input.
 const STREAM: &str = "-";

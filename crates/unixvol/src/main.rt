@@ -1,12 +1,12 @@
 //! Lists, reads, changes and makes disk images of Sixth and Seventh Edition Unix.
 #![tactic(auto)]
 
+mod changes;
 mod commands;
 mod copying;
-mod editing;
 mod explaining;
 mod host;
-mod looking;
+mod looks;
 mod meanings;
 mod reading;
 mod saving;
@@ -22,8 +22,8 @@ use std::rt::Clock;
 use std::time::{SystemTime, UNIX_EPOCH};
 
 /// Reads the words of the command line, and goes on in one of five functions: only what several threads do may wait, what looks at an
-/// image may print something and fail, only what makes several calls reads standard input, and only what copies files of a volume to the
-/// host saves several files.
+/// image may print something and fail, only a change reads standard input, and only what copies files of a volume to the host saves
+/// several files.
 fn main(rt: HostRuntime) -> ExitCode {
     let words = match words::words(&rt) {
         Ok(words) => words,
@@ -37,28 +37,28 @@ fn main(rt: HostRuntime) -> ExitCode {
         explains: command_line::asks_to_explain(words.as_slice()),
     };
     match command_line::read(rt.alloc(), moment(&rt), words.as_slice()) {
-        Ok(Invocation::OnThreads { volume, work }) => {
+        Ok(Invocation::Work { volume, work }) => {
             threads::run_to_end(&host, rt.stdout(), rt.stderr(), volume, work)
         }
-        Ok(Invocation::OnImage { volume, look }) => {
+        Ok(Invocation::Look { volume, look }) => {
             let output = rt.stdout();
-            let screen = looking::screen(&rt, output.is_terminal());
-            looking::run_to_end(&host, screen, output, rt.stderr(), volume, look)
+            let screen = looks::screen(&rt, output.is_terminal());
+            looks::run_to_end(&host, screen, output, rt.stderr(), volume, look)
         }
-        Ok(Invocation::OnTree { volume, edit }) => {
+        Ok(Invocation::Change { volume, change }) => {
             let input = rt.stdin();
             let is_terminal = input.is_terminal();
-            editing::run_to_end(
+            changes::run_to_end(
                 &host,
                 input,
                 is_terminal,
                 rt.stdout(),
                 rt.stderr(),
                 volume,
-                edit,
+                change,
             )
         }
-        Ok(Invocation::OnFiles { volume, copying }) => {
+        Ok(Invocation::Copy { volume, copying }) => {
             copying::run_to_end(&host, rt.stdout(), rt.stderr(), volume, copying)
         }
         read => commands::run_to_end(&host, rt.stdout(), rt.stderr(), read),

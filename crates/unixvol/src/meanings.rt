@@ -1,10 +1,10 @@
 //! What faults mean, in words.
 
 use crate::subject::{About, Subject};
+use command_faults::Fault;
 use command_words::Verb;
 use escaped_text::push_escaped;
 use std::alloc::{AllocError, Global};
-use vol_commands::Fault;
 use vol_dir::Refusal;
 use vol_findings::Rule;
 

@@ -5,11 +5,12 @@ ghost use Rattle.host_files.specs.Saving.{IsTaken, Saves};
 
 use crate::explaining::{Named, explain_no_memory, explain_unwritten};
 use crate::host::Host;
+use command_changes::Made;
+use command_faults::Answer;
+use command_faults::status::BAD_FILE;
 use host_files::{Content, ImageFiles, Kind, OpenFault, Stamp, open_image, save_file};
 use std::io;
 use std::rt::Clock;
-use vol_commands::status::BAD_FILE;
-use vol_commands::{Answer, Made};
 
 /// What is told of a file that holds the volume out of which another file is made.
 const OLD_VOLUME: &str = "it holds the volume that was read, which is kept";

@@ -1,11 +1,10 @@
 //! What a command is about.
 
+use command_changes::Change;
 use command_line::{Copying, Invocation, Work};
+use command_reads::Look;
 use command_words::Verb;
-use image_commands::Look;
-use tree_commands::Edit;
 use vol_check::Checker;
-use vol_commands::Job;
 
 /// What a command is about: what the second line of a fault names.
 #[derive(Clone, Copy)]
@@ -46,6 +45,11 @@ impl<'a> Subject<'a> {
     /// tells its faults itself.
     fn of_plain(invocation: &Invocation<'a>) -> Option<Subject<'a>> {
         match invocation {
+            Invocation::Get { volume, path } => Some(Subject {
+                verb: Verb::Get,
+                image: volume.image,
+                about: About::Path(path),
+            }),
             Invocation::Mkfs { image, .. } => Some(Subject {
                 verb: Verb::Mkfs,
                 image,
@@ -56,7 +60,6 @@ impl<'a> Subject<'a> {
                 image: old,
                 about: About::Path(new),
             }),
-            Invocation::OnVolume { volume, job } => Some(Subject::of_job(volume.image, *job)),
             _ => None,
         }
     }
@@ -68,22 +71,6 @@ impl<'a> Subject<'a> {
             image,
             about: About::Inode(ino),
         }
-    }
-
-    /// A job with the volume in a file is about this.
-    fn of_job(image: &'a str, job: Job<'a>) -> Subject<'a> {
-        let (verb, about) = match job {
-            Job::Get { path } => (Verb::Get, About::Path(path)),
-            Job::Put { path, .. } => (Verb::Put, About::Path(path)),
-            Job::Rm { path, .. } => (Verb::Rm, About::Path(path)),
-            Job::Rmdir { path, .. } => (Verb::Rmdir, About::Path(path)),
-            Job::Mkdir { path, .. } => (Verb::Mkdir, About::Path(path)),
-            Job::Ln { from, to, .. } => (Verb::Ln, About::Names { from, to }),
-            Job::Chmod { path, .. } => (Verb::Chmod, About::Path(path)),
-            Job::Chown { path, .. } => (Verb::Chown, About::Path(path)),
-            Job::Salvage => (Verb::Salvage, About::Image),
-        };
-        Subject { verb, image, about }
     }
 
     /// A look at the image in a file is about this.
@@ -99,13 +86,21 @@ impl<'a> Subject<'a> {
         Subject { verb, image, about }
     }
 
-    /// A change of the volume in a file by several calls is about this.
-    pub fn of_edit(image: &'a str, edit: Edit<'a>) -> Subject<'a> {
-        let (verb, about) = match edit {
-            Edit::Import { path, .. } => (Verb::Import, About::Path(path)),
-            Edit::MkdirAll { path, .. } => (Verb::Mkdir, About::Path(path)),
-            Edit::Move { from, to, .. } => (Verb::Mv, About::Names { from, to }),
-            Edit::RmAll { path, .. } => (Verb::Rm, About::Path(path)),
+    /// A change of the volume in a file is about this.
+    pub fn of_change(image: &'a str, change: Change<'a>) -> Subject<'a> {
+        let (verb, about) = match change {
+            Change::Put { path, .. } => (Verb::Put, About::Path(path)),
+            Change::Import { path, .. } => (Verb::Import, About::Path(path)),
+            Change::Rm { path, .. } => (Verb::Rm, About::Path(path)),
+            Change::RmAll { path, .. } => (Verb::Rm, About::Path(path)),
+            Change::Rmdir { path, .. } => (Verb::Rmdir, About::Path(path)),
+            Change::Mkdir { path, .. } => (Verb::Mkdir, About::Path(path)),
+            Change::MkdirAll { path, .. } => (Verb::Mkdir, About::Path(path)),
+            Change::Ln { from, to, .. } => (Verb::Ln, About::Names { from, to }),
+            Change::Mv { from, to, .. } => (Verb::Mv, About::Names { from, to }),
+            Change::Chmod { path, .. } => (Verb::Chmod, About::Path(path)),
+            Change::Chown { path, .. } => (Verb::Chown, About::Path(path)),
+            Change::Salvage => (Verb::Salvage, About::Image),
         };
         Subject { verb, image, about }
     }

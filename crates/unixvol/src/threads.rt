@@ -2,8 +2,7 @@
 ghost use Rattle.std.specs.Prelude.{◌≡◌, ◌⊎◌, ◌≤◌, length};
 ghost use Rattle.std.specs.Process.{exit_status};
 ghost use Rattle.command_words.specs.Asking.{IsWorkable};
-ghost use Rattle.vol_commands.specs.Faults.{ErrorStream, Hears};
-ghost use Rattle.vol_commands.specs.Jobs.{streams};
+ghost use Rattle.command_faults.specs.Streams.{ErrorStream, Hears, streams};
 ghost use Rattle.unixvol.specs.Running.{IsEnd, RunsCheck, RunsPlay, RunsWork, WorksToEnd, host_files};
 
 use crate::explaining::{finish_printed, tell_fault};
@@ -11,7 +10,9 @@ use crate::host::Host;
 use crate::reading::{ReadFile, read_file, read_files, read_image};
 use crate::saving::save_played;
 use crate::subject::Subject;
+use command_faults::Ending;
 use command_line::{VolumeFile, Work};
+use command_reads::checkers;
 use host_files::{ImageFiles, noted_writer};
 use pdp_words::{IntoWrite, Sink};
 use std::fs::Files;
@@ -21,7 +22,6 @@ use std::rt::Clock;
 use std::sync::Wait;
 use std::thread::Threads;
 use vol_check::{Checker, Open};
-use vol_commands::{Ending, checking};
 
 /// Does with the volume in a file what several threads are asked for, and answers how the program ends. What it prints goes
 /// to `output`, which is standard output; a fault is one line on standard error. `errors` writes to standard error too.
@@ -90,7 +90,7 @@ fn run_check<R: ImageFiles + Eprint + AllocGlobal + Threads + Wait + Sync, O: Si
             };
         }
     };
-    checking::perform(
+    checkers::perform(
         host.rt,
         host.rt.alloc(),
         volume.edition,

@@ -9,16 +9,16 @@ use Rattle.vol_volume.specs.Volume.{Mounted, IsConsistent, mounted}
 use Rattle.vol_receipts.specs.Agrees.{origin_of, Agrees}
 use Rattle.vol_shared.specs.Lists.{BeginsWith, greatest, greatest_of}
 use Rattle.vol_shared.specs.Stored.{Stored, stored_of, next_number, Continues}
-use Rattle.vol_commands.specs.Faults.{IsCause, fault_line, fault_status}
-use Rattle.vol_commands.specs.Jobs.{Streams}
+use Rattle.command_faults.specs.Faults.{IsCause, fault_line, fault_status}
+use Rattle.command_faults.specs.Streams.{Streams}
 use Rattle.vol_scripts.specs.Ending.{Finishes, PrintsPlay, receipts_in}
 use Rattle.vol_scripts.specs.Reading.{ReadsScripts, scripts_in}
 use Rattle.vol_scripts.specs.Refusing.{AnswersFault, SavesNothing}
 use Rattle.vol_play.specs.Players.{InPairs}
 use Rattle.vol_play.specs.Steps.{CameOfScript, is_seen, places_made, cuts_made}
 use Rattle.vol_layout.specs.declared.edition.Edition.{Edition}
-use Rattle.vol_commands.specs.declared.answer.Answer.{Answer}
-use Rattle.vol_commands.specs.declared.faults.Fault.{Fault}
+use Rattle.command_faults.specs.declared.answer.Answer.{Answer}
+use Rattle.command_faults.specs.declared.fault.Fault.{Fault}
 use Rattle.vol_scripts.specs.declared.played.Played.{Played}
 use Rattle.vol_scripts.specs.declared.reading.ScriptsFault.{ScriptsFault}
 use Rattle.vol_scripts.specs.declared.steps.Script.{Script}

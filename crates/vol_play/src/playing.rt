@@ -1,19 +1,18 @@
 //! The command `play`: from the bytes of an image and of scripts to what is printed, the status and the bytes to be saved.
 ghost use Rattle.std.specs.Prelude.{◌≡◌, ◌≤◌, IfOk, IfErr, count_by, length};
 ghost use Rattle.std.specs.List.{list_any};
-ghost use Rattle.vol_commands.specs.Faults.{heard, ErrorStream, Hears};
-ghost use Rattle.vol_commands.specs.Jobs.{streams};
+ghost use Rattle.command_faults.specs.Streams.{heard, ErrorStream, Hears, streams};
 ghost use Rattle.vol_play.specs.Players.{is_view};
 ghost use Rattle.vol_play.specs.Playing.{PlaysVolume, IsPlayed, IsUnplayed, any_cut, script_cuts, is_cut};
 
 use crate::performing::play_on;
+use command_faults::answer::{report, tell};
+use command_faults::{Answer, Fault};
 use pdp_words::Sink;
 use std::alloc::Global;
 use std::sync::Wait;
 use std::thread::Threads;
 use vol_check::Gate;
-use vol_commands::answer::{report, tell};
-use vol_commands::{Answer, Fault};
 use vol_layout::Edition;
 use vol_scripts::{Played, Script, Step, finish, read_scripts, refuse};
 use vol_shared::{MOST_SESSIONS, MOST_VIEWS};

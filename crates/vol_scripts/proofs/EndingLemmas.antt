@@ -1,7 +1,8 @@
 -- How a play ends.
 use Rattle.std.proofs.Common.{◌≡◌, ◌⊎◌, ℕ, List, [], Option, Some, None, Result, Ok, Err, IfOk, IfErr, inl, inr, sym, subst}
-use Rattle.vol_commands.specs.Faults.{ErrorStream, Hears, fault_line, fault_status, says}
-use Rattle.vol_commands.specs.declared.faults.Fault.{Fault}
+use Rattle.command_faults.specs.Streams.{ErrorStream, Hears, says}
+use Rattle.command_faults.specs.Faults.{fault_line, fault_status}
+use Rattle.command_faults.specs.declared.fault.Fault.{Fault}
 
 -- what was printed has its status, and a fault its status and its line
 pub ends : (printed : Result ℕ Fault → Type 0) (errors : ErrorStream) (outcome : Result ℕ Fault) (status : ℕ) (fault : Option Fault) → printed outcome

@@ -3,10 +3,10 @@ use Rattle.std.specs.Prelude.{◌≡◌, ◌⊎◌, ℕ, ◌+◌, ◌++◌, Bool
 use Rattle.std.specs.Global.{Global}
 use Rattle.std.specs.Io.KnownBytes.{Appends, Keeps}
 use Rattle.pdp_words.specs.Devices.{AppendsFront}
-use Rattle.vol_commands.specs.Faults.{fault_status, fault_line, no_memory}
-use Rattle.vol_commands.specs.declared.answer.Answer.{Answer}
-use Rattle.vol_commands.specs.declared.faults.Fault.{Fault}
-use Rattle.vol_commands.specs.declared.faults.Fault.TheVariants as faults
+use Rattle.command_faults.specs.Faults.{fault_status, fault_line, no_memory}
+use Rattle.command_faults.specs.declared.answer.Answer.{Answer}
+use Rattle.command_faults.specs.declared.fault.Fault.{Fault}
+use Rattle.command_faults.specs.declared.fault.Fault.TheVariants as faults
 use Rattle.vol_receipts.specs.Agrees.{origin_of}
 use Rattle.vol_receipts.specs.Findings.{AreCounted}
 use Rattle.vol_receipts.specs.declared.finding.Confirmed.{Confirmed}

@@ -1,7 +1,7 @@
 -- What is answered where scripts can't be read.
 use Rattle.std.specs.Prelude.{◌≡◌, ◌⊎◌, ℕ, ◌++◌, List, None, codes, decimal}
-use Rattle.vol_commands.specs.Faults.{fault_line, no_memory}
-use Rattle.vol_commands.specs.declared.answer.Answer.{Answer}
+use Rattle.command_faults.specs.Faults.{fault_line, no_memory}
+use Rattle.command_faults.specs.declared.answer.Answer.{Answer}
 use Rattle.vol_scripts.specs.declared.reading.ScriptsFault.{ScriptsFault}
 use Rattle.vol_scripts.specs.declared.reading.ScriptsFault.TheVariants as faults
 

@@ -7,7 +7,6 @@ use crate::lines::LineFault;
 use crate::numbers::{bytes_in, long_in, permissions_in, short_in};
 use crate::pieces::Pieces;
 use std::alloc::Global;
-use vol_commands::mounting::copy;
 use vol_dir::Cred;
 use vol_volume::Bytes;
 
@@ -64,7 +63,7 @@ pub(crate) fn path_alone(alloc: Global, words: Pieces<'_>) -> Result<Bytes, Line
     ensures { Reads (one_of words.entry) result }
 {
     let path = one_of(words).ok_or(LineFault::Unreadable)?;
-    Ok(copy(alloc, path)?)
+    Ok(Bytes::from_slice(alloc, path)?)
 }
 
 /// `FROM TO`.
@@ -72,7 +71,10 @@ pub(crate) fn two_paths(alloc: Global, words: Pieces<'_>) -> Result<(Bytes, Byte
     ensures { Reads (two_of words.entry) result }
 {
     let (source, target) = two_of(words).ok_or(LineFault::Unreadable)?;
-    Ok((copy(alloc, source)?, copy(alloc, target)?))
+    Ok((
+        Bytes::from_slice(alloc, source)?,
+        Bytes::from_slice(alloc, target)?,
+    ))
 }
 
 /// `PATH PERM`.
@@ -84,7 +86,7 @@ pub(crate) fn path_and_permissions(
 {
     let (path, permissions) = two_of(words).ok_or(LineFault::Unreadable)?;
     let permissions = permissions_in(permissions).ok_or(LineFault::Unreadable)?;
-    Ok((copy(alloc, path)?, permissions))
+    Ok((Bytes::from_slice(alloc, path)?, permissions))
 }
 
 /// `PATH LENGTH`.
@@ -93,7 +95,7 @@ pub(crate) fn path_and_length(alloc: Global, words: Pieces<'_>) -> Result<(Bytes
 {
     let (path, length) = two_of(words).ok_or(LineFault::Unreadable)?;
     let length = long_in(length).ok_or(LineFault::Unreadable)?;
-    Ok((copy(alloc, path)?, length))
+    Ok((Bytes::from_slice(alloc, path)?, length))
 }
 
 /// `PATH UID GID`.
@@ -102,7 +104,7 @@ pub(crate) fn path_and_owner(alloc: Global, words: Pieces<'_>) -> Result<(Bytes,
 {
     let (path, uid, gid) = three_of(words).ok_or(LineFault::Unreadable)?;
     let owner = cred_in(uid, gid).ok_or(LineFault::Unreadable)?;
-    Ok((copy(alloc, path)?, owner))
+    Ok((Bytes::from_slice(alloc, path)?, owner))
 }
 
 /// `PATH OFFSET HEX`.
@@ -115,7 +117,7 @@ pub(crate) fn path_and_bytes(
     let (path, offset, bytes) = three_of(words).ok_or(LineFault::Unreadable)?;
     let offset = long_in(offset).ok_or(LineFault::Unreadable)?;
     let bytes = bytes_in(alloc, bytes)?;
-    Ok((copy(alloc, path)?, offset, bytes))
+    Ok((Bytes::from_slice(alloc, path)?, offset, bytes))
 }
 
 /// `PATH OFFSET LEN`.
@@ -128,5 +130,5 @@ pub(crate) fn path_and_range(
     let (path, offset, len) = three_of(words).ok_or(LineFault::Unreadable)?;
     let offset = long_in(offset).ok_or(LineFault::Unreadable)?;
     let len = long_in(len).ok_or(LineFault::Unreadable)?;
-    Ok((copy(alloc, path)?, offset, len))
+    Ok((Bytes::from_slice(alloc, path)?, offset, len))
 }

@@ -2,15 +2,16 @@
 //! are to be saved.
 ghost use Rattle.std.specs.Prelude.{◌≡◌, ◌++◌, IfOk, IfErr, None, OnOk, Some, count_by, nat_lt};
 ghost use Rattle.std.specs.String.{string_bytes};
-ghost use Rattle.vol_commands.specs.Faults.{fault_status, says, ErrorStream, Hears};
+ghost use Rattle.command_faults.specs.Faults.{fault_status};
+ghost use Rattle.command_faults.specs.Streams.{says, ErrorStream, Hears};
 ghost use Rattle.vol_scripts.specs.Ending.{AreConfirmed, Finishes, PrintsPlay, Reports, all_receipts, receipts_in, script_status, scripts_status, scripts_text, step_status};
 
 use crate::played::Played;
 use crate::report::{push_lines, push_totals};
+use command_faults::status::{DONE, NO_MEMORY, REFUSED};
+use command_faults::{Answer, Ending, Fault};
 use pdp_words::{Sink, write_all};
 use std::alloc::{AllocError, Global};
-use vol_commands::status::{DONE, NO_MEMORY, REFUSED};
-use vol_commands::{Answer, Ending, Fault};
 use vol_receipts::{Confirmed, Outcome, Receipt, confirm_all};
 use vol_volume::Volume;
 

@@ -1,13 +1,13 @@
 //! What is answered where scripts can't be read.
 ghost use Rattle.std.specs.Prelude.{◌≡◌, IfOk};
 ghost use Rattle.std.specs.String.{string_bytes};
-ghost use Rattle.vol_commands.specs.Faults.{says, ErrorStream, Hears};
+ghost use Rattle.command_faults.specs.Streams.{says, ErrorStream, Hears};
 ghost use Rattle.vol_scripts.specs.Refusing.{AnswersFault, unread_text};
 
 use crate::reading::ScriptsFault;
+use command_faults::answer::report;
+use command_faults::{Answer, Fault};
 use std::alloc::{AllocError, Global};
-use vol_commands::answer::report;
-use vol_commands::{Answer, Fault};
 use vol_dir::Refusal;
 
 /// The answer of a play whose scripts weren't read: nothing is to be saved, and the fault is the first line

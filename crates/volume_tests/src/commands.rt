@@ -1,10 +1,10 @@
-// Jobs that no command of the program asks for.
+// Changes that no command of the program asks for.
 use crate::fixtures::{Piece, check_bytes, check_whole, new_bytes, put};
+use command_changes::{Change, do_change};
 use pdp_words::IntoWrite;
 use pdp_words::testing::ScriptedWriter;
 use std::alloc::Global;
 use std::process::Abort;
-use vol_commands::{Job, do_job};
 use vol_layout::Edition;
 
 /// The entry and the i-node of an empty file `hello` in the root of a new volume of the sixth edition, which is then longer.
@@ -14,8 +14,8 @@ static PIECES: [Piece; 3] = [
     (2080, b"\x02\x00hello"),
 ];
 
-/// Does a job with the volume that has the file, and compares what it writes to standard error and the volume that is to be saved, if one is.
-fn check(rt: &impl Abort, alloc: Global, job: Job<'_>, line: &[u8], mode: Option<&[u8]>) {
+/// Makes a change of the volume that has the file, and compares what it writes to standard error and the volume that is to be saved, if one is.
+fn check(rt: &impl Abort, alloc: Global, change: Change<'_>, line: &[u8], mode: Option<&[u8]>) {
     let mut image = new_bytes(rt, alloc, Edition::V6, 20, 2);
     for (at, piece) in &PIECES {
         put(&mut image, *at, piece);
@@ -23,12 +23,12 @@ fn check(rt: &impl Abort, alloc: Global, job: Job<'_>, line: &[u8], mode: Option
     let mut output = IntoWrite::new(ScriptedWriter::new(alloc, 100));
     let mut errors = IntoWrite::new(ScriptedWriter::new(alloc, 7));
     let file = Vec::new(alloc);
-    let answer = do_job(
+    let answer = do_change(
         alloc,
         Edition::V6,
         image,
         file,
-        job,
+        change,
         &mut output,
         &mut errors,
     );
@@ -43,10 +43,10 @@ fn check(rt: &impl Abort, alloc: Global, job: Job<'_>, line: &[u8], mode: Option
 
 #[test]
 fn only_twelve_bits_are_permissions(rt: HostRuntime) {
-    let job = Job::Chmod {
+    let change = Change::Chmod {
         path: "/hello",
         perm: 0o10000,
         now: 1,
     };
-    check(&rt, rt.alloc(), job, b"", Some(b"\x00\x80\x01"));
+    check(&rt, rt.alloc(), change, b"", Some(b"\x00\x80\x01"));
 }

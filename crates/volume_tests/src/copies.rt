@@ -1,10 +1,11 @@
 //! Lists of files that a command line can't give: of no file, and of two of one name.
 use crate::trees::{EDITIONS, NOW, grown};
+use command_changes::{NewFile, put_all};
+use command_reads::get_all;
 use pdp_words::IntoWrite;
 use pdp_words::testing::ScriptedWriter;
 use std::alloc::Global;
 use std::process::Abort;
-use tree_commands::{NewFile, get_all, put_all};
 use vol_layout::Edition;
 
 /// A writer that has taken nothing.

@@ -2,6 +2,7 @@
 ghost use Rattle.std.specs.Prelude.{◌<◌};
 
 use crate::fixtures::{Piece, check_whole, with_pieces};
+use command_reads::cat::{CatFault, cat};
 use pdp_words::testing::{ScriptedReader, ScriptedWriter, WriteMishap};
 use pdp_words::{
     FromRead, Image, IntoWrite, LoadFault, SaveFault, Sink, Source, load, load_with_capacity, save,
@@ -11,7 +12,6 @@ use std::alloc::Global;
 use std::fmt::Display;
 use std::io::{ErrorKind, Write};
 use std::process::Abort;
-use vol_commands::cat::{CatFault, cat};
 use vol_layout::Edition;
 
 /// So many bytes, which come again after 251.

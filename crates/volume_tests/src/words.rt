@@ -1,9 +1,9 @@
 // What no run of the program shows of the words of a command line: numbers of threads, and moments where the clock tells another one or none.
+use command_changes::Change;
 use command_line::{Invocation, VolumeFile, Work, asks_to_explain, read};
 use std::alloc::{AllocError, Global};
 use std::process::Abort;
 use vol_check::Checker;
-use vol_commands::Job;
 use vol_layout::Edition;
 
 /// The volume of each row.
@@ -122,9 +122,9 @@ fn most_commands_need_no_clock(rt: HostRuntime) {
 #[test]
 fn moments_are_given_or_the_clocks(rt: HostRuntime) {
     for &(rest, clock, now) in &MOMENTS {
-        let wanted = Invocation::OnVolume {
+        let wanted = Invocation::Change {
             volume: VOLUME,
-            job: Job::Rm { path: "/f", now },
+            change: Change::Rm { path: "/f", now },
         };
         check(&rt, rt.alloc(), clock, rest, wanted);
     }
@@ -147,7 +147,7 @@ fn a_moment_is_given_or_told(rt: HostRuntime) {
 #[test]
 fn numbers_of_threads_are_read(rt: HostRuntime) {
     for &(rest, checker, workers) in &CHECKERS {
-        let wanted = Invocation::OnThreads {
+        let wanted = Invocation::Work {
             volume: VOLUME,
             work: Work::Check { checker, workers },
         };

@@ -1,7 +1,7 @@
 use Rattle.unixvol.proofs.commands.carry_out.Goals as goal
 
-pub returns-in-OnVolume-clause-runs : goal.returns-in-OnVolume-clause-runs
-returns-in-OnVolume-clause-runs g c errors hears = rw c.in-OnVolume.is (c.run_job.ensures.runs errors hears)
+pub returns-in-Get-clause-runs : goal.returns-in-Get-clause-runs
+returns-in-Get-clause-runs g c errors hears = rw c.in-Get.is (c.run_get.ensures.runs errors hears)
 
 pub returns-in-Mkfs-clause-runs : goal.returns-in-Mkfs-clause-runs
 returns-in-Mkfs-clause-runs g c errors hears =
@@ -27,8 +27,8 @@ returns-in-Cat-clause-ends g c errors hears =
       whole = λ e. (c.run_cat.ensures.whole e, hears);
     }
 
-pub returns-in-OnVolume-clause-ends : goal.returns-in-OnVolume-clause-ends
-returns-in-OnVolume-clause-ends g c errors hears = c.run_job.ensures.ends errors hears
+pub returns-in-Get-clause-ends : goal.returns-in-Get-clause-ends
+returns-in-Get-clause-ends g c errors hears = c.run_get.ensures.ends errors hears
 
 pub returns-in-Migrate-clause-ends : goal.returns-in-Migrate-clause-ends
 returns-in-Migrate-clause-ends g c errors hears = c.run_migrate.ensures.ends (g.O.Sink.contents c.args.output.now) (g.O.Sink.failed c.args.output.now) errors hears

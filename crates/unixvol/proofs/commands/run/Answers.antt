@@ -1,4 +1,4 @@
-use Rattle.vol_commands.specs.Jobs.{streams}
+use Rattle.command_faults.specs.Streams.{streams}
 use Rattle.unixvol.specs.Running.{host_files}
 use Rattle.unixvol.proofs.Asked.{refusal_runs}
 use Rattle.unixvol.proofs.commands.run.Goals as goal

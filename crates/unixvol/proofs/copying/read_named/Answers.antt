@@ -1,6 +1,6 @@
 use Rattle.std.proofs.Common.{arith}
 use Rattle.std.proofs.lemmas.List.Elements.{All-push, All-same}
-use Rattle.tree_commands.specs.declared.putting.NewFile.{NewFile}
+use Rattle.command_changes.specs.declared.put.NewFile.{NewFile}
 use Rattle.unixvol.specs.Running.{GaveBytes}
 use Rattle.unixvol.proofs.Copied.{names_more}
 use Rattle.unixvol.proofs.copying.read_named.Goals as goal

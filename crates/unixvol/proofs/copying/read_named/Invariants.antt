@@ -1,5 +1,5 @@
 use Rattle.std.proofs.Common.{◌≡◌, All, map, take}
-use Rattle.tree_commands.specs.declared.putting.NewFile.{NewFile}
+use Rattle.command_changes.specs.declared.put.NewFile.{NewFile}
 use Rattle.unixvol.specs.Copying.{name_of}
 use Rattle.unixvol.specs.Running.{GaveBytes}
 use Rattle.unixvol.proofs.copying.read_named.Given as goal

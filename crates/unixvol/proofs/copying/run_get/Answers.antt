@@ -1,6 +1,6 @@
 use Rattle.std.proofs.Common.{inl, inr, refl}
 use Rattle.std.proofs.KnownBytes.{Keeps-refl}
-use Rattle.vol_commands.specs.Jobs.{still}
+use Rattle.command_faults.specs.Streams.{still}
 use Rattle.host_files.specs.Saving.{IsTaken}
 use Rattle.unixvol.proofs.Concluded.{ends_got, ends_unread}
 use Rattle.unixvol.proofs.copying.run_get.Goals as goal

@@ -1,6 +1,6 @@
 use Rattle.std.proofs.Common.{arith, inl, inr, refl}
 use Rattle.std.proofs.KnownBytes.{Keeps-refl}
-use Rattle.vol_commands.specs.Jobs.{still}
+use Rattle.command_faults.specs.Streams.{still}
 use Rattle.unixvol.proofs.Concluded.{ends_imported, ends_unread}
 use Rattle.unixvol.proofs.copying.run_put.Goals as goal
 

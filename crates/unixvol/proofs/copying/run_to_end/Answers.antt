@@ -1,7 +1,7 @@
 use Rattle.std.proofs.Common.{false, refl}
 use Rattle.std.specs.Process.{exit_status}
 use Rattle.pdp_words.specs.Adapters.{writer_in, has_write_failed}
-use Rattle.vol_commands.specs.Faults.{heard}
+use Rattle.command_faults.specs.Streams.{heard}
 use Rattle.unixvol.specs.Copying.{RunsCopy}
 use Rattle.unixvol.specs.Running.{Ends, host_files}
 use Rattle.unixvol.proofs.Begun.{begun, ended}

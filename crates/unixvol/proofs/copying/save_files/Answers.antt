@@ -1,7 +1,7 @@
 use Rattle.std.proofs.Common.{arith, inl, refl, subst}
 use Rattle.std.proofs.lemmas.List.{take_all}
 use Rattle.std.proofs.lemmas.List.Elements.{All-more}
-use Rattle.tree_commands.specs.declared.getting.FileRead.{FileRead}
+use Rattle.command_reads.specs.declared.get.FileRead.{FileRead}
 use Rattle.unixvol.specs.Copying.{AreSaved}
 use Rattle.host_files.specs.Saving.{IsTaken}
 use Rattle.unixvol.proofs.Copied.{saved_one}

@@ -1,5 +1,5 @@
 use Rattle.std.proofs.Common.{◌∙◌, Bool, arith, ap, inr, subst}
-use Rattle.vol_commands.specs.Faults.{says}
+use Rattle.command_faults.specs.Streams.{says}
 use Rattle.vol_scripts.specs.Ending.{Finishes, PrintsPlay}
 use Rattle.vol_play.specs.Playing.{any_cut}
 use Rattle.vol_play.proofs.ReadLaws.{read_many, read_views}

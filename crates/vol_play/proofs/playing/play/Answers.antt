@@ -1,4 +1,4 @@
-use Rattle.vol_commands.specs.Faults.{heard}
+use Rattle.command_faults.specs.Streams.{heard}
 use Rattle.vol_play.proofs.playing.play.Goals as goal
 
 pub returns : goal.returns

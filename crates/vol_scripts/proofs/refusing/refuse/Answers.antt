@@ -1,7 +1,7 @@
 use Rattle.std.proofs.Common.{Option, ℕ, ap, inl, subst, ◌∙◌}
 use Rattle.std.specs.Global.{Vec}
-use Rattle.vol_commands.specs.Faults.{Hears, says}
-use Rattle.vol_commands.specs.declared.faults.Fault.{Fault}
+use Rattle.command_faults.specs.Streams.{Hears, says}
+use Rattle.command_faults.specs.declared.fault.Fault.{Fault}
 use Rattle.vol_scripts.proofs.refusing.refuse.Goals as goal
 
 pub returns-in-Ok : goal.returns-in-Ok

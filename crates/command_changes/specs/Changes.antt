@@ -1,0 +1,64 @@
+-- What the changes of a volume come to.
+use Rattle.std.specs.Prelude.{◌≡◌, ℕ, List, [], ◌∷◌}
+use Rattle.std.specs.Io.KnownBytes.{Keeps}
+use Rattle.vol_dir.specs.Access.{user}
+use Rattle.vol_layout.specs.declared.edition.Edition.{Edition}
+use Rattle.vol_volume.specs.Volume.{reads_as}
+use Rattle.vol_volume.specs.declared.calls.Call.{Call}
+use Rattle.vol_volume.specs.declared.calls.Call.TheVariants as calls
+use Rattle.vol_import.specs.Making.{calls_to_make}
+use Rattle.command_faults.specs.Changing.{ChangesVolume}
+use Rattle.command_faults.specs.Streams.{Streams}
+use Rattle.command_faults.specs.declared.answer.Answer.{Answer}
+use Rattle.command_changes.specs.Import.{ImportsArchive}
+use Rattle.command_changes.specs.Mkdir.{mkdir_all_calls}
+use Rattle.command_changes.specs.Mv.{move_calls}
+use Rattle.command_changes.specs.Put.{put_calls}
+use Rattle.command_changes.specs.Rm.{RemovesTree}
+use Rattle.command_changes.specs.Salvage.{SalvagesVolume}
+use Rattle.command_changes.specs.declared.changes.Change.{Change}
+use Rattle.command_changes.specs.declared.changes.Change.TheVariants as changes
+
+-- calls are made, and standard output is as it was (this project)
+abbrev pub Calls : Edition → List ℕ → Streams → Answer → List Call → Type 0
+Calls edition image streams answer calls =
+    ChangesVolume edition image calls streams.said answer × Keeps streams.old streams.new × (streams.failed ≡ streams.had_failed)
+
+-- the free list is made anew, and standard output is as it was (this project)
+abbrev pub Salvages : Edition → List ℕ → Streams → Answer → Type 0
+Salvages edition image streams answer =
+    SalvagesVolume edition image streams.said answer × Keeps streams.old streams.new × (streams.failed ≡ streams.had_failed)
+
+-- an archive is imported below a path, and standard output is as it was (this project)
+abbrev pub ImportsBelow : Edition → List ℕ → List ℕ → Streams → Answer → List ℕ → ℕ → Type 0
+ImportsBelow edition image archive streams answer path now =
+    ImportsArchive edition image (calls_to_make (reads_as edition image).tree archive path now) streams.said answer
+    × Keeps streams.old streams.new
+    × (streams.failed ≡ streams.had_failed)
+
+-- what a path leads to is taken away, with all that is below it, and standard output is as it was (this project)
+abbrev pub RemovesBelow : Edition → List ℕ → Streams → Answer → List ℕ → ℕ → Type 0
+RemovesBelow edition image streams answer path now =
+    RemovesTree edition image path now streams.said answer × Keeps streams.old streams.new × (streams.failed ≡ streams.had_failed)
+
+-- what a change comes to, by the bytes that it is given: the calls that it stands for, all or none, or a new free list (this project)
+abbrev pub Changes : Edition → List ℕ → List ℕ → Streams → Answer → Change → Type 0
+Changes edition image given streams answer (changes.Put path file now) =
+    Calls edition image streams answer (put_calls (reads_as edition image).tree now path.now given)
+Changes edition image given streams answer (changes.Import path now) = ImportsBelow edition image given streams answer path.now now
+Changes edition image given streams answer (changes.Rm path now) = Calls edition image streams answer (calls.Unlink user now path.now ∷ [])
+Changes edition image given streams answer (changes.RmAll path now) = RemovesBelow edition image streams answer path.now now
+Changes edition image given streams answer (changes.Rmdir path now) = Calls edition image streams answer (calls.Rmdir user now path.now ∷ [])
+Changes edition image given streams answer (changes.Mkdir path now) =
+    Calls edition image streams answer (calls.Mkdir user now path.now 0o755 ∷ [])
+Changes edition image given streams answer (changes.MkdirAll path now) =
+    Calls edition image streams answer (mkdir_all_calls (reads_as edition image).tree now path.now)
+Changes edition image given streams answer (changes.Ln from to now) =
+    Calls edition image streams answer (calls.Link user now from.now to.now ∷ [])
+Changes edition image given streams answer (changes.Mv from to now) =
+    Calls edition image streams answer (move_calls (reads_as edition image).tree now from.now to.now)
+Changes edition image given streams answer (changes.Chmod path perm now) =
+    Calls edition image streams answer (calls.Chmod user now path.now perm ∷ [])
+Changes edition image given streams answer (changes.Chown path uid gid now) =
+    Calls edition image streams answer (calls.Chown user now path.now uid gid ∷ [])
+Changes edition image given streams answer changes.Salvage = Salvages edition image streams answer

@@ -1,0 +1,90 @@
+-- What is told of an archive that isn't imported.
+use Rattle.std.specs.Prelude.{ℕ, ◌++◌, List, codes, decimal}
+use Rattle.escaped_text.specs.Escaping.{escaped}
+use Rattle.ustar.specs.declared.reading.HeaderFault.{HeaderFault}
+use Rattle.ustar.specs.declared.reading.HeaderFault.TheVariants as headers
+use Rattle.vol_dir.specs.declared.refusal.Refusal.{Refusal}
+use Rattle.vol_dir.specs.declared.refusal.Refusal.TheVariants as refusals
+use Rattle.vol_volume.specs.declared.calls.Call.{Call}
+use Rattle.vol_volume.specs.declared.calls.Call.TheVariants as calls
+use Rattle.vol_import.specs.declared.checking.MemberFault.{MemberFault}
+use Rattle.vol_import.specs.declared.checking.MemberFault.TheVariants as members
+use Rattle.vol_import.specs.declared.faults.ArchiveFault.{ArchiveFault}
+use Rattle.vol_import.specs.declared.faults.ArchiveFault.TheVariants as archives
+use Rattle.vol_import.specs.declared.making.ImportFault.{ImportFault}
+use Rattle.vol_import.specs.declared.making.ImportFault.TheVariants as faults
+use Rattle.command_faults.specs.Faults.{line_of_refusal, line_of_rule, refusal_status}
+use Rattle.command_faults.specs.PathLines.{path_line}
+
+-- what is wrong with a block that is no header (POSIX, ustar interchange format)
+abbrev pub header_text : HeaderFault → List ℕ
+header_text headers.Magic = codes "no header of ustar"
+header_text headers.Checksum = codes "a header with a wrong checksum"
+header_text headers.Number = codes "a header with a field that is no number"
+
+-- the line of what is wrong at a byte of an archive (this project)
+abbrev pub line_at : ℕ → List ℕ → List ℕ
+line_at at text = (codes "unixvol: archive, byte " ++ (decimal at ++ codes ": ")) ++ text ++ codes "\n"
+
+-- the line of an archive that can't be read (this project)
+abbrev pub archive_line : ArchiveFault → List ℕ
+archive_line (archives.Truncated at) = line_at at (codes "cut off")
+archive_line (archives.LoneZeroBlock at) = line_at at (codes "a lone block of zeros")
+archive_line (archives.Header at fault) = line_at at (header_text fault)
+archive_line (archives.Records at) = line_at at (codes "records of pax that can't be read")
+archive_line (archives.Unsupported at) = line_at at (codes "records of pax that can't be followed")
+archive_line archives.NoMemory = line_of_refusal refusals.NoMemory
+
+-- why no calls make a member of an archive, in plain words (this project)
+abbrev pub cause_text : MemberFault → List ℕ
+cause_text members.Kind = codes "neither a file, a directory nor a hard link"
+cause_text members.LongName = codes "a name above 14 bytes"
+cause_text members.DotDot = codes "a name .."
+cause_text members.LongLink = codes "a link to a path with a name above 14 bytes"
+cause_text members.DotDotLink = codes "a link to a path with a name .."
+cause_text members.Owner = codes "an owner or a group above the edition's highest"
+
+-- the line of a member of an archive that no calls make (this project)
+abbrev pub member_line : List ℕ → MemberFault → List ℕ
+member_line path cause = codes "unixvol: " ++ escaped path ++ codes ": " ++ cause_text cause ++ codes "\n"
+
+-- the path of what a call makes or changes (this project)
+abbrev pub path_of : Call → List ℕ
+path_of (calls.Create cred now path perm) = path
+path_of (calls.Mkdir cred now path perm) = path
+path_of (calls.Link cred now source target) = target
+path_of (calls.Unlink cred now path) = path
+path_of (calls.Rmdir cred now path) = path
+path_of (calls.Write cred now path offset bytes) = path
+path_of (calls.Truncate cred now path size) = path
+path_of (calls.Chmod cred now path perm) = path
+path_of (calls.Chown cred now path uid gid) = path
+
+-- the line of a refused call: that of the refusal, with the call's path (this project)
+abbrev pub call_line : Refusal → Call → List ℕ
+call_line refusal call = path_line refusal (path_of call)
+
+-- the status that the program ends with where an archive can't be read: 1, or 4 for memory (this project)
+abbrev pub archive_status : ArchiveFault → ℕ
+archive_status (archives.Truncated at) = 1
+archive_status (archives.LoneZeroBlock at) = 1
+archive_status (archives.Header at fault) = 1
+archive_status (archives.Records at) = 1
+archive_status (archives.Unsupported at) = 1
+archive_status archives.NoMemory = 4
+
+-- the status that the program ends with where an archive isn't imported: 1, or 4 for memory (this project)
+abbrev pub import_status : ImportFault → ℕ
+import_status (faults.Unsound rule) = 1
+import_status (faults.Archive fault) = archive_status fault
+import_status (faults.Member path cause) = 1
+import_status (faults.Refused refusal call) = refusal_status refusal
+import_status faults.NoMemory = 4
+
+-- the line on standard error where an archive isn't imported (this project)
+abbrev pub import_line : ImportFault → List ℕ
+import_line (faults.Unsound rule) = line_of_rule rule
+import_line (faults.Archive fault) = archive_line fault
+import_line (faults.Member path cause) = member_line path cause
+import_line (faults.Refused refusal call) = call_line refusal call
+import_line faults.NoMemory = line_of_refusal refusals.NoMemory

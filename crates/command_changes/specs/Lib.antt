@@ -1,0 +1,11 @@
+pub mod Changes
+pub mod Finding
+pub mod Import
+pub mod ImportLines
+pub mod Migrate
+pub mod Mkdir
+pub mod Mkfs
+pub mod Mv
+pub mod Put
+pub mod Rm
+pub mod Salvage

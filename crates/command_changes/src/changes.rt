@@ -1,0 +1,70 @@
+//! What is done to a volume.
+
+/// What is done to a volume: all of it, or nothing. Paths lead on from the root, with `/` between their names; `now` is the moment of
+/// the calls, in seconds since the beginning of 1970.
+#[derive(Clone, Copy, Debug, PartialEq, Eq)]
+pub enum Change<'a> {
+    /// Put the bytes of the file `file`, which is outside the volume, into the file `path` of the volume.
+    Put {
+        path: &'a str,
+        file: &'a str,
+        now: u32,
+    },
+    /// Make the members of an archive below a path.
+    Import {
+        path: &'a str,
+        now: u32,
+    },
+    /// Remove a name.
+    Rm {
+        path: &'a str,
+        now: u32,
+    },
+    /// Remove what a path leads to, and of a directory all that is below it.
+    RmAll {
+        path: &'a str,
+        now: u32,
+    },
+    /// Remove an empty directory.
+    Rmdir {
+        path: &'a str,
+        now: u32,
+    },
+    /// Make a directory.
+    Mkdir {
+        path: &'a str,
+        now: u32,
+    },
+    /// Make a directory, and those on the way to it.
+    MkdirAll {
+        path: &'a str,
+        now: u32,
+    },
+    /// Give a file a further name.
+    Ln {
+        from: &'a str,
+        to: &'a str,
+        now: u32,
+    },
+    /// Give a file another name.
+    Mv {
+        from: &'a str,
+        to: &'a str,
+        now: u32,
+    },
+    /// Give a file or directory other permissions, of which the bits under octal 7777 count.
+    Chmod {
+        path: &'a str,
+        perm: u16,
+        now: u32,
+    },
+    /// Give a file or directory to another user and group.
+    Chown {
+        path: &'a str,
+        uid: u16,
+        gid: u16,
+        now: u32,
+    },
+    /// Make the free list anew, where it alone is wrong.
+    Salvage,
+}

@@ -1,0 +1,73 @@
+//! What paths lead to, their last names, and names in directories.
+ghost use Rattle.std.specs.Prelude.{◌≡◌, IfOk};
+ghost use Rattle.vol_volume.specs.Answer.{answer};
+ghost use Rattle.vol_volume.specs.Volume.{reads_as};
+ghost use Rattle.vol_volume.specs.declared.queries.Query.TheVariants as questions;
+ghost use Rattle.vol_import.specs.Plan.{below};
+ghost use Rattle.command_changes.specs.Finding.{found_kind, found_by, last_name};
+ghost use Rattle.vol_dir.specs.Access.{user};
+
+use std::alloc::{AllocError, Global};
+use vol_dir::{Cred, split_component};
+use vol_layout::Kind;
+use vol_volume::{Bytes, Query, Reply, Volume};
+
+/// What a path leads to.
+#[derive(Clone, Copy, Debug, PartialEq, Eq)]
+pub enum Found {
+    /// A directory.
+    Directory,
+    /// A file, which may be a special one.
+    File,
+    /// Nothing.
+    Nothing,
+}
+
+/// What a path of a volume leads to. Costs a walk.
+pub(crate) fn find(alloc: Global, volume: &Volume, path: &[u8]) -> Result<Found, AllocError>
+    ensures { IfOk result (λ found. found ≡ found_by (answer (reads_as volume.now.edition volume.now.image).tree (questions.Stat user path.now))) }
+{
+    let query = Query::Stat {
+        cred: Cred::ROOT,
+        path: Bytes::from_slice(alloc, path)?,
+    };
+    match volume.ask(alloc, &query) {
+        Ok(Reply::Stat(stat)) => Ok(found_kind(stat.kind)),
+        Ok(_) => Ok(Found::Nothing),
+        Err(_) => Ok(Found::Nothing),
+    }
+}
+
+/// What a node of some kind is.
+fn found_kind(kind: Kind) -> Found
+    ensures { result ≡ found_kind kind }
+{
+    match kind {
+        Kind::Directory => Found::Directory,
+        Kind::Regular | Kind::Special | Kind::Free | Kind::Odd => Found::File,
+    }
+}
+
+/// The last name of a path, cut to 14 bytes; none of a path without names.
+#[tactic(auto, unfolding(crate::specs::Finding::last_name))]
+pub(crate) fn last_name(path: &[u8]) -> &[u8]
+    ensures { result.now ≡ last_name path.now }
+{
+    let mut last: &[u8] = &path[..0];
+    let mut rest = path;
+    while let Some((name, after)) = split_component(rest) {
+        last = name;
+        rest = after;
+    }
+    last
+}
+
+/// The path of a name in a directory.
+pub(crate) fn name_in(alloc: Global, directory: &[u8], name: &[u8]) -> Result<Bytes, AllocError>
+    ensures { IfOk result (λ path. path ≡ below directory.now name.now) }
+{
+    let mut path = Vec::from_slice(alloc, directory)?;
+    path.push(b'/')?;
+    path.extend_from_slice(name)?;
+    Ok(Bytes::from_vec(path))
+}

@@ -1,0 +1,51 @@
+//! `import`: makes the members of an archive.
+ghost use Rattle.std.specs.Prelude.{◌≡◌, IfErr, IfOk, None, Some};
+ghost use Rattle.vol_volume.specs.Volume.{reads_as};
+ghost use Rattle.vol_import.specs.Making.{calls_to_make};
+ghost use Rattle.command_faults.specs.Faults.{line_after};
+ghost use Rattle.command_faults.specs.Streams.{says, ErrorStream, Hears};
+ghost use Rattle.command_changes.specs.Import.{ImportsArchive, TellsFault};
+
+use crate::import_lines::fault_of;
+use command_faults::Answer;
+use command_faults::answer::report;
+use command_faults::status::DONE;
+use std::alloc::Global;
+use vol_import::{ImportFault, import};
+use vol_layout::Edition;
+
+/// Makes the members of an archive below a path of a volume, all or none. Nothing is to be saved where the image isn't sound, the
+/// archive can't be read, a member can't be made, or a call is refused: the fault tells the first of these that comes, with the rule,
+/// the byte of the archive, or the path, whose bytes are escaped that a terminal can't show.
+///
+/// Takes memory as [`vol_import::import`] does, and for the line.
+pub(crate) fn import_archive(
+    alloc: Global,
+    edition: Edition,
+    image: Vec<u8>,
+    archive: &[u8],
+    path: &str,
+    now: u32,
+) -> Answer
+    ensures { (errors : ErrorStream) → Hears errors result.fault
+        → ImportsArchive edition image.items (calls_to_make (reads_as edition image.items).tree archive.now path.now now) (says errors) result }
+{
+    let outcome = import(alloc, edition, image, archive, path.as_bytes(), now);
+    conclude(alloc, outcome)
+}
+
+/// The answer where all members were made, whose bytes are to be saved, or where there was a fault.
+pub(crate) fn conclude(alloc: Global, outcome: Result<Vec<u8>, ImportFault>) -> Answer
+    ensures made { IfOk outcome (λ bytes. (result.image ≡ Some bytes) × (result.status ≡ 0) × (result.fault ≡ None)) }
+    ensures fault { IfErr outcome (λ fault. (result.image ≡ None)
+        × TellsFault fault (λ line. line_after result.fault ≡ line) result.status) }
+{
+    match outcome {
+        Ok(bytes) => Answer {
+            status: DONE,
+            image: Some(bytes),
+            fault: None,
+        },
+        Err(why) => report(Err(fault_of(alloc, &why))),
+    }
+}

@@ -1,0 +1,26 @@
+//! Commands that save: what each makes of a volume, its status, its fault, and the bytes that are to be saved.
+#![tactic(auto)]
+
+mod calls;
+pub mod changes;
+pub mod changing;
+mod chmod;
+mod chown;
+pub mod finding;
+mod import;
+mod import_lines;
+mod ln;
+pub mod migrate;
+mod mkdir;
+pub mod mkfs;
+mod mv;
+pub mod put;
+mod rm;
+mod rmdir;
+mod salvage;
+
+pub use changes::Change;
+pub use changing::do_change;
+pub use migrate::{Migration, migrate_command};
+pub use mkfs::{Made, mkfs_command};
+pub use put::{NewFile, put_all};

@@ -1,0 +1,84 @@
+//! `migrate`: makes a volume of the seventh edition out of the one of the sixth in some bytes, and answers the bytes
+//! that are to be saved.
+ghost use Rattle.std.specs.Prelude.{◌≡◌, IfOk, IfErr};
+ghost use Rattle.std.specs.Io.KnownBytes.{Keeps};
+ghost use Rattle.command_faults.specs.Streams.{heard, says, ErrorStream, Hears};
+ghost use Rattle.command_changes.specs.Migrate.{IsObstacle, Migrates, MigratesVolume, unmigrated};
+
+use command_faults::Fault;
+use command_faults::answer::{Answer, conclude, tell};
+use pdp_words::Sink;
+use std::alloc::Global;
+use vol_dir::Refusal;
+use vol_layout::Edition;
+use vol_migrate::{MigrateFault, migrate};
+use vol_volume::Volume;
+
+/// What the volume is to be that `migrate` makes.
+#[derive(Clone, Copy, Debug, PartialEq, Eq)]
+pub struct Migration {
+    /// How many blocks of 512 bytes it has.
+    pub blocks: u32,
+    /// How many of them its i-list has.
+    pub list_blocks: u16,
+    /// The time of its super-block and of its i-nodes' last change, in seconds since the beginning of 1970.
+    pub now: u32,
+}
+
+/// Migrates a volume as [`migrate_image`] does, and writes the line of its fault to `errors`. Nothing goes to `_output`.
+pub fn migrate_command<O: Sink, E: Sink>(
+    alloc: Global,
+    image: Vec<u8>,
+    migration: Migration,
+    _output: &mut O,
+    errors: &mut E,
+) -> Answer
+    ensures migrated { MigratesVolume image.items migration (says (heard E.contents E.failed errors.old errors.new)) result }
+    ensures unprinted { Keeps (O.contents _output.old) (O.contents _output.new) }
+    ensures unused { O.failed _output.new ≡ O.failed _output.old }
+{
+    let answer = migrate_image(alloc, image, migration);
+    tell(&answer.fault, errors);
+    answer
+}
+
+/// `migrate`: makes a volume of the seventh edition that has the files of one of the sixth. There is one to be saved
+/// exactly if the status is 0. Else there is a fault: the least rule that the image breaks, or what
+/// [`migrate`] refuses of a sound one, with status 1; or memory that ran out, with status 4.
+///
+/// Takes memory for what [`Volume::mount`] and [`migrate`] take.
+pub fn migrate_image(alloc: Global, image: Vec<u8>, migration: Migration) -> Answer
+    ensures { (errors : ErrorStream) → Hears errors result.fault → MigratesVolume image.items migration (says errors) result }
+{
+    conclude(migrated(alloc, image, migration))
+}
+
+/// The bytes of a migrated volume.
+fn migrated(alloc: Global, image: Vec<u8>, migration: Migration) -> Result<Vec<u8>, Fault>
+    ensures migrated { IfOk result (λ bytes. Migrates image.items migration bytes.items) }
+    ensures fault { IfErr result (IsObstacle image.items migration) }
+{
+    let Migration {
+        blocks,
+        list_blocks,
+        now,
+    } = migration;
+    match Volume::mount(alloc, Edition::V6, image) {
+        Ok(volume) => migrate(alloc, &volume, blocks, list_blocks, now).map_err(unmigrated),
+        Err((fault, _)) => Err(Fault::from(fault)),
+    }
+}
+
+/// The fault of `migrate` that makes no volume for this reason.
+fn unmigrated(fault: MigrateFault) -> Fault
+    ensures { result ≡ unmigrated fault }
+{
+    match fault {
+        MigrateFault::Invalid => Fault::Refused(Refusal::Invalid),
+        MigrateFault::Bounds => Fault::Bounds,
+        MigrateFault::HasDevice => Fault::HasDevice,
+        MigrateFault::NoInode => Fault::Refused(Refusal::NoInode),
+        MigrateFault::NoSpace => Fault::Refused(Refusal::NoSpace),
+        MigrateFault::NoMemory => Fault::Refused(Refusal::NoMemory),
+    }
+}

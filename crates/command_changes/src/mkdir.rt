@@ -1,0 +1,138 @@
+//! `mkdir`: makes a directory; `mkdir -p`: makes it, and those on the way to it.
+ghost use Rattle.std.specs.Prelude.{◌≡◌, ◌<◌, ◌++◌, ◌∷◌, [], IfOk, IfErr, OnOk, length};
+ghost use Rattle.vol_volume.specs.Volume.{reads_as};
+ghost use Rattle.command_faults.specs.Changing.{Makes, IsReason, ChangesVolume};
+ghost use Rattle.command_faults.specs.Streams.{says, ErrorStream, Hears};
+ghost use Rattle.command_changes.specs.Mkdir.{ends_name, mkdir_call, mkdir_at, missing_calls, mkdir_all_calls};
+
+use crate::calls::{make_calls, push};
+use crate::finding::{Found, find, last_name};
+use command_faults::answer::conclude;
+use command_faults::mounting::mount;
+use command_faults::{Answer, Fault};
+use std::alloc::{AllocError, Global};
+use vol_dir::{Cred, is_dots};
+use vol_layout::Edition;
+use vol_volume::{Bytes, Call, Volume};
+
+/// Permissions of a new directory.
+const PERMISSIONS: u16 = 0o755;
+
+/// The call of `mkdir`.
+pub(crate) fn mkdir_call(alloc: Global, path: &[u8], now: u32) -> Result<Call, AllocError>
+    ensures { IfOk result (λ call. call ≡ mkdir_call now path.now) }
+{
+    Ok(Call::Mkdir {
+        cred: Cred::ROOT,
+        now,
+        path: Bytes::from_slice(alloc, path)?,
+        perm: PERMISSIONS,
+    })
+}
+
+/// `mkdir -p`: makes a directory with permissions 0755, and each on the way to it that is missing. Where it is there, no call is
+/// made, and the same bytes are to be saved. A file in its place is refused as Exists, and one on the way to it as NotDirectory.
+///
+/// Takes memory for a copy of the path for each of its names, and walks the path up to each.
+pub(crate) fn mkdir_all(
+    alloc: Global,
+    edition: Edition,
+    image: Vec<u8>,
+    path: &str,
+    now: u32,
+) -> Answer
+    ensures { (errors : ErrorStream) → Hears errors result.fault
+        → ChangesVolume edition image.items (mkdir_all_calls (reads_as edition image.items).tree now path.now) (says errors) result }
+{
+    conclude(make_directories(alloc, edition, image, path, now))
+}
+
+/// Makes the calls of `mkdir -p`.
+fn make_directories(
+    alloc: Global,
+    edition: Edition,
+    image: Vec<u8>,
+    path: &str,
+    now: u32,
+) -> Result<Vec<u8>, Fault>
+    ensures made { IfOk result (λ bytes. Makes edition image.items (mkdir_all_calls (reads_as edition image.items).tree now path.now) bytes.items) }
+    ensures fault { IfErr result (IsReason edition image.items (mkdir_all_calls (reads_as edition image.items).tree now path.now)) }
+{
+    let mut volume = mount(alloc, edition, image)?;
+    let calls = mkdir_all_calls(alloc, &volume, path.as_bytes(), now)?;
+    make_calls(alloc, &mut volume, calls)?;
+    Ok(volume.unmount())
+}
+
+/// The calls of `mkdir -p`.
+fn mkdir_all_calls(
+    alloc: Global,
+    volume: &Volume,
+    path: &[u8],
+    now: u32,
+) -> Result<Vec<Call>, AllocError>
+    ensures { IfOk result (λ calls. calls.items ≡ mkdir_all_calls (reads_as volume.now.edition volume.now.image).tree now path.now) }
+{
+    let mut calls = Vec::new(alloc);
+    match find(alloc, volume, path)? {
+        Found::Directory => {}
+        Found::File => push_mkdir(alloc, path, now, &mut calls)?,
+        Found::Nothing => push_missing(alloc, volume, path, now, &mut calls)?,
+    }
+    Ok(calls)
+}
+
+/// Appends the calls that make the missing directories of a path, each name's in turn.
+fn push_missing(
+    alloc: Global,
+    volume: &Volume,
+    path: &[u8],
+    now: u32,
+    calls: &mut Vec<Call>,
+) -> Result<(), AllocError>
+    ensures { OnOk result (calls.new.items ≡ calls.old.items ++ missing_calls (reads_as volume.now.edition volume.now.image).tree now path.now) }
+{
+    for k in 0..path.len() {
+        push_at(alloc, volume, path, k, now, calls)?;
+    }
+    Ok(())
+}
+
+/// Appends the call that makes the directory whose name ends at a byte of a path: none where no name ends there, where it is `.` or
+/// `..`, which every directory has, or where the path up to it leads to something.
+fn push_at(
+    alloc: Global,
+    volume: &Volume,
+    path: &[u8],
+    k: usize,
+    now: u32,
+    calls: &mut Vec<Call>,
+) -> Result<(), AllocError>
+    requires { k < length path.now }
+    ensures { OnOk result (calls.new.items ≡ calls.old.items ++ mkdir_at (reads_as volume.now.edition volume.now.image).tree now path.now k) }
+{
+    let front = &path[..k + 1];
+    if !ends_name(path, k) || is_dots(last_name(front)) {
+        return Ok(());
+    }
+    match find(alloc, volume, front)? {
+        Found::Nothing => push_mkdir(alloc, front, now, calls),
+        Found::Directory | Found::File => Ok(()),
+    }
+}
+
+/// Whether a name ends at a byte of a path: it is no slash, and the next, if there is one, is.
+fn ends_name(path: &[u8], k: usize) -> bool
+    requires { k < length path.now }
+    ensures { result ≡ ends_name path.now k }
+{
+    path[k] != b'/' && (k + 1 == path.len() || path[k + 1] == b'/')
+}
+
+/// Appends the call that makes a directory.
+fn push_mkdir(alloc: Global, path: &[u8], now: u32, calls: &mut Vec<Call>) -> Result<(), AllocError>
+    ensures { OnOk result (calls.new.items ≡ calls.old.items ++ mkdir_call now path.now ∷ []) }
+{
+    let call = mkdir_call(alloc, path, now)?;
+    push(calls, call)
+}

@@ -1,0 +1,92 @@
+-- Why a command fails: its status and its line; and what a command that makes bytes comes to.
+use Rattle.std.specs.Prelude.{◌≡◌, ◌↔◌, ℕ, ◌+◌, ◌/◌, ◌%◌, ◌++◌, ◌&&◌, true, nat_lt, if◌then◌else◌, List, [], ◌∷◌, Option, None, Some, IsNone, IsSome, IfSome, codes}
+use Rattle.vol_judge.specs.Sound.{IsSound, IsLeastBroken}
+use Rattle.vol_dir.specs.declared.refusal.Refusal.{Refusal}
+use Rattle.vol_dir.specs.declared.refusal.Refusal.TheVariants as refusals
+use Rattle.vol_layout.specs.declared.edition.Edition.{Edition}
+use Rattle.vol_volume.specs.declared.volume.MountFault.{MountFault}
+use Rattle.vol_volume.specs.declared.volume.MountFault.TheVariants as mounts
+use Rattle.command_faults.specs.declared.answer.Answer.{Answer}
+use Rattle.command_faults.specs.declared.fault.Fault.{Fault}
+use Rattle.command_faults.specs.declared.fault.Fault.TheVariants as faults
+
+-- the status of a refusal: 1, or 4 for memory (this project)
+abbrev pub refusal_status : Refusal → ℕ
+refusal_status refusals.NoMemory = 4
+refusal_status _ = 1
+
+-- the status that the program ends with at a fault: 1 for a refusal, 2 for a script, 3 for the output, 4 for memory (this project)
+abbrev pub fault_status : Fault → ℕ
+fault_status (faults.Unsound rule) = 1
+fault_status (faults.Refused refusal) = refusal_status refusal
+fault_status (faults.RefusedAt refusal line) = refusal_status refusal
+fault_status faults.Bounds = 1
+fault_status faults.HasDevice = 1
+fault_status (faults.BadLine script number line) = 2
+fault_status (faults.Worded rule lines) = 1
+fault_status faults.Output = 3
+
+-- the line of a refusal: its number and its name (this project)
+abbrev pub line_of_refusal : Refusal → List ℕ
+line_of_refusal refusals.NotOwner = codes "unixvol: 1 NotOwner\n"
+line_of_refusal refusals.NoEntry = codes "unixvol: 2 NoEntry\n"
+line_of_refusal refusals.NoMemory = codes "unixvol: 12 NoMemory\n"
+line_of_refusal refusals.Access = codes "unixvol: 13 Access\n"
+line_of_refusal refusals.Exists = codes "unixvol: 17 Exists\n"
+line_of_refusal refusals.NotDirectory = codes "unixvol: 20 NotDirectory\n"
+line_of_refusal refusals.IsDirectory = codes "unixvol: 21 IsDirectory\n"
+line_of_refusal refusals.Invalid = codes "unixvol: 22 Invalid\n"
+line_of_refusal refusals.TooBig = codes "unixvol: 27 TooBig\n"
+line_of_refusal refusals.NoSpace = codes "unixvol: 28 NoSpace\n"
+line_of_refusal refusals.TooManyLinks = codes "unixvol: 31 TooManyLinks\n"
+line_of_refusal refusals.NotEmpty = codes "unixvol: 101 NotEmpty\n"
+line_of_refusal refusals.NotRegular = codes "unixvol: 102 NotRegular\n"
+line_of_refusal refusals.NoInode = codes "unixvol: 103 NoInode\n"
+line_of_refusal refusals.BadId = codes "unixvol: 104 BadId\n"
+
+-- the digits of a number below 100 (this project)
+abbrev pub short_decimal : ℕ → List ℕ
+short_decimal n = if nat_lt n 10 then (48 + n) ∷ [] else (48 + n / 10) ∷ (48 + n % 10) ∷ []
+
+-- the line of a rule that an image breaks, one of the twelve (this project)
+abbrev pub line_of_rule : ℕ → List ℕ
+line_of_rule rule =
+    if nat_lt 0 rule && nat_lt rule 13 then codes "unixvol: unsound, rule " ++ short_decimal rule ++ codes "\n" else codes "unixvol: unsound\n"
+
+-- the line on standard error of a fault, or several (this project)
+abbrev pub fault_line : Fault → List ℕ
+fault_line (faults.Unsound rule) = line_of_rule rule
+fault_line (faults.Refused refusal) = line_of_refusal refusal
+fault_line (faults.RefusedAt refusal line) = line.items
+fault_line faults.Bounds = codes "unixvol: bounds\n"
+fault_line faults.HasDevice = codes "unixvol: 105 HasDevice\n"
+fault_line (faults.BadLine script number line) = line.items
+fault_line (faults.Worded rule lines) = lines.items
+fault_line faults.Output = codes "unixvol: cannot write -\n"
+
+-- the line of a fault, if there is one (this project)
+abbrev pub line_after : Option Fault → List ℕ
+line_after None = []
+line_after (Some fault) = fault_line fault
+
+-- the fault of a command that wants memory (this project)
+abbrev pub no_memory : Fault
+no_memory = faults.Refused refusals.NoMemory
+
+-- the fault of a command whose volume isn't mounted for this reason (this project)
+abbrev pub unmounted : MountFault → Fault
+unmounted (mounts.Unsound rule) = faults.Unsound rule
+unmounted mounts.NoMemory = no_memory
+
+-- a reason not to do what was asked: want of memory, the least rule that the image breaks, or a refusal of which this holds, of a sound image (this project)
+abbrev pub IsCause : Edition → List ℕ → (Refusal → Type 0) → Fault → Type 0
+IsCause edition image refused (faults.Unsound rule) = IsLeastBroken true edition image rule
+IsCause edition image refused (faults.Refused refusals.NoMemory) = Unit {0}
+IsCause edition image refused (faults.Refused refusal) = IsSound edition image × refused refusal
+IsCause edition image refused _ = ⊥
+
+-- what a command that makes bytes comes to: bytes of which this holds are to be saved, with status 0 and no line; or there are the status and the line of a reason (this project)
+pub record Concludes (makes : List ℕ → Type 0) (is_reason : Fault → Type 0) (said : List ℕ → Type 0) (answer : Answer) : Type 0 where
+  pub saved : answer.status ≡ 0 ↔ IsSome answer.image
+  pub made : IfSome answer.image (λ bytes. makes bytes.items × said [])
+  pub refused : IsNone answer.image → (fault : Fault) × is_reason fault × (answer.status ≡ fault_status fault) × said (fault_line fault)

@@ -1,0 +1,4 @@
+pub mod Changing
+pub mod Faults
+pub mod PathLines
+pub mod Streams

@@ -1,0 +1,15 @@
+-- What a checker's command comes to, by whether there is a report.
+use Rattle.std.proofs.Common.{ℕ, List, Result, Ok, Err, IfOk, OnErr, inl, inr}
+use Rattle.vol_check.specs.Reporting.{IsReport}
+use Rattle.vol_check.specs.declared.checker.Checker.{Checker}
+use Rattle.vol_layout.specs.declared.edition.Edition.{Edition}
+use Rattle.vol_reports.specs.declared.line.Line.{Line}
+use Rattle.command_reads.specs.Checkers.{Checks, IsUnreported, PrintsReport}
+use Rattle.command_faults.specs.Streams.{Streams}
+
+-- the report is printed, or there is none
+pub checked : {E : Type 0} (checker : Checker) (edition : Edition) (image : List ℕ) (streams : Streams) (status : ℕ) (report : Result (List Line) E)
+    → IfOk report (IsReport checker edition image) → IfOk report (λ report. PrintsReport streams report status)
+    → OnErr report (IsUnreported streams status) → Checks checker edition image streams status
+checked checker edition image streams status (Ok report) is prints none = inl (report, is, prints)
+checked checker edition image streams status (Err why) is prints none = inr none

@@ -1,0 +1,10 @@
+pub mod Asked
+pub mod Checked
+pub mod Exported
+pub mod Got
+pub mod InOrder
+pub mod Mapped
+pub mod Printed
+pub mod Replies
+pub mod Shown
+pub mod Whole

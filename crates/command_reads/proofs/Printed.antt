@@ -1,0 +1,52 @@
+-- What printing a text comes to.
+use Rattle.std.proofs.Common.{◌≡◌, ℕ, true, List, [], Option, Result, Ok, Err, IfOk, IfErr, inl, inr, refl, subst}
+use Rattle.std.specs.Prelude.{String}
+use Rattle.std.specs.Global.{Vec}
+use Rattle.std.specs.String.{string_bytes}
+use Rattle.std.specs.declared.alloc.Global.{Global}
+use Rattle.std.specs.Io.KnownBytes.{Appends, Keeps}
+use Rattle.std.proofs.KnownBytes.{Keeps-refl}
+use Rattle.pdp_words.specs.Devices.{AppendsFront}
+use Rattle.command_faults.specs.Faults.{fault_line}
+use Rattle.command_faults.specs.Streams.{Streams}
+use Rattle.command_faults.specs.declared.fault.Fault.{Fault}
+use Rattle.command_faults.specs.declared.fault.Fault.TheVariants as faults
+use Rattle.command_reads.specs.Printing.{IsTold, Prints, PrintsWith, PrintsOne}
+
+-- all bytes of a text went out
+pub printed : (wanted : ℕ) (streams : Streams) (text bytes : List ℕ) → bytes ≡ text → Appends streams.old streams.new bytes
+    → streams.failed ≡ streams.had_failed → streams.said [] → PrintsWith wanted streams text wanted
+printed wanted streams text bytes is whole working said = inl (record {
+  status = refl;
+  whole = subst (Appends streams.old streams.new) is whole;
+  working = working;
+  said = said;
+})
+
+-- the front of a text went out, and standard output failed
+pub broken : (wanted : ℕ) (streams : Streams) (text bytes : List ℕ) (count status : ℕ) → bytes ≡ text → AppendsFront streams.old streams.new bytes count
+    → streams.failed ≡ true → status ≡ 3 → streams.said (fault_line faults.Output) → PrintsWith wanted streams text status
+broken wanted streams text bytes count status is front fails state said = inr (record {
+  status = state;
+  front = (count, subst (λ xs. AppendsFront streams.old streams.new xs count) is front);
+  broken = fails;
+  said = said;
+})
+
+-- what was found is printed, or told
+pub one_of : (IsText : List ℕ → Type 0) (IsFault : Fault → Type 0) (streams : Streams) (status : ℕ) (text : Result (String Global) Fault)
+    → IfOk text (λ t. IsText (string_bytes t)) → IfErr text IsFault → IfOk text (λ t. Prints streams (string_bytes t) status)
+    → IfErr text (λ fault. IsTold streams fault status) → PrintsOne IsText IsFault streams status
+one_of IsText IsFault streams status (Ok t) is why prints told = inl (string_bytes t, is, prints)
+one_of IsText IsFault streams status (Err fault) is why prints told = inr (fault, why, told)
+
+-- the same of a text of any bytes
+pub one_of_bytes : (IsText : List ℕ → Type 0) (IsFault : Fault → Type 0) (streams : Streams) (status : ℕ) (text : Result (Vec ℕ) Fault)
+    → IfOk text (λ t. IsText t.items) → IfErr text IsFault → IfOk text (λ t. Prints streams t.items status)
+    → IfErr text (λ fault. IsTold streams fault status) → PrintsOne IsText IsFault streams status
+one_of_bytes IsText IsFault streams status (Ok t) is why prints told = inl (t.items, is, prints)
+one_of_bytes IsText IsFault streams status (Err fault) is why prints told = inr (fault, why, told)
+
+-- known bytes that nobody touched stay
+pub kept_same : (known : Option (List ℕ)) → Keeps known known
+kept_same known = Keeps-refl known

@@ -1,0 +1,44 @@
+-- No number of a report is a fraction.
+use Rattle.std.proofs.Common.{◌≡◌, ℕ, false, List, [], ◌∷◌, map, take, Option, None, Some, refl}
+use Rattle.serde_json.specs.View.{items_of}
+use Rattle.serde_json.specs.Written.{has_float, items_have_float}
+use Rattle.vol_layout.specs.Inode.{address_count}
+use Rattle.vol_free.specs.declared.free_walk.FreeFault.{FreeFault}
+use Rattle.vol_inspect.specs.declared.extent.Extent.{Extent}
+use Rattle.vol_inspect.specs.declared.inode_report.InodeReport.{InodeReport}
+use Rattle.vol_inspect.specs.declared.super_report.SuperReport.{SuperReport}
+use Rattle.vol_listing.specs.Json.{count}
+use Rattle.command_reads.specs.Json.{count_or_null, extent_data}
+use Rattle.command_reads.specs.SuperBlock.{fault_data, super_data}
+use Rattle.command_reads.specs.Inode.{inode_data}
+
+-- none of a list of numbers
+counts_whole : (ns : List ℕ) → items_have_float (items_of (map count ns)) ≡ false
+counts_whole [] = refl
+counts_whole (n ∷ ns) = counts_whole ns
+
+-- none of a list of extents
+extents_whole : (es : List Extent) → items_have_float (items_of (map extent_data es)) ≡ false
+extents_whole [] = refl
+extents_whole (e ∷ es) = extents_whole es
+
+-- not one that may not be there
+optional_whole : (n : Option ℕ) → has_float (count_or_null n) ≡ false
+optional_whole None = refl
+optional_whole (Some n) = refl
+
+-- none of the fault that ended a walk
+fault_whole : (fault : Option (FreeFault × ℕ)) → has_float (fault_data fault) ≡ false
+fault_whole None = refl
+fault_whole (Some fault) = refl
+
+-- none of an i-node
+pub inode_whole : (report : InodeReport) → has_float (inode_data report) ≡ false
+unfolding inode_data
+inode_whole report =
+    rw (counts_whole (take (address_count report.edition) report.node.addresses), optional_whole report.node.changed, extents_whole report.extents.items) refl
+
+-- none of the super-block
+pub super_whole : (report : SuperReport) → has_float (super_data report) ≡ false
+unfolding super_data
+super_whole report = rw (fault_whole report.fault, counts_whole report.front.items, counts_whole report.cache.items) refl

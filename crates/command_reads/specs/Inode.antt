@@ -1,0 +1,88 @@
+-- What is shown of an i-node.
+use Rattle.std.specs.Prelude.{ℕ, ◌-◌, List, ◌++◌, map, take, codes, ◌≡◌, Ok, Err}
+use Rattle.serde_json.specs.Data.{Data, string, array, object, member, no_members, Members, put}
+use Rattle.serde_json.specs.View.{items_of}
+use Rattle.serde_json.specs.Written.{compact_text}
+use Rattle.vol_layout.specs.Inode.{address_count, kind_of, permissions_of}
+use Rattle.vol_inspect.specs.Texts.{kind_name, inode_text}
+use Rattle.vol_inspect.specs.declared.inode_report.InodeReport.{InodeReport}
+use Rattle.vol_listing.specs.Json.{count}
+use Rattle.command_reads.specs.Json.{counts, count_or_null, extent_data}
+use Rattle.vol_inspect.specs.Inspecting.{InspectsInode}
+use Rattle.vol_inspect.specs.declared.fault.InspectFault.{InspectFault}
+use Rattle.vol_layout.specs.declared.edition.Edition.{Edition}
+use Rattle.command_faults.specs.Streams.{Streams}
+use Rattle.command_faults.specs.declared.fault.Fault.{Fault}
+use Rattle.command_reads.specs.Faults.{uninspected}
+use Rattle.command_reads.specs.Printing.{PrintsOne}
+use Rattle.command_reads.specs.declared.looks.Form.{Form}
+use Rattle.command_reads.specs.declared.looks.Form.TheVariants as forms
+
+-- an i-node: its fields by their names in the manual, its kind and its permissions, and its extents; the sixth edition has no time of change (this project)
+unfoldable pub inode_data : InodeReport → Data
+inode_data report =
+    object (member (codes "addr") (counts (take (address_count report.edition) report.node.addresses))
+    (member (codes "atime") (count report.node.accessed)
+    (member (codes "ctime") (count_or_null report.node.changed)
+    (member (codes "extents") (array (items_of (map extent_data report.extents.items)))
+    (member (codes "gid") (count report.node.gid)
+    (member (codes "i-node") (count report.number)
+    (member (codes "kind") (string (kind_name (kind_of report.edition report.node.mode.bits)))
+    (member (codes "mode") (count report.node.mode.bits)
+    (member (codes "mtime") (count report.node.modified)
+    (member (codes "nlink") (count report.node.links)
+    (member (codes "permissions") (count (permissions_of report.node.mode.bits))
+    (member (codes "size") (count report.node.size)
+    (member (codes "uid") (count report.node.uid) no_members)))))))))))))
+
+-- an i-node as JSON, on one line (RFC 8259)
+abbrev pub inode_json : InodeReport → List ℕ
+inode_json report = compact_text (inode_data report) ++ codes "\n"
+
+-- with the number of an i-node, and what its mode says (this project)
+unfoldable pub with_mode : InodeReport → Members → Members
+with_mode report members =
+    put (codes "permissions") (count (permissions_of report.node.mode.bits))
+    (put (codes "mode") (count report.node.mode.bits)
+    (put (codes "kind") (string (kind_name (kind_of report.edition report.node.mode.bits)))
+    (put (codes "i-node") (count report.number) members)))
+
+-- with how many entries name an i-node, its owner, and its size (this project)
+unfoldable pub with_owner : InodeReport → Members → Members
+with_owner report members =
+    put (codes "size") (count report.node.size)
+    (put (codes "gid") (count report.node.gid)
+    (put (codes "uid") (count report.node.uid)
+    (put (codes "nlink") (count report.node.links) members)))
+
+-- with the times of an i-node (this project)
+unfoldable pub with_times : InodeReport → Members → Members
+with_times report members =
+    put (codes "ctime") (count_or_null report.node.changed)
+    (put (codes "mtime") (count report.node.modified)
+    (put (codes "atime") (count report.node.accessed) members))
+
+-- with the addresses of an i-node, and its extents (this project)
+unfoldable pub with_places : InodeReport → Members → Members
+with_places report members =
+    put (codes "extents") (array (items_of (map extent_data report.extents.items)))
+    (put (codes "addr") (counts (take (address_count report.edition) report.node.addresses)) members)
+
+-- a report on an i-node in some form (this project)
+abbrev pub inode_in : InodeReport → Form → List ℕ
+inode_in report forms.Text = inode_text report
+inode_in report forms.Json = inode_json report
+
+-- the text of the report on an i-node of an image, in some form (this project)
+abbrev pub IsInodeText : Edition → List ℕ → ℕ → Form → List ℕ → Type 0
+IsInodeText edition image number form text =
+    (report : InodeReport) × InspectsInode edition image number (Ok report) × (text ≡ inode_in report form)
+
+-- why an i-node of an image isn't shown (this project)
+abbrev pub IsInodeFault : Edition → List ℕ → ℕ → Fault → Type 0
+IsInodeFault edition image number fault = (why : InspectFault) × InspectsInode edition image number (Err why) × (fault ≡ uninspected why)
+
+-- an i-node is shown, or it is told why it isn't (this project)
+abbrev pub ShowsInode : Edition → List ℕ → ℕ → Form → Streams → ℕ → Type 0
+ShowsInode edition image number form streams status =
+    PrintsOne (IsInodeText edition image number form) (IsInodeFault edition image number) streams status

@@ -1,0 +1,17 @@
+pub mod Cat
+pub mod Check
+pub mod Checkers
+pub mod Export
+pub mod Faults
+pub mod Get
+pub mod GetFiles
+pub mod Inode
+pub mod Json
+pub mod Laws
+pub mod Looking
+pub mod Ls
+pub mod Map
+pub mod Printing
+pub mod Queries
+pub mod Remarks
+pub mod SuperBlock

@@ -1,0 +1,22 @@
+-- What a look at an image comes to.
+use Rattle.std.specs.Prelude.{ℕ, List}
+use Rattle.vol_layout.specs.declared.edition.Edition.{Edition}
+use Rattle.command_faults.specs.Streams.{Streams}
+use Rattle.command_reads.specs.Check.{Checks}
+use Rattle.command_reads.specs.Export.{Exports}
+use Rattle.command_reads.specs.Ls.{Lists}
+use Rattle.command_reads.specs.Map.{DrawsMap}
+use Rattle.command_reads.specs.Inode.{ShowsInode}
+use Rattle.command_reads.specs.SuperBlock.{ShowsSuper}
+use Rattle.command_reads.specs.declared.looks.Look.{Look}
+use Rattle.command_reads.specs.declared.looks.Look.TheVariants as looks
+use Rattle.vol_listing.specs.declared.options.Screen.{Screen}
+
+-- what is asked for is shown (this project)
+abbrev pub Looks : Edition → List ℕ → Screen → Streams → ℕ → Look → Type 0
+Looks edition image screen streams status (looks.Export path) = Exports edition image path.now screen streams status
+Looks edition image screen streams status (looks.Inode number form) = ShowsInode edition image number form streams status
+Looks edition image screen streams status (looks.Super form) = ShowsSuper edition image form streams status
+Looks edition image screen streams status (looks.Map picture) = DrawsMap edition image screen picture streams status
+Looks edition image screen streams status looks.Check = Checks edition image streams status
+Looks edition image screen streams status (looks.List path listing) = Lists edition image path.now listing screen streams status

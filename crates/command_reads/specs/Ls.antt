@@ -1,0 +1,32 @@
+-- What the command that lists names prints.
+use Rattle.std.specs.Prelude.{◌≡◌, ℕ, List, Ok}
+use Rattle.vol_judge.specs.Sound.{IsSound}
+use Rattle.vol_volume.specs.Volume.{reads_as}
+use Rattle.vol_volume.specs.declared.queries.Query.TheVariants as queries
+use Rattle.vol_volume.specs.declared.queries.Reply.TheVariants as replies
+use Rattle.vol_volume.specs.declared.queries.Stat.{Stat}
+use Rattle.vol_layout.specs.declared.edition.Edition.{Edition}
+use Rattle.vol_dir.specs.Access.{user}
+use Rattle.vol_listing.specs.Listing.{start_of, IsListingOf}
+use Rattle.vol_listing.specs.declared.options.Listing.{Listing}
+use Rattle.vol_listing.specs.declared.options.Screen.{Screen}
+use Rattle.command_faults.specs.Streams.{Streams}
+use Rattle.command_reads.specs.Queries.{answer_of, IsObstacle}
+use Rattle.command_reads.specs.Printing.{PrintsOne}
+
+-- a path leads to this i-number in the tree that an image reads as, as user 0 asks (stat)
+abbrev pub IsFound : Edition → List ℕ → List ℕ → ℕ → Type 0
+IsFound edition image path i =
+    (stat : Stat) × (answer_of edition image (queries.Stat user path) ≡ Ok (replies.Stat stat)) × (i ≡ stat.number)
+
+-- the image is sound, and this is a listing of what a path leads to in the tree that it reads as (this project)
+pub record IsListing (edition : Edition) (image path : List ℕ) (listing : Listing) (screen : Screen) (text : List ℕ) : Type 0 where
+  pub sound : IsSound edition image
+  pub inode : ℕ
+  pub found : IsFound edition image path inode
+  pub listed : IsListingOf (reads_as edition image).tree listing screen (start_of path inode) text
+
+-- what a path leads to is listed, or it is told why it isn't: want of memory, the least rule that the image breaks, or that the path leads nowhere (this project)
+abbrev pub Lists : Edition → List ℕ → List ℕ → Listing → Screen → Streams → ℕ → Type 0
+Lists edition image path listing screen streams status =
+    PrintsOne (IsListing edition image path listing screen) (IsObstacle edition image (queries.Stat user path)) streams status

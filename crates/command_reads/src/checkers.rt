@@ -1,0 +1,124 @@
+//! The checkers: what they find in the volume in some bytes, whether it is sound or not, printed line by line.
+ghost use Rattle.std.specs.Prelude.{◌≡◌, ◌⊎◌, ◌≤◌, ℕ, true, IfErr, IfOk, OnErr, OnOk};
+ghost use Rattle.std.specs.Io.KnownBytes.{Appends, Keeps};
+ghost use Rattle.pdp_words.specs.Devices.{AppendsFront};
+ghost use Rattle.vol_check.specs.Reporting.{IsReport};
+ghost use Rattle.vol_reports.specs.Texts.{report_text};
+ghost use Rattle.command_reads.specs.Checkers.{Checks, IsUnreported, PrintsReport, report_status};
+ghost use Rattle.command_faults.specs.Streams.{heard, ErrorStream, Hears, streams};
+ghost use Rattle.command_faults.specs.Faults.{no_memory};
+
+use command_faults::Fault;
+use command_faults::answer::{Ending, tell};
+use command_faults::status::{DONE, REFUSED};
+use pdp_words::{Image, Sink, write_all};
+use std::alloc::{AllocError, Global};
+use std::sync::Wait;
+use std::thread::Threads;
+use vol_check::{Checker, Open, dcheck, icheck, ncheck};
+use vol_layout::Edition;
+use vol_reports::Report;
+
+/// Prints what a checker finds, by so many threads, as [`perform`] does, writes the line of its fault to `errors`, and
+/// answers the status.
+pub fn check<R: Threads + Wait + Sync, O: Sink, E: Sink>(
+    rt: &R,
+    alloc: Global,
+    edition: Edition,
+    image: Vec<u8>,
+    checker: Checker,
+    workers: usize,
+    output: &mut O,
+    errors: &mut E,
+) -> u8
+    requires first { 1 ≤ workers }
+    requires last { workers ≤ 64 }
+    ensures { Checks checker edition image.items (streams O.contents O.failed output.old output.new (heard E.contents E.failed errors.old errors.new)) result }
+{
+    let ending = perform(rt, alloc, edition, image, checker, workers, output);
+    tell(&ending.fault, errors);
+    ending.status
+}
+
+/// Prints what a checker finds, by so many threads. The status is 0, or 1 where the report tells of faults,
+/// 3 where `output` failed, 4 where memory ran out. Nothing goes out before all is known.
+///
+/// Takes memory for what the checker takes, and for the text.
+pub fn perform<R: Threads + Wait + Sync, O: Sink>(
+    rt: &R,
+    alloc: Global,
+    edition: Edition,
+    image: Vec<u8>,
+    checker: Checker,
+    workers: usize,
+    output: &mut O,
+) -> Ending
+    requires first { 1 ≤ workers }
+    requires last { workers ≤ 64 }
+    ensures { (errors : ErrorStream) → Hears errors result.fault
+        → Checks checker edition image.items (streams O.contents O.failed output.old output.new errors) result.status }
+{
+    let image = Image::from_bytes(image);
+    let report = find(rt, alloc, edition, &image, checker, workers);
+    show(alloc, report, output)
+}
+
+/// What a checker finds in an image.
+fn find<R: Threads + Wait + Sync>(
+    rt: &R,
+    alloc: Global,
+    edition: Edition,
+    image: &Image,
+    checker: Checker,
+    workers: usize,
+) -> Result<Report, AllocError>
+    requires first { 1 ≤ workers }
+    requires last { workers ≤ 64 }
+    ensures { IfOk result (IsReport checker edition image.now) }
+{
+    match checker {
+        Checker::Blocks => icheck(rt, rt, alloc, edition, image, workers, &Open),
+        Checker::Entries => dcheck(rt, rt, alloc, edition, image, workers, &Open),
+        Checker::Names => ncheck(rt, rt, alloc, edition, image, workers, &Open),
+    }
+}
+
+/// Prints a report, if there was the memory for it.
+fn show<O: Sink>(alloc: Global, report: Result<Report, AllocError>, output: &mut O) -> Ending
+    ensures printed { (errors : ErrorStream) → Hears errors result.fault
+        → IfOk report (λ report. PrintsReport (streams O.contents O.failed output.old output.new errors) report result.status) }
+    ensures unprinted { (errors : ErrorStream) → Hears errors result.fault
+        → OnErr report (IsUnreported (streams O.contents O.failed output.old output.new errors) result.status) }
+{
+    match report {
+        Ok(report) => match print(alloc, &report, output) {
+            Ok(()) => Ending {
+                status: status_of(&report),
+                fault: None,
+            },
+            Err(fault) => Ending::from(fault),
+        },
+        Err(refused) => Ending::from(Fault::from(refused)),
+    }
+}
+
+/// Prints a report.
+fn print<O: Sink>(alloc: Global, report: &Report, output: &mut O) -> Result<(), Fault>
+    ensures whole { OnOk result (Appends (O.contents output.old) (O.contents output.new) (report_text report.now)
+        × (O.failed output.new ≡ O.failed output.old)) }
+    ensures fault { IfErr result (λ fault. ((fault ≡ no_memory) × Keeps (O.contents output.old) (O.contents output.new)
+        × (O.failed output.new ≡ O.failed output.old))
+        ⊎ ((fault ≡ Fault.Output) × ((count : ℕ) × AppendsFront (O.contents output.old) (O.contents output.new) (report_text report.now) count)
+        × (O.failed output.new ≡ true))) }
+{
+    let mut text = Vec::new(alloc);
+    report.push_text(&mut text)?;
+    write_all(output, &text).map_err(|_| Fault::Output)
+}
+
+/// The status after a report that was printed.
+fn status_of(report: &Report) -> u8
+    ensures { result ≡ report_status report.now }
+{
+    if report.has_faults() { REFUSED } else { DONE }
+}

@@ -1,0 +1,142 @@
+//! The command that writes all that is below a directory as an archive.
+ghost use Rattle.std.specs.Prelude.{◌≡◌, ◌==◌, if◌then◌else◌, length};
+ghost use Rattle.vol_layout.specs.Geometry.{Fits};
+ghost use Rattle.vol_dir.specs.Entries.{IsDirectory};
+ghost use Rattle.command_faults.specs.Faults.{line_after};
+ghost use Rattle.command_faults.specs.Streams.{ErrorStream, Hears, streams};
+ghost use Rattle.command_reads.specs.Export.{Exports, ExportsTo, ExportsBelow, WritesBelow, unstarted, unwritten};
+
+use crate::faults::unmeasured;
+use crate::remarks::{Remarks, tell_all};
+use command_faults::status::{DONE, REFUSED};
+use command_faults::{Ending, Fault};
+use pdp_words::{Image, Sink};
+use std::alloc::Global;
+use vol_archive::{Start, StartFault, WriteFault, put_archive, start_of, walk};
+use vol_dir::Refusal;
+use vol_layout::Edition;
+use vol_listing::Screen;
+
+/// Writes the archive of all that is below the directory to which a path leads in an image in which rules 1 and 2 hold, which may be
+/// any bytes otherwise. The status is 0 of a sound image whose entries all went in; 1 where the image isn't sound, an entry
+/// is left out or the path leads to no directory; 3 where `output` failed, 4 where memory ran out. The fault has a line for
+/// each entry that is left out, with all bytes escaped that a terminal can't show, and for what is wrong with the image. A terminal gets no archive.
+///
+/// Costs the walk, what [`vol_judge::judge`] costs, and the bytes that are written. All memory but that of one header at a time is
+/// taken before the first byte goes out.
+pub(crate) fn export<O: Sink>(
+    alloc: Global,
+    edition: Edition,
+    image: Vec<u8>,
+    path: &str,
+    screen: Screen,
+    output: &mut O,
+) -> Ending
+    ensures { (errors : ErrorStream) → Hears errors result.fault
+        → Exports edition image.items path.now screen (streams O.contents O.failed output.old output.new errors) result.status }
+{
+    let image = Image::from_bytes(image);
+    match start_of(edition, &image, path.as_bytes()) {
+        Ok(start) => export_to(alloc, edition, &image, &start, screen, output),
+        Err(fault) => Ending::from(unstarted(fault)),
+    }
+}
+
+/// Writes the archive of all that is below a directory, unless it were to a terminal.
+#[tactic(auto, using(crate::proofs::Printed::kept_same))]
+fn export_to<O: Sink>(
+    alloc: Global,
+    edition: Edition,
+    image: &Image,
+    start: &Start,
+    screen: Screen,
+    output: &mut O,
+) -> Ending
+    requires fits { Fits start.now.geometry image.now }
+    requires directory { IsDirectory start.now.geometry image.now start.now.inode }
+    ensures { (errors : ErrorStream) → Hears errors result.fault
+        → ExportsTo edition image.now start.now (streams O.contents O.failed output.old output.new errors) result.status screen }
+{
+    match screen {
+        Screen::Terminal { .. } => Ending::from(Fault::Output),
+        Screen::Stream => export_below(alloc, edition, image, start, output),
+    }
+}
+
+/// Writes the archive of all that is below a directory, and tells what there is to tell of it.
+fn export_below<O: Sink>(
+    alloc: Global,
+    edition: Edition,
+    image: &Image,
+    start: &Start,
+    output: &mut O,
+) -> Ending
+    requires fits { Fits start.now.geometry image.now }
+    requires directory { IsDirectory start.now.geometry image.now start.now.inode }
+    ensures { (errors : ErrorStream) → Hears errors result.fault
+        → ExportsBelow edition image.now start.now (streams O.contents O.failed output.old output.new errors) result.status }
+{
+    match write_below(alloc, edition, image, start, output) {
+        Ok(remarks) => ending_with(remarks),
+        Err(fault) => Ending::from(fault),
+    }
+}
+
+/// Writes the archive of all that is below a directory, and answers what is told of it.
+fn write_below<O: Sink>(
+    alloc: Global,
+    edition: Edition,
+    image: &Image,
+    start: &Start,
+    output: &mut O,
+) -> Result<Remarks, Fault>
+    requires fits { Fits start.now.geometry image.now }
+    requires directory { IsDirectory start.now.geometry image.now start.now.inode }
+    ensures { WritesBelow edition image.now start.now (O.contents output.old) (O.contents output.new)
+        (O.failed output.old) (O.failed output.new) result }
+{
+    let founds = walk(alloc, image, &start.geometry, start.inode)?;
+    let remarks = tell_all(alloc, edition, image, &start.geometry, &founds)?;
+    match put_archive(alloc, image, &start.geometry, &founds, output) {
+        Ok(()) => Ok(remarks),
+        Err(fault) => Err(unwritten(fault)),
+    }
+}
+
+/// How an export ends of which there is something to tell, or nothing.
+fn ending_with(remarks: Remarks) -> Ending
+    ensures status { result.status ≡ (if length remarks.lines.items == 0 then 0 else 1) }
+    ensures line { line_after result.fault ≡ remarks.lines.items }
+{
+    let Remarks { rule, lines } = remarks;
+    if lines.is_empty() {
+        return Ending {
+            status: DONE,
+            fault: None,
+        };
+    }
+    Ending {
+        status: REFUSED,
+        fault: Some(Fault::Worded { rule, lines }),
+    }
+}
+
+/// The fault of an export that has nowhere to begin for this reason.
+fn unstarted(fault: StartFault) -> Fault
+    ensures { result ≡ unstarted fault }
+{
+    match fault {
+        StartFault::Unsound(fault) => unmeasured(fault),
+        StartFault::Refused(refusal) => Fault::Refused(refusal),
+    }
+}
+
+/// The fault of an export that doesn't end for this reason.
+fn unwritten(fault: WriteFault) -> Fault
+    ensures { result ≡ unwritten fault }
+{
+    match fault {
+        WriteFault::NoMemory => Fault::Refused(Refusal::NoMemory),
+        WriteFault::Output => Fault::Output,
+    }
+}

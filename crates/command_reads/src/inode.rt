@@ -1,0 +1,161 @@
+//! `inode`: shows an i-node.
+ghost use Rattle.std.specs.Prelude.{◌≡◌, IfErr, IfOk, OnOk, string_bytes};
+ghost use Rattle.serde_json.specs.View.{members_view, view};
+ghost use Rattle.command_faults.specs.Streams.{streams, ErrorStream, Hears};
+ghost use Rattle.command_reads.specs.Inode.{inode_data, inode_json, inode_in, with_mode, with_owner, with_times, with_places, IsInodeText, IsInodeFault, ShowsInode};
+ghost use Rattle.command_reads.specs.Json.{count_or_null};
+
+use crate::faults::uninspected;
+use crate::json::list;
+use crate::looks::Form;
+use crate::printing::finish;
+use command_faults::{Ending, Fault};
+use pdp_words::{Image, Sink};
+use serde_json::{Map, Value, put};
+use std::alloc::{AllocError, Global};
+use vol_inspect::{InodeReport, inspect_inode, kind_name};
+use vol_layout::Edition;
+use vol_listing::json::{line, put_count};
+
+/// Shows an i-node of an image in which rules 1 and 2 hold, which may be any bytes otherwise. The status is 0; 1 where the
+/// image breaks one of these rules or has no i-node of this number; 3 where `output` failed, 4 where memory ran out. Nothing goes
+/// out before all is known.
+///
+/// Takes memory for what [`inspect_inode`] takes, and for the text.
+pub(crate) fn show_inode<O: Sink>(
+    alloc: Global,
+    edition: Edition,
+    image: Vec<u8>,
+    number: u16,
+    form: Form,
+    output: &mut O,
+) -> Ending
+    ensures { (errors : ErrorStream) → Hears errors result.fault
+        → ShowsInode edition image.items number form (streams O.contents O.failed output.old output.new errors) result.status }
+{
+    let image = Image::from_bytes(image);
+    let text = inode_text(alloc, edition, &image, number, form);
+    finish(text, output)
+}
+
+/// The text of an i-node.
+fn inode_text(
+    alloc: Global,
+    edition: Edition,
+    image: &Image,
+    number: u16,
+    form: Form,
+) -> Result<String, Fault>
+    ensures text { IfOk result (λ text. IsInodeText edition image.now number form (string_bytes text)) }
+    ensures fault { IfErr result (λ fault. IsInodeFault edition image.now number fault) }
+{
+    match inspect_inode(alloc, edition, image, number) {
+        Ok(report) => Ok(inode_in(alloc, &report, form)?),
+        Err(fault) => Err(uninspected(fault)),
+    }
+}
+
+/// The report on an i-node in some form.
+fn inode_in(alloc: Global, report: &InodeReport, form: Form) -> Result<String, AllocError>
+    ensures { IfOk result (λ text. string_bytes text ≡ inode_in report.now form) }
+{
+    match form {
+        Form::Json => inode_json(alloc, report),
+        Form::Text => {
+            let mut text = String::new(alloc);
+            report.push_text(&mut text)?;
+            Ok(text)
+        }
+    }
+}
+
+/// An i-node as JSON, on one line.
+fn inode_json(alloc: Global, report: &InodeReport) -> Result<String, AllocError>
+    ensures { IfOk result (λ text. string_bytes text ≡ inode_json report.now) }
+{
+    let value = inode_value(alloc, report)?;
+    line(alloc, &value)
+}
+
+/// An i-node.
+fn inode_value(alloc: Global, report: &InodeReport) -> Result<Value, AllocError>
+    ensures { IfOk result (λ value. view value ≡ inode_data report.now) }
+{
+    let mut object = Map::new(alloc);
+    put_mode(alloc, report, &mut object)?;
+    put_owner(alloc, report, &mut object)?;
+    put_times(alloc, report, &mut object)?;
+    put_places(alloc, report, &mut object)?;
+    Ok(Value::Object(object))
+}
+
+/// Puts the number of an i-node, and what its mode says.
+#[tactic(auto, unfolding(crate::specs::Inode::with_mode))]
+fn put_mode(
+    alloc: Global,
+    report: &InodeReport,
+    object: &mut Map<String, Value>,
+) -> Result<(), AllocError>
+    ensures { OnOk result (members_view object.new.entries ≡ with_mode report.now (members_view object.old.entries)) }
+{
+    let mode = report.node.mode;
+    let kind = String::from_str(alloc, kind_name(mode.kind(report.edition)))?;
+    put_count(alloc, object, "i-node", u64::from(report.number))?;
+    put(object, alloc, "kind", Value::String(kind))?;
+    put_count(alloc, object, "mode", u64::from(mode.bits))?;
+    put_count(alloc, object, "permissions", u64::from(mode.permissions()))
+}
+
+/// Puts how many entries name an i-node, its owner, and its size.
+#[tactic(auto, unfolding(crate::specs::Inode::with_owner))]
+fn put_owner(
+    alloc: Global,
+    report: &InodeReport,
+    object: &mut Map<String, Value>,
+) -> Result<(), AllocError>
+    ensures { OnOk result (members_view object.new.entries ≡ with_owner report.now (members_view object.old.entries)) }
+{
+    put_count(alloc, object, "nlink", u64::from(report.node.links))?;
+    put_count(alloc, object, "uid", u64::from(report.node.uid))?;
+    put_count(alloc, object, "gid", u64::from(report.node.gid))?;
+    put_count(alloc, object, "size", u64::from(report.node.size))
+}
+
+/// Puts the times of an i-node.
+#[tactic(auto, unfolding(crate::specs::Inode::with_times))]
+fn put_times(
+    alloc: Global,
+    report: &InodeReport,
+    object: &mut Map<String, Value>,
+) -> Result<(), AllocError>
+    ensures { OnOk result (members_view object.new.entries ≡ with_times report.now (members_view object.old.entries)) }
+{
+    put_count(alloc, object, "atime", u64::from(report.node.accessed))?;
+    put_count(alloc, object, "mtime", u64::from(report.node.modified))?;
+    put(object, alloc, "ctime", optional(report.node.changed))
+}
+
+/// Puts the addresses of an i-node, and its extents.
+#[tactic(auto, unfolding(crate::specs::Inode::with_places))]
+fn put_places(
+    alloc: Global,
+    report: &InodeReport,
+    object: &mut Map<String, Value>,
+) -> Result<(), AllocError>
+    ensures { OnOk result (members_view object.new.entries ≡ with_places report.now (members_view object.old.entries)) }
+{
+    let addresses = list(alloc, report.addresses())?;
+    let extents = list(alloc, &report.extents)?;
+    put(object, alloc, "addr", addresses)?;
+    put(object, alloc, "extents", extents)
+}
+
+/// A number that may not be there.
+fn optional(number: Option<u32>) -> Value
+    ensures { view result ≡ count_or_null number }
+{
+    match number {
+        Some(number) => Value::from(number),
+        None => Value::Null,
+    }
+}

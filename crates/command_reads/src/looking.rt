@@ -1,0 +1,58 @@
+//! Shows what the command line asks for of an image.
+ghost use Rattle.command_faults.specs.Streams.{heard, ErrorStream, Hears, streams};
+ghost use Rattle.command_reads.specs.Looking.{Looks};
+
+use crate::check::check;
+use crate::export::export;
+use crate::inode::show_inode;
+use crate::looks::Look;
+use crate::ls::list;
+use crate::map::draw_map;
+use crate::super_block::show_super;
+use command_faults::Ending;
+use command_faults::answer::tell;
+use pdp_words::Sink;
+use std::alloc::Global;
+use vol_layout::Edition;
+use vol_listing::Screen;
+
+/// Shows what is asked for of an image as [`perform`] does, writes why it isn't shown to `errors`, and answers the status.
+pub fn look<O: Sink, E: Sink>(
+    alloc: Global,
+    edition: Edition,
+    image: Vec<u8>,
+    look: Look<'_>,
+    screen: Screen,
+    output: &mut O,
+    errors: &mut E,
+) -> u8
+    ensures { Looks edition image.items screen (streams O.contents O.failed output.old output.new (heard E.contents E.failed errors.old errors.new)) result look.entry }
+{
+    let ending = perform(alloc, edition, image, look, screen, output);
+    tell(&ending.fault, errors);
+    ending.status
+}
+
+/// Shows what is asked for of an image, which may be any bytes, on `output`. The status is 0; 1 where the image isn't
+/// sound enough for it, or what is asked for isn't there; 3 where `output` failed, 4 where memory ran out.
+/// Costs what the command does that is asked for, and takes no right to wait.
+pub fn perform<O: Sink>(
+    alloc: Global,
+    edition: Edition,
+    image: Vec<u8>,
+    look: Look<'_>,
+    screen: Screen,
+    output: &mut O,
+) -> Ending
+    ensures { (errors : ErrorStream) → Hears errors result.fault
+        → Looks edition image.items screen (streams O.contents O.failed output.old output.new errors) result.status look.entry }
+{
+    match look {
+        Look::Export { path } => export(alloc, edition, image, path, screen, output),
+        Look::Inode { number, form } => show_inode(alloc, edition, image, number, form, output),
+        Look::Super { form } => show_super(alloc, edition, image, form, output),
+        Look::Map { picture } => draw_map(alloc, edition, image, picture, screen, output),
+        Look::Check => check(alloc, edition, image, output),
+        Look::List { path, listing } => list(alloc, edition, image, path, listing, screen, output),
+    }
+}

@@ -1,0 +1,143 @@
+//! The command that draws what each block is used for.
+ghost use Rattle.std.specs.Prelude.{◌≡◌, ◌+◌, ◌*◌, ◌<◌, ◌≤◌, ◌^◌, ◌++◌, IfErr, IfOk, OnOk, string_bytes, length};
+ghost use Rattle.vol_layout.specs.Geometry.{Fits};
+ghost use Rattle.command_faults.specs.Streams.{ErrorStream, Hears, streams};
+ghost use Rattle.command_reads.specs.Map.{width_on, is_coloured, blocks_for, uses_in, scale_text, cells_text, map_text, IsMap, IsMapFault, DrawsMap};
+
+use crate::faults::unmeasured;
+use crate::looks::Picture;
+use crate::printing::finish;
+use command_faults::{Ending, Fault};
+use pdp_words::{Image, Sink};
+use std::alloc::{AllocError, Global};
+use vol_inspect::{block_uses, cells, draw, svg};
+use vol_layout::{Edition, Geometry};
+use vol_listing::Screen;
+
+/// How many rows of letters there are at most.
+const ROWS: usize = 32;
+
+/// How many letters stand in a row where no terminal says it.
+const WIDTH: usize = 64;
+
+/// How many squares stand in a row, and how many rows of them there are at most.
+const SQUARES: usize = 128;
+
+/// Draws what each block is used for of an image in which rules 1 and 2 hold, which may be any bytes otherwise. The
+/// status is 0; 1 where the image breaks one of these rules, 3 where `output` failed, 4 where memory ran out. Nothing goes out before
+/// all is known. Rows are as wide as the terminal, which alone has colours; there are at most 32, or 128 of 128 squares, so that a
+/// cell stands for several blocks of a large volume.
+///
+/// Costs and takes memory for what [`block_uses`] does, and for the text.
+pub(crate) fn draw_map<O: Sink>(
+    alloc: Global,
+    edition: Edition,
+    image: Vec<u8>,
+    picture: Picture,
+    screen: Screen,
+    output: &mut O,
+) -> Ending
+    ensures { (errors : ErrorStream) → Hears errors result.fault
+        → DrawsMap edition image.items screen picture (streams O.contents O.failed output.old output.new errors) result.status }
+{
+    let image = Image::from_bytes(image);
+    let text = map_text(alloc, edition, &image, picture, screen);
+    finish(text, output)
+}
+
+/// The picture of the volume in an image.
+fn map_text(
+    alloc: Global,
+    edition: Edition,
+    image: &Image,
+    picture: Picture,
+    screen: Screen,
+) -> Result<String, Fault>
+    ensures text { IfOk result (λ text. IsMap edition image.now screen picture (string_bytes text)) }
+    ensures fault { IfErr result (λ fault. IsMapFault edition image.now fault) }
+{
+    match Geometry::read(edition, image) {
+        Ok(geometry) => Ok(picture_of(alloc, image, &geometry, picture, screen)?),
+        Err(fault) => Err(unmeasured(fault)),
+    }
+}
+
+/// The picture of a volume with a geometry.
+fn picture_of(
+    alloc: Global,
+    image: &Image,
+    geometry: &Geometry,
+    picture: Picture,
+    screen: Screen,
+) -> Result<String, AllocError>
+    requires { Fits geometry.now image.now }
+    ensures { IfOk result (λ text. string_bytes text ≡ map_text geometry.now image.now screen picture) }
+{
+    match picture {
+        Picture::Cells => letters(alloc, image, geometry, screen),
+        Picture::Svg => squares(alloc, image, geometry),
+    }
+}
+
+/// The picture of a volume as rows of letters.
+fn letters(
+    alloc: Global,
+    image: &Image,
+    geometry: &Geometry,
+    screen: Screen,
+) -> Result<String, AllocError>
+    requires { Fits geometry.now image.now }
+    ensures { IfOk result (λ text. string_bytes text ≡ cells_text geometry.now image.now (width_on screen) (is_coloured screen)
+        (blocks_for (32 * width_on screen) geometry.now.zone_end)) }
+{
+    let width = width_on(screen);
+    let blocks = geometry.zone_end;
+    let each = blocks_for(ROWS * width, blocks);
+    let uses = block_uses(alloc, image, geometry)?;
+    let cells = cells(alloc, &uses, each)?;
+    let drawing = draw(alloc, &cells, width, is_coloured(screen))?;
+    let mut text = String::new(alloc);
+    write!(&mut text, "{blocks} blocks, {each} in each cell\n\n")?;
+    text.push_str(drawing.as_str())?;
+    Ok(text)
+}
+
+/// The picture of a volume as squares.
+fn squares(alloc: Global, image: &Image, geometry: &Geometry) -> Result<String, AllocError>
+    requires { Fits geometry.now image.now }
+    ensures { IfOk result (λ text. string_bytes text ≡ map_text geometry.now image.now Screen.Stream Picture.Svg) }
+{
+    let each = blocks_for(SQUARES * SQUARES, geometry.zone_end);
+    let uses = block_uses(alloc, image, geometry)?;
+    let cells = cells(alloc, &uses, each)?;
+    svg(alloc, &cells, SQUARES)
+}
+
+/// How many cells stand in a row.
+fn width_on(screen: Screen) -> usize
+    ensures value { result ≡ width_on screen }
+    ensures some { 1 ≤ result }
+    ensures few { result < 2 ^ 16 }
+{
+    match screen {
+        Screen::Terminal { columns } if columns > 0 => columns as usize,
+        Screen::Terminal { .. } | Screen::Stream => WIDTH,
+    }
+}
+
+/// Whether cells have colours.
+fn is_coloured(screen: Screen) -> bool
+    ensures { result ≡ is_coloured screen }
+{
+    matches!(screen, Screen::Terminal { .. })
+}
+
+/// The least number of blocks for each cell with which so many blocks have no more cells than there is room for.
+fn blocks_for(room: usize, blocks: u32) -> usize
+    requires some { 1 ≤ room }
+    requires few { room < 2 ^ 32 }
+    ensures value { result ≡ blocks_for room blocks }
+    ensures some { 1 ≤ blocks → 1 ≤ result }
+{
+    (blocks as usize + (room - 1)) / room
+}

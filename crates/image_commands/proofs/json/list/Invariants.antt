@@ -1,7 +1,0 @@
-use Rattle.std.proofs.Common.{◌≡◌, map, take}
-use Rattle.serde_json.specs.View.{view}
-use Rattle.image_commands.proofs.json.list.Given as goal
-
--- the values so far are there
-abbrev pub invariant-loop-item : goal.invariant-loop-item
-invariant-loop-item g l = map view l.values.items ≡ map g.T.Shown.shown (take l.item-index l.items)

@@ -1,6 +1,0 @@
-use Rattle.vol_commands.proofs.Concluded.{concluded}
-use Rattle.tree_commands.proofs.directories.mkdir_all.Goals as goal
-
-pub returns : goal.returns
-returns c errors hears =
-    concluded _ _ errors _ _ c.make_directories.ensures.made c.make_directories.ensures.fault c.conclude.ensures.made c.conclude.ensures.fault hears

@@ -1,9 +1,0 @@
-pub mod Directories
-pub mod Editing
-pub mod Finding
-pub mod Getting
-pub mod Importing
-pub mod Moving
-pub mod Putting
-pub mod Removing
-pub mod Telling

@@ -1,0 +1,127 @@
+//! The commands that change a volume: what they open, and what they save.
+ghost use Rattle.std.specs.Prelude.{◌≡◌, ℕ, Bool, IfErr, IfOk, List, Option};
+ghost use Rattle.std.specs.Process.{exit_status};
+ghost use Rattle.command_faults.specs.Streams.{ErrorStream, Hears, still};
+ghost use Rattle.unixvol.specs.Running.{ChangesToEnd, Ends, GaveBytes, IsGivenTo, IsUngiven, IsUnread, RunsChange, host_files, host_input, wants_terminal};
+
+use crate::explaining::{Named, explain_unread, finish, tell_fault};
+use crate::host::Host;
+use crate::reading::{ReadFile, read_file, read_image, read_open};
+use crate::saving::save_answer;
+use crate::subject::Subject;
+use command_changes::Change;
+use command_changes::changing::perform;
+use command_faults::Ending;
+use command_line::VolumeFile;
+use host_files::ImageFiles;
+use pdp_words::IntoWrite;
+use std::fs::Files;
+use std::io::{self, Read, Write};
+use std::process::ExitCode;
+use std::rt::Clock;
+
+/// What is told of standard input that is a terminal, where an archive is wanted.
+const TERMINAL: &str = "it is a terminal, which gives no archive";
+
+/// Changes the volume in a file, and answers how the program ends. An archive is read from `input`, which is
+/// standard input; where this is a terminal, nothing is opened. A fault is one line on standard error. `errors` writes to
+/// standard error too. Nothing goes to `output`, which is standard output.
+pub fn run_to_end<
+    R: ImageFiles + Clock + Eprint + AllocGlobal,
+    I: Read + Drop,
+    O: Write + Drop,
+    E: Write + Drop,
+>(
+    host: &Host<'_, R>,
+    input: I,
+    is_terminal: bool,
+    output: O,
+    errors: E,
+    volume: VolumeFile<'_>,
+    change: Change<'_>,
+) -> ExitCode
+    ensures { ChangesToEnd (host_files R.File.remaining R.File.contents R.had R.stood) (host_input I.remaining) is_terminal (O.contents output) (E.contents errors)
+        volume.entry.edition change.entry (exit_status result) }
+{
+    let mut errors = IntoWrite::new(errors);
+    let ending = run(host, input, is_terminal, volume, change);
+    let subject = Subject::of_change(volume.image, change);
+    tell_fault(host, &mut errors, &ending.fault, None, Some(subject));
+    ExitCode::from(finish(host, output, ending.status))
+}
+
+/// Changes the volume in a file, saves it, and answers how it ends.
+fn run<R: ImageFiles + Clock + Eprint + AllocGlobal, I: Read + Drop>(
+    host: &Host<'_, R>,
+    input: I,
+    is_terminal: bool,
+    volume: VolumeFile<'_>,
+    change: Change<'_>,
+) -> Ending
+    ensures runs { (known : Option (List ℕ)) (failed : Bool) (errors : ErrorStream) → Hears errors result.fault
+        → RunsChange (still known failed errors) (host_files R.File.remaining R.File.contents R.had R.stood) (host_input I.remaining) is_terminal volume.entry.edition change.entry result.status }
+    ensures ends { (known : Option (List ℕ)) (failed : Bool) (errors : ErrorStream) → Hears errors result.fault
+        → Ends (still known failed errors) result.status }
+{
+    if wants_terminal(is_terminal, change) {
+        return Ending {
+            status: explain_unread(host, Named::Input, io::Error::other(TERMINAL)),
+            fault: None,
+        };
+    }
+    let (read, stamp) = match read_image(host, volume.image) {
+        Ok(read) => read,
+        Err(status) => {
+            return Ending {
+                status,
+                fault: None,
+            };
+        }
+    };
+    // Its file stays open, and so locked, until what is made of it is saved.
+    let ReadFile {
+        bytes: image,
+        file: _locked,
+    } = read;
+    let given = match given_to(host, input, change) {
+        Ok(given) => given,
+        Err(status) => {
+            return Ending {
+                status,
+                fault: None,
+            };
+        }
+    };
+    let answer = perform(host.rt.alloc(), volume.edition, image, given, change);
+    let status = save_answer(host, volume.image, stamp, &answer);
+    Ending {
+        status,
+        fault: answer.fault,
+    }
+}
+
+/// Whether an archive is wanted of standard input, and this is a terminal.
+fn wants_terminal(is_terminal: bool, change: Change<'_>) -> bool
+    ensures { result ≡ wants_terminal is_terminal change.entry }
+{
+    match change {
+        Change::Import { .. } => is_terminal,
+        _ => false,
+    }
+}
+
+/// The bytes of the file that is put, or of the archive that is imported; none of another change.
+fn given_to<R: Files + Eprint + AllocGlobal, I: Read + Drop>(
+    host: &Host<'_, R>,
+    input: I,
+    change: Change<'_>,
+) -> Result<Vec<u8>, u8>
+    ensures given { IfOk result (λ given. IsGivenTo (GaveBytes R.File.remaining) (GaveBytes I.remaining) change.entry given.items) }
+    ensures fault { IfErr result (IsUngiven (IsUnread R.File.remaining) (IsUnread I.remaining) change.entry) }
+{
+    match change {
+        Change::Put { file, .. } => read_file(host, file),
+        Change::Import { .. } => Ok(read_open(host, Named::Input, input)?.bytes),
+        _ => Ok(Vec::new(host.rt.alloc())),
+    }
+}

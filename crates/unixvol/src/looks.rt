@@ -1,0 +1,124 @@
+//! The commands that look at an image, sound or not, which may have printed something whatever their status is; and `get`, which prints
+//! all or nothing.
+ghost use Rattle.std.specs.Prelude.{◌≡◌, ◌≤◌};
+ghost use Rattle.std.specs.Process.{exit_status};
+ghost use Rattle.command_faults.specs.Streams.{ErrorStream, Hears, streams};
+ghost use Rattle.unixvol.specs.Running.{Ends, IsEnd, IsShownBy, LooksToEnd, RunsGetOne, RunsLook, host_files};
+
+use crate::explaining::{finish_printed, tell_fault};
+use crate::host::Host;
+use crate::reading::read_file;
+use crate::subject::Subject;
+use command_faults::Ending;
+use command_line::VolumeFile;
+use command_reads::Look;
+use command_reads::get::show_file;
+use command_reads::looking::perform;
+use host_files::{ImageFiles, noted_writer};
+use pdp_words::{IntoWrite, Sink};
+use std::env::{self, Env};
+use std::io::Write;
+use std::process::ExitCode;
+use vol_listing::Screen;
+
+/// How many columns a terminal has where COLUMNS doesn't say it.
+const COLUMNS: u16 = 80;
+
+/// What shows standard output: a terminal, with as many columns as the variable COLUMNS says, or no terminal.
+pub fn screen<R: Env + AllocGlobal>(rt: &R, is_terminal: bool) -> Screen
+    ensures { IsShownBy is_terminal result }
+{
+    if !is_terminal {
+        return Screen::Stream;
+    }
+    Screen::Terminal {
+        columns: terminal_width(rt),
+    }
+}
+
+/// How many columns the variable COLUMNS says that the terminal has; 80 where it says no number, or 0.
+fn terminal_width<R: Env + AllocGlobal>(rt: &R) -> u16
+    ensures { 1 ≤ result }
+{
+    let columns = match env::var(rt, "COLUMNS") {
+        Ok(text) => text.parse().unwrap_or(0),
+        Err(_) => 0,
+    };
+    if columns == 0 { COLUMNS } else { columns }
+}
+
+/// Shows what is asked for of the image in a file, and answers how the program ends. What it prints goes to `output`, which is
+/// standard output, as `screen` shows it; a fault is one line on standard error. `errors` writes to standard error too.
+pub fn run_to_end<R: ImageFiles + Eprint + AllocGlobal, O: Write + Drop, E: Write + Drop>(
+    host: &Host<'_, R>,
+    screen: Screen,
+    output: O,
+    errors: E,
+    volume: VolumeFile<'_>,
+    look: Look<'_>,
+) -> ExitCode
+    ensures { LooksToEnd (host_files R.File.remaining R.File.contents R.had R.stood) screen (O.contents output) (E.contents errors)
+        volume.entry.edition look.entry (exit_status result) }
+{
+    let mut errors = IntoWrite::new(errors);
+    let mut output = noted_writer(output);
+    let ending = run(host, screen, &mut output, volume, look);
+    let subject = Subject::of_look(volume.image, look);
+    tell_fault(
+        host,
+        &mut errors,
+        &ending.fault,
+        output.error(),
+        Some(subject),
+    );
+    ExitCode::from(finish_printed(host, output.into_inner().into_inner(), ending.status))
+}
+
+/// Shows what is asked for of the image in a file, and answers how it ends, if [`finish_printed`] goes well.
+fn run<R: ImageFiles + Eprint + AllocGlobal, O: Sink>(
+    host: &Host<'_, R>,
+    screen: Screen,
+    output: &mut O,
+    volume: VolumeFile<'_>,
+    look: Look<'_>,
+) -> Ending
+    ensures runs { (errors : ErrorStream) → Hears errors result.fault
+        → RunsLook (streams O.contents O.failed output.old output.new errors) (host_files R.File.remaining R.File.contents R.had R.stood) screen volume.entry.edition look.entry result.status }
+    ensures ends { (errors : ErrorStream) → Hears errors result.fault
+        → IsEnd (streams O.contents O.failed output.old output.new errors) result.status }
+{
+    let image = match read_file(host, volume.image) {
+        Ok(image) => image,
+        Err(status) => {
+            return Ending {
+                status,
+                fault: None,
+            };
+        }
+    };
+    perform(host.rt.alloc(), volume.edition, image, look, screen, output)
+}
+
+/// Prints the file at a path of the volume in a file, and answers how it ends.
+pub fn run_get<R: ImageFiles + Eprint + AllocGlobal, O: Sink>(
+    host: &Host<'_, R>,
+    output: &mut O,
+    volume: VolumeFile<'_>,
+    path: &str,
+) -> Ending
+    ensures runs { (errors : ErrorStream) → Hears errors result.fault
+        → RunsGetOne (streams O.contents O.failed output.old output.new errors) (host_files R.File.remaining R.File.contents R.had R.stood) volume.entry.edition path.now result.status }
+    ensures ends { (errors : ErrorStream) → Hears errors result.fault
+        → Ends (streams O.contents O.failed output.old output.new errors) result.status }
+{
+    let image = match read_file(host, volume.image) {
+        Ok(image) => image,
+        Err(status) => {
+            return Ending {
+                status,
+                fault: None,
+            };
+        }
+    };
+    show_file(host.rt.alloc(), volume.edition, image, path, output)
+}

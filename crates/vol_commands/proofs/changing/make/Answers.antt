@@ -1,6 +1,0 @@
-use Rattle.vol_commands.proofs.Concluded.{concluded}
-use Rattle.vol_commands.proofs.changing.make.Goals as goal
-
-pub returns : goal.returns
-returns c wanted is errors hears =
-    concluded _ _ errors _ _ (c.change.ensures.made wanted is) (c.change.ensures.fault wanted is) c.conclude.ensures.made c.conclude.ensures.fault hears

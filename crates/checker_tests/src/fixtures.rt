@@ -5,8 +5,8 @@ use std::alloc::{AllocError, Global};
 use std::process::Abort;
 use vol_check::Checker;
 use vol_layout::Edition;
-use vol_reports::Report;
 use vol_mkfs::mkfs::mkfs;
+use vol_reports::Report;
 
 /// An image: what `mkfs` makes with two blocks of i-nodes, and bytes that are put in places.
 #[derive(Clone, Copy)]

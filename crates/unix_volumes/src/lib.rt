@@ -52,6 +52,6 @@ pub use vol_reports::{FreeFault, Line, Report, Total};
 pub use vol_shared::{Closed, MOST_SESSIONS, OpenFault, Session, Shared};
 pub use vol_views::{MOST_VIEWS, View, ViewFault};
 pub use vol_volume::{
-    Bytes, Call, Done, Listing, MountFault, Query, Record, Reply, Stat, TooManyRecords, Volume, ask,
-    judge,
+    Bytes, Call, Done, Listing, MountFault, Query, Record, Reply, Stat, TooManyRecords, Volume,
+    ask, judge,
 };

@@ -182,14 +182,13 @@ module _ (shared : Opened) where
   ended_player (kinds.Session wanted) (Caller session steps played) ended = ended.1
   ended_player (kinds.Session wanted) (Viewer view queries played) ended = absurd ended
   ended_player (kinds.View wanted) (Caller session steps played) ended = absurd ended
-  ended_player (kinds.View wanted) (Viewer view queries played) ended =
-      (
-        view_places wanted (next_number shared.stored) played.items ended.0,
-        view_cuts wanted (next_number shared.stored) played.items ended.0,
-        ended.1,
-        ended.2,
-        view_seen wanted (next_number shared.stored) played.items ended.0,
-      )
+  ended_player (kinds.View wanted) (Viewer view queries played) ended = (
+    view_places wanted (next_number shared.stored) played.items ended.0,
+    view_cuts wanted (next_number shared.stored) played.items ended.0,
+    ended.1,
+    ended.2,
+    view_seen wanted (next_number shared.stored) played.items ended.0,
+  )
 
   pub ended_players : (prepared : List Prepared) (players : List Player) → InPairs HasEnded prepared players → AllByRecursion IsEnded players
   ended_players [] [] all = tt

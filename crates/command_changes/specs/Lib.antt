@@ -1,3 +1,17 @@
+pub use Rattle.command_faults.specs.Changing
+pub use Rattle.command_faults.specs.Faults
+pub use Rattle.command_faults.specs.Streams
+pub use Rattle.vol_check.specs.Salvaging
+pub use Rattle.vol_dir.specs.Access
+pub use Rattle.vol_import.specs.Making
+pub use Rattle.vol_import.specs.Plan
+pub use Rattle.vol_judge.specs.Sound
+pub use Rattle.vol_layout.specs.Ids
+pub use Rattle.vol_mkfs.specs.Blank
+pub use Rattle.vol_removal.specs.Removing
+pub use Rattle.vol_volume.specs.Answer
+pub use Rattle.vol_volume.specs.Journal
+pub use Rattle.vol_volume.specs.Volume
 pub mod Changes
 pub mod Finding
 pub mod Import

@@ -1,3 +1,5 @@
+pub use Rattle.vol_judge.specs.Sound
+pub use Rattle.vol_volume.specs.Volume
 pub mod Changing
 pub mod Faults
 pub mod PathLines

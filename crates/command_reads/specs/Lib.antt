@@ -1,3 +1,14 @@
+pub use Rattle.command_faults.specs.Streams
+pub use Rattle.pdp_words.specs.Devices
+pub use Rattle.vol_check.specs.Reporting
+pub use Rattle.vol_dir.specs.Access
+pub use Rattle.vol_dir.specs.Entries
+pub use Rattle.vol_findings.specs.Reports
+pub use Rattle.vol_judge.specs.Sound
+pub use Rattle.vol_layout.specs.Body
+pub use Rattle.vol_layout.specs.Geometry
+pub use Rattle.vol_reports.specs.Texts
+pub use Rattle.vol_volume.specs.Volume
 pub mod Cat
 pub mod Check
 pub mod Checkers

@@ -1,3 +1,10 @@
+pub use Rattle.ustar.specs.Header
+pub use Rattle.ustar.specs.Names
+pub use Rattle.ustar.specs.Octal
+pub use Rattle.vol_dir.specs.Entries
+pub use Rattle.vol_layout.specs.Body
+pub use Rattle.vol_layout.specs.Geometry
+pub use Rattle.vol_layout.specs.Inode
 pub mod Exporting
 pub mod Laws
 pub mod Marks

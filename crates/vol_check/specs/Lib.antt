@@ -1,3 +1,17 @@
+pub use Rattle.count_table.specs.Sums
+pub use Rattle.count_table.specs.Tallies
+pub use Rattle.count_table.specs.Views
+pub use Rattle.vol_dir.specs.Entries
+pub use Rattle.vol_file.specs.Changes
+pub use Rattle.vol_file.specs.Rules
+pub use Rattle.vol_free.specs.FreeWalk
+pub use Rattle.vol_judge.specs.Marks
+pub use Rattle.vol_judge.specs.Sound
+pub use Rattle.vol_layout.specs.Geometry
+pub use Rattle.vol_reports.specs.Counted
+pub use Rattle.vol_reports.specs.Names
+pub use Rattle.vol_reports.specs.Reports
+pub use Rattle.vol_reports.specs.Words
 pub mod Pieces
 pub mod Parts
 pub mod Slots

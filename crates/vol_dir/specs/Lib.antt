@@ -1,3 +1,9 @@
+pub use Rattle.vol_file.specs.Changes
+pub use Rattle.vol_file.specs.Need
+pub use Rattle.vol_file.specs.Rules
+pub use Rattle.vol_layout.specs.Edition
+pub use Rattle.vol_layout.specs.Geometry
+pub use Rattle.vol_layout.specs.Slot
 pub mod Access
 pub mod DirectoryLaws
 pub mod Editing

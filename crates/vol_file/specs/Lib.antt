@@ -1,3 +1,9 @@
+pub use Rattle.vol_layout.specs.Body
+pub use Rattle.vol_layout.specs.Edition
+pub use Rattle.vol_layout.specs.Geometry
+pub use Rattle.vol_layout.specs.Inode
+pub use Rattle.vol_layout.specs.Names
+pub use Rattle.vol_layout.specs.Places
 pub mod Changes
 pub mod Clears
 pub mod Holes

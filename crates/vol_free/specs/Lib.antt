@@ -1,3 +1,7 @@
+pub use Rattle.pdp_words.specs.Words
+pub use Rattle.vol_layout.specs.Edition
+pub use Rattle.vol_layout.specs.Geometry
+pub use Rattle.vol_layout.specs.Super
 pub mod Stack
 pub mod FreeWalk
 pub mod Walking

@@ -1,3 +1,9 @@
+pub use Rattle.ustar.specs.Numbers
+pub use Rattle.ustar.specs.Reading
+pub use Rattle.vol_dir.specs.Access
+pub use Rattle.vol_judge.specs.Sound
+pub use Rattle.vol_volume.specs.Answer
+pub use Rattle.vol_volume.specs.Volume
 pub mod Entries
 pub mod Faults
 pub mod Making

@@ -1,3 +1,9 @@
+pub use Rattle.vol_file.specs.Rules
+pub use Rattle.vol_free.specs.Numbers
+pub use Rattle.vol_layout.specs.Edition
+pub use Rattle.vol_layout.specs.Geometry
+pub use Rattle.vol_layout.specs.Inode
+pub use Rattle.vol_reports.specs.Blocks
 pub mod Extents
 pub mod Inspecting
 pub mod Texts

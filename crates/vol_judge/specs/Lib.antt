@@ -1,3 +1,10 @@
+pub use Rattle.vol_dir.specs.Names
+pub use Rattle.vol_file.specs.Changes
+pub use Rattle.vol_file.specs.Rules
+pub use Rattle.vol_free.specs.Stack
+pub use Rattle.vol_layout.specs.Edition
+pub use Rattle.vol_layout.specs.Geometry
+pub use Rattle.vol_layout.specs.Slot
 pub mod Counting
 pub mod Directories
 pub mod Dots

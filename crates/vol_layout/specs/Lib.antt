@@ -1,3 +1,4 @@
+pub use Rattle.pdp_words.specs.Words
 pub mod Edition
 pub mod Geometry
 pub mod Ids

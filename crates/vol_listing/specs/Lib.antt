@@ -1,3 +1,9 @@
+pub use Rattle.escaped_text.specs.Escaping
+pub use Rattle.vol_change.specs.Nodes
+pub use Rattle.vol_dir.specs.Access
+pub use Rattle.vol_dir.specs.Tree
+pub use Rattle.vol_dir.specs.Walk
+pub use Rattle.vol_layout.specs.Geometry
 pub mod Dates
 pub mod Digits
 pub mod Json

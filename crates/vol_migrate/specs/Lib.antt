@@ -1,3 +1,17 @@
+pub use Rattle.pdp_words.specs.Words
+pub use Rattle.vol_dir.specs.Tree
+pub use Rattle.vol_file.specs.Changes
+pub use Rattle.vol_file.specs.Need
+pub use Rattle.vol_file.specs.Rules
+pub use Rattle.vol_file.specs.Shape
+pub use Rattle.vol_free.specs.Rebuilding
+pub use Rattle.vol_free.specs.Stack
+pub use Rattle.vol_judge.specs.Sound
+pub use Rattle.vol_layout.specs.Geometry
+pub use Rattle.vol_layout.specs.Names
+pub use Rattle.vol_layout.specs.Places
+pub use Rattle.vol_mkfs.specs.Mkfs
+pub use Rattle.vol_volume.specs.Volume
 pub mod Raised
 pub mod Refusing
 pub mod Migrating

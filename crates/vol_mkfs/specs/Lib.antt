@@ -1,2 +1,11 @@
+pub use Rattle.pdp_words.specs.Devices
+pub use Rattle.pdp_words.specs.Words
+pub use Rattle.vol_judge.specs.Sound
+pub use Rattle.vol_layout.specs.Edition
+pub use Rattle.vol_layout.specs.Geometry
+pub use Rattle.vol_layout.specs.Ids
+pub use Rattle.vol_layout.specs.Inode
+pub use Rattle.vol_layout.specs.Slot
+pub use Rattle.vol_layout.specs.Super
 pub mod Blank
 pub mod Mkfs

@@ -1,3 +1,8 @@
+pub use Rattle.command_faults.specs.Streams
+pub use Rattle.vol_scripts.specs.Ending
+pub use Rattle.vol_shared.specs.Sessions
+pub use Rattle.vol_shared.specs.Stored
+pub use Rattle.vol_views.specs.Logs
 pub mod Steps
 pub mod Opened
 pub mod Players

@@ -1,3 +1,8 @@
+pub use Rattle.count_table.specs.Tallies
+pub use Rattle.vol_judge.specs.Directories
+pub use Rattle.vol_judge.specs.Stepping
+pub use Rattle.vol_layout.specs.Geometry
+pub use Rattle.vol_layout.specs.Slot
 pub mod Words
 pub mod Placed
 pub mod Blocks

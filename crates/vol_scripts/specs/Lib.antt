@@ -1,3 +1,5 @@
+pub use Rattle.command_faults.specs.Faults
+pub use Rattle.command_faults.specs.Streams
 pub mod Ending
 pub mod Grammar
 pub mod Numbers

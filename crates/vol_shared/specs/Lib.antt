@@ -1,3 +1,12 @@
+pub use Rattle.count_table.specs.Sums
+pub use Rattle.vol_receipts.specs.Agrees
+pub use Rattle.vol_receipts.specs.Findings
+pub use Rattle.vol_views.specs.LogRule
+pub use Rattle.vol_views.specs.Logs
+pub use Rattle.vol_views.specs.Views
+pub use Rattle.vol_volume.specs.Journal
+pub use Rattle.vol_volume.specs.Verdict
+pub use Rattle.vol_volume.specs.Volume
 pub mod Lists
 pub mod Stored
 pub mod Published

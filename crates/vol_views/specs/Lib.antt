@@ -1,3 +1,9 @@
+pub use Rattle.vol_dir.specs.Tree
+pub use Rattle.vol_judge.specs.Sound
+pub use Rattle.vol_layout.specs.Geometry
+pub use Rattle.vol_receipts.specs.Agrees
+pub use Rattle.vol_volume.specs.Answer
+pub use Rattle.vol_volume.specs.Journal
 pub mod History
 pub mod LogRule
 pub mod States

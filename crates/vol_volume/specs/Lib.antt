@@ -1,3 +1,16 @@
+pub use Rattle.vol_change.specs.Nodes
+pub use Rattle.vol_change.specs.Ready
+pub use Rattle.vol_dir.specs.Access
+pub use Rattle.vol_dir.specs.Entries
+pub use Rattle.vol_dir.specs.Searching
+pub use Rattle.vol_dir.specs.Tree
+pub use Rattle.vol_dir.specs.Walk
+pub use Rattle.vol_file.specs.Rules
+pub use Rattle.vol_judge.specs.Sound
+pub use Rattle.vol_layout.specs.Body
+pub use Rattle.vol_layout.specs.Edition
+pub use Rattle.vol_layout.specs.Geometry
+pub use Rattle.vol_layout.specs.Ids
 pub mod Answer
 pub mod Answering
 pub mod Faults

@@ -13,6 +13,7 @@ use crate::sharing::{share, share_published};
 use std::alloc::Global;
 use std::sync::Wait;
 use std::thread::Threads;
+use vol_shared::MOST_VIEWS;
 
 /// What is asked of the volume, and by whom.
 #[derive(Clone, Copy)]

@@ -1,4 +1,4 @@
-use Rattle.std.proofs.Common.{◌≡◌, ℕ, Bool, List, Option, Result, Ok, ◌∷◌, [], Some, ap, subst, arith}
+use Rattle.std.proofs.Common.{◌≡◌, ℕ, List, Option, ◌∷◌, [], Some, ap, subst, arith}
 use Rattle.atomic_table.specs.declared.shared.Seat.{Seat}
 use Rattle.count_table.specs.declared.rule.Mark.{Mark}
 use Rattle.count_table.specs.declared.rule.SeatView.{SeatView}
@@ -9,9 +9,8 @@ use Rattle.count_table.proofs.Totals.{total_nil, total_cons}
 use Rattle.vol_layout.specs.declared.geometry.Geometry.{Geometry}
 use Rattle.vol_layout.proofs.BodyLaws.{zone_bounds}
 use Rattle.vol_free.specs.declared.free_walk.FreeFault.{FreeFault}
-use Rattle.vol_free.specs.declared.free_walk.FreeWalk.{FreeWalk}
 use Rattle.vol_free.specs.FreeWalk.{Walked, free_walk}
-use Rattle.vol_free.specs.Walking.{HasMet, StepFinds}
+use Rattle.vol_free.specs.Walking.{StepFinds}
 use Rattle.vol_free.proofs.FreeWalks.{met_most, met_one, zoned_last}
 use Rattle.vol_reports.specs.Words.{free_word}
 use Rattle.vol_check.specs.Pieces.{Adds, free_weight}

@@ -1,6 +1,6 @@
 pub mod Emptying
 pub mod Imported
-pub mod Made
-pub mod Put
+pub mod CallsMade
+pub mod PutFiles
 pub mod Removed
 pub mod TwoCalls

@@ -1,6 +1,6 @@
 //! What is told of an archive that isn't imported.
-ghost use Rattle.std.specs.Prelude.{◌≡◌, ◌++◌, IfOk, OnOk};
-ghost use Rattle.command_faults.specs.Faults.{fault_line, fault_status, refusal_status};
+ghost use Rattle.std.specs.Prelude.{◌≡◌, IfOk};
+ghost use Rattle.command_faults.specs.Faults.{fault_line, fault_status};
 ghost use Rattle.command_changes.specs.Import.{TellsFault};
 ghost use Rattle.command_changes.specs.ImportLines.{header_text, line_at, archive_line, cause_text, member_line, path_of, archive_status, import_status, import_line};
 

@@ -1,5 +1,5 @@
 //! `cat`, `get`, `mkfs` and `migrate`, which print all or nothing: what they open, and what they save.
-ghost use Rattle.std.specs.Prelude.{◌≡◌, ◌≢◌, ◌⊎◌, [], ◌≤◌, ℕ, Bool, List, Option, true, IfErr, IfOk, IfSome, IsErrAnd};
+ghost use Rattle.std.specs.Prelude.{◌≡◌, ◌≢◌, ◌≤◌, ℕ, Bool, List, Option, true, IfOk, IsErrAnd};
 ghost use Rattle.std.specs.Io.KnownBytes.{Keeps};
 ghost use Rattle.std.specs.Process.{exit_status};
 ghost use Rattle.command_reads.specs.Cat.{IsNoWriters};
@@ -29,7 +29,6 @@ use std::fs::{self, Files};
 use std::io::{self, Write};
 use std::process::ExitCode;
 use std::rt::Clock;
-use vol_layout::Edition;
 use vol_mkfs::NewVolume;
 
 /// Does what was read of the command line, and answers how the program ends. What it prints goes to `output`,

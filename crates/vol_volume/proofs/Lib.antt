@@ -13,3 +13,4 @@ pub mod PerformedCalls
 mod QueriedNodes
 pub mod Refusals
 pub mod StandingImages
+pub mod TwoPaths

@@ -15,7 +15,7 @@ use pdp_words::{Image, Sink, write_all};
 use std::alloc::{AllocError, Global};
 use std::sync::Wait;
 use std::thread::Threads;
-use vol_check::{Checker, Open, dcheck, icheck, ncheck};
+use vol_check::{Checker, MOST_WORKERS, Open, dcheck, icheck, ncheck};
 use vol_layout::Edition;
 use vol_reports::Report;
 
@@ -32,7 +32,7 @@ pub fn check<R: Threads + Wait + Sync, O: Sink, E: Sink>(
     errors: &mut E,
 ) -> u8
     requires first { 1 ≤ workers }
-    requires last { workers ≤ 64 }
+    requires last { workers ≤ MOST_WORKERS }
     ensures { Checks checker edition image.items (streams O.contents O.failed output.old output.new (heard E.contents E.failed errors.old errors.new)) result }
 {
     let ending = perform(rt, alloc, edition, image, checker, workers, output);
@@ -54,7 +54,7 @@ pub fn perform<R: Threads + Wait + Sync, O: Sink>(
     output: &mut O,
 ) -> Ending
     requires first { 1 ≤ workers }
-    requires last { workers ≤ 64 }
+    requires last { workers ≤ MOST_WORKERS }
     ensures { (errors : ErrorStream) → Hears errors result.fault
         → Checks checker edition image.items (streams O.contents O.failed output.old output.new errors) result.status }
 {
@@ -73,7 +73,7 @@ fn find<R: Threads + Wait + Sync>(
     workers: usize,
 ) -> Result<Report, AllocError>
     requires first { 1 ≤ workers }
-    requires last { workers ≤ 64 }
+    requires last { workers ≤ MOST_WORKERS }
     ensures { IfOk result (IsReport checker edition image.now) }
 {
     match checker {

@@ -3,6 +3,8 @@ ghost use Rattle.std.specs.Prelude.{◌≡◌, ◌==◌, SomeIff, slice_index};
 ghost use Rattle.std.specs.Str.Parse.{digits_value};
 ghost use Rattle.command_words.specs.Decimal.{IsNumberUpTo, IsThreads};
 
+use vol_check::MOST_WORKERS;
+
 /// The number of 16 bits that `text` writes: one or more decimal digits, of which the first may be
 /// zeros, and no sign. `None` where the text is anything else, or the number has more bits.
 pub(crate) fn word_of(text: &str) -> Option<u16>
@@ -24,16 +26,15 @@ pub(crate) fn long_of(text: &str) -> Option<u32>
     text.parse::<u32>().ok()
 }
 
-/// The most threads that a command works with.
-const MOST_THREADS: u16 = 64;
-
-/// The number of threads, 1 to 64, that `text` writes, as [`word_of`] reads a number. `None` where the text is anything
+/// The number of threads, 1 to [`MOST_WORKERS`], that `text` writes, as [`word_of`] reads a number. `None` where the text is anything
 /// else, or another number.
 pub(crate) fn threads_of(text: &str) -> Option<usize>
     ensures { SomeIff result (IsThreads text.now) (digits_value 10 text.now) }
 {
     match word_of(text) {
-        Some(number) if 0 < number && number <= MOST_THREADS => Some(usize::from(number)),
+        Some(number) if 0 < number && usize::from(number) <= MOST_WORKERS => {
+            Some(usize::from(number))
+        },
         _ => None,
     }
 }

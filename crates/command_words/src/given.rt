@@ -103,7 +103,7 @@ pub(crate) fn moment_in<'a, G: Given<'a>>(given: &G, clock: Option<u32>) -> Resu
     }
 }
 
-/// The most scripts that are played.
+/// The most scripts that are played: one for each session that a shared volume may have.
 const MOST_SCRIPTS: usize = 64;
 
 /// The scripts that were given.

@@ -21,7 +21,7 @@ use std::process::ExitCode;
 use std::rt::Clock;
 use std::sync::Wait;
 use std::thread::Threads;
-use vol_check::{Checker, Open};
+use vol_check::{Checker, MOST_WORKERS, Open};
 
 /// Does with the volume in a file what several threads are asked for, and answers how the program ends. What it prints goes
 /// to `output`, which is standard output; a fault is one line on standard error. `errors` writes to standard error too.
@@ -77,7 +77,7 @@ fn run_check<R: ImageFiles + Eprint + AllocGlobal + Threads + Wait + Sync, O: Si
     workers: usize,
 ) -> Ending
     requires first { 1 ≤ workers }
-    requires last { workers ≤ 64 }
+    requires last { workers ≤ MOST_WORKERS }
     ensures { (errors : ErrorStream) → Hears errors result.fault
         → RunsCheck (streams O.contents O.failed output.old output.new errors) (host_files R.File.remaining R.File.contents R.had R.stood) volume.entry.edition checker result.status }
 {

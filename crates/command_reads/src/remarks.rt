@@ -112,7 +112,7 @@ fn push_shared(alloc: Global, lines: &mut Vec<u8>, blocks: &[u32]) -> Result<(),
 }
 
 /// Appends the line of a block that two places of files name.
-#[tactic(auto, unfolding(crate::specs::Telling::shared_line))]
+#[tactic(auto, unfolding(crate::specs::Remarks::shared_line))]
 fn push_shared_line(alloc: Global, lines: &mut Vec<u8>, block: u32) -> Result<(), AllocError>
     ensures { OnOk result (lines.new.items ≡ lines.old.items ++ shared_line block) }
 {

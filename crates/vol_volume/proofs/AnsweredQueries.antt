@@ -23,7 +23,7 @@ use Rattle.vol_volume.specs.declared.queries.Stat.{Stat}
 use Rattle.vol_volume.proofs.Refusals.{query_other}
 
 -- what is asked before the walk, of what is known of numbers and zero bytes
-abbrev asked_first : Bool → Bool → Option Refusal → Option Refusal
+abbrev pub asked_first : Bool → Bool → Option Refusal → Option Refusal
 asked_first bad zero others = if bad then Some refusals.BadId else if zero then Some refusals.Invalid else others
 
 refused_by : (bad zero : Bool) (others : Option Refusal) (refusal : Refusal) → Some refusal ≡ asked_first bad zero None

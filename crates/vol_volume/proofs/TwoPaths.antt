@@ -1,5 +1,5 @@
 -- What a call of two paths is asked first: numbers of the user and group, and zero bytes in both.
-use Rattle.std.proofs.Common.{◌≡◌, ℕ, Bool, true, false, ◌||◌, if◌then◌else◌, List, [], ◌∷◌, Option, None, Some, refl, sym}
+use Rattle.std.proofs.Common.{◌≡◌, ℕ, Bool, true, false, ◌||◌, List, [], ◌∷◌, Option, None, Some, refl, sym}
 use Rattle.vol_layout.specs.Ids.{is_bad_id}
 use Rattle.vol_layout.specs.declared.geometry.Geometry.{Geometry}
 use Rattle.vol_dir.specs.Tree.{tree}
@@ -8,10 +8,7 @@ use Rattle.vol_dir.specs.declared.cred.Cred.{Cred}
 use Rattle.vol_dir.specs.declared.refusal.Refusal.{Refusal}
 use Rattle.vol_dir.specs.declared.refusal.Refusal.TheVariants as refusals
 use Rattle.vol_volume.specs.Verdict.{then_others}
-
--- what is known of numbers and zero bytes, and then others
-abbrev asked_first : Bool → Bool → Option Refusal → Option Refusal
-asked_first bad zero others = if bad then Some refusals.BadId else if zero then Some refusals.Invalid else others
+use Rattle.vol_volume.proofs.AnsweredQueries.{asked_first}
 
 refused_by : (bad source target : Bool) (others : Option Refusal) (refusal : Refusal) → Some refusal ≡ asked_first bad source None
     → asked_first bad (source || (target || false)) others ≡ Some refusal

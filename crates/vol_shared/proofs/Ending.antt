@@ -71,17 +71,16 @@ module _ (opened : Stored) (sessions : List Known) (v : Knowledge) (last : Store
       let c = counts opened v last is in
       omega arith
 
+  -- all receipts agree with the records that were cut and the journal behind them
+  end_whole : All (λ s. All (Agrees opened.origin (is.goes_on.0 ++ last.journal)) s.receipts) sessions
+  end_whole = all_flat (λ (s : Known). s.receipts) (Agrees opened.origin (is.goes_on.0 ++ last.journal)) sessions
+      (subst (All (Agrees opened.origin (is.goes_on.0 ++ last.journal))) gathered.receipts is.goes_on.2)
+
   pub end_goes_on : Continues opened last (λ agrees. All (λ s. All agrees s.receipts) sessions)
-  end_goes_on =
-      let gone = is.goes_on.0 in (
-        gone,
-        is.goes_on.1,
-        all_flat (λ (s : Known). s.receipts) (Agrees opened.origin (gone ++ last.journal)) sessions
-            (subst (All (Agrees opened.origin (gone ++ last.journal))) gathered.receipts is.goes_on.2),
-      )
+  end_goes_on = (is.goes_on.0, is.goes_on.1, end_whole)
 
   pub end_agree : All (λ s. All (λ r. last.origin.first ≤ r.at → Agrees last.origin last.journal r) s.receipts) sessions
   end_agree k d lt j e low le =
       let gone = is.goes_on.0 in
       let follows = is.goes_on.1 in
-      agrees_after_cut opened.origin last.origin gone last.journal _ follows.first follows.starts le (end_goes_on.2 k d lt j e low)
+      agrees_after_cut opened.origin last.origin gone last.journal _ follows.first follows.starts le (end_whole k d lt j e low)

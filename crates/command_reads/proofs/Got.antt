@@ -8,7 +8,7 @@ use Rattle.vol_change.specs.Nodes.{node_at}
 use Rattle.vol_dir.specs.Tree.{Tree}
 use Rattle.vol_dir.specs.Walk.{walk}
 use Rattle.vol_judge.specs.Sound.{IsSound}
-use Rattle.vol_volume.specs.Answer.{query_refusal, reply_of, refused_or, reply_at, read_bytes}
+use Rattle.vol_volume.specs.Answer.{answer, query_refusal, reply_of, refused_or, reply_at, read_bytes}
 use Rattle.vol_volume.specs.Volume.{Mounted, mounted, reads_as}
 use Rattle.command_faults.proofs.Concluded.{fault_few, refusal_fails}
 use Rattle.command_faults.specs.Streams.{ErrorStream, says}
@@ -17,6 +17,7 @@ use Rattle.command_faults.specs.declared.fault.Fault.{Fault}
 use Rattle.vol_dir.specs.declared.refusal.Refusal.{Refusal}
 use Rattle.vol_layout.specs.declared.edition.Edition.{Edition}
 use Rattle.vol_dir.specs.Access.{user}
+use Rattle.vol_volume.specs.declared.queries.Query.{Query}
 use Rattle.vol_volume.specs.declared.queries.Query.TheVariants as queries
 use Rattle.vol_volume.specs.declared.queries.Reply.{Reply}
 use Rattle.vol_volume.specs.declared.queries.Reply.TheVariants as replies
@@ -60,11 +61,12 @@ bytes_by None (Err refusal) bytes reply e = absurd (cc)
 bytes_by None (Ok i) bytes reply e = let same : replies.Bytes (bytes i) ≡ reply = cc in subst IsBytes same tt
 
 -- the question for the bytes of a file is answered with bytes
-pub answer_bytes : (tree : Tree) (path : List ℕ) (reply : Reply) → body_answer tree path ≡ Ok reply → IsBytes reply
+pub answer_bytes : (tree : Tree) (path : List ℕ) (query : Query) (reply : Reply) → query ≡ queries.Read user path 0 4294967295
+    → answer tree query ≡ Ok reply → IsBytes reply
 unfolding reply_of
-answer_bytes tree path reply e =
+answer_bytes tree path query reply is e =
     bytes_by (query_refusal tree (queries.Read user path 0 4294967295)) (walk tree user path)
-    (λ i. read_bytes (body_of (node_at tree i).content) 0 4294967295) reply e
+    (λ i. read_bytes (body_of (node_at tree i).content) 0 4294967295) reply (subst (λ (q : Query). answer tree q ≡ Ok reply) is e)
 
 -- the first path whose file isn't read, behind those whose files are
 pub obstacle : (tree : Tree) (paths : List (Bor (List ℕ))) (k : ℕ) (d : Bor (List ℕ)) (files : List FileRead) (fault : GetFault) → k < length paths

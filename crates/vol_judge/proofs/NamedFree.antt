@@ -34,10 +34,6 @@ clear_more marks blocks b clear none k among = elim (in_append k blocks (b ∷ [
   | inr (inr past) ↦ absurd past
 ]
 
--- a marked block after others that aren't is the first
-pub marked_last : (marks blocks : List ℕ) (b : ℕ) → AreClear marks blocks → get_or marks b 0 ≢ 0 → IsFirstMarked marks (blocks ++ b ∷ []) b
-marked_last marks blocks b clear some = record { before = blocks; after = []; is = refl; marked = some; clear = clear }
-
 -- the first that is marked is the first of more
 pub marked_more : (marks blocks : List ℕ) (b n : ℕ) → IsFirstMarked marks blocks n → IsFirstMarked marks (blocks ++ b ∷ []) n
 marked_more marks blocks b n first = record {

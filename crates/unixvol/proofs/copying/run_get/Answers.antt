@@ -10,7 +10,7 @@ returns-in-Err-clause-runs g c known failed errors hears = inl (c.in-Err.ensures
 
 pub returns-clause-runs : goal.returns-clause-runs
 returns-clause-runs g c known failed errors hears =
-    let read = c.perform-read in
+    let read = c.get_files-read in
     inr (c.in-Ok.read.0.items, read.result, c.in-Ok.ensures.given, read.ensures errors hears, Keeps-refl known, refl, c.save_read-status.ensures)
 
 pub returns-in-Err-clause-ends : goal.returns-in-Err-clause-ends
@@ -19,5 +19,5 @@ returns-in-Err-clause-ends g c known failed errors hears =
 
 pub returns-clause-ends : goal.returns-clause-ends
 returns-clause-ends g c known failed errors hears =
-    ends_got c.args.volume.edition c.in-Ok.read.0.items _ (still known failed errors) (IsTaken g.R.File.Write.contents) c.perform-read.result c.save_read-status.result
-    (c.perform-read.ensures errors hears) (Keeps-refl known) refl c.save_read-status.ensures
+    ends_got c.args.volume.edition c.in-Ok.read.0.items _ (still known failed errors) (IsTaken g.R.File.Write.contents) c.get_files-read.result c.save_read-status.result
+    (c.get_files-read.ensures errors hears) (Keeps-refl known) refl c.save_read-status.ensures

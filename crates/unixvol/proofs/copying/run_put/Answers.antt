@@ -36,10 +36,10 @@ returns-clause-runs g c known failed errors hears =
         c.in-Ok.read.0.bytes.items,
         c.in-Ok.read.1,
         c.in-Ok-read_named.files.items,
-        c.perform-answer.result,
+        c.put_files-answer.result,
         c.in-Ok.ensures.given,
         (c.in-Ok-read_named.ensures.given, c.in-Ok-read_named.ensures.named),
-        c.perform-answer.ensures errors hears,
+        c.put_files-answer.ensures errors hears,
         Keeps-refl known,
         refl,
         c.save_answer-status.ensures,
@@ -56,8 +56,8 @@ returns-in-Err-read_named-clause-ends g c known failed errors hears =
 
 pub returns-clause-ends : goal.returns-clause-ends
 returns-clause-ends g c known failed errors hears =
-    ends_imported c.args.volume.edition c.in-Ok.read.0.bytes.items _ (still known failed errors) _ c.perform-answer.result c.save_answer-status.result
-    (c.perform-answer.ensures errors hears) (Keeps-refl known) refl c.save_answer-status.ensures
+    ends_imported c.args.volume.edition c.in-Ok.read.0.bytes.items _ (still known failed errors) _ c.put_files-answer.result c.save_answer-status.result
+    (c.put_files-answer.ensures errors hears) (Keeps-refl known) refl c.save_answer-status.ensures
 
 pub returns-in-Some-clause-ends : goal.returns-in-Some-clause-ends
 returns-in-Some-clause-ends g c known failed errors hears =

@@ -1,7 +1,8 @@
 -- What a change of one node leaves of the others.
 use Rattle.std.specs.Prelude.{◌≡◌, ◌≢◌, ℕ, ◌+◌, ◌*◌, ◌<◌, ◌≤◌, List, slice_index}
 use Rattle.pdp_words.specs.Words.{long}
-use Rattle.vol_layout.specs.Inode.{inode_of}
+use Rattle.vol_layout.specs.Edition.{constants}
+use Rattle.vol_layout.specs.Inode.{inode_of, inode_place}
 use Rattle.vol_layout.specs.Names.{mode_of, IsFile, IsPlaceOf, named}
 use Rattle.vol_layout.specs.Body.{body}
 use Rattle.vol_layout.specs.Super.{time_place}
@@ -29,3 +30,9 @@ pub record ChangesOnly (geometry : Geometry) (old new : List ℕ) (i : ℕ) : Ty
   pub around : StaysAround geometry old new
   pub time : long new (time_place geometry.edition) ≡ long old (time_place geometry.edition)
   pub others : (j : ℕ) → 1 ≤ j → j ≤ geometry.last_inode → j ≢ i → KeepsNode geometry old new j
+
+-- all bytes are as they were, but for those of i-node i and of the super-block's time (ino.h, filsys.h)
+pub record ChangesInode (geometry : Geometry) (old new : List ℕ) (i : ℕ) : Type 0 where
+  pub before : (k : ℕ) → k < time_place geometry.edition → slice_index new k ≡ slice_index old k
+  pub between : (k : ℕ) → time_place geometry.edition + 4 ≤ k → k < inode_place geometry.edition i → slice_index new k ≡ slice_index old k
+  pub behind : (k : ℕ) → inode_place geometry.edition i + (constants geometry.edition).inode_bytes ≤ k → slice_index new k ≡ slice_index old k

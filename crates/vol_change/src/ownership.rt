@@ -1,7 +1,9 @@
 //! The permission bits of a node, and its owner.
-ghost use Rattle.std.specs.Prelude.{◌≡◌, ◌≤◌};
+ghost use Rattle.std.specs.Prelude.{◌≡◌, ◌+◌, ◌≤◌};
+ghost use Rattle.pdp_words.specs.Words.{SameOutside};
 ghost use Rattle.vol_layout.specs.Edition.{constants};
 ghost use Rattle.vol_layout.specs.Body.{body};
+ghost use Rattle.vol_layout.specs.Inode.{inode_place};
 ghost use Rattle.vol_layout.specs.Names.{IsFile};
 ghost use Rattle.vol_file.specs.Rules.{kind_at};
 ghost use Rattle.vol_dir.specs.Tree.{state};
@@ -28,6 +30,8 @@ pub fn put_permissions(image: &mut Image, geometry: &Geometry, i: u16, permissio
     ensures kind { kind_at geometry.now image.new i ≡ kind_at geometry.now image.old i }
     ensures bytes { IsFile geometry.now image.old i → body geometry.now image.new i ≡ body geometry.now image.old i }
     ensures unused { KeepsAllUnused geometry.now image.old image.new }
+    ensures others { SameOutside image.old image.new (inode_place geometry.now.edition i)
+        (inode_place geometry.now.edition i + (constants geometry.now.edition).inode_bytes) }
 {
     let node = inode(image, geometry, i);
     let permitted = Inode {
@@ -48,6 +52,8 @@ pub fn put_owner(image: &mut Image, geometry: &Geometry, i: u16, uid: u16, gid: 
         (change_node i (with_owner now uid gid) (state geometry.now image.old)) as_before }
     ensures graph { IsSameGraph (graph_of geometry.now image.old) (graph_of geometry.now image.new) }
     ensures unused { KeepsAllUnused geometry.now image.old image.new }
+    ensures others { SameOutside image.old image.new (inode_place geometry.now.edition i)
+        (inode_place geometry.now.edition i + (constants geometry.now.edition).inode_bytes) }
 {
     let node = inode(image, geometry, i);
     let owned = Inode {

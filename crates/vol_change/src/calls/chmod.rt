@@ -4,6 +4,7 @@ ghost use Rattle.vol_layout.specs.Body.{body};
 ghost use Rattle.vol_layout.specs.Names.{IsFile};
 ghost use Rattle.vol_dir.specs.Entries.{IsInUse};
 ghost use Rattle.vol_dir.specs.Tree.{state};
+ghost use Rattle.vol_change.specs.Alone.{ChangesInode};
 ghost use Rattle.vol_change.specs.Changed.{FreeBecomes, KeepsFilesBut, as_before};
 ghost use Rattle.vol_change.specs.Edits.{at_time};
 ghost use Rattle.vol_change.specs.Effects.{after_chmod};
@@ -26,6 +27,7 @@ pub fn chmod(image: &mut Image, geometry: &Geometry, i: u16, permissions: u16, m
     ensures bytes { IsFile geometry.now image.old i → body geometry.now image.new i ≡ body geometry.now image.old i }
     ensures files { KeepsFilesBut geometry.now image.old image.new i i }
     ensures unused { KeepsAllUnused geometry.now image.old image.new }
+    ensures inode { ChangesInode geometry.now image.old image.new i }
 {
     put_permissions(image, geometry, i, permissions, moment);
     put_time(image, geometry, moment);

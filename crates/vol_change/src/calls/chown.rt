@@ -3,6 +3,7 @@ ghost use Rattle.std.specs.Prelude.{◌≤◌};
 ghost use Rattle.vol_layout.specs.Edition.{constants};
 ghost use Rattle.vol_dir.specs.Entries.{IsInUse};
 ghost use Rattle.vol_dir.specs.Tree.{state};
+ghost use Rattle.vol_change.specs.Alone.{ChangesInode};
 ghost use Rattle.vol_change.specs.Changed.{FreeBecomes, KeepsFiles, as_before};
 ghost use Rattle.vol_change.specs.Edits.{at_time};
 ghost use Rattle.vol_change.specs.Effects.{after_chown};
@@ -26,6 +27,7 @@ pub fn chown(image: &mut Image, geometry: &Geometry, i: u16, uid: u16, gid: u16,
     ensures list { FreeBecomes geometry.now image.old image.new as_before }
     ensures files { KeepsFiles geometry.now image.old image.new }
     ensures unused { KeepsAllUnused geometry.now image.old image.new }
+    ensures inode { ChangesInode geometry.now image.old image.new i }
 {
     put_owner(image, geometry, i, uid, gid, moment);
     put_time(image, geometry, moment);

@@ -7,7 +7,7 @@ use Rattle.vol_change.proofs.CallSteps.{changed, no_step, step_more}
 use Rattle.vol_change.proofs.OneNode.{content_then}
 use Rattle.vol_change.proofs.ReadyLaws.{ready_whole}
 use Rattle.vol_change.proofs.UnusedBytes.{unused_then}
-use Rattle.vol_change.proofs.UnusedNodes.{time_unused}
+use Rattle.vol_change.proofs.UnusedNodes.{time_unused, inode_alone}
 use Rattle.vol_change.proofs.calls.chmod.chmod.Goals as goal
 
 pub put_permissions-requires : goal.put_permissions-requires
@@ -48,4 +48,5 @@ returns c =
           content_then geometry old mid new j (c.put_permissions.ensures.changed.content j low high other) (c.put_time.ensures.changed.content j low high tt);
       unused = λ j low high.
           unused_then geometry old mid new j (c.put_permissions.ensures.unused j low high) (time_unused geometry mid new j c.put_time.ensures.others);
+      inode = inode_alone geometry old mid new c.args.i c.put_permissions.ensures.others c.put_time.ensures.others;
     }

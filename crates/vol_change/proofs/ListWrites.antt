@@ -5,7 +5,7 @@ use Rattle.std.proofs.lemmas.Bool.{cases_eq}
 use Rattle.pdp_words.specs.Words.{long, SameOutside}
 use Rattle.vol_layout.specs.Edition.{constants}
 use Rattle.vol_layout.specs.Inode.{inode_of, inode_place, kind_of}
-use Rattle.vol_layout.specs.Names.{mode_of, named}
+use Rattle.vol_layout.specs.Names.{form_at, mode_of, named}
 use Rattle.vol_layout.specs.Places.{has_places}
 use Rattle.vol_layout.specs.Super.{time_place}
 use Rattle.vol_layout.specs.declared.geometry.Geometry.{Geometry}
@@ -25,12 +25,23 @@ use Rattle.vol_judge.proofs.ImageGraphs.{directory_from, inside_from}
 use Rattle.vol_change.specs.Edits.{at_time, change_node}
 use Rattle.vol_change.specs.NodeGraphs.{SetsLinks}
 use Rattle.vol_change.specs.Alone.{KeepsContent}
+use Rattle.vol_change.specs.Changed.{KeepsStored}
 use Rattle.vol_change.specs.Whole.{Rules3To8, Keeps}
-use Rattle.vol_change.proofs.Contents.{KeepsReading, reading, form_by, kind_same, entry_reads, shape_reads, shape_same, node_same, node_of_reading}
+use Rattle.vol_change.proofs.Contents.{KeepsReading, reading, form_by, form_reads, kind_same, entry_reads, shape_reads, shape_same, node_same, node_of_reading}
 use Rattle.vol_dir.proofs.WalkLaws.{node_inside}
 use Rattle.vol_change.proofs.States.{makes_node, makes_time}
 use Rattle.vol_layout.proofs.EditionLaws.{super_order}
-use Rattle.vol_change.proofs.WholeLaws.{whole_kept, whole_reading, around_list, zone_behind}
+use Rattle.vol_change.proofs.WholeLaws.{whole_kept, whole_reading, around_list, zone_behind, place_before}
+
+-- the places stay where the form and the addresses do
+places_by : (geometry : Geometry) (old new : List ℕ) (i : ℕ) → form_at geometry new i ≡ form_at geometry old i
+    → (inode_of geometry.edition new i).addresses ≡ (inode_of geometry.edition old i).addresses → KeepsPlaces geometry old new i
+places_by geometry old new i form addresses = record {
+  form = form;
+  addresses = λ k h.
+      sym (inode_address geometry.edition new (inode_place geometry.edition i) k h)
+      ∙ (ap (λ xs. get_or xs k 0) addresses ∙ inode_address geometry.edition old (inode_place geometry.edition i) k h);
+}
 
 -- a write below the data zone keeps what i-node i holds, where its kind, the bits of its mode above the permissions, its size and its
 -- addresses stay
@@ -39,12 +50,7 @@ reading_fields : (geometry : Geometry) (old new : List ℕ) (from to i : ℕ) �
     → size_of geometry new i ≡ size_of geometry old i
     → (inode_of geometry.edition new i).addresses ≡ (inode_of geometry.edition old i).addresses → KeepsReading geometry old new i
 reading_fields geometry old new from to i same below kind type size addresses =
-    let places : KeepsPlaces geometry old new i = record {
-      form = form_by geometry.edition (mode_of geometry new i) (mode_of geometry old i) kind type;
-      addresses = λ k h.
-          sym (inode_address geometry.edition new (inode_place geometry.edition i) k h)
-          ∙ (ap (λ xs. get_or xs k 0) addresses ∙ inode_address geometry.edition old (inode_place geometry.edition i) k h);
-    } in
+    let places = places_by geometry old new i (form_by geometry.edition (mode_of geometry new i) (mode_of geometry old i) kind type) addresses in
     record {
       kind = kind;
       type = type;
@@ -78,6 +84,20 @@ pub content_kept : (geometry : Geometry) (old new : List ℕ) (from to i : ℕ) 
 content_kept geometry old new from to i zoned same below kept =
     content_fields geometry old new from to i zoned same below (mode_kept geometry old new i kept) (size_kept geometry old new i kept)
     (ap (λ node. node.addresses) (inode_of_kept geometry old new i kept))
+
+-- and what a truncation kept of file i is kept by such a write too
+pub stored_then : (geometry : Geometry) (old mid new : List ℕ) (from to i left : ℕ) → KeepsStored geometry old mid i left → KeepsContent geometry mid new i
+    → SameOutside mid new from to → to ≤ 512 * geometry.zone_start → KeepsStored geometry old new i left
+stored_then geometry old mid new from to i left stored kept same below =
+    let reads = reading geometry mid new i kept in
+    record {
+      names = λ p place.
+          let before = place_before geometry mid new i p reads place in
+          kept.names p before ∙ stored.names p before;
+      bytes = λ n h.
+          body_byte_list_kept geometry mid new from to i n (places_by geometry mid new i (form_reads geometry mid new i reads) kept.addresses) same below
+          ∙ stored.bytes n h;
+    }
 
 -- the entries of directories stay where what all i-nodes hold does
 entries_stay : (geometry : Geometry) (old new : List ℕ) (x s : ℕ)

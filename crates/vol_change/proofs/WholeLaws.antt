@@ -1,5 +1,5 @@
 -- What keeps the rules from 1 to 8, and the bytes that no call changes.
-use Rattle.std.proofs.Common.{◌≡◌, ◌≢◌, ℕ, ◌+◌, ◌*◌, ◌<◌, ◌≤◌, ◌∙◌, sym, ap, subst, refl, List, length, slice_index, inl, inr, Ok, arith}
+use Rattle.std.proofs.Common.{◌≡◌, ◌≢◌, ℕ, ◌*◌, ◌<◌, ◌≤◌, ◌∙◌, sym, ap, subst, refl, List, length, slice_index, inl, inr, Ok, arith}
 use Rattle.std.proofs.lemmas.Bool.{false≢true}
 use Rattle.pdp_words.specs.Words.{SameOutside}
 use Rattle.vol_layout.specs.Edition.{constants}
@@ -7,7 +7,7 @@ use Rattle.vol_layout.specs.Geometry.{geometry_of, geometry_read, in_zone, Fits}
 use Rattle.vol_layout.specs.Inode.{inode_of}
 use Rattle.vol_layout.specs.Names.{IsFile, IsPlaceOf, named}
 use Rattle.vol_layout.specs.Places.{has_places, IsPlace}
-use Rattle.vol_layout.specs.Super.{free_head, cache_head, time_place}
+use Rattle.vol_layout.specs.Super.{free_head}
 use Rattle.vol_layout.specs.declared.edition.Edition.{Edition}
 use Rattle.vol_layout.specs.declared.edition.Edition.TheVariants.{V6, V7}
 use Rattle.vol_layout.specs.declared.geometry.Geometry.{Geometry}
@@ -141,16 +141,21 @@ file_to geometry old new j same file = record {
   kind = ap has_places (same file.first file.last) ∙ file.kind;
 }
 
+-- a place of an i-node that holds what it did was one before
+pub place_before : (geometry : Geometry) (old new : List ℕ) (j : ℕ) (p : List ℕ) → KeepsReading geometry old new j → IsPlaceOf geometry new j p
+    → IsPlaceOf geometry old j p
+place_before geometry old new j p kept place = record {
+  file = file_to geometry new old j (λ first last. sym kept.kind) place.file;
+  place = subst (λ form. IsPlace form p) (form_reads geometry old new j kept) place.place;
+}
+
 -- where what all i-nodes hold stays, the places name the same
 pub names_reading : (geometry : Geometry) (old new : List ℕ)
     → ((j : ℕ) → 1 ≤ j → j ≤ geometry.last_inode → KeepsReading geometry old new j) → SameNames geometry old new
 names_reading geometry old new kept = record {
   from = λ j p place some.
       let here = kept j place.file.first place.file.last in
-      let before : IsPlaceOf geometry old j p = record {
-        file = file_to geometry new old j (λ first last. sym here.kind) place.file;
-        place = subst (λ form. IsPlace form p) (form_reads geometry old new j here) place.place;
-      } in
+      let before = place_before geometry old new j p here place in
       (before, here.names p before);
   to = λ j p place some.
       let here = kept j place.file.first place.file.last in (

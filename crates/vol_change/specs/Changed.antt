@@ -1,10 +1,11 @@
 -- What each change of nodes leaves: the rules, the tree, the free list, and what it spares.
-use Rattle.std.specs.Prelude.{◌≡◌, ◌≢◌, ℕ, ◌≤◌, if◌then◌else◌, List, []}
-use Rattle.vol_layout.specs.Body.{body}
+use Rattle.std.specs.Prelude.{◌≡◌, ◌≢◌, ℕ, ◌/◌, ◌<◌, ◌≤◌, if◌then◌else◌, List, []}
+use Rattle.vol_layout.specs.Body.{body, body_byte}
+use Rattle.vol_layout.specs.Names.{form_at, IsPlaceOf, named}
 use Rattle.vol_layout.specs.Places.{has_places}
 use Rattle.vol_layout.specs.declared.geometry.Geometry.{Geometry}
 use Rattle.vol_free.specs.Stack.{IsFree}
-use Rattle.vol_file.specs.Changes.{blocks_of, spliced}
+use Rattle.vol_file.specs.Changes.{blocks_of, spliced, is_kept, whole_blocks}
 use Rattle.vol_file.specs.Rules.{kind_at}
 use Rattle.vol_dir.specs.Tree.{State, state}
 use Rattle.vol_change.specs.Alone.{KeepsContent}
@@ -40,6 +41,12 @@ pub record Changed (geometry : Geometry) (old new : List ℕ) (Kept : ℕ → Ty
 -- of the bytes of directory d those of a text were put at a place, and no others have changed: neither what stands behind the end of another name, nor the name of an empty slot (manual section 5, directories)
 abbrev pub PutsInBody : Geometry → List ℕ → List ℕ → ℕ → ℕ → List ℕ → Type 0
 PutsInBody geometry old new d at text = body geometry new d ≡ spliced (body geometry old d) at text
+
+-- of file i the places on the ways of its first `left` bytes name what they did, and all that is stored in the blocks of those bytes stays, also past them (Lions on itrunc; that bytes may stay is this project's)
+pub record KeepsStored (geometry : Geometry) (old new : List ℕ) (i left : ℕ) : Type 0 where
+  pub names : (p : List ℕ) → IsPlaceOf geometry new i p
+      → named geometry new i p ≡ (if is_kept (form_at geometry old i) left p then named geometry old i p else 0)
+  pub bytes : (n : ℕ) → n / 512 < whole_blocks left → body_byte geometry new i n ≡ body_byte geometry old i n
 
 -- each file but two stands for what it did, with all bytes of its blocks (this project)
 abbrev pub KeepsFilesBut : Geometry → List ℕ → List ℕ → ℕ → ℕ → Type 0

@@ -2,6 +2,8 @@
 ghost use Rattle.std.specs.Prelude.{◌≡◌, ◌≢◌, ℕ, ◌+◌, ◌≤◌};
 ghost use Rattle.std.specs.Option.{option_map};
 ghost use Rattle.pdp_words.specs.Words.{SameOutside};
+ghost use Rattle.vol_layout.specs.Edition.{constants};
+ghost use Rattle.vol_layout.specs.Inode.{inode_place};
 ghost use Rattle.vol_layout.specs.Super.{time_place};
 ghost use Rattle.vol_layout.specs.declared.mode.Kind.TheVariants as kinds;
 ghost use Rattle.vol_file.specs.Rules.{kind_at};
@@ -39,6 +41,8 @@ pub fn touch(image: &mut Image, geometry: &Geometry, i: u16, now: u32)
         (change_node i (modified now) (state geometry.now image.old)) as_before }
     ensures graph { IsSameGraph (graph_of geometry.now image.old) (graph_of geometry.now image.new) }
     ensures unused { KeepsAllUnused geometry.now image.old image.new }
+    ensures others { SameOutside image.old image.new (inode_place geometry.now.edition i)
+        (inode_place geometry.now.edition i + (constants geometry.now.edition).inode_bytes) }
 {
     let node = inode(image, geometry, i);
     let touched = Inode {

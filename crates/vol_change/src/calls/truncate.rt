@@ -4,7 +4,7 @@ ghost use Rattle.vol_layout.specs.declared.mode.Kind.TheVariants as kinds;
 ghost use Rattle.vol_file.specs.Rules.{kind_at, size_of};
 ghost use Rattle.vol_dir.specs.Tree.{shapes, state};
 ghost use Rattle.vol_file.specs.Changes.{blocks_past};
-ghost use Rattle.vol_change.specs.Changed.{FreeBecomes, KeepsFilesBut};
+ghost use Rattle.vol_change.specs.Changed.{FreeBecomes, KeepsFilesBut, KeepsStored};
 ghost use Rattle.vol_change.specs.Edits.{at_time, after_truncate};
 ghost use Rattle.vol_change.specs.Shapes.{cut_count};
 ghost use Rattle.vol_change.specs.Unused.{KeepsAllUnused};
@@ -30,6 +30,7 @@ pub fn truncate(image: &mut Image, geometry: &Geometry, i: u16, size: u32, momen
     ensures count { result ≡ cut_count geometry.now.edition (shapes geometry.now image.old i) size }
     ensures files { KeepsFilesBut geometry.now image.old image.new i i }
     ensures unused { KeepsAllUnused geometry.now image.old image.new }
+    ensures stored { KeepsStored geometry.now image.old image.new i size }
 {
     let given = vol_file::truncate(image, geometry, i, size);
     touch(image, geometry, i, moment);

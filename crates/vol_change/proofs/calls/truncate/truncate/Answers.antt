@@ -1,13 +1,17 @@
-use Rattle.std.proofs.Common.{◌∙◌, ap, sym}
+use Rattle.std.proofs.Common.{◌∙◌, ap, sym, arith}
 use Rattle.vol_layout.specs.Places.{has_places}
 use Rattle.vol_layout.specs.declared.mode.Kind.TheVariants as kinds
+use Rattle.vol_layout.proofs.EditionLaws.{super_order}
+use Rattle.vol_layout.proofs.InodeLaws.{place_room}
 use Rattle.vol_change.proofs.BodyChanges.{body_cut, cut_beside}
 use Rattle.vol_change.proofs.CallSteps.{changed, made_truncate}
 use Rattle.vol_change.proofs.CutCounts.{cut_number}
+use Rattle.vol_change.proofs.ListWrites.{stored_then}
 use Rattle.vol_change.proofs.OneNode.{content_then}
 use Rattle.vol_change.proofs.ReadyLaws.{ready_whole}
 use Rattle.vol_change.proofs.UnusedBytes.{unused_then}
 use Rattle.vol_change.proofs.UnusedNodes.{time_unused}
+use Rattle.vol_change.proofs.WholeLaws.{zone_behind}
 use Rattle.vol_change.proofs.WrittenStates.{IsKind}
 use Rattle.vol_change.proofs.calls.truncate.truncate.Goals as goal
 
@@ -42,6 +46,9 @@ returns c =
     let is : IsKind geometry old c.args.i kinds.Regular = record { first = c.requires.first; last = c.requires.last; kind = c.requires.regular } in
     let cut = body_cut geometry old mid c.args.i c.args.size rules is c.truncate-given.ensures.truncated in
     let beside = cut_beside geometry old mid c.args.i c.args.size rules is c.truncate-given.ensures.truncated in
+    let cuts = c.truncate-given.ensures.truncated rules.blocks rules.sound in
+    let order = (super_order geometry.edition).3 in
+    let behind = zone_behind geometry old rules.sound.fits in
     record {
       changes = changed _ _ _ _ _ c.args.moment c.requires.ready
           (made_truncate geometry old mid timed c.args.i c.args.size c.args.moment c.requires.ready
@@ -56,4 +63,9 @@ returns c =
       unused = λ j low high.
           unused_then geometry old mid new j (beside.unused j low high)
           (unused_then geometry mid timed new j (c.touch.ensures.unused j low high) (time_unused geometry timed new j c.put_time.ensures.others));
+      stored = stored_then geometry old timed new _ _ c.args.i c.args.size
+          (stored_then geometry old mid timed _ _ c.args.i c.args.size (record { names = cuts.names; bytes = cuts.bytes })
+          (c.touch.ensures.changed.content c.args.i c.requires.first c.requires.last tt) c.touch.ensures.others
+          (place_room geometry mid c.args.i cut.keeps.rules.sound.fits c.requires.first c.requires.last))
+          (c.put_time.ensures.changed.content c.args.i c.requires.first c.requires.last tt) c.put_time.ensures.others (omega (arith, order, behind));
     }

@@ -1,8 +1,6 @@
 -- What is known of the image of a directory whose entries, size and places the state says.
 use Rattle.std.proofs.Common.{◌≡◌, ◌∙◌, sym, ap, subst, ℕ, ◌*◌, ◌≤◌, true≢false, List, [], length, None, arith}
 use Rattle.std.specs.Option.{unwrap_or}
-use Rattle.vol_layout.specs.Edition.{constants}
-use Rattle.vol_layout.specs.declared.edition.Edition.{Edition}
 use Rattle.vol_layout.specs.declared.geometry.Geometry.{Geometry}
 use Rattle.vol_layout.specs.declared.mode.Kind.TheVariants as kinds
 use Rattle.vol_file.specs.Need.{need}

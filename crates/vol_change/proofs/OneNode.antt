@@ -15,7 +15,7 @@ use Rattle.vol_layout.proofs.InodeLaws.{KeepsInode, inode_apart, mode_kept, size
 use Rattle.std.specs.Prelude.{IfSome}
 use Rattle.vol_free.specs.Numbers.{IsFreeNumber}
 use Rattle.vol_free.proofs.Frames.{IsFree-behind, free_from}
-use Rattle.vol_file.specs.Changes.{ChangesFileAlone, StaysElsewhere, spliced}
+use Rattle.vol_file.specs.Changes.{ChangesFileAlone, spliced}
 use Rattle.vol_file.proofs.Alone.{elsewhere_inode}
 use Rattle.vol_file.proofs.Naming.{place_same}
 use Rattle.vol_dir.specs.Entries.{IsDirectory, entry_at}

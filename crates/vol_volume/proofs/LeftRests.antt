@@ -12,13 +12,13 @@ use Rattle.vol_dir.specs.Searching.{new_slot, slot_named}
 use Rattle.vol_dir.specs.Tree.{tree, shapes, state}
 use Rattle.vol_dir.specs.Walk.{walk, walk_parent}
 use Rattle.vol_dir.specs.declared.cred.Cred.{Cred}
-use Rattle.vol_change.specs.Alone.{KeepsContent}
-use Rattle.vol_change.specs.Changed.{FreeBecomes, KeepsFilesBut, KeepsFiles, PutsInBody, as_before, blocks_freed}
+use Rattle.vol_change.specs.Alone.{KeepsContent, ChangesInode}
+use Rattle.vol_change.specs.Changed.{FreeBecomes, KeepsFilesBut, KeepsFiles, KeepsStored, PutsInBody, as_before, blocks_freed}
 use Rattle.vol_change.specs.Nodes.{node_at, names_at, number_of_name}
 use Rattle.vol_change.specs.Ready.{entry_need}
 use Rattle.vol_change.specs.Shapes.{need_in}
 use Rattle.vol_change.proofs.FreeAfter.{entry_is}
-use Rattle.vol_volume.specs.Leaving.{Reach, takes, gives, unlinked, removed, with_entry, without_entry, reach_of_node, reach_of_parent, reached_by, LeavesTheRest}
+use Rattle.vol_volume.specs.Leaving.{Reach, takes, gives, unlinked, removed, with_entry, without_entry, reach_of_node, reach_of_parent, reached_by, KeepsBytes, LeavesTheRest}
 use Rattle.vol_volume.specs.declared.calls.Call.{Call}
 use Rattle.vol_volume.specs.declared.calls.Call.TheVariants.{Create, Mkdir, Link, Unlink, Rmdir, Write, Truncate, Chmod, Chown}
 use Rattle.vol_volume.specs.declared.calls.Done.{Done}
@@ -28,11 +28,13 @@ module _ (geometry : Geometry) (old new : List ℕ) where
   -- what is left beside what a call reaches
   left_beside : (call : Call) (done : Done) (reach : Reach) → reached_by geometry old call done ≡ reach
       → FreeBecomes geometry old new reach.listed → KeepsFilesBut geometry old new reach.file reach.other
-      → IfSome reach.put (λ put. PutsInBody geometry old new reach.file (16 * put.0) put.1) → LeavesTheRest geometry old new call done
-  left_beside call done reach reached free files slot = record {
+      → IfSome reach.put (λ put. PutsInBody geometry old new reach.file (16 * put.0) put.1) → KeepsBytes geometry old new call
+      → LeavesTheRest geometry old new call done
+  left_beside call done reach reached free files slot bytes = record {
     free = subst (λ (r : Reach). FreeBecomes geometry old new r.listed) (sym reached) free;
     files = subst (λ (r : Reach). KeepsFilesBut geometry old new r.file r.other) (sym reached) files;
     slot = subst (λ (r : Reach). IfSome r.put (λ put. PutsInBody geometry old new r.file (16 * put.0) put.1)) (sym reached) slot;
+    bytes = bytes;
   }
 
   -- the slot, as it is found
@@ -47,49 +49,49 @@ module _ (geometry : Geometry) (old new : List ℕ) where
           → FreeBecomes geometry old new (drop (entry_need (state geometry old) d))
           → KeepsFilesBut geometry old new d made → PutsInBody geometry old new d (16 * slot) (slot_bytes name made)
           → LeavesTheRest geometry old new (Create cred now path perm) (Made made)
-      unfolding reached_by
+      unfolding reached_by KeepsBytes
       create_leaves perm made is free files bytes =
           left_beside (Create cred now path perm) (Made made)
           (with_entry geometry old d name made (takes d made (entry_need (state geometry old) d)))
           (ap (λ w. reach_of_parent w (λ e text. with_entry geometry old e text made (takes e made (entry_need (state geometry old) e)))) walked)
-          free files (slot_put d slot _ (slot_bytes name made) is bytes)
+          free files (slot_put d slot _ (slot_bytes name made) is bytes) tt
 
       -- a new directory
       pub mkdir_leaves : (perm made : ℕ) → slot ≡ new_slot (shapes geometry old d).slots
           → FreeBecomes geometry old new (drop (entry_need (state geometry old) d + 1))
           → KeepsFilesBut geometry old new d made → PutsInBody geometry old new d (16 * slot) (slot_bytes name made)
           → LeavesTheRest geometry old new (Mkdir cred now path perm) (Made made)
-      unfolding reached_by
+      unfolding reached_by KeepsBytes
       mkdir_leaves perm made is free files bytes =
           left_beside (Mkdir cred now path perm) (Made made)
           (with_entry geometry old d name made (takes d made (entry_need (state geometry old) d + 1)))
           (ap (λ w. reach_of_parent w (λ e text. with_entry geometry old e text made (takes e made (entry_need (state geometry old) e + 1)))) walked)
-          free files (slot_put d slot _ (slot_bytes name made) is bytes)
+          free files (slot_put d slot _ (slot_bytes name made) is bytes) tt
 
       -- a further name, of what another path leads to
       pub link_leaves : (source : List ℕ) (i : ℕ) → walk (tree geometry old) cred source ≡ Ok i → slot ≡ new_slot (shapes geometry old d).slots
           → FreeBecomes geometry old new (drop (entry_need (state geometry old) d))
           → KeepsFilesBut geometry old new d d → PutsInBody geometry old new d (16 * slot) (slot_bytes name i)
           → LeavesTheRest geometry old new (Link cred now source path) Plain
-      unfolding reached_by
+      unfolding reached_by KeepsBytes
       link_leaves source i led is free files bytes =
           left_beside (Link cred now source path) Plain (with_entry geometry old d name i (takes d d (entry_need (state geometry old) d)))
           (ap (λ w. reach_of_node w (λ j. reach_of_parent (walk_parent (tree geometry old) cred path)
           (λ e text. with_entry geometry old e text j (takes e e (entry_need (state geometry old) e))))) led
           ∙ ap (λ w. reach_of_parent w (λ e text. with_entry geometry old e text i (takes e e (entry_need (state geometry old) e)))) walked)
-          free files (slot_put d slot _ (slot_bytes name i) is bytes)
+          free files (slot_put d slot _ (slot_bytes name i) is bytes) tt
 
       module _ (i : ℕ) (named : get (names_at (tree geometry old) d) name ≡ Some i) (found : slot ≡ slot_named name (slots geometry old d)) where
         -- a directory that goes
         pub rmdir_leaves : FreeBecomes geometry old new (λ blocks. blocks_freed geometry old i ++ blocks)
             → KeepsFilesBut geometry old new d i → PutsInBody geometry old new d (16 * slot) (0 ∷ 0 ∷ [])
             → LeavesTheRest geometry old new (Rmdir cred now path) Plain
-        unfolding reached_by
+        unfolding reached_by KeepsBytes
         rmdir_leaves free files bytes =
             left_beside (Rmdir cred now path) Plain (without_entry geometry old d name (removed geometry old d i))
             (ap (λ w. reach_of_parent w (λ e text. without_entry geometry old e text (removed geometry old e (number_of_name (tree geometry old) e text)))) walked
             ∙ ap (λ j. without_entry geometry old d name (removed geometry old d j)) (entry_is (state geometry old) d i name named))
-            free files (slot_put d slot _ (0 ∷ 0 ∷ []) found bytes)
+            free files (slot_put d slot _ (0 ∷ 0 ∷ []) found bytes) tt
 
         -- what is reached where a name goes
         unlink_reached : reached_by geometry old (Unlink cred now path) Plain ≡ without_entry geometry old d name (unlinked geometry old d i)
@@ -104,6 +106,7 @@ module _ (geometry : Geometry) (old new : List ℕ) where
             → (1 < links → FreeBecomes geometry old new as_before) → (1 < links → KeepsContent geometry old new i)
             → KeepsFilesBut geometry old new d i → PutsInBody geometry old new d (16 * slot) (0 ∷ 0 ∷ [])
             → LeavesTheRest geometry old new (Unlink cred now path) Plain
+        unfolding KeepsBytes
         unlink_leaves links counted freed stays kept files bytes =
             let last : Reach = gives d i (blocks_freed geometry old i) in
             let more : Reach = record { file = d; other = d; listed = as_before; put = None } in
@@ -116,14 +119,14 @@ module _ (geometry : Geometry) (old new : List ℕ) where
             elim (nat_le links 1) as (λ b. nat_le links 1 ≡ b → LeavesTheRest geometry old new (Unlink cred now path) Plain) [
               | true ↦ λ is.
                   let few : links ≤ 1 = grind (arith, nat_tests, is) in
-                  left_beside (Unlink cred now path) Plain (without_entry geometry old d name last) (reached true is) (freed few) files put
+                  left_beside (Unlink cred now path) Plain (without_entry geometry old d name last) (reached true is) (freed few) files put tt
               | false ↦ λ is.
                   let many : 1 < links = grind (arith, nat_tests, is) in
                   left_beside (Unlink cred now path) Plain (without_entry geometry old d name more) (reached false is) (stays many)
                   (λ j low high beside _. elim (cases_eq j i) [
                     | inl e ↦ rw e (kept many)
                     | inr other ↦ files j low high beside other
-                  ]) put
+                  ]) put tt
             ] refl
 
     module _ (i : ℕ) (walked : walk (tree geometry old) cred path ≡ Ok i) where
@@ -131,31 +134,32 @@ module _ (geometry : Geometry) (old new : List ℕ) where
       pub write_leaves : (offset : ℕ) (bytes : List ℕ) (done : Done)
           → FreeBecomes geometry old new (drop (need_in geometry.edition (shapes geometry old i) (touched offset (length bytes))))
           → KeepsFilesBut geometry old new i i → LeavesTheRest geometry old new (Write cred now path offset bytes) done
-      unfolding reached_by
+      unfolding reached_by KeepsBytes
       write_leaves offset bytes done free files =
           left_beside (Write cred now path offset bytes) done
           (takes i i (need_in geometry.edition (shapes geometry old i) (touched offset (length bytes))))
           (ap (λ w. reach_of_node w (λ j. takes j j (need_in geometry.edition (shapes geometry old j) (touched offset (length bytes))))) walked)
-          free files tt
+          free files tt tt
 
       -- a file of which the first bytes stay
       pub truncate_leaves : (left : ℕ) → FreeBecomes geometry old new (λ blocks. blocks_past geometry old i left ++ blocks)
-          → KeepsFilesBut geometry old new i i → LeavesTheRest geometry old new (Truncate cred now path left) Plain
-      unfolding reached_by
-      truncate_leaves left free files =
+          → KeepsFilesBut geometry old new i i → KeepsStored geometry old new i left → LeavesTheRest geometry old new (Truncate cred now path left) Plain
+      unfolding reached_by KeepsBytes
+      truncate_leaves left free files stored =
           left_beside (Truncate cred now path left) Plain (gives i i (blocks_past geometry old i left))
-          (ap (λ w. reach_of_node w (λ j. gives j j (blocks_past geometry old j left))) walked) free files tt
+          (ap (λ w. reach_of_node w (λ j. gives j j (blocks_past geometry old j left))) walked) free files tt (rw walked stored)
 
       -- other permission bits
       pub chmod_leaves : (perm : ℕ) → FreeBecomes geometry old new as_before
-          → KeepsFilesBut geometry old new i i → LeavesTheRest geometry old new (Chmod cred now path perm) Plain
-      unfolding reached_by
-      chmod_leaves perm free files =
+          → KeepsFilesBut geometry old new i i → ChangesInode geometry old new i → LeavesTheRest geometry old new (Chmod cred now path perm) Plain
+      unfolding reached_by KeepsBytes
+      chmod_leaves perm free files inode =
           left_beside (Chmod cred now path perm) Plain (record { file = i; other = i; listed = as_before; put = None })
-          (ap (λ w. reach_of_node w (λ j. record { file = j; other = j; listed = as_before; put = None })) walked) free files tt
+          (ap (λ w. reach_of_node w (λ j. record { file = j; other = j; listed = as_before; put = None })) walked) free files tt (rw walked inode)
 
-    -- another owner
-    pub chown_leaves : (uid gid : ℕ) → FreeBecomes geometry old new as_before
-        → KeepsFiles geometry old new → LeavesTheRest geometry old new (Chown cred now path uid gid) Plain
-    unfolding reached_by
-    chown_leaves uid gid free files = record { free = free; files = λ j low high _ _. files j low high; slot = tt }
+      -- another owner
+      pub chown_leaves : (uid gid : ℕ) → FreeBecomes geometry old new as_before
+          → KeepsFiles geometry old new → ChangesInode geometry old new i → LeavesTheRest geometry old new (Chown cred now path uid gid) Plain
+      unfolding reached_by KeepsBytes
+      chown_leaves uid gid free files inode =
+          record { free = free; files = λ j low high _ _. files j low high; slot = tt; bytes = rw walked inode }

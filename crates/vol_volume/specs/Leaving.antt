@@ -1,5 +1,5 @@
 -- What an accepted call leaves as it is, and what it makes of the free list, where no tree shows it.
-use Rattle.std.specs.Prelude.{ℕ, nat_le, if◌then◌else◌, List, [], ◌∷◌, ◌++◌, length, drop, ◌+◌, ◌*◌, IfSome, Option, None, Some, Result, Ok, Err}
+use Rattle.std.specs.Prelude.{ℕ, nat_le, if◌then◌else◌, List, [], ◌∷◌, ◌++◌, length, drop, ◌+◌, ◌*◌, IfSome, IfOk, Option, None, Some, Result, Ok, Err}
 use Rattle.vol_layout.specs.declared.geometry.Geometry.{Geometry}
 use Rattle.vol_file.specs.Changes.{blocks_past}
 use Rattle.vol_file.specs.Shape.{touched}
@@ -8,7 +8,8 @@ use Rattle.vol_dir.specs.Entries.{slots}
 use Rattle.vol_dir.specs.Searching.{new_slot, slot_named}
 use Rattle.vol_dir.specs.Tree.{tree, shapes, state}
 use Rattle.vol_dir.specs.Walk.{walk, walk_parent}
-use Rattle.vol_change.specs.Changed.{FreeBecomes, KeepsFilesBut, PutsInBody, as_before, blocks_freed}
+use Rattle.vol_change.specs.Alone.{ChangesInode}
+use Rattle.vol_change.specs.Changed.{FreeBecomes, KeepsFilesBut, KeepsStored, PutsInBody, as_before, blocks_freed}
 use Rattle.vol_change.specs.Nodes.{node_at, number_of_name}
 use Rattle.vol_change.specs.Ready.{entry_need}
 use Rattle.vol_change.specs.Shapes.{need_in}
@@ -97,9 +98,22 @@ reached_by geometry image (Chmod cred now path perm) done =
     reach_of_node (walk (tree geometry image) cred path) (λ i. record { file = i; other = i; listed = as_before; put = None })
 reached_by geometry image (Chown cred now path uid gid) done = no_reach
 
+-- the bytes that a call keeps besides: Chmod and Chown all but those of one i-node and of the super-block's time, and Truncate of its file what is stored in the blocks that it keeps (Lions on itrunc; chmod and chown, section 2 of the manual)
+unfoldable pub KeepsBytes : Geometry → List ℕ → List ℕ → Call → Type 0
+KeepsBytes geometry old new (Create cred now path perm) = Unit {0}
+KeepsBytes geometry old new (Mkdir cred now path perm) = Unit {0}
+KeepsBytes geometry old new (Link cred now source target) = Unit {0}
+KeepsBytes geometry old new (Unlink cred now path) = Unit {0}
+KeepsBytes geometry old new (Rmdir cred now path) = Unit {0}
+KeepsBytes geometry old new (Write cred now path offset bytes) = Unit {0}
+KeepsBytes geometry old new (Truncate cred now path left) = IfOk (walk (tree geometry old) cred path) (λ i. KeepsStored geometry old new i left)
+KeepsBytes geometry old new (Chmod cred now path perm) = IfOk (walk (tree geometry old) cred path) (ChangesInode geometry old new)
+KeepsBytes geometry old new (Chown cred now path uid gid) = IfOk (walk (tree geometry old) cred path) (ChangesInode geometry old new)
+
 -- an accepted call takes from the free list the next blocks alone, or puts on it what it gives back, in that order; every file that it doesn't reach stands for what it did, with all bytes of its blocks: also those that no tree shows, past the file's size or behind the end of a name; and of the bytes of a directory it changes those of one slot alone (this project)
 pub record LeavesTheRest (geometry : Geometry) (old new : List ℕ) (call : Call) (done : Done) : Type 0 where
   pub free : FreeBecomes geometry old new (reached_by geometry old call done).listed
   pub files : KeepsFilesBut geometry old new (reached_by geometry old call done).file (reached_by geometry old call done).other
   pub slot : IfSome (reached_by geometry old call done).put
       (λ put. PutsInBody geometry old new (reached_by geometry old call done).file (16 * put.0) put.1)
+  pub bytes : KeepsBytes geometry old new call

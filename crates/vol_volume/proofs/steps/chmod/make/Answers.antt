@@ -19,5 +19,5 @@ returns-clause-performed c =
     (chmod_inodes c.args.geometry.now c.args.image.now c.chmod.new.image c.args.caller.moment c.args.perm c.in_ok-i.i
     c.chmod.ensures.changes.makes c.chmod.ensures.unused)
     (chmod_leaves c.args.geometry.now c.args.image.now c.chmod.new.image c.args.caller.cred c.args.caller.moment c.args.path.now c.in_ok-i.i
-    c.in_ok-i.ensures.node.walked c.args.perm c.chmod.ensures.list c.chmod.ensures.files)
+    c.in_ok-i.ensures.node.walked c.args.perm c.chmod.ensures.list c.chmod.ensures.files c.chmod.ensures.inode)
     c.requires.count

@@ -32,6 +32,6 @@ returns-clause-performed c =
     c.chown.ensures.changes
     (chown_inodes c.args.geometry.now c.args.image.now c.chown.new.image c.args.caller.moment c.args.owner.uid c.args.owner.gid c.in_ok-i.i
     c.chown.ensures.changes.makes c.chown.ensures.unused)
-    (chown_leaves c.args.geometry.now c.args.image.now c.chown.new.image c.args.caller.cred c.args.caller.moment c.args.path.now c.args.owner.uid c.args.owner.gid
-    c.chown.ensures.list c.chown.ensures.files)
+    (chown_leaves c.args.geometry.now c.args.image.now c.chown.new.image c.args.caller.cred c.args.caller.moment c.args.path.now c.in_ok-i.i
+    c.in_ok-i.ensures.node.walked c.args.owner.uid c.args.owner.gid c.chown.ensures.list c.chown.ensures.files c.chown.ensures.inode)
     c.requires.count

@@ -45,5 +45,5 @@ returns-clause-performed c =
     (truncate_inodes geometry image c.truncate-freed.new.image c.args.caller.moment c.args.length i
     c.truncate-freed.ensures.changes.makes c.truncate-freed.ensures.unused)
     (truncate_leaves geometry image c.truncate-freed.new.image c.args.caller.cred c.args.caller.moment c.args.path.now i
-    c.in_ok-i.ensures.node.walked c.args.length c.truncate-freed.ensures.list c.truncate-freed.ensures.files)
+    c.in_ok-i.ensures.node.walked c.args.length c.truncate-freed.ensures.list c.truncate-freed.ensures.files c.truncate-freed.ensures.stored)
     (omega (arith, count, freed, after))

@@ -17,6 +17,10 @@ use Rattle.vol_check.specs.Noting.{Stays}
 use Rattle.vol_check.specs.Stepping.{Works}
 use Rattle.vol_check.proofs.PastPieces.{IsPast, kept_next}
 
+-- a flag isn't both
+pub clash : {A : Type 0} (b : Bool) → b ≡ true → b ≡ false → A
+clash b up down = let e : ◌≡◌ {A = ℕ} 1 0 = ap one_if (sym up ∙ down) in absurd (omega (arith, e))
+
 module _ (tally : Tally) (checker : Checker) (layout : Layout) (image : List ℕ) (old mid new : CheckSeat) (n : ℕ) (own : IsSeatOf tally old)
     (knows : IsOf checker layout image old) (early : old.ended ≡ false) (well : old.spoiled ≡ false)
     (is : mid.seat.me.0 ≡ view old.seat.me.0.parts (old.seat.me.0.draws ++ n ∷ []) old.seat.me.0.marks) (kept : mid.entries ≡ old.entries) where
@@ -42,6 +46,7 @@ module _ (tally : Tally) (checker : Checker) (layout : Layout) (image : List ℕ
     parts = works.adds.parts ∙ (parts_is ∙ own.parts);
     late = ap (late (table_shape tally).pieces) (works.adds.draws ∙ draws_is) ∙ (late_is ∙ (past_short (table_shape tally).pieces n low
         ∙ sym (ap one_if (works.ended ∙ (ended ∙ early)))));
+    last = λ end. clash new.ended end (works.ended ∙ (ended ∙ early));
   }
 
   pub done_knows : (g : Geometry) → layout ≡ Ok g → Works tally checker g image n mid new → mid.fault ≡ old.fault → IsOf checker layout image new
@@ -74,6 +79,7 @@ module _ (tally : Tally) (checker : Checker) (layout : Layout) (image : List ℕ
     parts = ap (λ s. s.me.0.parts) same ∙ (parts_is ∙ own.parts);
     late = ap (λ s. late (table_shape tally).pieces s.me.0.draws) same ∙ (ap (late (table_shape tally).pieces) draws_is
         ∙ (late_is ∙ (past_here (table_shape tally).pieces n high ∙ sym (ap one_if ended))));
+    last = λ end. record { front = old.seat.me.0.draws; n = n; is = ap (λ s. s.me.0.draws) same ∙ draws_is; past = high };
   }
 
   pub end_knows : IsPast checker layout image n → new.seat ≡ mid.seat → new.entries ≡ mid.entries → new.fault ≡ old.fault → IsOf checker layout image new
@@ -106,6 +112,7 @@ module _ (tally : Tally) (checker : Checker) (layout : Layout) (image : List ℕ
     parts = stays.parts ∙ (parts_is ∙ own.parts);
     late = ap (late (table_shape tally).pieces) (stays.draws ∙ draws_is)
         ∙ (late_is ∙ (past_short (table_shape tally).pieces n low ∙ sym (ap one_if (stays.ended ∙ (ended ∙ early)))));
+    last = λ end. clash new.ended end (stays.ended ∙ (ended ∙ early));
   }
 
 -- a seat that found no memory says nothing
@@ -114,10 +121,6 @@ spoiled_knows checker layout image s spoiled = record { marks = λ fine. absurd 
   where
     clash : s.spoiled ≡ false → ⊥
     clash fine = let e : ◌≡◌ {A = ℕ} 1 0 = ap one_if (sym spoiled ∙ fine) in omega (arith, e)
-
--- a flag isn't both
-pub clash : {A : Type 0} (b : Bool) → b ≡ true → b ≡ false → A
-clash b up down = let e : ◌≡◌ {A = ℕ} 1 0 = ap one_if (sym up ∙ down) in absurd (omega (arith, e))
 
 -- a seat that is neither at its end nor without memory isn't stopped
 pub goes_on : (s : CheckSeat) → s.ended ≡ false → s.spoiled ≡ false → is_stopped s ≡ false
@@ -129,6 +132,7 @@ fresh_own tally s fresh = record {
   own = fresh.own;
   parts = ap (λ v. v.parts) fresh.nothing;
   late = ap (λ v. late (table_shape tally).pieces v.draws) fresh.nothing ∙ (total_nil (past (table_shape tally).pieces) ∙ sym (ap one_if fresh.ended));
+  last = λ end. clash s.ended end fresh.ended;
 }
 
 nothing_kept : (checker : Checker) (layout : Layout) (image : List ℕ) → layout_fault checker layout image [] ≡ None

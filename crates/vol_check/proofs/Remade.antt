@@ -61,7 +61,7 @@ unfolding Rule
 rules_apart edition image geometry same rules = subst (λ g. IsApart g image) (sym same) (rules 7).0
 
 -- each i-node stays
-remade_inode : (geometry : Geometry) (old new : List ℕ) (used : List Bool) (j : ℕ) → Fits geometry old → KeepsUsed geometry used old new
+pub remade_inode : (geometry : Geometry) (old new : List ℕ) (used : List Bool) (j : ℕ) → Fits geometry old → KeepsUsed geometry used old new
     → 1 ≤ j → j ≤ geometry.last_inode → KeepsInode geometry old new j
 remade_inode geometry old new used j fits keeps first last =
     let order = super_order geometry.edition in
@@ -95,7 +95,7 @@ stored_block geometry old new used j b file zone fits marked keeps =
     ] refl
 
 -- what each i-node stands for stays
-remade_content : (geometry : Geometry) (old new : List ℕ) (used : List Bool) (j : ℕ) → Fits geometry old → AreNamed geometry old used
+pub remade_content : (geometry : Geometry) (old new : List ℕ) (used : List Bool) (j : ℕ) → Fits geometry old → AreNamed geometry old used
     → KeepsUsed geometry used old new → IsZoned geometry old → 1 ≤ j → j ≤ geometry.last_inode → KeepsContent geometry old new j
 remade_content geometry old new used j fits marked keeps zoned first last =
     let kept : KeepsInode geometry old new j = remade_inode geometry old new used j fits keeps first last in

@@ -1,5 +1,5 @@
 -- Seats of a sweep, and what they know of an image.
-use Rattle.std.specs.Prelude.{◌≡◌, ℕ, ◌==◌, ◌||◌, Bool, false, if◌then◌else◌, List, [], Option, None, Ok, Err}
+use Rattle.std.specs.Prelude.{◌≡◌, ℕ, ◌≤◌, ◌==◌, ◌||◌, ◌++◌, ◌∷◌, Bool, true, false, if◌then◌else◌, List, [], Option, None, Ok, Err}
 use Rattle.vol_layout.specs.declared.geometry.Geometry.{Geometry}
 use Rattle.count_table.specs.declared.rule.Mark.{Mark}
 use Rattle.count_table.specs.declared.words.Tally.{Tally}
@@ -58,11 +58,19 @@ found_no_memory s = s.spoiled
 abbrev pub is_stopped : CheckSeat → Bool
 is_stopped s = s.ended || s.spoiled
 
--- a seat of a table: it stands for itself alone, and where it is at its end it drew one number that is no piece's (this project)
+-- the last of some draws is no piece's (this project)
+pub record EndsPast (pieces : ℕ) (draws : List ℕ) : Type 0 where
+  pub front : List ℕ
+  pub n : ℕ
+  pub is : draws ≡ front ++ n ∷ []
+  pub past : pieces ≤ n
+
+-- a seat of a table: it stands for itself alone, and where it is at its end it drew one number that is no piece's, as the last (this project)
 pub record IsSeatOf (tally : Tally) (s : CheckSeat) : Type 0 where
   pub own : IsSeatAt tally s.seat
   pub parts : s.seat.me.0.parts ≡ 1
   pub late : late (table_shape tally).pieces s.seat.me.0.draws ≡ one_if s.ended
+  pub last : s.ended ≡ true → EndsPast (table_shape tally).pieces s.seat.me.0.draws
 
 -- the marks that a seat made, the fault and the entries that it keeps, are those of the pieces among its draws, in this image; a seat that found no memory says nothing (icheck, dcheck, ncheck)
 pub record IsOf (checker : Checker) (layout : Layout) (image : List ℕ) (s : CheckSeat) : Type 0 where

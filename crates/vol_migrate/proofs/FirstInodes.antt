@@ -1,5 +1,5 @@
 -- Putting the i-nodes of a volume into an i-list of zeros.
-use Rattle.std.proofs.Common.{◌≡◌, ◌≢◌, ◌∙◌, sym, ap, subst, ℕ, ◌+◌, ◌*◌, ◌<◌, ◌≤◌, List, get_or, inl, inr, arith}
+use Rattle.std.proofs.Common.{◌≡◌, ◌∙◌, sym, ap, subst, ℕ, ◌+◌, ◌*◌, ◌<◌, ◌≤◌, List, get_or, slice_index, inl, inr, arith}
 use Rattle.std.proofs.lemmas.Bool.{cases_eq}
 use Rattle.pdp_words.specs.Words.{SameOutside}
 use Rattle.vol_layout.specs.Edition.{constants}
@@ -34,16 +34,25 @@ inodes_pass from to old image now i free has = record {
   rest = λ k r first last which low.
       elim which [
         | inl later ↦ has.rest k r first last (inl (omega (arith, later))) low
-        | inr vacant ↦ has.rest k r first last (inr vacant) low
+        | inr idle ↦ has.rest k r first last (inr idle) low
       ];
 }
+
+-- the byte of no use stays, by another name of it
+pub byte_kept : (to : Geometry) (image new : List ℕ) (k j r : ℕ) → k ≡ j → r ≡ 51
+    → slice_index new (inode_place to.edition j + 51) ≡ slice_index image (inode_place to.edition j + 51)
+    → slice_index new (inode_place to.edition k + r) ≡ slice_index image (inode_place to.edition k + r)
+byte_kept to image new k j r is byte stays =
+    let P : ℕ → ℕ → Type 0 = λ i s. slice_index new (inode_place to.edition i + s) ≡ slice_index image (inode_place to.edition i + s) in
+    subst (λ i. P i r) (sym is) (subst (P j) (sym byte) stays)
 
 -- one i-node more is put
 pub inodes_more : (from to : Geometry) (old image new : List ℕ) (now i : ℕ) → IsUsed from old i
     → SameOutside image new (inode_place to.edition (i + 1)) (inode_place to.edition (i + 1) + (constants to.edition).inode_bytes)
     → inode_of to.edition new (i + 1) ≡ raised_inode (inode_of from.edition old i) now
+    → slice_index new (inode_place to.edition (i + 1) + 51) ≡ slice_index image (inode_place to.edition (i + 1) + 51)
     → HasInodesBelow from to old now image i → HasInodesBelow from to old now new (i + 1)
-inodes_more from to old image new now i used same put has = record {
+inodes_more from to old image new now i used same put stays has = record {
   done = λ j low other.
       elim (cases_eq j i) [
         | inl is ↦
@@ -53,12 +62,17 @@ inodes_more from to old image new now i used same put has = record {
             inode_of_kept to image new (j + 1) kept ∙ has.done j (omega (arith, low, apart)) other
       ];
   rest = λ k r first last which low.
-      let apart : k ≢ i + 1 = λ e. elim which [ inl later ↦ omega (arith, later, e) | inr vacant ↦ vacant i e used ] in
-      let kept : KeepsInode to image new k = inode_apart to image new (i + 1) k (omega arith) first apart same in
-      kept.bytes r low
-      ∙ elim which [
+      let was : slice_index image (inode_place to.edition k + r) ≡ 0 = elim which [
         | inl later ↦ has.rest k r first last (inl (omega (arith, later))) low
-        | inr vacant ↦ has.rest k r first last (inr vacant) low
+        | inr idle ↦ has.rest k r first last (inr idle) low
+      ] in
+      elim (cases_eq k (i + 1)) [
+        | inl is ↦
+            elim which [
+              | inl later ↦ absurd (omega (arith, later, is))
+              | inr idle ↦ elim idle [ inl vacant ↦ absurd (vacant i is used) | inr byte ↦ byte_kept to image new k (i + 1) r is byte stays ∙ was ]
+            ]
+        | inr apart ↦ (inode_apart to image new (i + 1) k (omega arith) first apart same).bytes r low ∙ was
       ];
 }
 

@@ -1,5 +1,5 @@
 -- The volume before any block is carried.
-use Rattle.std.proofs.Common.{◌≡◌, ◌≢◌, ◌∙◌, sym, ap, subst, refl, ℕ, zero, suc, ◌+◌, ◌-◌, ◌*◌, ◌/◌, ◌≤◌, not, Bool, false, List, [], ◌∷◌, None, Some, length, get_or, replicate, ◌⊎◌, inl, inr, arith}
+use Rattle.std.proofs.Common.{◌≡◌, ◌≢◌, ◌∙◌, sym, ap, subst, refl, ℕ, zero, suc, ◌+◌, ◌-◌, ◌*◌, ◌/◌, ◌<◌, ◌≤◌, not, Bool, false, List, [], ◌∷◌, None, Some, length, get_or, slice_index, replicate, ◌⊎◌, inl, inr, arith}
 use Rattle.std.proofs.lemmas.Bool.{cases_eq, cases_lt, eq-eqb, true≢false}
 use Rattle.std.proofs.lemmas.Grind.{common_steps}
 use Rattle.std.proofs.lemmas.List.{get_or-replicate}
@@ -9,7 +9,6 @@ use Rattle.vol_layout.specs.Geometry.{Fits}
 use Rattle.vol_layout.specs.Inode.{inode_of, inode_place, raised_inode, kind_of}
 use Rattle.vol_layout.specs.Names.{IsPlaceOf, form_at, mode_of, named, pointer_in, stored}
 use Rattle.vol_layout.specs.Places.{IsPlace, first_count, has_places, last_place}
-use Rattle.vol_layout.specs.declared.edition.Edition.TheVariants.{V7}
 use Rattle.vol_layout.specs.declared.geometry.Geometry.{Geometry}
 use Rattle.vol_layout.specs.declared.i_node.Inode.{Inode}
 use Rattle.vol_layout.specs.declared.mode.Kind.{Kind}
@@ -27,7 +26,7 @@ use Rattle.vol_free.specs.Rebuilding.{KeepsUsed, unused, unused_from}
 use Rattle.vol_free.proofs.Rebuilding.{unused_end, unused_given, unused_in}
 use Rattle.vol_file.specs.Rules.{HasKinds, HasSizes, kind_at, size_of}
 use Rattle.vol_dir.specs.Tree.{shapes}
-use Rattle.vol_layout.proofs.EditionLaws.{super_order}
+use Rattle.vol_layout.proofs.EditionLaws.{super_order, mode_room}
 use Rattle.vol_change.proofs.WholeLaws.{zone_behind}
 use Rattle.vol_migrate.specs.Stages.{IsUsed, IsVacant, MayMigrate, HasInodes, HasSuper, IsCarried, IsStage, progress}
 use Rattle.vol_migrate.proofs.CarriedBlocks.{none_below}
@@ -59,15 +58,21 @@ vacant_or from old k =
     ]
 
 -- an i-node of zeros has mode 0
-mode_zero : (from to : Geometry) (old image : List ℕ) (now k : ℕ) → HasInodes from to old now image → to.edition ≡ V7 → 1 ≤ k → k ≤ to.last_inode
-    → IsVacant from old k → mode_of to image k ≡ 0
-mode_zero from to old image now k has seventh first last vacant =
-    let size : (constants to.edition).inode_bytes ≡ 64 = ap (λ e. (constants e).inode_bytes) seventh in
-    let low = has.rest k 0 first last (inr vacant) (omega (arith, size)) in
-    let high = has.rest k 1 first last (inr vacant) (omega (arith, size)) in
+pub zero_mode : (to : Geometry) (image : List ℕ) (k : ℕ)
+    → ((r : ℕ) → r < (constants to.edition).inode_bytes → slice_index image (inode_place to.edition k + r) ≡ 0) → mode_of to image k ≡ 0
+zero_mode to image k zeros =
+    let room = mode_room to.edition in
+    let low = zeros 0 (omega (arith, room)) in
+    let high = zeros 1 (omega (arith, room)) in
     let at : get_or image (inode_place to.edition k) 0 ≡ get_or image (inode_place to.edition k + 0) 0 =
     ap (λ x. get_or image x 0) (let e : inode_place to.edition k ≡ inode_place to.edition k + 0 = omega arith in e) in
     omega (arith, low, high, at)
+
+-- and so has one that isn't carried
+mode_zero : (from to : Geometry) (old image : List ℕ) (now k : ℕ) → HasInodes from to old now image → 1 ≤ k → k ≤ to.last_inode
+    → IsVacant from old k → mode_of to image k ≡ 0
+mode_zero from to old image now k has first last vacant =
+    zero_mode to image k (λ r low. has.rest k r first last (inr (inl vacant)) low)
 
 -- a place names nothing where all addresses are 0
 named_zero : (geometry : Geometry) (image : List ℕ) (k : ℕ) (form : Form) (p : List ℕ) → Fits geometry image
@@ -116,12 +121,12 @@ first_carried from to old image now i has fits used =
     }
 
 -- a place of a file of the new volume names nothing
-names_none : (from to : Geometry) (old image : List ℕ) (now k : ℕ) (p : List ℕ) → HasInodes from to old now image → Fits to image → to.edition ≡ V7
+names_none : (from to : Geometry) (old image : List ℕ) (now k : ℕ) (p : List ℕ) → HasInodes from to old now image → Fits to image
     → IsPlaceOf to image k p → named to image k p ≡ 0
-names_none from to old image now k p has fits seventh place =
+names_none from to old image now k p has fits place =
     elim (vacant_or from old k) [
       | inl vacant ↦
-          let zero = mode_zero from to old image now k has seventh place.file.first place.file.last vacant in
+          let zero = mode_zero from to old image now k has place.file.first place.file.last vacant in
           let free : kind_at to image k ≡ kinds.Free = ap (kind_of to.edition) zero ∙ kind_zero to.edition in
           let none : has_places (kind_at to image k) ≡ false = ap has_places free in
           absurd (true≢false (sym place.file.kind ∙ none))
@@ -138,7 +143,7 @@ kind_cases : (from to : Geometry) (old image : List ℕ) (now k : ℕ) → MayMi
 kind_cases from to old image now k may has fits first last =
     elim (vacant_or from old k) [
       | inl vacant ↦
-          inl (ap (kind_of to.edition) (mode_zero from to old image now k has may.seventh first last vacant) ∙ kind_zero to.edition)
+          inl (ap (kind_of to.edition) (mode_zero from to old image now k has first last vacant) ∙ kind_zero to.edition)
       | inr carried ↦
           inr (
             carried.0,
@@ -173,7 +178,7 @@ first_kinds from to old image now may has fits =
           ∙ directory);
       bad_blocks = λ seventh.
           inl (ap (kind_of to.edition)
-          (mode_zero from to old image now 1 has may.seventh (omega arith) (omega (arith, new_fits, new_root))
+          (mode_zero from to old image now 1 has (omega arith) (omega (arith, new_fits, new_root))
           (λ i e one. let first = one.first in omega (arith, e, first)))
           ∙ kind_zero to.edition);
     }
@@ -257,12 +262,12 @@ first_stage from to old made put image now may before fits super listed inodes k
         fits = fits;
         kinds = first_kinds from to old image now may has fits;
         sizes = first_sizes from to old image now may has fits;
-        zoned = λ k p place some. absurd (some (names_none from to old image now k p has fits may.seventh place));
+        zoned = λ k p place some. absurd (some (names_none from to old image now k p has fits place));
         free = free;
-        apart = λ k j p q place other some e. absurd (some (names_none from to old image now k p has fits may.seventh place));
+        apart = λ k j p q place other some e. absurd (some (names_none from to old image now k p has fits place));
         outside = λ k p place i.
             let inside = unused_in to (replicate to.zone_end false) to.zone_start (named to image k p) (omega (arith, zone)) i in
-            let zero = names_none from to old image now k p has fits may.seventh place in
+            let zero = names_none from to old image now k p has fits place in
             omega (arith, inside.0, zero, behind);
       };
       room = omega (arith, long, none);
@@ -276,5 +281,5 @@ first_stage from to old made put image now may before fits super listed inodes k
             | inr other ↦ progress_after from old 1 0 j (omega (arith, first, other))
           ] in
           subst (IsCarried from to old now image j) (sym none_yet) (first_carried from to old image now j has fits used);
-      vacant = λ k first last vacant. mode_zero from to old image now k has may.seventh first last vacant;
+      zeros = λ k r first last idle low. has.rest k r first last (inr idle) low;
     }

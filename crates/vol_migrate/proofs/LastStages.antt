@@ -24,12 +24,12 @@ use Rattle.vol_judge.specs.Graph.{graph_of, kind_in, entry_by}
 use Rattle.vol_judge.proofs.ImageGraphs.{kind_inside}
 use Rattle.vol_change.proofs.ReadyLaws.{ready_slots}
 use Rattle.vol_change.proofs.States.{shape_here}
-use Rattle.vol_migrate.specs.Stages.{IsUsed, MayMigrate, IsCarried, IsStage, carried_byte}
+use Rattle.vol_migrate.specs.Stages.{IsUsed, IsVacant, MayMigrate, IsCarried, IsStage, carried_byte}
 use Rattle.vol_migrate.proofs.RaisedGraphs.{RaisesGraph, raised_entry}
 use Rattle.vol_migrate.proofs.RaisedSlots.{slot_raised, entry_raised}
 use Rattle.vol_migrate.proofs.StageSteps.{carried_kind, carried_size, progress_before}
 use Rattle.vol_migrate.proofs.StageLaws.{old_rules, used_is_file}
-use Rattle.vol_migrate.proofs.FirstStages.{free_or, vacant_or}
+use Rattle.vol_migrate.proofs.FirstStages.{free_or, vacant_or, zero_mode}
 
 -- all files are carried
 abbrev pub IsLast : Geometry → Geometry → List ℕ → ℕ → List ℕ → Type 0
@@ -53,7 +53,7 @@ sizes_same from to old image now i may stage used =
     (omega (arith, greatest), omega (arith, greatest, size, six, seven))
 
 -- each byte of its body
-body_carried : (from to : Geometry) (old image : List ℕ) (now i x : ℕ) → MayMigrate old from to → IsLast from to old now image → IsUsed from old i
+pub body_carried : (from to : Geometry) (old image : List ℕ) (now i x : ℕ) → MayMigrate old from to → IsLast from to old now image → IsUsed from old i
     → x < size_of from old i → get_or (body to image (i + 1)) x 0 ≡ carried_byte (kind_at from old i) (body from old i) x
 body_carried from to old image now i x may stage used low =
     (all_carried from to old image now i stage used).done x low (omega (arith, low))
@@ -162,12 +162,16 @@ old_free from old i unused first last =
       | inr some ↦ absurd (unused (record { first = first; last = last; some = some }))
     ]
 
--- and so is the next one in the new volume
+-- the next one of the new volume has nothing to carry
+pub unused_vacant : (from : Geometry) (old : List ℕ) (k : ℕ) → (IsUsed from old (k - 1) → ⊥) → IsVacant from old k
+unused_vacant from old k unused = λ i e used. unused (subst (IsUsed from old) (let at : i ≡ k - 1 = omega (arith, e) in at) used)
+
+-- and so it is free
 pub new_free : (from to : Geometry) (old image : List ℕ) (now k : ℕ) → IsLast from to old now image → (IsUsed from old (k - 1) → ⊥)
     → 1 ≤ k → k ≤ to.last_inode → kind_at to image k ≡ kinds.Free
 new_free from to old image now k stage unused first last =
     ap (kind_of to.edition)
-    (stage.vacant k first last (λ i e used. unused (subst (IsUsed from old) (let at : i ≡ k - 1 = omega (arith, e) in at) used)))
+    (zero_mode to image k (λ r low. stage.zeros k r first last (inl (unused_vacant from old k unused)) low))
     ∙ kind_zero to.edition
 
 -- the entries of an i-node of some kind

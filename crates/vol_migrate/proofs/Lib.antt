@@ -13,4 +13,5 @@ pub mod FirstStages
 pub mod LastStages
 pub mod LastReadings
 pub mod LastRules
+pub mod LastZeros
 pub mod Migrated

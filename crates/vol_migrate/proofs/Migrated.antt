@@ -1,9 +1,10 @@
 -- The volume that was made is the old one as the seventh edition has it.
 use Rattle.std.proofs.Common.{◌≡◌, ◌∙◌, sym, ap, subst, refl, ℕ, ◌+◌, ◌-◌, ◌*◌, ◌≤◌, Bool, true, false, ltb, if◌then◌else◌, List, length, get_or, replicate, Ok, None, Some, arith}
+use Rattle.std.proofs.lemmas.List.{length-replicate}
 use Rattle.std.proofs.lemmas.Bool.{ltb-false}
-use Rattle.pdp_words.specs.Words.{SameOutside}
+use Rattle.pdp_words.specs.Words.{SameOutside, long}
 use Rattle.vol_layout.specs.Geometry.{Fits, geometry_of, geometry_read, is_whole, is_bounded}
-use Rattle.vol_layout.specs.Super.{free_head}
+use Rattle.vol_layout.specs.Super.{free_head, time_place}
 use Rattle.vol_layout.specs.declared.edition.Edition.TheVariants.{V6, V7}
 use Rattle.vol_layout.specs.declared.geometry.Geometry.{Geometry}
 use Rattle.vol_free.specs.Rebuilding.{KeepsUsed, unused}
@@ -19,8 +20,8 @@ use Rattle.vol_change.proofs.ReadyLaws.{ready_whole}
 use Rattle.vol_layout.proofs.EditionLaws.{super_order}
 use Rattle.vol_change.proofs.WholeLaws.{zone_behind}
 use Rattle.vol_check.proofs.Remade.{salvaged}
-use Rattle.vol_mkfs.specs.Mkfs.{is_size, volume_of, IsMakeable}
-use Rattle.vol_migrate.specs.Migrating.{IsMigrated, IsRelisted}
+use Rattle.vol_mkfs.specs.Mkfs.{is_size, sizes_bytes, volume_of, IsMakeable, IsNoneOf}
+use Rattle.vol_migrate.specs.Migrating.{HasZeros, HasRaisedSlots, IsMigrated, IsRelisted}
 use Rattle.vol_migrate.specs.Raised.{raised}
 use Rattle.vol_migrate.specs.Refusing.{has_device, has_above, places_needed, refusal}
 use Rattle.vol_migrate.specs.Stages.{HasInodes, HasSuper, IsStage, MayMigrate}
@@ -28,6 +29,7 @@ use Rattle.vol_migrate.specs.declared.fault.MigrateFault.TheVariants as faults
 use Rattle.vol_mkfs.proofs.NewSizes.{fits_makeable}
 use Rattle.vol_migrate.proofs.FirstStages.{first_stage}
 use Rattle.vol_migrate.proofs.LastReadings.{state_raised}
+use Rattle.vol_migrate.proofs.LastZeros.{last_zeros, last_slots}
 use Rattle.vol_migrate.proofs.LastStages.{IsLast}
 use Rattle.vol_migrate.proofs.Refused.{plain_all, number_all}
 
@@ -99,6 +101,7 @@ migrated old made new from to now blocks list_blocks may stage listed is =
     let salvage = listed.salvaged in
     let own : geometry_of V7 made ≡ to = ap (λ e. geometry_of e made) (sym may.seventh) ∙ stage.super_block.sizes in
     let source : from ≡ geometry_of V6 old = may.ready.sizes ∙ ap (λ e. geometry_of e old) may.sixth in
+    let keeps = subst (λ g. KeepsUsed g salvage.used made new) own salvage.stays in
     let end : to.zone_end ≡ blocks = ap (λ (g : Geometry). g.zone_end) is in
     let len : length new ≡ 512 * blocks = salvage.around.len ∙ (stage.super_block.len ∙ ap (λ n. 512 * n) end) in
     record {
@@ -111,6 +114,10 @@ migrated old made new from to now blocks list_blocks may stage listed is =
           ∙ ap (λ g. raised (state g old) blocks list_blocks now) source));
       used = listed.used;
       free = subst (λ g. IsFree g new (unused g listed.used)) is listed.free;
+      zeros = subst (λ g. HasZeros g new) is (last_zeros from to old made new now salvage.used may stage keeps);
+      slots = subst (λ g. HasRaisedSlots g (volume_of V7 blocks list_blocks) old new) source
+          (subst (λ g. HasRaisedSlots from g old new) is (last_slots from to old made new now salvage.used may stage keeps
+          (subst (λ g. AreNamed g made salvage.used) own salvage.named)));
     }
 
 -- rule 4 of a sound image
@@ -144,10 +151,18 @@ allowed state blocks list_blocks none =
 
 -- the first stage of what is made of zeros
 pub made_first : (old zeros made put image : List ℕ) (from to : Geometry) (now : ℕ) → MayMigrate old from to → zeros ≡ replicate (512 * to.zone_end) 0
-    → HasSuper to now made → SameOutside zeros made 512 1024 → SameOutside made put 1024 (512 * to.zone_start) → HasInodes from to old now put
+    → geometry_of to.edition made ≡ to → long made (time_place to.edition) ≡ now
+    → ((k : ℕ) → IsNoneOf 512 (sizes_bytes to.edition) k → IsNoneOf (time_place to.edition) 4 k → get_or made k 0 ≡ get_or zeros k 0)
+    → SameOutside zeros made 512 1024 → SameOutside made put 1024 (512 * to.zone_start) → HasInodes from to old now put
     → KeepsUsed to (replicate to.zone_end false) put image → IsFree to image (unused to (replicate to.zone_end false)) → Fits to image
     → IsStage from to old now image 1 0
-made_first old zeros made put image from to now may is super first listed inodes keeps free fits =
+made_first old zeros made put image from to now may is sizes time rest first listed inodes keeps free fits =
+    let super : HasSuper to now made = record {
+      len = first.len ∙ (ap length is ∙ length-replicate (512 * to.zone_end) 0);
+      sizes = sizes;
+      time = time;
+      rest = λ k low count list stamp. rest k count stamp ∙ (ap (λ xs. get_or xs k 0) is ∙ zeros_at (512 * to.zone_end) k);
+    } in
     first_stage from to old made put image now may
     (fits_len to made put listed.len (fits_makeable to made may.makeable super.len)) fits super listed inodes keeps free
 

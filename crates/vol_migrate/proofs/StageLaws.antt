@@ -6,6 +6,7 @@ use Rattle.pdp_words.specs.Words.{word}
 use Rattle.vol_layout.specs.Body.{body, body_size, zone_byte}
 use Rattle.vol_layout.specs.Edition.{constants}
 use Rattle.vol_layout.specs.Geometry.{Fits}
+use Rattle.vol_layout.specs.Inode.{inode_place}
 use Rattle.vol_layout.specs.Names.{IsFile, form_at, stored}
 use Rattle.vol_layout.specs.Places.{has_places}
 use Rattle.vol_layout.specs.Slot.{slot_at}
@@ -15,10 +16,9 @@ use Rattle.vol_layout.specs.declared.mode.Kind.{Kind}
 use Rattle.vol_layout.specs.declared.mode.Kind.TheVariants as kinds
 use Rattle.vol_layout.specs.declared.block_map.Form.TheVariants.{Deep}
 use Rattle.vol_layout.proofs.BodyLaws.{get_or-body, body_byte_is, length-body, zone_byte_out}
-use Rattle.vol_layout.proofs.InodeLaws.{mode_kept}
 use Rattle.vol_layout.proofs.NameLaws.{zero_out}
 use Rattle.vol_layout.proofs.NewInodes.{zeros_at}
-use Rattle.vol_file.specs.Changes.{Writes, whole_blocks}
+use Rattle.vol_file.specs.Changes.{Writes, is_kept_byte, whole_blocks}
 use Rattle.vol_file.specs.Need.{need, need_of}
 use Rattle.vol_file.specs.Rules.{kind_at, size_of}
 use Rattle.vol_file.specs.Shape.{is_named, is_on_ways, touched}
@@ -31,6 +31,7 @@ use Rattle.vol_change.proofs.ShapePlaces.{at_places, guarded, need_places}
 use Rattle.vol_migrate.specs.Raised.{names_block, stored_blocks}
 use Rattle.vol_migrate.specs.Stages.{IsUsed, MayMigrate, IsCarried, IsStage, progress, carried_byte, raised_byte, bytes_of_slot}
 use Rattle.vol_migrate.proofs.CarriedBlocks.{below_holes, count_holes, count_more, count_grows, none_below, before_more, before_within, need_all}
+use Rattle.vol_migrate.proofs.FirstInodes.{byte_kept}
 use Rattle.vol_migrate.proofs.FileShapes.{bare_need, names_stored}
 use Rattle.vol_migrate.proofs.RaisedSlots.{raised_none}
 use Rattle.vol_migrate.proofs.StageSteps.{carried_kind, form_seventh, touched_one, progress_self, progress_other, progress_before, progress_after, super_stays, other_stays, self_carried}
@@ -143,10 +144,20 @@ stage_written old from to now image new text i b may stage used some writes begu
                 (λ e. apart (omega (arith, e))) (may.numbers j other) may.seventh is was in
                 subst (IsCarried from to old now new j) (progress_other from old i b (b + 1) j apart) still
           ];
-      vacant = λ k first last none.
-          mode_kept to image new k (elsewhere_inode to image new (i + 1) k stage.sound.fits writes.alone.elsewhere (omega arith) first last
-          (λ e. none i e used))
-          ∙ stage.vacant k first last none;
+      zeros = λ k r first last idle low.
+          let same : get_or new (inode_place to.edition k + r) 0 ≡ get_or image (inode_place to.edition k + r) 0 =
+          elim (cases_eq k (i + 1)) [
+            | inl is ↦
+                elim idle [
+                  | inl vacant ↦ absurd (vacant i is used)
+                  | inr byte ↦
+                      byte_kept to image new k (i + 1) r is byte
+                      (writes.alone.elsewhere.inode 51 (ap (λ e. is_kept_byte e 51) may.seventh))
+                ]
+            | inr apart ↦
+                (elsewhere_inode to image new (i + 1) k stage.sound.fits writes.alone.elsewhere (omega arith) first last apart).bytes r low
+          ] in
+          same ∙ stage.zeros k r first last idle low;
     }
 
 -- a byte of the old body in a hole is 0
@@ -228,7 +239,7 @@ stage_holes old from to now image i m n may stage used order holes =
                 subst P (sym is) (subst (IsCarried from to old now image i) (sym (progress_self from old i n)) now_here)
             | inr apart ↦ subst (IsCarried from to old now image j) (progress_other from old i m n j apart) (stage.carried j other)
           ];
-      vacant = stage.vacant;
+      zeros = stage.zeros;
     }
 
 -- how far each i-node is carried once i-node i is done
@@ -265,7 +276,7 @@ stage_next old from to now image i first stage =
       super_block = stage.super_block;
       carried = λ j other.
           subst (IsCarried from to old now image j) (progress_next from old i (whole_blocks (size_of from old i)) j (λ is. refl)) (stage.carried j other);
-      vacant = stage.vacant;
+      zeros = stage.zeros;
     }
 
 -- what is no file is passed
@@ -287,5 +298,5 @@ stage_pass old from to now image i may first last bare stage =
           subst (IsCarried from to old now image j)
           (progress_next from old i 0 j (λ is. absurd (true≢false (sym is_file ∙ (ap (λ k. has_places (kind_at from old k)) is ∙ bare)))))
           (stage.carried j other);
-      vacant = stage.vacant;
+      zeros = stage.zeros;
     }

@@ -120,7 +120,20 @@ super_stays to now old new has len below behind =
       zone_end = same.1 t;
       last_inode = (constants to.edition).inodes_per_block * (same.0 t - 2);
     } in
-    record { len = len ∙ has.len; sizes = sizes ∙ has.sizes; time = time ∙ has.time }
+    record {
+      len = len ∙ has.len;
+      sizes = sizes ∙ has.sizes;
+      time = time ∙ has.time;
+      rest = λ k low count list stamp.
+          elim (cases_lt k (free_head to.edition)) [
+            | inl before ↦ below k before ∙ has.rest k low count list stamp
+            | inr from ↦
+                elim (cases_lt k (free_head to.edition + 202)) [
+                  | inl inside ↦ absurd (list from inside)
+                  | inr past ↦ behind k past low ∙ has.rest k low count list stamp
+                ]
+          ];
+    }
 
 -- another carried i-node stays where the write of a file leaves all others
 pub other_stays : (from to : Geometry) (old image new : List ℕ) (now k j n : ℕ) → Fits to image → ChangesFileAlone to image new k → 1 ≤ k → j + 1 ≢ k

@@ -6,10 +6,9 @@ use Rattle.vol_layout.specs.Body.{body}
 use Rattle.vol_layout.specs.Edition.{constants}
 use Rattle.vol_layout.specs.Geometry.{geometry_of}
 use Rattle.vol_layout.specs.Inode.{inode_of, inode_place, raised_inode}
-use Rattle.vol_layout.specs.Names.{mode_of}
 use Rattle.vol_layout.specs.Places.{IsPlace, places}
 use Rattle.vol_layout.specs.Slot.{slot_at}
-use Rattle.vol_layout.specs.Super.{time_place}
+use Rattle.vol_layout.specs.Super.{free_head, time_place}
 use Rattle.vol_layout.specs.declared.edition.Edition.TheVariants.{V6, V7}
 use Rattle.vol_layout.specs.declared.geometry.Geometry.{Geometry}
 use Rattle.vol_layout.specs.declared.mode.Kind.{Kind}
@@ -21,7 +20,7 @@ use Rattle.vol_file.specs.Rules.{Rules3To7With, kind_at, size_of}
 use Rattle.vol_file.specs.Shape.{is_named, is_on_ways}
 use Rattle.vol_dir.specs.Tree.{Shape, shapes, state}
 use Rattle.vol_change.specs.Ready.{Rules1To12}
-use Rattle.vol_mkfs.specs.Mkfs.{IsMakeable}
+use Rattle.vol_mkfs.specs.Mkfs.{sizes_bytes, IsMakeable, IsNoneOf}
 use Rattle.vol_migrate.specs.Raised.{names_block, stored_blocks, raised_slot}
 use Rattle.vol_migrate.specs.Refusing.{places_needed}
 
@@ -92,15 +91,21 @@ pub record IsCarried (from to : Geometry) (old : List ℕ) (now : ℕ) (image : 
 abbrev pub progress : Geometry → List ℕ → ℕ → ℕ → ℕ → ℕ
 progress from old i n j = if nat_lt j i then whole_blocks (size_of from old j) else if j == i then n else 0
 
--- what stands outside the i-list and the data zone: the sizes of the volume, and the time (filsys.h)
+-- what stands outside the i-list and the data zone: the sizes of the volume, the time, and zeros beside the free list (filsys.h)
 pub record HasSuper (to : Geometry) (now : ℕ) (image : List ℕ) : Type 0 where
   pub len : length image ≡ 512 * to.zone_end
   pub sizes : geometry_of to.edition image ≡ to
   pub time : long image (time_place to.edition) ≡ now
+  pub rest : (k : ℕ) → k < 1024 → IsNoneOf 512 (sizes_bytes to.edition) k → IsNoneOf (free_head to.edition) 202 k
+      → IsNoneOf (time_place to.edition) 4 k → slice_index image k ≡ 0
 
 -- i-number k of the new volume has no i-node to carry (this project)
 abbrev pub IsVacant : Geometry → List ℕ → ℕ → Type 0
 IsVacant from old k = (i : ℕ) → k ≡ i + 1 → IsUsed from old i → ⊥
+
+-- byte r of i-node k of the new volume has no use: k has no i-node to carry, or the byte is the one that the seventh edition doesn't use (ino.h)
+abbrev pub IsIdle : Geometry → List ℕ → ℕ → ℕ → Type 0
+IsIdle from old k r = IsVacant from old k ⊎ (r ≡ 51)
 
 -- rules 3 to 7 hold of the new volume, in which n blocks of i-node i and all of those before are carried, and there are as many free blocks as that has left of the data zone (this project)
 pub record IsStage (from to : Geometry) (old : List ℕ) (now : ℕ) (image : List ℕ) (i n : ℕ) : Type 0 where
@@ -109,7 +114,8 @@ pub record IsStage (from to : Geometry) (old : List ℕ) (now : ℕ) (image : Li
   pub room : length blocks + (need_before from old i + places_for (shapes from old i) n) ≡ to.zone_end - to.zone_start
   pub super_block : HasSuper to now image
   pub carried : (j : ℕ) → IsUsed from old j → IsCarried from to old now image j (progress from old i n j)
-  pub vacant : (k : ℕ) → 1 ≤ k → k ≤ to.last_inode → IsVacant from old k → mode_of to image k ≡ 0
+  pub zeros : (k r : ℕ) → 1 ≤ k → k ≤ to.last_inode → IsIdle from old k r → r < (constants to.edition).inode_bytes
+      → slice_index image (inode_place to.edition k + r) ≡ 0
 
 -- so it is at some time (this project)
 pub record HasStage (from to : Geometry) (old image : List ℕ) (i n : ℕ) : Type 0 where
@@ -123,7 +129,7 @@ CarriesTo from to old image i n new j m = (now : ℕ) → IsStage from to old no
 -- the i-list of the new volume has the i-nodes below i of the old one, and zeros elsewhere (this project)
 pub record HasInodesBelow (from to : Geometry) (old : List ℕ) (now : ℕ) (image : List ℕ) (i : ℕ) : Type 0 where
   pub done : (j : ℕ) → j < i → IsUsed from old j → inode_of to.edition image (j + 1) ≡ raised_inode (inode_of from.edition old j) now
-  pub rest : (k r : ℕ) → 1 ≤ k → k ≤ to.last_inode → (i + 1 ≤ k) ⊎ IsVacant from old k → r < (constants to.edition).inode_bytes
+  pub rest : (k r : ℕ) → 1 ≤ k → k ≤ to.last_inode → (i + 1 ≤ k) ⊎ IsIdle from old k r → r < (constants to.edition).inode_bytes
       → slice_index image (inode_place to.edition k + r) ≡ 0
 
 -- and all i-nodes (this project)

@@ -1,12 +1,13 @@
 //! A volume of the seventh edition whose i-nodes are those of one of the sixth, before any has a block.
 ghost use Rattle.std.specs.Prelude.{◌≡◌, ◌≢◌, ℕ, ◌+◌, ◌*◌, ◌<◌, ◌≤◌, true, false, IfOk, length, replicate, slice_index};
-ghost use Rattle.pdp_words.specs.Words.{SameOutside};
-ghost use Rattle.vol_layout.specs.Geometry.{Fits};
+ghost use Rattle.pdp_words.specs.Words.{SameOutside, long};
+ghost use Rattle.vol_layout.specs.Geometry.{Fits, geometry_of};
+ghost use Rattle.vol_layout.specs.Super.{time_place};
 ghost use Rattle.vol_free.specs.Stack.{IsFree};
 ghost use Rattle.vol_free.specs.Rebuilding.{KeepsUsed, unused};
 ghost use Rattle.vol_file.specs.Rules.{kind_at};
-ghost use Rattle.vol_mkfs.specs.Mkfs.{IsMakeable};
-ghost use Rattle.vol_migrate.specs.Stages.{HasInodes, HasInodesBelow, HasSuper, MayMigrate};
+ghost use Rattle.vol_mkfs.specs.Mkfs.{sizes_bytes, IsMakeable, IsNoneOf};
+ghost use Rattle.vol_migrate.specs.Stages.{HasInodes, HasInodesBelow, MayMigrate};
 
 use pdp_words::Image;
 use std::alloc::{AllocError, Global};
@@ -19,7 +20,10 @@ pub(crate) fn put_super(image: &mut Image, to: &Geometry, now: u32)
     requires seventh { to.now.edition ≡ Edition.V7 }
     requires makeable { IsMakeable to.now }
     requires len { length image.old ≡ 512 * to.now.zone_end }
-    ensures put { HasSuper to.now now image.new }
+    ensures sizes { geometry_of to.now.edition image.new ≡ to.now }
+    ensures time { long image.new (time_place to.now.edition) ≡ now }
+    ensures rest { (k : ℕ) → IsNoneOf 512 (sizes_bytes to.now.edition) k → IsNoneOf (time_place to.now.edition) 4 k
+        → slice_index image.new k ≡ slice_index image.old k }
     ensures others { SameOutside image.old image.new 512 1024 }
 {
     let super_block = Super {

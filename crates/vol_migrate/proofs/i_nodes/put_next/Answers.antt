@@ -1,5 +1,5 @@
 -- The i-node is put where it is used.
-use Rattle.std.proofs.Common.{◌∙◌, ap, refl, ◌+◌, arith}
+use Rattle.std.proofs.Common.{◌≡◌, ◌∙◌, ap, sym, subst, refl, ◌+◌, slice_index, arith}
 use Rattle.vol_layout.specs.Inode.{inode_place, raised_inode}
 use Rattle.vol_layout.specs.declared.i_node.Inode.{Inode}
 use Rattle.vol_layout.proofs.InodeLaws.{inode_mode}
@@ -28,7 +28,9 @@ returns-then-is_used-clause-put c = λ has.
     let used : IsUsed from old i =
     record { first = c.requires.first; last = c.requires.last; some = c.is_used.ensures.used c.if-is_used.true } in
     let node = c.raised-node.ensures.value ∙ ap (λ (n : Inode). raised_inode n c.args.now) c.inode.ensures.value in
-    inodes_more from to old c.args.image.now c.put_inode.new.image c.args.now i used c.put_inode.ensures.others (c.put_inode.ensures.put ∙ node) has
+    let stays = subst (λ e. slice_index c.put_inode.new.image (inode_place e (i + 1) + 51) ≡ slice_index c.args.image.now (inode_place e (i + 1) + 51))
+    (sym c.requires.may.seventh) (c.put_inode.ensures.unused c.requires.may.seventh) in
+    inodes_more from to old c.args.image.now c.put_inode.new.image c.args.now i used c.put_inode.ensures.others (c.put_inode.ensures.put ∙ node) stays has
 
 pub returns-then-is_used-clause-others : goal.returns-then-is_used-clause-others
 returns-then-is_used-clause-others c =

@@ -16,7 +16,7 @@ copy_files-requires-clause-stage c =
     c.from_bytes-image.ensures ∙ (c.in_ok-zeros.ensures.items_if_clones_equal (λ y e. e) ∙ ap (λ n. replicate n 0) count) in
     let first : IsStage c.args.from.now c.args.to.now c.args.old.now c.args.now c.free_all.new.image 1 0 =
     made_first c.args.old.now c.from_bytes-image.result c.put_super.new.image c.put_inodes.new.image c.free_all.new.image c.args.from.now c.args.to.now c.args.now
-    may zeros c.put_super.ensures.put c.put_super.ensures.others c.put_inodes.ensures.others c.put_inodes.ensures.put
+    may zeros c.put_super.ensures.sizes c.put_super.ensures.time c.put_super.ensures.rest c.put_super.ensures.others c.put_inodes.ensures.others c.put_inodes.ensures.put
     c.in_ok-free_all.ensures.others c.in_ok-free_all.ensures.free c.in_ok-free_all.ensures.fits in
     record { now = c.args.now; stage = first }
 
@@ -28,7 +28,7 @@ relist-requires-clause-sizes c =
     c.from_bytes-image.ensures ∙ (c.in_ok-zeros.ensures.items_if_clones_equal (λ y e. e) ∙ ap (λ n. replicate n 0) count) in
     let first : IsStage c.args.from.now c.args.to.now c.args.old.now c.args.now c.free_all.new.image 1 0 =
     made_first c.args.old.now c.from_bytes-image.result c.put_super.new.image c.put_inodes.new.image c.free_all.new.image c.args.from.now c.args.to.now c.args.now
-    may zeros c.put_super.ensures.put c.put_super.ensures.others c.put_inodes.ensures.others c.put_inodes.ensures.put
+    may zeros c.put_super.ensures.sizes c.put_super.ensures.time c.put_super.ensures.rest c.put_super.ensures.others c.put_inodes.ensures.others c.put_inodes.ensures.put
     c.in_ok-free_all.ensures.others c.in_ok-free_all.ensures.free c.in_ok-free_all.ensures.fits in
     let last = c.copy_files.ensures c.args.now first in
     ap (λ e. geometry_of e c.copy_files.new.image) (sym may.seventh) ∙ last.super_block.sizes
@@ -41,7 +41,7 @@ relist-requires-clause-fits c =
     c.from_bytes-image.ensures ∙ (c.in_ok-zeros.ensures.items_if_clones_equal (λ y e. e) ∙ ap (λ n. replicate n 0) count) in
     let first : IsStage c.args.from.now c.args.to.now c.args.old.now c.args.now c.free_all.new.image 1 0 =
     made_first c.args.old.now c.from_bytes-image.result c.put_super.new.image c.put_inodes.new.image c.free_all.new.image c.args.from.now c.args.to.now c.args.now
-    may zeros c.put_super.ensures.put c.put_super.ensures.others c.put_inodes.ensures.others c.put_inodes.ensures.put
+    may zeros c.put_super.ensures.sizes c.put_super.ensures.time c.put_super.ensures.rest c.put_super.ensures.others c.put_inodes.ensures.others c.put_inodes.ensures.put
     c.in_ok-free_all.ensures.others c.in_ok-free_all.ensures.free c.in_ok-free_all.ensures.fits in
     let last = c.copy_files.ensures c.args.now first in
     last.sound.fits
@@ -54,7 +54,7 @@ relist-requires-clause-rules c =
     c.from_bytes-image.ensures ∙ (c.in_ok-zeros.ensures.items_if_clones_equal (λ y e. e) ∙ ap (λ n. replicate n 0) count) in
     let first : IsStage c.args.from.now c.args.to.now c.args.old.now c.args.now c.free_all.new.image 1 0 =
     made_first c.args.old.now c.from_bytes-image.result c.put_super.new.image c.put_inodes.new.image c.free_all.new.image c.args.from.now c.args.to.now c.args.now
-    may zeros c.put_super.ensures.put c.put_super.ensures.others c.put_inodes.ensures.others c.put_inodes.ensures.put
+    may zeros c.put_super.ensures.sizes c.put_super.ensures.time c.put_super.ensures.rest c.put_super.ensures.others c.put_inodes.ensures.others c.put_inodes.ensures.put
     c.in_ok-free_all.ensures.others c.in_ok-free_all.ensures.free c.in_ok-free_all.ensures.fits in
     let last = c.copy_files.ensures c.args.now first in
     subst (λ e. KeepsRules false e c.copy_files.new.image) may.seventh
@@ -68,7 +68,7 @@ returns c = λ blocks list_blocks is.
     c.from_bytes-image.ensures ∙ (c.in_ok-zeros.ensures.items_if_clones_equal (λ y e. e) ∙ ap (λ n. replicate n 0) count) in
     let first : IsStage c.args.from.now c.args.to.now c.args.old.now c.args.now c.free_all.new.image 1 0 =
     made_first c.args.old.now c.from_bytes-image.result c.put_super.new.image c.put_inodes.new.image c.free_all.new.image c.args.from.now c.args.to.now c.args.now
-    may zeros c.put_super.ensures.put c.put_super.ensures.others c.put_inodes.ensures.others c.put_inodes.ensures.put
+    may zeros c.put_super.ensures.sizes c.put_super.ensures.time c.put_super.ensures.rest c.put_super.ensures.others c.put_inodes.ensures.others c.put_inodes.ensures.put
     c.in_ok-free_all.ensures.others c.in_ok-free_all.ensures.free c.in_ok-free_all.ensures.fits in
     let last = c.copy_files.ensures c.args.now first in
     subst (IsMigrated c.args.old.now blocks list_blocks c.args.now) (sym c.into_bytes.ensures)

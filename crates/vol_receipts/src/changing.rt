@@ -50,16 +50,16 @@ pub fn change(
 
 /// Asks a query, and tells what came of it.
 ///
-/// Where memory or the numbers below 2^64 run out, the query comes back. Costs what [`Volume::ask`] does.
+/// The query comes back where its reply takes memory and that runs out, and where the number of the next record is
+/// not below 2^64. Costs what [`Volume::ask`] does.
 pub fn reply(volume: &Volume, alloc: Global, query: Query) -> Result<Receipt, (AllocError, Query)>
     ensures at { IfOk result (λ receipt. receipt.at ≡ volume.now.first + length volume.now.journal) }
-    ensures numbered { IfOk result (λ receipt. receipt.at + 1 < 2 ^ 64) }
     ensures asked { IfOk result (λ receipt. receipt.asked ≡ Asked.Question query) }
     ensures agrees { IfOk result (λ receipt. Agrees (origin_of volume.now) volume.now.journal receipt) }
-    ensures memory { OnErr result ((takes_memory query ≡ true) ⊎ (2 ^ 64 ≤ volume.now.first + length volume.now.journal + 1)) }
+    ensures memory { OnErr result ((takes_memory query ≡ true) ⊎ (2 ^ 64 ≤ volume.now.first + length volume.now.journal)) }
     ensures handed_back { IfErr result (λ (error, same). same ≡ query) }
 {
-    let Some(at) = next_number(volume) else {
+    let Some(at) = end_of(volume) else {
         return Err((AllocError, query));
     };
     let outcome = match volume.ask(alloc, &query) {
@@ -70,12 +70,20 @@ pub fn reply(volume: &Volume, alloc: Global, query: Query) -> Result<Receipt, (A
     Ok(told(volume, at, Asked::Question(query), outcome))
 }
 
+/// The number of the journal's next record, where it is below 2^64.
+fn end_of(volume: &Volume) -> Option<u64>
+    ensures number { IfSome result (λ at. at ≡ volume.now.first + length volume.now.journal) }
+    ensures none { result ≡ None → 2 ^ 64 ≤ volume.now.first + length volume.now.journal }
+{
+    volume.first().checked_add(volume.journal().len() as u64)
+}
+
 /// The number of the journal's next record, where the one after it has a number too.
 fn next_number(volume: &Volume) -> Option<u64>
     ensures number { IfSome result (λ at. (at ≡ volume.now.first + length volume.now.journal) × (at + 1 < 2 ^ 64)) }
     ensures none { result ≡ None → 2 ^ 64 ≤ volume.now.first + length volume.now.journal + 1 }
 {
-    let at = volume.first().checked_add(volume.journal().len() as u64)?;
+    let at = end_of(volume)?;
     if at == u64::MAX { None } else { Some(at) }
 }
 

@@ -1,6 +1,6 @@
 //! A volume that no thread shares any more.
-ghost use Rattle.std.specs.Prelude.{◌≡◌, ◌+◌, ◌<◌, ◌^◌, ◌↔◌, IfOk, IsTrue, Err};
-ghost use Rattle.vol_receipts.specs.Agrees.{origin_of, Agrees};
+ghost use Rattle.std.specs.Prelude.{◌≡◌, ◌+◌, ◌<◌, ◌^◌, ◌↔◌, [], IfOk, IsTrue, Err};
+ghost use Rattle.vol_receipts.specs.Agrees.{origin_of, Agrees, record_of};
 ghost use Rattle.vol_receipts.specs.Findings.{AreCounted};
 ghost use Rattle.vol_shared.specs.Stored.{stored_of, next_number};
 
@@ -68,12 +68,13 @@ impl Closed {
     }
 
     /// Whether a receipt agrees with the journal. Cut where its number is below that of the journal's first record;
-    /// NoMemory where an allocation was refused.
+    /// NoMemory where an allocation was refused, which never comes for the receipt of an accepted call.
     ///
     /// Takes memory and costs what [`vol_receipts::confirm`] does.
     pub fn confirm(&self, alloc: Global, receipt: &Receipt) -> Result<bool, ConfirmFault>
         ensures agrees { IfOk result (λ agrees. IsTrue agrees ↔ Agrees (origin_of self.now) self.now.journal receipt.now) }
         ensures cut { result ≡ Err ConfirmFault.Cut ↔ receipt.now.at < self.now.first }
+        ensures memory { result ≡ Err ConfirmFault.NoMemory → record_of receipt.now.asked receipt.now.outcome ≡ [] }
     {
         confirm(&self.volume, alloc, receipt)
     }

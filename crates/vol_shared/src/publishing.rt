@@ -1,5 +1,5 @@
 //! Calls whose records are published. All that wants memory is taken before the first byte changes.
-ghost use Rattle.std.specs.Prelude.{◌≡◌, ◌+◌, ◌-◌, ◌<◌, ◌≤◌, ◌^◌, length, Some, IfOk, IfErr, OnErr};
+ghost use Rattle.std.specs.Prelude.{◌≡◌, ◌+◌, ◌-◌, ◌<◌, ◌≤◌, ◌^◌, ◌⊎◌, length, None, Some, IfOk, IfErr, OnErr};
 ghost use Rattle.std.specs.List.{slice_get};
 ghost use Rattle.vol_volume.specs.Journal.{MayFollow};
 ghost use Rattle.vol_volume.specs.Verdict.{verdict};
@@ -37,6 +37,7 @@ pub(crate) fn change_published<R: Wait>(
     ensures answered { IfOk result.1 (λ receipt. IsAnswered (stored_with (Some publisher.book) volume) result.0 receipt) }
     ensures next { IfOk result.1 (λ receipt. next_number result.0 ≡ next_of receipt.at receipt.outcome) }
     ensures unchanged { OnErr result.1 (IsUnchanged (stored_with (Some publisher.book) volume) result.0) }
+    ensures memory { OnErr result.1 ((verdict (reads_as volume.edition volume.image) call ≡ None) ⊎ (2 ^ 64 ≤ next_number (stored_of volume) + 1)) }
     ensures handed_back { IfErr result.1 (λ (error, same). same ≡ call) }
 {
     let at = volume.first() + volume.journal().len() as u64;

@@ -66,7 +66,7 @@ pub(crate) fn enter<R: Wait>(rt: &R, lock: &Lock, badge: &mut Badge<Knowledge>) 
 
 /// Counts what came of a call or query of a session.
 pub(crate) fn note(next: &mut u64, count: &mut u64, receipt: &Receipt)
-    requires numbered { receipt.now.at + 1 < 2 ^ 64 }
+    requires numbered { next_of receipt.now.at receipt.now.outcome < 2 ^ 64 }
     requires counted { count.old ≤ receipt.now.at }
     ensures next { next.new ≡ next_of receipt.now.at receipt.now.outcome }
     ensures count { count.new ≡ count.old + length (place_of receipt.now.at receipt.now.outcome) }

@@ -1,6 +1,7 @@
 //! A volume under a lock.
-ghost use Rattle.std.specs.Prelude.{◌≡◌, ℕ, ◌+◌, ◌≤◌, [], length, max, None, Some, All, IfOk, IfErr, OnErr};
+ghost use Rattle.std.specs.Prelude.{◌≡◌, ℕ, ◌+◌, ◌≤◌, [], length, max, true, None, Some, All, IfOk, IfErr, OnErr};
 ghost use Rattle.count_table.specs.Sums.{total, below};
+ghost use Rattle.vol_volume.specs.Answer.{takes_memory};
 ghost use Rattle.vol_receipts.specs.Agrees.{origin_of, Agrees};
 ghost use Rattle.vol_receipts.specs.declared.receipts.Asked.TheVariants.{Change, Question};
 ghost use Rattle.vol_shared.specs.Lists.{BeginsWith, greatest, greatest_of};
@@ -182,8 +183,8 @@ impl Shared {
         }
     }
 
-    /// Asks a query, once no other session holds the volume. Where memory runs out the query comes back, and nothing
-    /// changes.
+    /// Asks a query, once no other session holds the volume. Where its reply takes memory and that runs out, the query
+    /// comes back, and nothing changes.
     ///
     /// Takes memory and costs what [`Volume::ask`] does, and the wait.
     pub fn ask<R: Wait>(
@@ -198,6 +199,7 @@ impl Shared {
         ensures asked { IfOk result (λ receipt. receipt.asked ≡ Question query) }
         ensures got { IfOk result (λ receipt. Got session.old session.new receipt) }
         ensures unchanged { OnErr result (session.new ≡ session.old) }
+        ensures memory { OnErr result (takes_memory query ≡ true) }
         ensures handed_back { IfErr result (λ (error, same). same ≡ query) }
     {
         let lock = &self.table.shared;

@@ -1,10 +1,12 @@
 //! What lies under the lock.
-ghost use Rattle.std.specs.Prelude.{◌≡◌, ◌+◌, ◌<◌, ◌^◌, ◌≤◌, length, None, Some, IfOk, IfErr, OnErr, IfSome};
+ghost use Rattle.std.specs.Prelude.{◌≡◌, ◌+◌, ◌<◌, ◌^◌, ◌≤◌, ◌⊎◌, length, true, None, Some, IfOk, IfErr, OnErr, IfSome};
 ghost use Rattle.vol_views.specs.LogRule.{first_log};
 ghost use Rattle.vol_views.specs.Logs.{number_of};
 ghost use Rattle.vol_receipts.specs.Agrees.{next_of};
 ghost use Rattle.vol_receipts.specs.declared.receipts.Asked.TheVariants.{Change, Question};
-ghost use Rattle.vol_volume.specs.Volume.{after_cut};
+ghost use Rattle.vol_volume.specs.Answer.{takes_memory};
+ghost use Rattle.vol_volume.specs.Verdict.{verdict};
+ghost use Rattle.vol_volume.specs.Volume.{after_cut, reads_as};
 ghost use Rattle.vol_views.specs.Views.{book_in};
 ghost use Rattle.vol_shared.specs.Stored.{stored_of, stored_with, unpublished, next_number, IsUnchanged, IsCut};
 ghost use Rattle.vol_shared.specs.Plays.{IsAnswered};
@@ -101,7 +103,8 @@ impl Stock {
         }
     }
 
-    /// Makes a call, publishes its record where it has one, and tells what came of it.
+    /// Makes a call, publishes its record where it has one, and tells what came of it. Memory runs out only for a call
+    /// that no refusal applies to, or where the numbers below 2^64 end.
     pub(crate) fn change<R: Wait>(
         self,
         rt: &R,
@@ -111,10 +114,11 @@ impl Stock {
     ) -> (Stock, Result<Receipt, (AllocError, Call)>)
         requires { asked ≡ call }
         ensures asked { IfOk result.1 (λ receipt. receipt.asked ≡ Change call) }
-        ensures numbered { IfOk result.1 (λ receipt. receipt.at + 1 < 2 ^ 64) }
+        ensures numbered { IfOk result.1 (λ receipt. next_of receipt.at receipt.outcome < 2 ^ 64) }
         ensures answered { IfOk result.1 (λ receipt. IsAnswered self result.0 receipt) }
         ensures next { IfOk result.1 (λ receipt. next_number result.0 ≡ next_of receipt.at receipt.outcome) }
         ensures unchanged { OnErr result.1 (IsUnchanged self result.0) }
+        ensures memory { OnErr result.1 ((verdict (reads_as self.origin.edition self.image) call ≡ None) ⊎ (2 ^ 64 ≤ next_number self + 1)) }
         ensures handed_back { IfErr result.1 (λ (error, same). same ≡ call) }
     {
         let Stock {
@@ -137,9 +141,10 @@ impl Stock {
     /// Asks a query, and tells what came of it.
     pub(crate) fn reply(&self, alloc: Global, query: Query) -> Result<Receipt, (AllocError, Query)>
         ensures asked { IfOk result (λ receipt. receipt.asked ≡ Question query) }
-        ensures numbered { IfOk result (λ receipt. receipt.at + 1 < 2 ^ 64) }
+        ensures numbered { IfOk result (λ receipt. next_of receipt.at receipt.outcome < 2 ^ 64) }
         ensures answered { IfOk result (λ receipt. IsAnswered self.now self.now receipt) }
         ensures next { IfOk result (λ receipt. next_number self.now ≡ next_of receipt.at receipt.outcome) }
+        ensures memory { OnErr result (takes_memory query ≡ true) }
         ensures handed_back { IfErr result (λ (error, same). same ≡ query) }
     {
         reply(&self.volume, alloc, query)

@@ -120,6 +120,7 @@ impl Shared {
         ensures fresh { IfOk result (λ (shared, all, seen). All (λ s. s ≡ new_session shared.of (next_number shared.stored)) all.items) }
         ensures new_views { IfOk result (λ (shared, all, seen). All (IsNewView shared.stored) seen.items) }
         ensures own_views { IfOk result (λ (shared, all, seen). All (λ v. shared.of.book ≡ Some v.book) seen.items) }
+        ensures no_place { IfErr result (λ (fault, same). fault ≡ OpenFault.NoPlace → 1 ≤ views) }
         ensures handed_back { IfErr result (λ (error, same). same ≡ volume) }
     {
         let (stock, seen) = match publish(rt, alloc, volume, views) {
@@ -304,6 +305,7 @@ fn publish<R: Wait>(
     ensures stored { IfOk result (λ (stock, seen). unpublished stock ≡ stored_of volume) }
     ensures count { IfOk result (λ (stock, seen). length seen.items ≡ views) }
     ensures new_views { IfOk result (λ (stock, seen). All (IsNewView stock) seen.items) }
+    ensures no_place { IfErr result (λ (fault, same). fault ≡ OpenFault.NoPlace → 1 ≤ views) }
     ensures handed_back { IfErr result (λ (fault, same). same ≡ volume) }
 {
     let Ok(mut publisher) = Publisher::open(rt, alloc, &volume, views) else {

@@ -1,6 +1,6 @@
 //! Views of a shared volume: they are made when it is opened, and their fronts are compared with all that was published when it
 //! is closed.
-ghost use Rattle.std.specs.Prelude.{◌≡◌, ◌<◌, ◌≤◌, ◌^◌, Some, length, All, IfOk};
+ghost use Rattle.std.specs.Prelude.{◌≡◌, ◌<◌, ◌≤◌, ◌^◌, Some, length, All, IfOk, IfErr};
 ghost use Rattle.vol_views.specs.Views.{IsNew};
 ghost use Rattle.vol_shared.specs.Stored.{stored_of, unpublished, next_number};
 ghost use Rattle.vol_shared.specs.Published.{IsPublished};
@@ -24,6 +24,7 @@ pub(crate) fn watch(
     ensures same { publisher.new ≡ publisher.old }
     ensures count { IfOk result (λ all. length all.items ≡ views) }
     ensures new { IfOk result (λ all. All (IsNew publisher.old) all.items) }
+    ensures no_place { IfErr result (λ fault. fault ≡ OpenFault.NoPlace → 1 ≤ views) }
 {
     let Ok(mut all) = Vec::with_capacity(alloc, views) else {
         return Err(OpenFault::NoMemory);

@@ -1,4 +1,5 @@
 pub mod Agreement
+pub mod Around
 pub mod FoundReceipts
 pub mod Records
 pub mod Verdicts

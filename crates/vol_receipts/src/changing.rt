@@ -1,6 +1,8 @@
 //! Calls and queries that leave receipts.
 ghost use Rattle.std.specs.Prelude.{◌≡◌, ◌+◌, ◌-◌, ◌<◌, ◌≤◌, ◌^◌, ◌++◌, ◌∷◌, ◌⊎◌, [], length, true, IfOk, IfErr, OnErr, IfSome, Some, None};
 ghost use Rattle.std.specs.List.{slice_get};
+ghost use Rattle.vol_layout.specs.Geometry.{geometry_of};
+ghost use Rattle.vol_change.specs.Whole.{StaysAround};
 ghost use Rattle.vol_volume.specs.Answer.{takes_memory};
 ghost use Rattle.vol_volume.specs.Verdict.{verdict};
 ghost use Rattle.vol_volume.specs.Volume.{reads_as};
@@ -12,7 +14,7 @@ use vol_dir::Refusal;
 use vol_volume::{Call, Done, Query, Volume};
 
 /// Makes a call, and tells what came of it; the receipt has the copy. An accepted call is the journal's next
-/// record, and a refused one changes nothing.
+/// record, and a refused one changes nothing. The bytes that no call changes stay.
 ///
 /// Where nothing else speaks against the call and the journal has no room for a record, the call comes back and nothing
 /// changes. Room ends with the memory, and with the numbers below 2^64. Costs what [`Volume::call`] does.
@@ -30,6 +32,7 @@ pub fn change(
     ensures asked { IfOk result (λ receipt. receipt.asked ≡ Asked.Change call) }
     ensures agrees { IfOk result (λ receipt. Agrees (origin_of volume.new) volume.new.journal receipt) }
     ensures refused { IfOk result (λ receipt. record_of receipt.asked receipt.outcome ≡ [] → volume.new ≡ volume.old) }
+    ensures around { IfOk result (λ receipt. StaysAround (geometry_of volume.old.edition volume.old.image) volume.old.image volume.new.image) }
     ensures unchanged { IfErr result (λ (error, same). volume.new ≡ volume.old) }
     ensures memory { OnErr result ((verdict (reads_as volume.old.edition volume.old.image) call ≡ None)
         ⊎ (2 ^ 64 ≤ volume.old.first + length volume.old.journal + 1)) }

@@ -12,10 +12,10 @@ use vol_volume::Volume;
 #[derive(Clone, Copy, Debug, PartialEq, Eq, Error)]
 pub enum ConfirmFault {
     /// The receipt's number is below that of the journal's first record: what it speaks of was cut.
-    #[error("cut")]
+    #[error("its records were cut")]
     Cut,
     /// An allocation was refused.
-    #[error("12 NoMemory")]
+    #[error("out of memory")]
     NoMemory,
 }
 

@@ -50,8 +50,10 @@ pub enum ViewFault {
     /// Memory ran out.
     #[error("out of memory")]
     NoMemory,
-    /// It couldn't take what is published, which is only once nothing is published any more.
-    #[error("nothing is published")]
+    /// The view couldn't read what is published, which happens only once that has ended, or its answer was older than
+    /// what the view knows, and was thrown away. Neither happens while the volume is shared, which no contract can
+    /// say. The caller may ask again, or by a session.
+    #[error("what is published couldn't be read")]
     NotEntered,
 }
 
@@ -72,7 +74,8 @@ impl View {
     }
 
     /// The answer to a query, of what is published. NoMemory where the reply takes memory and there was none; NotEntered
-    /// where what is published couldn't be taken. Either leaves the receipts as they were, and NotEntered leaves all.
+    /// where what is published couldn't be read, or the answer was older than what is known. Either leaves the receipts
+    /// as they were, and NotEntered leaves all.
     ///
     /// Takes memory and costs what [`Subscriber::ask`] does, and waits for nobody.
     #[tactic(auto, using(crate::proofs::Views::number_on))]

@@ -79,8 +79,8 @@ impl Closed {
         confirm(&self.volume, alloc, receipt)
     }
 
-    /// How many of some receipts agree with the journal, and of how many what they speak of was cut. Takes memory and
-    /// costs as [`vol_receipts::confirm_all`].
+    /// How many of some receipts agree with the journal, and of how many what they speak of was cut. Which ones do,
+    /// [`vol_receipts::find_all`] says by [`Closed::volume`]. Takes memory and costs as [`vol_receipts::confirm_all`].
     pub fn confirm_all(&self, alloc: Global, receipts: &[Receipt]) -> Result<Confirmed, AllocError>
         ensures { IfOk result (λ confirmed. AreCounted (origin_of self.now) self.now.journal receipts.now confirmed) }
     {

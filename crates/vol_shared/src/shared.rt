@@ -148,7 +148,10 @@ impl Shared {
     /// Makes a call, once no other session holds the volume. The receipt has a copy of it, made before the volume is
     /// taken. Where memory runs out the call comes back, and nothing changes.
     ///
-    /// Takes memory for the copy and for the journal. Costs the wait, and what [`Volume::call`] does.
+    /// Takes memory for the copy and for the journal. Costs the wait, and what [`Volume::call`] does. If the volume has
+    /// views, takes memory for a second copy, which is published. Then an accepted call also costs what
+    /// [`Volume::refusal`] does, is made twice more, on the two copies that views read, and waits for the views that
+    /// still read the older one.
     pub fn call<R: Wait>(
         &self,
         rt: &R,
@@ -237,10 +240,10 @@ impl Shared {
         first
     }
 
-    /// Ends a shared volume that was opened without views, with all its sessions. Where none cut the journal, the volume starts from what it did when it
-    /// was opened, and its journal goes on from that one. Each record made since is that of one accepted call of one
-    /// session. Each receipt agrees with the records made, those that were cut and then the journal; and with the journal alone, if it
-    /// isn't of before the last cut.
+    /// Ends a shared volume that was opened without views, with all its sessions. Where none cut the journal, the volume
+    /// starts from what it did when it was opened, and its journal goes on from that one. Each record made since is that
+    /// of one accepted call of one session. Each receipt agrees with the records made, those that were cut and then the
+    /// journal; and with the journal alone, if it isn't of before the last cut.
     ///
     /// Takes no memory.
     pub fn close(self, sessions: Vec<Session>) -> Closed

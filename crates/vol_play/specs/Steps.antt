@@ -12,7 +12,7 @@ use Rattle.vol_scripts.specs.declared.steps.Step.TheVariants as steps
 use Rattle.vol_volume.specs.Answer.{takes_memory}
 use Rattle.vol_volume.specs.declared.queries.Query.{Query}
 
--- what may come of a step, by the least number that its receipt or its cut may have: a call and a query leave a receipt of themselves, unless memory runs out; a cut is made (this project)
+-- what may come of a step, by the least number that its receipt or its cut may have: a call and a query leave a receipt of themselves, unless memory runs out, which a query meets only if its reply takes memory; a cut is made (this project)
 abbrev pub CameOf : Step → ℕ → Played → Type 0
 CameOf (steps.Change call) next (played.Told receipt) = (receipt.asked ≡ asked.Change call) × (next ≤ receipt.at)
 CameOf (steps.Question query) next (played.Told receipt) = (receipt.asked ≡ asked.Question query) × (next ≤ receipt.at)
@@ -21,7 +21,7 @@ CameOf (steps.Change call) next (played.Cut first) = ⊥
 CameOf (steps.Question query) next (played.Cut first) = ⊥
 CameOf steps.Cut next (played.Cut first) = next ≤ first
 CameOf (steps.Change call) next played.NoMemory = Unit {0}
-CameOf (steps.Question query) next played.NoMemory = Unit {0}
+CameOf (steps.Question query) next played.NoMemory = takes_memory query ≡ true
 CameOf steps.Cut next played.NoMemory = ⊥
 CameOf step next played.NotEntered = ⊥
 CameOf step next played.View = ⊥

@@ -166,6 +166,7 @@ module _ (shared : Opened) where
           first = closes.goes_on.1.first;
           starts = closes.goes_on.1.starts;
           begins = closes.goes_on.1.begins;
+          around = closes.goes_on.1.around;
         },
         ended_called (Agrees shared.stored.origin (closes.goes_on.0 ++ last.journal)) closes.goes_on.2,
       );

@@ -41,7 +41,7 @@ script_cuts (kinds.View queries) = false
 abbrev pub any_cut : List Script → Bool
 any_cut scripts = list_any script_cuts scripts
 
--- scripts were played on a volume: something came of each line of each script, in order; the volume goes on from what it was by records with which all receipts of sessions agree, those of before a cut too, and where no script cut the journal, that goes on from the one that there was; the journal's first number is the greatest that a cut answered, or that of the start; the accepted calls of all scripts have the numbers of the records made since, each once; and each receipt agrees with the journal, but for those with lesser numbers than its first (this project)
+-- scripts were played on a volume: something came of each line of each script, in order; the volume goes on from what it was by records with which all receipts of sessions agree, those of before a cut too, the bytes that no call changes stay, and where no script cut the journal, that goes on from the one that there was; the journal's first number is the greatest that a cut answered, or that of the start; the accepted calls of all scripts have the numbers of the records made since, each once; and each receipt agrees with the journal, but for those with lesser numbers than its first (this project)
 pub record ArePlayed (opened : Stored) (scripts : List Script) (last : Mounted) (played : List (Vec Played Global)) : Type 0 where
   pub came : InPairs (λ script came. CameOfScript script (next_number opened) came.items) scripts played
   pub goes_on : Continues opened (stored_of last) (λ agrees. All (λ came. is_seen came.items ≡ false → All agrees (receipts_in came.items)) played)

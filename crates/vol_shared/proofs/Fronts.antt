@@ -18,6 +18,7 @@ use Rattle.vol_receipts.specs.declared.receipts.Outcome.TheVariants.{Accepted, R
 use Rattle.vol_receipts.specs.declared.receipts.Origin.{Origin}
 use Rattle.vol_receipts.specs.declared.receipts.Receipt.{Receipt}
 use Rattle.vol_receipts.proofs.Agreement.{agrees_after_cut}
+use Rattle.vol_receipts.proofs.Around.{around_call, around_same}
 use Rattle.vol_views.specs.History.{Reached}
 use Rattle.vol_views.specs.LogRule.{first_log}
 use Rattle.vol_views.specs.declared.history.LogEntry.{LogEntry}
@@ -104,6 +105,7 @@ answered_call old new book call asked done at receipt accepts same number is agr
       origin = origin;
       journal = accepts.journal ∙ ap (λ (l : List Record). old.journal ++ l) (sym one);
       image = λ none. let e = sym one ∙ none in absurd cc;
+      around = around_call old new call done accepts;
       at = ap (λ (r : Receipt). r.at) is ∙ number;
       agrees = agrees;
       book = refl;
@@ -117,6 +119,7 @@ answered_refusal volume book receipt none number agrees = record {
   origin = refl;
   journal = sym (append-nil volume.journal) ∙ ap (λ (l : List Record). volume.journal ++ l) (sym none);
   image = λ e. refl;
+  around = around_same volume.edition volume.image volume.image refl;
   at = number;
   agrees = agrees;
   book = refl;
@@ -199,7 +202,13 @@ pub settled_alone : (opened : Stored) (v : Knowledge) (last : Stored) → IsSett
 settled_alone opened v last is = record {
   goes_on = (
     is.goes_on.0,
-    record { edition = is.goes_on.1.edition; first = is.goes_on.1.first; starts = is.goes_on.1.starts; begins = is.goes_on.1.begins },
+    record {
+      edition = is.goes_on.1.edition;
+      first = is.goes_on.1.first;
+      starts = is.goes_on.1.starts;
+      begins = is.goes_on.1.begins;
+      around = is.goes_on.1.around;
+    },
     is.goes_on.2,
   );
   places = is.places;

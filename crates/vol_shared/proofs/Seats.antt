@@ -14,6 +14,7 @@ use Rattle.vol_volume.specs.declared.calls.Record.{Record}
 use Rattle.vol_receipts.specs.Agrees.{Agrees}
 use Rattle.vol_receipts.specs.declared.receipts.Receipt.{Receipt}
 use Rattle.vol_receipts.proofs.Agreement.{agrees_grows}
+use Rattle.vol_receipts.proofs.Around.{around_same}
 use Rattle.vol_shared.specs.Lists.{BeginsWith, longer, greatest, greatest_of}
 use Rattle.vol_shared.specs.Stored.{Stored, Follows}
 use Rattle.vol_shared.specs.Rule.{hold_of, SeatFits, Locked}
@@ -46,7 +47,13 @@ blank_fits opened last history = record {
 
 -- what a volume is goes on from itself
 follows_itself : (opened : Stored) → Follows opened [] opened
-follows_itself opened = record { edition = refl; first = omega arith; starts = refl; begins = begins_itself opened.journal }
+follows_itself opened = record {
+  edition = refl;
+  first = omega arith;
+  starts = refl;
+  begins = begins_itself opened.journal;
+  around = around_same opened.origin.edition opened.image opened.image refl;
+}
 
 -- at the start
 pub opens : (key : Start) (slots : List (Option Stored)) → slots ≡ Some key.stock ∷ [] → Locked key (opening (0 ∷ []) slots (first_knowledge key))

@@ -8,6 +8,9 @@ use Rattle.atomic_table.specs.Table.{State, Me, Step, Act, Allows, keeps, takes,
 use Rattle.atomic_table.proofs.Lists.{at_set, set_else, set_again, set_here, exchanged}
 use Rattle.count_table.specs.Sums.{total, below}
 use Rattle.count_table.proofs.Totals.{total_append, total_set, total_part, total_ones, below_ones}
+use Rattle.vol_change.specs.Whole.{StaysAround}
+use Rattle.vol_layout.specs.Geometry.{geometry_of}
+use Rattle.vol_layout.specs.declared.edition.Edition.{Edition}
 use Rattle.vol_volume.specs.Journal.{after}
 use Rattle.vol_volume.specs.declared.calls.Record.{Record}
 use Rattle.vol_volume.proofs.Journals.{after-append}
@@ -15,8 +18,9 @@ use Rattle.vol_receipts.specs.declared.receipts.Origin.{Origin}
 use Rattle.vol_receipts.specs.Agrees.{start, Agrees, place_of, record_of}
 use Rattle.vol_receipts.specs.declared.receipts.Receipt.{Receipt}
 use Rattle.vol_receipts.proofs.Agreement.{agrees_grows}
+use Rattle.vol_receipts.proofs.Around.{around_both}
 use Rattle.vol_shared.specs.Lists.{BeginsWith, greatest, greatest_of}
-use Rattle.vol_shared.specs.Stored.{Stored, nothing_stored, next_number, Follows, IsUnchanged, IsCut}
+use Rattle.vol_shared.specs.Stored.{Stored, nothing_stored, next_number, KeepsAround, Follows, IsUnchanged, IsCut}
 use Rattle.vol_shared.specs.Rule.{hold_of, SeatFits, Locked}
 use Rattle.vol_shared.specs.Plays.{Event, nothing, receipt, cut, nobody, took, gave, FindsVolume, Took, Tries, Gives, IsAnswered, MayGive}
 use Rattle.vol_shared.specs.declared.knowledge.Knowledge.{Knowledge}
@@ -195,6 +199,10 @@ module _ (key : Start) (s : State (Option Stored) Knowledge) (kept : Locked key 
   pub cuts_low : cut_of v ≤ kept.last.origin.first
   cuts_low = let g = greatest_part cut_of s.views id v at in let k = kept.first in omega arith
 
+  -- where no byte changes, those that no call changes stay
+  around_stays : (given : Stored) → given.image ≡ kept.last.image → KeepsAround key.stock given
+  around_stays given same = subst (λ (bytes : List ℕ). StaysAround (geometry_of key.stock.origin.edition key.stock.image) key.stock.image bytes) (sym same) kept.follows.around
+
   module _ (given : Stored) (some-parts : 0 < v.parts) (same : IsUnchanged kept.last given) where
     same_history : kept.gone ++ given.journal ≡ kept.gone ++ kept.last.journal
     same_history = ap (λ (j : List Record). kept.gone ++ j) same.journal
@@ -206,6 +214,7 @@ module _ (key : Start) (s : State (Option Stored) Knowledge) (kept : Locked key 
         first = ap (λ (o : Origin). o.first) same.origin ∙ kept.follows.first;
         starts = ap start same.origin ∙ kept.follows.starts;
         begins = subst (λ (h : List Record). BeginsWith h key.stock.journal) (sym same_history) kept.follows.begins;
+        around = around_stays given same.image;
       };
       book = same.book;
       grows = begins_same (kept.gone ++ given.journal) (kept.gone ++ kept.last.journal) same_history;
@@ -242,6 +251,8 @@ module _ (key : Start) (s : State (Option Stored) Knowledge) (kept : Locked key 
         starts = ap start may.origin ∙ kept.follows.starts;
         begins = begins_on key.stock.journal (kept.gone ++ kept.last.journal) (kept.gone ++ given.journal)
             (record_of r.asked r.outcome, grown) kept.follows.begins;
+        around = around_both key.stock.origin.edition key.stock.image kept.last.image given.image kept.follows.around
+            (subst (λ (e : Edition). StaysAround (geometry_of e kept.last.image) kept.last.image given.image) kept.follows.edition may.around);
       }
 
       places_on : (weight : ℕ → ℕ) → total weight (v.places ++ place_of r.at r.outcome) + below weight (next_number kept.last)
@@ -301,6 +312,7 @@ module _ (key : Start) (s : State (Option Stored) Knowledge) (kept : Locked key 
               let made : after (start kept.last.origin) kept.last.journal ≡ after (after (start key.stock.origin) kept.gone) kept.last.journal = rw kept.follows.starts in
               is.starts ∙ (made ∙ sym (after-append (start key.stock.origin) kept.gone kept.last.journal));
           begins = subst (λ (h : List Record). BeginsWith h key.stock.journal) (sym all_gone) kept.follows.begins;
+          around = around_stays given is.image;
         };
         book = is.book;
         grows = begins_same ((kept.gone ++ kept.last.journal) ++ given.journal) (kept.gone ++ kept.last.journal) all_gone;

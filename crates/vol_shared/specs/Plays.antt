@@ -5,7 +5,7 @@ use Rattle.vol_volume.specs.declared.calls.Record.{Record}
 use Rattle.vol_receipts.specs.Agrees.{Agrees, place_of, record_of}
 use Rattle.vol_receipts.specs.declared.receipts.Receipt.{Receipt}
 use Rattle.vol_shared.specs.Lists.{BeginsWith, longer}
-use Rattle.vol_shared.specs.Stored.{Stored, nothing_stored, next_number, Follows, IsUnchanged, IsCut}
+use Rattle.vol_shared.specs.Stored.{Stored, nothing_stored, next_number, KeepsAround, Follows, IsUnchanged, IsCut}
 use Rattle.vol_shared.specs.declared.knowledge.Knowledge.{Knowledge}
 use Rattle.vol_shared.specs.declared.knowledge.Start.{Start}
 
@@ -90,11 +90,12 @@ abbrev pub Tries : Step (Option Stored) → Me (Option Stored) Knowledge → ℕ
 Tries st before found after =
     (found ≡ 0 → (stored : Stored) × Took before after stored (Some stored)) × (found ≢ 0 → after ≡ before)
 
--- a call or query was answered on a volume: the receipt agrees with its journal, which has the record of an accepted call more; where there is none, the journal and the image stay; the log stays (this project)
+-- a call or query was answered on a volume: the receipt agrees with its journal, which has the record of an accepted call more; where there is none, the journal and the image stay; the bytes that no call changes and the log stay (this project)
 pub record IsAnswered (found given : Stored) (r : Receipt) : Type 0 where
   pub origin : given.origin ≡ found.origin
   pub journal : given.journal ≡ found.journal ++ record_of r.asked r.outcome
   pub image : record_of r.asked r.outcome ≡ [] → given.image ≡ found.image
+  pub around : KeepsAround found given
   pub at : r.at ≡ next_number found
   pub agrees : Agrees given.origin given.journal r
   pub book : given.book ≡ found.book

@@ -1,6 +1,8 @@
 -- The volume as the lock's rule sees it. The rule reads what its journal starts from, and its journal.
 use Rattle.std.specs.Prelude.{◌≡◌, ℕ, ◌+◌, List, [], ◌++◌, length, Option, None}
 use Rattle.logbook.specs.Pages.{Book}
+use Rattle.vol_change.specs.Whole.{StaysAround}
+use Rattle.vol_layout.specs.Geometry.{geometry_of}
 use Rattle.vol_volume.specs.Journal.{after}
 use Rattle.vol_volume.specs.Volume.{Mounted}
 use Rattle.vol_volume.specs.declared.calls.Record.{Record}
@@ -37,12 +39,17 @@ nothing_stored = record { origin = record { edition = editions.V6; bytes = []; f
 abbrev pub next_number : Stored → ℕ
 next_number stored = stored.origin.first + length stored.journal
 
--- a volume goes on from another: the records cut since are `gone`, and the journal starts from what they made (this project)
+-- the bytes of a volume that no call changes are as they were (this project)
+abbrev pub KeepsAround : Stored → Stored → Type 0
+KeepsAround old new = StaysAround (geometry_of old.origin.edition old.image) old.image new.image
+
+-- a volume goes on from another: the records cut since are `gone`, and the journal starts from what they made; the bytes that no call changes stay (this project)
 pub record Follows (opened : Stored) (gone : List Record) (last : Stored) : Type 0 where
   pub edition : last.origin.edition ≡ opened.origin.edition
   pub first : last.origin.first ≡ opened.origin.first + length gone
   pub starts : start last.origin ≡ after (start opened.origin) gone
   pub begins : BeginsWith (gone ++ last.journal) opened.journal
+  pub around : KeepsAround opened last
 
 -- a volume goes on from another, whatever records were cut since; and of these records, with the journal behind them, some receipts are true, those of before a cut too (this project)
 abbrev pub Continues : Stored → Stored → ((Receipt → Type 0) → Type 0) → Type 0

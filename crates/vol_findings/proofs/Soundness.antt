@@ -1,9 +1,11 @@
--- All twelve rules hold exactly where each is said to.
-use Rattle.std.proofs.Common.{◌≡◌, ◌⊎◌, ℕ, ◌&&◌, Bool, true, false, inl, inr, IsTrue, ◌↔◌, List, None, refl}
+-- The first line that doesn't say that its rule holds is that of the least rule that fails.
+use Rattle.std.proofs.Common.{◌≡◌, ◌⊎◌, ℕ, ◌+◌, ◌&&◌, Bool, true, false, inl, inr, if◌then◌else◌, IsTrue, ◌↔◌, List, [], ◌∷◌, Option, None, Some, refl, ap, sym, subst}
+use Rattle.std.proofs.lemmas.Bool.{cases_order}
 use Rattle.vol_layout.specs.Geometry.{geometry_of}
 use Rattle.vol_layout.specs.declared.edition.Edition.{Edition}
 use Rattle.vol_file.specs.Rules.{IsApart}
-use Rattle.vol_judge.specs.Sound.{Rule, IsSound}
+use Rattle.vol_judge.specs.Judging.{IsFirstBroken}
+use Rattle.vol_judge.specs.Sound.{Rule, IsSound, IsJudged}
 use Rattle.vol_judge.proofs.Numbering.{judged}
 use Rattle.vol_judge.specs.Dots.{IsFirstDots}
 use Rattle.vol_judge.specs.Entries.{IsFirstEntry}
@@ -15,25 +17,21 @@ use Rattle.vol_judge.specs.Sharing.{IsFirstTwice}
 use Rattle.vol_judge.specs.Tree.{IsFirstTree}
 use Rattle.vol_judge.specs.Zones.{IsFirstOutside}
 use Rattle.vol_findings.specs.Outcomes.{Says, Tells, Keeps, HasGeometry}
-use Rattle.vol_findings.specs.Reports.{is_held, lines_of, are_held}
+use Rattle.vol_findings.specs.Reports.{is_held, lines_of, are_held, first_unheld, rule_number}
 use Rattle.vol_judge.specs.declared.finding.Finding.{Finding}
 use Rattle.vol_judge.specs.declared.finding.Finding.TheVariants.{TooShort, BadSizes}
 use Rattle.vol_findings.specs.declared.outcome.Outcome.{Outcome}
 use Rattle.vol_findings.specs.declared.outcome.Outcome.TheVariants.{Holds, Broken, NotAsked}
 use Rattle.vol_findings.specs.declared.outcome.Outcomes.{Outcomes}
+use Rattle.vol_findings.specs.declared.report.Line.{Line}
 
--- a rule that is said to hold holds
-held : (rule : Type 0) (first : Finding → Type 0) (reason : Type 0) (outcome : Outcome) → Says rule first reason outcome → is_held outcome ≡ true → rule
-held rule first reason Holds says is = says.0
-held rule first reason (Broken finding) says is = absurd (cc)
-held rule first reason NotAsked says is = absurd (cc)
-
--- a rule that holds is said to, where it is asked
-said_held : (rule : Type 0) (first : Finding → Type 0) (reason : Type 0) (outcome : Outcome) → Says rule first reason outcome → rule → (reason → ⊥)
-    → is_held outcome ≡ true
-said_held rule first reason Holds says holds asked = refl
-said_held rule first reason (Broken finding) says holds asked = absurd (says.1 holds)
-said_held rule first reason NotAsked says holds asked = absurd (asked says)
+-- of a rule that is asked, and some others: the first that fails, by what is said of the rule and by the first of the others that fails
+first_said : (rule : Type 0) (first : Finding → Type 0) (reason : Type 0) (outcome : Outcome) (n : ℕ) (facts : List (Type 0)) (answer : Option ℕ)
+    → Says rule first reason outcome → (reason → ⊥) → (rule → IsFirstBroken (n + 1) facts answer)
+    → IsFirstBroken n (rule ∷ facts) (if is_held outcome then answer else Some n)
+first_said rule first reason Holds n facts answer says asked more = inr (says.0, more says.0)
+first_said rule first reason (Broken finding) n facts answer says asked more = inl (refl, says.1)
+first_said rule first reason NotAsked n facts answer says asked more = absurd (asked says)
 
 -- why rule 7 isn't asked
 abbrev TwiceUnasked : Edition → List ℕ → Type 0
@@ -46,112 +44,104 @@ twice_asked : (edition : Edition) (image : List ℕ) → HasGeometry edition ima
 twice_asked edition image read zoned listed (inl fails) = fails (read, zoned)
 twice_asked edition image read zoned listed (inr fails) = fails.1 listed
 
--- both of two tests
+-- two tests that hold, and back
 both_true : (a b : Bool) → (a && b) ≡ true → (a ≡ true) × (b ≡ true)
 both_true true b e = (refl, e)
 both_true false b e = absurd (cc)
 
-and_true : (a b : Bool) → a ≡ true → b ≡ true → (a && b) ≡ true
-and_true true b e f = f
-and_true false b e f = absurd (cc)
+both_held : (a b : Bool) (answer : Option ℕ) (n : ℕ) → (if a then answer else Some n) ≡ None → (answer ≡ None → b ≡ true) → (a && b) ≡ true
+both_held true b answer n none rest = rest none
+both_held false b answer n none rest = absurd (cc)
+
+none_held : (a : Bool) (answer : Option ℕ) (n : ℕ) → a ≡ true → answer ≡ None → (if a then answer else Some n) ≡ None
+none_held true answer n is none = none
+none_held false answer n is none = absurd (cc)
+
+-- where all are said to hold, none is the first that isn't, and back
+none_unheld : (lines : List Line) → are_held lines ≡ true → first_unheld lines ≡ None
+none_unheld [] all = refl
+none_unheld (line ∷ lines) all =
+    let both = both_true (is_held line.outcome) (are_held lines) all in
+    none_held (is_held line.outcome) (first_unheld lines) (rule_number line.rule) both.0 (none_unheld lines both.1)
+
+all_held : (lines : List Line) → first_unheld lines ≡ None → are_held lines ≡ true
+all_held [] none = refl
+all_held (line ∷ lines) none = both_held (is_held line.outcome) (are_held lines) (first_unheld lines) (rule_number line.rule) none (all_held lines)
+
+module _ (edition : Edition) (image : List ℕ) where
+  -- an image has one judgement
+  one_judgement : (a b : Option ℕ) → IsJudged true edition image a → IsJudged true edition image b → a ≡ b
+  one_judgement None None here there = refl
+  one_judgement None (Some m) here there = absurd (there.broken (here m))
+  one_judgement (Some n) None here there = absurd (here.broken (there n))
+  one_judgement (Some n) (Some m) here there =
+      elim (cases_order n m) [
+        | inl same ↦ ap Some same
+        | inr (inl less) ↦ absurd (here.broken (there.before n less))
+        | inr (inr more) ↦ absurd (there.broken (here.before m more))
+      ]
+
+  judged_same : (a b : Option ℕ) → a ≡ b → IsJudged true edition image b → IsJudged true edition image a
+  judged_same a b same judgement = subst (IsJudged true edition image) (sym same) judgement
+
+  -- it is none exactly where the image is sound
+  sound_judged : (answer : Option ℕ) → answer ≡ None → IsJudged true edition image answer → IsSound edition image
+  sound_judged None none judgement = judgement
+  sound_judged (Some n) none judgement = absurd (cc)
+
+  none_judged : (answer : Option ℕ) → IsJudged true edition image answer → IsSound edition image → answer ≡ None
+  none_judged None judgement sound = refl
+  none_judged (Some n) judgement sound = absurd (judgement.broken (sound n))
 
 module _ (edition : Edition) (image : List ℕ) (found : Outcomes) (tells : Tells edition image found) where
-  -- where all are said to hold, the image is sound
-  all_held : are_held (lines_of found) ≡ true → IsSound edition image
+  -- the first that isn't said to hold is the least that fails
+  first_judged : IsJudged true edition image (first_unheld (lines_of found))
   unfolding Rule
-  all_held all =
+  first_judged =
       let g = geometry_of edition image in
+      let keeps : ℕ → Type 0 = Keeps edition image in
       let Unread : Type 0 = HasGeometry edition image → ⊥ in
-      let whole = both_true (is_held found.whole) _ all in
-      let bounded = both_true (is_held found.bounded) _ whole.1 in
-      let kinds = both_true (is_held found.kinds) _ bounded.1 in
-      let sizes = both_true (is_held found.sizes) _ kinds.1 in
-      let zoned = both_true (is_held found.zoned) _ sizes.1 in
-      let listed = both_true (is_held found.listed) _ zoned.1 in
-      let apart = both_true (is_held found.apart) _ listed.1 in
-      let covered = both_true (is_held found.covered) _ apart.1 in
-      let entries = both_true (is_held found.entries) _ covered.1 in
-      let dots = both_true (is_held found.dots) _ entries.1 in
-      let tree = both_true (is_held found.tree) _ dots.1 in
-      let links = both_true (is_held found.links) _ tree.1 in
-      judged true edition image None (
-      inr (
+      let from12 : List (Type 0) = keeps 12 ∷ [] in
+      let from11 : List (Type 0) = keeps 11 ∷ from12 in
+      let from10 : List (Type 0) = keeps 10 ∷ from11 in
+      let from9 : List (Type 0) = keeps 9 ∷ from10 in
+      let from8 : List (Type 0) = keeps 8 ∷ from9 in
+      let from7 : List (Type 0) = keeps 7 ∷ from8 in
+      let from6 : List (Type 0) = keeps 6 ∷ from7 in
+      let from5 : List (Type 0) = keeps 5 ∷ from6 in
+      let from4 : List (Type 0) = keeps 4 ∷ from5 in
+      let from3 : List (Type 0) = keeps 3 ∷ from4 in
+      let from2 : List (Type 0) = keeps 2 ∷ from3 in
+      judged true edition image (first_unheld (lines_of found)) (inr (
         tt,
-        inr (
-          held (Keeps edition image 1) (λ finding. finding ≡ TooShort) ⊥ found.whole tells.whole whole.0,
-          inr (
-            held (Keeps edition image 2) (λ finding. finding ≡ BadSizes) (Keeps edition image 1 → ⊥) found.bounded tells.bounded bounded.0,
-            inr (
-              held (Keeps edition image 3) (IsFirstKind g image) Unread found.kinds tells.kinds kinds.0,
-              inr (
-                held (Keeps edition image 4) (IsFirstSize g image) Unread found.sizes tells.sizes sizes.0,
-                inr (
-                  held (Keeps edition image 5) (IsFirstOutside g image) Unread found.zoned tells.zoned zoned.0,
-                  inr (
-                    held (Keeps edition image 6) (IsFirstFault g image) Unread found.listed tells.listed listed.0,
-                    inr (
-                      held (Keeps edition image 7) (IsFirstTwice g image) (TwiceUnasked edition image) found.apart tells.apart apart.0,
-                      inr (
-                        held (Keeps edition image 8) (IsFirstUncovered g image) (HasGeometry edition image × Keeps edition image 6 → ⊥) found.covered tells.covered covered.0,
-                        inr (
-                          held (Keeps edition image 9) (IsFirstEntry g image) Unread found.entries tells.entries entries.0,
-                          inr (
-                            held (Keeps edition image 10) (IsFirstDots g image) (HasGeometry edition image × Keeps edition image 9 → ⊥) found.dots tells.dots dots.0,
-                            inr (
-                              held (Keeps edition image 11) (IsFirstTree g image) Unread found.tree tells.tree tree.0,
-                              inr (
-                                held (Keeps edition image 12) (IsFirstLink g image) Unread found.links tells.links links.0,
-                                refl,
-                              ),
-                            ),
-                          ),
-                        ),
-                      ),
-                    ),
-                  ),
-                ),
-              ),
-            ),
-          ),
-        ),
-      )
-      )
+        first_said (keeps 1) (λ finding. finding ≡ TooShort) ⊥ found.whole 1 from2 _ tells.whole (λ none. none) (λ whole.
+            first_said (keeps 2) (λ finding. finding ≡ BadSizes) (keeps 1 → ⊥) found.bounded 2 from3 _ tells.bounded (λ no. no whole) (λ bounded.
+            first_said (keeps 3) (IsFirstKind g image) Unread found.kinds 3 from4 _ tells.kinds (λ no. no (whole, bounded)) (λ kinds.
+            first_said (keeps 4) (IsFirstSize g image) Unread found.sizes 4 from5 _ tells.sizes (λ no. no (whole, bounded)) (λ sizes.
+            first_said (keeps 5) (IsFirstOutside g image) Unread found.zoned 5 from6 _ tells.zoned (λ no. no (whole, bounded)) (λ zoned.
+            first_said (keeps 6) (IsFirstFault g image) Unread found.listed 6 from7 _ tells.listed (λ no. no (whole, bounded)) (λ listed.
+            first_said (keeps 7) (IsFirstTwice g image) (TwiceUnasked edition image) found.apart 7 from8 _ tells.apart
+            (twice_asked edition image (whole, bounded) zoned listed) (λ apart.
+            first_said (keeps 8) (IsFirstUncovered g image) (HasGeometry edition image × keeps 6 → ⊥) found.covered 8 from9 _ tells.covered
+            (λ no. no ((whole, bounded), listed)) (λ covered.
+            first_said (keeps 9) (IsFirstEntry g image) Unread found.entries 9 from10 _ tells.entries (λ no. no (whole, bounded)) (λ entries.
+            first_said (keeps 10) (IsFirstDots g image) (HasGeometry edition image × keeps 9 → ⊥) found.dots 10 from11 _ tells.dots
+            (λ no. no ((whole, bounded), entries)) (λ dots.
+            first_said (keeps 11) (IsFirstTree g image) Unread found.tree 11 from12 _ tells.tree (λ no. no (whole, bounded)) (λ tree.
+            first_said (keeps 12) (IsFirstLink g image) Unread found.links 12 [] None tells.links (λ no. no (whole, bounded)) (λ links.
+            refl)))))))))))),
+      ))
 
-  -- where the image is sound, all are said to hold
-  held_all : IsSound edition image → are_held (lines_of found) ≡ true
-  held_all sound =
-      let g = geometry_of edition image in
-      let Unread : Type 0 = HasGeometry edition image → ⊥ in
-      let read : HasGeometry edition image = (sound 1, sound 2) in
-      and_true (is_held found.whole) _
-      (said_held (Keeps edition image 1) (λ finding. finding ≡ TooShort) ⊥ found.whole tells.whole (sound 1) (λ none. none)) (
-      and_true (is_held found.bounded) _
-      (said_held (Keeps edition image 2) (λ finding. finding ≡ BadSizes) (Keeps edition image 1 → ⊥) found.bounded tells.bounded (sound 2) (λ no. no (sound 1))) (
-      and_true (is_held found.kinds) _
-      (said_held (Keeps edition image 3) (IsFirstKind g image) Unread found.kinds tells.kinds (sound 3) (λ no. no read)) (
-      and_true (is_held found.sizes) _
-      (said_held (Keeps edition image 4) (IsFirstSize g image) Unread found.sizes tells.sizes (sound 4) (λ no. no read)) (
-      and_true (is_held found.zoned) _
-      (said_held (Keeps edition image 5) (IsFirstOutside g image) Unread found.zoned tells.zoned (sound 5) (λ no. no read)) (
-      and_true (is_held found.listed) _
-      (said_held (Keeps edition image 6) (IsFirstFault g image) Unread found.listed tells.listed (sound 6) (λ no. no read)) (
-      and_true (is_held found.apart) _
-      (said_held (Keeps edition image 7) (IsFirstTwice g image) (TwiceUnasked edition image) found.apart tells.apart (sound 7)
-      (twice_asked edition image read (sound 5) (sound 6))) (
-      and_true (is_held found.covered) _
-      (said_held (Keeps edition image 8) (IsFirstUncovered g image) (HasGeometry edition image × Keeps edition image 6 → ⊥) found.covered tells.covered
-      (sound 8) (λ no. no (read, sound 6))) (
-      and_true (is_held found.entries) _
-      (said_held (Keeps edition image 9) (IsFirstEntry g image) Unread found.entries tells.entries (sound 9) (λ no. no read)) (
-      and_true (is_held found.dots) _
-      (said_held (Keeps edition image 10) (IsFirstDots g image) (HasGeometry edition image × Keeps edition image 9 → ⊥) found.dots tells.dots (sound 10)
-      (λ no. no (read, sound 9))) (
-      and_true (is_held found.tree) _
-      (said_held (Keeps edition image 11) (IsFirstTree g image) Unread found.tree tells.tree (sound 11) (λ no. no read)) (
-      and_true (is_held found.links) _
-      (said_held (Keeps edition image 12) (IsFirstLink g image) Unread found.links tells.links (sound 12) (λ no. no read))
-      refl)))))))))))
+  -- so its number is what a judge answers
+  pub judged_first : (answer : Option ℕ) → IsJudged true edition image answer ↔ (answer ≡ first_unheld (lines_of found))
+  judged_first answer = (
+    λ judgement. one_judgement edition image answer (first_unheld (lines_of found)) judgement first_judged,
+    λ same. judged_same edition image answer (first_unheld (lines_of found)) same first_judged,
+  )
 
-  -- so the one exactly where the other
+  -- and all are said to hold exactly where the image is sound
   pub sound_held : IsTrue (are_held (lines_of found)) ↔ IsSound edition image
-  sound_held = (all_held, held_all)
+  sound_held = (
+    λ all. sound_judged edition image (first_unheld (lines_of found)) (none_unheld (lines_of found) all) first_judged,
+    λ sound. all_held (lines_of found) (none_judged edition image (first_unheld (lines_of found)) first_judged sound),
+  )

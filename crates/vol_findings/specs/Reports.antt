@@ -1,9 +1,9 @@
 -- The report on an image.
-use Rattle.std.specs.Prelude.{◌≡◌, ℕ, ◌&&◌, Bool, true, false, not, if◌then◌else◌, IsTrue, ◌↔◌, List, [], ◌∷◌, ◌++◌, codes, decimal}
+use Rattle.std.specs.Prelude.{◌≡◌, ℕ, ◌&&◌, Bool, true, false, not, if◌then◌else◌, IsTrue, ◌↔◌, List, [], ◌∷◌, ◌++◌, Option, None, Some, codes, decimal}
 use Rattle.std.specs.List.{flat_map, list_all}
 use Rattle.std.specs.Result.{is_ok}
 use Rattle.vol_layout.specs.Geometry.{geometry_read}
-use Rattle.vol_judge.specs.Sound.{IsSound}
+use Rattle.vol_judge.specs.Sound.{IsSound, IsJudged}
 use Rattle.vol_layout.specs.declared.edition.Edition.{Edition}
 use Rattle.vol_layout.specs.declared.edition.Edition.TheVariants.{V6, V7}
 use Rattle.vol_findings.specs.Outcomes.{Tells}
@@ -85,6 +85,11 @@ is_held NotAsked = false
 abbrev pub are_held : List Line → Bool
 are_held lines = list_all (λ (line : Line). is_held line.outcome) lines
 
+-- the number of the first of some lines that doesn't say that its rule holds, or None where each says so (this project)
+abbrev pub first_unheld : List Line → Option ℕ
+first_unheld [] = None
+first_unheld (line ∷ lines) = if is_held line.outcome then first_unheld lines else Some (rule_number line.rule)
+
 -- the other edition (this project)
 abbrev pub other_edition : Edition → Edition
 other_edition V6 = V7
@@ -106,9 +111,10 @@ note_text edition image =
 abbrev pub report_text : Edition → List ℕ → Outcomes → List ℕ
 report_text edition image found = lines_text (lines_of found) ++ note_text edition image
 
--- a text is the report on an image, and it is said truly whether all twelve rules hold (this project)
+-- a text is the report on an image: its first line that doesn't say 'holds' has the number that a judge answers, and it is said truly whether all twelve rules hold (this project)
 pub record IsReport (edition : Edition) (image text : List ℕ) (sound : Bool) : Type 0 where
   pub found : Outcomes
   pub tells : Tells edition image found
   pub words : text ≡ report_text edition image found
+  pub least : (number : Option ℕ) → IsJudged true edition image number ↔ (number ≡ first_unheld (lines_of found))
   pub verdict : IsTrue sound ↔ IsSound edition image

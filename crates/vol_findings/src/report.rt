@@ -40,7 +40,8 @@ impl fmt::Display for Line {
 }
 
 /// The report on an image, which may be any bytes: a line for each of the twelve rules, with what breaks it first; and where rule 1
-/// or 2 fails, a note if they hold for the other edition.
+/// or 2 fails, a note if they hold for the other edition. The first line that doesn't say `holds` has the number that
+/// [`judge`](vol_judge::judge) returns.
 ///
 /// Costs and takes memory for what [`check_rules`] does, and for the text.
 pub fn make_report(alloc: Global, edition: Edition, image: &Image) -> Result<Report, AllocError>

@@ -2,7 +2,7 @@ use Rattle.std.proofs.Common.{List, ℕ, ◌≡◌, ◌++◌, ap, ◌∙◌}
 use Rattle.std.specs.String.{string_bytes}
 use Rattle.vol_findings.specs.Reports.{lines_text, lines_of, note_text}
 use Rattle.vol_findings.specs.declared.report.Line.{Line}
-use Rattle.vol_findings.proofs.Soundness.{sound_held}
+use Rattle.vol_findings.proofs.Soundness.{judged_first, sound_held}
 use Rattle.vol_findings.proofs.report.make_report.Goals as goal
 
 pub returns : goal.returns
@@ -17,5 +17,6 @@ returns c =
       found = found;
       tells = c.in_ok-found.ensures;
       words = c.in_ok-push_note.ensures ∙ ap (λ (text : List ℕ). text ++ note_text edition image) lines;
+      least = judged_first edition image found c.in_ok-found.ensures;
       verdict = rw (c.are_held.ensures, c.lines_of-lines.ensures) (sound_held edition image found c.in_ok-found.ensures);
     }

@@ -1,6 +1,7 @@
 pub mod Asked
 pub mod Calendar
 pub mod Columns
+pub mod Dated
 pub mod Descents
 pub mod ListingValues
 pub mod NamesListed

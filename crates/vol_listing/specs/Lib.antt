@@ -1,4 +1,5 @@
 pub use Rattle.escaped_text.specs.Escaping
+pub use Rattle.jiff_core.specs.Calendar
 pub use Rattle.vol_change.specs.Nodes
 pub use Rattle.vol_dir.specs.Access
 pub use Rattle.vol_dir.specs.Tree

@@ -64,7 +64,7 @@ hold_leaf g image d logical b some leaf =
     ∙ (ap (λ t. cond t [] (single g 0 logical b ∷ [])) (ne_eqb b 0 some) ∙ ap (λ x. single g x logical b ∷ []) (sym leaf))
 
 -- with one level more a block is found before its entries
-hold_suc : (g : Geometry) (image : List ℕ) (d logical b : ℕ) → b ≢ 0
+pub hold_suc : (g : Geometry) (image : List ℕ) (d logical b : ℕ) → b ≢ 0
     → holdings_from g image (suc d) logical b ≡ single g (suc d) logical b ∷ entries_before g image d logical b (constants g.edition).pointers
 unfolding holdings_from entries_before
 hold_suc g image d logical b some =

@@ -4,3 +4,4 @@ pub mod Found
 pub mod Tallies
 pub mod UseLaws
 pub mod Shared
+pub mod LaidOut

@@ -1,5 +1,5 @@
 -- The blocks that an i-node names, and how they are joined to extents.
-use Rattle.std.specs.Prelude.{◌≡◌, ℕ, zero, suc, ◌+◌, ◌*◌, ◌^◌, ◌==◌, ◌&&◌, nat_lt, Bool, true, false, not, if◌then◌else◌, List, [], ◌∷◌, ◌++◌, Option, None, Some}
+use Rattle.std.specs.Prelude.{◌≡◌, ℕ, zero, suc, ◌+◌, ◌*◌, ◌^◌, ◌==◌, ◌&&◌, Bool, true, false, not, if◌then◌else◌, List, [], ◌∷◌, ◌++◌, Option, None, Some}
 use Rattle.std.specs.List.{flat_map, range_with_len}
 use Rattle.vol_layout.specs.Edition.{constants}
 use Rattle.vol_layout.specs.Geometry.{in_zone}
@@ -7,8 +7,7 @@ use Rattle.vol_layout.specs.Inode.{inode_place, address_at}
 use Rattle.vol_layout.specs.Places.{first_count, levels}
 use Rattle.vol_layout.specs.Names.{form_at, pointer_in}
 use Rattle.vol_layout.specs.declared.geometry.Geometry.{Geometry}
-use Rattle.vol_layout.specs.declared.block_map.Form.{Form}
-use Rattle.vol_layout.specs.declared.block_map.Form.TheVariants.{Small, Large, Deep, Bare}
+use Rattle.vol_file.specs.Clears.{first_at}
 use Rattle.vol_inspect.specs.declared.extent.Extent.{Extent}
 use Rattle.vol_inspect.specs.declared.gathering.Gathering.{Gathering}
 
@@ -46,13 +45,6 @@ gathering_with s later = s.done.items ++ gathered s.last later
 abbrev pub Collects : Gathering → Gathering → List Extent → Type 0
 Collects old new found = (later : List Extent) → gathering_with new later ≡ gathering_with old (found ++ later)
 
--- the first logical block below address k (Lions on bmap; ino.h)
-abbrev pub first_logical : Form → ℕ → ℕ
-first_logical Small k = k
-first_logical Large k = 256 * k
-first_logical Deep k = if nat_lt k 11 then k else if k == 11 then 138 else 16522
-first_logical Bare k = 0
-
 -- number b and those found below it in d levels, in the order of the places, without those that are 0 (Lions on bmap)
 unfoldable pub holdings_from : Geometry → List ℕ → ℕ → ℕ → ℕ → List Extent
 holdings_from g image zero logical b = if b == 0 then [] else single g 0 logical b ∷ []
@@ -64,7 +56,7 @@ holdings_from g image (suc d) logical b = if b == 0 then [] else
 -- what address k of i-node i leads to (Lions on bmap; ino.h)
 abbrev pub address_holdings : Geometry → List ℕ → ℕ → ℕ → List Extent
 address_holdings g image i k =
-    holdings_from g image (levels (form_at g image i) k) (first_logical (form_at g image i) k) (address_at g.edition image (inode_place g.edition i) k)
+    holdings_from g image (levels (form_at g image i) k) (first_at (form_at g image i) k) (address_at g.edition image (inode_place g.edition i) k)
 
 -- the blocks that i-node i names, one by one, in the order of its places (Lions on bmap; ino.h)
 unfoldable pub holdings : Geometry → List ℕ → ℕ → List Extent

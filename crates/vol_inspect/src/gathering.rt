@@ -2,7 +2,8 @@
 ghost use Rattle.std.specs.Prelude.{◌≡◌, ◌+◌, ◌-◌, ◌<◌, ◌≤◌, ◌^◌, [], ◌∷◌, OnOk, IfOk};
 ghost use Rattle.vol_layout.specs.Edition.{constants};
 ghost use Rattle.vol_layout.specs.Geometry.{Fits};
-ghost use Rattle.vol_inspect.specs.Extents.{Collects, first_logical, holdings_from, holdings, extents_of};
+ghost use Rattle.vol_file.specs.Clears.{first_at};
+ghost use Rattle.vol_inspect.specs.Extents.{Collects, holdings_from, holdings, extents_of};
 
 use crate::extent::Extent;
 use pdp_words::{BLOCK, Image};
@@ -69,16 +70,15 @@ fn note_inode(
 /// The first logical block below address `k`.
 fn first_logical(form: Form, k: usize) -> u32
     requires { k ≤ 12 }
-    ensures value { result ≡ first_logical form k }
+    ensures value { result ≡ first_at form k }
     ensures bound { result ≤ 16522 }
 {
     match form {
-        Form::Small => k as u32,
+        Form::Small | Form::Bare => k as u32,
         Form::Large => 256 * k as u32,
         Form::Deep if k < 11 => k as u32,
         Form::Deep if k == 11 => 138,
         Form::Deep => 16_522,
-        Form::Bare => 0,
     }
 }
 

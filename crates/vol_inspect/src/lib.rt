@@ -8,6 +8,7 @@ mod fault;
 mod gathering;
 mod grouping;
 mod inode_report;
+pub mod laws;
 mod listing;
 mod picturing;
 mod placing;

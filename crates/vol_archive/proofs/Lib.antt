@@ -2,6 +2,7 @@ pub mod Each
 pub mod EntryLists
 pub mod FirstMarks
 pub mod MemberLists
+pub mod MemberNodes
 pub mod MemberOrder
 pub mod MetOnce
 pub mod NameOrder

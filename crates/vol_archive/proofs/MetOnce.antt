@@ -33,7 +33,7 @@ abbrev IsFirstFor : ℕ → Found → Type 0
 IsFirstFor i found = (found.inode ≡ i) × (is_first found.role ≡ true)
 
 -- both of two tests pass
-both_of : (a b : Bool) → (a && b) ≡ true → (a ≡ true) × (b ≡ true)
+pub both_of : (a b : Bool) → (a && b) ≡ true → (a ≡ true) × (b ≡ true)
 both_of true b e = (refl, e)
 both_of false b e = absurd (true≢false (sym e))
 

@@ -1,17 +1,21 @@
 -- Statements of what is met below a directory, said of the tree that an image reads as.
-use Rattle.std.specs.Prelude.{◌≡◌, ◌≢◌, ℕ, ◌↔◌, Bool, true, false, List, [], filter, All, AllPairs, Any, Some, Ok}
+use Rattle.std.specs.Prelude.{◌≡◌, ◌≢◌, ℕ, ◌↔◌, ◌/◌, ◌%◌, ◌==◌, Bool, true, false, if◌then◌else◌, List, [], ◌∷◌, ◌++◌, length, slice_get, slice_index, filter, All, AllPairs, Any, Some, Ok}
 use Rattle.std.specs.Cmp.Lexicographic.{slice_cmp}
 use Rattle.std.specs.Ordering.{nat_cmp}
 use Rattle.std.specs.declared.cmp.Ordering.TheVariants.{Less}
+use Rattle.ustar.specs.declared.header.Header.{Header}
+use Rattle.ustar.specs.declared.header.MemberKind.{MemberKind}
+use Rattle.ustar.specs.declared.header.MemberKind.TheVariants as members
 use Rattle.vol_file.specs.Rules.{HasKinds}
 use Rattle.vol_dir.specs.Entries.{slots, IsDirectory, HasEntries}
-use Rattle.vol_dir.specs.Names.{get, names_of, is_dots}
-use Rattle.vol_dir.specs.Tree.{tree}
+use Rattle.vol_dir.specs.Names.{Names, get, names_of, is_dots}
+use Rattle.vol_dir.specs.Tree.{Body, Directory, Device, Node, tree}
 use Rattle.vol_dir.specs.Walk.{components, walk_from}
 use Rattle.vol_judge.specs.Directories.{IsTree}
 use Rattle.vol_layout.specs.declared.geometry.Geometry.{Geometry}
 use Rattle.vol_dir.specs.Access.{user}
-use Rattle.vol_archive.specs.Walking.{path_below, IsWalk}
+use Rattle.vol_archive.specs.Members.{content_at, headed, member_bytes}
+use Rattle.vol_archive.specs.Walking.{path_below, is_first, IsWalk}
 use Rattle.vol_archive.specs.declared.found.Found.{Found}
 use Rattle.vol_archive.specs.declared.found.Role.{Role}
 use Rattle.vol_archive.specs.declared.found.Role.TheVariants as roles
@@ -89,3 +93,41 @@ MembersAreTheTree = (geometry : Geometry) (image : List ℕ) (start : ℕ) (foun
     → (names : List (List ℕ)) (i : ℕ) → AreProper names
     → (walk_from (tree geometry image) user start names ≡ Ok i)
     ↔ Any (λ (found : Found). (components found.path ≡ names) × (found.inode ≡ i)) (members_of founds)
+
+-- the header of a member for a node, with so many bytes after it and the number of a device: what a Stat of its path replies (POSIX, ustar interchange format; stat)
+abbrev pub header_for : Node → MemberKind → ℕ → ℕ → Header
+header_for node kind size device = record {
+  kind = kind;
+  permissions = node.permissions;
+  uid = node.uid;
+  gid = node.gid;
+  size = size;
+  modified = node.modified;
+  major = device / 256;
+  minor = device % 256;
+}
+
+-- the kind of a special file with these type bits, octal 06 or 02; of the multiplexor types 07 counts as a block and 03 as a character special file (stat.h; the latter is this project's)
+abbrev pub device_kind : ℕ → MemberKind
+device_kind type = if type / 2 % 4 == 3 then members.Block else members.Character
+
+-- a member for a node with this role has these bytes: of a regular file the header and the bytes of the file, of a further name the path of the first one (POSIX, ustar interchange format)
+abbrev pub IsForNode : List Found → Found → Node → Role → List ℕ → Type 0
+IsForNode founds found node roles.File bytes =
+    (content : List ℕ) × (node.content ≡ Body content)
+    × (bytes ≡ headed (header_for node members.File (length content) 0) found.path [] ++ content_at found.path content)
+IsForNode founds found node roles.Directory bytes =
+    (names : Names) × (node.content ≡ Directory names) × (bytes ≡ headed (header_for node members.Directory 0 0) (found.path ++ 47 ∷ []) [])
+IsForNode founds found node roles.Special bytes =
+    (type : ℕ) × (addresses : List ℕ) × (node.content ≡ Device type addresses)
+    × (bytes ≡ headed (header_for node (device_kind type) 0 (slice_index addresses 0 % 65536)) found.path [])
+IsForNode founds found node (roles.Link k) bytes =
+    (first : Found) × (slice_get founds k ≡ Some first) × (first.inode ≡ found.inode) × (is_first first.role ≡ true)
+    × (bytes ≡ headed (header_for node members.Link 0 0) found.path first.path)
+IsForNode founds found node (roles.Left reason) bytes = ⊥
+
+-- each member is for the node of the tree that its i-number has, with the bytes that it has in the archive (POSIX, ustar interchange format; stat, read)
+abbrev pub MembersHaveNodes : Type 0
+MembersHaveNodes = (geometry : Geometry) (image : List ℕ) (start : ℕ) (founds : List Found) → IsWalk geometry image start founds
+    → All (λ (found : Found). (node : Node) × ((tree geometry image).nodes found.inode ≡ Some node)
+    × IsForNode founds found node found.role (member_bytes geometry image founds found)) (members_of founds)

@@ -7,6 +7,7 @@ ghost use Rattle.vol_archive.specs.Laws.{
   EntriesHaveNodes,
   DirectoriesAreMetOnce,
   MembersAreTheTree,
+  MembersHaveNodes,
 };
 
 /// Of every image, the path of each member leads from the directory that is exported to the member's i-number.
@@ -39,4 +40,10 @@ pub fn directories_are_met_once()
 /// Of a sound image, the members are exactly the tree below the directory that is exported, where headers have room for all paths.
 pub fn members_are_the_tree()
     ensures { MembersAreTheTree }
+{}
+
+/// Of every image, each member is for a node of the tree: its header has the kind, permissions, owner, group, size and time that a
+/// Stat of its path replies, and after it come the bytes that a Read replies; a further name has the path of the first one.
+pub fn members_have_nodes()
+    ensures { MembersHaveNodes }
 {}

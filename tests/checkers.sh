@@ -73,6 +73,13 @@ cp new.6 file
 plays file 'mkdir /d 755' 'create /d/f 644' 'write /d/f 0 616263'
 finds 0 ncheck file '31 /d/f' '32 /d'
 
+# A name with an escape and a backslash: a terminal gets it escaped.
+cp new.6 odd
+plays odd 'create /unusual 644'
+put odd "$(grep -abo unusual odd | cut -d : -f 1)" 1B5C
+finds 0 ncheck odd $'32 /\033\\usual'
+has 'ncheck on a terminal' '32 /\033\\usual' "$(script -qec "'$program' ncheck 6 odd" /dev/null < /dev/null | tr -d '\r')"
+
 # Two directories apart from the root, each with an entry for the other.
 cp new.6 two
 plays two 'mkdir /a 755' 'mkdir /b 755'

@@ -1,14 +1,19 @@
 -- What the checkers print, and their statuses.
 use Rattle.std.specs.Prelude.{◌≡◌, ◌⊎◌, ℕ, true, if◌then◌else◌, List, []}
+use Rattle.std.specs.List.{flat_map}
 use Rattle.std.specs.Io.KnownBytes.{Appends, Keeps}
 use Rattle.pdp_words.specs.Devices.{AppendsFront}
+use Rattle.escaped_text.specs.Escaping.{escaped}
 use Rattle.vol_check.specs.Reporting.{IsReport}
 use Rattle.vol_reports.specs.Reports.{has_faults}
-use Rattle.vol_reports.specs.Texts.{report_text}
+use Rattle.vol_reports.specs.Texts.{line_text, report_text}
 use Rattle.command_faults.specs.Faults.{fault_line, no_memory}
 use Rattle.command_faults.specs.Streams.{Streams}
 use Rattle.vol_layout.specs.declared.edition.Edition.{Edition}
+use Rattle.vol_listing.specs.declared.options.Screen.{Screen}
+use Rattle.vol_listing.specs.declared.options.Screen.TheVariants as screens
 use Rattle.vol_reports.specs.declared.line.Line.{Line}
+use Rattle.vol_reports.specs.declared.line.Line.TheVariants as lines
 use Rattle.vol_check.specs.declared.checker.Checker.{Checker}
 use Rattle.command_faults.specs.declared.fault.Fault.TheVariants as faults
 
@@ -16,21 +21,41 @@ use Rattle.command_faults.specs.declared.fault.Fault.TheVariants as faults
 abbrev pub report_status : List Line → ℕ
 report_status report = if has_faults report then 1 else 0
 
+-- a line as a terminal shows it: with its path escaped (ls -b; this project)
+abbrev pub escaped_line : Line → Line
+escaped_line (lines.Rule number) = lines.Rule number
+escaped_line (lines.Bad inode count least) = lines.Bad inode count least
+escaped_line (lines.Dup block places free) = lines.Dup block places free
+escaped_line (lines.Lost block) = lines.Lost block
+escaped_line (lines.FreeList fault number) = lines.FreeList fault number
+escaped_line (lines.Total total count) = lines.Total total count
+escaped_line (lines.Links inode entries links) = lines.Links inode entries links
+escaped_line (lines.Name inode path) = lines.Name inode (escaped path)
+
+-- the text of a line as a terminal shows it (this project)
+abbrev pub terminal_text : Line → List ℕ
+terminal_text line = line_text (escaped_line line)
+
+-- the text of a report as it is shown: to a terminal with its paths escaped, else as they are (this project)
+abbrev pub shown_text : Screen → List Line → List ℕ
+shown_text (screens.Terminal columns) report = flat_map terminal_text report
+shown_text screens.Stream report = report_text report
+
 -- memory ran out, and nothing is printed (this project)
 abbrev pub IsUnreported : Streams → ℕ → Type 0
 IsUnreported streams status =
     (status ≡ 4) × Keeps streams.old streams.new × (streams.failed ≡ streams.had_failed) × streams.said (fault_line no_memory)
 
 -- a report is printed, with the status that tells whether there are faults; or standard output failed, and has the front of it; or memory ran out (this project)
-abbrev pub PrintsReport : Streams → List Line → ℕ → Type 0
-PrintsReport streams report status =
-    ((status ≡ report_status report) × Appends streams.old streams.new (report_text report)
+abbrev pub PrintsReport : Screen → Streams → List Line → ℕ → Type 0
+PrintsReport screen streams report status =
+    ((status ≡ report_status report) × Appends streams.old streams.new (shown_text screen report)
     × (streams.failed ≡ streams.had_failed) × streams.said [])
-    ⊎ ((status ≡ 3) × ((count : ℕ) × AppendsFront streams.old streams.new (report_text report) count)
+    ⊎ ((status ≡ 3) × ((count : ℕ) × AppendsFront streams.old streams.new (shown_text screen report) count)
     × (streams.failed ≡ true) × streams.said (fault_line faults.Output))
     ⊎ IsUnreported streams status
 
 -- a checker runs: what it finds in the image is printed, or memory ran out and nothing is printed (this project)
-abbrev pub Checks : Checker → Edition → List ℕ → Streams → ℕ → Type 0
-Checks checker edition image streams status =
-    ((report : List Line) × IsReport checker edition image report × PrintsReport streams report status) ⊎ IsUnreported streams status
+abbrev pub Checks : Checker → Edition → List ℕ → Screen → Streams → ℕ → Type 0
+Checks checker edition image screen streams status =
+    ((report : List Line) × IsReport checker edition image report × PrintsReport screen streams report status) ⊎ IsUnreported streams status

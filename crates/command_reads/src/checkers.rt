@@ -1,23 +1,26 @@
 //! The checkers: what they find in the volume in some bytes, whether it is sound or not, printed line by line.
-ghost use Rattle.std.specs.Prelude.{◌≡◌, ◌⊎◌, ◌≤◌, ℕ, true, IfErr, IfOk, OnErr, OnOk};
+ghost use Rattle.std.specs.Prelude.{◌≡◌, ◌⊎◌, ◌≤◌, ◌++◌, ℕ, true, IfErr, IfOk, OnErr, OnOk};
+ghost use Rattle.std.specs.List.{flat_map};
 ghost use Rattle.std.specs.Io.KnownBytes.{Appends, Keeps};
 ghost use Rattle.pdp_words.specs.Devices.{AppendsFront};
 ghost use Rattle.vol_check.specs.Reporting.{IsReport};
 ghost use Rattle.vol_reports.specs.Texts.{report_text};
-ghost use Rattle.command_reads.specs.Checkers.{Checks, IsUnreported, PrintsReport, report_status};
+ghost use Rattle.command_reads.specs.Checkers.{Checks, IsUnreported, PrintsReport, report_status, shown_text, terminal_text};
 ghost use Rattle.command_faults.specs.Streams.{heard, ErrorStream, Hears, streams};
 ghost use Rattle.command_faults.specs.Faults.{no_memory};
 
 use command_faults::Fault;
 use command_faults::answer::{Ending, tell};
 use command_faults::status::{DONE, REFUSED};
-use pdp_words::{Image, Sink, write_all};
+use escaped_text::push_escaped;
+use pdp_words::{Bytes, Image, Sink, write_all};
 use std::alloc::{AllocError, Global};
 use std::sync::Wait;
 use std::thread::Threads;
 use vol_check::{Checker, MOST_WORKERS, Open, dcheck, icheck, ncheck};
 use vol_layout::Edition;
-use vol_reports::Report;
+use vol_listing::Screen;
+use vol_reports::{Line, Report};
 
 /// Prints what a checker finds, by so many threads, as [`perform`] does, writes the line of its fault to `errors`, and
 /// answers the status.
@@ -28,20 +31,21 @@ pub fn check<R: Threads + Wait + Sync, O: Sink, E: Sink>(
     image: Vec<u8>,
     checker: Checker,
     workers: usize,
+    screen: Screen,
     output: &mut O,
     errors: &mut E,
 ) -> u8
     requires first { 1 ≤ workers }
     requires last { workers ≤ MOST_WORKERS }
-    ensures { Checks checker edition image.items (streams O.contents O.failed output.old output.new (heard E.contents E.failed errors.old errors.new)) result }
+    ensures { Checks checker edition image.items screen (streams O.contents O.failed output.old output.new (heard E.contents E.failed errors.old errors.new)) result }
 {
-    let ending = perform(rt, alloc, edition, image, checker, workers, output);
+    let ending = perform(rt, alloc, edition, image, checker, workers, screen, output);
     tell(&ending.fault, errors);
     ending.status
 }
 
-/// Prints what a checker finds, by so many threads. The status is 0, or 1 where the report tells of faults,
-/// 3 where `output` failed, 4 where memory ran out. Nothing goes out before all is known.
+/// Prints what a checker finds, by so many threads; to a terminal with the paths of a name report escaped. The status is 0, or 1 where
+/// the report tells of faults, 3 where `output` failed, 4 where memory ran out. Nothing goes out before all is known.
 ///
 /// Takes memory for what the checker takes, and for the text.
 pub fn perform<R: Threads + Wait + Sync, O: Sink>(
@@ -51,16 +55,17 @@ pub fn perform<R: Threads + Wait + Sync, O: Sink>(
     image: Vec<u8>,
     checker: Checker,
     workers: usize,
+    screen: Screen,
     output: &mut O,
 ) -> Ending
     requires first { 1 ≤ workers }
     requires last { workers ≤ MOST_WORKERS }
     ensures { (errors : ErrorStream) → Hears errors result.fault
-        → Checks checker edition image.items (streams O.contents O.failed output.old output.new errors) result.status }
+        → Checks checker edition image.items screen (streams O.contents O.failed output.old output.new errors) result.status }
 {
     let image = Image::from_bytes(image);
     let report = find(rt, alloc, edition, &image, checker, workers);
-    show(alloc, report, output)
+    show(alloc, report, screen, output)
 }
 
 /// What a checker finds in an image.
@@ -84,14 +89,19 @@ fn find<R: Threads + Wait + Sync>(
 }
 
 /// Prints a report, if there was the memory for it.
-fn show<O: Sink>(alloc: Global, report: Result<Report, AllocError>, output: &mut O) -> Ending
+fn show<O: Sink>(
+    alloc: Global,
+    report: Result<Report, AllocError>,
+    screen: Screen,
+    output: &mut O,
+) -> Ending
     ensures printed { (errors : ErrorStream) → Hears errors result.fault
-        → IfOk report (λ report. PrintsReport (streams O.contents O.failed output.old output.new errors) report result.status) }
+        → IfOk report (λ report. PrintsReport screen (streams O.contents O.failed output.old output.new errors) report result.status) }
     ensures unprinted { (errors : ErrorStream) → Hears errors result.fault
         → OnErr report (IsUnreported (streams O.contents O.failed output.old output.new errors) result.status) }
 {
     match report {
-        Ok(report) => match print(alloc, &report, output) {
+        Ok(report) => match print(alloc, &report, screen, output) {
             Ok(()) => Ending {
                 status: status_of(&report),
                 fault: None,
@@ -103,17 +113,63 @@ fn show<O: Sink>(alloc: Global, report: Result<Report, AllocError>, output: &mut
 }
 
 /// Prints a report.
-fn print<O: Sink>(alloc: Global, report: &Report, output: &mut O) -> Result<(), Fault>
-    ensures whole { OnOk result (Appends (O.contents output.old) (O.contents output.new) (report_text report.now)
+fn print<O: Sink>(
+    alloc: Global,
+    report: &Report,
+    screen: Screen,
+    output: &mut O,
+) -> Result<(), Fault>
+    ensures whole { OnOk result (Appends (O.contents output.old) (O.contents output.new) (shown_text screen report.now)
         × (O.failed output.new ≡ O.failed output.old)) }
     ensures fault { IfErr result (λ fault. ((fault ≡ no_memory) × Keeps (O.contents output.old) (O.contents output.new)
         × (O.failed output.new ≡ O.failed output.old))
-        ⊎ ((fault ≡ Fault.Output) × ((count : ℕ) × AppendsFront (O.contents output.old) (O.contents output.new) (report_text report.now) count)
+        ⊎ ((fault ≡ Fault.Output) × ((count : ℕ) × AppendsFront (O.contents output.old) (O.contents output.new) (shown_text screen report.now) count)
         × (O.failed output.new ≡ true))) }
 {
     let mut text = Vec::new(alloc);
-    report.push_text(&mut text)?;
+    push_shown(alloc, screen, report, &mut text)?;
     write_all(output, &text).map_err(|_| Fault::Output)
+}
+
+/// Appends the text of a report as it is shown: to a terminal with its paths escaped, else as their bytes are.
+fn push_shown(
+    alloc: Global,
+    screen: Screen,
+    report: &Report,
+    text: &mut Vec<u8>,
+) -> Result<(), AllocError>
+    ensures { OnOk result (text.new.items ≡ text.old.items ++ shown_text screen report.now) }
+{
+    match screen {
+        Screen::Terminal { .. } => push_escaped_lines(alloc, report.lines(), text),
+        Screen::Stream => report.push_text(text),
+    }
+}
+
+/// Appends the text of lines with their paths escaped.
+fn push_escaped_lines(alloc: Global, lines: &[Line], text: &mut Vec<u8>) -> Result<(), AllocError>
+    ensures { OnOk result (text.new.items ≡ text.old.items ++ flat_map terminal_text lines.now) }
+{
+    'lines: for line in lines {
+        push_escaped_line(alloc, line, text)?;
+    }
+    Ok(())
+}
+
+/// Appends the text of a line with its path escaped, if it has one.
+fn push_escaped_line(alloc: Global, line: &Line, text: &mut Vec<u8>) -> Result<(), AllocError>
+    ensures { OnOk result (text.new.items ≡ text.old.items ++ terminal_text line.now) }
+{
+    match line {
+        Line::Name { inode, path } => {
+            let mut shown = Vec::new(alloc);
+            push_escaped(&mut shown, path.as_slice())?;
+            let path = Bytes::from_vec(shown);
+            let inode = *inode;
+            Line::Name { inode, path }.push_text(text)
+        }
+        _ => line.push_text(text),
+    }
 }
 
 /// The status after a report that was printed.

@@ -4,6 +4,7 @@ use Rattle.command_reads.specs.Checkers.{Checks, IsUnreported, PrintsReport}
 use Rattle.command_faults.specs.Streams.{Streams}
 use Rattle.vol_check.specs.declared.checker.Checker.{Checker}
 use Rattle.vol_layout.specs.declared.edition.Edition.{Edition}
+use Rattle.vol_listing.specs.declared.options.Screen.{Screen}
 use Rattle.vol_reports.specs.Reports.{has_faults}
 use Rattle.vol_reports.specs.declared.line.Line.{Line}
 use Rattle.unixvol.specs.Running.{IsEnd, IsUnread, RunsCheck, host_files}
@@ -21,15 +22,15 @@ status_short false = omega arith
 ends_unreported : (streams : Streams) (status : ℕ) → IsUnreported streams status → IsEnd streams status
 ends_unreported streams status none = ends_badly streams status (omega (arith, none.0)) (omega (arith, none.0))
 
-ends_printed : (streams : Streams) (report : List Line) (status : ℕ) → PrintsReport streams report status → IsEnd streams status
-ends_printed streams report status (inl all) =
+ends_printed : (screen : Screen) (streams : Streams) (report : List Line) (status : ℕ) → PrintsReport screen streams report status → IsEnd streams status
+ends_printed screen streams report status (inl all) =
     record { within = subst (λ n. n ≤ 4) (sym all.0) (status_short (has_faults report)); whole = λ e. (all.2, all.3) }
-ends_printed streams report status (inr (inl front)) = ends_badly streams status (omega (arith, front.0)) (omega (arith, front.0))
-ends_printed streams report status (inr (inr none)) = ends_unreported streams status none
+ends_printed screen streams report status (inr (inl front)) = ends_badly streams status (omega (arith, front.0)) (omega (arith, front.0))
+ends_printed screen streams report status (inr (inr none)) = ends_unreported streams status none
 
-ends_checks : (checker : Checker) (edition : Edition) (image : List ℕ) (streams : Streams) (status : ℕ) → Checks checker edition image streams status → IsEnd streams status
-ends_checks checker edition image streams status (inl found) = ends_printed streams found.0 status found.2
-ends_checks checker edition image streams status (inr none) = ends_unreported streams status none
+ends_checks : (checker : Checker) (edition : Edition) (image : List ℕ) (screen : Screen) (streams : Streams) (status : ℕ) → Checks checker edition image screen streams status → IsEnd streams status
+ends_checks checker edition image screen streams status (inl found) = ends_printed screen streams found.0 status found.2
+ends_checks checker edition image screen streams status (inr none) = ends_unreported streams status none
 
 ends_unread : {F : Type 0} (remaining : F → Option (List ℕ)) (streams : Streams) (status : ℕ) → IsUnread remaining status → IsEnd streams status
 ends_unread remaining streams status (inl is) = ends_badly streams status (omega (arith, is)) (omega (arith, is))
@@ -37,7 +38,7 @@ ends_unread remaining streams status (inr memory) = ends_badly streams status (o
 
 -- a checker that runs ends with a status of at most 4, and with 0 only where all went out and no fault was told
 pub ends_checked : {F : Type 0} (remaining contents : F → Option (List ℕ)) (had : F → Stamp → Type 0) (stood : Stamp → Type 0) (streams : Streams)
-    (edition : Edition) (checker : Checker) (status : ℕ) → RunsCheck streams (host_files remaining contents had stood) edition checker status
+    (screen : Screen) (edition : Edition) (checker : Checker) (status : ℕ) → RunsCheck streams (host_files remaining contents had stood) screen edition checker status
     → IsEnd streams status
-ends_checked remaining contents had stood streams edition checker status (inl nothing) = ends_unread remaining streams status nothing.0
-ends_checked remaining contents had stood streams edition checker status (inr (image, given, checks)) = ends_checks checker edition image streams status checks
+ends_checked remaining contents had stood streams screen edition checker status (inl nothing) = ends_unread remaining streams status nothing.0
+ends_checked remaining contents had stood streams screen edition checker status (inr (image, given, checks)) = ends_checks checker edition image screen streams status checks

@@ -136,9 +136,9 @@ RunsGetOne streams files edition path status =
     RunsNothing streams files status ⊎ ((image : List ℕ) × files.given image × GetsFile edition image path streams status)
 
 -- a checker runs: nothing is done; or what it finds in an image that a file gave is printed (this project)
-abbrev pub RunsCheck : Streams → HostFiles → Edition → Checker → ℕ → Type 0
-RunsCheck streams files edition checker status =
-    RunsNothing streams files status ⊎ ((image : List ℕ) × files.given image × Checks checker edition image streams status)
+abbrev pub RunsCheck : Streams → HostFiles → Screen → Edition → Checker → ℕ → Type 0
+RunsCheck streams files screen edition checker status =
+    RunsNothing streams files status ⊎ ((image : List ℕ) × files.given image × Checks checker edition image screen streams status)
 
 -- so many scripts are played: nothing is done; or files gave them, and they are played on an image that a file gave which may be changed, and the volume is saved where a file still stood that had the stamp of the one that was read (this project)
 abbrev pub RunsPlay : Streams → HostFiles → Edition → ℕ → ℕ → Type 0
@@ -149,9 +149,9 @@ RunsPlay streams files edition count status =
     × PlaysVolume edition image scripts streams answer × EndsPlayed (λ saved. files.taken saved × files.stood stamp) answer status)
 
 -- what several threads do runs (this project)
-abbrev pub RunsWork : Streams → HostFiles → Edition → Work → ℕ → Type 0
-RunsWork streams files edition (works.Check checker workers) status = RunsCheck streams files edition checker status
-RunsWork streams files edition (works.Play scripts) status = RunsPlay streams files edition (length scripts.items) status
+abbrev pub RunsWork : Streams → HostFiles → Screen → Edition → Work → ℕ → Type 0
+RunsWork streams files screen edition (works.Check checker workers) status = RunsCheck streams files screen edition checker status
+RunsWork streams files screen edition (works.Play scripts) status = RunsPlay streams files edition (length scripts.items) status
 
 -- what shows standard output is a terminal with one column or more, where the system says that it is a terminal, and else none (this project)
 abbrev pub IsShownBy : Bool → Screen → Type 0
@@ -265,10 +265,10 @@ pub record IsEnd (streams : Streams) (status : ℕ) : Type 0 where
   pub whole : status ≡ 0 → (streams.failed ≡ streams.had_failed) × streams.said []
 
 -- what several threads do runs to its end, from what the program's two streams hold: there is what they come to hold, whether they fail, and the status of the run, and that is the status at the end, or 3 in place of another (this project)
-abbrev pub WorksToEnd : HostFiles → Option (List ℕ) → Option (List ℕ) → Edition → Work → ℕ → Type 0
-WorksToEnd files output errors edition work end =
+abbrev pub WorksToEnd : HostFiles → Screen → Option (List ℕ) → Option (List ℕ) → Edition → Work → ℕ → Type 0
+WorksToEnd files screen output errors edition work end =
     (new : Option (List ℕ)) × (failed : Bool) × (told : Option (List ℕ)) × (untold : Bool) × (status : ℕ)
-    × RunsWork (record { old = output; new = new; had_failed = false; failed = failed; said = Gets untold errors told }) files edition work status
+    × RunsWork (record { old = output; new = new; had_failed = false; failed = failed; said = Gets untold errors told }) files screen edition work status
     × IsEnd (record { old = output; new = new; had_failed = false; failed = failed; said = Gets untold errors told }) status
     × ((end ≡ status) ⊎ (end ≡ 3))
 

@@ -38,7 +38,9 @@ fn main(rt: HostRuntime) -> ExitCode {
     };
     match command_line::read(rt.alloc(), moment(&rt), words.as_slice()) {
         Ok(Invocation::Work { volume, work }) => {
-            threads::run_to_end(&host, rt.stdout(), rt.stderr(), volume, work)
+            let output = rt.stdout();
+            let screen = looks::screen(&rt, output.is_terminal());
+            threads::run_to_end(&host, screen, output, rt.stderr(), volume, work)
         }
         Ok(Invocation::Look { volume, look }) => {
             let output = rt.stdout();

@@ -22,21 +22,29 @@ use std::rt::Clock;
 use std::sync::Wait;
 use std::thread::Threads;
 use vol_check::{Checker, MOST_WORKERS, Open};
+use vol_listing::Screen;
 
 /// Does with the volume in a file what several threads are asked for, and answers how the program ends. What it prints goes
-/// to `output`, which is standard output; a fault is one line on standard error. `errors` writes to standard error too.
+/// to `output`, which is standard output, as `screen` shows it; a fault is one line on standard error. `errors` writes to standard error too.
 pub fn run_to_end<
     R: ImageFiles + Clock + Eprint + AllocGlobal + Threads + Wait + Sync,
     O: Write + Drop,
     E: Write + Drop,
->(host: &Host<'_, R>, output: O, errors: E, volume: VolumeFile<'_>, work: Work<'_>) -> ExitCode
+>(
+    host: &Host<'_, R>,
+    screen: Screen,
+    output: O,
+    errors: E,
+    volume: VolumeFile<'_>,
+    work: Work<'_>,
+) -> ExitCode
     requires { IsWorkable work }
-    ensures { WorksToEnd (host_files R.File.remaining R.File.contents R.had R.stood) (O.contents output) (E.contents errors)
+    ensures { WorksToEnd (host_files R.File.remaining R.File.contents R.had R.stood) screen (O.contents output) (E.contents errors)
         volume.entry.edition work.entry (exit_status result) }
 {
     let mut errors = IntoWrite::new(errors);
     let mut output = noted_writer(output);
-    let ending = run(host, &mut output, volume, &work);
+    let ending = run(host, screen, &mut output, volume, &work);
     let subject = Subject::of_work(volume.image, &work);
     tell_fault(
         host,
@@ -52,18 +60,21 @@ pub fn run_to_end<
 /// [`finish_printed`] goes well.
 fn run<R: ImageFiles + Clock + Eprint + AllocGlobal + Threads + Wait + Sync, O: Sink>(
     host: &Host<'_, R>,
+    screen: Screen,
     output: &mut O,
     volume: VolumeFile<'_>,
     work: &Work<'_>,
 ) -> Ending
     requires { IsWorkable work.now }
     ensures runs { (errors : ErrorStream) → Hears errors result.fault
-        → RunsWork (streams O.contents O.failed output.old output.new errors) (host_files R.File.remaining R.File.contents R.had R.stood) volume.entry.edition work.now result.status }
+        → RunsWork (streams O.contents O.failed output.old output.new errors) (host_files R.File.remaining R.File.contents R.had R.stood) screen volume.entry.edition work.now result.status }
     ensures ends { (errors : ErrorStream) → Hears errors result.fault
         → IsEnd (streams O.contents O.failed output.old output.new errors) result.status }
 {
     match work {
-        Work::Check { checker, workers } => run_check(host, output, volume, *checker, *workers),
+        Work::Check { checker, workers } => {
+            run_check(host, screen, output, volume, *checker, *workers)
+        }
         Work::Play { scripts } => run_play(host, output, volume, scripts),
     }
 }
@@ -71,6 +82,7 @@ fn run<R: ImageFiles + Clock + Eprint + AllocGlobal + Threads + Wait + Sync, O: 
 /// Prints what a checker finds in the volume in a file, by so many threads, and answers how it ends.
 fn run_check<R: ImageFiles + Eprint + AllocGlobal + Threads + Wait + Sync, O: Sink>(
     host: &Host<'_, R>,
+    screen: Screen,
     output: &mut O,
     volume: VolumeFile<'_>,
     checker: Checker,
@@ -79,7 +91,7 @@ fn run_check<R: ImageFiles + Eprint + AllocGlobal + Threads + Wait + Sync, O: Si
     requires first { 1 ≤ workers }
     requires last { workers ≤ MOST_WORKERS }
     ensures { (errors : ErrorStream) → Hears errors result.fault
-        → RunsCheck (streams O.contents O.failed output.old output.new errors) (host_files R.File.remaining R.File.contents R.had R.stood) volume.entry.edition checker result.status }
+        → RunsCheck (streams O.contents O.failed output.old output.new errors) (host_files R.File.remaining R.File.contents R.had R.stood) screen volume.entry.edition checker result.status }
 {
     let image = match read_file(host, volume.image) {
         Ok(image) => image,
@@ -97,6 +109,7 @@ fn run_check<R: ImageFiles + Eprint + AllocGlobal + Threads + Wait + Sync, O: Si
         image,
         checker,
         workers,
+        screen,
         output,
     )
 }

@@ -4,7 +4,7 @@ use Rattle.unixvol.proofs.threads.run.Goals as goal
 
 pub returns-in-Check-clause-ends : goal.returns-in-Check-clause-ends
 returns-in-Check-clause-ends g c errors hears =
-    ends_checked g.R.File.Read.remaining g.R.File.Write.contents g.R.ImageFiles.had g.R.ImageFiles.stood _ c.args.volume.edition _ c.run_check.result.status
+    ends_checked g.R.File.Read.remaining g.R.File.Write.contents g.R.ImageFiles.had g.R.ImageFiles.stood _ c.args.screen c.args.volume.edition _ c.run_check.result.status
     (c.run_check.ensures errors hears)
 
 pub returns-in-Play-clause-ends : goal.returns-in-Play-clause-ends

@@ -15,7 +15,7 @@ returns g c =
       _,
       _,
       status,
-      begun (λ streams. RunsWork streams files c.args.volume.edition c.args.work status) (g.O.Write.contents c.args.output) (g.E.Write.contents c.args.errors) _ _ _ _ _ _ _
+      begun (λ streams. RunsWork streams files c.args.screen c.args.volume.edition c.args.work status) (g.O.Write.contents c.args.output) (g.E.Write.contents c.args.errors) _ _ _ _ _ _ _
           c.noted_writer-output.ensures.bytes c.new-errors.ensures.bytes c.noted_writer-output.ensures.fresh (c.run-ending.ensures.runs after c.tell_fault.ensures),
       begun (λ streams. IsEnd streams status) (g.O.Write.contents c.args.output) (g.E.Write.contents c.args.errors) _ _ _ _ _ _ _
           c.noted_writer-output.ensures.bytes c.new-errors.ensures.bytes c.noted_writer-output.ensures.fresh (c.run-ending.ensures.ends after c.tell_fault.ensures),

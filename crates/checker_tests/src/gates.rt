@@ -1,15 +1,15 @@
-// Gates: two workers that are at work at the same time, and each piece between two calls.
+// Gates: four workers that are at work at the same time, and each piece between two calls.
 use crate::fixtures::{SIXTH, check_report, image_of};
 use std::sync::atomic::{AtomicU64, Ordering};
 use vol_check::testing::Meeting;
 use vol_check::{Gate, icheck};
 
 #[test]
-fn two_workers_meet_before_their_first_pieces(rt: HostRuntime) {
+fn four_workers_meet_before_their_first_pieces(rt: HostRuntime) {
     let alloc = rt.alloc();
     let image = image_of(&rt, alloc, &SIXTH);
-    let gate = Meeting::new();
-    let report = icheck(&rt, &rt, alloc, SIXTH.edition, &image, 2, &gate);
+    let gate = Meeting::of(4);
+    let report = icheck(&rt, &rt, alloc, SIXTH.edition, &image, 4, &gate);
     assert_eq!(rt; gate.missed(), 0);
     let wanted = b"files 0\ndirectories 1\nspecial 0\nodd 0\nused 1\nfree 15\nmissing 0\n";
     check_report(&rt, alloc, report, (wanted, false));

@@ -51,7 +51,7 @@ fn two_scripts_have_threads_and_no_line_is_played_before_its_gate(rt: HostRuntim
     for (held, text) in [(0, SECOND), (1, FIRST)] {
         let alloc = rt.alloc();
         let gate = Holding {
-            meeting: Meeting::new(),
+            meeting: Meeting::of(2),
             held,
         };
         let scripts = [copied(&rt, alloc, CREATE), copied(&rt, alloc, CREATE)];

@@ -1,4 +1,4 @@
-//! A gate for tests: two pieces that are worked on at the same time.
+//! A gate for tests: pieces that are worked on at the same time.
 use crate::gate::Gate;
 use std::sync::atomic::{AtomicU64, Ordering};
 use std::thread;
@@ -6,25 +6,27 @@ use std::thread;
 /// Turns for which a meeting holds a piece.
 const TURNS: u32 = 20_000_000;
 
-/// Holds pieces 0 and 1, each until the other is before the gate too.
+/// Holds the first pieces, each until all of them have come to the gate.
 #[derive(Drop)]
 pub struct Meeting {
+    pieces: u64,
     came: AtomicU64,
     missed: AtomicU64,
     left: AtomicU64,
 }
 
 impl Meeting {
-    /// Returns a gate that no piece has come to.
-    pub fn new() -> Meeting {
+    /// Returns a gate for the first `pieces` pieces, to which none has come.
+    pub fn of(pieces: u64) -> Meeting {
         Meeting {
+            pieces,
             came: AtomicU64::new(0),
             missed: AtomicU64::new(0),
             left: AtomicU64::new(0),
         }
     }
 
-    /// The number of the two pieces that went on without the other.
+    /// The number of these pieces that went on without the others.
     pub fn missed(&self) -> u64 {
         self.missed.load(Ordering::SeqCst)
     }
@@ -37,12 +39,12 @@ impl Meeting {
 
 impl Gate for Meeting {
     fn before(&self, piece: u64) {
-        if piece > 1 {
+        if piece >= self.pieces {
             return;
         }
         self.came.fetch_add(1, Ordering::SeqCst);
         for _ in 0..TURNS {
-            if self.came.load(Ordering::SeqCst) == 2 {
+            if self.came.load(Ordering::SeqCst) == self.pieces {
                 return;
             }
             thread::yield_now();

@@ -1,5 +1,5 @@
 -- Each step keeps the rule of the table.
-use Rattle.std.proofs.Common.{◌≡◌, ◌≢◌, ℕ, zero, suc, ◌+◌, ◌-◌, ◌%◌, ◌^◌, ◌<◌, ◌≤◌, List, [], ◌∷◌, ◌++◌, length, set, slice_index, min, sym, refl, ap, ◌∙◌, subst, arith, length-set, get_or-set_same, get_or-set_other, ⊎_elim}
+use Rattle.std.proofs.Common.{◌≡◌, ◌≢◌, ℕ, zero, suc, ◌+◌, ◌-◌, ◌%◌, ◌^◌, ◌<◌, ◌≤◌, List, [], ◌∷◌, ◌++◌, length, set, slice_index, min, replicate, ◌*◌, sym, refl, ap, ◌∙◌, subst, arith, length-set, get_or-set_same, get_or-set_other, ⊎_elim}
 use Rattle.std.proofs.lemmas.Bool.{cases_eq}
 use Rattle.std.proofs.Math.Nat.{mod-add-mod, mod-eq_of_lt}
 use mathlib.Core.Option.{some, some-injective, some-ne-none}
@@ -10,9 +10,9 @@ use Rattle.count_table.specs.declared.rule.Mark.{Mark}
 use Rattle.count_table.specs.declared.rule.SeatView.{SeatView}
 use Rattle.count_table.specs.declared.rule.TableShape.{TableShape}
 use Rattle.count_table.specs.Sums.{total, below, past, late, amount_at, sum_at, least_at}
-use Rattle.count_table.specs.Views.{view, mark, blank, first_view, drew, marked_view, kept_half, given_half, joined}
+use Rattle.count_table.specs.Views.{view, mark, blank, first_view, drew, marked_view, kept_half, given_half, joined, counted_view, lowered_view}
 use Rattle.count_table.specs.Rule.{IsWithinParts, Kept, IsStart, IsSummed}
-use Rattle.count_table.proofs.Totals.{total_nil, total_cons, total_append, total_push, total_set, total_part, total_none, total_ones, total_le_at, below_more, below_none, below_ones, past_one, word_bound, amount_here, amount_else, least_nil, least_same, least_here, least_else}
+use Rattle.count_table.proofs.Totals.{total_nil, total_cons, total_append, total_push, total_set, total_part, total_none, total_ones, total_le_at, below_more, below_none, below_ones, past_one, word_bound, amount_here, amount_else, least_nil, least_same, least_here, least_else, total_replicate, least_elses, least_heres}
 
 -- a mark on another word adds nothing
 sum_else : (w i k : ℕ) (log : List Mark) → w ≢ i → sum_at w (mark i k ∷ log) ≡ sum_at w log
@@ -163,6 +163,87 @@ module _ (shape : TableShape) (s : State (Unit {0}) SeatView) (kept : Kept shape
             (cases_eq w i);
         each = fit (marked_view v (mark i k)) (marked_fits (mark i k) some-parts);
       }
+
+  -- the weights once marks are made
+  marks_many : (w : SeatView) (new : List Mark) → w.marks ≡ v.marks ++ new → (weight : Mark → ℕ)
+      → total (λ x. total weight x.marks) (set s.views id w) ≡ total weight (new ++ kept.log)
+  marks_many w new is weight =
+      let h = shifts (λ x. total weight x.marks) w in let k = kept.marked weight in
+      let p = ap (total weight) is ∙ total_append weight v.marks new in let c = total_append weight new kept.log in omega arith
+
+  -- so many marks on another word add nothing
+  sums_else : (w i k : ℕ) → w ≢ i → sum_at w (replicate k (mark i 1) ++ kept.log) ≡ sum_at w kept.log
+  sums_else w i k ne =
+      let a = total_append (amount_at w) (replicate k (mark i 1)) kept.log in
+      let r = total_replicate (amount_at w) k (mark i 1) in
+      let z = ap (λ x. k * x) (amount_else i w 1 ne) in
+      let n : k * 0 ≡ 0 = grind arith in omega (arith, a, r, z, n)
+
+  -- 1 is added to a count word so many times, in one step
+  pub counts_times : (i k : ℕ) → 1 ≤ v.parts → 1 ≤ i → i < 1 + shape.counts
+      → Kept shape (stepped s i ((slice_index s.words i + k) % 2 ^ 64) id [] (counted_view v i k) keeps)
+  counts_times i k some-parts low high =
+      let n = slice_index s.words i in
+      let wide = kept.wide in
+      record {
+        log = replicate k (mark i 1) ++ kept.log;
+        wide = length-set s.words i ((n + k) % 2 ^ 64) ∙ kept.wide;
+        small = kept.small;
+        whole = let h = shifts (λ x. x.parts) (counted_view v i k) in let p = kept.whole in omega arith;
+        drawn = λ weight. let h = shifts (λ x. total weight x.draws) (counted_view v i k) in let d = kept.drawn weight in
+            let b = ap (below weight) (get_or-set_other s.words i 0 ((n + k) % 2 ^ 64) 0 (λ e. omega arith)) in omega arith;
+        marked = marks_many (counted_view v i k) (replicate k (mark i 1)) refl;
+        counted = λ w from to. ⊎_elim
+            (λ (e : w ≡ i). subst (λ j. slice_index (set s.words i ((n + k) % 2 ^ 64)) j ≡ sum_at j (replicate k (mark i 1) ++ kept.log) % 2 ^ 64) (sym e)
+            (get_or-set_same s.words i ((n + k) % 2 ^ 64) 0 (omega arith) ∙ summed))
+            (λ (ne : w ≢ i). get_or-set_other s.words i w ((n + k) % 2 ^ 64) 0 ne ∙ (kept.counted w from to
+            ∙ ap (λ x. x % 2 ^ 64) (sym (sums_else w i k ne))))
+            (cases_eq w i);
+        lowest = λ w from to. get_or-set_other s.words i w ((n + k) % 2 ^ 64) 0 (λ e. omega arith) ∙ (kept.lowest w from to
+            ∙ sym (least_elses i w 1 k kept.log (λ e. omega arith)));
+        each = fit (counted_view v i k) (record { empty = λ e. absurd (omega arith); bounded = (kept.each id v at).bounded });
+      }
+    where
+      summed : (slice_index s.words i + k) % 2 ^ 64 ≡ sum_at i (replicate k (mark i 1) ++ kept.log) % 2 ^ 64
+      summed =
+          let a = total_append (amount_at i) (replicate k (mark i 1)) kept.log in
+          let r = total_replicate (amount_at i) k (mark i 1) in
+          let o = ap (λ x. k * x) (amount_here i 1) in
+          let one : k * 1 ≡ k = grind arith in
+          let all : sum_at i (replicate k (mark i 1) ++ kept.log) ≡ k + sum_at i kept.log = omega (arith, a, r, o, one) in
+          ap (λ x. (x + k) % 2 ^ 64) (kept.counted i low high) ∙ (mod-add-mod (sum_at i kept.log) (2 ^ 64) k ∙ ap (λ x. x % 2 ^ 64) (omega arith)
+          ∙ ap (λ x. x % 2 ^ 64) (sym all))
+
+  -- a least word falls, for as many marks as the step before made
+  pub lowers_times : (i k : ℕ) → 1 ≤ v.parts → 1 ≤ v.times → 1 + shape.counts ≤ i → i < 1 + (shape.counts + shape.leasts)
+      → Kept shape (stepped s i (min (slice_index s.words i) k) id [] (lowered_view v i k) keeps)
+  lowers_times i k some-parts some-times low high =
+      let n = slice_index s.words i in
+      let wide = kept.wide in
+      record {
+        log = replicate v.times (mark i k) ++ kept.log;
+        wide = length-set s.words i (min n k) ∙ kept.wide;
+        small = kept.small;
+        whole = let h = shifts (λ x. x.parts) (lowered_view v i k) in let p = kept.whole in omega arith;
+        drawn = λ weight. let h = shifts (λ x. total weight x.draws) (lowered_view v i k) in let d = kept.drawn weight in
+            let b = ap (below weight) (get_or-set_other s.words i 0 (min n k) 0 (λ e. omega arith)) in omega arith;
+        marked = marks_many (lowered_view v i k) (replicate v.times (mark i k)) refl;
+        counted = λ w from to. get_or-set_other s.words i w (min n k) 0 (λ e. omega arith) ∙ (kept.counted w from to
+            ∙ ap (λ x. x % 2 ^ 64) (sym (nothing w (λ e. omega arith))));
+        lowest = λ w from to. ⊎_elim
+            (λ (e : w ≡ i). subst (λ j. slice_index (set s.words i (min n k)) j ≡ least_at j (replicate v.times (mark i k) ++ kept.log)) (sym e)
+            (get_or-set_same s.words i (min n k) 0 (omega arith) ∙ (ap (λ x. min x k) (kept.lowest i low high) ∙ sym (least_heres i k v.times kept.log some-times))))
+            (λ (ne : w ≢ i). get_or-set_other s.words i w (min n k) 0 ne ∙ (kept.lowest w from to ∙ sym (least_elses i w k v.times kept.log ne)))
+            (cases_eq w i);
+        each = fit (lowered_view v i k) (record { empty = λ e. absurd (omega arith); bounded = (kept.each id v at).bounded });
+      }
+    where
+      nothing : (w : ℕ) → w ≢ i → sum_at w (replicate v.times (mark i k) ++ kept.log) ≡ sum_at w kept.log
+      nothing w ne =
+          let a = total_append (amount_at w) (replicate v.times (mark i k)) kept.log in
+          let r = total_replicate (amount_at w) v.times (mark i k) in
+          let z = ap (λ x. v.times * x) (amount_else i w k ne) in
+          let none : v.times * 0 ≡ 0 = grind arith in omega (arith, a, r, z, none)
 
   -- one part is cut off a seat that did nothing
   pub splits : 1 ≤ v.parts → v.draws ≡ [] → v.marks ≡ []

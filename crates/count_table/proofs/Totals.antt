@@ -1,5 +1,5 @@
 -- Laws of sums by weights.
-use Rattle.std.proofs.Common.{◌≡◌, ◌≢◌, ◌⊎◌, ℕ, zero, suc, ◌+◌, ◌<◌, ◌≤◌, List, [], ◌∷◌, ◌++◌, length, set, slice_index, sym, refl, ap, ◌∙◌, nat_lt, min, ◌==◌, ◌&&◌, if◌then◌else◌, le_refl, inl, inr, arith}
+use Rattle.std.proofs.Common.{◌≡◌, ◌≢◌, ◌⊎◌, ℕ, zero, suc, ◌+◌, ◌<◌, ◌≤◌, List, [], ◌∷◌, ◌++◌, length, set, slice_index, sym, refl, ap, ◌∙◌, nat_lt, min, ◌*◌, replicate, ◌==◌, ◌&&◌, if◌then◌else◌, le_refl, inl, inr, arith}
 use mathlib.Core.Option.{some, some-injective, some-ne-none}
 use lib.ListN.{get_elem?}
 use Rattle.count_table.specs.declared.rule.Mark.{Mark}
@@ -197,3 +197,22 @@ pub read_at : (xs : List ℕ) (i x : ℕ) → get_elem? xs i ≡ some x → x �
 read_at [] i x e = absurd (some-ne-none x (sym e))
 read_at (y ∷ xs) zero x e = sym (some-injective y x e)
 read_at (y ∷ xs) (suc i) x e = read_at xs i x e
+
+-- so many members that are the same
+pub total_replicate : {A : Type 0} (weight : A → ℕ) (n : ℕ) (x : A) → total weight (replicate n x) ≡ n * weight x
+unfolding total
+total_replicate weight zero x = grind arith
+total_replicate weight (suc n) x = let h = total_replicate weight n x in let t : suc n * weight x ≡ n * weight x + weight x = grind arith in omega arith
+
+-- the least after so many marks of one value on another word, and on the word
+pub least_elses : (v w k n : ℕ) (ms : List Mark) → w ≢ v → least_at w (replicate n (mark v k) ++ ms) ≡ least_at w ms
+least_elses v w k zero ms ne = refl
+least_elses v w k (suc n) ms ne = least_else v w k (replicate n (mark v k) ++ ms) ne ∙ least_elses v w k n ms ne
+
+least_more : (w k n : ℕ) (ms : List Mark) → least_at w (replicate (suc n) (mark w k) ++ ms) ≡ min (least_at w ms) k
+least_more w k zero ms = least_here w k ms
+least_more w k (suc n) ms = let h = least_more w k n ms in let l = least_here w k (replicate (suc n) (mark w k) ++ ms) in grind arith
+
+pub least_heres : (w k n : ℕ) (ms : List Mark) → 1 ≤ n → least_at w (replicate n (mark w k) ++ ms) ≡ min (least_at w ms) k
+least_heres w k zero ms some-marks = absurd (omega arith)
+least_heres w k (suc n) ms some-marks = least_more w k n ms

@@ -1,5 +1,5 @@
 //! What a seat knows, what holds between any two steps, and what each step tells.
-ghost use Rattle.count_table.specs.Views.{Drew, Marked, kept_half, given_half, joined, blank, first_view};
+ghost use Rattle.count_table.specs.Views.{Drew, Marked, MarkedTimes, MarkedAgain, kept_half, given_half, joined, blank, first_view};
 ghost use Rattle.count_table.specs.Rule.{Kept};
 
 use atomic_table::{Join, Play, Seat, Split, TableRule};
@@ -20,6 +20,8 @@ pub struct SeatView {
     pub draws: LinkedList<u64>,
     /// The marks that it made, in order.
     pub marks: LinkedList<Mark>,
+    /// How many marks of 1 its last step made, where that was one for several; else 1.
+    pub times: u64,
 }
 
 /// How many pieces there are, words of each kind, and seats.
@@ -55,6 +57,20 @@ pub(crate) struct MarkMade;
 
 impl Play<(), SeatView> for MarkMade {
     ghost then = { Marked };
+}
+
+/// So many marks of 1 were made in one step.
+pub(crate) struct MarksMade;
+
+impl Play<(), SeatView> for MarksMade {
+    ghost then = { MarkedTimes };
+}
+
+/// As many marks of one value were made in one step as the step before made.
+pub(crate) struct MarksRepeated;
+
+impl Play<(), SeatView> for MarksRepeated {
+    ghost then = { MarkedAgain };
 }
 
 /// One part of a seat that did nothing yet is cut off.

@@ -1,11 +1,11 @@
 //! The table and its steps.
-ghost use Rattle.std.specs.Prelude.{◌≡◌, ℕ, ◌+◌, ◌-◌, ◌^◌, ◌<◌, ◌≤◌, [], ◌∷◌, ◌++◌, length, IfOk};
+ghost use Rattle.std.specs.Prelude.{◌≡◌, ℕ, ◌+◌, ◌-◌, ◌^◌, ◌<◌, ◌≤◌, [], ◌∷◌, ◌++◌, length, replicate, IfOk};
 ghost use Rattle.count_table.specs.Sums.{late};
-ghost use Rattle.count_table.specs.Views.{view, mark, first_view};
+ghost use Rattle.count_table.specs.Views.{view, view_times, mark, first_view};
 ghost use Rattle.count_table.specs.Tallies.{IsSeatAt, table_shape, items_of};
 ghost use Rattle.count_table.specs.Rule.{IsStart, IsSummed};
 
-use crate::rule::{Claim, Gather, Give, MarkMade, TableShape, TallySeat};
+use crate::rule::{Claim, Gather, Give, MarkMade, MarksMade, MarksRepeated, TableShape, TallySeat};
 use crate::words::{Summed, Tally};
 use atomic_table::Table;
 use std::alloc::{AllocError, Global};
@@ -69,6 +69,34 @@ impl Tally {
         ensures marked { seat.new.me.0 ≡ view seat.old.me.0.parts seat.old.me.0.draws (seat.old.me.0.marks ++ mark word amount ∷ []) }
     {
         let _found = self.table.shared.fetch_add::<MarkMade>(seat, word, amount);
+    }
+
+    /// Adds 1 to a count word so many times, in one step.
+    pub fn count_times(&self, seat: &mut TallySeat, word: usize, times: u64)
+        requires own { IsSeatAt self.now seat.old }
+        requires parts { 1 ≤ seat.old.me.0.parts }
+        requires first { 1 ≤ word }
+        requires last { word < 1 + (table_shape self.now).counts }
+        ensures own { IsSeatAt self.now seat.new }
+        ensures marked { seat.new.me.0 ≡ view_times seat.old.me.0.parts seat.old.me.0.draws (seat.old.me.0.marks ++ replicate times (mark word 1)) times }
+    {
+        let _found = self.table.shared.fetch_add::<MarksMade>(seat, word, times);
+    }
+
+    /// Lowers a least word to a value, if that is less, in one step for as many places as the step before counted.
+    pub fn lower_times(&self, seat: &mut TallySeat, word: usize, value: u64)
+        requires own { IsSeatAt self.now seat.old }
+        requires parts { 1 ≤ seat.old.me.0.parts }
+        requires times { 1 ≤ seat.old.me.0.times }
+        requires first { 1 + (table_shape self.now).counts ≤ word }
+        requires last { word < 1 + ((table_shape self.now).counts + (table_shape self.now).leasts) }
+        ensures own { IsSeatAt self.now seat.new }
+        ensures marked { seat.new.me.0 ≡ view seat.old.me.0.parts seat.old.me.0.draws (seat.old.me.0.marks ++ replicate seat.old.me.0.times (mark word value)) }
+    {
+        let _found = self
+            .table
+            .shared
+            .fetch_min::<MarksRepeated>(seat, word, value);
     }
 
     /// Lowers a least word to a value, if that is less.

@@ -16,11 +16,13 @@ fn counts_and_least_values_of_two_seats(rt: HostRuntime) -> Result<(), Fail> {
     tally.count(&mut second, 2, 1);
     tally.lower(&mut first, 3, 9);
     tally.lower(&mut second, 3, 4);
+    tally.count_times(&mut second, 2, 6);
+    tally.lower_times(&mut second, 3, 3);
     tally.join(&mut first, second);
     let summed = tally.close(first);
     assert_eq!(rt;
         [summed.word(1), summed.word(2), summed.word(3)],
-        [12, 1, 4]
+        [12, 7, 3]
     );
     Ok(())
 }

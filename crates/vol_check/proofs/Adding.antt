@@ -1,13 +1,13 @@
 -- Marks that are made one after another.
-use Rattle.std.proofs.Common.{◌≡◌, ℕ, ◌+◌, [], ◌∷◌, ◌++◌, refl, ap, ◌∙◌, arith}
+use Rattle.std.proofs.Common.{◌≡◌, ℕ, ◌+◌, ◌*◌, replicate, [], ◌∷◌, ◌++◌, refl, ap, ◌∙◌, arith}
 use Rattle.atomic_table.specs.declared.shared.Seat.{Seat}
 use Rattle.count_table.specs.declared.rule.Mark.{Mark}
 use Rattle.count_table.specs.declared.rule.SeatView.{SeatView}
 use Rattle.count_table.specs.declared.words.Tally.{Tally}
 use Rattle.count_table.specs.Sums.{total}
-use Rattle.count_table.specs.Views.{view, mark}
+use Rattle.count_table.specs.Views.{view, view_times, mark}
 use Rattle.count_table.specs.Tallies.{IsSeatAt}
-use Rattle.count_table.proofs.Totals.{total_push}
+use Rattle.count_table.proofs.Totals.{total_push, total_append, total_replicate}
 use Rattle.vol_check.specs.Pieces.{Adds}
 
 module _ (tally : Tally) where
@@ -20,6 +20,18 @@ module _ (tally : Tally) where
     parts = ap (λ v. v.parts) is;
     draws = ap (λ v. v.draws) is;
     marks = λ weight. ap (λ v. total weight v.marks) is ∙ (total_push weight old.me.0.marks (mark w a) ∙ ap (λ n. total weight old.me.0.marks + n) (same weight));
+  }
+
+  -- so many marks by one step
+  pub added_times : (old new : Seat (Unit {0}) SeatView) (w a n t : ℕ) (amount : (Mark → ℕ) → ℕ) → IsSeatAt tally new
+      → new.me.0 ≡ view_times old.me.0.parts old.me.0.draws (old.me.0.marks ++ replicate n (mark w a)) t
+      → ((weight : Mark → ℕ) → n * weight (mark w a) ≡ amount weight) → Adds tally old new amount
+  added_times old new w a n t amount own is same = record {
+    own = own;
+    parts = ap (λ v. v.parts) is;
+    draws = ap (λ v. v.draws) is;
+    marks = λ weight. ap (λ v. total weight v.marks) is ∙ (total_append weight old.me.0.marks (replicate n (mark w a))
+        ∙ ap (λ x. total weight old.me.0.marks + x) (total_replicate weight n (mark w a) ∙ same weight));
   }
 
   -- none

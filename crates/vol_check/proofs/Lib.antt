@@ -3,6 +3,7 @@ pub mod PieceSums
 pub mod PartCounts
 pub mod Adding
 pub mod Weights
+pub mod LevelLaws
 pub mod PastPieces
 pub mod Noted
 pub mod DirectoryPieces

@@ -13,6 +13,7 @@ pub use Rattle.vol_reports.specs.Names
 pub use Rattle.vol_reports.specs.Reports
 pub use Rattle.vol_reports.specs.Words
 pub mod Pieces
+pub mod Levels
 pub mod Parts
 pub mod Slots
 pub mod Shapes

@@ -19,8 +19,9 @@ pub const MOST_WORKERS: usize = 64;
 /// The block report of an image, by so many threads, which wait for no lock; where one can't be started, the others
 /// do its pieces. The gate is called round each piece.
 ///
-/// Costs a look at each place of each file, at the free list, and at each data block. Takes sixteen bytes for each
-/// data block and each i-number, a byte more for each data block, and memory for the lines.
+/// Costs a look at each address of each i-node, at each entry of each block that it leads to, once for each level of indirect
+/// blocks, at the free list, and at each data block. Takes sixteen bytes for each data block and each i-number, a byte more
+/// for each data block, half a MB at most for each thread while it is at a file with indirect blocks, and memory for the lines.
 pub fn icheck<R: Threads + Sync, W: Wait, G: Gate>(
     threads: &R,
     _wait: &W,

@@ -9,6 +9,7 @@ mod free_walk;
 mod gate;
 mod gathering;
 mod inode_marks;
+mod levels;
 mod parts;
 mod running;
 pub mod salvaging;

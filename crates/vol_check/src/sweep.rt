@@ -24,8 +24,9 @@ use vol_layout::Geometry;
 impl Sweep {
     /// Draws a piece and does it; None where none is left.
     ///
-    /// Takes a byte for each block of the volume where the piece is the free list, some for each entry in a sweep for names,
-    /// else no memory. Where there is none, this seat finds none for good.
+    /// Takes a byte for each block of the volume where the piece is the free list, sixteen for each place of a file that
+    /// names an indirect block, some for each entry in a sweep for names, else no memory. Where there is none, this seat
+    /// finds none for good.
     pub fn step(
         &self,
         alloc: Global,
@@ -142,7 +143,8 @@ impl Sweep {
     {
         let _last = geometry.last_inode;
         if number > 0 {
-            mark_inode(&self.tally, &mut seat.seat, image, geometry, number as u16);
+            let i = number as u16;
+            mark_inode(alloc, &self.tally, &mut seat.seat, image, geometry, i)?;
             return Ok(());
         }
         seat.fault = mark_free(alloc, &self.tally, &mut seat.seat, image, geometry)?;

@@ -10,6 +10,7 @@ invariant-loop-k l = record {
   parts : l.first.me.0.parts + l._k ≡ l.count + 1;
   draws : l.first.me.0.draws ≡ [];
   marks : l.first.me.0.marks ≡ [];
+  times : l.first.me.0.times ≡ 1;
   fresh : All (IsFresh l.tally) l.seats.items;
   len : vec_len l.seats + 1 ≡ l._k;
 }

@@ -33,12 +33,12 @@ loop-k-preserved c =
     (λ weight. below (λ k. total (place_weight g weight i) (address_blocks g image i k)) c.loop-k.k)
     (λ weight. total (place_weight g weight i) (blocks_from g image c.levels.result c.address-b.result))
     (λ weight. below (λ k. total (place_weight g weight i) (address_blocks g image i k)) (c.loop-k.k + 1))
-    c.loop-k.invariant c.mark_from.ensures
+    c.loop-k.invariant c.in_ok-mark_from.ensures.ok
     (λ weight. below_more (λ k. total (place_weight g weight i) (address_blocks g image i k)) c.loop-k.k
     ∙ ap (λ xs. below (λ k. total (place_weight g weight i) (address_blocks g image i k)) c.loop-k.k + total (place_weight g weight i) xs) same)
 
-pub returns : goal.returns
-returns c =
+pub returns-clause-ok : goal.returns-clause-ok
+returns-clause-ok c =
     let g = c.args.geometry.now in
     let image = c.args.image.now in
     let i = c.args.i in

@@ -15,7 +15,7 @@ returns-then-number-gt0-clause-ok c =
     let some : n ≢ 0 = λ e. omega (arith, low, e) in
     record {
       adds = adds_as c.args.self.now.tally c.args.seat.now.seat c.mark_inode.new.seat (λ weight. inode_weight g image weight n)
-          (λ weight. piece_weight g image weight n) c.mark_inode.ensures (λ weight. inode_piece g image weight n low c.requires.piece);
+          (λ weight. piece_weight g image weight n) c.in_ok-mark_inode.ensures.ok (λ weight. inode_piece g image weight n low c.requires.piece);
       entries = λ weight. omega arith;
       fault = sym (ap (λ t. if t then (free_walk g image).fault else c.args.seat.now.fault) (ne_eqb n 0 some));
       ended = refl;

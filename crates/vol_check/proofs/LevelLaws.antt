@@ -1,0 +1,87 @@
+-- Laws of what is left below some blocks.
+use Rattle.std.proofs.Common.{◌≡◌, ◌≢◌, ℕ, zero, suc, ◌+◌, ◌-◌, ◌*◌, ◌≤◌, ◌∙◌, sym, ap, false, List, [], ◌∷◌, refl, arith}
+use Rattle.std.proofs.lemmas.List.Sums.{sum_by-cons}
+use Rattle.atomic_table.specs.declared.shared.Seat.{Seat}
+use Rattle.vol_layout.specs.Edition.{constants}
+use Rattle.vol_layout.specs.Geometry.{in_zone}
+use Rattle.vol_layout.specs.Names.{pointer_in}
+use Rattle.vol_layout.specs.declared.geometry.Geometry.{Geometry}
+use Rattle.vol_judge.specs.Marks.{blocks_from}
+use Rattle.count_table.specs.declared.rule.Mark.{Mark}
+use Rattle.count_table.specs.declared.rule.SeatView.{SeatView}
+use Rattle.count_table.specs.declared.words.Tally.{Tally}
+use Rattle.count_table.specs.Sums.{total, below}
+use Rattle.vol_check.specs.declared.levels.Named.{Named}
+use Rattle.vol_check.specs.Pieces.{place_weight}
+use Rattle.vol_check.specs.Levels.{below_block, below_named, below_all, KeepsDraws}
+use Rattle.vol_check.proofs.Weights.{weigh_zero, weigh_leaf, weigh_block, weigh_outside, entry_weight}
+
+-- a sum so many times
+pub spread : (n x y : ℕ) → n * (x + y) ≡ n * x + n * y
+spread n x y = grind arith
+
+pub no_times : (n : ℕ) → n * 0 ≡ 0
+no_times n = grind arith
+
+-- a seat keeps its draws by two steps
+pub keeps_then : (tally : Tally) (a b c : Seat (Unit {0}) SeatView) → KeepsDraws tally a b → KeepsDraws tally b c → KeepsDraws tally a c
+keeps_then tally a b c first second = record { own = second.own; parts = second.parts ∙ first.parts; draws = second.draws ∙ first.draws }
+
+module _ (g : Geometry) (image : List ℕ) (weight : ℕ → ℕ) where
+  -- what stands below a block is found from its entries on
+  pub below_entries : (d b : ℕ)
+      → below_block g image weight (d + 1) b ≡ below (λ j. total weight (blocks_from g image d (pointer_in g image b j))) (constants g.edition).pointers
+  unfolding below_block
+  below_entries d b = let e : d + 1 ≡ suc d = omega arith in ap (λ x. below_block g image weight x b) e
+
+  below_is : (d b : ℕ) → 1 ≤ d → below_block g image weight d b ≡ below (entry_weight g image weight d b) (constants g.edition).pointers
+  unfolding below_block
+  below_is zero b one = absurd (omega arith)
+  below_is (suc d) b one =
+      let e : d ≡ suc d - 1 = omega arith in
+      ap (λ x. below (λ j. total weight (blocks_from g image x (pointer_in g image b j))) (constants g.edition).pointers) e
+
+  -- with no levels nothing stands below
+  pub below_leaf : (b : ℕ) → below_block g image weight 0 b ≡ 0
+  unfolding below_block
+  below_leaf b = refl
+
+  -- what is found from a number on, as often as places name it
+  pub times_zero : (d b n : ℕ) → b ≡ 0 → n * total weight (blocks_from g image d b) ≡ 0
+  times_zero d b n none = ap (λ x. n * x) (weigh_zero g image weight d b none) ∙ no_times n
+
+  pub times_leaf : (d b n : ℕ) → b ≢ 0 → d ≡ 0 → n * total weight (blocks_from g image d b) ≡ n * weight b
+  times_leaf d b n some none = ap (λ x. n * x) (weigh_leaf g image weight d b some none)
+
+  pub times_outside : (d b n : ℕ) → b ≢ 0 → 1 ≤ d → in_zone g b ≡ false → n * total weight (blocks_from g image d b) ≡ n * weight b
+  times_outside d b n some one out = ap (λ x. n * x) (weigh_outside g image weight d b some one out)
+
+  pub times_block : (d b n : ℕ) → b ≢ 0 → 1 ≤ d
+      → n * total weight (blocks_from g image d b) ≡ n * weight b + n * below_block g image weight d b
+  times_block d b n some one =
+      ap (λ x. n * x) (weigh_block g image weight d b some one ∙ ap (λ x. weight b + x) (sym (below_is d b one)))
+      ∙ spread n (weight b) (below_block g image weight d b)
+
+module _ (g : Geometry) (image : List ℕ) (i : ℕ) (weight : Mark → ℕ) where
+  leaf_named : (n : Named) → below_named g image i weight 0 n ≡ 0
+  leaf_named n = ap (λ x. n.times * x) (below_leaf g image (place_weight g weight i) n.number) ∙ no_times n.times
+
+  -- nothing is left below any block where there are no levels
+  pub all_leaves : (named : List Named) → below_all g image i weight 0 named ≡ 0
+  all_leaves [] = refl
+  all_leaves (n ∷ named) =
+      let h = all_leaves named in let l = leaf_named n in let c = sum_by-cons (below_named g image i weight 0) n named in omega arith
+
+  -- one block of two that are the same
+  pub named_both : (d : ℕ) (x y both : Named) → both.number ≡ x.number → both.number ≡ y.number → both.times ≡ x.times + y.times
+      → below_named g image i weight d both ≡ below_named g image i weight d x + below_named g image i weight d y
+  named_both d x y both first second sum =
+      let b : ℕ → ℕ = λ n. below_block g image (place_weight g weight i) d n in
+      let e = ap (λ n. n * b both.number) sum in
+      let s = sum_times x.times y.times (b both.number) in
+      let f = ap (λ n. x.times * b n) first in
+      let l = ap (λ n. y.times * b n) second in
+      e ∙ (s ∙ (ap (λ k. k + y.times * b both.number) f ∙ ap (λ k. x.times * b x.number + k) l))
+    where
+      sum_times : (m n x : ℕ) → (m + n) * x ≡ m * x + n * x
+      sum_times m n x = grind arith

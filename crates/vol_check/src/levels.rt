@@ -1,0 +1,242 @@
+//! What the places of an i-node name, level by level: each block with entries is looked into once for all its places.
+ghost use Rattle.std.specs.Prelude.{◌≡◌, ℕ, ◌+◌, ◌*◌, ◌^◌, ◌<◌, ◌≤◌, All, IfOk, IfSome, IfNone};
+ghost use Rattle.vol_layout.specs.Geometry.{Fits};
+ghost use Rattle.vol_judge.specs.Marks.{blocks_from};
+ghost use Rattle.count_table.specs.Sums.{total};
+ghost use Rattle.count_table.specs.Tallies.{IsSeatAt, table_shape};
+ghost use Rattle.vol_reports.specs.Words.{HasWords};
+ghost use Rattle.vol_check.specs.Pieces.{Adds, place_weight};
+ghost use Rattle.vol_check.specs.Levels.{IsNamed, below_named, below_all, KeepsDraws, AddsBut};
+
+use count_table::{Tally, TallySeat};
+use pdp_words::{BLOCK, Image};
+use std::alloc::{AllocError, Global};
+use vol_layout::{Geometry, number};
+use vol_reports::words::{bad_word, least_word, place_word};
+
+/// A data block, and how many places of an i-node name it.
+#[derive(Clone, Copy, Debug)]
+pub(crate) struct Named {
+    pub(crate) number: u32,
+    pub(crate) times: u64,
+}
+
+impl Named {
+    /// Both as one, if they are the same block; None also where the sum is past a `u64`.
+    fn with(self, other: Named) -> Option<Named>
+        ensures some { IfSome result (λ both. (both.number ≡ self.number) × (both.number ≡ other.number) × (both.times ≡ self.times + other.times)) }
+        ensures none { IfNone result (self.number ≡ other.number → 2 ^ 64 ≤ self.times + other.times) }
+    {
+        if self.number != other.number {
+            return None;
+        }
+        let times = self.times.checked_add(other.times)?;
+        Some(Named {
+            number: self.number,
+            times,
+        })
+    }
+}
+
+/// Marks number `b` and those found below it in `level` levels, if `b` isn't 0, for i-node `i`.
+///
+/// Costs a look at each entry of each block that is found, once for each level. Takes sixteen bytes for each place that names
+/// a block with entries.
+pub(crate) fn mark_from(
+    alloc: Global,
+    tally: &Tally,
+    seat: &mut TallySeat,
+    image: &Image,
+    geometry: &Geometry,
+    i: u16,
+    b: u32,
+    level: u8,
+) -> Result<(), AllocError>
+    requires fits { Fits geometry.now image.now }
+    requires first { 1 ≤ i }
+    requires last { i ≤ geometry.now.last_inode }
+    requires words { HasWords geometry.now (table_shape tally.now) }
+    requires own { IsSeatAt tally.now seat.old }
+    requires parts { 1 ≤ seat.old.me.0.parts }
+    ensures kept { KeepsDraws tally.now seat.old seat.new }
+    ensures ok { IfOk result (λ _. Adds tally.now seat.old seat.new (λ weight. total (place_weight geometry.now weight i) (blocks_from geometry.now image.now level b))) }
+{
+    let mut named = Vec::new(alloc);
+    mark_found(tally, seat, image, geometry, i, &mut named, b, 1, level)?;
+    let mut left = level;
+    while left > 0 {
+        left -= 1;
+        named = mark_level(alloc, tally, seat, image, geometry, i, named, left)?;
+    }
+    Ok(())
+}
+
+/// Marks what the entries of some blocks name, with `level` levels below each, for i-node `i`. Returns those that have
+/// entries.
+fn mark_level(
+    alloc: Global,
+    tally: &Tally,
+    seat: &mut TallySeat,
+    image: &Image,
+    geometry: &Geometry,
+    i: u16,
+    mut named: Vec<Named>,
+    level: u8,
+) -> Result<Vec<Named>, AllocError>
+    requires fits { Fits geometry.now image.now }
+    requires first { 1 ≤ i }
+    requires last { i ≤ geometry.now.last_inode }
+    requires words { HasWords geometry.now (table_shape tally.now) }
+    requires own { IsSeatAt tally.now seat.old }
+    requires parts { 1 ≤ seat.old.me.0.parts }
+    requires named { All (IsNamed geometry.now) named.items }
+    ensures kept { KeepsDraws tally.now seat.old seat.new }
+    ensures named { IfOk result (λ next. All (IsNamed geometry.now) next.items) }
+    ensures ok { IfOk result (λ next. AddsBut seat.old seat.new
+        (λ weight. below_all geometry.now image.now i weight (level + 1) named.items)
+        (λ weight. below_all geometry.now image.now i weight level next.items)) }
+{
+    let mut next = Vec::new(alloc);
+    named.sort_unstable_by_key(|n| n.number);
+    let Some(mut run) = named.pop() else {
+        return Ok(next);
+    };
+    while let Some(n) = named.pop() {
+        run = join_or_mark(tally, seat, image, geometry, i, &mut next, run, n, level)?;
+    }
+    mark_entries(tally, seat, image, geometry, i, &mut next, run, level)?;
+    Ok(next)
+}
+
+/// Makes one of two blocks, if they are the same. Else marks what the entries of the first name, and returns the second.
+fn join_or_mark(
+    tally: &Tally,
+    seat: &mut TallySeat,
+    image: &Image,
+    geometry: &Geometry,
+    i: u16,
+    next: &mut Vec<Named>,
+    run: Named,
+    n: Named,
+    level: u8,
+) -> Result<Named, AllocError>
+    requires fits { Fits geometry.now image.now }
+    requires first { 1 ≤ i }
+    requires last { i ≤ geometry.now.last_inode }
+    requires words { HasWords geometry.now (table_shape tally.now) }
+    requires own { IsSeatAt tally.now seat.old }
+    requires parts { 1 ≤ seat.old.me.0.parts }
+    requires next { All (IsNamed geometry.now) next.old.items }
+    requires run { IsNamed geometry.now run }
+    requires n { IsNamed geometry.now n }
+    ensures kept { KeepsDraws tally.now seat.old seat.new }
+    ensures named { IfOk result (λ rest. All (IsNamed geometry.now) next.new.items × IsNamed geometry.now rest) }
+    ensures ok { IfOk result (λ rest. AddsBut seat.old seat.new
+        (λ weight. below_all geometry.now image.now i weight level next.old.items
+        + (below_named geometry.now image.now i weight (level + 1) run + below_named geometry.now image.now i weight (level + 1) n))
+        (λ weight. below_all geometry.now image.now i weight level next.new.items + below_named geometry.now image.now i weight (level + 1) rest)) }
+{
+    if let Some(both) = run.with(n) {
+        return Ok(both);
+    }
+    mark_entries(tally, seat, image, geometry, i, next, run, level)?;
+    Ok(n)
+}
+
+/// Marks what the entries of a block name, for each of its places, and adds those that have entries to `next`.
+fn mark_entries(
+    tally: &Tally,
+    seat: &mut TallySeat,
+    image: &Image,
+    geometry: &Geometry,
+    i: u16,
+    next: &mut Vec<Named>,
+    n: Named,
+    level: u8,
+) -> Result<(), AllocError>
+    requires fits { Fits geometry.now image.now }
+    requires first { 1 ≤ i }
+    requires last { i ≤ geometry.now.last_inode }
+    requires words { HasWords geometry.now (table_shape tally.now) }
+    requires own { IsSeatAt tally.now seat.old }
+    requires parts { 1 ≤ seat.old.me.0.parts }
+    requires next { All (IsNamed geometry.now) next.old.items }
+    requires n { IsNamed geometry.now n }
+    ensures kept { KeepsDraws tally.now seat.old seat.new }
+    ensures named { IfOk result (λ _. All (IsNamed geometry.now) next.new.items) }
+    ensures ok { IfOk result (λ _. AddsBut seat.old seat.new
+        (λ weight. below_all geometry.now image.now i weight level next.old.items + below_named geometry.now image.now i weight (level + 1) n)
+        (λ weight. below_all geometry.now image.now i weight level next.new.items)) }
+{
+    for j in 0..geometry.edition.constants().pointers {
+        let entry = number(
+            image,
+            geometry.edition,
+            BLOCK * n.number as usize,
+            j as usize,
+        );
+        mark_found(tally, seat, image, geometry, i, next, entry, n.times, level)?;
+    }
+    Ok(())
+}
+
+/// Marks number `b` for so many places of i-node `i`, if it isn't 0, and adds it to `next` if it is that of a block with
+/// entries, those of `level` levels.
+fn mark_found(
+    tally: &Tally,
+    seat: &mut TallySeat,
+    image: &Image,
+    geometry: &Geometry,
+    i: u16,
+    next: &mut Vec<Named>,
+    b: u32,
+    times: u64,
+    level: u8,
+) -> Result<(), AllocError>
+    requires fits { Fits geometry.now image.now }
+    requires first { 1 ≤ i }
+    requires last { i ≤ geometry.now.last_inode }
+    requires words { HasWords geometry.now (table_shape tally.now) }
+    requires own { IsSeatAt tally.now seat.old }
+    requires parts { 1 ≤ seat.old.me.0.parts }
+    requires next { All (IsNamed geometry.now) next.old.items }
+    requires some { 1 ≤ times }
+    ensures kept { KeepsDraws tally.now seat.old seat.new }
+    ensures named { IfOk result (λ _. All (IsNamed geometry.now) next.new.items) }
+    ensures ok { IfOk result (λ _. AddsBut seat.old seat.new
+        (λ weight. below_all geometry.now image.now i weight level next.old.items
+        + times * total (place_weight geometry.now weight i) (blocks_from geometry.now image.now level b))
+        (λ weight. below_all geometry.now image.now i weight level next.new.items)) }
+{
+    if b == 0 {
+        return Ok(());
+    }
+    mark_times(tally, seat, geometry, i, b, times);
+    if level == 0 {
+        return Ok(());
+    }
+    if !geometry.in_zone(b) {
+        return Ok(());
+    }
+    next.push(Named { number: b, times })?;
+    Ok(())
+}
+
+/// Marks number `b` for i-node `i`, of which so many places name it: by one step for each word.
+fn mark_times(tally: &Tally, seat: &mut TallySeat, geometry: &Geometry, i: u16, b: u32, times: u64)
+    requires zone { geometry.now.zone_start < geometry.now.zone_end }
+    requires first { 1 ≤ i }
+    requires last { i ≤ geometry.now.last_inode }
+    requires words { HasWords geometry.now (table_shape tally.now) }
+    requires own { IsSeatAt tally.now seat.old }
+    requires parts { 1 ≤ seat.old.me.0.parts }
+    requires some { 1 ≤ times }
+    ensures { Adds tally.now seat.old seat.new (λ weight. times * place_weight geometry.now weight i b) }
+{
+    if geometry.in_zone(b) {
+        tally.count_times(seat, place_word(geometry, b), times);
+    } else {
+        tally.count_times(seat, bad_word(geometry, i), times);
+        tally.lower_times(seat, least_word(geometry, i), u64::from(b));
+    }
+}

@@ -251,7 +251,7 @@ const NAMES: u32 = 2100;
 pub(crate) const LAST_NAME: usize = 35_696;
 
 /// These bytes with others put in a place.
-fn put(mut bytes: Vec<u8>, at: usize, piece: &[u8]) -> Vec<u8> {
+pub(crate) fn put(mut bytes: Vec<u8>, at: usize, piece: &[u8]) -> Vec<u8> {
     if at.saturating_add(piece.len()) <= bytes.len() {
         put_bytes(&mut bytes, at, piece);
     }

@@ -1,6 +1,7 @@
 //! Tests of the checkers by their public functions, of what no command shows: every cut of an image; sweeps stepped by hand, on the
-//! image that they were made for and on another; gates, and workers that run at the same time; and the visit of a file's blocks.
-//! Their reports are compared by rows of the program, in tests/checkers.sh and tests/program.sh.
+//! image that they were made for and on another; gates, and workers that run at the same time; counts of blocks that lead to one
+//! another; and the visit of a file's blocks. Their reports are compared by rows of the program, in tests/checkers.sh and
+//! tests/program.sh.
 #![tactic(auto)]
 
 #[cfg(test)]
@@ -9,6 +10,8 @@ mod cuts;
 mod fixtures;
 #[cfg(test)]
 mod gates;
+#[cfg(test)]
+mod levels;
 #[cfg(test)]
 mod sweeps;
 #[cfg(test)]

@@ -40,6 +40,42 @@ finds 0 dcheck image
 make image new.7 1152=0080
 finds 1 dcheck image '3 0 0'
 
+# File 3 has a triple indirect block, and in the last image more: one that names itself in all its entries; one of four blocks, each of which names
+# the next; and eight that name one another, numbers of no data block and 0. The counts were made place by place, by a program of its own.
+entries() { printf '0000%02x00' "$@"; }
+all() { printf "0000$(printf %02x "$1")00%.0s" {1..128}; }
+file=("1152=A48101" "1200=003C00")
+make image new.7 "${file[@]}" 30720="$(all 60)"
+mapfile -t found < <(echo 'dup 60 2113665 1' && totals 1 1 0 0 2 95 0)
+finds 1 icheck image "${found[@]}"
+make image new.7 "${file[@]}" 30720="$(all 61)" 31232="$(all 62)" 31744="$(all 63)"
+mapfile -t found < <(printf '%s\n' 'dup 60 1 1' 'dup 61 128 1' 'dup 62 16384 1' 'dup 63 2097152 1' && totals 1 1 0 0 5 95 0)
+finds 1 icheck image "${found[@]}"
+make image new.7 "${file[@]}" 1191=003F00003E00003D00
+for block in {60..67}; do
+    numbers=()
+    for entry in {0..127}; do
+        if [ $((entry % 11)) = 0 ]; then numbers+=(0)
+        elif [ $((entry % 7)) = 0 ]; then numbers+=($((200 + (entry + block) % 9)))
+        else numbers+=($((60 + (entry * entry + block) % 8))); fi
+    done
+    put image $((512 * block)) "$(entries "${numbers[@]}")"
+done
+mapfile -t found < <(printf '%s\n' 'bad 3 170034 200' 'dup 60 60050 1' 'dup 61 183726 1' 'dup 62 185025 1' 'dup 63 2501 1' \
+    'dup 64 60050 1' 'dup 65 183825 1' 'dup 66 189975 1' 'dup 67 125050 1' && totals 1 1 0 0 9 95 0)
+finds 1 icheck image "${found[@]}"
+
+# An image of 1 MB, made for icheck to be busy with: 8,166 files have one triple indirect block, which names itself.
+"$program" mkfs 7 busy 2048 1021 0 0 0
+printf -v inode 'A48101%090d000004%026d' 0 0
+printf '%b' "$(printf "$inode%.0s" {1..8} | sed 's/../\\x&/g')" > inodes
+for _ in {1..1021}; do cat inodes; done | tail -c +129 | dd of=busy bs=1152 seek=1 conv=notrunc status=none
+put busy $((512 * 1024)) "$(printf '00000004%.0s' {1..128})"
+mapfile -t found < <(echo 'dup 1024 17260188390 1' && totals 8166 1 0 0 2 1024 0)
+printf '%s\n' "${found[@]}" > lines
+runs_within 20 icheck 7 busy 1
+wants 'icheck of an image that was made to keep it busy' 1 lines none
+
 # A directory of 66 blocks, which the checkers divide: file 16 has the name `/f` and 2,100 others, and directory 15 is `/d`. Then the last
 # of the names is one of the directory.
 "$program" mkfs 7 large 300 2 0 0 0

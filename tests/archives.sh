@@ -201,7 +201,7 @@ while read -r fault place bytes; do
     changed "$archives/gnu_file.tar" edited.tar "$place" "$(digits "$bytes")"
     case $fault in
         checksum) text='a header with a wrong checksum' ;;
-        magic) text='no header of ustar' ;;
+        magic) text='no header of tar' ;;
         number) text='a header with a field that is no number' ;;
     esac
     unimported "unixvol: archive, byte 0: $text" 7 edited.tar
@@ -210,6 +210,8 @@ checksum 0 R
 checksum 148 010573
 checksum 148 01057x
 magic 263 00
+magic 257 \x00\x00\x00\x00\x00\x00
+checksum 257 \x00\x00\x00\x00\x00\x00\x00
 number 124 0000000000x\x0007346545000\x00010674\x00\x20
 ROWS
 saves 'an image into which no header was imported' disk.img blank.v7
@@ -273,7 +275,6 @@ parent_link|b: a link to a path with a name ..
 broken|archive, byte 0: records of pax that can't be read
 given_owner|archive, byte 0: records of pax that can't be followed
 given_paths|archive, byte 0: records of pax that can't be followed
-old|archive, byte 0: no header of ustar
 ROWS
     unimported 'unixvol: 2 NoEntry: /x/ok' "$edition" "$archives/ok.tar" /x
     saves 'an image into which nothing was imported' disk.img "blank.v$edition"
@@ -281,6 +282,22 @@ ROWS
     cp disk.img before.img
     unimported 'unixvol: 17 Exists: /ok' "$edition" "$archives/ok.tar"
     saves 'an image with a file of the same path' disk.img before.img
+    # Headers without magic, as V7's tar writes them.
+    for name in old spaced; do
+        cp "blank.v$edition" disk.img
+        imports "$edition" disk.img "$name"
+        saves "the image of $name.tar" disk.img before.img
+    done
+    cp "blank.v$edition" disk.img
+    imports "$edition" disk.img old_tree
+    grep -v 'p23456789abcde\| far$' "$archives/plain.ls" | sed '/^$/d' > list
+    listed "$edition" disk.img | sed '/^$/d' > output
+    saves 'the tree of old_tree.tar' output list
+    has 'the second name in old_tree.tar' "$(number "$edition" disk.img /dir/link)" "$(number "$edition" disk.img /hello.txt)"
+    rm -rf got
+    mkdir got
+    prints none get -o got "$edition" disk.img /dir/big /hello.txt /dir/sub/deep /empty
+    has 'the files of old_tree.tar' 'Only in wanted: far' "$(diff -r got wanted)"
     # A comment on all later members is passed over.
     cp "blank.v$edition" disk.img
     imports "$edition" disk.img commented

@@ -125,7 +125,7 @@ END
     imports 1 'unixvol: archive, byte 512: cut off' cut.tar unread.img
     imports 1 'unixvol: archive, byte 1536: a lone block of zeros' lone.tar unread.img
     imports 1 'unixvol: archive, byte 0: a header with a wrong checksum' sum.tar unread.img
-    imports 1 'unixvol: archive, byte 512: no header of ustar' other.tar unread.img
+    imports 1 'unixvol: archive, byte 512: no header of tar' other.tar unread.img
     saves 'a volume into which no archive was imported' unread.img blank.img
     imports 0 '' odd.tar odd.img
     cp odd.img odd_before.img

@@ -18,7 +18,7 @@ use Rattle.command_faults.specs.PathLines.{path_line}
 
 -- what is wrong with a block that is no header (POSIX, ustar interchange format)
 abbrev pub header_text : HeaderFault → List ℕ
-header_text headers.Magic = codes "no header of ustar"
+header_text headers.Magic = codes "no header of tar"
 header_text headers.Checksum = codes "a header with a wrong checksum"
 header_text headers.Number = codes "a header with a field that is no number"
 

@@ -67,7 +67,7 @@ fn header_text(fault: HeaderFault) -> &'static [u8]
     ensures { result.now ≡ header_text fault }
 {
     match fault {
-        HeaderFault::Magic => b"no header of ustar",
+        HeaderFault::Magic => b"no header of tar",
         HeaderFault::Checksum => b"a header with a wrong checksum",
         HeaderFault::Number => b"a header with a field that is no number",
     }

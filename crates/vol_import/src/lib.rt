@@ -1,4 +1,4 @@
-//! Archives in POSIX's ustar format, read, and made by the calls of a volume.
+//! Tar archives, read, and made by the calls of a volume.
 #![tactic(auto)]
 
 pub mod checking;

@@ -137,5 +137,7 @@ fn headers_are_read(rt: HostRuntime) {
     check_read(&rt, alloc, &GNU_LARGE, b"big.sparse", b"", large);
     let zeros = [0; 512];
     assert!(rt; is_zeros(&zeros));
-    assert_eq!(rt; read_header(&zeros), Err(HeaderFault::Magic));
+    assert_eq!(rt; read_header(&zeros), Err(HeaderFault::Checksum));
+    let ones = [1; 512];
+    assert_eq!(rt; read_header(&ones), Err(HeaderFault::Magic));
 }

@@ -298,6 +298,12 @@ ROWS
     mkdir got
     prints none get -o got "$edition" disk.img /dir/big /hello.txt /dir/sub/deep /empty
     has 'the files of old_tree.tar' 'Only in wanted: far' "$(diff -r got wanted)"
+    # The label of an archive is no member, and a long name before it is its.
+    for name in labelled label_named; do
+        cp "blank.v$edition" disk.img
+        imports "$edition" disk.img "$name"
+        saves "the image of $name.tar" disk.img before.img
+    done
     # A comment on all later members is passed over.
     cp "blank.v$edition" disk.img
     imports "$edition" disk.img commented

@@ -75,6 +75,7 @@ made_as flags.LongName path = Err faults.Kind
 made_as flags.LongLink path = Err faults.Kind
 made_as flags.Extended path = Err faults.Kind
 made_as flags.Global path = Err faults.Kind
+made_as flags.VolumeLabel path = Err faults.Kind
 made_as (flags.Other c) path = Err faults.Kind
 
 -- the path that a member leads to, if it is a link, can be walked: no name of it is above 14 bytes, and none is `..` (this project)

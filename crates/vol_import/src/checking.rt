@@ -70,7 +70,8 @@ fn made_as(flag: TypeFlag, path: &[u8]) -> Result<Made, MemberFault>
         TypeFlag::Member(MemberKind::Character | MemberKind::Block) => Err(MemberFault::Kind),
         TypeFlag::SymbolicLink | TypeFlag::Fifo => Err(MemberFault::Kind),
         TypeFlag::LongName | TypeFlag::LongLink => Err(MemberFault::Kind),
-        TypeFlag::Extended | TypeFlag::Global | TypeFlag::Other(_) => Err(MemberFault::Kind),
+        TypeFlag::Extended | TypeFlag::Global => Err(MemberFault::Kind),
+        TypeFlag::VolumeLabel | TypeFlag::Other(_) => Err(MemberFault::Kind),
     }
 }
 

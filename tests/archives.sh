@@ -20,6 +20,18 @@ unimported() {
     wants "import of ${3##*/} into edition $2" 1 none line
 }
 
+# ends ARCHIVE: the program imports the archive in this file, and what it makes is the same with two blocks of zeros behind the archive
+ends() {
+    cat "$1" end.tar > ended.tar
+    for name in "$1" ended.tar; do
+        cp blank.v7 "$name.img"
+        "$program" import 7 "$name.img" '' 2000 < "$name" > output 2> error
+        echo $? > status
+        wants "import of $1, in $name" 0 none none
+    done
+    saves "the image of $1" "$1.img" ended.tar.img
+}
+
 # exports LABEL STATUS ERROR EDITION IMAGE: the program writes an archive to `output`, and this text on standard error
 exports() {
     runs export "$4" "$5" ''
@@ -324,17 +336,36 @@ unimported 'unixvol: unsound, rule 1' 6 "$archives/ok.tar"
 saves 'an image without bytes' disk.img none
 
 # An archive that is cut off, with its length: the line names the first header that isn't there with all that follows it, or a first block of
-# the end without the second.
+# the end with half a second one. Before a header, and behind the first block of the end, it ends as with two blocks of zeros.
 cp blank.v7 disk.img
-for length in $(seq 0 256 11264) 1100; do
+for length in $(seq 0 256 11520) 1100; do
     for at in 10752 9728 9216 8704 8192 7680 7168 6656 6144 5632 5120 4608 3584 3072 2048 512 0; do
         [ "$at" -le "$length" ] && break
     done
-    text='cut off'
-    [ "$length" -ge 11264 ] && text='a lone block of zeros'
     head -c "$length" "$archives/plain.tar" > "$length.tar"
-    unimported "unixvol: archive, byte $at: $text" 7 "$length.tar"
+    case $length in
+        0) unimported 'unixvol: archive, byte 0: cut off' 7 0.tar ;;
+        "$at" | 11264) ends "$length.tar" ;;
+        11520) unimported "unixvol: archive, byte $at: a lone block of zeros" 7 11520.tar ;;
+        *) unimported "unixvol: archive, byte $at: cut off" 7 "$length.tar" ;;
+    esac
 done
+image 512.tar 512
+ends 512.tar
+
+# A name, or a record of times, for a member that doesn't come.
+while read -r name length; do
+    head -c "$length" "$archives/$name.tar" > front.tar
+    unimported "unixvol: archive, byte $length: cut off" 7 front.tar
+    cat front.tar end.tar > ended.tar
+    unimported "unixvol: archive, byte $length: cut off" 7 ended.tar
+done << 'ROWS'
+gnu 9728
+gnu 14848
+extended 1024
+extended 23040
+extended 28160
+ROWS
 saves 'an image into which no front of an archive was imported' disk.img blank.v7
 
 # Trees that are exported, imported and exported alike: an empty one, directories, files.

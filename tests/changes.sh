@@ -46,7 +46,7 @@ at_node() { echo $((1024 + (edition == 6 ? 32 : 64) * ($1 - 1))); }
 
 pieces "$data/archives"
 head -c 1100 tree.tar > cut.tar
-head -c 2048 tree.tar > lone.tar
+{ head -c 2048 tree.tar; head -c 512 tree.tar; } > lone.tar
 changed tree.tar sum.tar 0 65
 changed tree.tar other.tar 769 78
 echo hello > hello

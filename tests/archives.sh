@@ -285,9 +285,13 @@ owner|ok: an owner or a group above the edition's highest
 long_link|b: a link to a path with a name above 14 bytes
 parent_link|b: a link to a path with a name ..
 broken|archive, byte 0: records of pax that can't be read
-given_owner|archive, byte 0: records of pax that can't be followed
+given_owner|ok: an owner or a group above the edition's highest
+great_owner|ok: an owner or a group above the edition's highest
+given_owners|archive, byte 0: records of pax that can't be followed
 given_paths|archive, byte 0: records of pax that can't be followed
 ROWS
+    changed "$archives/given_owner.tar" odd_owner.tar 519 78
+    unimported "unixvol: archive, byte 0: records of pax that can't be read" "$edition" odd_owner.tar
     unimported 'unixvol: 2 NoEntry: /x/ok' "$edition" "$archives/ok.tar" /x
     saves 'an image into which nothing was imported' disk.img "blank.v$edition"
     imports "$edition" disk.img ok
@@ -310,6 +314,11 @@ ROWS
     mkdir got
     prints none get -o got "$edition" disk.img /dir/big /hello.txt /dir/sub/deep /empty
     has 'the files of old_tree.tar' 'Only in wanted: far' "$(diff -r got wanted)"
+    # Pax's records of an owner and a group: the last of each counts, and an empty one leaves the header's.
+    cp "blank.v$edition" disk.img
+    imports "$edition" disk.img given_guest
+    printf '/:\n-rw-r--r-- 1 3 0 0 1970-01-01 00:16:40 ok\n' > list
+    lists 'an owner given by a record' list "$edition" disk.img
     # The label of an archive is no member, and a long name before it is its.
     for name in labelled label_named; do
         cp "blank.v$edition" disk.img
@@ -360,6 +369,7 @@ while read -r name length; do
     cat front.tar end.tar > ended.tar
     unimported "unixvol: archive, byte $length: cut off" 7 ended.tar
 done << 'ROWS'
+given_owner 1024
 gnu 9728
 gnu 14848
 extended 1024

@@ -38,8 +38,10 @@ archive_line archives.NoMemory = line_of_refusal refusals.NoMemory
 -- why no calls make a member of an archive, in plain words (this project)
 abbrev pub cause_text : MemberFault → List ℕ
 cause_text members.Kind = codes "neither a file, a directory nor a hard link"
+cause_text members.LongPath = codes "a path above 4096 bytes"
 cause_text members.LongName = codes "a name above 14 bytes"
 cause_text members.DotDot = codes "a name .."
+cause_text members.LongLinkPath = codes "a link to a path above 4096 bytes"
 cause_text members.LongLink = codes "a link to a path with a name above 14 bytes"
 cause_text members.DotDotLink = codes "a link to a path with a name .."
 cause_text members.Owner = codes "an owner or a group above the edition's highest"

@@ -102,8 +102,10 @@ fn cause_text(cause: MemberFault) -> &'static [u8]
 {
     match cause {
         MemberFault::Kind => b"neither a file, a directory nor a hard link",
+        MemberFault::LongPath => b"a path above 4096 bytes",
         MemberFault::LongName => b"a name above 14 bytes",
         MemberFault::DotDot => b"a name ..",
+        MemberFault::LongLinkPath => b"a link to a path above 4096 bytes",
         MemberFault::LongLink => b"a link to a path with a name above 14 bytes",
         MemberFault::DotDotLink => b"a link to a path with a name ..",
         MemberFault::Owner => b"an owner or a group above the edition's highest",

@@ -333,15 +333,15 @@ It reads an archive from standard input, which can't be a terminal, in the forma
 and makes its members below PATH: directories and files with their permissions and owners, the bytes and times of
 modification of files, and further names of files. All are made, or none. PATH has to be there, if the archive has
 members. A directory on the way to a member that is missing is made too, with permissions 0755, of user 0 and group 0;
-one that is there stays as it is. A name of more than 14 bytes is refused and never cut, and so are special and sparse
-files and symbolic links, which no call of the systems makes. IMAGE is written only where all went well: a new file is
-written beside it and then takes its place.
+one that is there stays as it is. A name of more than 14 bytes is refused and never cut, a path of more than 4096 bytes
+is refused, and so are special and sparse files and symbolic links, which no call of the systems makes. IMAGE is
+written only where all went well: a new file is written beside it and then takes its place.
 
 Status:
   0  all members were made, and the volume was saved
   1  `unixvol: unsound, rule N`: the volume breaks this rule, and none before it; `unixvol check` says what breaks it
      `unixvol: archive, byte N: WHY`: the archive can't be read, from the header at this byte on
-     `unixvol: MEMBER: WHY`: this member can't be made as it is: its kind, a name of it or of what it is a link to, or
+     `unixvol: MEMBER: WHY`: this member can't be made as it is: its kind, its path or that of what it is a link to, or
      an owner or a group above the edition's highest, 255 in the sixth and 32767 in the seventh
      `unixvol: 17 Exists: MEMBER`: something that isn't the directory wanted has its path already, or that of a
      directory on the way

@@ -39,6 +39,10 @@ abbrev pub and_then : {X Y : Type 0} → Result X MemberFault → (X → Result 
 and_then (Ok x) next = next x
 and_then (Err fault) next = Err fault
 
+-- whether a path is above the 4,096 bytes that a member's may have (this project)
+abbrev pub is_long_path : List ℕ → Bool
+is_long_path path = nat_lt 4096 (length path)
+
 -- the names of a path: what stands between its slashes (POSIX, ustar interchange format)
 abbrev pub names_of : List ℕ → List (List ℕ)
 names_of path = slice_split (λ c. c == 47) path
@@ -51,10 +55,11 @@ is_long name = nat_lt 14 (length name)
 abbrev pub is_dot_dot : List ℕ → Bool
 is_dot_dot name = bytes_eq name (codes "..")
 
--- a path that can be made: no name of it is above 14 bytes, and none is `..` (this project)
+-- a path that can be made: it isn't above 4,096 bytes, no name of it is above 14 bytes, and none is `..` (this project)
 abbrev pub check_path : List ℕ → Result (Unit {0}) MemberFault
 check_path path =
-    if list_any is_long (names_of path) then Err faults.LongName
+    if is_long_path path then Err faults.LongPath
+    else if list_any is_long (names_of path) then Err faults.LongName
     else if list_any is_dot_dot (names_of path) then Err faults.DotDot
     else Ok tt
 
@@ -78,10 +83,11 @@ made_as flags.Global path = Err faults.Kind
 made_as flags.VolumeLabel path = Err faults.Kind
 made_as (flags.Other c) path = Err faults.Kind
 
--- the path that a member leads to, if it is a link, can be walked: no name of it is above 14 bytes, and none is `..` (this project)
+-- the path that a member leads to, if it is a link, can be walked: it isn't above 4,096 bytes, no name of it is above 14 bytes, and none is `..` (this project)
 abbrev pub check_link : Made → List ℕ → Result (Unit {0}) MemberFault
 check_link Link link =
-    if list_any is_long (names_of link) then Err faults.LongLink
+    if is_long_path link then Err faults.LongLinkPath
+    else if list_any is_long (names_of link) then Err faults.LongLink
     else if list_any is_dot_dot (names_of link) then Err faults.DotDotLink
     else Ok tt
 check_link File link = Ok tt

@@ -1,7 +1,7 @@
 //! What speaks against making a member.
 ghost use Rattle.std.specs.Prelude.{◌≡◌, ◌==◌};
 ghost use Rattle.std.specs.List.{list_any};
-ghost use Rattle.vol_import.specs.Plan.{names_of, is_long, is_dot_dot, check_path, ends_in_slash, made_as, check_link, owner_of, check};
+ghost use Rattle.vol_import.specs.Plan.{is_long_path, names_of, is_long, is_dot_dot, check_path, ends_in_slash, made_as, check_link, owner_of, check};
 
 use crate::reading::Member;
 use thiserror::Error;
@@ -9,6 +9,9 @@ use ustar::{MemberKind, ReadHeader, TypeFlag};
 use vol_dir::Cred;
 use vol_layout::Edition;
 use vol_layout::slot::NAME;
+
+/// The longest path of a member.
+const PATH: usize = 4096;
 
 /// What a member is made as.
 #[derive(Clone, Copy, Debug, PartialEq, Eq)]
@@ -27,12 +30,18 @@ pub enum MemberFault {
     /// It is a special file, a symbolic link, or of a kind that isn't known.
     #[error("no call makes its kind")]
     Kind,
+    /// Its path is above 4,096 bytes.
+    #[error("its path is above 4096 bytes")]
+    LongPath,
     /// A name of its path is above 14 bytes.
     #[error("a name is above 14 bytes")]
     LongName,
     /// Its path has a name `..`.
     #[error("its path leads up by ..")]
     DotDot,
+    /// It is a link, and the path that it leads to is above 4,096 bytes.
+    #[error("it links to a path above 4096 bytes")]
+    LongLinkPath,
     /// It is a link, and a name of the path that it leads to is above 14 bytes.
     #[error("it links to a name above 14 bytes")]
     LongLink,
@@ -82,17 +91,26 @@ fn ends_in_slash(path: &[u8]) -> bool
     path.len() > 0 && path[path.len() - 1] == b'/'
 }
 
-/// Whether a path can be made: no name of it is above 14 bytes, and none is `..`.
+/// Whether a path can be made: it isn't above 4,096 bytes, no name of it is above 14 bytes, and none is `..`.
 fn check_path(path: &[u8]) -> Result<(), MemberFault>
     ensures { result ≡ check_path path.now }
 {
-    if has_long_name(path) {
+    if is_long_path(path) {
+        Err(MemberFault::LongPath)
+    } else if has_long_name(path) {
         Err(MemberFault::LongName)
     } else if has_dot_dot(path) {
         Err(MemberFault::DotDot)
     } else {
         Ok(())
     }
+}
+
+/// Whether a path is above 4,096 bytes.
+fn is_long_path(path: &[u8]) -> bool
+    ensures { result ≡ is_long_path path.now }
+{
+    path.len() > PATH
 }
 
 /// Whether a name of a path is above 14 bytes.
@@ -115,6 +133,7 @@ fn check_link(made: Made, link: &[u8]) -> Result<(), MemberFault>
     ensures { result ≡ check_link made link.now }
 {
     match made {
+        Made::Link if is_long_path(link) => Err(MemberFault::LongLinkPath),
         Made::Link if has_long_name(link) => Err(MemberFault::LongLink),
         Made::Link if has_dot_dot(link) => Err(MemberFault::DotDotLink),
         Made::Link | Made::File | Made::Directory => Ok(()),

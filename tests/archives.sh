@@ -1,5 +1,5 @@
 #!/usr/bin/env bash
-# Runs `import` and `export` of the built program on archives of GNU tar and on images that aren't sound: what is made, what is written byte for
+# Runs `import` and `export` of the built program on archives of GNU tar and Python, and on images that aren't sound: what is made, what is written byte for
 # byte, and what is refused. `archives/README.md` says where the archives come from.
 # Usage: tests/archives.sh PROGRAM. It prints a line for each row that fails, and ends with 'N passed, N failed'.
 archives=$(realpath "$(dirname "$0")/archives")
@@ -330,6 +330,63 @@ ROWS
     imports "$edition" disk.img commented
     printf 'x\n' > ok
     prints ok get "$edition" disk.img /ok
+done
+
+# Paths of members, by Python: each of 4,096 bytes, or one more, and ways with more directories than the volume has i-nodes.
+cat > make.py << 'PYTHON'
+import sys, tarfile
+
+def add(name, kind=tarfile.REGTYPE, link=""):
+    """Appends a member without bytes."""
+    it = tarfile.TarInfo(name)
+    it.type, it.linkname, it.mode = kind, link, 0o755
+    archive.addfile(it)
+
+with tarfile.open(sys.argv[1], "w", format=tarfile.PAX_FORMAT) as archive:
+    what, last = sys.argv[2:]
+    if what == "path":
+        add("./" * 2047 + last)
+    elif what == "link":
+        add("first")
+        add("second", tarfile.LNKTYPE, "./" * 2045 + last)
+    elif what == "way":
+        add("a/" * 2047 + last)
+    elif what == "ways":
+        for number in range(int(last)):
+            add(f"d{number}/f")
+    elif what == "directories":
+        for number in range(int(last)):
+            add(f"d{number}", tarfile.DIRTYPE)
+PYTHON
+dots=$(printf './%.0s' $(seq 2045))
+for edition in 6 7; do
+    inodes=$((edition == 6 ? 128 : 64))
+    cp "blank.v$edition" disk.img
+    python3 make.py longest.tar path ok
+    python3 make.py linked.tar link /first
+    for name in longest linked; do
+        "$program" import "$edition" disk.img '' 2000 < "$name.tar" > output 2> error
+        echo $? > status
+        wants "import of a path of 4096 bytes, $name.tar, into edition $edition" 0 none none
+    done
+    has 'what paths of 4096 bytes make' 'first ok second' "$("$program" ls "$edition" disk.img / | awk '$2 !~ /^\./ { print $NF }' | sort | paste -s -d ' ' -)"
+    cp "blank.v$edition" disk.img
+    python3 make.py longer.tar path okk
+    unimported "unixvol: $dots././okk: a path above 4096 bytes" "$edition" longer.tar
+    python3 make.py linked.tar link ././first
+    unimported 'unixvol: second: a link to a path above 4096 bytes' "$edition" linked.tar
+    python3 make.py way.tar way ab
+    unimported "unixvol: 103 NoInode: ${dots//./a}a/a/ab" "$edition" way.tar
+    python3 make.py ways.tar ways 1000
+    unimported "unixvol: 103 NoInode: d$inodes/f" "$edition" ways.tar
+    python3 make.py directories.tar directories 1000
+    unimported "unixvol: 103 NoInode: d$((inodes + 1))/" "$edition" directories.tar
+    # Where they aren't more, the calls say what is missing: i-nodes, or links of the root, of which the sixth edition has 127 at most.
+    python3 make.py directories.tar directories "$inodes"
+    refusal='103 NoInode: /d62/'
+    [ "$edition" = 6 ] && refusal='31 TooManyLinks: /d125/'
+    unimported "unixvol: $refusal" "$edition" directories.tar
+    saves 'an image without a member whose path is too long' disk.img "blank.v$edition"
 done
 
 # An owner of the seventh edition that the sixth has not.

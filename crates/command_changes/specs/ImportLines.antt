@@ -35,20 +35,21 @@ archive_line (archives.Records at) = line_at at (codes "records of pax that can'
 archive_line (archives.Unsupported at) = line_at at (codes "records of pax that can't be followed")
 archive_line archives.NoMemory = line_of_refusal refusals.NoMemory
 
--- why no calls make a member of an archive, in plain words (this project)
-abbrev pub cause_text : MemberFault → List ℕ
-cause_text members.Kind = codes "neither a file, a directory nor a hard link"
-cause_text members.LongPath = codes "a path above 4096 bytes"
-cause_text members.LongName = codes "a name above 14 bytes"
-cause_text members.DotDot = codes "a name .."
-cause_text members.LongLinkPath = codes "a link to a path above 4096 bytes"
-cause_text members.LongLink = codes "a link to a path with a name above 14 bytes"
-cause_text members.DotDotLink = codes "a link to a path with a name .."
-cause_text members.Owner = codes "an owner or a group above the edition's highest"
+-- the line of a member of an archive with what is wrong with it (this project)
+abbrev pub worded_line : List ℕ → List ℕ → List ℕ
+worded_line path text = codes "unixvol: " ++ escaped path ++ codes ": " ++ text ++ codes "\n"
 
--- the line of a member of an archive that no calls make (this project)
+-- the line of a member of an archive that no calls make: why, in plain words, or that of a call which finds no i-node (this project)
 abbrev pub member_line : List ℕ → MemberFault → List ℕ
-member_line path cause = codes "unixvol: " ++ escaped path ++ codes ": " ++ cause_text cause ++ codes "\n"
+member_line path members.Kind = worded_line path (codes "neither a file, a directory nor a hard link")
+member_line path members.LongPath = worded_line path (codes "a path above 4096 bytes")
+member_line path members.LongName = worded_line path (codes "a name above 14 bytes")
+member_line path members.DotDot = worded_line path (codes "a name ..")
+member_line path members.LongLinkPath = worded_line path (codes "a link to a path above 4096 bytes")
+member_line path members.LongLink = worded_line path (codes "a link to a path with a name above 14 bytes")
+member_line path members.DotDotLink = worded_line path (codes "a link to a path with a name ..")
+member_line path members.Owner = worded_line path (codes "an owner or a group above the edition's highest")
+member_line path members.NoInode = path_line refusals.NoInode path
 
 -- the path of what a call makes or changes (this project)
 abbrev pub path_of : Call → List ℕ

@@ -2,7 +2,7 @@
 ghost use Rattle.std.specs.Prelude.{◌≡◌, IfOk};
 ghost use Rattle.command_faults.specs.Faults.{fault_line, fault_status};
 ghost use Rattle.command_changes.specs.Import.{TellsFault};
-ghost use Rattle.command_changes.specs.ImportLines.{header_text, line_at, archive_line, cause_text, member_line, path_of, archive_status, import_status, import_line};
+ghost use Rattle.command_changes.specs.ImportLines.{header_text, line_at, archive_line, worded_line, member_line, path_of, archive_status, import_status, import_line};
 
 use command_faults::Fault;
 use command_faults::path_lines::refused_at;
@@ -31,10 +31,7 @@ fn worded(alloc: Global, why: &ImportFault) -> Result<Fault, AllocError>
     match why {
         ImportFault::Unsound(rule) => Ok(Fault::Unsound(*rule)),
         ImportFault::Archive(fault) => unread(alloc, *fault),
-        ImportFault::Member(path, cause) => {
-            let lines = member_line(alloc, path.as_slice(), *cause)?;
-            Ok(Fault::Worded { rule: None, lines })
-        }
+        ImportFault::Member(path, cause) => unmade(alloc, path.as_slice(), *cause),
         ImportFault::Refused(refusal, call) => refused_at(
             alloc,
             *refusal,
@@ -84,32 +81,51 @@ fn line_at(alloc: Global, at: usize, text: &[u8]) -> Result<Vec<u8>, AllocError>
     Ok(line)
 }
 
-/// The line of a member that no calls make.
-fn member_line(alloc: Global, path: &[u8], cause: MemberFault) -> Result<Vec<u8>, AllocError>
-    ensures { IfOk result (λ line. line.items ≡ member_line path.now cause) }
+/// The fault of a member that no calls make.
+fn unmade(alloc: Global, path: &[u8], cause: MemberFault) -> Result<Fault, AllocError>
+    ensures status { IfOk result (λ fault. fault_status fault ≡ 1) }
+    ensures line { IfOk result (λ fault. fault_line fault ≡ member_line path.now cause) }
+{
+    match cause {
+        MemberFault::Kind => in_words(alloc, path, b"neither a file, a directory nor a hard link"),
+        MemberFault::LongPath => in_words(alloc, path, b"a path above 4096 bytes"),
+        MemberFault::LongName => in_words(alloc, path, b"a name above 14 bytes"),
+        MemberFault::DotDot => in_words(alloc, path, b"a name .."),
+        MemberFault::LongLinkPath => in_words(alloc, path, b"a link to a path above 4096 bytes"),
+        MemberFault::LongLink => in_words(
+            alloc,
+            path,
+            b"a link to a path with a name above 14 bytes",
+        ),
+        MemberFault::DotDotLink => in_words(alloc, path, b"a link to a path with a name .."),
+        MemberFault::Owner => in_words(
+            alloc,
+            path,
+            b"an owner or a group above the edition's highest",
+        ),
+        MemberFault::NoInode => refused_at(alloc, Refusal::NoInode, path),
+    }
+}
+
+/// The fault of a member with what is wrong with it.
+fn in_words(alloc: Global, path: &[u8], text: &[u8]) -> Result<Fault, AllocError>
+    ensures status { IfOk result (λ fault. fault_status fault ≡ 1) }
+    ensures line { IfOk result (λ fault. fault_line fault ≡ worded_line path.now text.now) }
+{
+    let lines = worded_line(alloc, path, text)?;
+    Ok(Fault::Worded { rule: None, lines })
+}
+
+/// The line of a member with what is wrong with it.
+fn worded_line(alloc: Global, path: &[u8], text: &[u8]) -> Result<Vec<u8>, AllocError>
+    ensures { IfOk result (λ line. line.items ≡ worded_line path.now text.now) }
 {
     let mut line = Vec::from_slice(alloc, b"unixvol: ")?;
     push_escaped(&mut line, path)?;
     line.extend_from_slice(b": ")?;
-    line.extend_from_slice(cause_text(cause))?;
+    line.extend_from_slice(text)?;
     line.push(b'\n')?;
     Ok(line)
-}
-
-/// Why no calls make a member, in plain words.
-fn cause_text(cause: MemberFault) -> &'static [u8]
-    ensures { result.now ≡ cause_text cause }
-{
-    match cause {
-        MemberFault::Kind => b"neither a file, a directory nor a hard link",
-        MemberFault::LongPath => b"a path above 4096 bytes",
-        MemberFault::LongName => b"a name above 14 bytes",
-        MemberFault::DotDot => b"a name ..",
-        MemberFault::LongLinkPath => b"a link to a path above 4096 bytes",
-        MemberFault::LongLink => b"a link to a path with a name above 14 bytes",
-        MemberFault::DotDotLink => b"a link to a path with a name ..",
-        MemberFault::Owner => b"an owner or a group above the edition's highest",
-    }
 }
 
 /// The path of what a call makes or changes.

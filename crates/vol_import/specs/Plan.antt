@@ -217,14 +217,19 @@ with_made Directory tree base now member owner drafted =
 with_made Link tree base now member owner drafted =
     with_calls drafted (calls.Link user (moment_of member.header now) (below base member.link) (below base member.path) ∷ [])
 
--- a draft with the directories on the way to a member, and the member made as something, for its owner (this project)
-abbrev pub with_member : Tree → List ℕ → ℕ → Member → Drafted → Made × Cred → Drafted
-with_member tree base now member drafted made =
-    with_made made.0 tree base now member made.1 (with_way tree base now [] (way_of (steps_of member.path)) drafted)
+-- whether a draft knows more directories than a volume has i-nodes (manual section 5, file system)
+abbrev pub is_crowded : Tree → Drafted → Bool
+is_crowded tree drafted = nat_lt tree.geometry.last_inode (length drafted.0)
+
+-- a draft that has the directories on the way to a member, with the member made as something, for its owner; where these are more than the volume has i-nodes, the member can't be made (this project)
+abbrev pub with_member : Tree → List ℕ → ℕ → Member → Made × Cred → Drafted → Result Drafted PlanFault
+with_member tree base now member made drafted =
+    if is_crowded tree drafted then Err (plans.Member member.path faults.NoInode) else Ok (with_made made.0 tree base now member made.1 drafted)
 
 -- a draft with a member, which may be made as something; or why it can't be made (this project)
 abbrev pub onto : Tree → List ℕ → ℕ → Drafted → Member → Result (Made × Cred) MemberFault → Result Drafted PlanFault
-onto tree base now drafted member (Ok made) = Ok (with_member tree base now member drafted made)
+onto tree base now drafted member (Ok made) =
+    with_member tree base now member made (with_way tree base now [] (way_of (steps_of member.path)) drafted)
 onto tree base now drafted member (Err cause) = Err (plans.Member member.path cause)
 
 -- what comes after an Ok; a fault ends it (this project)

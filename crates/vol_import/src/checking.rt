@@ -51,6 +51,9 @@ pub enum MemberFault {
     /// The number of its owner or of its group is above the edition's highest: 255 in the sixth, 32,767 in the seventh.
     #[error("no user or group of the edition")]
     Owner,
+    /// It has directories on its way, and with those before them they are more than the volume has i-nodes.
+    #[error("more directories than the volume has i-nodes")]
+    NoInode,
 }
 
 /// What a member is made as in a volume of an edition, and for whom, or the first thing that speaks against it: its kind, its path,

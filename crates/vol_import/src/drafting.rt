@@ -3,7 +3,7 @@ ghost use Rattle.std.specs.Prelude.{◌≡◌, ◌++◌, ◌∷◌, [], IfOk, On
 ghost use Rattle.vol_volume.specs.Answer.{answer};
 ghost use Rattle.vol_volume.specs.Volume.{reads_as};
 ghost use Rattle.vol_volume.specs.declared.queries.Query.TheVariants as questions;
-ghost use Rattle.vol_import.specs.Plan.{is_directory_kind, is_directory, with_path, is_missing, way_call, with_way_directory, is_step, steps_of, joined, with_way, with_calls, drafted};
+ghost use Rattle.vol_import.specs.Plan.{is_directory_kind, is_directory, with_path, is_missing, is_crowded, way_call, with_way_directory, is_step, steps_of, joined, with_way, with_calls, drafted};
 ghost use Rattle.vol_dir.specs.Access.{user};
 
 use crate::step_path::StepPath;
@@ -42,6 +42,14 @@ impl Draft {
     {
         self.calls.push(call)?;
         Ok(())
+    }
+
+    /// Whether more directories are known than a volume has i-nodes.
+    #[tactic(auto, unfolding(vol_dir::specs::Tree::tree))]
+    pub(crate) fn is_crowded(&self, volume: &Volume) -> bool
+        ensures { result ≡ is_crowded (reads_as volume.now.edition volume.now.image).tree (drafted self.now) }
+    {
+        self.known.len() > usize::from(volume.geometry().last_inode)
     }
 
     /// The calls.

@@ -37,10 +37,13 @@ impl From<AllocError> for PlanFault {
 /// file is made, written if it has bytes, and given to its owner if that isn't user 0 of group 0; a directory is made so, if it
 /// isn't there, and no member before it made it; a link becomes a further name. A call is made at the moment of its member's last
 /// change, or `now` where that has no 32 bits. Before a member each directory on the way to it that is missing is made, at `now`, with
-/// permissions 0755; that at `base` isn't. Where no calls make a member, its path and the reason are told.
+/// permissions 0755; that at `base` isn't. Where no calls make a member, its path and the reason are told. One is NoInode: with the
+/// directories on the way to this member, those of the archive so far are more than the volume has i-nodes. The calls would be
+/// refused too, but mostly one of a member before it.
 ///
-/// The bytes of the members go into the calls. Takes memory for the calls and up to three paths each, and for the path of each
-/// directory; costs a walk for each directory, and as much as sorting their paths.
+/// The bytes of the members go into the calls. Takes memory for the calls and up to three paths each, which are `base` and 4,097
+/// bytes at most, and for the path of each directory, of which there are at most as many as i-nodes and on one way. Costs a walk
+/// for each directory, and as much as sorting their paths.
 pub fn plan(
     alloc: Global,
     volume: &Volume,
@@ -75,6 +78,9 @@ fn push_member(
     match check(volume.edition(), &member) {
         Ok((made, owner)) => {
             push_way_to(alloc, volume, base, now, member.path.as_slice(), draft)?;
+            if draft.is_crowded(volume) {
+                return Err(PlanFault::Member(member.path, MemberFault::NoInode));
+            }
             push_made(alloc, volume, base, now, member, made, owner, draft)?;
             Ok(())
         }

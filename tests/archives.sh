@@ -389,6 +389,46 @@ for edition in 6 7; do
     saves 'an image without a member whose path is too long' disk.img "blank.v$edition"
 done
 
+# Directories that come after what is in them, as `find -depth` lists them: they get their permissions and owner; the last member for one counts.
+mkdir -p dd/sub
+printf 'f\n' > dd/sub/f
+touch -d @1500 dd/sub/f
+touch -d @1600 dd/sub
+touch -d @1700 dd
+chmod 640 dd/sub/f
+chmod 2751 dd/sub
+chmod 700 dd
+find dd -depth | tar --format=ustar --owner=3 --group=4 --numeric-owner --no-recursion -T - -cf depth.tar
+cp depth.tar again.tar
+chmod 1755 dd
+tar --format=ustar --owner=0 --group=0 --numeric-owner --no-recursion -rf again.tar dd
+for edition in 6 7; do
+    cat > list << 'LIST'
+/:
+drwx------ 3 3 4 48 dd
+
+/dd:
+drwxr-s--x 2 3 4 48 sub
+
+/dd/sub:
+-rw-r----- 1 3 4 2 f
+LIST
+    played "$edition" there.img '1000 5 6 mkdir /dd 711'
+    for name in depth again there; do
+        archive=depth
+        [ "$name" = again ] && archive=again
+        [ "$name" = there ] || cp "blank.v$edition" "$name.img"
+        "$program" import "$edition" "$name.img" '' 2000 < "$archive.tar" > output 2> error
+        echo $? > status
+        wants "import of $archive.tar into $name.img of edition $edition" 0 none none
+        case $name in
+            again) sed -i 's/^drwx------ 3 3 4/drwxr-xr-t 3 0 0/' list ;;
+            there) sed -i 's/^drwxr-xr-t 3 0 0/drwx--x--x 3 5 6/' list ;;
+        esac
+        has "directories after their contents, $name.img of edition $edition" "$(cat list)" "$(listed "$edition" "$name.img" | sed -E 's/ [-0-9]{10} [0-9:]{8}//')"
+    done
+done
+
 # An owner of the seventh edition that the sixth has not.
 cp blank.v7 disk.img
 imports 7 disk.img guest

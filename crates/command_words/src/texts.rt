@@ -333,8 +333,8 @@ It reads an archive from standard input, which can't be a terminal, in the forma
 and makes its members below PATH: directories and files with their permissions and owners, the bytes and times of
 modification of files, and further names of files. All are made, or none. PATH has to be there, if the archive has
 members. A directory on the way to a member that is missing is made too, with permissions 0755, of user 0 and group 0;
-one that is there stays as it is. A name of more than 14 bytes is refused and never cut, a path of more than 4096 bytes
-is refused, and so are special and sparse files and symbolic links, which no call of the systems makes. IMAGE is
+one that the volume has stays as it is. A name of more than 14 bytes is refused and never cut, a path of more than 4096
+bytes is refused, and so are special and sparse files and symbolic links, which no call of the systems makes. IMAGE is
 written only where all went well: a new file is written beside it and then takes its place.
 
 Status:

@@ -160,22 +160,22 @@ with_path known path = insert_key (slice_cmp nat_cmp) known path
 abbrev pub is_known : List (List ℕ) → List ℕ → Bool
 is_known known path = list_any (is_at (slice_cmp nat_cmp path)) known
 
+-- whether there is a directory at a path below another (this project)
+abbrev pub is_there : Tree → List ℕ → List ℕ → Bool
+is_there tree base path = is_directory (answer tree (queries.Stat user (base ++ path)))
+
 -- whether a directory is missing at a path below another: it isn't known, and is not there (this project)
 abbrev pub is_missing : Tree → List ℕ → List (List ℕ) → List ℕ → Bool
-is_missing tree base known path = not (is_known known path) && not (is_directory (answer tree (queries.Stat user (base ++ path))))
-
--- a draft with the calls that make a directory at a path below another, where it is missing; it is known then (this project)
-abbrev pub with_directory : Tree → List ℕ → List ℕ → List Call → Drafted → Drafted
-with_directory tree base path more drafted =
-    (with_path drafted.0 path, drafted.1 ++ (if is_missing tree base drafted.0 path then more else []))
+is_missing tree base known path = not (is_known known path) && not (is_there tree base path)
 
 -- the call that makes a directory on the way to a member, with permissions 0755 (this project)
 abbrev pub way_call : ℕ → List ℕ → Call
 way_call now path = calls.Mkdir user now path 0o755
 
--- a draft with a directory on the way to a member (this project)
+-- a draft with a directory on the way to a member, made where it is missing; it is known then (this project)
 abbrev pub with_way_directory : Tree → List ℕ → ℕ → List ℕ → Drafted → Drafted
-with_way_directory tree base now path drafted = with_directory tree base path (way_call now (base ++ path) ∷ []) drafted
+with_way_directory tree base now path drafted =
+    (with_path drafted.0 path, drafted.1 ++ (if is_missing tree base drafted.0 path then way_call now (base ++ path) ∷ [] else []))
 
 -- whether a name leads on: `.` leads nowhere else (manual section 5, directories)
 abbrev pub is_step : List ℕ → Bool
@@ -207,13 +207,27 @@ with_calls drafted more = (drafted.0, drafted.1 ++ more)
 abbrev pub directory_calls : ℕ → List ℕ → ℕ → Cred → List Call
 directory_calls moment path perm owner = calls.Mkdir user moment path perm ∷ [] ++ owner_calls moment path owner
 
+-- the calls that give a directory, which calls before them make, other permissions and another owner (this project)
+abbrev pub given_calls : ℕ → List ℕ → ℕ → Cred → List Call
+given_calls moment path perm owner = calls.Chmod user moment path perm ∷ calls.Chown user moment path owner.uid owner.gid ∷ []
+
+-- a draft with a member at a path below another that is a directory: one that is there stays, what calls make is given its permissions and its owner, and else it is made; it is known then (this project)
+abbrev pub with_directory : Tree → List ℕ → List ℕ → ℕ → List ℕ → ℕ → Cred → Drafted → Drafted
+with_directory tree base steps moment path perm owner drafted = (
+  with_path drafted.0 steps,
+  drafted.1
+      ++ (if is_there tree base steps then []
+      else if is_known drafted.0 steps then given_calls moment path perm owner
+      else directory_calls moment path perm owner),
+)
+
 -- a draft with the calls that make a member as something, for its owner, after the directories on the way to it (this project)
 abbrev pub with_made : Made → Tree → List ℕ → ℕ → Member → Cred → Drafted → Drafted
 with_made File tree base now member owner drafted =
     with_calls drafted (file_calls (moment_of member.header now) (below base member.path) (permissions_of member.header) owner member.content)
 with_made Directory tree base now member owner drafted =
-    with_directory tree base (joined (steps_of member.path))
-    (directory_calls (moment_of member.header now) (below base member.path) (permissions_of member.header) owner) drafted
+    with_directory tree base (joined (steps_of member.path)) (moment_of member.header now) (below base member.path)
+    (permissions_of member.header) owner drafted
 with_made Link tree base now member owner drafted =
     with_calls drafted (calls.Link user (moment_of member.header now) (below base member.link) (below base member.path) ∷ [])
 

@@ -1,9 +1,9 @@
 //! A plan that is being made, and the directories on the way to its members.
-ghost use Rattle.std.specs.Prelude.{◌≡◌, ◌++◌, ◌∷◌, [], IfOk, OnOk, map};
+ghost use Rattle.std.specs.Prelude.{◌≡◌, ◌++◌, ◌∷◌, [], IfOk, OnOk, map, not};
 ghost use Rattle.vol_volume.specs.Answer.{answer};
 ghost use Rattle.vol_volume.specs.Volume.{reads_as};
 ghost use Rattle.vol_volume.specs.declared.queries.Query.TheVariants as questions;
-ghost use Rattle.vol_import.specs.Plan.{is_directory_kind, is_directory, with_path, is_missing, is_crowded, way_call, with_way_directory, is_step, steps_of, joined, with_way, with_calls, drafted};
+ghost use Rattle.vol_import.specs.Plan.{is_directory_kind, is_directory, is_known, is_there, with_path, is_missing, is_crowded, way_call, with_way_directory, is_step, steps_of, joined, with_way, with_calls, drafted};
 ghost use Rattle.vol_dir.specs.Access.{user};
 
 use crate::step_path::StepPath;
@@ -62,6 +62,18 @@ impl Draft {
     }
 }
 
+/// Whether a path isn't known. It is known then.
+pub(crate) fn is_new(
+    alloc: Global,
+    path: &[u8],
+    known: &mut BTreeSet<StepPath>,
+) -> Result<bool, AllocError>
+    ensures added { IfOk result (λ added. added ≡ not (is_known known.old.keys path.now)) }
+    ensures known { OnOk result (known.new.keys ≡ with_path known.old.keys path.now) }
+{
+    Ok(known.insert(StepPath::from_vec(Vec::from_slice(alloc, path)?))?)
+}
+
 /// Whether the directory at a path below another is missing: it isn't known, and is not there. It is known then.
 ///
 /// Costs a walk where it isn't known.
@@ -75,10 +87,10 @@ pub(crate) fn is_missing(
     ensures missing { IfOk result (λ missing. missing ≡ is_missing (reads_as volume.now.edition volume.now.image).tree base.now known.old.keys path.now) }
     ensures known { OnOk result (known.new.keys ≡ with_path known.old.keys path.now) }
 {
-    if !known.insert(StepPath::from_vec(Vec::from_slice(alloc, path)?))? {
+    if !is_new(alloc, path, known)? {
         return Ok(false);
     }
-    Ok(!is_there(alloc, volume, behind(alloc, base, path)?))
+    Ok(!is_there(alloc, volume, base, path)?)
 }
 
 /// A path behind another.
@@ -90,8 +102,20 @@ fn behind(alloc: Global, base: &[u8], path: &[u8]) -> Result<Bytes, AllocError>
     Ok(Bytes::from_vec(bytes))
 }
 
+/// Whether there is a directory at a path below another.
+pub(crate) fn is_there(
+    alloc: Global,
+    volume: &Volume,
+    base: &[u8],
+    path: &[u8],
+) -> Result<bool, AllocError>
+    ensures { IfOk result (λ there. there ≡ is_there (reads_as volume.now.edition volume.now.image).tree base.now path.now) }
+{
+    Ok(is_directory(alloc, volume, behind(alloc, base, path)?))
+}
+
 /// Whether a path leads to a directory.
-fn is_there(alloc: Global, volume: &Volume, path: Bytes) -> bool
+fn is_directory(alloc: Global, volume: &Volume, path: Bytes) -> bool
     ensures { result ≡ is_directory (answer (reads_as volume.now.edition volume.now.image).tree (questions.Stat user path)) }
 {
     match volume.ask(

@@ -1,10 +1,10 @@
 //! The calls that make the members of an archive.
 ghost use Rattle.std.specs.Prelude.{◌≡◌, [], IfOk, IfErr, OnOk, Ok};
 ghost use Rattle.vol_volume.specs.Volume.{reads_as};
-ghost use Rattle.vol_import.specs.Plan.{below, check, permissions_of, moment_of, owner_calls, write_calls, file_calls, directory_calls, way_of, steps_of, with_way, with_calls, with_made, drafted, onto, plan, Tells, no_memory};
+ghost use Rattle.vol_import.specs.Plan.{below, check, permissions_of, moment_of, owner_calls, write_calls, file_calls, directory_calls, given_calls, with_directory, way_of, steps_of, with_way, with_calls, with_made, drafted, onto, plan, Tells, no_memory};
 
 use crate::checking::{Made, MemberFault, check};
-use crate::drafting::{Draft, is_missing, joined, push_way, steps_of};
+use crate::drafting::{Draft, is_new, is_there, joined, push_way, steps_of};
 use crate::reading::Member;
 use std::alloc::{AllocError, Global};
 use ustar::ReadHeader;
@@ -35,11 +35,11 @@ impl From<AllocError> for PlanFault {
 
 /// The calls that make the members of an archive below the path `base` of a volume, as user 0, each member's in turn: a regular
 /// file is made, written if it has bytes, and given to its owner if that isn't user 0 of group 0; a directory is made so, if it
-/// isn't there, and no member before it made it; a link becomes a further name. A call is made at the moment of its member's last
-/// change, or `now` where that has no 32 bits. Before a member each directory on the way to it that is missing is made, at `now`, with
-/// permissions 0755; that at `base` isn't. Where no calls make a member, its path and the reason are told. One is NoInode: with the
-/// directories on the way to this member, those of the archive so far are more than the volume has i-nodes. The calls would be
-/// refused too, but mostly one of a member before it.
+/// isn't there, and one that calls make already is given its permissions and its owner; a link becomes a further name. A call is
+/// made at the moment of its member's last change, or `now` where that has no 32 bits. Before a member each directory on the way
+/// to it that is missing is made, at `now`, with permissions 0755; that at `base` isn't. Where no calls make a member, its path
+/// and the reason are told. One is NoInode: with the directories on the way to this member, those of the archive so far are more
+/// than the volume has i-nodes. The calls would be refused too, but mostly one of a member before it.
 ///
 /// The bytes of the members go into the calls. Takes memory for the calls and up to three paths each, which are `base` and 4,097
 /// bytes at most, and for the path of each directory, of which there are at most as many as i-nodes and on one way. Costs a walk
@@ -124,10 +124,9 @@ fn push_made(
         Made::File => push_file(alloc, moment, path, perm, owner, member.content, draft),
         Made::Directory => {
             let steps = joined(alloc, &steps_of(alloc, member.path.as_slice())?)?;
-            if is_missing(alloc, volume, base, &steps, &mut draft.known)? {
-                push_directory(alloc, moment, path, perm, owner, draft)?;
-            }
-            Ok(())
+            push_directory(
+                alloc, volume, base, &steps, moment, path, perm, owner, draft,
+            )
         }
         Made::Link => draft.push(Call::Link {
             cred: Cred::ROOT,
@@ -227,8 +226,33 @@ fn push_file(
     push_owner(moment, path, owner, draft)
 }
 
-/// Appends the calls that make a directory.
+/// Appends the calls of a member at a path below another that is a directory: none where it is there, its permissions and its
+/// owner where calls make it already, and else those that make it.
 fn push_directory(
+    alloc: Global,
+    volume: &Volume,
+    base: &[u8],
+    steps: &[u8],
+    moment: u32,
+    path: Bytes,
+    perm: u16,
+    owner: Cred,
+    draft: &mut Draft,
+) -> Result<(), AllocError>
+    ensures { OnOk result (drafted draft.new ≡ with_directory (reads_as volume.now.edition volume.now.image).tree base.now steps.now moment path perm owner (drafted draft.old)) }
+{
+    let added = is_new(alloc, steps, &mut draft.known)?;
+    if is_there(alloc, volume, base, steps)? {
+        Ok(())
+    } else if added {
+        push_new_directory(alloc, moment, path, perm, owner, draft)
+    } else {
+        push_given(alloc, moment, path, perm, owner, draft)
+    }
+}
+
+/// Appends the calls that make a directory.
+fn push_new_directory(
     alloc: Global,
     moment: u32,
     path: Bytes,
@@ -245,4 +269,30 @@ fn push_directory(
         perm,
     })?;
     push_owner(moment, path, owner, draft)
+}
+
+/// Appends the calls that give a directory other permissions and another owner.
+fn push_given(
+    alloc: Global,
+    moment: u32,
+    path: Bytes,
+    perm: u16,
+    owner: Cred,
+    draft: &mut Draft,
+) -> Result<(), AllocError>
+    ensures { OnOk result (drafted draft.new ≡ with_calls (drafted draft.old) (given_calls moment path perm owner)) }
+{
+    draft.push(Call::Chmod {
+        cred: Cred::ROOT,
+        now: moment,
+        path: Bytes::from_slice(alloc, path.as_slice())?,
+        perm,
+    })?;
+    draft.push(Call::Chown {
+        cred: Cred::ROOT,
+        now: moment,
+        path,
+        uid: owner.uid,
+        gid: owner.gid,
+    })
 }

@@ -60,6 +60,9 @@ lists() {
     has "$1" 0 $?
 }
 
+# volume_time EDITION IMAGE: the time of the super-block
+volume_time() { "$program" super "$1" "$2" | awk '$1 == "time" { print $2 }'; }
+
 # node_at EDITION I: where i-node I begins
 node_at() { echo $((1024 + ($1 == 6 ? 32 : 64) * ($2 - 1))); }
 
@@ -336,10 +339,10 @@ done
 cat > make.py << 'PYTHON'
 import sys, tarfile
 
-def add(name, kind=tarfile.REGTYPE, link=""):
+def add(name, kind=tarfile.REGTYPE, link="", mode=0o755):
     """Appends a member without bytes."""
     it = tarfile.TarInfo(name)
-    it.type, it.linkname, it.mode = kind, link, 0o755
+    it.type, it.linkname, it.mode = kind, link, mode
     archive.addfile(it)
 
 with tarfile.open(sys.argv[1], "w", format=tarfile.PAX_FORMAT) as archive:
@@ -357,6 +360,10 @@ with tarfile.open(sys.argv[1], "w", format=tarfile.PAX_FORMAT) as archive:
     elif what == "directories":
         for number in range(int(last)):
             add(f"d{number}", tarfile.DIRTYPE)
+    elif what == "base":
+        add("/", tarfile.DIRTYPE)
+        add(last, tarfile.DIRTYPE, mode=0o1711)
+        add("f")
 PYTHON
 dots=$(printf './%.0s' $(seq 2045))
 for edition in 6 7; do
@@ -427,6 +434,28 @@ LIST
         esac
         has "directories after their contents, $name.img of edition $edition" "$(cat list)" "$(listed "$edition" "$name.img" | sed -E 's/ [-0-9]{10} [0-9:]{8}//')"
     done
+done
+
+# An import leaves the volume at its moment, by a call that keeps the permissions of the directory in which it is made.
+for edition in 6 7; do
+    played "$edition" disk.img '1000 5 6 mkdir /d 1751'
+    "$program" import "$edition" disk.img /d 2000 < depth.tar > output 2> error
+    echo $? > status
+    wants "import of depth.tar into /d of edition $edition" 0 none none
+    has "the time of a volume of edition $edition after an import" 2000 "$(volume_time "$edition" disk.img)"
+    has "the directory of an import into edition $edition" 'drwxr-x--t 3 5 6' "$("$program" ls -l "$edition" disk.img / | awk '$NF == "d" { print $2, $3, $4, $5 }')"
+    cp disk.img before.img
+    "$program" import "$edition" disk.img /d 3000 < end.tar > output 2> error
+    echo $? > status
+    wants "import of an archive without members into edition $edition" 0 none none
+    saves 'an image into which no member was imported' disk.img before.img
+    # The directory isn't there, and members for it make it.
+    python3 make.py base.tar base ./
+    "$program" import "$edition" disk.img /new 3000 < base.tar > output 2> error
+    echo $? > status
+    wants "import of base.tar into /new of edition $edition" 0 none none
+    has "the time of a volume of edition $edition after an import with its directory" 3000 "$(volume_time "$edition" disk.img)"
+    has "the directory of an import into edition $edition that it makes" 'drwx--x--t 2 0 0' "$("$program" ls -l "$edition" disk.img / | awk '$NF == "new" { print $2, $3, $4, $5 }')"
 done
 
 # An owner of the seventh edition that the sixth has not.

@@ -1,9 +1,10 @@
 -- The calls that make the members of an archive.
-use Rattle.std.specs.Prelude.{◌≡◌, ◌≢◌, ℕ, ◌-◌, ◌%◌, ◌==◌, ◌&&◌, Bool, true, false, not, nat_lt, if◌then◌else◌, List, [], ◌∷◌, ◌++◌, length, take, filter, slice_index, codes, Result, Ok, Err}
+use Rattle.std.specs.Prelude.{◌≡◌, ◌≢◌, ℕ, ◌-◌, ◌%◌, ◌==◌, ◌&&◌, Bool, true, false, not, nat_lt, if◌then◌else◌, List, [], ◌∷◌, ◌++◌, length, take, filter, reverse, slice_index, codes, Option, None, Some, Result, Ok, Err}
 use Rattle.std.specs.BTreeMap.{is_at}
 use Rattle.std.specs.BTreeSet.{insert_key}
 use Rattle.std.specs.Cmp.Lexicographic.{slice_cmp}
-use Rattle.std.specs.List.{flat_map, list_any, slice_split}
+use Rattle.std.specs.List.{find, flat_map, list_any, slice_split}
+use Rattle.std.specs.Option.{option_map}
 use Rattle.std.specs.Ordering.{nat_cmp}
 use Rattle.std.specs.Str.{bytes_eq}
 use Rattle.ustar.specs.declared.header.MemberKind.TheVariants as members
@@ -257,9 +258,54 @@ plan_onto tree base now drafted [] = Ok drafted.1
 plan_onto tree base now drafted (member ∷ rest) =
     and_next (onto tree base now drafted member (check tree.geometry.edition member)) (λ next. plan_onto tree base now next rest)
 
--- the calls that make the members of an archive below a path, each in turn, after the directories on the way to it that are missing; or the first member that can't be made, and why (this project)
+-- whether a name leads from a directory to another: it is neither empty nor `.` (Lions on namei)
+abbrev pub leads_on : List ℕ → Bool
+leads_on name = nat_lt 0 (length name) && is_step name
+
+-- whether a member is a directory, if it is made, at a path (this project)
+abbrev pub is_directory_at : Result Made MemberFault → List ℕ → Bool
+is_directory_at (Ok Directory) path = not (list_any leads_on (names_of path))
+is_directory_at (Ok File) path = false
+is_directory_at (Ok Link) path = false
+is_directory_at (Err fault) path = false
+
+-- whether a member is the directory in which the import is made: its path has no steps (this project)
+abbrev pub is_base : Member → Bool
+is_base member = is_directory_at (made_as member.header.flag member.path) member.path
+
+-- the permissions that the last member for the directory of the import gives it, if one does (this project)
+abbrev pub permissions_given : List Member → Option ℕ
+permissions_given all = option_map (λ (member : Member). permissions_of member.header) (find is_base (reverse all))
+
+-- the permissions of a node that is a directory; else those given (this project)
+abbrev pub permissions_told : Kind → ℕ → Option ℕ → Option ℕ
+permissions_told kind permissions given = if is_directory_kind kind then Some permissions else given
+
+-- the permissions of the directory of the import, by the answer to a question for it; where it isn't there, those given (this project)
+abbrev pub base_permissions : Result Reply Refusal → Option ℕ → Option ℕ
+base_permissions (Ok (replies.Stat stat)) given = permissions_told stat.kind stat.permissions given
+base_permissions (Ok (replies.Bytes bytes)) given = given
+base_permissions (Ok (replies.Names names)) given = given
+base_permissions (Err refusal) given = given
+
+-- the call that ends an import: it gives the directory of the import the permissions that it has, and so the volume the time; none where it has none (this project)
+abbrev pub closing_calls : ℕ → List ℕ → Option ℕ → List Call
+closing_calls now base (Some permissions) = calls.Chmod user now base permissions ∷ []
+closing_calls now base None = []
+
+-- calls with the one that ends an import, if there are any (this project)
+abbrev pub closed : ℕ → List ℕ → Option ℕ → List Call → List Call
+closed now base permissions [] = []
+closed now base permissions (call ∷ more) = call ∷ more ++ closing_calls now base permissions
+
+-- the calls that make members, or why there are none, with the call that ends the import (this project)
+abbrev pub ended : Tree → List ℕ → ℕ → List Member → Result (List Call) PlanFault → Result (List Call) PlanFault
+ended tree base now all made =
+    and_next made (λ more. Ok (closed now base (base_permissions (answer tree (queries.Stat user base)) (permissions_given all)) more))
+
+-- the calls that make the members of an archive below a path, each in turn, after the directories on the way to it that are missing, and the one that ends it; or the first member that can't be made, and why (this project)
 abbrev pub plan : Tree → List ℕ → ℕ → List Member → Result (List Call) PlanFault
-plan tree base now all = plan_onto tree base now ([], []) all
+plan tree base now all = ended tree base now all (plan_onto tree base now ([], []) all)
 
 -- a draft, as it stands (this project)
 abbrev pub drafted : Draft → Drafted

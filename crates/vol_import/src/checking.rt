@@ -51,7 +51,7 @@ pub enum MemberFault {
     /// The number of its owner or of its group is above the edition's highest: 255 in the sixth, 32,767 in the seventh.
     #[error("no user or group of the edition")]
     Owner,
-    /// It has directories on its way, and with those before them they are more than the volume has i-nodes.
+    /// The directories of the members before it, with those on its way, are more than the volume has i-nodes.
     #[error("more directories than the volume has i-nodes")]
     NoInode,
 }
@@ -71,7 +71,7 @@ pub fn check(edition: Edition, member: &Member) -> Result<(Made, Cred), MemberFa
 }
 
 /// What a member is made as, by its type flag and its path.
-fn made_as(flag: TypeFlag, path: &[u8]) -> Result<Made, MemberFault>
+pub(crate) fn made_as(flag: TypeFlag, path: &[u8]) -> Result<Made, MemberFault>
     ensures { result ≡ made_as flag path.now }
 {
     match flag {

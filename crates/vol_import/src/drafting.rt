@@ -132,7 +132,7 @@ fn is_directory(alloc: Global, volume: &Volume, path: Bytes) -> bool
 }
 
 /// Whether a node is a directory.
-fn is_directory_kind(kind: Kind) -> bool
+pub(crate) fn is_directory_kind(kind: Kind) -> bool
     ensures { result ≡ is_directory_kind kind }
 {
     match kind {

@@ -2,6 +2,7 @@
 #![tactic(auto)]
 
 pub mod checking;
+mod closing;
 mod drafting;
 pub mod entries;
 pub mod faults;

@@ -4,6 +4,7 @@ ghost use Rattle.vol_volume.specs.Volume.{reads_as};
 ghost use Rattle.vol_import.specs.Plan.{below, check, permissions_of, moment_of, owner_calls, write_calls, file_calls, directory_calls, given_calls, with_directory, way_of, steps_of, with_way, with_calls, with_made, drafted, onto, plan, Tells, no_memory};
 
 use crate::checking::{Made, MemberFault, check};
+use crate::closing::{close, permissions_given};
 use crate::drafting::{Draft, is_new, is_there, joined, push_way, steps_of};
 use crate::reading::Member;
 use std::alloc::{AllocError, Global};
@@ -37,9 +38,11 @@ impl From<AllocError> for PlanFault {
 /// file is made, written if it has bytes, and given to its owner if that isn't user 0 of group 0; a directory is made so, if it
 /// isn't there, and one that calls make already is given its permissions and its owner; a link becomes a further name. A call is
 /// made at the moment of its member's last change, or `now` where that has no 32 bits. Before a member each directory on the way
-/// to it that is missing is made, at `now`, with permissions 0755; that at `base` isn't. Where no calls make a member, its path
-/// and the reason are told. One is NoInode: with the directories on the way to this member, those of the archive so far are more
-/// than the volume has i-nodes. The calls would be refused too, but mostly one of a member before it.
+/// to it that is missing is made, at `now`, with permissions 0755; that at `base` isn't. The last call, if there are any, gives
+/// the directory at `base` the permissions that it has, at `now`, which becomes the time of the volume; it is left out where no
+/// directory is there and no member makes it. Where no calls make a member, its path and the reason are told. One is NoInode:
+/// with the directories on the way to this member, those of the archive so far are more than the volume has i-nodes. The calls
+/// would be refused too, but mostly one of a member before it.
 ///
 /// The bytes of the members go into the calls. Takes memory for the calls and up to three paths each, which are `base` and 4,097
 /// bytes at most, and for the path of each directory, of which there are at most as many as i-nodes and on one way. Costs a walk
@@ -54,13 +57,16 @@ pub fn plan(
     ensures ok { IfOk result (λ calls. plan (reads_as volume.now.edition volume.now.image).tree base.now now members.items ≡ Ok calls.items) }
     ensures fault { IfErr result (Tells (plan (reads_as volume.now.edition volume.now.image).tree base.now now members.items)) }
 {
+    let given = permissions_given(&members);
     let mut draft = Draft::new(alloc);
     let mut left = members;
     left.reverse();
     'members: while let Some(member) = left.pop() {
         push_member(alloc, volume, base, now, member, &mut draft)?;
     }
-    Ok(draft.into_calls())
+    let mut calls = draft.into_calls();
+    close(alloc, volume, base, now, given, &mut calls)?;
+    Ok(calls)
 }
 
 /// Appends the calls that make a member.
@@ -148,7 +154,7 @@ pub fn below(alloc: Global, base: &[u8], path: &[u8]) -> Result<Bytes, AllocErro
 }
 
 /// The permission bits of a member.
-fn permissions_of(header: &ReadHeader) -> u16
+pub(crate) fn permissions_of(header: &ReadHeader) -> u16
     ensures { result ≡ permissions_of header.now }
 {
     (header.permissions % 4096) as u16

@@ -1,24 +1,14 @@
 -- A tree where a directory lost a name, after an accepted call.
-use Rattle.std.proofs.Common.{◌≡◌, ◌≢◌, ◌∙◌, sym, ap, refl, ℕ, ◌≤◌, ◌-◌, true, false, cond, nat_le, List, None, Some, Ok, Err, arith, inl, inr}
+use Rattle.std.proofs.Common.{◌≡◌, ◌≢◌, ◌∙◌, sym, ap, refl, ℕ, ◌-◌, true, false, cond, nat_le, List, None, Some, Ok, Err, inl, inr}
 use Rattle.std.specs.Prelude.{Option, Result}
 use Rattle.std.specs.Option.{option_map, option_map_or}
 use Rattle.std.specs.Str.{bytes_eq}
 use Rattle.std.proofs.lemmas.Bool.{cases_eq}
-use Rattle.std.proofs.lemmas.Bool.Decides.{nat_tests}
-use Rattle.vol_layout.specs.Edition.{constants}
-use Rattle.vol_layout.specs.Inode.{inode_of}
-use Rattle.vol_layout.specs.declared.geometry.Geometry.{Geometry}
-use Rattle.vol_layout.specs.declared.mode.Kind.{Kind}
-use Rattle.vol_layout.specs.declared.mode.Kind.TheVariants as kinds
-use Rattle.vol_file.specs.Rules.{kind_at, HasKinds, Rules3To7}
-use Rattle.vol_file.proofs.Naming.{root_first}
 use Rattle.vol_file.proofs.PlaceLists.{bytes_same}
-use Rattle.vol_dir.specs.Entries.{slots, IsDirectory, IsInUse, HasEntries}
-use Rattle.vol_dir.specs.Names.{Names, get, names_of, remove}
-use Rattle.vol_dir.specs.Tree.{Content, Body, Directory, Device, Node, Tree, State, tree, node_with, node_of, content_of, is_number}
-use Rattle.vol_dir.specs.Walk.{root, map_of, search, search_node}
+use Rattle.vol_dir.specs.Names.{Names, get, remove}
+use Rattle.vol_dir.specs.Tree.{Content, Body, Directory, Device, Node, Tree, State}
+use Rattle.vol_dir.specs.Walk.{map_of, search, search_node}
 use Rattle.vol_dir.proofs.NameMaps.{get_remove}
-use Rattle.vol_dir.proofs.WalkLaws.{found_in_use, IsInUse-root, search-outside, search-directory, search-other}
 use Rattle.vol_dir.specs.declared.refusal.Refusal.{Refusal}
 use Rattle.vol_dir.specs.declared.refusal.Refusal.TheVariants as refusals
 use Rattle.vol_dir.specs.Access.{user}
@@ -163,57 +153,3 @@ stays_rmdir state now moment d name =
     let first = remove_entry now d name state in
     stays_then first.tree.nodes (drop_link now d first).tree.nodes (after_rmdir state now d name).tree.nodes
     (stays_unlinked first.tree.nodes now d) (stays_removed (drop_link now d first).tree.nodes (number_of_name state.tree d name))
-
--- what is in use is a node
-in_use_node : (geometry : Geometry) (image : List ℕ) (i : ℕ) → HasKinds geometry image → IsInUse geometry image i → (tree geometry image).nodes i ≢ None
-unfolding tree node_of
-in_use_node geometry image i known used none =
-    let low : 1 ≤ i = let root = root_first geometry.edition in let least = used.first in omega arith in
-    let last = used.last in
-    let number : is_number geometry i ≡ true = grind (arith, nat_tests) in
-    some (kind_at geometry image i) used.allocated (known.known i low used.last)
-    (sym (ap (λ b. cond b (node_of geometry image i) None) number) ∙ none)
-  where
-    some : (kind : Kind) → kind ≢ kinds.Free → kind ≢ kinds.Odd
-        → option_map (node_with (inode_of geometry.edition image i)) (content_of geometry image i kind) ≡ None → ⊥
-    some kinds.Free free odd e = free refl
-    some kinds.Odd free odd e = odd refl
-    some kinds.Regular free odd e = cc
-    some kinds.Directory free odd e = cc
-    some kinds.Special free odd e = cc
-
--- so every name of a tree leads to one
-pub names_lead : (geometry : Geometry) (image : List ℕ) → HasKinds geometry image → HasEntries geometry image
-    → (x : ℕ) (others : Names) (word : List ℕ) (y : ℕ) → search (tree geometry image) user x ≡ Ok others → get others word ≡ Some y
-    → (tree geometry image).nodes y ≢ None
-names_lead geometry image known entries x others word y is found =
-    elim (is_number geometry x) as (λ b. is_number geometry x ≡ b → (tree geometry image).nodes y ≢ None) [
-      | true ↦ λ number.
-          let low : 1 ≤ x = grind (arith, nat_tests) in
-          let high : x ≤ geometry.last_inode = grind (arith, nat_tests) in
-          by_kind low high (kind_at geometry image x) refl
-      | false ↦ λ outside.
-          let none : Err refusals.NotDirectory ≡ Ok others = sym (search-outside geometry image user x outside) ∙ is in
-          absurd (cc)
-    ] refl
-  where
-    other : kind_at geometry image x ≢ kinds.Directory → 1 ≤ x → x ≤ geometry.last_inode → (tree geometry image).nodes y ≢ None
-    other apart low high =
-        let none : Err refusals.NotDirectory ≡ Ok others = sym (search-other geometry image user x low high apart) ∙ is in
-        absurd (cc)
-
-    by_kind : 1 ≤ x → x ≤ geometry.last_inode → (kind : Kind) → kind_at geometry image x ≡ kind → (tree geometry image).nodes y ≢ None
-    by_kind low high kinds.Directory e =
-        let here : IsDirectory geometry image x = record { first = low; last = high; kind = e } in
-        let same : Ok (names_of (slots geometry image x)) ≡ Ok others = sym (search-directory geometry image user x true here refl) ∙ is in
-        let held : names_of (slots geometry image x) ≡ others = cc in
-        in_use_node geometry image y known (found_in_use geometry image x word y entries here (ap (λ ns. get ns word) held ∙ found))
-    by_kind low high kinds.Free e = other (λ d. let f : kinds.Free ≡ kinds.Directory = sym e ∙ d in cc) low high
-    by_kind low high kinds.Regular e = other (λ d. let f : kinds.Regular ≡ kinds.Directory = sym e ∙ d in cc) low high
-    by_kind low high kinds.Special e = other (λ d. let f : kinds.Special ≡ kinds.Directory = sym e ∙ d in cc) low high
-    by_kind low high kinds.Odd e = other (λ d. let f : kinds.Odd ≡ kinds.Directory = sym e ∙ d in cc) low high
-
--- and the root is one
-pub root_there : (geometry : Geometry) (image : List ℕ) → Rules3To7 geometry image → (tree geometry image).nodes (root (tree geometry image)) ≢ None
-unfolding tree
-root_there geometry image rules = in_use_node geometry image (constants geometry.edition).root rules.sound.kinds (IsInUse-root geometry image rules)

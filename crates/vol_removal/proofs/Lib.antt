@@ -3,3 +3,4 @@ mod GoneNames
 mod GoneTrees
 mod Removals
 mod TakenPaths
+pub mod TreeWalks

@@ -1,5 +1,6 @@
 -- Calls that a volume accepts, each in turn, are made as the commands say it.
-use Rattle.std.proofs.Common.{◌≡◌, ℕ, List, [], ◌∷◌, inl, inr, refl, sym, ap, subst, ◌∙◌}
+use Rattle.std.proofs.Common.{◌≡◌, ℕ, List, [], ◌∷◌, Option, None, Some, IfSome, inl, inr, refl, sym, ap, subst, ◌∙◌}
+use Rattle.std.specs.Global.{Vec}
 use Rattle.vol_dir.specs.Tree.{State}
 use Rattle.vol_layout.specs.Geometry.{geometry_of}
 use Rattle.vol_judge.specs.Sound.{IsSound}
@@ -11,12 +12,15 @@ use Rattle.vol_volume.specs.Volume.{Mounted, Accepts, reads_as}
 use Rattle.vol_volume.proofs.Journals.{reads_made}
 use Rattle.vol_import.specs.Making.{AreMade, AreStopped}
 use Rattle.command_faults.specs.Changing.{AreLeft, Makes, AreRefused, IsReason}
+use Rattle.command_faults.specs.Faults.{Concludes}
 use Rattle.command_changes.proofs.TwoCalls.{refused_reason}
 use Rattle.vol_layout.specs.declared.edition.Edition.{Edition}
 use Rattle.vol_layout.specs.declared.geometry.Geometry.{Geometry}
 use Rattle.vol_volume.specs.declared.calls.Call.{Call}
 use Rattle.vol_volume.specs.declared.calls.Done.{Done}
 use Rattle.vol_dir.specs.declared.refusal.Refusal.{Refusal}
+use Rattle.command_faults.specs.declared.answer.Answer.{Answer}
+use Rattle.command_faults.specs.declared.fault.Fault.{Fault}
 use Rattle.command_faults.specs.declared.fault.Fault.TheVariants as faults
 
 -- what no call leaves
@@ -102,3 +106,12 @@ pub stopped_reason : (old new : Mounted) (calls : List Call) (refusal : Refusal)
     → AreStopped old calls new refusal call → IsReason old.edition old.image calls (faults.Refused refusal)
 stopped_reason old new calls refusal call sound stopped =
     refused_reason old.edition old.image calls refusal sound (are_refused old new calls refusal call stopped)
+
+-- what holds of all bytes that a command makes holds of those that are to be saved
+pub saved_leaves : (makes leaves : List ℕ → Type 0) (is_reason : Fault → Type 0) (said : List ℕ → Type 0) (answer : Answer)
+    → ((bytes : List ℕ) → makes bytes → leaves bytes) → Concludes makes is_reason said answer → IfSome answer.image (λ saved. leaves saved.items)
+saved_leaves makes leaves is_reason said answer all does = by answer.image does.made
+  where
+    by : (image : Option (Vec ℕ)) → IfSome image (λ bytes. makes bytes.items × said []) → IfSome image (λ bytes. leaves bytes.items)
+    by None made = tt
+    by (Some bytes) made = all bytes.items made.0

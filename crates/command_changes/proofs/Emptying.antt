@@ -1,5 +1,5 @@
 -- A file is missing exactly where the call that makes it empty is refused so.
-use Rattle.std.proofs.Common.{◌≡◌, ◌≢◌, ℕ, Bool, true, false, not, nat_lt, if◌then◌else◌, List, [], ◌∷◌, Option, Some, None, Result, Ok, Err, IfErr, OnOk, refl, sym, subst}
+use Rattle.std.proofs.Common.{◌≡◌, ◌≢◌, ◌⊎◌, inl, inr, ap, ℕ, Bool, true, false, not, nat_lt, if◌then◌else◌, List, [], ◌∷◌, Option, Some, None, Result, Ok, Err, IfErr, OnOk, refl, sym, subst}
 use Rattle.vol_change.specs.Nodes.{node_at}
 use Rattle.vol_dir.specs.Access.{grants, may_write, user}
 use Rattle.vol_dir.specs.Tree.{State}
@@ -35,23 +35,36 @@ missing_by false false (Err refusal) others reply now path there is =
     let same : refusal ≡ refusals.NoEntry = cc in
     subst (λ r. emptying_by (Err r) now path ≡ calls.Create user now path 0o644) (sym same) refl
 
--- where a walk isn't refused because a name is missing, a file is made empty
+-- a walk is refused because a name is missing, or a file is made empty
+missing_or : (refusal : Refusal) (now : ℕ) (path : List ℕ)
+    → (refusal ≡ refusals.NoEntry) ⊎ (emptying_by (Err refusal) now path ≡ calls.Truncate user now path 0)
+missing_or refusals.NotOwner now path = inr refl
+missing_or refusals.NoEntry now path = inl refl
+missing_or refusals.NoMemory now path = inr refl
+missing_or refusals.Access now path = inr refl
+missing_or refusals.Exists now path = inr refl
+missing_or refusals.NotDirectory now path = inr refl
+missing_or refusals.IsDirectory now path = inr refl
+missing_or refusals.Invalid now path = inr refl
+missing_or refusals.TooBig now path = inr refl
+missing_or refusals.NoSpace now path = inr refl
+missing_or refusals.TooManyLinks now path = inr refl
+missing_or refusals.NotEmpty now path = inr refl
+missing_or refusals.NotRegular now path = inr refl
+missing_or refusals.NoInode now path = inr refl
+missing_or refusals.BadId now path = inr refl
+
 walked_by : (refusal : Refusal) (now : ℕ) (path : List ℕ) → refusal ≢ refusals.NoEntry → emptying_by (Err refusal) now path ≡ calls.Truncate user now path 0
-walked_by refusals.NotOwner now path other = refl
-walked_by refusals.NoEntry now path other = absurd (other refl)
-walked_by refusals.NoMemory now path other = refl
-walked_by refusals.Access now path other = refl
-walked_by refusals.Exists now path other = refl
-walked_by refusals.NotDirectory now path other = refl
-walked_by refusals.IsDirectory now path other = refl
-walked_by refusals.Invalid now path other = refl
-walked_by refusals.TooBig now path other = refl
-walked_by refusals.NoSpace now path other = refl
-walked_by refusals.TooManyLinks now path other = refl
-walked_by refusals.NotEmpty now path other = refl
-walked_by refusals.NotRegular now path other = refl
-walked_by refusals.NoInode now path other = refl
-walked_by refusals.BadId now path other = refl
+walked_by refusal now path other = elim (missing_or refusal now path) [ inl is ↦ absurd (other is) | inr is ↦ is ]
+
+-- the first call of `put` makes a file or makes one empty
+pub emptying_is : (found : Result Reply Refusal) (now : ℕ) (path : List ℕ)
+    → (emptying_by found now path ≡ calls.Create user now path 0o644) ⊎ (emptying_by found now path ≡ calls.Truncate user now path 0)
+emptying_is (Ok reply) now path = inr refl
+emptying_is (Err refusal) now path = elim (missing_or refusal now path) [
+  | inl is ↦ inl (ap (λ (r : Refusal). emptying_by (Err r) now path) is)
+  | inr is ↦ inr is
+]
 
 -- where a path isn't missing, a file is made empty
 there_by : (bad zero : Bool) (walked : Result ℕ Refusal) (others : ℕ → Option Refusal) (reply : ℕ → Reply) (now : ℕ) (path : List ℕ)

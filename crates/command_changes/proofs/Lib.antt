@@ -1,6 +1,9 @@
 pub mod Emptying
 pub mod Imported
 pub mod CallsMade
+pub mod MadeNames
+pub mod MadePaths
+pub mod PutBytes
 pub mod PutFiles
 pub mod Removed
 pub mod TwoCalls

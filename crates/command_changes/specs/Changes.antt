@@ -1,7 +1,8 @@
 -- What the changes of a volume come to.
-use Rattle.std.specs.Prelude.{◌≡◌, ℕ, List, [], ◌∷◌}
+use Rattle.std.specs.Prelude.{◌≡◌, ℕ, List, [], ◌∷◌, IfSome}
 use Rattle.std.specs.Io.KnownBytes.{Keeps}
 use Rattle.vol_dir.specs.Access.{user}
+use Rattle.vol_dir.specs.Tree.{Tree}
 use Rattle.vol_layout.specs.declared.edition.Edition.{Edition}
 use Rattle.vol_volume.specs.Volume.{reads_as}
 use Rattle.vol_volume.specs.declared.calls.Call.{Call}
@@ -13,7 +14,7 @@ use Rattle.command_faults.specs.declared.answer.Answer.{Answer}
 use Rattle.command_changes.specs.Import.{ImportsArchive}
 use Rattle.command_changes.specs.Mkdir.{mkdir_all_calls}
 use Rattle.command_changes.specs.Mv.{move_calls}
-use Rattle.command_changes.specs.Put.{put_calls}
+use Rattle.command_changes.specs.Put.{HasFile, put_calls}
 use Rattle.command_changes.specs.Rm.{RemovesTree}
 use Rattle.command_changes.specs.Salvage.{SalvagesVolume}
 use Rattle.command_changes.specs.declared.changes.Change.{Change}
@@ -23,6 +24,14 @@ use Rattle.command_changes.specs.declared.changes.Change.TheVariants as changes
 abbrev pub Calls : Edition → List ℕ → Streams → Answer → List Call → Type 0
 Calls edition image streams answer calls =
     ChangesVolume edition image calls streams.said answer × Keeps streams.old streams.new × (streams.failed ≡ streams.had_failed)
+
+-- calls are made, and standard output is as it was; of the tree that is to be saved this holds (this project)
+abbrev pub CallsLeave : Edition → List ℕ → Streams → Answer → List Call → (Tree → Type 0) → Type 0
+CallsLeave edition image streams answer calls leaves =
+    ChangesVolume edition image calls streams.said answer
+    × Keeps streams.old streams.new
+    × (streams.failed ≡ streams.had_failed)
+    × IfSome answer.image (λ saved. leaves (reads_as edition saved.items).tree)
 
 -- the free list is made anew, and standard output is as it was (this project)
 abbrev pub Salvages : Edition → List ℕ → Streams → Answer → Type 0
@@ -41,10 +50,10 @@ abbrev pub RemovesBelow : Edition → List ℕ → Streams → Answer → List �
 RemovesBelow edition image streams answer path now =
     RemovesTree edition image path now streams.said answer × Keeps streams.old streams.new × (streams.failed ≡ streams.had_failed)
 
--- what a change comes to, by the bytes that it is given: the calls that it stands for, all or none, or a new free list (this project)
+-- what a change comes to, by the bytes that it is given: the calls that it stands for, all or none, or a new free list. Then a path that is put has these bytes (this project)
 abbrev pub Changes : Edition → List ℕ → List ℕ → Streams → Answer → Change → Type 0
 Changes edition image given streams answer (changes.Put path file now) =
-    Calls edition image streams answer (put_calls (reads_as edition image).tree now path.now given)
+    CallsLeave edition image streams answer (put_calls (reads_as edition image).tree now path.now given) (λ tree. HasFile tree path.now given)
 Changes edition image given streams answer (changes.Import path now) = ImportsBelow edition image given streams answer path.now now
 Changes edition image given streams answer (changes.Rm path now) = Calls edition image streams answer (calls.Unlink user now path.now ∷ [])
 Changes edition image given streams answer (changes.RmAll path now) = RemovesBelow edition image streams answer path.now now

@@ -1,0 +1,9 @@
+use Rattle.std.proofs.Common.{refl, rules}
+use Rattle.command_changes.proofs.CallsMade.{saved_leaves}
+use Rattle.command_changes.proofs.PutBytes.{put_leaves}
+use Rattle.command_changes.proofs.changing.perform.Goals as goal
+
+pub returns-in-Put : goal.returns-in-Put
+returns-in-Put c known failed errors hears =
+    let does = c.put.ensures errors hears in
+    rw c.in-Put.is (does, search rules, refl, saved_leaves _ _ _ _ _ (λ bytes makes. put_leaves _ _ bytes _ _ _ makes) does)

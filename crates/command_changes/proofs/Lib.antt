@@ -1,6 +1,7 @@
 pub mod Emptying
 pub mod Imported
 pub mod CallsMade
+pub mod MadeDirectories
 pub mod MadeNames
 pub mod MadePaths
 pub mod PutBytes

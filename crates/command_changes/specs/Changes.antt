@@ -1,7 +1,8 @@
 -- What the changes of a volume come to.
-use Rattle.std.specs.Prelude.{◌≡◌, ℕ, List, [], ◌∷◌, IfSome}
+use Rattle.std.specs.Prelude.{◌≡◌, ℕ, false, List, [], ◌∷◌, IfSome}
 use Rattle.std.specs.Io.KnownBytes.{Keeps}
 use Rattle.vol_dir.specs.Access.{user}
+use Rattle.vol_dir.specs.Names.{is_dots}
 use Rattle.vol_dir.specs.Tree.{Tree}
 use Rattle.vol_layout.specs.declared.edition.Edition.{Edition}
 use Rattle.vol_volume.specs.Volume.{reads_as}
@@ -11,8 +12,9 @@ use Rattle.vol_import.specs.Making.{calls_to_make}
 use Rattle.command_faults.specs.Changing.{ChangesVolume}
 use Rattle.command_faults.specs.Streams.{Streams}
 use Rattle.command_faults.specs.declared.answer.Answer.{Answer}
+use Rattle.command_changes.specs.Finding.{last_name}
 use Rattle.command_changes.specs.Import.{ImportsArchive}
-use Rattle.command_changes.specs.Mkdir.{mkdir_all_calls}
+use Rattle.command_changes.specs.Mkdir.{HasDirectory, mkdir_all_calls}
 use Rattle.command_changes.specs.Mv.{move_calls}
 use Rattle.command_changes.specs.Put.{HasFile, put_calls}
 use Rattle.command_changes.specs.Rm.{RemovesTree}
@@ -50,7 +52,7 @@ abbrev pub RemovesBelow : Edition → List ℕ → Streams → Answer → List �
 RemovesBelow edition image streams answer path now =
     RemovesTree edition image path now streams.said answer × Keeps streams.old streams.new × (streams.failed ≡ streams.had_failed)
 
--- what a change comes to, by the bytes that it is given: the calls that it stands for, all or none, or a new free list. Then a path that is put has these bytes (this project)
+-- what a change comes to, by the bytes that it is given: the calls that it stands for, all or none, or a new free list. Then a path that is put has these bytes; and one that `mkdir -p` makes, whose last name is neither `.` nor `..`, is a directory's (this project)
 abbrev pub Changes : Edition → List ℕ → List ℕ → Streams → Answer → Change → Type 0
 Changes edition image given streams answer (changes.Put path file now) =
     CallsLeave edition image streams answer (put_calls (reads_as edition image).tree now path.now given) (λ tree. HasFile tree path.now given)
@@ -61,7 +63,8 @@ Changes edition image given streams answer (changes.Rmdir path now) = Calls edit
 Changes edition image given streams answer (changes.Mkdir path now) =
     Calls edition image streams answer (calls.Mkdir user now path.now 0o755 ∷ [])
 Changes edition image given streams answer (changes.MkdirAll path now) =
-    Calls edition image streams answer (mkdir_all_calls (reads_as edition image).tree now path.now)
+    CallsLeave edition image streams answer (mkdir_all_calls (reads_as edition image).tree now path.now)
+    (λ tree. is_dots (last_name path.now) ≡ false → HasDirectory tree path.now)
 Changes edition image given streams answer (changes.Ln from to now) =
     Calls edition image streams answer (calls.Link user now from.now to.now ∷ [])
 Changes edition image given streams answer (changes.Mv from to now) =

@@ -4,6 +4,7 @@ pub mod CallsMade
 pub mod MadeDirectories
 pub mod MadeNames
 pub mod MadePaths
+pub mod MovedNames
 pub mod PutBytes
 pub mod PutFiles
 pub mod Removed

@@ -15,7 +15,7 @@ use Rattle.command_faults.specs.declared.answer.Answer.{Answer}
 use Rattle.command_changes.specs.Finding.{last_name}
 use Rattle.command_changes.specs.Import.{ImportsArchive}
 use Rattle.command_changes.specs.Mkdir.{HasDirectory, mkdir_all_calls}
-use Rattle.command_changes.specs.Mv.{move_calls}
+use Rattle.command_changes.specs.Mv.{HasNothing, move_calls}
 use Rattle.command_changes.specs.Put.{HasFile, put_calls}
 use Rattle.command_changes.specs.Rm.{RemovesTree}
 use Rattle.command_changes.specs.Salvage.{SalvagesVolume}
@@ -52,7 +52,7 @@ abbrev pub RemovesBelow : Edition → List ℕ → Streams → Answer → List �
 RemovesBelow edition image streams answer path now =
     RemovesTree edition image path now streams.said answer × Keeps streams.old streams.new × (streams.failed ≡ streams.had_failed)
 
--- what a change comes to, by the bytes that it is given: the calls that it stands for, all or none, or a new free list. Then a path that is put has these bytes; and one that `mkdir -p` makes, whose last name is neither `.` nor `..`, is a directory's (this project)
+-- what a change comes to, by the bytes that it is given: the calls that it stands for, all or none, or a new free list. Then a path that is put has these bytes; one that `mkdir -p` makes, whose last name is neither `.` nor `..`, is a directory's; and the one that `mv` moves from leads to nothing (this project)
 abbrev pub Changes : Edition → List ℕ → List ℕ → Streams → Answer → Change → Type 0
 Changes edition image given streams answer (changes.Put path file now) =
     CallsLeave edition image streams answer (put_calls (reads_as edition image).tree now path.now given) (λ tree. HasFile tree path.now given)
@@ -68,7 +68,7 @@ Changes edition image given streams answer (changes.MkdirAll path now) =
 Changes edition image given streams answer (changes.Ln from to now) =
     Calls edition image streams answer (calls.Link user now from.now to.now ∷ [])
 Changes edition image given streams answer (changes.Mv from to now) =
-    Calls edition image streams answer (move_calls (reads_as edition image).tree now from.now to.now)
+    CallsLeave edition image streams answer (move_calls (reads_as edition image).tree now from.now to.now) (λ tree. HasNothing tree from.now)
 Changes edition image given streams answer (changes.Chmod path perm now) =
     Calls edition image streams answer (calls.Chmod user now path.now perm ∷ [])
 Changes edition image given streams answer (changes.Chown path uid gid now) =

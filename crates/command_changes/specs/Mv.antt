@@ -1,7 +1,8 @@
 -- The calls that give a file another name.
-use Rattle.std.specs.Prelude.{ℕ, List, [], ◌∷◌}
+use Rattle.std.specs.Prelude.{◌≡◌, ℕ, List, [], ◌∷◌, Err}
 use Rattle.vol_dir.specs.Tree.{Tree}
 use Rattle.vol_dir.specs.Access.{user}
+use Rattle.vol_dir.specs.declared.refusal.Refusal.TheVariants.{NoEntry}
 use Rattle.vol_volume.specs.Answer.{answer}
 use Rattle.vol_volume.specs.declared.calls.Call.{Call}
 use Rattle.vol_volume.specs.declared.calls.Call.TheVariants as calls
@@ -21,3 +22,7 @@ target_of Nothing from to = to
 abbrev pub move_calls : Tree → ℕ → List ℕ → List ℕ → List Call
 move_calls tree now from to =
     calls.Link user now from (target_of (found_by (answer tree (queries.Stat user to))) from to) ∷ calls.Unlink user now from ∷ []
+
+-- a path leads to nothing: a question for it answers so (stat)
+abbrev pub HasNothing : Tree → List ℕ → Type 0
+HasNothing tree path = answer tree (queries.Stat user path) ≡ Err NoEntry

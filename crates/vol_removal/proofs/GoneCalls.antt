@@ -61,7 +61,7 @@ gone_by g old new path now d name reached ready stays =
     (walk_gone (tree g old) (tree g new) user d name reached.names lost reached.searched reached.front) reached.walks reached.parts
 
 -- an accepted Unlink of a path leaves nothing there
-unlink_gone : (g : Geometry) (old new path : List ℕ) (now : ℕ) (done : Done) → verdict (state g old) (Unlink user now path) ≡ None
+pub unlink_gone : (g : Geometry) (old new path : List ℕ) (now : ℕ) (done : Done) → verdict (state g old) (Unlink user now path) ≡ None
     → Becomes g old new (step (state g old) (Unlink user now path) done) → answer (tree g new) (queries.Stat user path) ≡ Err refusals.NoEntry
 unfolding verdict changed_by tree
 unlink_gone g old new path now done accepted becomes =

@@ -1,4 +1,4 @@
-mod GoneCalls
+pub mod GoneCalls
 mod GoneNames
 mod GoneTrees
 mod Removals

@@ -1,6 +1,7 @@
 use Rattle.std.proofs.Common.{refl, rules}
 use Rattle.command_changes.proofs.CallsMade.{saved_leaves}
 use Rattle.command_changes.proofs.MadeDirectories.{directories_leave}
+use Rattle.command_changes.proofs.MovedNames.{move_leaves}
 use Rattle.command_changes.proofs.PutBytes.{put_leaves}
 use Rattle.command_changes.proofs.changing.perform.Goals as goal
 
@@ -13,3 +14,8 @@ pub returns-in-MkdirAll : goal.returns-in-MkdirAll
 returns-in-MkdirAll c known failed errors hears =
     let does = c.mkdir_all.ensures errors hears in
     rw c.in-MkdirAll.is (does, search rules, refl, saved_leaves _ _ _ _ _ (λ bytes makes plain. directories_leave _ _ bytes _ _ plain makes) does)
+
+pub returns-in-Mv : goal.returns-in-Mv
+returns-in-Mv c known failed errors hears =
+    let does = c.mv.ensures errors hears in
+    rw c.in-Mv.is (does, search rules, refl, saved_leaves _ _ _ _ _ (λ bytes makes. move_leaves _ _ bytes _ _ _ makes) does)

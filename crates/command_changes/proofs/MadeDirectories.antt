@@ -238,3 +238,10 @@ pub directories_leave : (edition : Edition) (image bytes path : List ℕ) (now :
 directories_leave edition image bytes path now plain makes =
     subst (λ (s : State). HasDirectory s.tree path) (sym makes.reads)
     (directory_left (reads_as edition image) now path makes.journal plain makes.asked makes.legal)
+
+-- and so does the call of `mkdir`
+pub directory_leaves : (edition : Edition) (image bytes path : List ℕ) (now : ℕ) → Makes edition image (mkdir_call now path ∷ []) bytes
+    → HasDirectory (reads_as edition bytes).tree path
+directory_leaves edition image bytes path now makes =
+    subst (λ (s : State). HasDirectory s.tree path) (sym makes.reads)
+    (left_by (reads_as edition image) now [] path path makes.journal makes.asked makes.legal (record { names = refl; zeros = refl }))

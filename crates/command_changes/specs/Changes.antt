@@ -14,7 +14,7 @@ use Rattle.command_faults.specs.Streams.{Streams}
 use Rattle.command_faults.specs.declared.answer.Answer.{Answer}
 use Rattle.command_changes.specs.Finding.{last_name}
 use Rattle.command_changes.specs.Import.{ImportsArchive}
-use Rattle.command_changes.specs.Mkdir.{HasDirectory, mkdir_all_calls}
+use Rattle.command_changes.specs.Mkdir.{HasDirectory, mkdir_all_calls, mkdir_call}
 use Rattle.command_changes.specs.Mv.{HasNothing, move_calls}
 use Rattle.command_changes.specs.Put.{HasFile, put_calls}
 use Rattle.command_changes.specs.Rm.{RemovesTree}
@@ -52,7 +52,7 @@ abbrev pub RemovesBelow : Edition → List ℕ → Streams → Answer → List �
 RemovesBelow edition image streams answer path now =
     RemovesTree edition image path now streams.said answer × Keeps streams.old streams.new × (streams.failed ≡ streams.had_failed)
 
--- what a change comes to, by the bytes that it is given: the calls that it stands for, all or none, or a new free list. Then a path that is put has these bytes; one that `mkdir -p` makes, whose last name is neither `.` nor `..`, is a directory's; and the one that `mv` moves from leads to nothing (this project)
+-- what a change comes to, by the bytes that it is given: the calls that it stands for, all or none, or a new free list. Then a path that is put has these bytes; one that `mkdir` makes, or `mkdir -p`, for which its last name is neither `.` nor `..`, is a directory's; and the one that `mv` moves from leads to nothing (this project)
 abbrev pub Changes : Edition → List ℕ → List ℕ → Streams → Answer → Change → Type 0
 Changes edition image given streams answer (changes.Put path file now) =
     CallsLeave edition image streams answer (put_calls (reads_as edition image).tree now path.now given) (λ tree. HasFile tree path.now given)
@@ -61,7 +61,7 @@ Changes edition image given streams answer (changes.Rm path now) = Calls edition
 Changes edition image given streams answer (changes.RmAll path now) = RemovesBelow edition image streams answer path.now now
 Changes edition image given streams answer (changes.Rmdir path now) = Calls edition image streams answer (calls.Rmdir user now path.now ∷ [])
 Changes edition image given streams answer (changes.Mkdir path now) =
-    Calls edition image streams answer (calls.Mkdir user now path.now 0o755 ∷ [])
+    CallsLeave edition image streams answer (mkdir_call now path.now ∷ []) (λ tree. HasDirectory tree path.now)
 Changes edition image given streams answer (changes.MkdirAll path now) =
     CallsLeave edition image streams answer (mkdir_all_calls (reads_as edition image).tree now path.now)
     (λ tree. is_dots (last_name path.now) ≡ false → HasDirectory tree path.now)

@@ -1066,36 +1066,73 @@ if command -v flock > /dev/null; then
     done
 fi
 
-# Another program that writes the image, or puts another in its place, while a command waits for its file: nothing is saved.
-# meddled LABEL SHELL-COMMAND: runs the command once `put` has read the image, and before it has its file
+# A command that waits for what it is given leaves the image to others, and then changes what these made of it.
+# waits LABEL FED NAMES WORD..: runs the program on an image with the pipe as its standard input, makes a directory in the image meanwhile, and then
+# feeds the file FED into the pipe: the root then has these names
+waits() {
+    prints none mkfs 7 image 100 4 0 0 1
+    timeout 60 "$program" "${@:4}" > fed_output 2> fed_error < pipe &
+    exec 9> pipe
+    sleep 0.3
+    runs_within 20 mkdir 7 image /meanwhile 2 9>&-
+    wants "mkdir while $1 waits" 0 none none
+    cat "$2" >&9
+    exec 9>&-
+    wait $!
+    has "$1 that has waited" '0 ' "$? $(cat fed_error)"
+    runs ls 7 image /
+    has "the names after $1" "$3" "$(awk '{ print $2 }' output | paste -s -d ' ' -)"
+}
+"$program" mkfs 7 packed 100 4 0 0 1
+"$program" put 7 packed /a hello 1
+"$program" export 7 packed > packed.tar
+waits put hello '. .. a meanwhile' put 7 image /a /dev/stdin 3
+waits import packed.tar '. .. a meanwhile' import 7 image / 3
+
+# What can be told of the image without its lock is told before anything is waited for.
+# tells LINE IMAGE: a change that would wait for its archive tells this line of an image at once, with status 3
+tells() {
+    sleep 30 > pipe &
+    timeout 20 "$program" import 7 "$2" / 3 > output 2> error < pipe
+    echo $? > status
+    kill $!
+    wait $! 2> /dev/null
+    echo "$1" > line
+    wants "import into $2, whose archive has to be waited for" 3 none line
+}
+tells 'unixvol: cannot read missing' missing
+mkfifo unread
+tells 'unixvol: cannot write unread' unread
+
+# Another program that writes the image, or puts another in its place, after a command has read it and before it saves: nothing is saved.
+# meddled LABEL SHELL-COMMAND: runs the command once `play` has read the image, and before it has printed all
 meddled() {
     prints none mkfs 7 image 100 4 0 0 1
     touch -d '2001-02-03 04:05:06.789' image
-    "$program" put 7 image /a pipe 1 > output 2> error < /dev/null &
-    # The pipe opens once `put`, which has read the image, opens it too.
-    exec 9> pipe
+    "$program" play 7 image long_script > pipe 2> error < /dev/null &
+    # `play` has more to print than a pipe holds. So once a byte of that has come, it waits until the others are read, and only then saves.
+    exec 9< pipe
+    head -c 1 <&9 > begun
     eval "$2"
-    cp image stood
-    cat hello >&9
-    exec 9>&-
+    if [ -e image ]; then cp image stood; fi
+    cat <&9 > rest
+    exec 9<&-
     wait $!
     echo $? > status
+    : > output
     echo 'unixvol: cannot write image' > line
-    wants "put into an image $1" 3 none line
-    saves "an image $1" image stood
+    wants "play on an image $1" 3 none line
 }
+{ echo '3 0 0 create /a 644'; echo "3 0 0 write /a 0 $(head -c 512 /dev/zero | od -An -v -tx1 | tr -d ' \n')"; yes '4 0 0 read /a 0 512' | head -n 100; } > long_script
 meddled 'that was written meanwhile' 'printf x | dd of=image bs=1 seek=600 conv=notrunc status=none'
+saves 'an image that was written meanwhile' image stood
 meddled 'that grew meanwhile' 'printf x >> image; touch -d "2001-02-03 04:05:06.789" image'
+saves 'an image that grew meanwhile' image stood
 meddled 'in whose place another one was put meanwhile' 'cp -p image other; mv other image'
-prints none mkfs 7 image 100 4 0 0 1
-"$program" put 7 image /a pipe 1 > output 2> error < /dev/null &
-exec 9> pipe
-rm image
-exec 9>&-
-wait $!
-echo $? > status
-wants 'put into an image that was removed meanwhile' 3 none line
+saves 'an image in whose place another one was put meanwhile' image stood
+meddled 'that was removed meanwhile' 'rm image'
 has 'an image that was removed meanwhile' '' "$(find . -maxdepth 1 \( -name image -o -name '.unixvol-*' \))"
+has 'what play has printed by then' 'records 2 confirmed 102' "$(tail -n 2 rest | paste -s -d ' ' -)"
 
 # A volume that Linux wrote, as samples/README.md says: its names, i-numbers, sizes and sums are those that Linux told of it.
 linux="$samples/linux_made.v7"

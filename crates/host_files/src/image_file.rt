@@ -1,5 +1,5 @@
 //! The file of an image that a command changes: of which kind it is, whether it is still as it was read, and its lock.
-ghost use Rattle.std.specs.Prelude.{◌≡◌, ◌≢◌, ◌↔◌, ◌==◌, ◌&&◌, ℕ, List, Bool, true, false, IfErr, IfOk};
+ghost use Rattle.std.specs.Prelude.{◌≡◌, ◌≢◌, ◌↔◌, ◌==◌, ◌&&◌, ℕ, List, Bool, true, false, IfErr, IfOk, IfSome};
 ghost use Rattle.std.specs.Fs.{IsDir, IsFile, file_type, metadata_len};
 ghost use Rattle.host_files.specs.declared.image_file.Stamp.{Stamp};
 ghost use Rattle.host_files.specs.Opening.{IsOpenTo, OpensTo};
@@ -168,7 +168,9 @@ impl ImageFiles for HostRuntime {
 }
 
 /// Opens a file, and returns its stamp too.
-pub fn open_stamped<R: ImageFiles>(rt: &R, path: &str) -> io::Result<(R::File, Stamp)> {
+pub fn open_stamped<R: ImageFiles>(rt: &R, path: &str) -> io::Result<(R::File, Stamp)>
+    ensures { IfOk result (λ opened. R.had opened.0 opened.1) }
+{
     let file = fs::open(rt, path)?;
     let stamp = rt.stamp_of(&file)?;
     Ok((file, stamp))
@@ -201,6 +203,15 @@ enum Try<F> {
     Busy,
 }
 
+/// Looks whether the file of an image that is to be changed can be opened, and closes it again. It waits for no lock.
+pub fn expect_image<R: ImageFiles>(rt: &R, path: &str) -> Result<(), OpenFault> {
+    match open_kept(rt, path) {
+        Ok(Some(_)) => Ok(()),
+        Ok(None) => Err(OpenFault::Stream(io::Error::other(STREAM))),
+        Err(why) => Err(OpenFault::Unread(why)),
+    }
+}
+
 /// Opens the file of an image that is to be changed, locks it, and answers its stamp. The lock is gone once the file is closed.
 /// It waits, for half a minute at most, while another program has the file locked.
 pub fn open_image<R: ImageFiles + Clock>(rt: &R, path: &str) -> Result<(R::File, Stamp), OpenFault>
@@ -217,20 +228,30 @@ pub fn open_image<R: ImageFiles + Clock>(rt: &R, path: &str) -> Result<(R::File,
     Err(OpenFault::Locked(io::Error::other(LOCKED)))
 }
 
-/// Tries once to open and lock the file of an image. A pipe isn't opened, since that could wait for its other end.
+/// Tries once to open and lock the file of an image.
 fn try_open<R: ImageFiles>(rt: &R, path: &str) -> io::Result<Try<R::File>>
     ensures { IfOk result (IsOpenTo R.had) }
 {
-    if rt.stamp_at(path)?.kind == Kind::Stream {
+    let Some((file, stamp)) = open_kept(rt, path)? else {
         return Ok(Try::Stream);
-    }
-    let file = fs::open(rt, path)?;
-    let stamp = rt.stamp_of(&file)?;
-    if stamp.kind == Kind::Stream {
-        return Ok(Try::Stream);
-    }
+    };
     if rt.try_lock(&file) && rt.stamp_at(path)? == stamp {
         return Ok(Try::Open(file, stamp));
     }
     Ok(Try::Busy)
+}
+
+/// Opens a file and answers its stamp, unless it is a pipe, a socket or a terminal. A pipe isn't opened, since that could wait for
+/// its other end.
+fn open_kept<R: ImageFiles>(rt: &R, path: &str) -> io::Result<Option<(R::File, Stamp)>>
+    ensures { IfOk result (λ kept. IfSome kept (λ opened. OpensTo R.had opened.0 opened.1)) }
+{
+    if rt.stamp_at(path)?.kind == Kind::Stream {
+        return Ok(None);
+    }
+    let (file, stamp) = open_stamped(rt, path)?;
+    if stamp.kind == Kind::Stream {
+        return Ok(None);
+    }
+    Ok(Some((file, stamp)))
 }

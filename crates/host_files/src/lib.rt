@@ -5,6 +5,6 @@ mod image_file;
 mod noted;
 mod saving_file;
 
-pub use image_file::{ImageFiles, Kind, OpenFault, Stamp, open_image, open_stamped};
+pub use image_file::{ImageFiles, Kind, OpenFault, Stamp, expect_image, open_image, open_stamped};
 pub use noted::{Noted, noted_reader, noted_writer};
 pub use saving_file::{Content, save_file};

@@ -6,7 +6,7 @@ ghost use Rattle.unixvol.specs.Running.{ChangesToEnd, Ends, GaveBytes, IsGivenTo
 
 use crate::explaining::{Named, explain_unread, finish, tell_fault};
 use crate::host::Host;
-use crate::reading::{ReadFile, read_file, read_image, read_open};
+use crate::reading::{Begun, begin, read_file, read_open};
 use crate::saving::save_answer;
 use crate::subject::Subject;
 use command_changes::Change;
@@ -69,8 +69,8 @@ fn run<R: ImageFiles + Clock + Eprint + AllocGlobal, I: Read + Drop>(
             fault: None,
         };
     }
-    let (read, stamp) = match read_image(host, volume.image) {
-        Ok(read) => read,
+    let begun = match begin(host, volume.image, || given_to(host, input, change)) {
+        Ok(begun) => begun,
         Err(status) => {
             return Ending {
                 status,
@@ -78,20 +78,13 @@ fn run<R: ImageFiles + Clock + Eprint + AllocGlobal, I: Read + Drop>(
             };
         }
     };
-    // Its file stays open, and so locked, until what is made of it is saved.
-    let ReadFile {
-        bytes: image,
-        file: _locked,
-    } = read;
-    let given = match given_to(host, input, change) {
-        Ok(given) => given,
-        Err(status) => {
-            return Ending {
-                status,
-                fault: None,
-            };
-        }
-    };
+    // The image's file stays open, and so locked, until what is made of it is saved.
+    let Begun {
+        given,
+        image,
+        stamp,
+        locked: _locked,
+    } = begun;
     let answer = perform(host.rt.alloc(), volume.edition, image, given, change);
     let status = save_answer(host, volume.image, stamp, &answer);
     Ending {

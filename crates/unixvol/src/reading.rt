@@ -1,12 +1,14 @@
 //! Files that are read to their ends.
-ghost use Rattle.std.specs.Prelude.{◌≡◌, false, true, All, IfErr, IfOk, IsErrOf, OnErr, length};
+ghost use Rattle.std.specs.Prelude.{◌≡◌, ◌⊎◌, false, true, All, Err, IfErr, IfOk, IsErrOf, Ok, OnErr, length};
 ghost use Rattle.pdp_words.specs.Devices.{IsReadWhole, LosesFront};
 ghost use Rattle.host_files.specs.Opening.{IsOpened};
 ghost use Rattle.unixvol.specs.Running.{GaveBytes, IsStatusOfFileOrMemory, IsUnread};
 
 use crate::explaining::{Named, explain_no_memory, explain_unread, explain_unwritten, reason_of};
 use crate::host::Host;
-use host_files::{ImageFiles, Noted, OpenFault, Stamp, noted_reader, open_image, open_stamped};
+use host_files::{
+    ImageFiles, Noted, OpenFault, Stamp, expect_image, noted_reader, open_image, open_stamped,
+};
 use pdp_words::{LoadFault, Source, load};
 use std::fs::{self, Files};
 use std::io::Read;
@@ -70,6 +72,46 @@ pub fn read_stamped<R: ImageFiles + Eprint + AllocGlobal>(
     }
 }
 
+/// What a command has once it has begun that changes an image.
+#[derive(Drop)]
+pub struct Begun<F, G> {
+    /// What it is given beside the image.
+    pub given: G,
+    /// All bytes of the image.
+    pub image: Vec<u8>,
+    /// The stamp of the image's file before it was read.
+    pub stamp: Stamp,
+    /// The image's file, which is locked until it is closed.
+    pub locked: F,
+}
+
+/// Begins a command that changes the image at `path`: reads what it is given, by `read_given`, which may wait, and only then locks the
+/// image and reads it. Before that it looks whether the image can be opened. Where something can't be read, or the image isn't to be
+/// changed, prints so, and answers the status.
+pub fn begin<
+    R: ImageFiles + Clock + Eprint + AllocGlobal,
+    G: Drop,
+    F: FnOnce() -> Result<G, u8> + Drop,
+>(host: &Host<'_, R>, path: &str, read_given: F) -> Result<Begun<R::File, G>, u8>
+    requires { F.pre read_given }
+    ensures image { IfOk result (λ begun. IsOpened R.File.remaining R.had begun.image.items begun.stamp) }
+    ensures given { IfOk result (λ begun. F.post read_given (Ok begun.given)) }
+    ensures fault { IfErr result (λ status. IsUnread R.File.remaining status ⊎ F.post read_given (Err status)) }
+{
+    if let Err(fault) = expect_image(host.rt, path) {
+        return Err(explain_unopened(host, Named::File(path), fault));
+    }
+    let given = read_given()?;
+    let (read, stamp) = read_image(host, path)?;
+    let ReadFile { bytes, file } = read;
+    Ok(Begun {
+        given,
+        image: bytes,
+        stamp,
+        locked: file,
+    })
+}
+
 /// The image that a command is to change, and its stamp. Where it can't be read, or isn't to be changed, prints so,
 /// and answers the status.
 pub fn read_image<R: ImageFiles + Clock + Eprint + AllocGlobal>(
@@ -82,10 +124,21 @@ pub fn read_image<R: ImageFiles + Clock + Eprint + AllocGlobal>(
     let named = Named::File(path);
     match open_image(host.rt, path) {
         Ok((file, stamp)) => Ok((read_open(host, named, file)?, stamp)),
-        Err(OpenFault::Unread(why)) => Err(explain_unread(host, named, why)),
-        Err(OpenFault::Stream(why) | OpenFault::Locked(why)) => {
-            Err(explain_unwritten(host, named, why))
-        }
+        Err(fault) => Err(explain_unopened(host, named, fault)),
+    }
+}
+
+/// Prints that the file of an image can't be read, or isn't to be changed, and answers the status.
+fn explain_unopened<R: Eprint + AllocGlobal>(
+    host: &Host<'_, R>,
+    named: Named<'_>,
+    fault: OpenFault,
+) -> u8
+    ensures { result ≡ 3 }
+{
+    match fault {
+        OpenFault::Unread(why) => explain_unread(host, named, why),
+        OpenFault::Stream(why) | OpenFault::Locked(why) => explain_unwritten(host, named, why),
     }
 }
 

@@ -1,6 +1,7 @@
-use Rattle.std.proofs.Common.{◌∙◌, inl, inr, refl, sym}
+use Rattle.std.proofs.Common.{◌∙◌, inl, inr, refl, rules, sym}
 use Rattle.std.proofs.KnownBytes.{Keeps-refl}
 use Rattle.command_faults.specs.Streams.{still}
+use Rattle.unixvol.specs.Running.{GaveBytes, IsGivenTo, IsUngiven, IsUnread}
 use Rattle.unixvol.proofs.Concluded.{ends_unread}
 use Rattle.unixvol.proofs.Done.{ends_change, ends_ungiven}
 use Rattle.unixvol.proofs.changes.run.Goals as goal
@@ -21,32 +22,27 @@ pub returns-in-Err-clause-runs : goal.returns-in-Err-clause-runs
 returns-in-Err-clause-runs g c known failed errors hears =
     inr (
       sym c.wants_terminal.ensures ∙ c.if-wants_terminal.false,
-      inl (c.in-Err.ensures.fault, Keeps-refl known, refl, hears),
-    )
-
-pub returns-in-Err-given_to-clause-runs : goal.returns-in-Err-given_to-clause-runs
-returns-in-Err-given_to-clause-runs g c known failed errors hears =
-    inr (
-      sym c.wants_terminal.ensures ∙ c.if-wants_terminal.false,
-      inr (inl (
-        c.in-Err-given_to.ensures.fault,
-        Keeps-refl known,
-        refl,
-        hears,
-      )),
+      elim c.in-Err.ensures.fault [
+        | inl unread ↦ inl (unread, Keeps-refl known, refl, hears)
+        | inr called ↦
+            let ungiven : IsUngiven (IsUnread g.R.File.Read.remaining) (IsUnread g.I.Read.remaining) c.args.change c.in-Err.status = search rules in
+            inr (inl (ungiven, Keeps-refl known, refl, hears))
+      ],
     )
 
 pub returns-clause-runs : goal.returns-clause-runs
 returns-clause-runs g c known failed errors hears =
+    let called = c.in-Ok.ensures.given in
+    let given : IsGivenTo (GaveBytes g.R.File.Read.remaining) (GaveBytes g.I.Read.remaining) c.args.change c.in-Ok.begun.given.items = search rules in
     inr (
       sym c.wants_terminal.ensures ∙ c.if-wants_terminal.false,
       inr (inr (
-        c.in-Ok.read.0.bytes.items,
-        c.in-Ok.read.1,
-        c.in-Ok-given_to.given.items,
+        c.in-Ok.begun.image.items,
+        c.in-Ok.begun.stamp,
+        c.in-Ok.begun.given.items,
         c.perform-answer.result,
-        c.in-Ok.ensures.given,
-        c.in-Ok-given_to.ensures.given,
+        c.in-Ok.ensures.image,
+        given,
         c.perform-answer.ensures known failed errors hears,
         c.save_answer-status.ensures,
       )),
@@ -58,14 +54,14 @@ returns-then-wants_terminal-clause-ends g c known failed errors hears =
 
 pub returns-in-Err-clause-ends : goal.returns-in-Err-clause-ends
 returns-in-Err-clause-ends g c known failed errors hears =
-    ends_unread g.R.File.Read.remaining (still known failed errors) c.in-Err.status c.in-Err.ensures.fault (Keeps-refl known)
-
-pub returns-in-Err-given_to-clause-ends : goal.returns-in-Err-given_to-clause-ends
-returns-in-Err-given_to-clause-ends g c known failed errors hears =
-    ends_ungiven g.R.File.Read.remaining g.I.Read.remaining (still known failed errors) c.in-Err-given_to.status c.args.change
-    c.in-Err-given_to.ensures.fault (Keeps-refl known)
+    elim c.in-Err.ensures.fault [
+      | inl unread ↦ ends_unread g.R.File.Read.remaining (still known failed errors) c.in-Err.status unread (Keeps-refl known)
+      | inr called ↦
+          let ungiven : IsUngiven (IsUnread g.R.File.Read.remaining) (IsUnread g.I.Read.remaining) c.args.change c.in-Err.status = search rules in
+          ends_ungiven g.R.File.Read.remaining g.I.Read.remaining (still known failed errors) c.in-Err.status c.args.change ungiven (Keeps-refl known)
+    ]
 
 pub returns-clause-ends : goal.returns-clause-ends
 returns-clause-ends g c known failed errors hears =
-    ends_change c.args.volume.edition c.in-Ok.read.0.bytes.items _ (still known failed errors) _ c.perform-answer.result c.save_answer-status.result c.args.change
+    ends_change c.args.volume.edition c.in-Ok.begun.image.items _ (still known failed errors) _ c.perform-answer.result c.save_answer-status.result c.args.change
     (c.perform-answer.ensures known failed errors hears) c.save_answer-status.ensures

@@ -168,6 +168,10 @@ has 'a member that is a link to a directory' '1 unixvol: 21 IsDirectory: /hello 
 explains 1 'unixvol: 2 NoEntry: /none/hello' "unixvol: this file: a directory on the way to it isn't there" put 6 "$image" -t /none hello
 explains 1 'unixvol: 21 IsDirectory: d' 'unixvol: this file: it is a directory, whose names `unixvol ls` lists' get 6 "$image" -o . /d/f d
 explains 3 'unixvol: cannot write missing/f' 'unixvol: missing/f: No such file or directory (os error 2)' get 6 "$image" -o missing /d/f
+mkfifo f
+timeout 20 "$program" get 6 "$image" -o . /d/f --explain > output 2> error
+has 'get -o onto a pipe' '3 unixvol: cannot write ./f unixvol: ./f: it is a pipe or a socket, which keeps no file' "$? $(paste -s -d ' ' error)"
+rm f
 refuses 1 'unixvol: fifteen-bytes-n: a name above 14 bytes' put 6 "$image" -t /d fifteen-bytes-n --explain
 : > 1975
 refuses 2 'unixvol: 1975: a moment, and a file too: write ./1975, or the moment in another form' put 6 "$image" -t /d hello 1975 --explain

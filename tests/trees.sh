@@ -155,6 +155,31 @@ for edition in 6 7; do
     prints none get -o away "$edition" several.img in/first
     cmp -s first away/first
     has 'a file that was there, got again' 0 $?
+    # A pipe in the folder, or at the end of a link there, is left alone, whether another program reads from it or not.
+    rm -rf pipes pipe
+    mkdir pipes
+    mkfifo pipe pipes/first
+    ln -s ../pipe pipes/second
+    for name in first second; do
+        echo "unixvol: cannot write pipes/$name" > line
+        runs_within 20 get "$edition" several.img -o pipes "in/$name"
+        wants "get -o onto the pipe $name" 3 none line
+    done
+    timeout 20 cat pipe > piped &
+    exec 9> pipe
+    runs_within 20 get "$edition" several.img -o pipes in/second 9>&-
+    wants 'get -o onto a pipe that is read' 3 none line
+    exec 9>&-
+    wait
+    has 'what came through the pipe, and the names beside it' '0 first second' "$(wc -c < piped) $(find pipes -mindepth 1 -printf '%f\n' | sort | paste -s -d ' ' -)"
+    # A pipe without a name, and a device, are written in place.
+    prints none put "$edition" several.img -t / first 6
+    prints none mv "$edition" several.img /first /stdout 6
+    has 'get -o into a pipe without a name' three "$(timeout 20 "$program" get "$edition" several.img -o /dev stdout 2>&1 | cat)"
+    prints none mv "$edition" several.img /stdout /null 6
+    runs_within 20 get "$edition" several.img -o /dev null
+    wants 'get -o onto a device' 0 none none
+    prints none rm "$edition" several.img /null 6
     # A last word that is a moment and a file too: nothing is opened. With a slash it is a file, and where no file has that name, a moment.
     printf nine > 9
     mkdir -p 2026-11-23T12:00:00Z

@@ -7,4 +7,4 @@ mod saving_file;
 
 pub use image_file::{ImageFiles, Kind, OpenFault, Stamp, expect_image, open_image, open_stamped};
 pub use noted::{Noted, noted_reader, noted_writer};
-pub use saving_file::{Content, save_file};
+pub use saving_file::{Content, is_pipe, save_file};

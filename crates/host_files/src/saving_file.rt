@@ -3,7 +3,7 @@ ghost use Rattle.std.specs.Prelude.{◌≡◌, true, IfOk, IfSome, OnErr, OnOk};
 ghost use Rattle.std.specs.Path.{path_bytes, path_buf_bytes};
 ghost use Rattle.host_files.specs.Saving.{IsBeside, Grows, Saves};
 
-use crate::image_file::{ImageFiles, Stamp};
+use crate::image_file::{ImageFiles, Kind, Stamp};
 use crate::noted::noted_writer;
 use pdp_words::{SaveFault, Sink, write_all};
 use std::fs::{self, Files, Metadata, OpenFile, OpenOptions, Permissions};
@@ -155,6 +155,18 @@ fn end_of_links<R: Files + AllocGlobal>(rt: &R, path: &str) -> io::Result<PathBu
         place = place.with_file_name(rt.alloc(), target.as_str())?;
     }
     Err(io::Error::new(ErrorKind::FilesystemLoop, TOO_MANY_LINKS))
+}
+
+/// Whether `path`, or the end of the symbolic links that begin there, is the name of a pipe or a socket: to open a pipe for writing waits
+/// until another program reads from it. What the system can't tell of counts as none. A pipe that has no name, as `/dev/stdout` may lead to, is none.
+pub fn is_pipe<R: ImageFiles + AllocGlobal>(rt: &R, path: &str) -> bool {
+    let Ok(place) = end_of_links(rt, path) else {
+        return false;
+    };
+    match rt.stamp_of_name(place.as_path().as_str()) {
+        Ok(stamp) => stamp.kind == Kind::Stream,
+        Err(_) => false,
+    }
 }
 
 /// Whether the system answered so of a link because none is there: what stands there is another file, or nothing does.

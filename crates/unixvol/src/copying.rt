@@ -6,7 +6,9 @@ ghost use Rattle.unixvol.specs.Copying.{AreSaved, CopiesToEnd, IsFileToo, IsMome
 ghost use Rattle.unixvol.specs.Running.{Ends, GaveBytes, IsStatusOfFileOrMemory, IsUnread, host_files};
 ghost use Rattle.host_files.specs.Saving.{IsTaken};
 
-use crate::explaining::{explain_moment, explain_no_memory, finish, tell_fault};
+use crate::explaining::{
+    Named, explain_moment, explain_no_memory, explain_unwritten, finish, tell_fault,
+};
 use crate::host::Host;
 use crate::reading::{ReadFile, read_file, read_image, read_stamped};
 use crate::saving::{save_answer, save_new};
@@ -17,13 +19,16 @@ use command_faults::status::DONE;
 use command_line::{Copying, VolumeFile};
 use command_reads::get::{FileRead, FilesRead, get_files};
 use command_words::Moment;
-use host_files::{ImageFiles, Stamp};
+use host_files::{ImageFiles, Stamp, is_pipe};
 use pdp_words::IntoWrite;
 use std::fs::Files;
-use std::io::Write;
+use std::io::{self, Write};
 use std::path::Path;
 use std::process::ExitCode;
 use std::rt::Clock;
+
+/// What is told of a name in the folder that a pipe or a socket has.
+const PIPE: &str = "it is a pipe or a socket, which keeps no file";
 
 /// Copies several files between the host and the volume in a file, and answers how the program ends. A fault is one line on
 /// standard error. `errors` writes to standard error too. Nothing goes to `output`, which is standard output.
@@ -220,7 +225,8 @@ fn save_files<R: ImageFiles + Clock + Eprint + AllocGlobal>(
     status
 }
 
-/// Saves a file of a volume in a folder, under the last name of its path, and answers the status to end with.
+/// Saves a file of a volume in a folder, under the last name of its path, and answers the status to end with. Where a pipe or a socket has
+/// this name, it is left alone.
 fn save_file_read<R: ImageFiles + Clock + Eprint + AllocGlobal>(
     host: &Host<'_, R>,
     folder: &str,
@@ -232,5 +238,9 @@ fn save_file_read<R: ImageFiles + Clock + Eprint + AllocGlobal>(
     let Ok(place) = Path::new(folder).join(host.rt.alloc(), name_of(file.path)) else {
         return explain_no_memory(host);
     };
-    save_new(host, place.as_path().as_str(), image, &file.bytes, DONE)
+    let place = place.as_path().as_str();
+    if is_pipe(host.rt, place) {
+        return explain_unwritten(host, Named::File(place), io::Error::other(PIPE));
+    }
+    save_new(host, place, image, &file.bytes, DONE)
 }

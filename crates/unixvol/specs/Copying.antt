@@ -47,7 +47,7 @@ LeavesMoment streams stands now status =
     (status ≡ 2) × ((word : Bor (List ℕ)) × IsFileToo stands now word)
     × Keeps streams.old streams.new × (streams.failed ≡ streams.had_failed) × streams.said []
 
--- files of these names are put into a directory: nothing is done; or files gave their bytes, and they are put into an image that a file gave which may be changed, and what the calls make is saved where a file still stood that had the stamp of the one that was read (this project)
+-- files of these names are put into a directory: nothing is done; or files gave their bytes, and they are put into an image that a file gave which may be changed, and what the calls make is saved where the system said that something had the stamp of the file that was read (this project)
 abbrev pub PutsFiles : Streams → HostFiles → Edition → List ℕ → List (List ℕ) → ℕ → ℕ → Type 0
 PutsFiles streams files edition directory names now status =
     RunsNothing streams files status

@@ -48,7 +48,7 @@ GaveBytes {F} remaining bytes = (old : F) × (new : F) × IsReadWhole (remaining
 abbrev pub IsUnread : {F : Type 0} → (F → Option (List ℕ)) → ℕ → Type 0
 IsUnread {F} remaining status = (status ≡ 3) ⊎ ((status ≡ 4) × (old : F) × (new : F) × LosesFront (remaining old) (remaining new))
 
--- what files do for the program: none could be read, with this status; one gave these bytes; one that is to be changed gave these bytes, and had this stamp before; one took these bytes; what stood at a path had this stamp (this project)
+-- what files do for the program: none could be read, with this status; one gave these bytes; one that is to be changed gave these bytes, and had this stamp before; one took these bytes; something that stood at some path had this stamp (this project)
 pub record HostFiles : Type 1 where
   pub unread : ℕ → Type 0
   pub given : List ℕ → Type 0
@@ -140,7 +140,7 @@ abbrev pub RunsCheck : Streams → HostFiles → Screen → Edition → Checker 
 RunsCheck streams files screen edition checker status =
     RunsNothing streams files status ⊎ ((image : List ℕ) × files.given image × Checks checker edition image screen streams status)
 
--- so many scripts are played: nothing is done; or files gave them, and they are played on an image that a file gave which may be changed, and the volume is saved where a file still stood that had the stamp of the one that was read (this project)
+-- so many scripts are played: nothing is done; or files gave them, and they are played on an image that a file gave which may be changed, and the volume is saved where the system said that something had the stamp of the file that was read (this project)
 abbrev pub RunsPlay : Streams → HostFiles → Edition → ℕ → ℕ → Type 0
 RunsPlay streams files edition count status =
     RunsNothing streams files status
@@ -200,7 +200,7 @@ wants_terminal is_terminal _ = false
 abbrev pub LeavesTerminal : Streams → ℕ → Type 0
 LeavesTerminal streams status = (status ≡ 3) × Keeps streams.old streams.new × (streams.failed ≡ streams.had_failed) × streams.said []
 
--- a volume is changed: nothing is done; or it is changed in an image that a file gave which may be changed, by the bytes that were given, and what is made is saved where a file still stood that had the stamp of the one that was read (this project)
+-- a volume is changed: nothing is done; or it is changed in an image that a file gave which may be changed, by the bytes that were given, and what is made is saved where the system said that something had the stamp of the file that was read (this project)
 abbrev pub ChangesImage : Streams → HostFiles → HostInput → Edition → Change → ℕ → Type 0
 ChangesImage streams files input edition change status =
     RunsNothing streams files status ⊎ (TakesNothing streams files input change status
@@ -240,7 +240,7 @@ pub record Tells (streams : Streams) (kind : ErrorKind) (status : ℕ) : Type 0 
   pub failed : status ≡ 3 → streams.failed ≡ true
   pub quiet : streams.said []
 
--- what was read of the words runs: what they ask for is carried out, or it is told why they are refused (this project)
+-- what was read of the words runs: what they ask for is carried out, or they are refused, with the status of that (this project)
 abbrev pub RunsRead : Streams → HostFiles → ℕ → Result Invocation Error → Type 0
 RunsRead streams files status (Ok invocation) = Runs streams files status invocation
 RunsRead streams files status (Err error) = Tells streams (kind_of error) status

@@ -3,13 +3,13 @@ use Rattle.std.specs.Prelude.{◌≡◌, ◌⊎◌, ℕ, true, if◌then◌else�
 use Rattle.std.specs.List.{flat_map}
 use Rattle.std.specs.Io.KnownBytes.{Appends, Keeps}
 use Rattle.pdp_words.specs.Devices.{AppendsFront}
-use Rattle.escaped_text.specs.Escaping.{escaped}
 use Rattle.vol_check.specs.Reporting.{IsReport}
 use Rattle.vol_reports.specs.Reports.{has_faults}
 use Rattle.vol_reports.specs.Texts.{line_text, report_text}
 use Rattle.command_faults.specs.Faults.{fault_line, no_memory}
 use Rattle.command_faults.specs.Streams.{Streams}
 use Rattle.vol_layout.specs.declared.edition.Edition.{Edition}
+use Rattle.vol_listing.specs.Lines.{shown}
 use Rattle.vol_listing.specs.declared.options.Screen.{Screen}
 use Rattle.vol_listing.specs.declared.options.Screen.TheVariants as screens
 use Rattle.vol_reports.specs.declared.line.Line.{Line}
@@ -21,24 +21,24 @@ use Rattle.command_faults.specs.declared.fault.Fault.TheVariants as faults
 abbrev pub report_status : List Line → ℕ
 report_status report = if has_faults report then 1 else 0
 
--- a line as a terminal shows it: with its path escaped (ls -b; this project)
-abbrev pub escaped_line : Line → Line
-escaped_line (lines.Rule number) = lines.Rule number
-escaped_line (lines.Bad inode count least) = lines.Bad inode count least
-escaped_line (lines.Dup block places free) = lines.Dup block places free
-escaped_line (lines.Lost block) = lines.Lost block
-escaped_line (lines.FreeList fault number) = lines.FreeList fault number
-escaped_line (lines.Total total count) = lines.Total total count
-escaped_line (lines.Links inode entries links) = lines.Links inode entries links
-escaped_line (lines.Name inode path) = lines.Name inode (escaped path)
+-- a line as it is shown: to a terminal with its path escaped (ls -b; this project)
+abbrev pub shown_line : Screen → Line → Line
+shown_line screen (lines.Rule number) = lines.Rule number
+shown_line screen (lines.Bad inode count least) = lines.Bad inode count least
+shown_line screen (lines.Dup block places free) = lines.Dup block places free
+shown_line screen (lines.Lost block) = lines.Lost block
+shown_line screen (lines.FreeList fault number) = lines.FreeList fault number
+shown_line screen (lines.Total total count) = lines.Total total count
+shown_line screen (lines.Links inode entries links) = lines.Links inode entries links
+shown_line screen (lines.Name inode path) = lines.Name inode (shown screen path)
 
--- the text of a line as a terminal shows it (this project)
-abbrev pub terminal_text : Line → List ℕ
-terminal_text line = line_text (escaped_line line)
+-- the text of a line as it is shown (this project)
+abbrev pub shown_line_text : Screen → Line → List ℕ
+shown_line_text screen line = line_text (shown_line screen line)
 
 -- the text of a report as it is shown: to a terminal with its paths escaped, else as they are (this project)
 abbrev pub shown_text : Screen → List Line → List ℕ
-shown_text (screens.Terminal columns) report = flat_map terminal_text report
+shown_text (screens.Terminal columns) report = flat_map (shown_line_text (screens.Terminal columns)) report
 shown_text screens.Stream report = report_text report
 
 -- memory ran out, and nothing is printed (this project)

@@ -4,22 +4,20 @@ ghost use Rattle.std.specs.List.{flat_map};
 ghost use Rattle.std.specs.Io.KnownBytes.{Appends, Keeps};
 ghost use Rattle.pdp_words.specs.Devices.{AppendsFront};
 ghost use Rattle.vol_check.specs.Reporting.{IsReport};
-ghost use Rattle.vol_reports.specs.Texts.{report_text};
-ghost use Rattle.command_reads.specs.Checkers.{Checks, IsUnreported, PrintsReport, report_status, shown_text, terminal_text};
+ghost use Rattle.command_reads.specs.Checkers.{Checks, IsUnreported, PrintsReport, report_status, shown_line_text, shown_text};
 ghost use Rattle.command_faults.specs.Streams.{heard, ErrorStream, Hears, streams};
 ghost use Rattle.command_faults.specs.Faults.{no_memory};
 
 use command_faults::Fault;
 use command_faults::answer::{Ending, tell};
 use command_faults::status::{DONE, REFUSED};
-use escaped_text::push_escaped;
 use pdp_words::{Bytes, Image, Sink, write_all};
 use std::alloc::{AllocError, Global};
 use std::sync::Wait;
 use std::thread::Threads;
 use vol_check::{Checker, MOST_WORKERS, Open, dcheck, icheck, ncheck};
 use vol_layout::Edition;
-use vol_listing::Screen;
+use vol_listing::{Screen, push_shown};
 use vol_reports::{Line, Report};
 
 /// Prints what a checker finds, by so many threads, as [`perform`] does, writes the line of its fault to `errors`, and
@@ -127,12 +125,12 @@ fn print<O: Sink>(
         × (O.failed output.new ≡ true))) }
 {
     let mut text = Vec::new(alloc);
-    push_shown(alloc, screen, report, &mut text)?;
+    push_report(alloc, screen, report, &mut text)?;
     write_all(output, &text).map_err(|_| Fault::Output)
 }
 
 /// Appends the text of a report as it is shown: to a terminal with its paths escaped, else as their bytes are.
-fn push_shown(
+fn push_report(
     alloc: Global,
     screen: Screen,
     report: &Report,
@@ -141,29 +139,39 @@ fn push_shown(
     ensures { OnOk result (text.new.items ≡ text.old.items ++ shown_text screen report.now) }
 {
     match screen {
-        Screen::Terminal { .. } => push_escaped_lines(alloc, report.lines(), text),
+        Screen::Terminal { .. } => push_lines(alloc, screen, report.lines(), text),
         Screen::Stream => report.push_text(text),
     }
 }
 
-/// Appends the text of lines with their paths escaped.
-fn push_escaped_lines(alloc: Global, lines: &[Line], text: &mut Vec<u8>) -> Result<(), AllocError>
-    ensures { OnOk result (text.new.items ≡ text.old.items ++ flat_map terminal_text lines.now) }
+/// Appends the text of lines as they are shown.
+fn push_lines(
+    alloc: Global,
+    screen: Screen,
+    lines: &[Line],
+    text: &mut Vec<u8>,
+) -> Result<(), AllocError>
+    ensures { OnOk result (text.new.items ≡ text.old.items ++ flat_map (shown_line_text screen) lines.now) }
 {
     'lines: for line in lines {
-        push_escaped_line(alloc, line, text)?;
+        push_line(alloc, screen, line, text)?;
     }
     Ok(())
 }
 
-/// Appends the text of a line with its path escaped, if it has one.
-fn push_escaped_line(alloc: Global, line: &Line, text: &mut Vec<u8>) -> Result<(), AllocError>
-    ensures { OnOk result (text.new.items ≡ text.old.items ++ terminal_text line.now) }
+/// Appends the text of a line as it is shown.
+fn push_line(
+    alloc: Global,
+    screen: Screen,
+    line: &Line,
+    text: &mut Vec<u8>,
+) -> Result<(), AllocError>
+    ensures { OnOk result (text.new.items ≡ text.old.items ++ shown_line_text screen line.now) }
 {
     match line {
         Line::Name { inode, path } => {
             let mut shown = Vec::new(alloc);
-            push_escaped(&mut shown, path.as_slice())?;
+            push_shown(screen, path.as_slice(), &mut shown)?;
             let path = Bytes::from_vec(shown);
             let inode = *inode;
             Line::Name { inode, path }.push_text(text)

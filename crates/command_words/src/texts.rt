@@ -672,7 +672,7 @@ Example:
 It prints a line for each entry of each directory but `.` and `..`, by ascending i-number, and then by path. Nothing
 of the volume's soundness is asked first, and nothing is changed.
 
-  INO PATH       the entry's i-number, and its path from the root
+  INO PATH       the entry's i-number, and its path from the root, which a terminal gets escaped
   INO ...PATH    no way leads down from the root to the entry's directory: the path begins where the way up ends,
                  at a directory that no entry names, or that was met before
 

@@ -13,5 +13,6 @@ mod options;
 mod places;
 mod rows;
 
+pub use lines::push_shown;
 pub use listing::list;
 pub use options::{Lines, Listing, Screen};

@@ -197,7 +197,7 @@ fn push_long_line(
 }
 
 /// Appends a name or a path as it is shown: to a terminal escaped, else as its bytes are.
-fn push_shown(screen: Screen, name: &[u8], text: &mut Vec<u8>) -> Result<(), AllocError>
+pub fn push_shown(screen: Screen, name: &[u8], text: &mut Vec<u8>) -> Result<(), AllocError>
     ensures { OnOk result (text.new.items ≡ text.old.items ++ shown screen name.now) }
 {
     match screen {

@@ -1,8 +1,0 @@
-use Rattle.std.proofs.Common.{◌≡◌, ◌++◌, take}
-use Rattle.std.specs.List.{flat_map}
-use Rattle.command_reads.specs.Checkers.{terminal_text}
-use Rattle.command_reads.proofs.checkers.push_escaped_lines.Given as goal
-
--- the lines so far are there
-abbrev pub invariant-lines : goal.invariant-lines
-invariant-lines l = l.text.items ≡ l.initial.text.items ++ flat_map terminal_text (take l.line-index l.lines)

@@ -36,15 +36,13 @@ fn main(rt: HostRuntime) -> ExitCode {
         rt: &rt,
         explains: command_line::asks_to_explain(words.as_slice()),
     };
+    let output = rt.stdout();
+    let screen = looks::screen(&rt, output.is_terminal());
     match command_line::read(rt.alloc(), moment(&rt), words.as_slice()) {
         Ok(Invocation::Work { volume, work }) => {
-            let output = rt.stdout();
-            let screen = looks::screen(&rt, output.is_terminal());
             threads::run_to_end(&host, screen, output, rt.stderr(), volume, work)
         }
         Ok(Invocation::Look { volume, look }) => {
-            let output = rt.stdout();
-            let screen = looks::screen(&rt, output.is_terminal());
             looks::run_to_end(&host, screen, output, rt.stderr(), volume, look)
         }
         Ok(Invocation::Change { volume, change }) => {
@@ -54,16 +52,16 @@ fn main(rt: HostRuntime) -> ExitCode {
                 &host,
                 input,
                 is_terminal,
-                rt.stdout(),
+                output,
                 rt.stderr(),
                 volume,
                 change,
             )
         }
         Ok(Invocation::Copy { volume, copying }) => {
-            copying::run_to_end(&host, rt.stdout(), rt.stderr(), volume, copying)
+            copying::run_to_end(&host, output, rt.stderr(), volume, copying)
         }
-        read => commands::run_to_end(&host, rt.stdout(), rt.stderr(), read),
+        read => commands::run_to_end(&host, output, rt.stderr(), read),
     }
 }
 

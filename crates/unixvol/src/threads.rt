@@ -24,8 +24,9 @@ use std::thread::Threads;
 use vol_check::{Checker, MOST_WORKERS, Open};
 use vol_listing::Screen;
 
-/// Does with the volume in a file what several threads are asked for, and answers how the program ends. What it prints goes
-/// to `output`, which is standard output, as `screen` shows it; a fault is one line on standard error. `errors` writes to standard error too.
+/// Does with the volume in a file what several threads are asked for, and answers how the program ends. What it prints goes to
+/// `output`, which is standard output, as `screen` shows it; a fault is one line on standard error. `errors` writes to standard
+/// error too.
 pub fn run_to_end<
     R: ImageFiles + Clock + Eprint + AllocGlobal + Threads + Wait + Sync,
     O: Write + Drop,

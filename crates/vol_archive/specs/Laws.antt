@@ -94,7 +94,7 @@ MembersAreTheTree = (geometry : Geometry) (image : List ℕ) (start : ℕ) (foun
     → (walk_from (tree geometry image) user start names ≡ Ok i)
     ↔ Any (λ (found : Found). (components found.path ≡ names) × (found.inode ≡ i)) (members_of founds)
 
--- the header of a member for a node, with so many bytes after it and the number of a device: what a Stat of its path replies (POSIX, ustar interchange format; stat)
+-- the header of a member for a node, with so many bytes after it and the number of a device: the permissions, owner, group and time are those that a Stat of its path replies (POSIX, ustar interchange format; stat)
 abbrev pub header_for : Node → MemberKind → ℕ → ℕ → Header
 header_for node kind size device = record {
   kind = kind;

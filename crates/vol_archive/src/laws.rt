@@ -42,8 +42,9 @@ pub fn members_are_the_tree()
     ensures { MembersAreTheTree }
 {}
 
-/// Of every image, each member is for a node of the tree: its header has the kind, permissions, owner, group, size and time that a
-/// Stat of its path replies, and after it come the bytes that a Read replies; a further name has the path of the first one.
+/// Of every image, each member is for a node of the tree: its header has the permissions, owner, group and time that a Stat of its
+/// path replies. A regular file has its size too, and after the header the bytes that a Read replies; a further name has the path of
+/// the first one.
 pub fn members_have_nodes()
     ensures { MembersHaveNodes }
 {}

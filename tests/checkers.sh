@@ -114,7 +114,7 @@ cp new.6 odd
 plays odd 'create /unusual 644'
 put odd "$(grep -abo unusual odd | cut -d : -f 1)" 1B5C
 finds 0 ncheck odd $'32 /\033\\usual'
-has 'ncheck on a terminal' '32 /\033\\usual' "$(script -qec "'$program' ncheck 6 odd" /dev/null < /dev/null | tr -d '\r')"
+has 'ncheck on a terminal' '32 /\033\\usual' "$(script -qec "'$program' ncheck 6 odd 1" /dev/null < /dev/null | tr -d '\r')"
 
 # Two directories apart from the root, each with an entry for the other.
 cp new.6 two

@@ -10,8 +10,8 @@ use vol_dir::Cred;
 use vol_layout::Edition;
 use vol_layout::slot::NAME;
 
-/// The longest path of a member.
-const PATH: usize = 4096;
+/// How many bytes the path of a member may have, and the path that it links to.
+pub const MOST_PATH_BYTES: usize = 4096;
 
 /// What a member is made as.
 #[derive(Clone, Copy, Debug, PartialEq, Eq)]
@@ -30,7 +30,7 @@ pub enum MemberFault {
     /// It is a special file, a symbolic link, or of a kind that isn't known.
     #[error("no call makes its kind")]
     Kind,
-    /// Its path is above 4,096 bytes.
+    /// Its path is above [`MOST_PATH_BYTES`].
     #[error("its path is above 4096 bytes")]
     LongPath,
     /// A name of its path is above 14 bytes.
@@ -39,7 +39,7 @@ pub enum MemberFault {
     /// Its path has a name `..`.
     #[error("its path leads up by ..")]
     DotDot,
-    /// It is a link, and the path that it leads to is above 4,096 bytes.
+    /// It is a link, and the path that it leads to is above [`MOST_PATH_BYTES`].
     #[error("it links to a path above 4096 bytes")]
     LongLinkPath,
     /// It is a link, and a name of the path that it leads to is above 14 bytes.
@@ -94,7 +94,7 @@ fn ends_in_slash(path: &[u8]) -> bool
     path.len() > 0 && path[path.len() - 1] == b'/'
 }
 
-/// Whether a path can be made: it isn't above 4,096 bytes, no name of it is above 14 bytes, and none is `..`.
+/// Whether a path can be made: it isn't above [`MOST_PATH_BYTES`], no name of it is above 14 bytes, and none is `..`.
 fn check_path(path: &[u8]) -> Result<(), MemberFault>
     ensures { result ≡ check_path path.now }
 {
@@ -109,11 +109,11 @@ fn check_path(path: &[u8]) -> Result<(), MemberFault>
     }
 }
 
-/// Whether a path is above 4,096 bytes.
+/// Whether a path is above [`MOST_PATH_BYTES`].
 fn is_long_path(path: &[u8]) -> bool
     ensures { result ≡ is_long_path path.now }
 {
-    path.len() > PATH
+    path.len() > MOST_PATH_BYTES
 }
 
 /// Whether a name of a path is above 14 bytes.

@@ -62,8 +62,8 @@ impl Draft {
     }
 }
 
-/// Whether a path isn't known. It is known then.
-pub(crate) fn is_new(
+/// Notes a path. Returns true if it wasn't known.
+pub(crate) fn note_known(
     alloc: Global,
     path: &[u8],
     known: &mut BTreeSet<StepPath>,
@@ -74,10 +74,10 @@ pub(crate) fn is_new(
     Ok(known.insert(StepPath::from_vec(Vec::from_slice(alloc, path)?))?)
 }
 
-/// Whether the directory at a path below another is missing: it isn't known, and is not there. It is known then.
+/// Notes the path of a directory below another. Returns true if it is missing: it wasn't known, and is not there.
 ///
-/// Costs a walk where it isn't known.
-pub(crate) fn is_missing(
+/// Costs a walk where it wasn't known.
+pub(crate) fn note_directory(
     alloc: Global,
     volume: &Volume,
     base: &[u8],
@@ -87,7 +87,7 @@ pub(crate) fn is_missing(
     ensures missing { IfOk result (λ missing. missing ≡ is_missing (reads_as volume.now.edition volume.now.image).tree base.now known.old.keys path.now) }
     ensures known { OnOk result (known.new.keys ≡ with_path known.old.keys path.now) }
 {
-    if !is_new(alloc, path, known)? {
+    if !note_known(alloc, path, known)? {
         return Ok(false);
     }
     Ok(!is_there(alloc, volume, base, path)?)
@@ -213,7 +213,7 @@ fn push_way_directory(
 ) -> Result<(), AllocError>
     ensures { OnOk result (drafted draft.new ≡ with_way_directory (reads_as volume.now.edition volume.now.image).tree base.now now path.now (drafted draft.old)) }
 {
-    if is_missing(alloc, volume, base, path, &mut draft.known)? {
+    if note_directory(alloc, volume, base, path, &mut draft.known)? {
         draft.push(Call::Mkdir {
             cred: Cred::ROOT,
             now,

@@ -13,7 +13,7 @@ pub mod reading;
 mod records;
 mod step_path;
 
-pub use checking::{Made, MemberFault, check};
+pub use checking::{MOST_PATH_BYTES, Made, MemberFault, check};
 pub use entries::{Entry, entry_at};
 pub use faults::ArchiveFault;
 pub use long_names::LongNames;

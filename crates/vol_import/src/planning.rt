@@ -5,7 +5,7 @@ ghost use Rattle.vol_import.specs.Plan.{below, check, permissions_of, moment_of,
 
 use crate::checking::{Made, MemberFault, check};
 use crate::closing::{close, permissions_given};
-use crate::drafting::{Draft, is_new, is_there, joined, push_way, steps_of};
+use crate::drafting::{Draft, is_there, joined, note_known, push_way, steps_of};
 use crate::reading::Member;
 use std::alloc::{AllocError, Global};
 use ustar::ReadHeader;
@@ -247,7 +247,7 @@ fn push_directory(
 ) -> Result<(), AllocError>
     ensures { OnOk result (drafted draft.new ≡ with_directory (reads_as volume.now.edition volume.now.image).tree base.now steps.now moment path perm owner (drafted draft.old)) }
 {
-    let added = is_new(alloc, steps, &mut draft.known)?;
+    let added = note_known(alloc, steps, &mut draft.known)?;
     if is_there(alloc, volume, base, steps)? {
         Ok(())
     } else if added {

@@ -12,7 +12,7 @@ use Rattle.ustar.specs.declared.reading.ReadHeader.{ReadHeader}
 use Rattle.ustar.specs.declared.reading.TypeFlag.{TypeFlag}
 use Rattle.ustar.specs.declared.reading.TypeFlag.TheVariants as flags
 use Rattle.vol_dir.specs.Tree.{Tree}
-use Rattle.vol_dir.specs.Walk.{components}
+use Rattle.vol_dir.specs.Walk.{components, is_nil}
 use Rattle.vol_dir.specs.declared.cred.Cred.{Cred}
 use Rattle.vol_dir.specs.declared.refusal.Refusal.{Refusal}
 use Rattle.vol_layout.specs.declared.edition.Edition.{Edition}
@@ -258,13 +258,9 @@ plan_onto tree base now drafted [] = Ok drafted.1
 plan_onto tree base now drafted (member ∷ rest) =
     and_next (onto tree base now drafted member (check tree.geometry.edition member)) (λ next. plan_onto tree base now next rest)
 
--- whether a name leads from a directory to another: it is neither empty nor `.` (Lions on namei)
-abbrev pub leads_on : List ℕ → Bool
-leads_on name = nat_lt 0 (length name) && is_step name
-
 -- whether a member is a directory, if it is made, at a path (this project)
 abbrev pub is_directory_at : Result Made MemberFault → List ℕ → Bool
-is_directory_at (Ok Directory) path = not (list_any leads_on (names_of path))
+is_directory_at (Ok Directory) path = is_nil (steps_of path)
 is_directory_at (Ok File) path = false
 is_directory_at (Ok Link) path = false
 is_directory_at (Err fault) path = false

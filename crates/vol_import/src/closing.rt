@@ -1,15 +1,15 @@
 //! The call that ends an import.
 ghost use Rattle.std.specs.Prelude.{◌≡◌, IfOk, OnOk, reverse};
-ghost use Rattle.std.specs.List.{find, list_any};
+ghost use Rattle.std.specs.List.{find};
 ghost use Rattle.std.specs.Option.{option_map};
 ghost use Rattle.vol_volume.specs.Answer.{answer};
 ghost use Rattle.vol_volume.specs.Volume.{reads_as};
 ghost use Rattle.vol_volume.specs.declared.queries.Query.TheVariants as questions;
 ghost use Rattle.vol_dir.specs.Access.{user};
-ghost use Rattle.vol_import.specs.Plan.{names_of, leads_on, is_base, permissions_given, permissions_told, base_permissions, closed};
+ghost use Rattle.vol_import.specs.Plan.{is_base, permissions_given, permissions_told, base_permissions, closed};
 
 use crate::checking::{Made, made_as};
-use crate::drafting::is_directory_kind;
+use crate::drafting::{first_step, is_directory_kind};
 use crate::planning::permissions_of;
 use crate::reading::Member;
 use std::alloc::{AllocError, Global};
@@ -40,18 +40,10 @@ fn is_base(member: &Member) -> bool
 {
     let path = member.path.as_slice();
     match made_as(member.header.flag, path) {
-        Ok(Made::Directory) => !leads_on(path),
+        Ok(Made::Directory) => first_step(path).is_none(),
         Ok(Made::File | Made::Link) => false,
         Err(_) => false,
     }
-}
-
-/// Whether a path leads on: a name of it is neither empty nor `.`.
-fn leads_on(path: &[u8]) -> bool
-    ensures { result ≡ list_any leads_on (names_of path.now) }
-{
-    path.split(|c| *c == b'/')
-        .any(|name| name.len() > 0 && name != b".".as_slice())
 }
 
 /// Appends the call that ends an import, if there are calls: the directory in which the import is made, if it is there or these

@@ -1,5 +1,5 @@
 //! A plan that is being made, and the directories on the way to its members.
-ghost use Rattle.std.specs.Prelude.{◌≡◌, ◌++◌, ◌∷◌, [], IfOk, OnOk, map, not};
+ghost use Rattle.std.specs.Prelude.{◌≡◌, ◌<◌, ◌++◌, ◌∷◌, [], IfOk, IfSome, MatchOption, OnOk, length, map, not};
 ghost use Rattle.vol_volume.specs.Answer.{answer};
 ghost use Rattle.vol_volume.specs.Volume.{reads_as};
 ghost use Rattle.vol_volume.specs.declared.queries.Query.TheVariants as questions;
@@ -147,13 +147,27 @@ pub(crate) fn steps_of<'a>(alloc: Global, path: &'a [u8]) -> Result<Vec<&'a [u8]
 {
     let mut steps = Vec::new(alloc);
     let mut left = path;
-    while let Some((step, rest)) = split_component(left) {
-        if is_step(step) {
-            steps.push(step)?;
-        }
+    while let Some((step, rest)) = first_step(left) {
+        steps.push(step)?;
         left = rest;
     }
     Ok(steps)
+}
+
+/// The first step of a path, and what follows it; None where the path has no step.
+pub(crate) fn first_step(path: &[u8]) -> Option<(&[u8], &[u8])>
+    ensures parts { MatchOption result (steps_of path.now ≡ [])
+        (λ parts. steps_of path.now ≡ parts.0.now ∷ steps_of parts.1.now) }
+    ensures shorter { IfSome result (λ parts. length parts.1.now < length path.now) }
+{
+    let mut left = path;
+    'names: while let Some((name, rest)) = split_component(left) {
+        if is_step(name) {
+            return Some((name, rest));
+        }
+        left = rest;
+    }
+    None
 }
 
 /// Whether a name leads on.

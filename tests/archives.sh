@@ -383,11 +383,11 @@ for edition in 6 7; do
     python3 make.py linked.tar link ././first
     unimported 'unixvol: second: a link to a path above 4096 bytes' "$edition" linked.tar
     python3 make.py way.tar way ab
-    unimported "unixvol: 103 NoInode: ${dots//./a}a/a/ab" "$edition" way.tar
+    unimported "unixvol: 103 NoInode: /${dots//./a}a/a/ab" "$edition" way.tar
     python3 make.py ways.tar ways 1000
-    unimported "unixvol: 103 NoInode: d$inodes/f" "$edition" ways.tar
+    unimported "unixvol: 103 NoInode: /d$inodes/f" "$edition" ways.tar
     python3 make.py directories.tar directories 1000
-    unimported "unixvol: 103 NoInode: d$((inodes + 1))/" "$edition" directories.tar
+    unimported "unixvol: 103 NoInode: /d$((inodes + 1))/" "$edition" directories.tar
     # Where they aren't more, the calls say what is missing: i-nodes, or links of the root, of which the sixth edition has 127 at most.
     python3 make.py directories.tar directories "$inodes"
     refusal='103 NoInode: /d62/'

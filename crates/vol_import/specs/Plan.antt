@@ -236,10 +236,10 @@ with_made Link tree base now member owner drafted =
 abbrev pub is_crowded : Tree → Drafted → Bool
 is_crowded tree drafted = nat_lt tree.geometry.last_inode (length drafted.0)
 
--- a draft that has the directories on the way to a member, with the member made as something, for its owner; where these are more than the volume has i-nodes, the member can't be made (this project)
+-- a draft that has the directories on the way to a member, with the member made as something, for its owner; where these are more than the volume has i-nodes, the member can't be made, as a call at its path in the volume would say (this project)
 abbrev pub with_member : Tree → List ℕ → ℕ → Member → Made × Cred → Drafted → Result Drafted PlanFault
 with_member tree base now member made drafted =
-    if is_crowded tree drafted then Err (plans.Member member.path faults.NoInode) else Ok (with_made made.0 tree base now member made.1 drafted)
+    if is_crowded tree drafted then Err (plans.Member (below base member.path) faults.NoInode) else Ok (with_made made.0 tree base now member made.1 drafted)
 
 -- a draft with a member, which may be made as something; or why it can't be made (this project)
 abbrev pub onto : Tree → List ℕ → ℕ → Drafted → Member → Result (Made × Cred) MemberFault → Result Drafted PlanFault

@@ -51,7 +51,8 @@ pub enum MemberFault {
     /// The number of its owner or of its group is above the edition's highest: 255 in the sixth, 32,767 in the seventh.
     #[error("no user or group of the edition")]
     Owner,
-    /// The directories of the members before it, with those on its way, are more than the volume has i-nodes.
+    /// The directories of the members before it, with those on its way, are more than the volume has i-nodes. It is told with
+    /// its path in the volume, as a refused call is.
     #[error("more directories than the volume has i-nodes")]
     NoInode,
 }

@@ -21,9 +21,9 @@ pub enum ImportFault {
     Unsound(u8),
     /// The archive can't be read.
     Archive(ArchiveFault),
-    /// No calls make the member at this path.
+    /// No calls make the member at this path of the archive; with [`MemberFault::NoInode`], of the volume.
     Member(Bytes, MemberFault),
-    /// A call is refused; its path ends in that of its member.
+    /// A call is refused, with its path in the volume.
     Refused(Refusal, Call),
     /// An allocation was refused.
     NoMemory,

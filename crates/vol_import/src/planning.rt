@@ -18,7 +18,7 @@ const TIMES: u64 = 4_294_967_296;
 /// Why there are no calls that make the members of an archive.
 #[derive(Debug, Drop)]
 pub enum PlanFault {
-    /// No calls make the member at this path.
+    /// No calls make the member at this path of the archive; with [`MemberFault::NoInode`], of the volume.
     Member(Bytes, MemberFault),
     /// An allocation was refused.
     NoMemory,
@@ -40,13 +40,20 @@ impl From<AllocError> for PlanFault {
 /// made at the moment of its member's last change, or `now` where that has no 32 bits. Before a member each directory on the way
 /// to it that is missing is made, at `now`, with permissions 0755; that at `base` isn't. The last call, if there are any, gives
 /// the directory at `base` the permissions that it has, at `now`, which becomes the time of the volume; it is left out where no
-/// directory is there and no member makes it. Where no calls make a member, its path and the reason are told. One is NoInode:
-/// with the directories on the way to this member, those of the archive so far are more than the volume has i-nodes. The calls
-/// would be refused too, but mostly one of a member before it.
+/// directory is there and no member makes it.
 ///
-/// The bytes of the members go into the calls. Takes memory for the calls and up to three paths each, which are `base` and 4,097
-/// bytes at most, and for the path of each directory, of which there are at most as many as i-nodes and on one way. Costs a walk
-/// for each directory, and as much as sorting their paths.
+/// Where no calls make a member, it is told with its path in the archive and the reason. But it is told as NoInode, with its path
+/// in the volume, where the directories of the members so far, with those on the way to it, are more than the volume has i-nodes.
+/// Calls would be refused for that too, but mostly at a member before it.
+///
+/// The bytes of the members go into the calls. Takes memory for the calls, each with its whole path, which is `base` and 4,097
+/// bytes at most: up to three for a member, and one for each directory that is missing. Takes memory too for the paths of
+/// directories, of members and on the way to them: each is kept once, and they are no more than the volume has i-nodes and one
+/// way has names.
+///
+/// Each member costs the square of the length of its way, since the path of each directory on it is copied and looked up, also
+/// where all are known: about 4 MB and 2,048 look-ups for a path of 4,096 bytes. A directory that isn't known costs a walk
+/// besides, and so does each member that is a directory.
 pub fn plan(
     alloc: Global,
     volume: &Volume,
@@ -85,7 +92,8 @@ fn push_member(
         Ok((made, owner)) => {
             push_way_to(alloc, volume, base, now, member.path.as_slice(), draft)?;
             if draft.is_crowded(volume) {
-                return Err(PlanFault::Member(member.path, MemberFault::NoInode));
+                let path = below(alloc, base, member.path.as_slice())?;
+                return Err(PlanFault::Member(path, MemberFault::NoInode));
             }
             push_made(alloc, volume, base, now, member, made, owner, draft)?;
             Ok(())

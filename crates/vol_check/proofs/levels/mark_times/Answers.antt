@@ -1,14 +1,12 @@
-use Rattle.std.proofs.Common.{◌≡◌, ℕ, ◌+◌, ◌*◌, ◌≤◌, sym, ap, subst, ◌∙◌, false, true, arith}
+use Rattle.std.proofs.Common.{◌≡◌, ℕ, ◌*◌, ◌≤◌, sym, ap, subst, ◌∙◌, false, true}
 use Rattle.vol_layout.specs.Geometry.{in_zone}
 use Rattle.count_table.specs.Views.{mark}
 use Rattle.vol_reports.specs.Words.{bad_word, least_word}
 use Rattle.vol_check.specs.Pieces.{place_weight}
 use Rattle.vol_check.proofs.Adding.{added_times, adds_then}
+use Rattle.vol_check.proofs.LevelLaws.{spread}
 use Rattle.vol_check.proofs.Weights.{place_inside, place_outside}
 use Rattle.vol_check.proofs.levels.mark_times.Goals as goal
-
-spread : (n x y : ℕ) → n * (x + y) ≡ n * x + n * y
-spread n x y = grind arith
 
 pub returns-then-in_zone : goal.returns-then-in_zone
 returns-then-in_zone c =

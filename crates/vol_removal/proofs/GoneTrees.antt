@@ -66,7 +66,7 @@ stays_released state now i =
     ]
 
 -- what is searched of what a node holds, if it is a map
-abbrev named : Option Names → Result Names Refusal
+abbrev pub named : Option Names → Result Names Refusal
 named held = option_map_or (λ (names : Names). Ok names) held (Err refusals.NotDirectory)
 
 -- a directory with one name less

@@ -1,6 +1,6 @@
 pub mod GoneCalls
 mod GoneNames
-mod GoneTrees
+pub mod GoneTrees
 mod Removals
 mod TakenPaths
 pub mod TreeWalks

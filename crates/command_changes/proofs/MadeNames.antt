@@ -4,7 +4,7 @@ use Rattle.std.specs.Prelude.{Result}
 use Rattle.std.specs.Cmp.Lexicographic.{slice_cmp}
 use Rattle.std.specs.FinMap.Entries.{find-put}
 use Rattle.std.specs.Ordering.{nat_cmp}
-use Rattle.std.specs.Option.{is_some, ok_or, option_map, option_map_or, unwrap_or}
+use Rattle.std.specs.Option.{is_some, ok_or, option_map, unwrap_or}
 use Rattle.std.specs.Str.{bytes_eq}
 use Rattle.std.proofs.lemmas.Bool.{cases_eq}
 use Rattle.std.proofs.lemmas.Cmp.{nat_list_cmp_total}
@@ -13,7 +13,7 @@ use Rattle.vol_file.proofs.PlaceLists.{bytes_same, same_bytes}
 use Rattle.vol_dir.specs.Access.{user}
 use Rattle.vol_dir.specs.Names.{Names, get, insert}
 use Rattle.vol_dir.specs.Tree.{Content, Body, Directory, Device, Node, Tree}
-use Rattle.vol_dir.specs.Walk.{root, components, map_of, is_directory, search_node, and_then, find_in, walk_from, walk}
+use Rattle.vol_dir.specs.Walk.{root, components, map_of, is_directory, and_then, find_in, walk_from, walk}
 use Rattle.vol_dir.proofs.PathJoins.{walk_from-append}
 use Rattle.vol_dir.specs.declared.refusal.Refusal.{Refusal}
 use Rattle.vol_dir.specs.declared.refusal.Refusal.TheVariants as refusals
@@ -21,6 +21,7 @@ use Rattle.vol_change.specs.Edits.{set_at, change_names, modified, stamped}
 use Rattle.vol_change.specs.Nodes.{no_node}
 use Rattle.vol_change.proofs.SideStates.{set_beside}
 use Rattle.vol_change.proofs.NodeEdits.{set_here}
+use Rattle.vol_removal.proofs.GoneTrees.{named, searched}
 use Rattle.vol_removal.proofs.TreeWalks.{Reaches}
 
 -- a path leads to a node
@@ -28,14 +29,6 @@ pub record LeadsTo (tree : Tree) (path : List ℕ) (node : Node) : Type 0 where
   pub number : ℕ
   pub walked : walk tree user path ≡ Ok number
   pub stands : tree.nodes number ≡ Some node
-
--- what user 0 searches in what a node holds, if it is a map
-abbrev named : Option Names → Result Names Refusal
-named held = option_map_or (λ (names : Names). Ok names) held (Err refusals.NotDirectory)
-
--- what user 0 searches in a node, if there is one
-abbrev searched : Option Node → Result Names Refusal
-searched node = option_map_or (search_node user) node (Err refusals.NotDirectory)
 
 -- what is found by a name in what is searched
 abbrev found_in : Result Names Refusal → List ℕ → Result ℕ Refusal

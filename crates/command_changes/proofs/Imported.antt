@@ -1,8 +1,7 @@
 -- What the import of an archive comes to, by what making its members came to.
-use Rattle.std.proofs.Common.{◌≡◌, ◌⊎◌, ℕ, List, [], None, Some, Ok, Err, IfOk, IfErr, Result, IsSome, Option, is_some, true, false, true≢false, inl, inr, refl, sym, subst, ◌∙◌, arith}
+use Rattle.std.proofs.Common.{◌≡◌, ◌⊎◌, ℕ, List, [], None, Some, Ok, Err, IfOk, IfErr, Result, IsSome, Option, is_some, false, true≢false, inl, inr, refl, sym, subst, ◌∙◌, arith}
 use Rattle.std.specs.Global.{Vec}
 use Rattle.vol_import.specs.Making.{Imports, IsReason}
-use Rattle.vol_dir.specs.declared.refusal.Refusal.{Refusal}
 use Rattle.vol_layout.specs.declared.edition.Edition.{Edition}
 use Rattle.vol_volume.specs.declared.calls.Call.{Call}
 use Rattle.vol_import.specs.declared.faults.ArchiveFault.{ArchiveFault}
@@ -11,7 +10,7 @@ use Rattle.vol_import.specs.declared.making.ImportFault.{ImportFault}
 use Rattle.vol_import.specs.declared.making.ImportFault.TheVariants as faults
 use Rattle.command_faults.proofs.Concluded.{refusal_fails}
 use Rattle.command_faults.specs.Streams.{ErrorStream, Hears, says}
-use Rattle.command_faults.specs.Faults.{line_after, refusal_status}
+use Rattle.command_faults.specs.Faults.{line_after}
 use Rattle.command_faults.specs.declared.answer.Answer.{Answer}
 use Rattle.command_faults.specs.declared.fault.Fault.{Fault}
 use Rattle.command_changes.specs.Import.{ImportsArchive, TellsFault}

@@ -52,7 +52,7 @@ abbrev pub RemovesBelow : Edition → List ℕ → Streams → Answer → List �
 RemovesBelow edition image streams answer path now =
     RemovesTree edition image path now streams.said answer × Keeps streams.old streams.new × (streams.failed ≡ streams.had_failed)
 
--- what a change comes to, by the bytes that it is given: the calls that it stands for, all or none, or a new free list. Then a path that is put has these bytes; one that `mkdir` makes, or `mkdir -p`, for which its last name is neither `.` nor `..`, is a directory's; and the one that `mv` moves from leads to nothing (this project)
+-- what a change comes to, by the bytes that it is given: the calls that it stands for, all or none, or a new free list. Then PATH of `put` leads to a file of these bytes, that of `mkdir` to a directory, that of `mkdir -p` too unless its last name is `.` or `..`, and FROM of `mv` to nothing (this project)
 abbrev pub Changes : Edition → List ℕ → List ℕ → Streams → Answer → Change → Type 0
 Changes edition image given streams answer (changes.Put path file now) =
     CallsLeave edition image streams answer (put_calls (reads_as edition image).tree now path.now given) (λ tree. HasFile tree path.now given)

@@ -8,7 +8,6 @@ use Rattle.vol_dir.specs.Names.{Names, is_dots}
 use Rattle.vol_dir.specs.Tree.{Tree}
 use Rattle.vol_dir.specs.Walk.{is_directory}
 use Rattle.vol_change.specs.Nodes.{node_at}
-use Rattle.vol_dir.specs.declared.cred.Cred.{Cred}
 use Rattle.vol_dir.specs.declared.refusal.Refusal.{Refusal}
 use Rattle.vol_dir.specs.Access.{user}
 use Rattle.vol_volume.specs.Answer.{answer}

@@ -24,6 +24,7 @@ pub mod PlaceLists
 pub mod Ranges
 pub mod Reaching
 pub mod ReadingLaws
+pub mod Repeating
 pub mod Sizing
 pub mod Soundness
 pub mod Splicing

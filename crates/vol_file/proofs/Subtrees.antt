@@ -43,7 +43,7 @@ abbrev IsAmong : Form → ℕ → List ℕ → ℕ → ℕ → Type 0
 IsAmong form n p k t = LiesAmong n (tail_of (drop n p)) (head_of (drop n p)) (head_of (drop n p) + k + 1) (last_place form t)
 
 -- what is held by a value is held by that of an equation
-some_is : (p q : List ℕ) → Some p ≡ Some q → p ≡ q
+pub some_is : (p q : List ℕ) → Some p ≡ Some q → p ≡ q
 some_is p q e = cc
 
 -- a last place lies among others, by what it is
@@ -221,12 +221,12 @@ stored_none geometry image i n low high above (Some q) fits (x, top, from, to) n
     (ap (named geometry image i) top ∙ none x from to)
 
 -- the place that is left of a way's without its last n entries
-drop_to : (k : ℕ) (entries : List ℕ) (n d : ℕ) → drop n (place_to k entries (n + d)) ≡ place_to k entries d
+pub drop_to : (k : ℕ) (entries : List ℕ) (n d : ℕ) → drop n (place_to k entries (n + d)) ≡ place_to k entries d
 drop_to k entries zero d = let e : zero + d ≡ d = omega arith in ap (place_to k entries) e
 drop_to k entries (suc n) d = let e : suc n + d ≡ suc (n + d) = omega arith in rw e (drop_to k entries n d)
 
 -- how long a place is
-length_to : (k : ℕ) (entries : List ℕ) (d : ℕ) → length (place_to k entries d) ≡ suc d
+pub length_to : (k : ℕ) (entries : List ℕ) (d : ℕ) → length (place_to k entries d) ≡ suc d
 length_to k entries zero = refl
 length_to k entries (suc d) = ap suc (length_to k entries d)
 
@@ -241,7 +241,7 @@ pointers_by edition mode b p =
     ]
 
 -- the pointers of an indirect block by the form of a file, where a logical block of it has a way
-pointers_at : (geometry : Geometry) (image : List ℕ) (i : ℕ) (form : Form) (b : ℕ) (way : Way) → form ≡ form_at geometry image i
+pub pointers_at : (geometry : Geometry) (image : List ℕ) (i : ℕ) (form : Form) (b : ℕ) (way : Way) → form ≡ form_at geometry image i
     → Some (end_of way) ≡ last_place form b → pointer_count form ≡ (constants geometry.edition).pointers
 pointers_at geometry image i form b way is end =
     ap pointer_count is

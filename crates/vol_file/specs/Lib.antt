@@ -10,6 +10,7 @@ pub mod Holes
 pub mod Laws
 pub mod Missing
 pub mod Need
+pub mod Repeats
 pub mod Rules
 pub mod Shape
 pub mod Steps

@@ -137,7 +137,7 @@ pub(crate) fn blocks_below(geometry: &Geometry, levels: usize) -> u32
 
 /// How many logical blocks, from the one with this way on, lie below the indirect block that the first `d`
 /// entries of the way lead to.
-fn left_below(geometry: &Geometry, way: &Way, d: usize) -> u32
+pub(crate) fn left_below(geometry: &Geometry, way: &Way, d: usize) -> u32
     requires depth { way.now.depth ≤ 3 }
     requires above { d ≤ way.now.depth }
     requires entries { (k : ℕ) → k < way.now.depth → slice_index way.now.entries k < (constants geometry.now.edition).pointers }

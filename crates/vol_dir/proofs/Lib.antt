@@ -9,5 +9,6 @@ pub mod NextEntries
 pub mod ListedNames
 pub mod PlaceTests
 pub mod Replacing
+pub mod RepeatedSlots
 pub mod SlotReading
 pub mod WalkLaws

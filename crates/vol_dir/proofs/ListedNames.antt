@@ -1,6 +1,6 @@
 -- Collecting the names of a directory, slot after slot, where a name may come twice.
-use Rattle.std.proofs.Common.{◌≡◌, ℕ, zero, suc, ◌+◌, ◌-◌, ◌<◌, ◌≤◌, Bool, true, false, cond, List, [], ◌∷◌, ◌++◌, map, None, Some, refl, ap, sym, ◌∙◌, arith}
-use Rattle.std.specs.Prelude.{Option, T}
+use Rattle.std.proofs.Common.{◌≡◌, ℕ, zero, suc, ◌+◌, ◌-◌, ◌<◌, ◌≤◌, Bool, true, false, cond, List, [], ◌∷◌, ◌++◌, map, None, Some, refl, ap, sym, subst, ◌∙◌, inl, inr, arith}
+use Rattle.std.specs.Prelude.{Option, T, nat_lt, if◌then◌else◌, slice_index_or}
 use Rattle.std.specs.BTreeMap.{insert_entry}
 use Rattle.std.specs.Map.{lookup}
 use Rattle.std.specs.Cmp.Lexicographic.{slice_cmp}
@@ -11,28 +11,39 @@ use Rattle.std.specs.Option.{is_some}
 use Rattle.std.specs.Ordering.{nat_cmp, match_ordering, is_eq}
 use Rattle.std.specs.declared.cmp.Ordering.TheVariants.{Less, Equal, Greater}
 use Rattle.std.specs.Str.{bytes_eq}
+use Rattle.std.proofs.lemmas.Bool.{cases_lt, true≢false}
 use Rattle.std.proofs.lemmas.Cmp.{nat_list_cmp_total}
 use Rattle.std.proofs.lemmas.List.{map-append}
 use Rattle.std.proofs.lemmas.Map.Lookups.{exact_bytes}
 use Rattle.std.proofs.lemmas.Map.Text.{is_eq-slice_cmp}
+use Rattle.vol_layout.specs.Edition.{constants}
 use Rattle.vol_layout.specs.Slot.{name_of}
 use Rattle.vol_layout.specs.declared.geometry.Geometry.{Geometry}
 use Rattle.vol_layout.specs.declared.slot.Slot.{Slot}
-use Rattle.vol_file.proofs.PlaceLists.{same_bytes}
+use Rattle.vol_file.specs.Repeats.{below}
+use Rattle.vol_file.proofs.PlaceLists.{bytes_same, same_bytes}
+use Rattle.vol_file.proofs.Repeating.{clear_passes}
 use Rattle.vol_dir.specs.Entries.{entry_at, slot_count, slots}
 use Rattle.vol_dir.specs.Names.{Names, get, insert, names_of}
-use Rattle.vol_dir.specs.Scanning.{IsNextEntry}
+use Rattle.vol_dir.specs.Repeats.{IsEntryFrom, MarksSlots, PassSlots, entry_in_block, passes_in}
 use Rattle.vol_dir.proofs.NameMaps.{sorted}
-use Rattle.vol_dir.proofs.NextEntries.{entry_next}
+use Rattle.vol_dir.proofs.NextEntries.{entry_some}
 use Rattle.vol_dir.specs.Listing.{by_bytes, put_first}
 
 -- the entries in the slots of directory d below slot n
 unfoldable pub slots_below : Geometry → List ℕ → ℕ → ℕ → List (Option (List ℕ × ℕ))
 slots_below geometry image d n = map (entry_at geometry image d) (range_with_len 0 n)
 
--- the names in the slots of directory d below slot n were collected
-pub record HasCollected (geometry : Geometry) (image : List ℕ) (d n : ℕ) (entries : List (Vec ℕ × ℕ)) : Type 0 where
+-- whether a slot is empty or has one of these names
+abbrev pub is_met : Names → Option (List ℕ × ℕ) → Bool
+is_met names None = true
+is_met names (Some entry) = is_some (get names entry.0)
+
+-- the names in the slots of directory d below slot n were collected, and those below marked blocks are among them
+pub record HasCollected (geometry : Geometry) (image : List ℕ) (d n : ℕ) (entries : List (Vec ℕ × ℕ)) (marks : List Bool) : Type 0 where
   pub within : n ≤ slot_count geometry image d
+  pub known : PassSlots (is_met (by_bytes entries)) geometry image d 0 n
+  pub marked : MarksSlots (is_met (by_bytes entries)) geometry image marks
   pub names : by_bytes entries ≡ names_of (slots_below geometry image d n)
 
 -- one number more
@@ -52,26 +63,6 @@ names_empty : (slots : List (Option (List ℕ × ℕ))) → names_of (slots ++ N
 names_empty [] = refl
 names_empty (None ∷ slots) = names_empty slots
 names_empty (Some entry ∷ slots) = ap (λ names. insert names entry.0 entry.1) (names_empty slots)
-
--- empty slots have no names
-names_kept : (geometry : Geometry) (image : List ℕ) (d n k : ℕ) → ((t : ℕ) → n ≤ t → t < k + n → entry_at geometry image d t ≡ None)
-    → names_of (slots_below geometry image d (k + n)) ≡ names_of (slots_below geometry image d n)
-names_kept geometry image d n zero none = let same : 0 + n ≡ n = omega arith in ap (λ m. names_of (slots_below geometry image d m)) same
-names_kept geometry image d n (suc k) none =
-    let more : suc k + n ≡ suc (k + n) = omega arith in
-    let empty : entry_at geometry image d (k + n) ≡ None = none (k + n) (omega arith) (omega arith) in
-    ap (λ m. names_of (slots_below geometry image d m)) more
-    ∙ (ap names_of (slots_more geometry image d (k + n) ∙ ap (λ entry. slots_below geometry image d (k + n) ++ entry ∷ []) empty)
-    ∙ (names_empty (slots_below geometry image d (k + n))
-    ∙ names_kept geometry image d n k (λ t low high. none t low (omega arith))))
-
--- the same, up to a later slot
-names_until : (geometry : Geometry) (image : List ℕ) (d n m : ℕ) → n ≤ m → ((t : ℕ) → n ≤ t → t < m → entry_at geometry image d t ≡ None)
-    → names_of (slots_below geometry image d m) ≡ names_of (slots_below geometry image d n)
-names_until geometry image d n m h none =
-    let m_is : (m - n) + n ≡ m = omega arith in
-    ap (λ k. names_of (slots_below geometry image d k)) (sym m_is)
-    ∙ names_kept geometry image d n (m - n) (λ t low high. none t low (omega arith))
 
 -- a name that is put in a map is found there, and every other name as before
 get_insert : (names : Names) (name q : List ℕ) (i : ℕ) → get (insert names name i) q ≡ cond (bytes_eq q name) (Some i) (get names q)
@@ -134,6 +125,37 @@ names_behind slots name i =
     still_sorted true = sorted slots
     still_sorted false = is_sorted-put (slice_cmp nat_cmp) nat_list_cmp_total name i (names_of slots) (sorted slots)
 
+-- an empty slot, or one whose name is there, adds no name
+names_more : (slots : List (Option (List ℕ × ℕ))) (entry : Option (List ℕ × ℕ)) → is_met (names_of slots) entry ≡ true
+    → names_of (slots ++ entry ∷ []) ≡ names_of slots
+unfolding put_first
+names_more slots None met = names_empty slots
+names_more slots (Some entry) met =
+    names_behind slots entry.0 entry.1 ∙ ap (λ b. cond b (names_of slots) (insert (names_of slots) entry.0 entry.1)) met
+
+-- slots that are empty, or have names that those before have, add no names
+names_kept : (geometry : Geometry) (image : List ℕ) (d n k : ℕ)
+    → ((t : ℕ) → n ≤ t → t < k + n → is_met (names_of (slots_below geometry image d n)) (entry_at geometry image d t) ≡ true)
+    → names_of (slots_below geometry image d (k + n)) ≡ names_of (slots_below geometry image d n)
+names_kept geometry image d n zero met = let same : 0 + n ≡ n = omega arith in ap (λ m. names_of (slots_below geometry image d m)) same
+names_kept geometry image d n (suc k) met =
+    let more : suc k + n ≡ suc (k + n) = omega arith in
+    let before = names_kept geometry image d n k (λ t low high. met t low (omega arith)) in
+    ap (λ m. names_of (slots_below geometry image d m)) more
+    ∙ (ap names_of (slots_more geometry image d (k + n))
+    ∙ (names_more (slots_below geometry image d (k + n)) (entry_at geometry image d (k + n))
+    (ap (λ names. is_met names (entry_at geometry image d (k + n))) before ∙ met (k + n) (omega arith) (omega arith))
+    ∙ before))
+
+-- the same, up to a later slot
+names_until : (geometry : Geometry) (image : List ℕ) (d n m : ℕ) → n ≤ m → m ≤ slot_count geometry image d
+    → PassSlots (is_met (names_of (slots_below geometry image d n))) geometry image d n m
+    → names_of (slots_below geometry image d m) ≡ names_of (slots_below geometry image d n)
+names_until geometry image d n m h last met =
+    let m_is : (m - n) + n ≡ m = omega arith in
+    ap (λ k. names_of (slots_below geometry image d k)) (sym m_is)
+    ∙ names_kept geometry image d n (m - n) (λ t low high. met t low (omega arith) (omega arith))
+
 -- a name put among entries is put in their map
 pub named_insert : (entries : List (Vec ℕ × ℕ)) (key : Vec ℕ) (i : ℕ)
     → by_bytes (insert_entry (λ x y. slice_cmp nat_cmp x.items y.items) entries key i) ≡ insert (by_bytes entries) key.items i
@@ -147,37 +169,90 @@ named_insert (e ∷ es) key i =
     ]
 
 -- before the first slot there are no names
-pub collected_none : (geometry : Geometry) (image : List ℕ) (d : ℕ) (entries : List (Vec ℕ × ℕ)) → entries ≡ []
-    → HasCollected geometry image d 0 entries
+pub collected_none : (geometry : Geometry) (image : List ℕ) (d : ℕ) (entries : List (Vec ℕ × ℕ)) (marks : List Bool) → entries ≡ []
+    → ((k : ℕ) → slice_index_or marks k false ≡ false) → HasCollected geometry image d 0 entries marks
 unfolding slots_below
-collected_none geometry image d entries empty = record { within = omega arith; names = ap by_bytes empty }
+collected_none geometry image d entries marks empty clear = record {
+  within = omega arith;
+  names = ap by_bytes empty;
+  known = λ t low high within. absurd (omega arith);
+  marked = clear_passes (passes_in (is_met (by_bytes entries)) geometry image) geometry image marks clear;
+}
+
+-- a choice has what its first has
+else_some : (first second : Option ℕ) → is_some first ≡ true → is_some (or_else first second) ≡ true
+else_some None second some = absurd (true≢false (sym some))
+else_some (Some i) second some = refl
+
+-- a choice has what its second has
+some_else : (first : Option ℕ) (i : ℕ) → is_some (or_else first (Some i)) ≡ true
+some_else None i = refl
+some_else (Some j) i = refl
+
+-- an entry whose name is there is met when one more is put first
+met_more : (names : Names) (name : List ℕ) (i : ℕ) (entry : Option (List ℕ × ℕ)) → is_met names entry ≡ true → is_met (put_first names name i) entry ≡ true
+met_more names name i None met = refl
+met_more names name i (Some entry) met =
+    ap is_some (get_put_first names name entry.0 i) ∙ else_some (get names entry.0) (cond (bytes_eq entry.0 name) (Some i) None) met
+
+-- an entry is met once its name is put first
+met_put : (names : Names) (name : List ℕ) (i : ℕ) → is_met (put_first names name i) (Some (name, i)) ≡ true
+met_put names name i =
+    ap is_some (get_put_first names name name i ∙ ap (λ b. or_else (get names name) (cond b (Some i) None)) (bytes_same name name refl))
+    ∙ some_else (get names name) i
+
+-- a slot that is empty or has a name that is there does so when one more is put first
+passes_more : (names : Names) (name : List ℕ) (i : ℕ) (geometry : Geometry) (image : List ℕ) (m part : ℕ)
+    → passes_in (is_met names) geometry image m part ≡ true → passes_in (is_met (put_first names name i)) geometry image m part ≡ true
+passes_more names name i geometry image m part = elim (nat_lt part 32) as (λ z. (if z then is_met names (entry_in_block geometry image m part) else true) ≡ true
+    → (if z then is_met (put_first names name i) (entry_in_block geometry image m part) else true) ≡ true) [
+      | true ↦ met_more names name i (entry_in_block geometry image m part)
+      | false ↦ λ met. refl
+    ]
 
 -- the name of the next entry, put first among those before, gives those up to it
-pub collected_next : (geometry : Geometry) (image : List ℕ) (d from s : ℕ) (slot : Slot) (name : List ℕ) (old new : List (Vec ℕ × ℕ))
-    → HasCollected geometry image d from old
-    → IsNextEntry (entry_at geometry image d) from (slot_count geometry image d) s slot → name ≡ name_of slot.name
-    → by_bytes new ≡ put_first (by_bytes old) name slot.inode → HasCollected geometry image d (s + 1) new
-collected_next geometry image d from s slot name old new collected next is put =
-    let here : entry_at geometry image d s ≡ Some (name_of slot.name, slot.inode) = entry_next next in
+pub collected_next : (geometry : Geometry) (image : List ℕ) (d from s : ℕ) (slot : Slot) (name : List ℕ) (old new : List (Vec ℕ × ℕ)) (before after : List Bool)
+    → HasCollected geometry image d from old before
+    → IsEntryFrom geometry image d from s slot → PassSlots (is_met (by_bytes old)) geometry image d from s
+    → MarksSlots (is_met (by_bytes old)) geometry image after → name ≡ name_of slot.name
+    → by_bytes new ≡ put_first (by_bytes old) name slot.inode → HasCollected geometry image d (s + 1) new after
+collected_next geometry image d from s slot name old new before after collected next passed marked is put =
+    let here : entry_at geometry image d s ≡ Some (name_of slot.name, slot.inode) = next.holds ∙ entry_some slot next.some in
     let more : s + 1 ≡ suc s = omega arith in
+    let put_here : by_bytes new ≡ put_first (by_bytes old) (name_of slot.name) slot.inode = put ∙ ap (λ n. put_first (by_bytes old) n slot.inode) is in
     record {
       within = let within = next.within in omega arith;
       names = put
-          ∙ (ap (λ names. put_first names name slot.inode) (collected.names ∙ sym (names_until geometry image d from s next.reached next.none))
+          ∙ (ap (λ names. put_first names name slot.inode) (collected.names ∙ sym (names_until geometry image d from s next.reached (let within = next.within in omega arith)
+          (subst (λ names. PassSlots (is_met names) geometry image d from s) collected.names passed)))
           ∙ (ap (λ n. put_first (names_of (slots_below geometry image d s)) n slot.inode) is
           ∙ (sym (names_behind (slots_below geometry image d s) (name_of slot.name) slot.inode)
           ∙ (ap (λ entry. names_of (slots_below geometry image d s ++ entry ∷ [])) (sym here)
           ∙ (ap names_of (sym (slots_more geometry image d s))
           ∙ ap (λ n. names_of (slots_below geometry image d n)) (sym more))))));
+      known = λ t low high within. elim (cases_lt t s) [
+        | inl before ↦ subst (λ names. is_met names (entry_at geometry image d t) ≡ true) (sym put_here) (met_more (by_bytes old) (name_of slot.name) slot.inode (entry_at geometry image d t)
+            (elim (cases_lt t from) [ inl under ↦ collected.known t low under within | inr over ↦ passed t over before within ]))
+        | inr after ↦
+            let same : t ≡ s = omega arith in
+            subst (λ names. is_met names (entry_at geometry image d t) ≡ true) (sym put_here)
+            (ap (λ n. is_met (put_first (by_bytes old) (name_of slot.name) slot.inode) (entry_at geometry image d n)) same
+            ∙ (ap (is_met (put_first (by_bytes old) (name_of slot.name) slot.inode)) here ∙ met_put (by_bytes old) (name_of slot.name) slot.inode))
+      ];
+      marked = λ m n mark c part low.
+          subst (λ names. passes_in (is_met names) geometry image (below geometry image (constants geometry.edition).pointers m n c) part ≡ true) (sym put_here)
+          (passes_more (by_bytes old) (name_of slot.name) slot.inode geometry image (below geometry image (constants geometry.edition).pointers m n c) part (marked m n mark c part low));
     }
 
--- where no further slot has an entry, all names of the directory are collected
-pub collected_all : (geometry : Geometry) (image : List ℕ) (d from : ℕ) (entries : List (Vec ℕ × ℕ)) → HasCollected geometry image d from entries
-    → ((t : ℕ) → from ≤ t → t < slot_count geometry image d → entry_at geometry image d t ≡ None)
+-- where no further slot has another name, all names of the directory are collected
+pub collected_all : (geometry : Geometry) (image : List ℕ) (d from : ℕ) (entries : List (Vec ℕ × ℕ)) (marks : List Bool)
+    → HasCollected geometry image d from entries marks
+    → PassSlots (is_met (by_bytes entries)) geometry image d from (slot_count geometry image d)
     → by_bytes entries ≡ names_of (slots geometry image d)
 unfolding slots slots_below
-collected_all geometry image d from entries collected none =
-    collected.names ∙ sym (names_until geometry image d from (slot_count geometry image d) collected.within none)
+collected_all geometry image d from entries marks collected passed =
+    collected.names ∙ sym (names_until geometry image d from (slot_count geometry image d) collected.within (omega arith)
+    (subst (λ names. PassSlots (is_met names) geometry image d from (slot_count geometry image d)) collected.names passed))
 
 -- what is looked up among entries is what their map has
 lookup_listed : (name : List ℕ) (entries : List (Vec ℕ × ℕ)) → lookup (λ k. is_eq (slice_cmp nat_cmp name k.items)) entries ≡ get (by_bytes entries) name

@@ -12,6 +12,7 @@ pub mod Listing
 pub mod Names
 pub mod PathLaws
 pub mod Refusals
+pub mod Repeats
 pub mod Scanning
 pub mod Searching
 pub mod Tree

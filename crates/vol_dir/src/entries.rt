@@ -16,7 +16,7 @@ use vol_layout::slot::{NAME, SLOT};
 use vol_layout::{Geometry, Slot};
 
 /// Slots in a block.
-const SLOTS: u32 = 32;
+pub(crate) const SLOTS: u32 = 32;
 
 /// What a search over the slots of a directory looks for.
 #[derive(Clone, Copy, Debug)]
@@ -64,7 +64,7 @@ pub fn is_dots(name: &[u8]) -> bool
 }
 
 /// How many slots directory `dir` has.
-fn slot_count(image: &Image, geometry: &Geometry, dir: u16) -> u32
+pub(crate) fn slot_count(image: &Image, geometry: &Geometry, dir: u16) -> u32
     requires fits { Fits geometry.now image.now }
     requires first { 1 ≤ dir }
     requires last { dir ≤ geometry.now.last_inode }
@@ -125,7 +125,7 @@ fn first_in_hole(start: u32, count: u32, sought: Sought<'_>) -> Option<(u32, Slo
 }
 
 /// The first slot from `start` on that is sought, of `count` of logical block `b` of directory `dir`.
-fn first_in_block(
+pub(crate) fn first_in_block(
     image: &Image,
     geometry: &Geometry,
     dir: u16,
@@ -151,7 +151,7 @@ fn first_in_block(
 
 /// The logical block of directory `dir` where a search goes on after block `b`, of `blocks`: the next one, but
 /// after a hole, where holes have nothing that is sought, the next that is none.
-fn block_after(
+pub(crate) fn block_after(
     image: &Image,
     geometry: &Geometry,
     dir: u16,

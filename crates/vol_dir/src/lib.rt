@@ -10,6 +10,7 @@ pub mod listing;
 pub mod paths;
 pub mod refusal;
 pub mod removing;
+pub mod repeats;
 pub mod walking;
 
 pub use access::{Access, grants};
@@ -20,4 +21,5 @@ pub use listing::list_names;
 pub use paths::split_component;
 pub use refusal::Refusal;
 pub use removing::{remove, remove_at};
+pub use repeats::{next_entry_marked, next_unmarked};
 pub use walking::{walk, walk_parent};

@@ -1,20 +1,23 @@
 //! The names of a directory, in ascending order.
-ghost use Rattle.std.specs.Prelude.{◌≡◌, IfOk, OnOk};
+ghost use Rattle.std.specs.Prelude.{◌≡◌, ℕ, false, slice_index_or, IfOk, OnOk};
 ghost use Rattle.vol_layout.specs.Geometry.{Fits};
 ghost use Rattle.vol_dir.specs.Entries.{slots, IsDirectory};
 ghost use Rattle.vol_dir.specs.Listing.{by_bytes, put_first};
 ghost use Rattle.vol_dir.specs.Names.{names_of};
 
-use crate::entries::next_entry;
+use crate::entries::{SLOTS, slot_count};
+use crate::repeats::next_unmarked;
 use pdp_words::{Bytes, Image};
 use std::alloc::{AllocError, Global};
 use std::collections::BTreeMap;
+use vol_file::no_marks;
 use vol_layout::Geometry;
 
 /// The names of directory `dir`, in ascending order of their bytes, with their i-numbers. Of entries with one name the
 /// first counts.
 ///
-/// Costs as much as going over the slots and sorting the names.
+/// Costs as much as going over the slots and sorting the names; the slots below a block that the directory names again are gone over
+/// once. Takes three bytes for each block of the volume if the directory has more than ten blocks.
 pub fn list_names(
     alloc: Global,
     image: &Image,
@@ -43,13 +46,48 @@ fn collect_names(
     requires directory { IsDirectory geometry.now image.now dir }
     ensures { IfOk result (λ names. by_bytes names.entries ≡ names_of (slots geometry.now image.now dir)) }
 {
+    let mut marks = marks_for(alloc, image, geometry, dir)?;
+    collect_unmarked(alloc, image, geometry, dir, &mut marks)
+}
+
+/// The same, by marks of which none is set at first.
+fn collect_unmarked(
+    alloc: Global,
+    image: &Image,
+    geometry: &Geometry,
+    dir: u16,
+    marks: &mut [bool],
+) -> Result<BTreeMap<Vec<u8>, u16>, AllocError>
+    requires fits { Fits geometry.now image.now }
+    requires directory { IsDirectory geometry.now image.now dir }
+    requires clear { (k : ℕ) → slice_index_or marks.old k false ≡ false }
+    ensures { IfOk result (λ names. by_bytes names.entries ≡ names_of (slots geometry.now image.now dir)) }
+{
     let mut names = BTreeMap::new(alloc);
     let mut from = 0;
-    while let Some((s, slot)) = next_entry(image, geometry, dir, from) {
+    while let Some((s, slot)) = next_unmarked(image, geometry, dir, from, 0, marks) {
         put_first(alloc, &mut names, slot.name(), slot.inode)?;
         from = s + 1;
     }
     Ok(names)
+}
+
+/// Marks for a search of directory `dir`: none if it has no more blocks than an i-node of the seventh edition has addresses of.
+fn marks_for(
+    alloc: Global,
+    image: &Image,
+    geometry: &Geometry,
+    dir: u16,
+) -> Result<Vec<bool>, AllocError>
+    requires fits { Fits geometry.now image.now }
+    requires directory { IsDirectory geometry.now image.now dir }
+    ensures { IfOk result (λ marks. (k : ℕ) → slice_index_or marks.items k false ≡ false) }
+{
+    if slot_count(image, geometry, dir) > 10 * SLOTS {
+        no_marks(alloc, geometry)
+    } else {
+        Ok(Vec::new(alloc))
+    }
 }
 
 /// Puts a name among others, unless it is there.

@@ -1,0 +1,13 @@
+use Rattle.std.proofs.Common.{◌≡◌, ℕ, ◌-◌, ◌*◌, List, None, true}
+use Rattle.std.specs.Prelude.{Option, Bool}
+use Rattle.vol_dir.specs.Repeats.{MarksSlots, PassSlots}
+use Rattle.vol_dir.proofs.repeats.next_unmarked.Given as goal
+
+-- the slots before those of block b are gone over, and what is marked passes each test that they pass
+abbrev pub invariant-loop-b : goal.invariant-loop-b
+invariant-loop-b l = (test : Option (List ℕ × ℕ) → Bool) → test None ≡ true → MarksSlots test l.geometry l.image l.fn.marks
+    → PassSlots test l.geometry l.image l.dir l.known l.from
+    → MarksSlots test l.geometry l.image l.marks × PassSlots test l.geometry l.image l.dir l.from (32 * l.b)
+
+abbrev pub decreases-loop-b : goal.decreases-loop-b
+decreases-loop-b l = 4294967296 - l.b

@@ -1,0 +1,110 @@
+//! Going over the entries of a directory without the blocks that need no second look, however often the directory names them.
+ghost use Rattle.std.specs.Prelude.{◌≡◌, ℕ, ◌+◌, ◌*◌, ◌<◌, ◌≤◌, Bool, true, List, Option, None, IfOk, IfErr, IfSome, MatchOption};
+ghost use Rattle.vol_layout.specs.Geometry.{Fits};
+ghost use Rattle.vol_dir.specs.Entries.{IsDirectory, slot_count, entry_at};
+ghost use Rattle.vol_dir.specs.Repeats.{IsEntryFrom, MarksEmpty, MarksSlots, PassSlots};
+ghost use Rattle.vol_dir.specs.Scanning.{GoesOn};
+
+use crate::entries::{SLOTS, Sought, block_after, first_in_block, slot_count};
+use pdp_words::Image;
+use vol_file::{mark_passed, passed_end};
+use vol_layout::{Geometry, Slot};
+
+/// An entry of directory `dir` from slot `from` on, with its i-number and name: the first, but for those below marked blocks.
+/// `marks` has three marks for each block, or none.
+///
+/// What lies below a block is marked once it was gone over, from slot `known` on. So the marks hold for whatever is true of all
+/// slots from `known` to the entry that is returned, or to the end: that they are empty, if `known` is `from`; that they are empty
+/// or have names that the caller met, if it is 0. Costs at most what [`next_entry`](crate::next_entry) does, and a way more for each logical
+/// block that is looked at.
+pub fn next_unmarked(
+    image: &Image,
+    geometry: &Geometry,
+    dir: u16,
+    from: u32,
+    known: u32,
+    marks: &mut [bool],
+) -> Option<(u32, Slot)>
+    requires fits { Fits geometry.now image.now }
+    requires directory { IsDirectory geometry.now image.now dir }
+    ensures found { IfSome result (λ found. IsEntryFrom geometry.now image.now dir from found.0 found.1) }
+    ensures marks { (test : Option (List ℕ × ℕ) → Bool) → test None ≡ true → MarksSlots test geometry.now image.now marks.old
+        → PassSlots test geometry.now image.now dir known from → MarksSlots test geometry.now image.now marks.new }
+    ensures passed { (test : Option (List ℕ × ℕ) → Bool) → test None ≡ true → MarksSlots test geometry.now image.now marks.old
+        → PassSlots test geometry.now image.now dir known from
+        → MatchOption result (PassSlots test geometry.now image.now dir from (slot_count geometry.now image.now dir))
+        (λ found. PassSlots test geometry.now image.now dir from found.0) }
+{
+    let count = slot_count(image, geometry, dir);
+    let mut b = from.saturating_sub(1) / SLOTS;
+    while b < count.div_ceil(SLOTS) {
+        match first_or_end(image, geometry, dir, from, b, marks) {
+            Ok(found) => return Some(found),
+            Err(end) => {
+                let to = end.min(count / SLOTS);
+                mark_passed(image, geometry, dir, b, known.div_ceil(SLOTS), to, marks);
+                b = end;
+            }
+        }
+    }
+    None
+}
+
+/// The entry that [`next_entry`](crate::next_entry) returns, by marks of blocks below which there is none.
+///
+/// Costs what that does, less what lies below marked blocks, and a way more for each logical block that is looked at. So the marks of
+/// several searches, in all directories, make each of them go over the slots below a block once.
+pub fn next_entry_marked(
+    image: &Image,
+    geometry: &Geometry,
+    dir: u16,
+    from: u32,
+    marks: &mut [bool],
+) -> Option<(u32, Slot)>
+    requires fits { Fits geometry.now image.now }
+    requires directory { IsDirectory geometry.now image.now dir }
+    requires marks { MarksEmpty geometry.now image.now marks.old }
+    ensures next { GoesOn (entry_at geometry.now image.now dir) from (slot_count geometry.now image.now dir) result }
+    ensures marks { MarksEmpty geometry.now image.now marks.new }
+{
+    next_unmarked(image, geometry, dir, from, from, marks)
+}
+
+/// The first entry in logical block `b` of directory `dir`, of its slots from slot `from` of the directory on; else the logical
+/// block where a search goes on: behind those below a marked block, and behind holes.
+fn first_or_end(
+    image: &Image,
+    geometry: &Geometry,
+    dir: u16,
+    from: u32,
+    b: u32,
+    marks: &[bool],
+) -> Result<(u32, Slot), u32>
+    requires fits { Fits geometry.now image.now }
+    requires first { 1 ≤ dir }
+    requires last { dir ≤ geometry.now.last_inode }
+    requires below { 32 * b < slot_count geometry.now image.now dir }
+    ensures found { IfOk result (λ found. IsEntryFrom geometry.now image.now dir from found.0 found.1) }
+    ensures before { IfOk result (λ found. (test : Option (List ℕ × ℕ) → Bool) → test None ≡ true
+        → (t : ℕ) → from ≤ t → 32 * b ≤ t → t < found.0 → test (entry_at geometry.now image.now dir t) ≡ true) }
+    ensures onward { IfErr result (λ end. b < end) }
+    ensures within { IfErr result (λ end. 32 * end < slot_count geometry.now image.now dir + 32) }
+    ensures passed { IfErr result (λ end. (test : Option (List ℕ × ℕ) → Bool) → test None ≡ true → MarksSlots test geometry.now image.now marks.now
+        → (t : ℕ) → from ≤ t → 32 * b ≤ t → t < 32 * end → t < slot_count geometry.now image.now dir
+        → test (entry_at geometry.now image.now dir t) ≡ true) }
+{
+    let count = slot_count(image, geometry, dir);
+    let blocks = count.div_ceil(SLOTS);
+    if from <= SLOTS * b {
+        let past = passed_end(image, geometry, dir, b, marks).min(blocks);
+        if b < past {
+            return Err(past);
+        }
+    }
+    let start = from.saturating_sub(SLOTS * b);
+    let few = (count - SLOTS * b).min(SLOTS);
+    match first_in_block(image, geometry, dir, b, start, few, Sought::Any) {
+        Some((s, slot)) => Ok((SLOTS * b + s, slot)),
+        None => Err(block_after(image, geometry, dir, b, blocks, Sought::Any)),
+    }
+}

@@ -10,7 +10,7 @@ mod links;
 mod tree;
 
 use crate::entries::find_entry;
-pub use dots::{Dots, Ups, dots_in, find_dots, find_ups};
+pub use dots::{Ups, find_dots, find_ups};
 pub use entered::{Entered, find_entered};
 pub use links::find_link;
 use pdp_words::Image;

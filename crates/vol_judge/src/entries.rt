@@ -1,5 +1,6 @@
 //! Rule 9: the entries of directories.
 ghost use Rattle.std.specs.Prelude.{◌≡◌, IfOk, IsTrue, ◌↔◌};
+ghost use Rattle.vol_dir.specs.Repeats.{MarksEmpty};
 ghost use Rattle.vol_layout.specs.Geometry.{Fits};
 ghost use Rattle.vol_layout.specs.Slot.{name_of, padded_name};
 ghost use Rattle.vol_dir.specs.Entries.{IsDirectory, HasEntries};
@@ -12,14 +13,15 @@ use crate::reading::is_directory;
 use pdp_words::Image;
 use std::alloc::{AllocError, Global};
 use std::collections::BTreeSet;
+use vol_file::no_marks;
 use vol_layout::i_list::{kind, size};
 use vol_layout::slot::{NAME, SLOT};
 use vol_layout::{Geometry, Kind, Slot};
 
 /// What breaks rule 9 first: of the first directory that does, its size or the first of its slots.
 ///
-/// Costs a look at each slot of each directory, and for each directory as much as sorting its names. Memory is taken for the
-/// names of one directory at a time.
+/// Costs a look at each slot of each directory, less those below blocks that were found without entries before, and for each directory
+/// as much as sorting its names. Memory is taken for three bytes a block, and for the names of one directory at a time.
 pub fn find_entry(
     alloc: Global,
     image: &Image,
@@ -28,9 +30,24 @@ pub fn find_entry(
     requires { Fits geometry.now image.now }
     ensures { IfOk result (Finds (HasEntries geometry.now image.now) (IsFirstEntry geometry.now image.now)) }
 {
+    let mut marks = no_marks(alloc, geometry)?;
+    find_marked(alloc, image, geometry, &mut marks)
+}
+
+/// The same, by marks of blocks below which no slot has an entry.
+fn find_marked(
+    alloc: Global,
+    image: &Image,
+    geometry: &Geometry,
+    marks: &mut [bool],
+) -> Result<Option<Finding>, AllocError>
+    requires fits { Fits geometry.now image.now }
+    requires marks { MarksEmpty geometry.now image.now marks.old }
+    ensures { IfOk result (Finds (HasEntries geometry.now image.now) (IsFirstEntry geometry.now image.now)) }
+{
     for d in 1..=geometry.last_inode {
         if is_directory(image, geometry, d) {
-            if let Some(finding) = find_in(alloc, image, geometry, d)? {
+            if let Some(finding) = find_in(alloc, image, geometry, d, marks)? {
                 return Ok(Some(finding));
             }
         }
@@ -38,23 +55,26 @@ pub fn find_entry(
     Ok(None)
 }
 
-/// What breaks rule 9 first in directory `d`.
+/// What breaks rule 9 first in directory `d`. Marks blocks below which no slot has an entry.
 fn find_in(
     alloc: Global,
     image: &Image,
     geometry: &Geometry,
     d: u16,
+    marks: &mut [bool],
 ) -> Result<Option<Finding>, AllocError>
     requires fits { Fits geometry.now image.now }
     requires directory { IsDirectory geometry.now image.now d }
-    ensures { IfOk result (Finds (HasEntriesIn geometry.now image.now d) (IsFirstIn geometry.now image.now d)) }
+    requires marks { MarksEmpty geometry.now image.now marks.old }
+    ensures found { IfOk result (Finds (HasEntriesIn geometry.now image.now d) (IsFirstIn geometry.now image.now d)) }
+    ensures marks { MarksEmpty geometry.now image.now marks.new }
 {
     if size(image, geometry, d) % SLOT as u32 != 0 {
         return Ok(Some(Finding::PartSlot(d)));
     }
     let mut names = BTreeSet::new(alloc);
     let mut from = 0;
-    while let Some((s, slot)) = vol_dir::next_entry(image, geometry, d, from) {
+    while let Some((s, slot)) = vol_dir::next_entry_marked(image, geometry, d, from, marks) {
         if let Some(finding) = find_wrong(image, geometry, d, s, &slot) {
             return Ok(Some(finding));
         }

@@ -13,9 +13,7 @@ mod named;
 pub mod reading;
 mod zones;
 
-pub use directories::{
-    Dots, Entered, Ups, dots_in, find_dots, find_entered, find_link, find_tree, find_ups,
-};
+pub use directories::{Entered, Ups, find_dots, find_entered, find_link, find_tree, find_ups};
 pub use entries::find_entry;
 pub use finding::Finding;
 pub use free_list::{FreeStack, find_fault};

@@ -4,6 +4,7 @@ ghost use Rattle.vol_layout.specs.Geometry.{Fits};
 ghost use Rattle.vol_layout.specs.Slot.{name_of};
 ghost use Rattle.vol_dir.specs.Entries.{IsDirectory};
 ghost use Rattle.vol_dir.specs.Names.{is_dots};
+ghost use Rattle.vol_dir.specs.Repeats.{MarksEmpty};
 ghost use Rattle.vol_judge.specs.Stepping.{IsNextSlot, IsPastEntries, rank};
 
 use pdp_words::Image;
@@ -76,17 +77,27 @@ impl Entry {
 
 /// The first entry from a place on, over all directories.
 ///
-/// Costs a look at each i-node and slot that is passed.
-pub fn next_entry(image: &Image, geometry: &Geometry, from: Place) -> Option<Entry>
+/// Costs a look at each i-node that is passed, and at each slot but for those below marked blocks: below these no slot has an
+/// entry.
+pub fn next_entry(
+    image: &Image,
+    geometry: &Geometry,
+    from: Place,
+    marks: &mut [bool],
+) -> Option<Entry>
+    requires marks { MarksEmpty geometry.now image.now marks.old }
     requires fits { Fits geometry.now image.now }
     requires first { 1 ≤ from.directory }
-    ensures { MatchOption result (IsPastEntries geometry.now image.now (rank from.directory from.slot))
+    ensures marks { MarksEmpty geometry.now image.now marks.new }
+    ensures next { MatchOption result (IsPastEntries geometry.now image.now (rank from.directory from.slot))
         (λ entry. IsNextSlot geometry.now image.now (rank from.directory from.slot) entry.directory entry.number entry.slot) }
 {
     let mut start = from.slot;
     for d in from.directory..=geometry.last_inode {
         if is_directory(image, geometry, d) {
-            if let Some((number, slot)) = vol_dir::next_entry(image, geometry, d, start) {
+            if let Some((number, slot)) = vol_dir::next_entry_marked(
+                image, geometry, d, start, marks,
+            ) {
                 return Some(Entry {
                     directory: d,
                     number,

@@ -5,6 +5,7 @@ ghost use Rattle.vol_layout.specs.Geometry.{Fits};
 ghost use Rattle.vol_layout.specs.Slot.{name_of};
 ghost use Rattle.vol_dir.specs.Entries.{IsDirectory, HasEntries};
 ghost use Rattle.vol_dir.specs.Names.{dot, dot_dot};
+ghost use Rattle.vol_dir.specs.Repeats.{MarksEmpty};
 ghost use Rattle.vol_judge.specs.Directories.{HasDots};
 ghost use Rattle.vol_judge.specs.Dots.{NeedsDots, NamesItself, NamesParent, KeepsDots, KnowsDots, IsWrongDots, IsFirstDots};
 ghost use Rattle.vol_judge.specs.Finds.{Finds};
@@ -15,15 +16,16 @@ use crate::finding::Finding;
 use crate::reading::is_directory;
 use pdp_words::Image;
 use std::alloc::{AllocError, Global};
+use vol_file::no_marks;
 use vol_layout::{Geometry, Slot};
 
 /// What a directory names by `.` and by `..`; None where it has no such entry.
 #[derive(Clone, Copy)]
-pub struct Dots {
+struct Dots {
     /// The i-number of the entry `.`.
-    pub own: Option<u16>,
+    own: Option<u16>,
     /// The i-number of the entry `..`.
-    pub up: Option<u16>,
+    up: Option<u16>,
 }
 
 /// What the directories name by `..`, up to the first that doesn't name itself by `.`.
@@ -131,16 +133,33 @@ fn names_parent(geometry: &Geometry, d: u16, ups: &[Option<u16>], parents: &[Opt
 
 /// What the directories name by `..`, of a volume on which rule 9 holds, up to the first that doesn't name itself by `.`.
 ///
-/// Costs a look at each slot of each directory, up to those two entries. Memory is taken for four bytes an i-number.
+/// Costs a look at each slot of each directory, up to those two entries, less those below blocks that were found without entries before.
+/// Memory is taken for three bytes a block and four an i-number.
 pub fn find_ups(alloc: Global, image: &Image, geometry: &Geometry) -> Result<Ups, AllocError>
     requires fits { Fits geometry.now image.now }
     requires entries { HasEntries geometry.now image.now }
     ensures { IfOk result (λ ups. KnowsDots geometry.now image.now ups.numbers.items ups.nameless) }
 {
+    let mut marks = no_marks(alloc, geometry)?;
+    note_ups(alloc, image, geometry, &mut marks)
+}
+
+/// The same, by marks of blocks below which no slot has an entry.
+fn note_ups(
+    alloc: Global,
+    image: &Image,
+    geometry: &Geometry,
+    marks: &mut [bool],
+) -> Result<Ups, AllocError>
+    requires fits { Fits geometry.now image.now }
+    requires entries { HasEntries geometry.now image.now }
+    requires marks { MarksEmpty geometry.now image.now marks.old }
+    ensures { IfOk result (λ ups. KnowsDots geometry.now image.now ups.numbers.items ups.nameless) }
+{
     let mut numbers = vec![in alloc; None; geometry.last_inode as usize + 1]?;
     for d in 1..=geometry.last_inode {
         if is_directory(image, geometry, d) {
-            let dots = dots_in(image, geometry, d);
+            let dots = dots_in(image, geometry, d, marks);
             if dots.own != Some(d) {
                 return Ok(Ups {
                     numbers,
@@ -156,18 +175,21 @@ pub fn find_ups(alloc: Global, image: &Image, geometry: &Geometry) -> Result<Ups
     })
 }
 
-/// What directory `d` names by `.` and by `..`. Looks at its slots up to those two entries.
-pub fn dots_in(image: &Image, geometry: &Geometry, d: u16) -> Dots
+/// What directory `d` names by `.` and by `..`. Looks at its slots up to those two entries, but for those below marked blocks: below
+/// these no slot has an entry.
+fn dots_in(image: &Image, geometry: &Geometry, d: u16, marks: &mut [bool]) -> Dots
+    requires marks { MarksEmpty geometry.now image.now marks.old }
     requires fits { Fits geometry.now image.now }
     requires directory { IsDirectory geometry.now image.now d }
     requires entries { HasEntries geometry.now image.now }
     ensures own { IsNamed geometry.now image.now d dot result.own }
     ensures up { IsNamed geometry.now image.now d dot_dot result.up }
+    ensures marks { MarksEmpty geometry.now image.now marks.new }
 {
     let mut own = None;
     let mut up = None;
     let mut from = 0;
-    while let Some((s, slot)) = vol_dir::next_entry(image, geometry, d, from) {
+    while let Some((s, slot)) = vol_dir::next_entry_marked(image, geometry, d, from, marks) {
         own = noted(&slot, b".".as_slice(), own);
         up = noted(&slot, b"..".as_slice(), up);
         if own.is_some() && up.is_some() {

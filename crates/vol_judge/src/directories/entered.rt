@@ -2,6 +2,7 @@
 ghost use Rattle.std.specs.Prelude.{◌≡◌, ℕ, ◌+◌, IfNone, IfSome, IfOk, IsTrue, ◌↔◌, length};
 ghost use Rattle.vol_layout.specs.Geometry.{Fits};
 ghost use Rattle.vol_dir.specs.Entries.{IsDirectory};
+ghost use Rattle.vol_dir.specs.Repeats.{MarksEmpty};
 ghost use Rattle.vol_judge.specs.Counting.{HasCounts};
 ghost use Rattle.vol_judge.specs.Finds.{Finds};
 ghost use Rattle.vol_judge.specs.InodeMarks.{IsOnce};
@@ -12,6 +13,7 @@ use crate::finding::Finding;
 use crate::reading::{Entry, Place, is_directory, next_entry};
 use pdp_words::Image;
 use std::alloc::{AllocError, Global};
+use vol_file::no_marks;
 use vol_layout::Geometry;
 
 /// What the entries of all directories say.
@@ -28,7 +30,8 @@ pub struct Entered {
 
 /// What the entries of all directories say, where it is known what directories name by `..`.
 ///
-/// Costs a look at each slot of each directory. Memory is taken for twelve bytes an i-number.
+/// Costs a look at each slot of each directory, less those below blocks that were found without entries before. Memory is taken for three
+/// bytes a block and twelve an i-number.
 pub fn find_entered(
     alloc: Global,
     image: &Image,
@@ -42,11 +45,31 @@ pub fn find_entered(
     ensures again { IfOk result (λ found. Finds (IsOnce geometry.now image.now) (IsEnteredAgain geometry.now image.now) found.again) }
     ensures counts { IfOk result (λ found. HasCounts geometry.now image.now found.counts.items) }
 {
+    let mut marks = no_marks(alloc, geometry)?;
+    note_entries(alloc, image, geometry, ups, &mut marks)
+}
+
+/// The same, by marks of blocks below which no slot has an entry.
+fn note_entries(
+    alloc: Global,
+    image: &Image,
+    geometry: &Geometry,
+    ups: &[Option<u16>],
+    marks: &mut [bool],
+) -> Result<Entered, AllocError>
+    requires fits { Fits geometry.now image.now }
+    requires room { length ups.now ≡ geometry.now.last_inode + 1 }
+    requires marks { MarksEmpty geometry.now image.now marks.old }
+    ensures parents { IfOk result (λ found. NotesParents geometry.now image.now ups.now found.parents.items) }
+    ensures known { IfOk result (λ found. IsOnce geometry.now image.now → KnowsParents geometry.now image.now found.parents.items) }
+    ensures again { IfOk result (λ found. Finds (IsOnce geometry.now image.now) (IsEnteredAgain geometry.now image.now) found.again) }
+    ensures counts { IfOk result (λ found. HasCounts geometry.now image.now found.counts.items) }
+{
     let mut parents = vec![in alloc; None; geometry.last_inode as usize + 1]?;
     let mut counts = vec![in alloc; 0; geometry.last_inode as usize + 1]?;
     let mut again = None;
     let mut place = Place::first();
-    while let Some(entry) = next_entry(image, geometry, place) {
+    while let Some(entry) = next_entry(image, geometry, place, marks) {
         let found = note_parent(image, geometry, &entry, ups, &mut parents);
         again = first_of(again, found);
         let i = entry.slot.inode;

@@ -1,29 +1,10 @@
-use Rattle.std.proofs.Common.{◌<◌, ◌+◌, arith}
-use Rattle.vol_dir.specs.Entries.{IsDirectory}
-use Rattle.vol_judge.specs.Naming.{HasEntriesIn}
-use Rattle.vol_judge.proofs.Deciding.{holds, fails}
-use Rattle.vol_judge.proofs.Collecting.{each_more, each_holds, fails_in}
+use Rattle.std.specs.Option.{is_none}
+use Rattle.vol_dir.specs.Repeats.{passes_in}
+use Rattle.vol_file.proofs.Repeating.{clear_passes}
 use Rattle.vol_judge.proofs.entries.find_entry.Goals as goal
-use Rattle.vol_judge.proofs.entries.find_entry.Goals.{then-is_directory+in_ok-finding+in_default, else-is_directory}
 
-pub returns-in-Some : goal.returns-in-Some
-returns-in-Some c =
-    let is = holds c.is_directory.result c.is_directory.ensures c.if-is_directory.true in
-    let found = rw c.in-Some.is at c.in_ok-finding.ensures in
-    (record { d = c.loop-d.d; directory = is; before = c.loop-d.invariant; first = found.0 }, fails_in is found.1)
-
-pub loop-d-preserved : goal.loop-d-preserved
-loop-d-preserved c =
-    each_more c.loop-d.invariant (λ is. elim c.if-is_directory.branch [
-      | then-is_directory+in_ok-finding+in_default w ↦ rw w.in_default.is at w.in_ok-finding.ensures
-      | else-is_directory w ↦ absurd (fails c.is_directory.result c.is_directory.ensures w.if-is_directory.false is)
-    ])
-
-pub returns-after-is_directory : goal.returns-after-is_directory
-returns-after-is_directory c =
-    let each : (e : _) → e < c.loop-d.d + 1 → IsDirectory c.args.geometry.now c.args.image.now e → HasEntriesIn c.args.geometry.now c.args.image.now e =
-    each_more c.loop-d.invariant (λ is. elim c.if-is_directory.branch [
-      | then-is_directory+in_ok-finding+in_default w ↦ rw w.in_default.is at w.in_ok-finding.ensures
-      | else-is_directory w ↦ absurd (fails c.is_directory.result c.is_directory.ensures w.if-is_directory.false is)
-    ]) in
-    each_holds (c.loop-d.d + 1) each (omega arith)
+pub find_marked-requires-clause-marks : goal.find_marked-requires-clause-marks
+find_marked-requires-clause-marks c =
+    let geometry = c.args.geometry.now in
+    let image = c.args.image.now in
+    rw c.deref_mut.ensures.value (clear_passes (passes_in (λ entry. is_none entry) geometry image) geometry image c.in_ok-marks.marks.items c.in_ok-marks.ensures.clear)

@@ -7,9 +7,9 @@ use Rattle.vol_dir.proofs.NextEntries.{entry_next}
 use Rattle.vol_judge.proofs.FirstEntries.{below_reached, named_reached}
 use Rattle.vol_judge.proofs.entries.find_in.Goals as goal
 
-pub returns-in-Some-find_wrong : goal.returns-in-Some-find_wrong
-returns-in-Some-find_wrong c =
-    let next = c.in-Some.ensures in
+pub returns-in-Some-find_wrong-clause-found : goal.returns-in-Some-find_wrong-clause-found
+returns-in-Some-find_wrong-clause-found c =
+    let next = c.in-Some.ensures.next in
     let found = c.in-Some-find_wrong.ensures in (
       inr (
         c.in-Some.s,
@@ -25,9 +25,9 @@ returns-in-Some-find_wrong c =
       λ rule. found.1 (rule.entries c.in-Some.s c.in-Some.slot.inode (name_of c.in-Some.slot.name) (entry_next next)),
     )
 
-pub returns-then-not-branch : goal.returns-then-not-branch
-returns-then-not-branch c =
-    let next = c.in-Some.ensures in
+pub returns-then-not-branch-clause-found : goal.returns-then-not-branch-clause-found
+returns-then-not-branch-clause-found c =
+    let next = c.in-Some.ensures.next in
     let key : c.stored_name.result ≡ padded_name (name_of c.in-Some.slot.name) = c.stored_name.ensures in
     let there = rw key at (not_false c.in_ok-insert.field-0 (is_in c.loop-s.names c.stored_name.result) c.in_ok-insert.ensures.added c.if-not-branch.true) in (
       inr (
@@ -46,14 +46,15 @@ returns-then-not-branch c =
 
 pub loop-s-preserved : goal.loop-s-preserved
 loop-s-preserved c =
-    let next = c.in-Some.ensures in
+    let next = c.in-Some.ensures.next in
     let key : c.stored_name.result ≡ padded_name (name_of c.in-Some.slot.name) = c.stored_name.ensures in
     let new = rw key at (not_true c.in_ok-insert.field-0 (is_in c.loop-s.names c.stored_name.result) c.in_ok-insert.ensures.added c.if-not-branch.false) in
     record {
       whole = c.loop-s.invariant.whole;
       below = below_next c.loop-s.invariant.below c.loop-s.invariant.names next c.in_default-find_wrong.ensures new;
       names = names_next c.loop-s.invariant.names next (rw key at c.in_ok-insert.ensures.updates);
+      marks = c.in-Some.ensures.marks;
     }
 
-pub returns : goal.returns
-returns c = all_below c.loop-s.invariant.whole c.loop-s.invariant.below c.in_default.ensures
+pub returns-clause-found : goal.returns-clause-found
+returns-clause-found c = all_below c.loop-s.invariant.whole c.loop-s.invariant.below c.in_default.ensures.next

@@ -1,4 +1,5 @@
 use Rattle.std.proofs.Common.{◌≤◌}
+use Rattle.vol_dir.specs.Repeats.{MarksEmpty}
 use Rattle.vol_judge.specs.Stepping.{rank}
 use Rattle.vol_judge.proofs.Passing.{IsPassed}
 use Rattle.vol_judge.proofs.reading.next_entry.Given as goal
@@ -7,5 +8,6 @@ use Rattle.vol_judge.proofs.reading.next_entry.Given as goal
 abbrev pub invariant-loop-d : goal.invariant-loop-d
 invariant-loop-d l = record {
   passed : IsPassed l.geometry l.image (rank l.fn.from.directory l.fn.from.slot) l.d l.start;
+  marks : MarksEmpty l.geometry l.image l.marks;
   reached : rank l.fn.from.directory l.fn.from.slot ≤ rank l.d l.start;
 }

@@ -1,8 +1,9 @@
 use Rattle.std.proofs.Common.{◌-◌, ◌≤◌, IfNone, IfSome}
+use Rattle.vol_dir.specs.Repeats.{MarksEmpty}
 use Rattle.vol_judge.specs.Counting.{CountsBefore}
 use Rattle.vol_judge.specs.Stepping.{rank}
 use Rattle.vol_judge.specs.Tree.{NotesParentsBefore, HasOnceBefore, IsEnteredAgain}
-use Rattle.vol_judge.proofs.directories.entered.find_entered.Given as goal
+use Rattle.vol_judge.proofs.directories.entered.note_entries.Given as goal
 
 -- the entries before the place are gone over
 abbrev pub invariant-loop-entry : goal.invariant-loop-entry
@@ -11,6 +12,7 @@ invariant-loop-entry l = record {
   parents : NotesParentsBefore l.geometry l.image l.ups (rank l.place.directory l.place.slot) l.parents.items;
   once : IfNone l.again (HasOnceBefore l.geometry l.image (rank l.place.directory l.place.slot));
   again : IfSome l.again (IsEnteredAgain l.geometry l.image);
+  marks : MarksEmpty l.geometry l.image l.marks;
   counts : CountsBefore l.geometry l.image (rank l.place.directory l.place.slot) l.counts.items;
 }
 

@@ -1,8 +1,0 @@
-use Rattle.std.proofs.Common.{ℕ, ◌<◌}
-use Rattle.vol_dir.specs.Entries.{IsDirectory}
-use Rattle.vol_judge.specs.Naming.{HasEntriesIn}
-use Rattle.vol_judge.proofs.entries.find_entry.Given as goal
-
--- rule 9 holds of the directories below d
-abbrev pub invariant-loop-d : goal.invariant-loop-d
-invariant-loop-d l = (e : ℕ) → e < l.d → IsDirectory l.geometry l.image e → HasEntriesIn l.geometry l.image e

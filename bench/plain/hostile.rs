@@ -26,6 +26,8 @@ impl Volume {
             "directory_rings" => volume.name_by_all(DIRECTORY, Volume::ring),
             "directory_zeros" => volume.name_by_all(DIRECTORY, Volume::tree),
             "directory_entries" => volume.name_by_all(DIRECTORY, Volume::tree_of_entries),
+            "directory_names" => volume.name_by_root_too(Volume::tree_of_names),
+            "directory_fans" => volume.name_by_root_too(Volume::fan_of_names),
             "free_ring" => volume.free_ring(),
             "free_chain" => volume.free_chain(),
             "circle" => volume.circle()?,
@@ -50,6 +52,14 @@ impl Volume {
             self.put_size(ino, self.layout.greatest);
             self.put_address(ino, self.layout.address_count - 1, top);
         }
+    }
+
+    /// The same for directories, with the root among them.
+    fn name_by_root_too(&mut self, make: impl Fn(&mut Volume) -> usize) {
+        self.name_by_all(DIRECTORY, make);
+        let (from, to) = (self.layout.root + 1, self.layout.root);
+        let (from, to) = (self.inode(from), self.inode(to));
+        self.bytes.copy_within(from..from + self.layout.inode_bytes, to);
     }
 
     /// A block all of whose entries are one number.
@@ -81,6 +91,44 @@ impl Volume {
         let top = self.tree();
         let (root, last) = (self.layout.root, top + 3);
         self.put_slot(last * BLOCK + SLOT, root, b"up");
+        top
+    }
+
+    /// The same, but for the last block, which has 32 names, 31 of them for directories.
+    fn tree_of_names(&mut self) -> usize {
+        let top = self.tree();
+        self.put_names(top + 3);
+        top
+    }
+
+    /// A block of 32 names: of one after the other of the first directories.
+    fn put_names(&mut self, block: usize) {
+        for slot in 0..BLOCK / SLOT {
+            let name = format!("n{slot}");
+            let ino = self.layout.root + slot;
+            self.put_slot(block * BLOCK + slot * SLOT, ino, name.as_bytes());
+        }
+    }
+
+    /// Blocks whose entries name the next level's as many different ones as there are: a third of the zone for each level
+    /// below the first, of which the last has names.
+    fn fan_of_names(&mut self) -> usize {
+        let top = self.zone_start + 1;
+        let many = (self.zone_end - top - 1) / 3;
+        for level in 0..2 {
+            for block in top + 1 + level * many..top + 1 + (level + 1) * many {
+                for entry in 0..self.layout.fan_out {
+                    let number = top + 1 + (level + 1) * many + (block + entry * 7) % many;
+                    self.put_number(block * BLOCK + entry * self.layout.number_bytes, number);
+                }
+            }
+        }
+        for entry in 0..self.layout.fan_out {
+            self.put_number(top * BLOCK + entry * self.layout.number_bytes, top + 1 + entry % many);
+        }
+        for block in top + 1 + 2 * many..top + 1 + 3 * many {
+            self.put_names(block);
+        }
         top
     }
 

@@ -16,8 +16,8 @@ use vol_layout::Geometry;
 /// The names of directory `dir`, in ascending order of their bytes, with their i-numbers. Of entries with one name the
 /// first counts.
 ///
-/// Costs as much as going over the slots and sorting the names; the slots below a block that the directory names again are gone over
-/// once. Takes three bytes for each block of the volume if the directory has more than ten blocks.
+/// Costs as much as going over the slots and sorting the names. Of a directory of more than 320 slots, and one for each four blocks of
+/// the volume, the slots below a block that it names again are passed. That takes three bytes for each block of the volume.
 pub fn list_names(
     alloc: Global,
     image: &Image,
@@ -72,7 +72,8 @@ fn collect_unmarked(
     Ok(names)
 }
 
-/// Marks for a search of directory `dir`: none if it has no more blocks than an i-node of the seventh edition has addresses of.
+/// Marks for a search of directory `dir`, of which none is set: none at all if there would be so many that to make them costs more
+/// than to go over its slots.
 fn marks_for(
     alloc: Global,
     image: &Image,
@@ -83,7 +84,7 @@ fn marks_for(
     requires directory { IsDirectory geometry.now image.now dir }
     ensures { IfOk result (λ marks. (k : ℕ) → slice_index_or marks.items k false ≡ false) }
 {
-    if slot_count(image, geometry, dir) > 10 * SLOTS {
+    if slot_count(image, geometry, dir) > 10 * SLOTS + geometry.zone_end / 4 {
         no_marks(alloc, geometry)
     } else {
         Ok(Vec::new(alloc))

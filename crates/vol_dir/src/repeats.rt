@@ -15,7 +15,7 @@ use vol_layout::{Geometry, Slot};
 ///
 /// What lies below a block is marked once it was gone over, from slot `known` on. So the marks hold for whatever is true of all
 /// slots from `known` to the entry that is returned, or to the end: that they are empty, if `known` is `from`; that they are empty
-/// or have names that the caller met, if it is 0. Costs at most what [`next_entry`](crate::next_entry) does, and a way more for each logical
+/// or have names that the caller met, if it is 0. Costs at most what [`next_entry`](crate::next_entry) does, and two ways more for each logical
 /// block that is looked at.
 pub fn next_unmarked(
     image: &Image,
@@ -52,8 +52,8 @@ pub fn next_unmarked(
 
 /// The entry that [`next_entry`](crate::next_entry) returns, by marks of blocks below which there is none.
 ///
-/// Costs what that does, less what lies below marked blocks, and a way more for each logical block that is looked at. So the marks of
-/// several searches, in all directories, make each of them go over the slots below a block once.
+/// Costs what that does, less what lies below marked blocks, and two ways more for each logical block that is looked at. If searches of several
+/// directories share their marks, they go over the slots below a block without entries once.
 pub fn next_entry_marked(
     image: &Image,
     geometry: &Geometry,

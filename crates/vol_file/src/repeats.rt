@@ -29,7 +29,7 @@ pub fn no_marks(alloc: Global, geometry: &Geometry) -> Result<Vec<bool>, AllocEr
 /// The end of the logical blocks of i-node `i`, from 1 to the last, that need no look from block `b` on, since they lie below
 /// a marked block; `b` itself if it isn't below any.
 ///
-/// Costs the way of `b`.
+/// Costs the way of `b`, or nothing if there are no marks.
 #[tactic(auto, using(crate::proofs::Indexes::way_address, crate::proofs::Indexes::way_entry))]
 pub fn passed_end(image: &Image, geometry: &Geometry, i: u16, b: u32, marks: &[bool]) -> u32
     requires fits { Fits geometry.now image.now }
@@ -40,6 +40,9 @@ pub fn passed_end(image: &Image, geometry: &Geometry, i: u16, b: u32, marks: &[b
         → ((part : ℕ) → test 0 part ≡ true) → (t part : ℕ) → b ≤ t → t < result
         → test (stored geometry.now image.now i (form_at geometry.now image.now i) t) part ≡ true }
 {
+    if marks.is_empty() {
+        return b;
+    }
     let form = Form::of(geometry.edition, mode(image, geometry, i));
     let Some(way) = form.way(b) else { return b };
     let mut block = address(image, geometry, i, way.address);
@@ -55,7 +58,7 @@ pub fn passed_end(image: &Image, geometry: &Geometry, i: u16, b: u32, marks: &[b
 /// Marks each block on the way of logical block `b` of i-node `i`, from 1 to the last, if all logical blocks below it are
 /// from `from` to before `to`. There are [`MARKS`] marks for each block; a block for which `marks` has none isn't marked.
 ///
-/// Costs the way of `b`.
+/// Costs the way of `b`, or nothing if there are no marks.
 #[tactic(auto, using(crate::proofs::Indexes::way_address, crate::proofs::Indexes::way_entry))]
 pub fn mark_passed(
     image: &Image,
@@ -73,6 +76,9 @@ pub fn mark_passed(
         → ((t part : ℕ) → from ≤ t → t < to → test (stored geometry.now image.now i (form_at geometry.now image.now i) t) part ≡ true)
         → MarksPassed test geometry.now image.now marks.new }
 {
+    if marks.is_empty() {
+        return;
+    }
     let form = Form::of(geometry.edition, mode(image, geometry, i));
     let Some(way) = form.way(b) else { return };
     let last = to.min(form.block_limit());

@@ -9,11 +9,10 @@ ghost use Rattle.vol_judge.specs.Finds.{Finds};
 ghost use Rattle.vol_judge.specs.Entries.{IsNumbered, IsWrongEntry, IsFirstIn, IsFirstEntry};
 
 use crate::finding::Finding;
-use crate::reading::is_directory;
+use crate::reading::{is_directory, marks_for};
 use pdp_words::Image;
 use std::alloc::{AllocError, Global};
 use std::collections::BTreeSet;
-use vol_file::no_marks;
 use vol_layout::i_list::{kind, size};
 use vol_layout::slot::{NAME, SLOT};
 use vol_layout::{Geometry, Kind, Slot};
@@ -21,7 +20,8 @@ use vol_layout::{Geometry, Kind, Slot};
 /// What breaks rule 9 first: of the first directory that does, its size or the first of its slots.
 ///
 /// Costs a look at each slot of each directory, less those below blocks that were found without entries before, and for each directory
-/// as much as sorting its names. Memory is taken for three bytes a block, and for the names of one directory at a time.
+/// as much as sorting its names. Memory is taken for the names of one directory at a time, and where the directories claim
+/// more blocks than there are for three bytes a block.
 pub fn find_entry(
     alloc: Global,
     image: &Image,
@@ -30,7 +30,7 @@ pub fn find_entry(
     requires { Fits geometry.now image.now }
     ensures { IfOk result (Finds (HasEntries geometry.now image.now) (IsFirstEntry geometry.now image.now)) }
 {
-    let mut marks = no_marks(alloc, geometry)?;
+    let mut marks = marks_for(alloc, image, geometry)?;
     find_marked(alloc, image, geometry, &mut marks)
 }
 

@@ -1,5 +1,5 @@
 //! Reading the entries of directories, one after the other.
-ghost use Rattle.std.specs.Prelude.{◌≡◌, ◌+◌, ◌<◌, ◌≤◌, MatchOption, IsTrue, ◌↔◌};
+ghost use Rattle.std.specs.Prelude.{◌≡◌, ◌+◌, ◌<◌, ◌≤◌, MatchOption, IsTrue, ◌↔◌, IfOk};
 ghost use Rattle.vol_layout.specs.Geometry.{Fits};
 ghost use Rattle.vol_layout.specs.Slot.{name_of};
 ghost use Rattle.vol_dir.specs.Entries.{IsDirectory};
@@ -7,8 +7,10 @@ ghost use Rattle.vol_dir.specs.Names.{is_dots};
 ghost use Rattle.vol_dir.specs.Repeats.{MarksEmpty};
 ghost use Rattle.vol_judge.specs.Stepping.{IsNextSlot, IsPastEntries, rank};
 
-use pdp_words::Image;
-use vol_layout::i_list::kind;
+use pdp_words::{BLOCK, Image};
+use std::alloc::{AllocError, Global};
+use vol_file::no_marks;
+use vol_layout::i_list::{kind, size};
 use vol_layout::{Geometry, Kind, Slot};
 
 /// Whether i-number `i` is that of a directory.
@@ -72,6 +74,31 @@ impl Entry {
         ensures { result ≡ is_dots (name_of self.now.slot.name) }
     {
         vol_dir::is_dots(self.slot.name())
+    }
+}
+
+/// Marks for searches over the slots of all directories, of which none is set: none at all if the directories don't claim more blocks
+/// than the volume has, so that no search of them takes long.
+///
+/// Costs a look at each i-node. Takes three bytes a block, or nothing.
+pub(crate) fn marks_for(
+    alloc: Global,
+    image: &Image,
+    geometry: &Geometry,
+) -> Result<Vec<bool>, AllocError>
+    requires fits { Fits geometry.now image.now }
+    ensures { IfOk result (λ marks. MarksEmpty geometry.now image.now marks.items) }
+{
+    let mut claimed: u32 = 0;
+    for d in 1..=geometry.last_inode {
+        if is_directory(image, geometry, d) {
+            claimed = claimed.saturating_add(size(image, geometry, d).div_ceil(BLOCK as u32));
+        }
+    }
+    if claimed > geometry.zone_end {
+        no_marks(alloc, geometry)
+    } else {
+        Ok(Vec::new(alloc))
     }
 }
 

@@ -13,10 +13,9 @@ ghost use Rattle.vol_judge.specs.InodeMarks.{IsNamed};
 ghost use Rattle.vol_judge.specs.Tree.{NotesParents};
 
 use crate::finding::Finding;
-use crate::reading::is_directory;
+use crate::reading::{is_directory, marks_for};
 use pdp_words::Image;
 use std::alloc::{AllocError, Global};
-use vol_file::no_marks;
 use vol_layout::{Geometry, Slot};
 
 /// What a directory names by `.` and by `..`; None where it has no such entry.
@@ -134,13 +133,13 @@ fn names_parent(geometry: &Geometry, d: u16, ups: &[Option<u16>], parents: &[Opt
 /// What the directories name by `..`, of a volume on which rule 9 holds, up to the first that doesn't name itself by `.`.
 ///
 /// Costs a look at each slot of each directory, up to those two entries, less those below blocks that were found without entries before.
-/// Memory is taken for three bytes a block and four an i-number.
+/// Memory is taken for four bytes an i-number, and where the directories claim more blocks than there are for three a block.
 pub fn find_ups(alloc: Global, image: &Image, geometry: &Geometry) -> Result<Ups, AllocError>
     requires fits { Fits geometry.now image.now }
     requires entries { HasEntries geometry.now image.now }
     ensures { IfOk result (λ ups. KnowsDots geometry.now image.now ups.numbers.items ups.nameless) }
 {
-    let mut marks = no_marks(alloc, geometry)?;
+    let mut marks = marks_for(alloc, image, geometry)?;
     note_ups(alloc, image, geometry, &mut marks)
 }
 

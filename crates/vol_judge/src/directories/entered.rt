@@ -10,10 +10,9 @@ ghost use Rattle.vol_judge.specs.Stepping.{rank, IsNextSlot};
 ghost use Rattle.vol_judge.specs.Tree.{NotesParentsBefore, NotesParents, KnowsParents, HasOnceBefore, IsEnteredAgain};
 
 use crate::finding::Finding;
-use crate::reading::{Entry, Place, is_directory, next_entry};
+use crate::reading::{Entry, Place, is_directory, marks_for, next_entry};
 use pdp_words::Image;
 use std::alloc::{AllocError, Global};
-use vol_file::no_marks;
 use vol_layout::Geometry;
 
 /// What the entries of all directories say.
@@ -30,8 +29,8 @@ pub struct Entered {
 
 /// What the entries of all directories say, where it is known what directories name by `..`.
 ///
-/// Costs a look at each slot of each directory, less those below blocks that were found without entries before. Memory is taken for three
-/// bytes a block and twelve an i-number.
+/// Costs a look at each slot of each directory, less those below blocks that were found without entries before. Memory is taken for twelve
+/// bytes an i-number, and where the directories claim more blocks than there are for three a block.
 pub fn find_entered(
     alloc: Global,
     image: &Image,
@@ -45,7 +44,7 @@ pub fn find_entered(
     ensures again { IfOk result (λ found. Finds (IsOnce geometry.now image.now) (IsEnteredAgain geometry.now image.now) found.again) }
     ensures counts { IfOk result (λ found. HasCounts geometry.now image.now found.counts.items) }
 {
-    let mut marks = no_marks(alloc, geometry)?;
+    let mut marks = marks_for(alloc, image, geometry)?;
     note_entries(alloc, image, geometry, ups, &mut marks)
 }
 

@@ -1,10 +1,4 @@
-use Rattle.std.specs.Option.{is_none}
-use Rattle.vol_dir.specs.Repeats.{passes_in}
-use Rattle.vol_file.proofs.Repeating.{clear_passes}
 use Rattle.vol_judge.proofs.entries.find_entry.Goals as goal
 
 pub find_marked-requires-clause-marks : goal.find_marked-requires-clause-marks
-find_marked-requires-clause-marks c =
-    let geometry = c.args.geometry.now in
-    let image = c.args.image.now in
-    rw c.deref_mut.ensures.value (clear_passes (passes_in (λ entry. is_none entry) geometry image) geometry image c.in_ok-marks.marks.items c.in_ok-marks.ensures.clear)
+find_marked-requires-clause-marks c = rw c.deref_mut.ensures.value c.in_ok-marks.ensures

@@ -60,8 +60,8 @@ pub struct Outcomes {
 /// Of each of the twelve rules whether an image keeps it, what breaks it first, or that a rule that it needs is broken. The image may be
 /// any bytes.
 ///
-/// The time grows with the image's blocks and the slots of its directories, whatever they hold, and with sorting the names of
-/// each directory. The memory is a few bytes for each block and i-number, and the names of one directory at a time. An error only
+/// The time grows with the image's blocks, with the entries of its directories, counted as often as these name their blocks, and with sorting
+/// the names of each directory. The memory is a few bytes for each block and i-number, and the names of one directory at a time. An error only
 /// where memory is refused.
 pub fn check_rules(alloc: Global, edition: Edition, image: &Image) -> Result<Outcomes, AllocError>
     ensures { IfOk result (Tells edition image.now) }

@@ -247,6 +247,11 @@ exports 1 wrong.tar 6 wrong.v6 ''
 has 'what is told of an image of which much is wrong' same "$(cmp -s error wanted && echo same)"
 has 'the bytes of an archive of an image of which much is wrong' 3072 "$(wc -c < wrong.tar)"
 
+# A block that each of 32 directories names two million times is read once for each: 31 members, and 993 of the 1,024 names again.
+shared shared.v7 32
+runs_within 20 export 7 shared.v7 /
+has 'an export of directories that name one block everywhere' '1 31 993' "$(cat status) $(tar tf output | wc -l) $(grep -c 'a directory that was met before$' error)"
+
 # Moments of long lines, beside what Python's datetime makes of them: those of a table, and one of each fifth day up to 2105. Each is the
 # time of modification of a file, which is put into its i-node.
 cat > moments.py << 'PYTHON'

@@ -26,6 +26,24 @@ changed() {
     put "$2" "$3" "$4"
 }
 
+# shared FILE NAMES: a volume of the seventh edition with 63 directories of the greatest size, in which all logical blocks from 16,522 on are
+# one block, with so many names: n0 for the root, n1 for the directory after it, and so on
+shared() {
+    "$program" mkfs 7 "$1" 50 8 0 0 1
+    python3 - "$@" << 'PYTHON'
+import struct, sys
+image = bytearray(open(sys.argv[1], "rb").read())
+size = 512 * (10 + 128 + 128 ** 2 + 128 ** 3)
+directory = struct.pack("<6H36x4B12x", 0o40755, 1, 0, 0, size >> 16, size & 0xFFFF, 0, 11, 0, 0)
+image[1024 + 64:1024 + 64 * 64] = 63 * directory
+for block in 11, 12, 13:
+    image[512 * block:512 * block + 512] = 128 * struct.pack("<HH", 0, block + 1)
+names = b"".join(struct.pack("<H14s", 2 + n, b"n%d" % n) for n in range(int(sys.argv[2])))
+image[512 * 14:512 * 15] = names.ljust(512, b"\0")
+open(sys.argv[1], "wb").write(image)
+PYTHON
+}
+
 # wants LABEL STATUS OUTPUT ERROR: compares what the last run left in status, output and error; OUTPUT and ERROR are files
 wants() {
     if [ "$(cat status)" = "$2" ] && cmp -s output "$3" && cmp -s error "$4"; then

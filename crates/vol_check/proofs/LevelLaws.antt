@@ -13,7 +13,7 @@ use Rattle.count_table.specs.declared.words.Tally.{Tally}
 use Rattle.count_table.specs.Sums.{total, below}
 use Rattle.vol_check.specs.declared.levels.Named.{Named}
 use Rattle.vol_check.specs.Pieces.{place_weight}
-use Rattle.vol_check.specs.Levels.{below_block, below_named, below_all, KeepsDraws}
+use Rattle.vol_check.specs.Levels.{below_block, by_times, below_named, below_all, KeepsDraws}
 use Rattle.vol_check.proofs.Weights.{weigh_zero, weigh_leaf, weigh_block, weigh_outside, entry_weight}
 
 -- a sum so many times
@@ -72,16 +72,15 @@ module _ (g : Geometry) (image : List ℕ) (i : ℕ) (weight : Mark → ℕ) whe
   all_leaves (n ∷ named) =
       let h = all_leaves named in let l = leaf_named n in let c = sum_by-cons (below_named g image i weight 0) n named in omega arith
 
-  -- one block of two that are the same
-  pub named_both : (d : ℕ) (x y both : Named) → both.number ≡ x.number → both.number ≡ y.number → both.times ≡ x.times + y.times
-      → below_named g image i weight d both ≡ below_named g image i weight d x + below_named g image i weight d y
-  named_both d x y both first second sum =
-      let b : ℕ → ℕ = λ n. below_block g image (place_weight g weight i) d n in
-      let e = ap (λ n. n * b both.number) sum in
-      let s = sum_times x.times y.times (b both.number) in
-      let f = ap (λ n. x.times * b n) first in
-      let l = ap (λ n. y.times * b n) second in
-      e ∙ (s ∙ (ap (λ k. k + y.times * b both.number) f ∙ ap (λ k. x.times * b x.number + k) l))
-    where
-      sum_times : (m n x : ℕ) → (m + n) * x ≡ m * x + n * x
-      sum_times m n x = grind arith
+-- one block of two that are the same
+pub times_both : (f : ℕ → ℕ) (x y both : Named) → both.number ≡ x.number → both.number ≡ y.number → both.times ≡ x.times + y.times
+    → by_times f both ≡ by_times f x + by_times f y
+times_both f x y both first second sum =
+    let e = ap (λ n. n * f both.number) sum in
+    let s = sum_times x.times y.times (f both.number) in
+    let l = ap (λ n. x.times * f n) first in
+    let r = ap (λ n. y.times * f n) second in
+    e ∙ (s ∙ (ap (λ k. k + y.times * f both.number) l ∙ ap (λ k. x.times * f x.number + k) r))
+  where
+    sum_times : (m n x : ℕ) → (m + n) * x ≡ m * x + n * x
+    sum_times m n x = grind arith

@@ -24,9 +24,13 @@ unfoldable pub below_block : Geometry → List ℕ → (ℕ → ℕ) → ℕ →
 below_block g image weight zero b = 0
 below_block g image weight (suc d) b = below (λ j. total weight (blocks_from g image d (pointer_in g image b j))) (constants g.edition).pointers
 
+-- a weight of a block's number, as often as places name it (this project)
+abbrev pub by_times : (ℕ → ℕ) → Named → ℕ
+by_times f n = n.times * f n.number
+
 -- the same for a block as often as places name it (this project)
 abbrev pub below_named : Geometry → List ℕ → ℕ → (Mark → ℕ) → ℕ → Named → ℕ
-below_named g image i weight d n = n.times * below_block g image (place_weight g weight i) d n.number
+below_named g image i weight d = by_times (below_block g image (place_weight g weight i) d)
 
 -- the same for some blocks (this project)
 abbrev pub below_all : Geometry → List ℕ → ℕ → (Mark → ℕ) → ℕ → List Named → ℕ

@@ -5,6 +5,7 @@ ghost use Rattle.vol_check.specs.Reporting.{IsReport};
 
 use crate::checker::Checker;
 use crate::gate::Gate;
+use crate::room::try_room;
 use crate::sweeps::Sweep;
 use pdp_words::Image;
 use std::alloc::{AllocError, Global};
@@ -21,7 +22,7 @@ pub const MOST_WORKERS: usize = 64;
 ///
 /// Costs a look at each address of each i-node, at each entry of each block that it leads to, once for each level of indirect
 /// blocks, at the free list, and at each data block. Takes sixteen bytes for each data block and each i-number, a byte more
-/// for each data block, half a MB at most for each thread while it is at a file with indirect blocks, and memory for the lines.
+/// for each data block, a MB at most for each thread while it is at a file with indirect blocks, and memory for the lines.
 pub fn icheck<R: Threads + Sync, W: Wait, G: Gate>(
     threads: &R,
     _wait: &W,
@@ -77,7 +78,8 @@ pub fn dcheck<R: Threads + Sync, W: Wait, G: Gate>(
 /// The name report of an image, by so many threads, as [`icheck`] has them.
 ///
 /// Costs a look at each slot of each directory that is in no hole, and as much as the report is long, with its sorting.
-/// Takes twelve bytes for each i-number, and memory for each entry and its path.
+/// Takes twelve bytes for each i-number, and memory for each entry and its path: first, for a moment, what the lines need at
+/// least, all at once.
 pub fn ncheck<R: Threads + Sync, W: Wait, G: Gate>(
     threads: &R,
     _wait: &W,
@@ -91,6 +93,7 @@ pub fn ncheck<R: Threads + Sync, W: Wait, G: Gate>(
     requires last { workers ≤ MOST_WORKERS }
     ensures { IfOk result (λ report. IsNameReport edition image.now report) }
 {
+    try_room(alloc, edition, image)?;
     check(
         threads,
         alloc,

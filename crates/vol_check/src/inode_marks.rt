@@ -19,7 +19,7 @@ use vol_reports::words::kind_word;
 
 /// Marks the places and the kind of i-node `i`.
 ///
-/// Takes sixteen bytes for each place of the file that names an indirect block.
+/// Takes thirty-two bytes for each place of the file that names an indirect block.
 pub(crate) fn mark_inode(
     alloc: Global,
     tally: &Tally,

@@ -1,12 +1,14 @@
 //! What the places of an i-node name, level by level: each block with entries is looked into once for all its places.
 ghost use Rattle.std.specs.Prelude.{◌≡◌, ℕ, ◌+◌, ◌*◌, ◌^◌, ◌<◌, ◌≤◌, All, IfOk, IfSome, IfNone};
+ghost use Rattle.std.specs.List.{sum_by};
+ghost use Rattle.vol_layout.specs.declared.geometry.Geometry.{Geometry};
 ghost use Rattle.vol_layout.specs.Geometry.{Fits};
 ghost use Rattle.vol_judge.specs.Marks.{blocks_from};
 ghost use Rattle.count_table.specs.Sums.{total};
 ghost use Rattle.count_table.specs.Tallies.{IsSeatAt, table_shape};
 ghost use Rattle.vol_reports.specs.Words.{HasWords};
 ghost use Rattle.vol_check.specs.Pieces.{Adds, place_weight};
-ghost use Rattle.vol_check.specs.Levels.{IsNamed, below_named, below_all, KeepsDraws, AddsBut};
+ghost use Rattle.vol_check.specs.Levels.{IsNamed, by_times, below_named, below_all, KeepsDraws, AddsBut};
 
 use count_table::{Tally, TallySeat};
 use pdp_words::{BLOCK, Image};
@@ -38,10 +40,43 @@ impl Named {
     }
 }
 
+/// The same blocks, each once with the places of all: in two entries only where these are 2^64 or more.
+///
+/// Costs sorting them. Takes sixteen bytes for each.
+pub(crate) fn each_once(alloc: Global, mut named: Vec<Named>) -> Result<Vec<Named>, AllocError>
+    ensures named { IfOk result (λ once. (geometry : Geometry) → All (IsNamed geometry) named.items → All (IsNamed geometry) once.items) }
+    ensures same { IfOk result (λ once. (f : ℕ → ℕ) → sum_by (by_times f) once.items ≡ sum_by (by_times f) named.items) }
+{
+    let mut once = Vec::new(alloc);
+    named.sort_unstable_by_key(|n| n.number);
+    while let Some(n) = named.pop() {
+        push_once(&mut once, n)?;
+    }
+    Ok(once)
+}
+
+/// Adds a block, or its places to those of the last one, if that is the same.
+fn push_once(once: &mut Vec<Named>, n: Named) -> Result<(), AllocError>
+    ensures named { IfOk result (λ _. (geometry : Geometry) → All (IsNamed geometry) once.old.items → IsNamed geometry n → All (IsNamed geometry) once.new.items) }
+    ensures same { IfOk result (λ _. (f : ℕ → ℕ) → sum_by (by_times f) once.new.items ≡ sum_by (by_times f) once.old.items + by_times f n) }
+{
+    let Some(last) = once.pop() else {
+        once.push(n)?;
+        return Ok(());
+    };
+    if let Some(both) = last.with(n) {
+        once.push(both)?;
+        return Ok(());
+    }
+    once.push(last)?;
+    once.push(n)?;
+    Ok(())
+}
+
 /// Marks number `b` and those found below it in `level` levels, if `b` isn't 0, for i-node `i`.
 ///
-/// Costs a look at each entry of each block that is found, once for each level. Takes sixteen bytes for each place that names
-/// a block with entries.
+/// Costs a look at each entry of each block that is found, once for each level. Takes thirty-two bytes for each place
+/// that names a block with entries.
 pub(crate) fn mark_from(
     alloc: Global,
     tally: &Tally,
@@ -80,7 +115,7 @@ fn mark_level(
     image: &Image,
     geometry: &Geometry,
     i: u16,
-    mut named: Vec<Named>,
+    named: Vec<Named>,
     level: u8,
 ) -> Result<Vec<Named>, AllocError>
     requires fits { Fits geometry.now image.now }
@@ -97,50 +132,11 @@ fn mark_level(
         (λ weight. below_all geometry.now image.now i weight level next.items)) }
 {
     let mut next = Vec::new(alloc);
-    named.sort_unstable_by_key(|n| n.number);
-    let Some(mut run) = named.pop() else {
-        return Ok(next);
-    };
-    while let Some(n) = named.pop() {
-        run = join_or_mark(tally, seat, image, geometry, i, &mut next, run, n, level)?;
+    let mut once = each_once(alloc, named)?;
+    while let Some(n) = once.pop() {
+        mark_entries(tally, seat, image, geometry, i, &mut next, n, level)?;
     }
-    mark_entries(tally, seat, image, geometry, i, &mut next, run, level)?;
     Ok(next)
-}
-
-/// Makes one of two blocks, if they are the same. Else marks what the entries of the first name, and returns the second.
-fn join_or_mark(
-    tally: &Tally,
-    seat: &mut TallySeat,
-    image: &Image,
-    geometry: &Geometry,
-    i: u16,
-    next: &mut Vec<Named>,
-    run: Named,
-    n: Named,
-    level: u8,
-) -> Result<Named, AllocError>
-    requires fits { Fits geometry.now image.now }
-    requires first { 1 ≤ i }
-    requires last { i ≤ geometry.now.last_inode }
-    requires words { HasWords geometry.now (table_shape tally.now) }
-    requires own { IsSeatAt tally.now seat.old }
-    requires parts { 1 ≤ seat.old.me.0.parts }
-    requires next { All (IsNamed geometry.now) next.old.items }
-    requires run { IsNamed geometry.now run }
-    requires n { IsNamed geometry.now n }
-    ensures kept { KeepsDraws tally.now seat.old seat.new }
-    ensures named { IfOk result (λ rest. All (IsNamed geometry.now) next.new.items × IsNamed geometry.now rest) }
-    ensures ok { IfOk result (λ rest. AddsBut seat.old seat.new
-        (λ weight. below_all geometry.now image.now i weight level next.old.items
-        + (below_named geometry.now image.now i weight (level + 1) run + below_named geometry.now image.now i weight (level + 1) n))
-        (λ weight. below_all geometry.now image.now i weight level next.new.items + below_named geometry.now image.now i weight (level + 1) rest)) }
-{
-    if let Some(both) = run.with(n) {
-        return Ok(both);
-    }
-    mark_entries(tally, seat, image, geometry, i, next, run, level)?;
-    Ok(n)
 }
 
 /// Marks what the entries of a block name, for each of its places, and adds those that have entries to `next`.

@@ -11,6 +11,7 @@ mod gathering;
 mod inode_marks;
 mod levels;
 mod parts;
+mod room;
 mod running;
 pub mod salvaging;
 mod seats;

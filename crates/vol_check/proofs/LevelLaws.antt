@@ -23,6 +23,9 @@ spread n x y = grind arith
 pub no_times : (n : ℕ) → n * 0 ≡ 0
 no_times n = grind arith
 
+pub one_time : (n : ℕ) → 1 * n ≡ n
+one_time n = omega arith
+
 -- a seat keeps its draws by two steps
 pub keeps_then : (tally : Tally) (a b c : Seat (Unit {0}) SeatView) → KeepsDraws tally a b → KeepsDraws tally b c → KeepsDraws tally a c
 keeps_then tally a b c first second = record { own = second.own; parts = second.parts ∙ first.parts; draws = second.draws ∙ first.draws }

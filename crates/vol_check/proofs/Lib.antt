@@ -6,6 +6,7 @@ pub mod Weights
 pub mod LevelLaws
 pub mod PastPieces
 pub mod Noted
+pub mod EntryCounts
 pub mod DirectoryPieces
 pub mod DirectorySums
 pub mod EntriesReported

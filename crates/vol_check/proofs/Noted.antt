@@ -143,6 +143,14 @@ module _ (g : Geometry) (image : List ℕ) (d : ℕ) where
         ∙ ap (λ n. over from a + n) (below_same (λ t. weight d (from + (a + t)) (entry_at g image d (from + (a + t))))
         (λ t. weight d (from + a + t) (entry_at g image d (from + a + t))) b
         (λ t lt. ap (λ s. weight d s (entry_at g image d s)) (omega arith)))
+    -- the slots of some blocks, and of those behind them
+    pub over_two : (from mid end : ℕ) → from ≤ mid → mid ≤ end
+        → over (32 * from) (32 * (end - from)) ≡ over (32 * from) (32 * (mid - from)) + over (32 * mid) (32 * (end - mid))
+    over_two from mid end low high =
+        let len : 32 * (end - from) ≡ 32 * (mid - from) + 32 * (end - mid) = omega arith in
+        let at : 32 * from + 32 * (mid - from) ≡ 32 * mid = omega arith in
+        ap (over (32 * from)) len ∙ (over_split (32 * from) (32 * (mid - from)) (32 * (end - mid))
+        ∙ ap (λ x. over (32 * from) (32 * (mid - from)) + over x (32 * (end - mid))) at)
 
     -- the slots of block b, and the hole behind it
     pub over_next : (from b next : ℕ) → Fits g image → from ≤ b → b + 1 ≤ next → IsHole g image d (form_at g image d) (b + 1) next

@@ -1,5 +1,5 @@
 -- Sums over ranges and over lists made of lists.
-use Rattle.std.proofs.Common.{◌≡◌, ℕ, zero, suc, ◌+◌, ◌<◌, List, [], ◌∷◌, refl, ap, ◌∙◌, arith}
+use Rattle.std.proofs.Common.{◌≡◌, ℕ, zero, suc, ◌+◌, ◌-◌, ◌*◌, ◌<◌, List, [], ◌∷◌, refl, ap, ◌∙◌, arith}
 use Rattle.std.specs.List.{flat_map, range_with_len}
 use Rattle.count_table.specs.Sums.{total, below}
 use Rattle.count_table.proofs.Totals.{total_append}
@@ -43,3 +43,7 @@ pub below_zero : (f : ℕ → ℕ) (n : ℕ) → ((k : ℕ) → k < n → f k �
 unfolding below
 below_zero f zero none = refl
 below_zero f (suc n) none = let h = below_zero f n (λ k lt. none k (omega arith)) in let e = none n (omega arith) in omega arith
+
+-- and of no blocks
+pub none_over : (f : ℕ → ℕ) (n : ℕ) → below f (32 * (n - n)) ≡ 0
+none_over f n = below_zero f (32 * (n - n)) (λ k lt. absurd (omega arith))

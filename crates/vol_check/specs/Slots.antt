@@ -4,7 +4,8 @@ use Rattle.vol_layout.specs.declared.geometry.Geometry.{Geometry}
 use Rattle.vol_layout.specs.declared.mode.Kind.TheVariants as kinds
 use Rattle.vol_layout.specs.declared.mode.Kind.{Kind}
 use Rattle.vol_file.specs.Rules.{kind_at}
-use Rattle.vol_dir.specs.Entries.{entry_at}
+use Rattle.vol_dir.specs.Entries.{entry_in, entry_at}
+use Rattle.vol_layout.specs.Slot.{slot_at}
 use Rattle.vol_dir.specs.Names.{is_dots}
 use Rattle.vol_judge.specs.Stepping.{rank}
 use Rattle.count_table.specs.declared.rule.Mark.{Mark}
@@ -25,6 +26,10 @@ SlotWeight = ℕ → ℕ → Option (List ℕ × ℕ) → ℕ
 abbrev pub entry_weight : Geometry → (Mark → ℕ) → Option (List ℕ × ℕ) → ℕ
 entry_weight g weight None = 0
 entry_weight g weight (Some entry) = if nat_le entry.1 g.last_inode then weight (mark (entry_word entry.1) 1) else 0
+
+-- what the slots of data block k mark (dcheck)
+abbrev pub entries_of : Geometry → List ℕ → (Mark → ℕ) → ℕ → ℕ
+entries_of g image weight k = below (λ t. entry_weight g weight (entry_in (slot_at image (512 * k + 16 * t)))) 32
 
 -- an entry of a name other than `.` and `..` marks its rank on the word of its i-number, up to the last (ncheck)
 abbrev pub name_weight : Geometry → (Mark → ℕ) → SlotWeight

@@ -4,6 +4,7 @@
 mod checker;
 mod checkers;
 mod dealing;
+mod entry_counts;
 mod finishing;
 mod free_walk;
 mod gate;

@@ -20,14 +20,24 @@ pub(crate) fn try_room(alloc: Global, edition: Edition, image: &Image) -> Result
     let Ok(geometry) = Geometry::read(edition, image) else {
         return Ok(());
     };
-    let mut room: Vec<(Entered, (u16, Vec<u8>), Line)> = Vec::new(alloc);
     let mut count: u64 = 0;
     for d in 1..=geometry.last_inode {
         if kind(image, &geometry, d) == Kind::Directory {
-            count = count.saturating_add(entry_count(alloc, image, &geometry, d)?);
-            room.reserve_exact(count as usize)?;
+            let entries = entry_count(alloc, image, &geometry, d)?;
+            if entries > 0 {
+                count = count.saturating_add(entries);
+                try_lines(alloc, count)?;
+            }
         }
     }
+    Ok(())
+}
+
+/// Takes the memory for so many entries, paths and lines, and gives it back. It is taken anew for each number: a system that
+/// grants what is more than it has in small steps refuses it as a whole.
+fn try_lines(alloc: Global, count: u64) -> Result<(), AllocError> {
+    let mut room: Vec<(Entered, (u16, Vec<u8>), Line)> = Vec::new(alloc);
+    room.reserve_exact(count as usize)?;
     Ok(())
 }
 

@@ -5,7 +5,7 @@ ghost use Rattle.vol_dir.specs.Entries.{entry_in, entry_at, slot_count};
 ghost use Rattle.count_table.specs.Sums.{total, below};
 ghost use Rattle.count_table.specs.Views.{mark};
 ghost use Rattle.count_table.specs.Tallies.{IsSeatAt, table_shape};
-ghost use Rattle.vol_reports.specs.Words.{HasEntryWords, HasNameWords, entry_word, name_word};
+ghost use Rattle.vol_reports.specs.Words.{HasNameWords, name_word};
 ghost use Rattle.vol_reports.specs.Names.{entered};
 ghost use Rattle.vol_judge.specs.Stepping.{rank};
 ghost use Rattle.vol_check.specs.Pieces.{Adds};
@@ -15,22 +15,23 @@ ghost use Rattle.vol_check.specs.Shapes.{HasWordsOf};
 ghost use Rattle.vol_check.specs.Noting.{Notes, Stays};
 
 use crate::checker::Checker;
+use crate::entry_counts::{count_blocks, count_entry};
 use crate::parts::{PART_BLOCKS, Part};
 use crate::seats::CheckSeat;
 use crate::sweeps::Sweep;
 use count_table::{Tally, TallySeat};
 use pdp_words::{BLOCK, Image};
-use std::alloc::AllocError;
+use std::alloc::{AllocError, Global};
 use vol_dir::is_dots;
 use vol_file::{block_at, next_block};
 use vol_layout::i_list::{kind, size};
 use vol_layout::slot::SLOT;
 use vol_layout::{Geometry, Kind, Slot};
 use vol_reports::Entered;
-use vol_reports::words::{entry_word, name_word, rank};
+use vol_reports::words::{name_word, rank};
 
 /// Slots in a block.
-const SLOTS: u32 = 32;
+pub(crate) const SLOTS: u32 = 32;
 
 /// How many slots directory `d` has.
 fn slot_count(image: &Image, geometry: &Geometry, d: u16) -> u32
@@ -47,6 +48,7 @@ impl Sweep {
     /// Notes the slots of a part of an i-number, if it is a directory.
     pub(crate) fn note_part(
         &self,
+        alloc: Global,
         image: &Image,
         geometry: &Geometry,
         seat: &mut CheckSeat,
@@ -69,9 +71,74 @@ impl Sweep {
                 let from = PART_BLOCKS * part.index;
                 let blocks = slot_count(image, geometry, part.inode).div_ceil(SLOTS);
                 let end = blocks.min(from + PART_BLOCKS);
-                self.note_blocks(image, geometry, seat, part.inode, from, end)
+                self.note_range(alloc, image, geometry, seat, part.inode, from, end)
             }
             _ => Ok(()),
+        }
+    }
+
+    /// Notes the slots of the logical blocks of directory `d` from one up to another: by data blocks as far as it can.
+    fn note_range(
+        &self,
+        alloc: Global,
+        image: &Image,
+        geometry: &Geometry,
+        seat: &mut CheckSeat,
+        d: u16,
+        from: u32,
+        end: u32,
+    ) -> Result<(), AllocError>
+        requires fits { Fits geometry.now image.now }
+        requires words { HasWordsOf self.now.checker geometry.now (table_shape self.now.tally) }
+        requires own { IsSeatAt self.now.tally seat.old.seat }
+        requires parts { 1 ≤ seat.old.seat.me.0.parts }
+        requires first { 1 ≤ d }
+        requires last { d ≤ geometry.now.last_inode }
+        requires order { from ≤ end }
+        requires few { end ≤ 2113674 }
+        ensures ok { IfOk result (λ _. Notes self.now.tally seat.old seat.new
+            (λ weight. below (λ t. slot_weight self.now.checker geometry.now weight d (32 * from + t) (entry_at geometry.now image.now d (32 * from + t))) (32 * (end - from)))
+            (λ weight. below (λ t. slot_kept self.now.checker weight d (32 * from + t) (entry_at geometry.now image.now d (32 * from + t))) (32 * (end - from)))) }
+        ensures err { IfErr result (λ _. Stays self.now.tally seat.old seat.new) }
+    {
+        let rest = self.count_whole(alloc, image, geometry, seat, d, from, end)?;
+        self.note_blocks(image, geometry, seat, d, rest, end)
+    }
+
+    /// Notes the slots of those of these logical blocks that the directory has whole, in a sweep for entries, and of none in
+    /// another. Returns the first block that is left.
+    fn count_whole(
+        &self,
+        alloc: Global,
+        image: &Image,
+        geometry: &Geometry,
+        seat: &mut CheckSeat,
+        d: u16,
+        from: u32,
+        end: u32,
+    ) -> Result<u32, AllocError>
+        requires fits { Fits geometry.now image.now }
+        requires words { HasWordsOf self.now.checker geometry.now (table_shape self.now.tally) }
+        requires own { IsSeatAt self.now.tally seat.old.seat }
+        requires parts { 1 ≤ seat.old.seat.me.0.parts }
+        requires first { 1 ≤ d }
+        requires last { d ≤ geometry.now.last_inode }
+        requires order { from ≤ end }
+        requires few { end ≤ 2113674 }
+        ensures order { IfOk result (λ rest. (from ≤ rest) × (rest ≤ end)) }
+        ensures ok { IfOk result (λ rest. Notes self.now.tally seat.old seat.new
+            (λ weight. below (λ t. slot_weight self.now.checker geometry.now weight d (32 * from + t) (entry_at geometry.now image.now d (32 * from + t))) (32 * (rest - from)))
+            (λ weight. below (λ t. slot_kept self.now.checker weight d (32 * from + t) (entry_at geometry.now image.now d (32 * from + t))) (32 * (rest - from)))) }
+        ensures err { IfErr result (λ _. Stays self.now.tally seat.old seat.new) }
+    {
+        let whole = end.min(slot_count(image, geometry, d) / SLOTS);
+        match self.checker {
+            Checker::Entries if from < whole => {
+                let tally = &self.tally;
+                count_blocks(alloc, tally, &mut seat.seat, image, geometry, d, from, whole)?;
+                Ok(whole)
+            }
+            _ => Ok(from),
         }
     }
 
@@ -163,24 +230,11 @@ impl Sweep {
         match self.checker {
             Checker::Blocks => Ok(()),
             Checker::Entries => {
-                count_entry(&self.tally, &mut seat.seat, geometry, slot.inode);
+                count_entry(&self.tally, &mut seat.seat, geometry, slot.inode, 1);
                 Ok(())
             }
             Checker::Names => keep_entry(&self.tally, seat, geometry, Entered::new(d, s, slot)),
         }
-    }
-}
-
-/// Counts an entry for i-number `i`, unless that is past the last.
-fn count_entry(tally: &Tally, seat: &mut TallySeat, geometry: &Geometry, i: u16)
-    requires words { HasEntryWords geometry.now (table_shape tally.now) }
-    requires own { IsSeatAt tally.now seat.old }
-    requires parts { 1 ≤ seat.old.me.0.parts }
-    requires first { 1 ≤ i }
-    ensures { Adds tally.now seat.old seat.new (λ weight. if nat_le i geometry.now.last_inode then weight (mark (entry_word i) 1) else 0) }
-{
-    if i <= geometry.last_inode {
-        tally.count(seat, entry_word(i), 1);
     }
 }
 

@@ -24,9 +24,9 @@ use vol_layout::Geometry;
 impl Sweep {
     /// Draws a piece and does it; None where none is left.
     ///
-    /// Takes a byte for each block of the volume where the piece is the free list, sixteen for each place of a file that
-    /// names an indirect block, some for each entry in a sweep for names, else no memory. Where there is none, this seat
-    /// finds none for good.
+    /// Takes a byte for each block of the volume where the piece is the free list, thirty-two for each place of a file that
+    /// names an indirect block, 2 KB in a sweep for entries, some for each entry in one for names. Where there is none, this
+    /// seat finds none for good.
     pub fn step(
         &self,
         alloc: Global,
@@ -98,13 +98,14 @@ impl Sweep {
         };
         match self.checker {
             Checker::Blocks => self.check_blocks(alloc, image, &geometry, seat, number),
-            _ => self.note_piece(image, &geometry, seat, number),
+            _ => self.note_piece(alloc, image, &geometry, seat, number),
         }
     }
 
     /// Does a piece of a sweep over directories.
     fn note_piece(
         &self,
+        alloc: Global,
         image: &Image,
         geometry: &Geometry,
         seat: &mut CheckSeat,
@@ -121,7 +122,7 @@ impl Sweep {
     {
         let _last = geometry.last_inode;
         let part = part_at(&self.starts, number);
-        self.note_part(image, geometry, seat, part)
+        self.note_part(alloc, image, geometry, seat, part)
     }
 
     /// Does a piece of a sweep over the blocks.

@@ -1,4 +1,4 @@
-use Rattle.std.proofs.Common.{◌+◌, All, ap, arith, ◌∙◌, sym, subst}
+use Rattle.std.proofs.Common.{All, ap, arith, ◌∙◌, sym, subst}
 use Rattle.std.specs.Prelude.{Some}
 use Rattle.std.specs.List.{sum_by}
 use Rattle.std.proofs.lemmas.List.Elements.{All-pop, All-nil}

@@ -13,8 +13,8 @@ overflow_mul-from c = let few = few_parts c.args.geometry.now c.args.image.now c
 pub overflow_add-from : goal.overflow_add-from
 overflow_add-from c = let few = few_parts c.args.geometry.now c.args.image.now c.args.part.inode in omega (arith, few, c.requires.within)
 
-pub note_blocks-requires-clause-order : goal.note_blocks-requires-clause-order
-note_blocks-requires-clause-order c =
+pub note_range-requires-clause-order : goal.note_range-requires-clause-order
+note_range-requires-clause-order c =
     let parts = directory_parts c.args.geometry.now c.args.image.now c.args.part.inode (sym c.in-Directory.ensures) in
     omega (arith, parts, c.requires.within, c.slot_count.ensures.exact, c.div_ceil-blocks.ensures, c.min-end.ensures)
 
@@ -33,15 +33,15 @@ returns-in-Directory-clause-ok c =
     let parts = directory_parts g image d (sym c.in-Directory.ensures) in
     let short : 32 * (end - from) < 2048 → slot_count g image d ≤ 32 * from + 32 * (end - from) =
     λ lt. omega (arith, lt, parts, c.requires.within, c.slot_count.ensures.exact, c.div_ceil-blocks.ensures, c.min-end.ensures) in
-    IfOk-weaker c.note_blocks.result
-    (λ x. Notes tally c.args.seat.now c.note_blocks.new.seat (marked_over checker g image d (32 * from) (32 * (end - from))) (kept_over checker g image d (32 * from) (32 * (end - from))))
-    (λ x. Notes tally c.args.seat.now c.note_blocks.new.seat (λ weight. part_sum g image (slot_weight checker g weight) d k) (λ weight. part_sum g image (slot_kept checker weight) d k))
-    (λ x notes. notes_as tally c.args.seat.now c.note_blocks.new.seat
+    IfOk-weaker c.note_range.result
+    (λ x. Notes tally c.args.seat.now c.note_range.new.seat (marked_over checker g image d (32 * from) (32 * (end - from))) (kept_over checker g image d (32 * from) (32 * (end - from))))
+    (λ x. Notes tally c.args.seat.now c.note_range.new.seat (λ weight. part_sum g image (slot_weight checker g weight) d k) (λ weight. part_sum g image (slot_kept checker weight) d k))
+    (λ x notes. notes_as tally c.args.seat.now c.note_range.new.seat
     (marked_over checker g image d (32 * from) (32 * (end - from))) (λ weight. part_sum g image (slot_weight checker g weight) d k)
     (kept_over checker g image d (32 * from) (32 * (end - from))) (λ weight. part_sum g image (slot_kept checker weight) d k) notes
     (λ weight. part_over g image (slot_weight checker g weight) d k from (32 * (end - from)) (blank_weight checker g weight d) (sym c.in-Directory.ensures) at few short)
     (λ weight. part_over g image (slot_kept checker weight) d k from (32 * (end - from)) (blank_kept checker weight d) (sym c.in-Directory.ensures) at few short))
-    c.note_blocks.ensures.ok
+    c.note_range.ensures.ok
 
 pub returns-in_default : goal.returns-in_default
 returns-in_default c =

@@ -1,4 +1,4 @@
-use Rattle.std.proofs.Common.{◌∙◌, sym, ap, if◌then◌else◌, nat_le, Some, refl}
+use Rattle.std.proofs.Common.{◌*◌, ◌∙◌, sym, ap, if◌then◌else◌, nat_le, Some, refl}
 use Rattle.std.proofs.lemmas.Result.{IfOk-weaker}
 use Rattle.count_table.specs.Sums.{total}
 use Rattle.count_table.specs.Views.{mark}
@@ -11,6 +11,7 @@ use Rattle.vol_check.specs.Slots.{slot_weight, slot_kept, entry_weight, name_wei
 use Rattle.vol_check.specs.Noting.{Notes}
 use Rattle.vol_check.proofs.Noted.{notes_none, notes_marks, notes_as, blank_weight, blank_kept, slot_none, slot_some}
 use Rattle.vol_check.proofs.Adding.{adds_as}
+use Rattle.vol_check.proofs.LevelLaws.{one_time}
 use Rattle.vol_check.proofs.sweeps.Sweep.note_slot.Goals as goal
 
 pub returns-then-slot-eq0-clause-ok : goal.returns-then-slot-eq0-clause-ok
@@ -41,9 +42,10 @@ returns-in-Entries-clause-ok c =
     notes_marks c.args.self.now.tally c.args.seat.now _ (λ weight. slot_weight c.args.self.now.checker g weight c.args.d c.args.s (entry_in slot))
     (λ weight. slot_kept c.args.self.now.checker weight c.args.d c.args.s (entry_in slot))
     (adds_as c.args.self.now.tally c.args.seat.now.seat c.count_entry.new.seat
-    (λ weight. if nat_le slot.inode g.last_inode then weight (mark (entry_word slot.inode) 1) else 0)
+    (λ weight. 1 * (if nat_le slot.inode g.last_inode then weight (mark (entry_word slot.inode) 1) else 0))
     (λ weight. slot_weight c.args.self.now.checker g weight c.args.d c.args.s (entry_in slot)) c.count_entry.ensures
-    (λ weight. ap (λ (k : Checker). slot_weight k g weight c.args.d c.args.s (entry_in slot)) is ∙ ap (entry_weight g weight) some))
+    (λ weight. ap (λ (k : Checker). slot_weight k g weight c.args.d c.args.s (entry_in slot)) is ∙ (ap (entry_weight g weight) some
+    ∙ sym (one_time (if nat_le slot.inode g.last_inode then weight (mark (entry_word slot.inode) 1) else 0)))))
     refl refl refl refl
     (λ weight. ap (λ (k : Checker). slot_kept k weight c.args.d c.args.s (entry_in slot)) is)
 

@@ -1,0 +1,19 @@
+use Rattle.std.proofs.Common.{◌-◌, ◌*◌, All, vec_len}
+use Rattle.std.specs.List.{sum_by}
+use Rattle.vol_check.specs.declared.checker.Checker.TheVariants.{Entries}
+use Rattle.vol_check.specs.Levels.{IsNamed, by_times, KeepsDraws, AddsBut}
+use Rattle.vol_check.specs.Slots.{entries_of}
+use Rattle.vol_check.proofs.Noted.{marked_over}
+use Rattle.vol_check.proofs.entry_counts.count_blocks.Given as goal
+
+-- all entries are counted, but for those of the blocks that are left
+abbrev pub invariant-loop-n : goal.invariant-loop-n
+invariant-loop-n l = record {
+  kept : KeepsDraws l.tally l.fn.seat l.seat;
+  named : All (IsNamed l.geometry) l.once.items;
+  marks : AddsBut l.fn.seat l.seat (marked_over Entries l.geometry l.image l.d (32 * l.from) (32 * (l.end - l.from)))
+      (λ weight. sum_by (by_times (entries_of l.geometry l.image weight)) l.once.items);
+}
+
+abbrev pub decreases-loop-n : goal.decreases-loop-n
+decreases-loop-n l = vec_len l.once

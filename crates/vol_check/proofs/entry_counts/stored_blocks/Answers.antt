@@ -1,0 +1,56 @@
+use Rattle.std.proofs.Common.{◌≡◌, ◌∙◌, ◌-◌, ◌*◌, ◌≤◌, All, ap, sym, subst, arith}
+use Rattle.std.specs.List.{sum_by}
+use Rattle.std.proofs.lemmas.List.Elements.{All-nil}
+use Rattle.vol_check.specs.declared.checker.Checker.TheVariants.{Entries}
+use Rattle.vol_check.specs.Levels.{IsNamed, by_times}
+use Rattle.vol_check.specs.Slots.{slot_weight, entries_of}
+use Rattle.vol_check.proofs.Noted.{marked_over, blank_weight, over_blank, over_next, entry_hole}
+use Rattle.vol_check.proofs.entry_counts.stored_blocks.Goals as goal
+
+pub loop-b-init : goal.loop-b-init
+loop-b-init c =
+    let g = c.args.geometry.now in
+    let image = c.args.image.now in
+    let d = c.args.d in
+    let from = c.args.from in
+    let b = c.next_block-b.result in
+    let next = c.next_block-b.ensures in
+    let low : from ≤ b = next.reached in
+    record {
+      low = low;
+      high = next.within;
+      named = subst (All (IsNamed g)) (sym c.new-named.ensures.items) (All-nil (IsNamed g));
+      same = λ weight.
+          let none = ap (sum_by (by_times (entries_of g image weight))) c.new-named.ensures.items in
+          let blank = over_blank g image d (slot_weight Entries g weight) (blank_weight Entries g weight d) (32 * from) (32 * (b - from))
+              (λ s at before. entry_hole g image d from b s c.requires.fits next.hole at (omega (arith, before, low))) in
+          omega arith;
+    }
+
+pub loop-b-preserved : goal.loop-b-preserved
+loop-b-preserved c =
+    let g = c.args.geometry.now in
+    let image = c.args.image.now in
+    let d = c.args.d in
+    let from = c.args.from in
+    let b = c.loop-b.b in
+    let inv = c.loop-b.invariant in
+    let next = c.next_block-b-in-loop-b.ensures in
+    record {
+      low = omega (arith, inv.low, next.reached);
+      high = next.within;
+      named = c.in_ok-push_stored.ensures.named;
+      same = λ weight.
+          let before = inv.same weight in
+          let now = c.in_ok-push_stored.ensures.same weight in
+          let more = over_next g image d (slot_weight Entries g weight) (blank_weight Entries g weight d) from b c.next_block-b-in-loop-b.result
+              c.requires.fits inv.low next.reached next.hole in
+          omega arith;
+    }
+
+pub returns-clause-same : goal.returns-clause-same
+returns-clause-same c = λ weight.
+    let g = c.args.geometry.now in
+    let image = c.args.image.now in
+    let end : c.loop-b.b ≡ c.args.end = omega (arith, c.loop-b-test.false, c.loop-b.invariant.high) in
+    c.loop-b.invariant.same weight ∙ ap (λ b. marked_over Entries g image c.args.d (32 * c.args.from) (32 * (b - c.args.from)) weight) end

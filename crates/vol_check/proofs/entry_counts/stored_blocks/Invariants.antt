@@ -1,0 +1,21 @@
+use Rattle.std.proofs.Common.{◌≡◌, ℕ, ◌-◌, ◌*◌, ◌≤◌, All}
+use Rattle.std.specs.List.{sum_by}
+use Rattle.count_table.specs.declared.rule.Mark.{Mark}
+use Rattle.vol_check.specs.declared.checker.Checker.TheVariants.{Entries}
+use Rattle.vol_check.specs.Levels.{IsNamed, by_times}
+use Rattle.vol_check.specs.Slots.{entries_of}
+use Rattle.vol_check.proofs.Noted.{marked_over}
+use Rattle.vol_check.proofs.entry_counts.stored_blocks.Given as goal
+
+-- the blocks before b are found
+abbrev pub invariant-loop-b : goal.invariant-loop-b
+invariant-loop-b l = record {
+  low : l.from ≤ l.b;
+  high : l.b ≤ l.end;
+  named : All (IsNamed l.geometry) l.named.items;
+  same : (weight : Mark → ℕ) → sum_by (by_times (entries_of l.geometry l.image weight)) l.named.items
+      ≡ marked_over Entries l.geometry l.image l.d (32 * l.from) (32 * (l.b - l.from)) weight;
+}
+
+abbrev pub decreases-loop-b : goal.decreases-loop-b
+decreases-loop-b l = l.end - l.b

@@ -1,0 +1,157 @@
+//! Counting the entries of a directory by blocks: each is looked into once for all its places in a piece.
+ghost use Rattle.std.specs.Prelude.{◌≡◌, ℕ, ◌+◌, ◌-◌, ◌*◌, ◌≤◌, nat_le, if◌then◌else◌, All, IfOk};
+ghost use Rattle.std.specs.List.{sum_by};
+ghost use Rattle.vol_layout.specs.Geometry.{Fits};
+ghost use Rattle.vol_dir.specs.Entries.{entry_in, entry_at, slot_count};
+ghost use Rattle.count_table.specs.declared.rule.Mark.{Mark};
+ghost use Rattle.count_table.specs.Sums.{below};
+ghost use Rattle.count_table.specs.Tallies.{IsSeatAt, table_shape};
+ghost use Rattle.count_table.specs.Views.{mark};
+ghost use Rattle.vol_reports.specs.Words.{HasEntryWords, entry_word};
+ghost use Rattle.vol_check.specs.Pieces.{Adds};
+ghost use Rattle.vol_check.specs.Slots.{entry_weight, entries_of};
+ghost use Rattle.vol_check.specs.Levels.{IsNamed, KeepsDraws, by_times};
+
+use crate::levels::{Named, each_once};
+use crate::slots::SLOTS;
+use count_table::{Tally, TallySeat};
+use pdp_words::{BLOCK, Image};
+use std::alloc::{AllocError, Global};
+use vol_file::{block_at, next_block};
+use vol_layout::slot::SLOT;
+use vol_layout::{Geometry, Slot};
+use vol_reports::words::entry_word;
+
+/// Counts the entries in the logical blocks of directory `d` from one up to another, all of which it has whole.
+///
+/// Costs the way of each of them, and a look at each slot of the blocks that hold them. Takes sixteen bytes for each.
+pub(crate) fn count_blocks(
+    alloc: Global,
+    tally: &Tally,
+    seat: &mut TallySeat,
+    image: &Image,
+    geometry: &Geometry,
+    d: u16,
+    from: u32,
+    end: u32,
+) -> Result<(), AllocError>
+    requires fits { Fits geometry.now image.now }
+    requires words { HasEntryWords geometry.now (table_shape tally.now) }
+    requires own { IsSeatAt tally.now seat.old }
+    requires parts { 1 ≤ seat.old.me.0.parts }
+    requires first { 1 ≤ d }
+    requires last { d ≤ geometry.now.last_inode }
+    requires order { from ≤ end }
+    requires whole { 32 * end ≤ slot_count geometry.now image.now d }
+    ensures kept { KeepsDraws tally.now seat.old seat.new }
+    ensures ok { IfOk result (λ _. Adds tally.now seat.old seat.new
+        (λ weight. below (λ t. entry_weight geometry.now weight (entry_at geometry.now image.now d (32 * from + t))) (32 * (end - from)))) }
+{
+    let named = stored_blocks(alloc, image, geometry, d, from, end)?;
+    let mut once = each_once(alloc, named)?;
+    while let Some(n) = once.pop() {
+        count_block(tally, seat, image, geometry, n);
+    }
+    Ok(())
+}
+
+/// The data blocks that hold these logical blocks, each as often as it does.
+fn stored_blocks(
+    alloc: Global,
+    image: &Image,
+    geometry: &Geometry,
+    d: u16,
+    from: u32,
+    end: u32,
+) -> Result<Vec<Named>, AllocError>
+    requires fits { Fits geometry.now image.now }
+    requires first { 1 ≤ d }
+    requires last { d ≤ geometry.now.last_inode }
+    requires order { from ≤ end }
+    requires whole { 32 * end ≤ slot_count geometry.now image.now d }
+    ensures named { IfOk result (λ named. All (IsNamed geometry.now) named.items) }
+    ensures same { IfOk result (λ named. (weight : Mark → ℕ) → sum_by (by_times (entries_of geometry.now image.now weight)) named.items
+        ≡ below (λ t. entry_weight geometry.now weight (entry_at geometry.now image.now d (32 * from + t))) (32 * (end - from))) }
+{
+    let mut named = Vec::new(alloc);
+    let mut b = next_block(image, geometry, d, from, end);
+    while b < end {
+        push_stored(image, geometry, &mut named, d, b)?;
+        b = next_block(image, geometry, d, b + 1, end);
+    }
+    Ok(named)
+}
+
+/// Adds the data block that holds logical block `b` of directory `d`, if one does.
+fn push_stored(
+    image: &Image,
+    geometry: &Geometry,
+    named: &mut Vec<Named>,
+    d: u16,
+    b: u32,
+) -> Result<(), AllocError>
+    requires fits { Fits geometry.now image.now }
+    requires first { 1 ≤ d }
+    requires last { d ≤ geometry.now.last_inode }
+    requires whole { 32 * b + 32 ≤ slot_count geometry.now image.now d }
+    requires named { All (IsNamed geometry.now) named.old.items }
+    ensures named { IfOk result (λ _. All (IsNamed geometry.now) named.new.items) }
+    ensures same { IfOk result (λ _. (weight : Mark → ℕ) → sum_by (by_times (entries_of geometry.now image.now weight)) named.new.items
+        ≡ sum_by (by_times (entries_of geometry.now image.now weight)) named.old.items
+        + below (λ t. entry_weight geometry.now weight (entry_at geometry.now image.now d (32 * b + t))) 32) }
+{
+    match block_at(image, geometry, d, b) {
+        Some(number) if geometry.in_zone(number) => {
+            named.push(Named { number, times: 1 })?;
+            Ok(())
+        }
+        _ => Ok(()),
+    }
+}
+
+/// Counts the entries of a block, for each of its places.
+fn count_block(tally: &Tally, seat: &mut TallySeat, image: &Image, geometry: &Geometry, n: Named)
+    requires fits { Fits geometry.now image.now }
+    requires words { HasEntryWords geometry.now (table_shape tally.now) }
+    requires own { IsSeatAt tally.now seat.old }
+    requires parts { 1 ≤ seat.old.me.0.parts }
+    requires n { IsNamed geometry.now n }
+    ensures { Adds tally.now seat.old seat.new (λ weight. by_times (entries_of geometry.now image.now weight) n) }
+{
+    for s in 0..SLOTS {
+        let at = BLOCK * n.number as usize + SLOT * s as usize;
+        let slot = Slot::read(image.as_bytes(), at);
+        count_slot(tally, seat, geometry, slot, n.times);
+    }
+}
+
+/// Counts the entry in a slot for so many places of it, if it has one.
+fn count_slot(tally: &Tally, seat: &mut TallySeat, geometry: &Geometry, slot: Slot, times: u64)
+    requires words { HasEntryWords geometry.now (table_shape tally.now) }
+    requires own { IsSeatAt tally.now seat.old }
+    requires parts { 1 ≤ seat.old.me.0.parts }
+    ensures { Adds tally.now seat.old seat.new (λ weight. times * entry_weight geometry.now weight (entry_in slot)) }
+{
+    if slot.inode != 0 {
+        count_entry(tally, seat, geometry, slot.inode, times);
+    }
+}
+
+/// Counts so many entries for i-number `i`, unless that is past the last.
+pub(crate) fn count_entry(
+    tally: &Tally,
+    seat: &mut TallySeat,
+    geometry: &Geometry,
+    i: u16,
+    times: u64,
+)
+    requires words { HasEntryWords geometry.now (table_shape tally.now) }
+    requires own { IsSeatAt tally.now seat.old }
+    requires parts { 1 ≤ seat.old.me.0.parts }
+    requires first { 1 ≤ i }
+    ensures { Adds tally.now seat.old seat.new (λ weight. times * (if nat_le i geometry.now.last_inode then weight (mark (entry_word i) 1) else 0)) }
+{
+    if i <= geometry.last_inode {
+        tally.count_times(seat, entry_word(i), times);
+    }
+}

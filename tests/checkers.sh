@@ -65,16 +65,38 @@ mapfile -t found < <(printf '%s\n' 'bad 3 170034 200' 'dup 60 60050 1' 'dup 61 1
     'dup 64 60050 1' 'dup 65 183825 1' 'dup 66 189975 1' 'dup 67 125050 1' && totals 1 1 0 0 9 95 0)
 finds 1 icheck image "${found[@]}"
 
-# An image of 1 MB, made for icheck to be busy with: 8,166 files have one triple indirect block, which names itself.
-"$program" mkfs 7 busy 2048 1021 0 0 0
-printf -v inode 'A48101%090d000004%026d' 0 0
-printf '%b' "$(printf "$inode%.0s" {1..8} | sed 's/../\\x&/g')" > inodes
-for _ in {1..1021}; do cat inodes; done | tail -c +129 | dd of=busy bs=1152 seek=1 conv=notrunc status=none
+# alike FILE INODE: an image of 1 MB in which 8,166 i-nodes begin with these bytes, have no direct blocks, and one triple indirect block, 1024
+alike() {
+    local inode
+    "$program" mkfs 7 "$1" 2048 1021 0 0 0
+    printf -v inode '%s%0*d000004%026d' "$2" $((96 - ${#2})) 0 0
+    printf '%b' "$(printf "$inode%.0s" {1..8} | sed 's/../\\x&/g')" > inodes
+    for _ in {1..1021}; do cat inodes; done | tail -c +129 | dd of="$1" bs=1152 seek=1 conv=notrunc status=none
+}
+
+# One made for icheck to be busy with: the block names itself.
+alike busy A48101
 put busy $((512 * 1024)) "$(printf '00000004%.0s' {1..128})"
 mapfile -t found < <(echo 'dup 1024 17260188390 1' && totals 8166 1 0 0 2 1024 0)
 printf '%s\n' "${found[@]}" > lines
 runs_within 20 icheck 7 busy 1
 wants 'icheck of an image that was made to keep it busy' 1 lines none
+
+# One for ncheck: the i-nodes are directories of the greatest size, whose 67 million slots each lie in one block of 32 entries. Its report
+# would have 548 billion lines.
+alike names ED4101000000000081400014
+for block in 1024 1025 1026; do put names $((512 * block)) "$(printf "0000$(printf %02X $((block - 1023)))04%.0s" {1..128})"; done
+put names $((512 * 1027)) "$(printf '02007800000000000000000000000000%.0s' {1..32})"
+echo 'unixvol: 12 NoMemory' > line
+(ulimit -v 4000000; runs_within 20 ncheck 7 names 1)
+wants 'ncheck of an image that was made to fill the memory' 4 none line
+
+# One for dcheck: 24 of these directories, whose 1.6 billion entries are for the root.
+cp names entries
+dd if=/dev/zero of=entries bs=64 seek=$((16 + 26)) count=$((8168 - 26)) conv=notrunc status=none
+(echo '2 1610612738 2' && seq -f '%g 0 1' 3 26) > lines
+runs_within 20 dcheck 7 entries 1
+wants 'dcheck of an image that was made to keep it busy' 1 lines none
 
 # A directory of 66 blocks, which the checkers divide: file 16 has the name `/f` and 2,100 others, and directory 15 is `/d`. Then the last
 # of the names is one of the directory.

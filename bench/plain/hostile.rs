@@ -86,11 +86,13 @@ impl Volume {
         top
     }
 
-    /// The same, but for the last block, which has an entry.
+    /// The same, but for the last block, which has an entry in each slot.
     fn tree_of_entries(&mut self) -> usize {
         let top = self.tree();
         let (root, last) = (self.layout.root, top + 3);
-        self.put_slot(last * BLOCK + SLOT, root, b"up");
+        for slot in 0..BLOCK / SLOT {
+            self.put_slot(last * BLOCK + slot * SLOT, root, b"up");
+        }
         top
     }
 

@@ -1,12 +1,13 @@
 -- How often a block is found.
-use Rattle.std.proofs.Common.{◌≡◌, ◌≢◌, ℕ, zero, suc, ◌+◌, ◌-◌, ◌<◌, ◌≤◌, ◌∙◌, ◌==◌, ◌&&◌, sym, ap, subst, true, false, cond, List, [], ◌∷◌, refl, arith, inl, inr, eq-eqb}
-use Rattle.std.proofs.lemmas.Bool.{cases_eq, ne_eqb}
+use Rattle.std.proofs.Common.{◌≡◌, ◌≢◌, ℕ, zero, suc, ◌+◌, ◌-◌, ◌<◌, ◌≤◌, ◌∙◌, ◌==◌, ◌&&◌, sym, ap, subst, true, false, List, [], ◌∷◌, refl, arith, inl, inr, eq-eqb}
+use Rattle.std.proofs.lemmas.Bool.{cases_eq, ne_eqb, true≢false}
 use Rattle.std.proofs.lemmas.List.Sums.{sum_by-append, sum_by-cons, sum_by-le-sum_by}
 use Rattle.std.specs.List.{sum_by, range_with_len}
 use Rattle.vol_layout.specs.Edition.{constants}
-use Rattle.vol_layout.specs.Geometry.{in_zone}
+use Rattle.vol_layout.specs.Geometry.{in_zone, Fits}
 use Rattle.vol_layout.specs.Names.{pointer_in}
 use Rattle.vol_layout.specs.declared.geometry.Geometry.{Geometry}
+use Rattle.vol_layout.proofs.NameLaws.{entry_out, zero_out}
 use Rattle.vol_reports.specs.Blocks.{one_if}
 use Rattle.vol_reports.proofs.Ranges.{range_more}
 use Rattle.vol_inspect.specs.Placing.{found_at}
@@ -57,82 +58,69 @@ module _ (g : Geometry) (image : List ℕ) where
       sum_more (λ j. found_at g image d (pointer_in g image b j) c e) 0 j (j + 1) j refl (omega arith)
       ∙ ap (λ y. below d b c e j + found_at g image d y c e) is
 
-  -- outside the data zone nothing is found
-  pub found_out : (d b c e : ℕ) → in_zone g b ≡ false → found_at g image d b c e ≡ 0
+  -- a block with no levels below it
+  pub found_leaf : (d b c e : ℕ) → d ≡ 0 → found_at g image d b c e ≡ here_at b c e d
   unfolding found_at
-  found_out zero b c e out = ap (λ t. cond t (here_at b c e 0) 0) out
-  found_out (suc d) b c e out =
-      ap (λ t. cond t (here_at b c e (suc d) + sum_by (λ j. found_at g image d (pointer_in g image b j) c e) (range_with_len 0 (constants g.edition).pointers)) 0) out
+  found_leaf d b c e none = ap (λ x. found_at g image x b c e) none ∙ ap (here_at b c e) (sym none)
 
-  -- a data block with no levels below it
-  pub found_leaf : (d b c e : ℕ) → in_zone g b ≡ true → d ≡ 0 → found_at g image d b c e ≡ here_at b c e d
-  unfolding found_at
-  found_leaf d b c e zone none =
-      ap (λ x. found_at g image x b c e) none ∙ (ap (λ t. cond t (here_at b c e 0) 0) zone ∙ ap (here_at b c e) (sym none))
-
-  found_suc : (d b c e : ℕ) → in_zone g b ≡ true → found_at g image (suc d) b c e ≡ here_at b c e (suc d) + below d b c e (constants g.edition).pointers
+  found_suc : (d b c e : ℕ) → found_at g image (suc d) b c e ≡ here_at b c e (suc d) + below d b c e (constants g.edition).pointers
   unfolding found_at below
-  found_suc d b c e zone =
-      ap (λ t. cond t (here_at b c e (suc d) + sum_by (λ j. found_at g image d (pointer_in g image b j) c e) (range_with_len 0 (constants g.edition).pointers)) 0) zone
+  found_suc d b c e = refl
 
-  -- a data block with levels below it
-  pub found_deep : (d b c e : ℕ) → in_zone g b ≡ true → 1 ≤ d
-      → found_at g image d b c e ≡ here_at b c e d + below (d - 1) b c e (constants g.edition).pointers
-  found_deep d b c e zone deep =
+  -- a block with levels below it
+  pub found_deep : (d b c e : ℕ) → 1 ≤ d → found_at g image d b c e ≡ here_at b c e d + below (d - 1) b c e (constants g.edition).pointers
+  found_deep d b c e deep =
       let size : d ≡ suc (d - 1) = omega arith in
       ap (λ x. found_at g image x b c e) size
-      ∙ (found_suc (d - 1) b c e zone ∙ ap (λ x. here_at b c e x + below (d - 1) b c e (constants g.edition).pointers) (sym size))
+      ∙ (found_suc (d - 1) b c e ∙ ap (λ x. here_at b c e x + below (d - 1) b c e (constants g.edition).pointers) (sym size))
+
+  -- from a number that is no data block's no data block is found
+  pub found_out : (d b c e : ℕ) → Fits g image → in_zone g b ≡ false → in_zone g c ≡ true → found_at g image d b c e ≡ 0
+  unfolding below
+  found_out zero b c e fits out zone =
+      found_leaf 0 b c e refl ∙ here_other b c e 0 (λ same. true≢false (sym zone ∙ (ap (in_zone g) (sym same) ∙ out)))
+  found_out (suc d) b c e fits out zone =
+      let head = here_other b c e (suc d) (λ same. true≢false (sym zone ∙ (ap (in_zone g) (sym same) ∙ out))) in
+      let rest = sum_zero (λ j. found_at g image d (pointer_in g image b j) c e) (range_with_len 0 (constants g.edition).pointers)
+      (λ j. found_out d (pointer_in g image b j) c e fits (ap (in_zone g) (entry_out g image b j out) ∙ zero_out g image fits) zone) in
+      omega (arith, found_suc d b c e, head, rest)
 
   -- nothing is found at a higher level
   high : (d b c e : ℕ) → d < e → found_at g image d b c e ≡ 0
   unfolding below
-  high zero b c e lt =
-      elim (in_zone g b) as (λ z. in_zone g b ≡ z → found_at g image zero b c e ≡ 0) [
-        | true ↦ λ z. found_leaf 0 b c e z refl ∙ here_level b c e 0 (λ same. omega (arith, same, lt))
-        | false ↦ λ z. found_out 0 b c e z
-      ] refl
+  high zero b c e lt = found_leaf 0 b c e refl ∙ here_level b c e 0 (λ same. omega (arith, same, lt))
   high (suc d) b c e lt =
-      elim (in_zone g b) as (λ z. in_zone g b ≡ z → found_at g image (suc d) b c e ≡ 0) [
-        | true ↦ λ z.
-            let head = here_level b c e (suc d) (λ same. omega (arith, same, lt)) in
-            let rest = sum_zero (λ j. found_at g image d (pointer_in g image b j) c e) (range_with_len 0 (constants g.edition).pointers)
-            (λ j. high d (pointer_in g image b j) c e (omega (arith, lt))) in
-            omega (arith, found_suc d b c e z, head, rest)
-        | false ↦ λ z. found_out (suc d) b c e z
-      ] refl
+      let head = here_level b c e (suc d) (λ same. omega (arith, same, lt)) in
+      let rest = sum_zero (λ j. found_at g image d (pointer_in g image b j) c e) (range_with_len 0 (constants g.edition).pointers)
+      (λ j. high d (pointer_in g image b j) c e (omega (arith, lt))) in
+      omega (arith, found_suc d b c e, head, rest)
 
   -- what lies below a block is found as often as the block, at least
   pub found_through : (d b m k c e : ℕ) → 1 ≤ found_at g image k m c e → found_at g image d b m k ≤ found_at g image d b c e
   unfolding below
   found_through zero b m k c e some =
-      elim (in_zone g b) as (λ z. in_zone g b ≡ z → found_at g image zero b m k ≤ found_at g image zero b c e) [
-        | true ↦ λ z. elim (cases_eq b m) [
-          | inl same ↦ elim (cases_eq k 0) [
-            | inl level ↦
-                let there : 1 ≤ found_at g image 0 b c e =
-                subst (λ (x : ℕ). 1 ≤ found_at g image x b c e) level (subst (λ (x : ℕ). 1 ≤ found_at g image k x c e) (sym same) some) in
-                omega (arith, found_leaf 0 b m k z refl, here_yes b m k 0 same level, there)
-            | inr other ↦ omega (arith, found_leaf 0 b m k z refl, here_level b m k 0 other)
-          ]
-          | inr other ↦ omega (arith, found_leaf 0 b m k z refl, here_other b m k 0 other)
+      elim (cases_eq b m) [
+        | inl same ↦ elim (cases_eq k 0) [
+          | inl level ↦
+              let there : 1 ≤ found_at g image 0 b c e =
+              subst (λ (x : ℕ). 1 ≤ found_at g image x b c e) level (subst (λ (x : ℕ). 1 ≤ found_at g image k x c e) (sym same) some) in
+              omega (arith, found_leaf 0 b m k refl, here_yes b m k 0 same level, there)
+          | inr other ↦ omega (arith, found_leaf 0 b m k refl, here_level b m k 0 other)
         ]
-        | false ↦ λ z. omega (arith, found_out 0 b m k z)
-      ] refl
+        | inr other ↦ omega (arith, found_leaf 0 b m k refl, here_other b m k 0 other)
+      ]
   found_through (suc d) b m k c e some =
       let p = range_with_len 0 (constants g.edition).pointers in
       let less = sum_by-le-sum_by (λ j. found_at g image d (pointer_in g image b j) m k) (λ j. found_at g image d (pointer_in g image b j) c e) p
       (λ j. found_through d (pointer_in g image b j) m k c e some) in
-      elim (in_zone g b) as (λ z. in_zone g b ≡ z → found_at g image (suc d) b m k ≤ found_at g image (suc d) b c e) [
-        | true ↦ λ z. elim (cases_eq b m) [
-          | inl same ↦ elim (cases_eq k (suc d)) [
-            | inl level ↦
-                let there : 1 ≤ found_at g image (suc d) b c e =
-                subst (λ (x : ℕ). 1 ≤ found_at g image x b c e) level (subst (λ (x : ℕ). 1 ≤ found_at g image k x c e) (sym same) some) in
-                let rest = sum_zero (λ j. found_at g image d (pointer_in g image b j) m k) p (λ j. high d (pointer_in g image b j) m k (omega (arith, level))) in
-                omega (arith, found_suc d b m k z, here_yes b m k (suc d) same level, rest, there)
-            | inr other ↦ omega (arith, found_suc d b m k z, found_suc d b c e z, here_level b m k (suc d) other, less)
-          ]
-          | inr other ↦ omega (arith, found_suc d b m k z, found_suc d b c e z, here_other b m k (suc d) other, less)
+      elim (cases_eq b m) [
+        | inl same ↦ elim (cases_eq k (suc d)) [
+          | inl level ↦
+              let there : 1 ≤ found_at g image (suc d) b c e =
+              subst (λ (x : ℕ). 1 ≤ found_at g image x b c e) level (subst (λ (x : ℕ). 1 ≤ found_at g image k x c e) (sym same) some) in
+              let rest = sum_zero (λ j. found_at g image d (pointer_in g image b j) m k) p (λ j. high d (pointer_in g image b j) m k (omega (arith, level))) in
+              omega (arith, found_suc d b m k, here_yes b m k (suc d) same level, rest, there)
+          | inr other ↦ omega (arith, found_suc d b m k, found_suc d b c e, here_level b m k (suc d) other, less)
         ]
-        | false ↦ λ z. omega (arith, found_out (suc d) b m k z)
-      ] refl
+        | inr other ↦ omega (arith, found_suc d b m k, found_suc d b c e, here_other b m k (suc d) other, less)
+      ]

@@ -171,7 +171,7 @@ module _ (g : Geometry) (image : List ℕ) (i : ℕ) (fits : Fits g image) where
       ]
 
   -- an indirect block holds as many numbers as one of the edition, or there are no addresses
-  pointers_or_none : (t : Bool) → (pointer_count (if t then file_form g.edition (mode_of g image i) else Bare) ≡ (constants g.edition).pointers)
+  pub pointers_or_none : (t : Bool) → (pointer_count (if t then file_form g.edition (mode_of g image i) else Bare) ≡ (constants g.edition).pointers)
       ⊎ (first_count (if t then file_form g.edition (mode_of g image i) else Bare) ≡ 0)
   pointers_or_none true = inl (pointers_in g.edition (mode_of g image i))
   pointers_or_none false = inr refl

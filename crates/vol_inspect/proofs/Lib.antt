@@ -5,3 +5,4 @@ pub mod Tallies
 pub mod UseLaws
 pub mod Shared
 pub mod LaidOut
+pub mod Named

@@ -1,12 +1,16 @@
 -- The blocks that two places of files name, by what was counted.
-use Rattle.std.proofs.Common.{◌≡◌, ℕ, ◌+◌, ◌-◌, ◌<◌, ◌≤◌, ◌∙◌, ap, sym, Bool, cond, nat_lt, List, [], ◌∷◌, ◌++◌, map, refl, arith, lit≤}
+use Rattle.std.proofs.Common.{◌≡◌, ℕ, ◌+◌, ◌-◌, ◌*◌, ◌<◌, ◌≤◌, ◌∙◌, ap, sym, min, Bool, cond, nat_lt, List, [], ◌∷◌, ◌++◌, map, refl, arith}
 use Rattle.std.specs.List.{filter, range_with_len}
+use Rattle.std.proofs.lemmas.Bool.Decides.{nat_tests}
 use Rattle.std.proofs.lemmas.List.FromFn.{filter_of_map_range_with_len_more}
+use Rattle.vol_layout.specs.Geometry.{Fits}
 use Rattle.vol_layout.specs.declared.geometry.Geometry.{Geometry}
 use Rattle.vol_layout.specs.declared.mode.Kind.TheVariants as kinds
+use Rattle.vol_reports.specs.Blocks.{use_count}
 use Rattle.vol_inspect.specs.Placing.{CountsKind}
 use Rattle.vol_inspect.specs.Sharing.{is_counted_twice, is_shared}
-use Rattle.vol_inspect.proofs.UseLaws.{zone_within, count_here, pointers_is}
+use Rattle.vol_inspect.specs.Uses.{named_in}
+use Rattle.vol_inspect.proofs.UseLaws.{zone_within, named_is}
 
 map_same : (xs : List ℕ) → map (λ n. n) xs ≡ xs
 map_same [] = refl
@@ -22,14 +26,17 @@ kept_more p a b from =
     ∙ (filter_of_map_range_with_len_more p (λ n. n) a (b - a) b (omega arith)
     ∙ ap (λ xs. filter p xs ++ cond (p b) (b ∷ []) []) (map_same (range_with_len a (b - a)))))
 
+-- numbers that are the same up to two are above one or not
+above_one : (n u : ℕ) → min 2 n ≡ min 2 u → nat_lt 1 n ≡ nat_lt 1 u
+above_one n u same = grind (arith, nat_tests)
+
 -- a data block was counted twice exactly where two places name it
-pub counted_is : (g : Geometry) (image directories files : List ℕ) (b : ℕ) → g.zone_start ≤ b → b < g.zone_end
+pub counted_is : (g : Geometry) (image directories files : List ℕ) (b : ℕ) → Fits g image → g.zone_start ≤ b → b < g.zone_end
     → CountsKind g image kinds.Directory directories → CountsKind g image kinds.Regular files
     → is_counted_twice directories files b ≡ is_shared g image b
-counted_is g image directories files b from to ds fs =
-    let zone = zone_within g b from to in
-    λ i. nat_lt 1 (count_here directories b _ (ds b 0 zone (lit≤ tt)) i + count_here files b _ (fs b 0 zone (lit≤ tt)) i
-    + (pointers_is g image kinds.Directory directories b ds zone i + pointers_is g image kinds.Regular files b fs zone i))
+counted_is g image directories files b fits from to ds fs =
+    above_one (named_in directories (4 * b) + named_in files (4 * b)) (use_count g image b)
+    (named_is g image directories files b fits (zone_within g b from to) ds fs)
 
 -- what is kept of one number more, by whether it is kept
 pub kept_next : (p : ℕ → Bool) (a b : ℕ) (kept new : List ℕ) (test : Bool) → a ≤ b → p b ≡ test → kept ≡ filter p (range_with_len a (b - a))

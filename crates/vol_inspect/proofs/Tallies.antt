@@ -9,8 +9,8 @@ use Rattle.vol_inspect.proofs.Found.{here_at, here_yes, here_other, here_level, 
 
 -- nothing more was counted
 pub counts_none : (g : Geometry) (more : ℕ → ℕ → ℕ) (old : List ℕ)
-    → ((c e : ℕ) → in_zone g c ≡ true → e ≤ 3 → get_or old (4 * c + e) 0 ≤ 2) → ((c e : ℕ) → more c e ≡ 0) → Counts g more old old
-counts_none g more old low none = λ c e zone lvl. let x = low c e zone lvl in let z = none c e in omega (arith, x, z)
+    → ((c e : ℕ) → in_zone g c ≡ true → e ≤ 3 → get_or old (4 * c + e) 0 ≤ 2) → ((c e : ℕ) → in_zone g c ≡ true → more c e ≡ 0) → Counts g more old old
+counts_none g more old low none = λ c e zone lvl. let x = low c e zone lvl in let z = none c e zone in omega (arith, x, z)
 
 -- a count of two stays
 two_stays : (x f : ℕ) → x ≤ 2 → (1 ≤ f → 2 ≤ x) → x ≡ min 2 (x + f)

@@ -1,11 +1,10 @@
 -- How many places name each block, counted up to two.
-use Rattle.std.specs.Prelude.{◌≡◌, ℕ, zero, suc, ◌+◌, ◌*◌, ◌≤◌, ◌==◌, ◌&&◌, true, min, if◌then◌else◌, List, length, slice_index}
-use Rattle.std.specs.List.{sum_by, range_with_len}
+use Rattle.std.specs.Prelude.{◌≡◌, ℕ, zero, suc, ◌+◌, ◌*◌, ◌≤◌, ◌==◌, ◌&&◌, Bool, true, min, if◌then◌else◌, List, length, slice_index}
+use Rattle.std.specs.List.{count_by, sum_by, range_with_len}
 use Rattle.vol_layout.specs.Edition.{constants}
 use Rattle.vol_layout.specs.Geometry.{in_zone}
-use Rattle.vol_layout.specs.Inode.{inode_place, address_at}
-use Rattle.vol_layout.specs.Places.{first_count, levels}
-use Rattle.vol_layout.specs.Names.{form_at, pointer_in}
+use Rattle.vol_layout.specs.Places.{levels_below, places}
+use Rattle.vol_layout.specs.Names.{form_at, named, pointer_in}
 use Rattle.vol_layout.specs.declared.geometry.Geometry.{Geometry}
 use Rattle.vol_layout.specs.declared.mode.Kind.{Kind}
 use Rattle.vol_file.specs.Rules.{kind_at}
@@ -13,17 +12,17 @@ use Rattle.vol_reports.specs.Blocks.{one_if, is_kind}
 
 -- how many of these places name block c with e levels of blocks below it: that which names number b with d levels below it, and those below that (icheck; Lions on bmap)
 unfoldable pub found_at : Geometry → List ℕ → ℕ → ℕ → ℕ → ℕ → ℕ
-found_at g image zero b c e = if in_zone g b then one_if ((b == c) && (e == 0)) else 0
+found_at g image zero b c e = one_if ((b == c) && (e == 0))
 found_at g image (suc d) b c e =
-    if in_zone g b then
     one_if ((b == c) && (e == suc d)) + sum_by (λ j. found_at g image d (pointer_in g image b j) c e) (range_with_len 0 (constants g.edition).pointers)
-    else 0
+
+-- whether place p of i-node i names block c with e levels of blocks below it (Lions on bmap)
+abbrev pub names_at : Geometry → List ℕ → ℕ → ℕ → ℕ → List ℕ → Bool
+names_at g image i c e p = (named g image i p == c) && (e == levels_below (form_at g image i) p)
 
 -- how many places of i-node i name block c with e levels of blocks below it (icheck)
 unfoldable pub node_count : Geometry → List ℕ → ℕ → ℕ → ℕ → ℕ
-node_count g image i c e =
-    sum_by (λ k. found_at g image (levels (form_at g image i) k) (address_at g.edition image (inode_place g.edition i) k) c e)
-    (range_with_len 0 (first_count (form_at g image i)))
+node_count g image i c e = count_by (names_at g image i c e) (places (form_at g image i))
 
 -- the same of an i-node of a kind, and none of another (icheck)
 abbrev pub wanted_count : Geometry → List ℕ → Kind → ℕ → ℕ → ℕ → ℕ

@@ -3,7 +3,7 @@ ghost use Rattle.std.specs.Prelude.{◌≡◌, ◌+◌, ◌*◌, ◌<◌, length
 ghost use Rattle.vol_layout.specs.Geometry.{Fits};
 ghost use Rattle.vol_inspect.specs.Sharing.{is_counted_twice, shared_blocks};
 
-use crate::uses::{counts, pointers_at};
+use crate::uses::{counts, named_in};
 use pdp_words::Image;
 use std::alloc::{AllocError, Global};
 use vol_layout::{Geometry, Kind};
@@ -39,6 +39,5 @@ fn is_counted_twice(directories: &[u8], files: &[u8], b: u32) -> bool
     ensures { result ≡ is_counted_twice directories.now files.now b }
 {
     let at = 4 * b as usize;
-    let pointers = pointers_at(directories, at) + pointers_at(files, at);
-    u64::from(directories[at]) + u64::from(files[at]) + pointers > 1
+    named_in(directories, at) + named_in(files, at) > 1
 }

@@ -3,7 +3,7 @@ ghost use Rattle.std.specs.Prelude.{◌≡◌, ◌+◌, ◌*◌, ◌<◌, length
 ghost use Rattle.std.specs.List.{range_with_len};
 ghost use Rattle.vol_layout.specs.Geometry.{Fits};
 ghost use Rattle.vol_inspect.specs.Placing.{CountsKind};
-ghost use Rattle.vol_inspect.specs.Uses.{use_of, use_in, data_use, pointers_in};
+ghost use Rattle.vol_inspect.specs.Uses.{use_of, use_in, data_use, is_listed, named_in};
 
 use crate::listing::{Listed, listed_blocks};
 use crate::placing::count_kind;
@@ -89,33 +89,34 @@ fn use_at(geometry: &Geometry, directories: &[u8], files: &[u8], listed: &[Liste
         return Use::IList;
     }
     let at = 4 * b as usize;
-    let pointers = pointers_at(directories, at) + pointers_at(files, at);
-    data_use(directories[at], files[at], pointers, listed[b as usize])
+    let named = named_in(directories, at) + named_in(files, at);
+    data_use(named, listed[b as usize], directories[at], files[at])
 }
 
-/// How many places name an indirect block, each level counted up to two.
-pub(crate) fn pointers_at(counts: &[u8], at: usize) -> u64
+/// How many places name a block, each level counted up to two.
+pub(crate) fn named_in(counts: &[u8], at: usize) -> u64
     requires { at + 3 < length counts.now }
-    ensures value { result ≡ pointers_in counts.now at }
-    ensures bound { result < 1000 }
+    ensures value { result ≡ named_in counts.now at }
+    ensures bound { result < 2000 }
 {
-    u64::from(counts[at + 1]) + u64::from(counts[at + 2]) + u64::from(counts[at + 3])
+    u64::from(counts[at])
+        + u64::from(counts[at + 1])
+        + u64::from(counts[at + 2])
+        + u64::from(counts[at + 3])
 }
 
-/// What a data block is used for, which so many places name.
-fn data_use(directories: u8, files: u8, pointers: u64, listed: Listed) -> Use
-    requires { pointers < 2000 }
-    ensures { result ≡ data_use directories files pointers listed }
+/// What a data block is used for, which so many places name, and so many of directories and of regular files to hold their bytes.
+fn data_use(named: u64, listed: Listed, directories: u8, files: u8) -> Use
+    ensures { result ≡ data_use named (is_listed listed) listed directories files }
 {
-    let named = u64::from(directories) + u64::from(files) + pointers;
     match listed {
         _ if named > 1 => Use::Twice,
         Listed::Plain | Listed::Linking if named == 1 => Use::Twice,
         Listed::Plain => Use::Free,
         Listed::Linking => Use::Chain,
+        Listed::Absent if named == 0 => Use::Lost,
         Listed::Absent if directories == 1 => Use::Directory,
         Listed::Absent if files == 1 => Use::File,
-        Listed::Absent if pointers == 1 => Use::Pointer,
-        Listed::Absent => Use::Lost,
+        Listed::Absent => Use::Pointer,
     }
 }

@@ -13,7 +13,7 @@ returns-then-not-in_zone t c =
     let g = c.args.geometry.now in
     let out : in_zone g c.args.b ≡ false = sym c.in_zone.ensures ∙ c.if-not-in_zone.true in
     counts_none g (found_at g c.args.image.now c.args.level c.args.b) c.args.counts.now c.requires.tally.low
-    (λ b e. found_out g c.args.image.now c.args.level c.args.b b e out)
+    (λ b e. found_out g c.args.image.now c.args.level c.args.b b e c.requires.fits out)
 
 pub returns-then-level-eq0 : goal.returns-then-level-eq0
 returns-then-level-eq0 t c =
@@ -22,7 +22,7 @@ returns-then-level-eq0 t c =
     let zone : in_zone g c.args.b ≡ true = sym c.in_zone.ensures ∙ c.if-not-in_zone.false in
     counts_as g (λ b e. here_at c.args.b b e c.args.level) (found_at g image c.args.level c.args.b) c.args.counts.now _
     (counts_one g image c.args.level c.args.b c.args.counts.now c.requires.level c.requires.tally zone (omega (arith, c.if-count-ge2.false)))
-    (λ b e. found_leaf g image c.args.level c.args.b b e zone c.if-level-eq0.true)
+    (λ b e. found_leaf g image c.args.level c.args.b b e c.if-level-eq0.true)
 
 pub loop-j-init : goal.loop-j-init
 loop-j-init t c =
@@ -65,5 +65,5 @@ returns t c =
     let end : c.loop-j.j ≡ (constants g.edition).pointers = omega (arith, all, c.loop-j-test.false, c.loop-j.auto.j-end) in
     counts_as g (λ b e. here_at c.args.b b e c.args.level + below g image (c.args.level - 1) c.args.b b e c.loop-j.j) (found_at g image c.args.level c.args.b)
     c.args.counts.now c.loop-j.counts c.loop-j.invariant.counted
-    (λ b e. found_deep g image c.args.level c.args.b b e zone (omega arith)
+    (λ b e. found_deep g image c.args.level c.args.b b e (omega arith)
     ∙ ap (λ n. here_at c.args.b b e c.args.level + below g image (c.args.level - 1) c.args.b b e n) (sym end))

@@ -5,6 +5,7 @@ use Rattle.vol_layout.specs.Names.{form_at}
 use Rattle.vol_layout.specs.Places.{form_of, first_count, levels}
 use Rattle.vol_inspect.specs.Placing.{found_at, node_count}
 use Rattle.vol_inspect.proofs.Found.{sum_more}
+use Rattle.vol_inspect.proofs.Named.{node_is}
 use Rattle.vol_inspect.proofs.Tallies.{counts_then, counts_as, tally_after}
 use Rattle.vol_inspect.proofs.placing.count_node.Goals as goal
 
@@ -27,7 +28,6 @@ loop-k-preserved c =
     }
 
 pub returns-clause-counted : goal.returns-clause-counted
-unfolding node_count
 returns-clause-counted c =
     let g = c.args.geometry.now in
     let image = c.args.image.now in
@@ -37,4 +37,4 @@ returns-clause-counted c =
     let end : c.loop-k.k ≡ first_count (form_at g image i) = omega (arith, count, c.loop-k-test.false, c.loop-k.auto.k-end) in
     let by = λ (b e k : ℕ). found_at g image (levels (form_at g image i) k) (address_at g.edition image (inode_place g.edition i) k) b e in
     counts_as g (λ b e. sum_by (by b e) (range_with_len 0 c.loop-k.k)) (node_count g image i) c.args.counts.now c.loop-k.counts c.loop-k.invariant.counted
-    (λ b e. ap (λ n. sum_by (by b e) (range_with_len 0 n)) (sym end))
+    (λ b e. node_is g image i c.requires.fits b e ∙ ap (λ n. sum_by (by b e) (range_with_len 0 n)) (sym end))

@@ -15,7 +15,7 @@ loop-b-preserved c =
     let is : is_shared g image b ≡ c.is_counted_twice.result =
     sym (c.is_counted_twice.ensures
     ∙ ((λ i. is_counted_twice (c.deref.ensures.value i) (c.deref-in-loop-b.ensures.value i) b)
-    ∙ counted_is g image c.in_ok-directories.directories.items c.in_ok-files.files.items b (omega arith) (omega arith)
+    ∙ counted_is g image c.in_ok-directories.directories.items c.in_ok-files.files.items b c.requires (omega arith) (omega arith)
     c.in_ok-directories.ensures.each c.in_ok-files.ensures.each)) in
     elim c.if-is_counted_twice.branch [
       | then-is_counted_twice+in_ok-push w ↦

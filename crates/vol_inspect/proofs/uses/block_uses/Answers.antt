@@ -14,7 +14,7 @@ loop-b-preserved c =
     let is : c.use_at.result ≡ use_of g image b =
     c.use_at.ensures
     ∙ ((λ i. use_in g (c.deref.ensures.value i) (c.deref-in-loop-b.ensures.value i) (c.deref-in-loop-b-2.ensures.value i) b)
-    ∙ use_is g image c.in_ok-directories.directories.items c.in_ok-files.files.items c.in_ok-listed.listed.items b low
+    ∙ use_is g image c.in_ok-directories.directories.items c.in_ok-files.files.items c.in_ok-listed.listed.items b c.requires low
     c.in_ok-directories.ensures.each c.in_ok-files.ensures.each c.in_ok-listed.ensures.each) in
     c.in_ok-push.ensures.items
     ∙ (ap (λ xs. xs ++ c.use_at.result ∷ []) c.loop-b.invariant

@@ -1,0 +1,92 @@
+use crate::{
+    Entry, EntryKind, Operation, Settings, Statistics, attributes_reply, data_reply, entry_reply,
+    init_reply, open_reply, push_entry, read_request, statfs_reply,
+};
+use std::test::Fail;
+
+/// LOOKUP of `etc` in the root, as Linux 6.18 sent it.
+const LOOKUP: [u8; 44] =
+    *b"\x2c\0\0\0\x01\0\0\0\x10\0\0\0\0\0\0\0\x01\0\0\0\0\0\0\0\0\0\0\0\0\0\0\0\xaa\x59\0\0\0\0\0\0etc\0";
+
+/// READDIR, as Linux 6.18 sent it after two entries.
+const READDIR: [u8; 80] =
+    *b"\x50\0\0\0\x1c\0\0\0\x16\0\0\0\0\0\0\0\x01\0\0\0\0\0\0\0\0\0\0\0\0\0\0\0\xaa\x59\0\0\0\0\0\0\
+\x03\0\0\0\0\0\0\0\x02\0\0\0\0\0\0\0\0\x80\0\0\0\0\0\0\0\0\0\0\0\0\0\0\x88\x01\0\0\0\0\0\0";
+
+/// A reply to READDIR, of which `ls` of Linux 6.18 listed both entries.
+const LISTED: [u8; 80] = *b"\x50\0\0\0\0\0\0\0\x0c\0\0\0\0\0\0\0\
+\x01\0\0\0\0\0\0\0\x01\0\0\0\0\0\0\0\x01\0\0\0\x04\0\0\0.\0\0\0\0\0\0\0\
+\x05\0\0\0\0\0\0\0\x02\0\0\0\0\0\0\0\x03\0\0\0\x08\0\0\0etc\0\0\0\0\0";
+
+#[test]
+fn requests_that_a_kernel_sent(rt: HostRuntime) -> Result<(), Fail> {
+    let Ok(lookup) = read_request(&LOOKUP) else {
+        return Err(Fail::from("LOOKUP"));
+    };
+    assert_eq!(rt; lookup.header.pid, 0x59aa);
+    let Operation::Lookup { name } = lookup.operation else {
+        return Err(Fail::from("the operation of LOOKUP"));
+    };
+    assert_eq!(rt; name.into_slice(), b"etc".as_slice());
+    let Ok(readdir) = read_request(&READDIR) else {
+        return Err(Fail::from("READDIR"));
+    };
+    let Operation::ReadDir {
+        handle,
+        offset,
+        size,
+    } = readdir.operation
+    else {
+        return Err(Fail::from("the operation of READDIR"));
+    };
+    assert_eq!(rt; (handle, offset, size), (3, 2, 32768));
+    Ok(())
+}
+
+#[test]
+fn replies_that_a_kernel_took(rt: HostRuntime) -> Result<(), Fail> {
+    let alloc = rt.alloc();
+    let mut entries = Vec::new(alloc);
+    assert!(rt; push_entry(&mut entries, 64, 1, 1, EntryKind::Directory, b".")?);
+    assert!(rt; push_entry(&mut entries, 64, 5, 2, EntryKind::Regular, b"etc")?);
+    assert!(rt; !push_entry(&mut entries, 64, 6, 3, EntryKind::Regular, b"x")?);
+    assert_eq!(rt;
+        data_reply(alloc, 12, &entries)?.as_slice(),
+        LISTED.as_slice()
+    );
+    Ok(())
+}
+
+#[test]
+fn all_other_replies(rt: HostRuntime) -> Result<(), Fail> {
+    let alloc = rt.alloc();
+    let settings = Settings {
+        max_readahead: 131072,
+        flags: 1,
+        max_background: 12,
+        congestion_threshold: 9,
+        max_write: 131072,
+        time_granularity: 1_000_000_000,
+        max_pages: 0,
+    };
+    let sizes = Statistics {
+        blocks: 100,
+        free_blocks: 50,
+        available_blocks: 40,
+        inodes: 30,
+        free_inodes: 20,
+        block_size: 512,
+        name_length: 14,
+        fragment_size: 512,
+    };
+    let missing = Entry::missing(9);
+    let lengths = [
+        init_reply(alloc, 2, &settings)?.len(),
+        entry_reply(alloc, 4, &missing)?.len(),
+        attributes_reply(alloc, 6, 9, &missing.attributes)?.len(),
+        open_reply(alloc, 8, 3, 0)?.len(),
+        statfs_reply(alloc, 10, &sizes)?.len(),
+    ];
+    assert_eq!(rt; lengths, [80, 144, 120, 32, 96]);
+    Ok(())
+}

@@ -215,11 +215,11 @@ cp blank.v7 disk.img
 while read -r fault place bytes; do
     changed "$archives/gnu_file.tar" edited.tar "$place" "$(digits "$bytes")"
     case $fault in
-        checksum) text='a header with a wrong checksum' ;;
-        magic) text='no header of tar' ;;
-        number) text='a header with a field that is no number' ;;
+        checksum) text='archive, byte 0: a header with a wrong checksum' ;;
+        magic) text='archive, byte 0: no header of tar' ;;
+        number) text='readme: a header with a field that is no number' ;;
     esac
-    unimported "unixvol: archive, byte 0: $text" 7 edited.tar
+    unimported "unixvol: $text" 7 edited.tar
 done << 'ROWS'
 checksum 0 R
 checksum 148 010573

@@ -50,6 +50,7 @@ member_line path members.LongLink = worded_line path (codes "a link to a path wi
 member_line path members.DotDotLink = worded_line path (codes "a link to a path with a name ..")
 member_line path members.Owner = worded_line path (codes "an owner or a group above the edition's highest")
 member_line path members.NoInode = path_line refusals.NoInode path
+member_line path members.Number = worded_line path (header_text headers.Number)
 
 -- the path of what a call makes or changes (this project)
 abbrev pub path_of : Call → List ℕ

@@ -104,6 +104,7 @@ fn unmade(alloc: Global, path: &[u8], cause: MemberFault) -> Result<Fault, Alloc
             b"an owner or a group above the edition's highest",
         ),
         MemberFault::NoInode => refused_at(alloc, Refusal::NoInode, path),
+        MemberFault::Number => in_words(alloc, path, header_text(HeaderFault::Number)),
     }
 }
 

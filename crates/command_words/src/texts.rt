@@ -341,8 +341,9 @@ Status:
   0  all members were made, and the volume was saved
   1  `unixvol: unsound, rule N`: the volume breaks this rule, and none before it; `unixvol check` says what breaks it
      `unixvol: archive, byte N: WHY`: the archive can't be read, from the header at this byte on
-     `unixvol: MEMBER: WHY`: this member can't be made as it is: its kind, its path or that of what it is a link to, or
-     an owner or a group above the edition's highest, 255 in the sixth and 32767 in the seventh
+     `unixvol: MEMBER: WHY`: this member can't be made as it is: its kind, its path or that of what it is a link to, a
+     field of its header that is no number, or an owner or a group above the edition's highest, 255 in the sixth
+     and 32767 in the seventh
      `unixvol: 17 Exists: MEMBER`: something that isn't the directory wanted has its path already, or that of a
      directory on the way
      `unixvol: 2 NoEntry: MEMBER`: PATH isn't there, or the file that it is a link to

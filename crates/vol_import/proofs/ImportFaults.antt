@@ -1,20 +1,25 @@
 -- Why an archive isn't imported, and what it comes to where it is.
 use Rattle.std.proofs.Common.{◌≡◌, ◌≢◌, ◌⊎◌, ℕ, List, Ok, Err, IfOk, IfErr, inl, inr, sym, ap, ◌∙◌, subst}
-use Rattle.std.specs.Prelude.{Result}
+use Rattle.std.specs.Prelude.{Result, ◌+◌, nat_le, if◌then◌else◌, length, true, false}
+use Rattle.ustar.specs.Reading.{path_of}
+use Rattle.ustar.specs.declared.reading.HeaderFault.{HeaderFault}
+use Rattle.ustar.specs.declared.reading.HeaderFault.TheVariants as headers
 use Rattle.std.specs.Global.{Vec}
 use Rattle.vol_dir.specs.Tree.{Tree}
 use Rattle.vol_judge.specs.Sound.{IsSound}
 use Rattle.vol_volume.specs.Faults.{IsFaultOf}
 use Rattle.vol_volume.specs.Volume.{Mounted, IsConsistent, mounted, reads_as}
-use Rattle.vol_import.specs.Members.{members}
+use Rattle.vol_import.specs.Entries.{block_at}
+use Rattle.vol_import.specs.Members.{members as read_members}
 use Rattle.vol_import.specs.Plan.{plan}
-use Rattle.vol_import.specs.Making.{AreMade, AreStopped, unmounted, unread, unplanned, told, planned, calls_to_make, Tells, IsUnmounted, IsStop, Imports, IsReason}
+use Rattle.vol_import.specs.Making.{AreMade, AreStopped, unmounted, unheaded, unread, unplanned, told, planned, calls_to_make, Tells, IsUnmounted, IsStop, Imports, IsReason}
 use Rattle.vol_import.proofs.MadeCalls.{imported}
 use Rattle.vol_dir.specs.declared.refusal.Refusal.{Refusal}
 use Rattle.vol_layout.specs.declared.edition.Edition.{Edition}
 use Rattle.vol_volume.specs.declared.calls.Call.{Call}
 use Rattle.vol_volume.specs.declared.volume.MountFault.{MountFault}
 use Rattle.vol_volume.specs.declared.volume.MountFault.TheVariants as mounts
+use Rattle.vol_import.specs.declared.checking.MemberFault.TheVariants as members
 use Rattle.vol_import.specs.declared.faults.ArchiveFault.{ArchiveFault}
 use Rattle.vol_import.specs.declared.faults.ArchiveFault.TheVariants as archives
 use Rattle.vol_import.specs.declared.making.ImportFault.{ImportFault}
@@ -35,22 +40,31 @@ unplanned_plans : (fault : PlanFault) → IsPlans (unplanned fault)
 unplanned_plans (plans.Member path cause) = tt
 unplanned_plans plans.NoMemory = tt
 
-unread_plans : (fault : ArchiveFault) → IsPlans (unread fault)
-unread_plans archives.NoMemory = tt
-unread_plans (archives.Truncated at) = tt
-unread_plans (archives.LoneZeroBlock at) = tt
-unread_plans (archives.Header at fault) = tt
-unread_plans (archives.Records at) = tt
-unread_plans (archives.Unsupported at) = tt
+unheaded_plans : (archive : List ℕ) (at : ℕ) (fault : HeaderFault) → IsPlans (unheaded archive at fault)
+unheaded_plans archive at headers.Magic = tt
+unheaded_plans archive at headers.Checksum = tt
+unheaded_plans archive at headers.Number = elim (nat_le (at + 512) (length archive)) as (λ whole. IsPlans (if whole then faults.Member (path_of (block_at archive at)) members.Number
+    else faults.Archive (archives.Header at headers.Number))) [
+      | true ↦ tt
+      | false ↦ tt
+    ]
+
+unread_plans : (archive : List ℕ) (fault : ArchiveFault) → IsPlans (unread archive fault)
+unread_plans archive archives.NoMemory = tt
+unread_plans archive (archives.Truncated at) = tt
+unread_plans archive (archives.LoneZeroBlock at) = tt
+unread_plans archive (archives.Header at fault) = unheaded_plans archive at fault
+unread_plans archive (archives.Records at) = tt
+unread_plans archive (archives.Unsupported at) = tt
 
 pub told_plans : (plan : Result (List Call) PlanFault) (fault : ImportFault) → told plan ≡ Err fault → IsPlans fault
 told_plans (Ok calls) fault e = absurd (cc)
 told_plans (Err why) fault e = let same : unplanned why ≡ fault = cc in subst IsPlans same (unplanned_plans why)
 
-planned_plans : (tree : Tree) (base : List ℕ) (now : ℕ) (read : Result (List Member) ArchiveFault) (fault : ImportFault) → planned tree base now read ≡ Err fault
-    → IsPlans fault
-planned_plans tree base now (Ok all) fault e = told_plans (plan tree base now all) fault e
-planned_plans tree base now (Err why) fault e = let same : unread why ≡ fault = cc in subst IsPlans same (unread_plans why)
+planned_plans : (tree : Tree) (archive base : List ℕ) (now : ℕ) (read : Result (List Member) ArchiveFault) (fault : ImportFault)
+    → planned tree archive base now read ≡ Err fault → IsPlans fault
+planned_plans tree archive base now (Ok all) fault e = told_plans (plan tree base now all) fault e
+planned_plans tree archive base now (Err why) fault e = let same : unread archive why ≡ fault = cc in subst IsPlans same (unread_plans archive why)
 
 -- a fault of the calls that were to be made is a reason
 pub planned_reason : (edition : Edition) (image : List ℕ) (wanted : Result (List Call) ImportFault) (fault : ImportFault) → IsSound edition image
@@ -68,7 +82,7 @@ pub no_calls : (edition : Edition) (image archive base : List ℕ) (now : ℕ) (
 unfolding calls_to_make
 no_calls edition image archive base now old fault sound is tells =
     planned_reason edition image (calls_to_make (reads_as edition image).tree archive base now) fault sound
-    (planned_plans (reads_as edition image).tree base now (members archive))
+    (planned_plans (reads_as edition image).tree archive base now (read_members archive))
     (subst (λ (v : Mounted). Tells (calls_to_make (reads_as v.edition v.image).tree archive base now) fault) is tells)
 
 -- what isn't mounted is told
@@ -122,24 +136,26 @@ plan_told wanted why fault tells is = λ other.
 
 -- a fault of the archive is told
 pub archive_told : (tree : Tree) (archive base : List ℕ) (now : ℕ) (why : ArchiveFault) (fault : ImportFault)
-    → (why ≢ archives.NoMemory → members archive ≡ Err why) → fault ≡ unread why → Tells (calls_to_make tree archive base now) fault
+    → (why ≢ archives.NoMemory → read_members archive ≡ Err why) → (fault ≡ faults.NoMemory) ⊎ (fault ≡ unread archive why)
+    → Tells (calls_to_make tree archive base now) fault
 unfolding calls_to_make
-archive_told tree archive base now why fault tells is = λ other.
-    let e : members archive ≡ Err why = tells (λ (same : why ≡ archives.NoMemory). other (is ∙ ap unread same)) in
-    ap (planned tree base now) e ∙ ap Err (sym is)
+archive_told tree archive base now why fault tells (inl none) = λ other. absurd (other none)
+archive_told tree archive base now why fault tells (inr is) = λ other.
+    let e : read_members archive ≡ Err why = tells (λ (same : why ≡ archives.NoMemory). other (is ∙ ap (unread archive) same)) in
+    ap (planned tree archive base now) e ∙ ap Err (sym is)
 
 -- what the members of an archive come to, the archive does
-pub found_ok : (result : Result (Vec Call) ImportFault) (tree : Tree) (archive base : List ℕ) (now : ℕ) (found : List Member) → members archive ≡ Ok found
+pub found_ok : (result : Result (Vec Call) ImportFault) (tree : Tree) (archive base : List ℕ) (now : ℕ) (found : List Member) → read_members archive ≡ Ok found
     → IfOk result (λ calls. told (plan tree base now found) ≡ Ok calls.items) → IfOk result (λ calls. calls_to_make tree archive base now ≡ Ok calls.items)
 unfolding calls_to_make
 found_ok result tree archive base now found e ok =
-    subst (λ (read : Result (List Member) ArchiveFault). IfOk result (λ calls. planned tree base now read ≡ Ok calls.items)) (sym e) ok
+    subst (λ (read : Result (List Member) ArchiveFault). IfOk result (λ calls. planned tree archive base now read ≡ Ok calls.items)) (sym e) ok
 
-pub found_fault : (result : Result (Vec Call) ImportFault) (tree : Tree) (archive base : List ℕ) (now : ℕ) (found : List Member) → members archive ≡ Ok found
+pub found_fault : (result : Result (Vec Call) ImportFault) (tree : Tree) (archive base : List ℕ) (now : ℕ) (found : List Member) → read_members archive ≡ Ok found
     → IfErr result (Tells (told (plan tree base now found))) → IfErr result (Tells (calls_to_make tree archive base now))
 unfolding calls_to_make
 found_fault result tree archive base now found e fault =
-    subst (λ (read : Result (List Member) ArchiveFault). IfErr result (Tells (planned tree base now read))) (sym e) fault
+    subst (λ (read : Result (List Member) ArchiveFault). IfErr result (Tells (planned tree archive base now read))) (sym e) fault
 
 -- a stop of calls is told
 pub stop_told : (old new : Mounted) (calls : List Call) (refusal : Refusal) (call : Call) (fault : ImportFault) → AreStopped old calls new refusal call

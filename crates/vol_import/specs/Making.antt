@@ -1,5 +1,8 @@
 -- Making calls on a volume, all or nothing.
-use Rattle.std.specs.Prelude.{◌≡◌, ◌≢◌, ◌⊎◌, ℕ, List, [], ◌∷◌, true, map, Result, Ok, Err}
+use Rattle.std.specs.Prelude.{◌≡◌, ◌≢◌, ◌⊎◌, ℕ, ◌+◌, nat_le, if◌then◌else◌, List, [], ◌∷◌, length, true, map, Result, Ok, Err}
+use Rattle.ustar.specs.Reading.{path_of}
+use Rattle.ustar.specs.declared.reading.HeaderFault.{HeaderFault}
+use Rattle.ustar.specs.declared.reading.HeaderFault.TheVariants as headers
 use Rattle.vol_layout.specs.Geometry.{geometry_of}
 use Rattle.vol_dir.specs.Tree.{Tree}
 use Rattle.vol_judge.specs.Sound.{IsSound, IsLeastBroken}
@@ -7,13 +10,15 @@ use Rattle.vol_change.specs.Whole.{StaysAround}
 use Rattle.vol_volume.specs.Faults.{IsFaultOf}
 use Rattle.vol_volume.specs.Journal.{Refuses, IsLegal, after}
 use Rattle.vol_volume.specs.Volume.{Mounted, Accepts, mounted, reads_as}
-use Rattle.vol_import.specs.Members.{members}
+use Rattle.vol_import.specs.Entries.{block_at}
+use Rattle.vol_import.specs.Members.{members as read_members}
 use Rattle.vol_import.specs.Plan.{plan}
 use Rattle.vol_dir.specs.declared.refusal.Refusal.{Refusal}
 use Rattle.vol_layout.specs.declared.edition.Edition.{Edition}
 use Rattle.vol_volume.specs.declared.calls.Call.{Call}
 use Rattle.vol_volume.specs.declared.calls.Done.{Done}
 use Rattle.vol_volume.specs.declared.calls.Record.{Record}
+use Rattle.vol_import.specs.declared.checking.MemberFault.TheVariants as members
 use Rattle.vol_import.specs.declared.faults.ArchiveFault.{ArchiveFault}
 use Rattle.vol_volume.specs.declared.volume.MountFault.{MountFault}
 use Rattle.vol_volume.specs.declared.volume.MountFault.TheVariants as mounts
@@ -41,14 +46,22 @@ abbrev pub unmounted : MountFault → ImportFault
 unmounted (mounts.Unsound rule) = faults.Unsound rule
 unmounted mounts.NoMemory = faults.NoMemory
 
+-- the block at a place of an archive is no header, for this reason: the member whose header has a field that is no number is named (this project)
+abbrev pub unheaded : List ℕ → ℕ → HeaderFault → ImportFault
+unheaded archive at headers.Magic = faults.Archive (archives.Header at headers.Magic)
+unheaded archive at headers.Checksum = faults.Archive (archives.Header at headers.Checksum)
+unheaded archive at headers.Number =
+    if nat_le (at + 512) (length archive) then faults.Member (path_of (block_at archive at)) members.Number
+    else faults.Archive (archives.Header at headers.Number)
+
 -- an archive can't be read, for this reason (this project)
-abbrev pub unread : ArchiveFault → ImportFault
-unread archives.NoMemory = faults.NoMemory
-unread (archives.Truncated at) = faults.Archive (archives.Truncated at)
-unread (archives.LoneZeroBlock at) = faults.Archive (archives.LoneZeroBlock at)
-unread (archives.Header at fault) = faults.Archive (archives.Header at fault)
-unread (archives.Records at) = faults.Archive (archives.Records at)
-unread (archives.Unsupported at) = faults.Archive (archives.Unsupported at)
+abbrev pub unread : List ℕ → ArchiveFault → ImportFault
+unread archive archives.NoMemory = faults.NoMemory
+unread archive (archives.Truncated at) = faults.Archive (archives.Truncated at)
+unread archive (archives.LoneZeroBlock at) = faults.Archive (archives.LoneZeroBlock at)
+unread archive (archives.Header at fault) = unheaded archive at fault
+unread archive (archives.Records at) = faults.Archive (archives.Records at)
+unread archive (archives.Unsupported at) = faults.Archive (archives.Unsupported at)
 
 -- there are no calls that make the members of an archive, for this reason (this project)
 abbrev pub unplanned : PlanFault → ImportFault
@@ -61,13 +74,13 @@ told (Ok calls) = Ok calls
 told (Err fault) = Err (unplanned fault)
 
 -- the plan for the members of an archive, if it can be read (this project)
-abbrev pub planned : Tree → List ℕ → ℕ → Result (List Member) ArchiveFault → Result (List Call) ImportFault
-planned tree base now (Ok all) = told (plan tree base now all)
-planned tree base now (Err fault) = Err (unread fault)
+abbrev pub planned : Tree → List ℕ → List ℕ → ℕ → Result (List Member) ArchiveFault → Result (List Call) ImportFault
+planned tree archive base now (Ok all) = told (plan tree base now all)
+planned tree archive base now (Err fault) = Err (unread archive fault)
 
 -- the calls that make the members of an archive below a path of a tree; or why there are none (this project)
 unfoldable pub calls_to_make : Tree → List ℕ → List ℕ → ℕ → Result (List Call) ImportFault
-calls_to_make tree archive base now = planned tree base now (members archive)
+calls_to_make tree archive base now = planned tree archive base now (read_members archive)
 
 -- a fault is the one that is to be told, or want of memory (this project)
 abbrev pub Tells : {X : Type 0} → Result X ImportFault → ImportFault → Type 0

@@ -55,6 +55,9 @@ pub enum MemberFault {
     /// its path in the volume, as a refused call is.
     #[error("more directories than the volume has i-nodes")]
     NoInode,
+    /// A field of its header is no number. Its path is the one in the header.
+    #[error("a field of its header is no number")]
+    Number,
 }
 
 /// What a member is made as in a volume of an edition, and for whom, or the first thing that speaks against it: its kind, its path,

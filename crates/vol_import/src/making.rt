@@ -1,15 +1,17 @@
 //! Making calls on a volume, all or nothing.
-ghost use Rattle.std.specs.Prelude.{◌≡◌, ◌⊎◌, IfOk, IfErr, OnOk, Ok};
+ghost use Rattle.std.specs.Prelude.{◌≡◌, ◌⊎◌, ◌+◌, IfOk, IfErr, OnOk, Ok, length, nat_le};
 ghost use Rattle.vol_judge.specs.Sound.{IsSound};
 ghost use Rattle.vol_volume.specs.Volume.{mounted, reads_as};
 ghost use Rattle.vol_import.specs.Making.{AreMade, AreStopped, IsUnmounted, unread, unplanned, told, calls_to_make, IsStop, Tells, Imports, IsReason};
 ghost use Rattle.vol_import.specs.Plan.{plan};
 
 use crate::checking::MemberFault;
+use crate::entries::block_at;
 use crate::faults::ArchiveFault;
 use crate::planning::{PlanFault, plan};
 use crate::reading::{Member, members};
 use std::alloc::Global;
+use ustar::{HeaderFault, path_of};
 use vol_dir::Refusal;
 use vol_layout::Edition;
 use vol_volume::{Bytes, Call, MountFault, Volume};
@@ -76,18 +78,31 @@ pub fn mount(alloc: Global, edition: Edition, image: Vec<u8>) -> Result<Volume, 
     Volume::mount(alloc, edition, image).map_err(|(fault, _)| ImportFault::from(fault))
 }
 
-/// An archive can't be read, for this reason.
-fn unread(fault: ArchiveFault) -> ImportFault
-    ensures { result ≡ unread fault }
+/// An archive can't be read, for this reason. A member whose header has a field that is no number is named by the path in it.
+fn unread(alloc: Global, archive: &[u8], fault: ArchiveFault) -> ImportFault
+    ensures { (result ≡ ImportFault.NoMemory) ⊎ (result ≡ unread archive.now fault) }
 {
     match fault {
         ArchiveFault::NoMemory => ImportFault::NoMemory,
-        ArchiveFault::Truncated(_) => ImportFault::Archive(fault),
-        ArchiveFault::LoneZeroBlock(_) => ImportFault::Archive(fault),
-        ArchiveFault::Header(_, _) => ImportFault::Archive(fault),
-        ArchiveFault::Records(_) => ImportFault::Archive(fault),
-        ArchiveFault::Unsupported(_) => ImportFault::Archive(fault),
+        ArchiveFault::Header(at, HeaderFault::Number) if has_block(archive, at) => {
+            match path_of(alloc, block_at(archive, at)) {
+                Ok(path) => ImportFault::Member(Bytes::from_vec(path), MemberFault::Number),
+                Err(_) => ImportFault::NoMemory,
+            }
+        }
+        ArchiveFault::Truncated(_)
+        | ArchiveFault::LoneZeroBlock(_)
+        | ArchiveFault::Header(_, _)
+        | ArchiveFault::Records(_)
+        | ArchiveFault::Unsupported(_) => ImportFault::Archive(fault),
     }
+}
+
+/// Whether an archive has a whole block at a place.
+fn has_block(archive: &[u8], at: usize) -> bool
+    ensures { result ≡ nat_le (at + 512) (length archive.now) }
+{
+    archive.len() >= 512 && archive.len() - 512 >= at
 }
 
 /// There are no calls that make the members of an archive, for this reason.
@@ -113,7 +128,7 @@ fn calls_to_make(
 {
     match members(alloc, archive) {
         Ok(found) => calls_for(alloc, volume, base, now, found),
-        Err(fault) => Err(unread(fault)),
+        Err(fault) => Err(unread(alloc, archive, fault)),
     }
 }
 

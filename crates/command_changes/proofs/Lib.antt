@@ -2,8 +2,6 @@ pub mod Emptying
 pub mod Imported
 pub mod CallsMade
 pub mod MadeDirectories
-pub mod MadeNames
-pub mod MadePaths
 pub mod MovedNames
 pub mod PutBytes
 pub mod PutFiles

@@ -19,8 +19,8 @@ use Rattle.vol_volume.specs.Step.{step}
 use Rattle.vol_volume.specs.Verdict.{verdict, of_node}
 use Rattle.vol_volume.specs.Volume.{reads_as}
 use Rattle.vol_volume.proofs.Journals.{after-append, legal-parts}
-use Rattle.command_changes.proofs.MadePaths.{mkdir_leads, walk_answered, stat_answered}
-use Rattle.vol_removal.proofs.TreeWalks.{passes_first}
+use Rattle.vol_import.proofs.MadePaths.{mkdir_leads, walk_answered, stat_answered}
+use Rattle.vol_import.proofs.TreeWalks.{passes_first}
 use Rattle.command_faults.specs.Changing.{Makes}
 use Rattle.command_changes.specs.Finding.{found_by, found_kind, last_name, last_of}
 use Rattle.command_changes.specs.Mkdir.{HasDirectory, calls_unless, mkdir_all_calls, mkdir_at, mkdir_call, missing_calls, unless_found}

@@ -13,8 +13,8 @@ use Rattle.vol_volume.specs.Journal.{MayAnswer, IsLegal, after}
 use Rattle.vol_volume.specs.Step.{step}
 use Rattle.vol_volume.specs.Verdict.{verdict}
 use Rattle.vol_volume.specs.Volume.{reads_as}
-use Rattle.command_changes.proofs.MadePaths.{Holds, create_holds, truncate_holds, write_holds, stat_answered, read_answered}
-use Rattle.vol_removal.proofs.TreeWalks.{node_there, passes_first}
+use Rattle.vol_import.proofs.MadePaths.{Holds, create_holds, truncate_holds, write_holds, stat_answered, read_answered}
+use Rattle.vol_import.proofs.TreeWalks.{node_there, passes_first}
 use Rattle.command_faults.specs.Changing.{AreLeft, Makes}
 use Rattle.command_changes.specs.Put.{HasFile, emptying_by, put_calls}
 use Rattle.command_changes.proofs.Emptying.{emptying_is}

@@ -1,6 +1,9 @@
 pub mod ImportFaults
 pub mod MadeCalls
+pub mod MadeNames
+pub mod MadePaths
 pub mod MemberRuns
 pub mod PlanRuns
 pub mod RecordRuns
 pub mod Steps
+pub mod TreeWalks

@@ -1,27 +1,22 @@
 -- A tree where a directory lost a name, after an accepted call.
 use Rattle.std.proofs.Common.{◌≡◌, ◌≢◌, ◌∙◌, sym, ap, refl, ℕ, ◌-◌, true, false, cond, nat_le, List, None, Some, Ok, Err, inl, inr}
 use Rattle.std.specs.Prelude.{Option, Result}
-use Rattle.std.specs.Option.{option_map, option_map_or}
+use Rattle.std.specs.Option.{option_map}
 use Rattle.std.specs.Str.{bytes_eq}
 use Rattle.std.proofs.lemmas.Bool.{cases_eq}
 use Rattle.vol_file.proofs.PlaceLists.{bytes_same}
 use Rattle.vol_dir.specs.Names.{Names, get, remove}
 use Rattle.vol_dir.specs.Tree.{Content, Body, Directory, Device, Node, Tree, State}
-use Rattle.vol_dir.specs.Walk.{map_of, search, search_node}
+use Rattle.vol_dir.specs.Walk.{map_of, search}
 use Rattle.vol_dir.proofs.NameMaps.{get_remove}
-use Rattle.vol_dir.specs.declared.refusal.Refusal.{Refusal}
-use Rattle.vol_dir.specs.declared.refusal.Refusal.TheVariants as refusals
 use Rattle.vol_dir.specs.Access.{user}
 use Rattle.vol_change.specs.Edits.{set_at, change_names, modified, stamped, at_time, remove_entry, drop_link, release, remove_node}
 use Rattle.vol_change.specs.Effects.{after_unlink, after_rmdir}
 use Rattle.vol_change.specs.Nodes.{node_at, number_of_name}
 use Rattle.vol_change.proofs.SideStates.{set_beside}
 use Rattle.vol_change.proofs.NodeEdits.{set_here}
+use Rattle.vol_import.proofs.TreeWalks.{named, searched}
 use Rattle.vol_removal.proofs.GoneNames.{LosesName}
-
--- what user 0 finds to search in a node, if there is one
-abbrev pub searched : Option Node → Result Names Refusal
-searched node = option_map_or (search_node user) node (Err refusals.NotDirectory)
 
 -- what still is a node is searched as before
 abbrev pub Stays : (ℕ → Option Node) → (ℕ → Option Node) → Type 0
@@ -64,10 +59,6 @@ stays_released state now i =
       | true ↦ stays_removed state.tree.nodes i
       | false ↦ stays_unlinked state.tree.nodes now i
     ]
-
--- what is searched of what a node holds, if it is a map
-abbrev pub named : Option Names → Result Names Refusal
-named held = option_map_or (λ (names : Names). Ok names) held (Err refusals.NotDirectory)
 
 -- a directory with one name less
 abbrev pub without : ℕ → List ℕ → Option Node → Option Node

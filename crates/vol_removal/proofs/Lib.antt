@@ -3,4 +3,3 @@ mod GoneNames
 pub mod GoneTrees
 mod Removals
 mod TakenPaths
-pub mod TreeWalks

@@ -13,14 +13,22 @@ use Rattle.vol_file.specs.Rules.{kind_at, Rules3To7}
 use Rattle.vol_dir.specs.Access.{user}
 use Rattle.vol_dir.specs.Entries.{slots, IsDirectory, IsInUse, HasEntries}
 use Rattle.vol_dir.specs.Names.{Names, get, names_of}
-use Rattle.vol_dir.specs.Tree.{Tree, tree, is_number}
-use Rattle.vol_dir.specs.Walk.{root, has_zero, components, search, and_then, walk_from, walk, split_last, parent_from, walk_parent}
+use Rattle.vol_dir.specs.Tree.{Node, Tree, tree, is_number}
+use Rattle.vol_dir.specs.Walk.{root, has_zero, components, search, search_node, and_then, walk_from, walk, split_last, parent_from, walk_parent}
 use Rattle.vol_dir.proofs.WalkLaws.{found_in_use, IsInUse-root, search-outside, search-directory, search-other}
 use Rattle.vol_dir.specs.declared.refusal.Refusal.{Refusal}
 use Rattle.vol_dir.specs.declared.refusal.Refusal.TheVariants as refusals
 use Rattle.vol_layout.specs.Ids.{is_bad_id}
 use Rattle.vol_volume.specs.Verdict.{then_others, of_parent}
 use Rattle.vol_volume.proofs.NodeReadings.{used_first, used_some}
+
+-- what user 0 finds to search in a node, if there is one
+abbrev pub searched : Option Node → Result Names Refusal
+searched node = option_map_or (search_node user) node (Err refusals.NotDirectory)
+
+-- what is searched of what a node holds, if it is a map
+abbrev pub named : Option Names → Result Names Refusal
+named held = option_map_or (λ (names : Names). Ok names) held (Err refusals.NotDirectory)
 
 -- where nothing speaks against a call, its first tests are passed
 pub record PassesFirst (tree : Tree) (path : List ℕ) (others : Option Refusal) : Type 0 where

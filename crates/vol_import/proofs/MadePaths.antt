@@ -30,8 +30,8 @@ use Rattle.vol_volume.specs.declared.queries.Query.TheVariants as queries
 use Rattle.vol_volume.specs.declared.queries.Reply.{Reply}
 use Rattle.vol_volume.specs.declared.queries.Reply.TheVariants as replies
 use Rattle.vol_volume.proofs.Accepted.{create_passed, mkdir_passed}
-use Rattle.vol_removal.proofs.TreeWalks.{Reaches, passes_first, reaches, parent_found}
-use Rattle.command_changes.proofs.MadeNames.{LeadsTo, MakesName, entered, searched_names, path_kept, leads_still, name_made, name_linked, leads_made}
+use Rattle.vol_import.proofs.TreeWalks.{Reaches, passes_first, reaches, parent_found}
+use Rattle.vol_import.proofs.MadeNames.{LeadsTo, MakesName, entered, searched_names, path_kept, leads_still, name_made, name_linked, leads_made}
 
 -- a number that can be taken has no node
 free_none : (tree : Tree) (i : ℕ) → is_free_number tree i ≡ true → tree.nodes i ≡ None

@@ -1,6 +1,6 @@
 -- What `mkdir -p` leaves at its path.
 use Rattle.std.proofs.Common.{◌≡◌, sym, ap, subst, refl, ◌∙◌, ℕ, zero, suc, ◌+◌, ◌<◌, ◌≤◌, ◌==◌, ◌&&◌, ◌||◌, if◌then◌else◌, Bool, true, false, not, List, [], ◌∷◌, ◌++◌, map, take, length, None, Some, arith, add-one}
-use Rattle.std.specs.Prelude.{Result, is_some, slice_index}
+use Rattle.std.specs.Prelude.{Result, slice_index}
 use Rattle.std.specs.List.{flat_map, range_with_len}
 use Rattle.std.proofs.lemmas.Bool.{eqb-true, eq-eqb}
 use Rattle.std.proofs.lemmas.List.{append-nil, take_all, take_more, flat_map_more}
@@ -8,8 +8,8 @@ use Rattle.std.proofs.lemmas.List.Folds.{list_any-append}
 use Rattle.vol_layout.specs.Ids.{is_bad_id}
 use Rattle.vol_dir.specs.Access.{user}
 use Rattle.vol_dir.specs.Names.{is_dots}
-use Rattle.vol_dir.specs.Tree.{Content, Body, Directory, Device, Tree, State}
-use Rattle.vol_dir.specs.Walk.{root, components, has_zero, map_of, walk, walk_from}
+use Rattle.vol_dir.specs.Tree.{Tree, State}
+use Rattle.vol_dir.specs.Walk.{root, components, has_zero, walk, walk_from}
 use Rattle.vol_dir.proofs.Components.{components-nil}
 use Rattle.vol_dir.proofs.PathJoins.{components-outer, walk-nothing}
 use Rattle.vol_change.specs.Nodes.{node_at}
@@ -19,7 +19,7 @@ use Rattle.vol_volume.specs.Step.{step}
 use Rattle.vol_volume.specs.Verdict.{verdict, of_node}
 use Rattle.vol_volume.specs.Volume.{reads_as}
 use Rattle.vol_volume.proofs.Journals.{after-append, legal-parts}
-use Rattle.vol_import.proofs.MadePaths.{mkdir_leads, walk_answered, stat_answered}
+use Rattle.vol_import.proofs.MadePaths.{mkdir_gains, walk_answered, stat_answered}
 use Rattle.vol_import.proofs.TreeWalks.{passes_first}
 use Rattle.command_faults.specs.Changing.{Makes}
 use Rattle.command_changes.specs.Finding.{found_by, found_kind, last_name, last_of}
@@ -60,14 +60,9 @@ made_directory : (state : State) (now : ℕ) (path : List ℕ) (done : Done) →
     → MayAnswer state (mkdir_call now path) done → HasDirectory (step state (mkdir_call now path) done).tree path
 unfolding verdict
 made_directory state now path done accepted answered =
-    let made = mkdir_leads state now 0o755 path done accepted answered in
+    let made = mkdir_gains state now 0o755 path done accepted answered in
     let plain = (passes_first state.tree path _ accepted).no_zero in
-    ap found_by (stat_answered (step state (mkdir_call now path) done).tree path made.0 plain made.1) ∙ by made.0.content made.2
-  where
-    by : (held : Content) → is_some (map_of held) ≡ true → found_kind (kind_of_content held) ≡ founds.Directory
-    by (Directory names) is = refl
-    by (Body bytes) is = absurd (cc)
-    by (Device type addresses) is = absurd (cc)
+    ap found_by (stat_answered (step state (mkdir_call now path) done).tree path _ plain made.1.leads)
 
 -- the last of recorded calls
 last_record : (before : List Call) (call : Call) (journal : List Record) → map (λ (entry : Record). entry.call) journal ≡ before ++ call ∷ []

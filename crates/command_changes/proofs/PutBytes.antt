@@ -8,15 +8,16 @@ use Rattle.vol_dir.specs.Tree.{Tree, State, state}
 use Rattle.vol_dir.specs.Walk.{has_zero, walk}
 use Rattle.vol_change.specs.Ready.{Rules1To12}
 use Rattle.vol_change.proofs.ReadyLaws.{ready_whole, ready_entries}
-use Rattle.vol_volume.specs.Answer.{answer, kind_of_content, stat_of}
+use Rattle.vol_volume.specs.Answer.{answer}
 use Rattle.vol_volume.specs.Journal.{MayAnswer, IsLegal, after}
 use Rattle.vol_volume.specs.Step.{step}
 use Rattle.vol_volume.specs.Verdict.{verdict}
 use Rattle.vol_volume.specs.Volume.{reads_as}
-use Rattle.vol_import.proofs.MadePaths.{Holds, create_holds, truncate_holds, write_holds, stat_answered, read_answered}
+use Rattle.vol_import.proofs.MadePaths.{Holds, create_holds, holds_file, truncate_holds, write_holds}
 use Rattle.vol_import.proofs.TreeWalks.{node_there, passes_first}
 use Rattle.command_faults.specs.Changing.{AreLeft, Makes}
-use Rattle.command_changes.specs.Put.{HasFile, emptying_by, put_calls}
+use Rattle.vol_import.specs.MadeMembers.{HasFile}
+use Rattle.command_changes.specs.Put.{emptying_by, put_calls}
 use Rattle.command_changes.proofs.Emptying.{emptying_is}
 use Rattle.vol_layout.specs.declared.edition.Edition.{Edition}
 use Rattle.vol_layout.specs.declared.geometry.Geometry.{Geometry}
@@ -59,14 +60,8 @@ written_by : (state : State) (now : ℕ) (path bytes : List ℕ) (call : Call) (
 written_by state now path bytes call done is accepted empty =
     let write = calls.Write user now path 0 bytes in
     let plain = plain_path state now path bytes (ap (verdict state) (sym is) ∙ accepted) in
-    let held = write_holds state now path bytes done empty in
-    subst (λ (c : Call). HasFile (step state c done).tree path bytes) (sym is) (record {
-      stat = stat_of held.leads.number held.node;
-      found = stat_answered (step state write done).tree path held.node plain held.leads;
-      kind = ap kind_of_content held.content;
-      size = held.size;
-      read = λ offset len. read_answered (step state write done).tree path bytes offset len plain held;
-    })
+    subst (λ (c : Call). HasFile (step state c done).tree path bytes) (sym is)
+    (holds_file (step state write done).tree path bytes plain (write_holds state now path bytes done empty))
 
 -- so the path has the bytes
 put_by : (edition : Edition) (image bytes path given : List ℕ) (now : ℕ) (journal : List Record)

@@ -1,7 +1,7 @@
 -- The calls that put files into a volume.
-use Rattle.std.specs.Prelude.{◌≡◌, ℕ, List, [], ◌∷◌, Result, Err, ◌++◌, nat_lt, if◌then◌else◌, length, Ok}
+use Rattle.std.specs.Prelude.{ℕ, List, [], ◌∷◌, Result, Err, ◌++◌, nat_lt, if◌then◌else◌, length, Ok}
 use Rattle.vol_dir.specs.Tree.{Tree}
-use Rattle.vol_volume.specs.Answer.{answer, read_bytes}
+use Rattle.vol_volume.specs.Answer.{answer}
 use Rattle.vol_dir.specs.declared.refusal.Refusal.{Refusal}
 use Rattle.vol_dir.specs.declared.refusal.Refusal.TheVariants as refusals
 use Rattle.vol_dir.specs.Access.{user}
@@ -9,9 +9,6 @@ use Rattle.vol_volume.specs.declared.calls.Call.{Call}
 use Rattle.vol_volume.specs.declared.calls.Call.TheVariants as calls
 use Rattle.vol_volume.specs.declared.queries.Query.TheVariants as queries
 use Rattle.vol_volume.specs.declared.queries.Reply.{Reply}
-use Rattle.vol_volume.specs.declared.queries.Reply.TheVariants as replies
-use Rattle.vol_volume.specs.declared.queries.Stat.{Stat}
-use Rattle.vol_layout.specs.declared.mode.Kind.TheVariants as kinds
 use Rattle.vol_import.specs.Plan.{and_next, below}
 use Rattle.vol_import.specs.declared.checking.MemberFault.TheVariants as members
 use Rattle.vol_import.specs.declared.planning.PlanFault.{PlanFault}
@@ -46,11 +43,3 @@ put_onto tree now directory calls (file ∷ files) =
 -- the calls that put files into a directory, settled on the tree as it stands; or the first name that is too long (cp)
 abbrev pub calls_to_put : Tree → ℕ → List ℕ → List NewFile → Result (List Call) PlanFault
 calls_to_put tree now directory files = put_onto tree now directory [] files
-
--- a path leads to a regular file of these bytes: a Stat says so, and a Read from any offset on gives them (stat, read)
-pub record HasFile (tree : Tree) (path bytes : List ℕ) : Type 0 where
-  pub stat : Stat
-  pub found : answer tree (queries.Stat user path) ≡ Ok (replies.Stat stat)
-  pub kind : stat.kind ≡ kinds.Regular
-  pub size : stat.size ≡ length bytes
-  pub read : (offset len : ℕ) → answer tree (queries.Read user path offset len) ≡ Ok (replies.Bytes (read_bytes bytes offset len))

@@ -1,7 +1,11 @@
+mod DotWalks
+mod GrownTrees
 pub mod ImportFaults
 pub mod MadeCalls
+pub mod MadeMembers
 pub mod MadeNames
 pub mod MadePaths
+mod MemberCalls
 pub mod MemberRuns
 pub mod PlanRuns
 pub mod RecordRuns

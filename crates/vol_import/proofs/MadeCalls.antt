@@ -92,7 +92,7 @@ keeps_then old mid new call calls done accepts rest =
           (subst (λ g. StaysAround g mid.image new.image) (geometry_kept (geometry_of old.edition old.image) old.image mid.image first) second);
     }
 
-keeps : (old new : Mounted) (calls : List Call) → AreMade old calls new → Keeps old new calls
+pub keeps : (old new : Mounted) (calls : List Call) → AreMade old calls new → Keeps old new calls
 unfolding AreMade
 keeps old new [] made = subst (λ volume. Keeps old volume []) (sym made) (keeps_all old)
 keeps old new (call ∷ calls) made = keeps_then old made.0 new call calls made.1 made.2 (keeps made.0 new calls made.3)

@@ -1,12 +1,12 @@
 -- Names that are made in a tree: what was found is found still, and the walk to a new name leads to its node.
-use Rattle.std.proofs.Common.{◌≡◌, ◌≢◌, ◌∙◌, sym, ap, refl, ℕ, ◌+◌, true, false, cond, List, [], ◌∷◌, Option, None, Some, Ok, Err, inl, inr}
+use Rattle.std.proofs.Common.{◌≡◌, ◌≢◌, ◌∙◌, sym, ap, subst, refl, ℕ, ◌+◌, true, false, cond, List, [], ◌∷◌, Option, None, Some, Ok, Err, inl, inr}
 use Rattle.std.specs.Prelude.{Result}
 use Rattle.std.specs.Cmp.Lexicographic.{slice_cmp}
 use Rattle.std.specs.FinMap.Entries.{find-put}
 use Rattle.std.specs.Ordering.{nat_cmp}
 use Rattle.std.specs.Option.{is_some, ok_or, option_map, unwrap_or}
 use Rattle.std.specs.Str.{bytes_eq}
-use Rattle.std.proofs.lemmas.Bool.{cases_eq}
+use Rattle.std.proofs.lemmas.Bool.{cases_eq, true≢false}
 use Rattle.std.proofs.lemmas.Cmp.{nat_list_cmp_total}
 use Rattle.std.proofs.lemmas.Map.Text.{is_eq-slice_cmp}
 use Rattle.vol_file.proofs.PlaceLists.{bytes_same, same_bytes}
@@ -45,17 +45,6 @@ HasNamesOf old new = (name : List ℕ) (i : ℕ) → found old name ≡ Ok i →
 abbrev pub KeepsNames : (ℕ → Option Node) → (ℕ → Option Node) → Type 0
 KeepsNames old new = (x : ℕ) → HasNamesOf (old x) (new x)
 
-keeps_then : (old mid new : ℕ → Option Node) → KeepsNames old mid → KeepsNames mid new → KeepsNames old new
-keeps_then old mid new first second x name i is = second x name i (first x name i is)
-
--- another node in place of one whose names it has
-keeps_set : (nodes : ℕ → Option Node) (i : ℕ) (node : Option Node) → HasNamesOf (nodes i) node → KeepsNames nodes (set_at nodes i node)
-keeps_set nodes i node has x name j is = elim (cases_eq x i) [
-  | inl here ↦
-      ap (λ n. found n name) (ap (set_at nodes i node) here ∙ set_here nodes i node) ∙ has name j (ap (λ k. found (nodes k) name) (sym here) ∙ is)
-  | inr other ↦ ap (λ n. found n name) (set_beside nodes i node x other) ∙ is
-]
-
 -- what is searched in a node is its map
 pub searched_names : (node : Option Node) (names : Names) → searched node ≡ Ok names → unwrap_or (map_of (unwrap_or node no_node).content) [] ≡ names
 searched_names None names is = absurd (cc)
@@ -84,7 +73,7 @@ path_kept old new path i same keeps is =
     ap (λ r. walk_from new user r (components path)) same ∙ walk_kept old new keeps (components path) (root old) i is
 
 -- what is no directory has no names
-no_names : (node new : Option Node) → is_directory (unwrap_or node no_node) ≡ false → HasNamesOf node new
+pub no_names : (node new : Option Node) → is_directory (unwrap_or node no_node) ≡ false → HasNamesOf node new
 no_names None new plain name i is = cc
 no_names (Some node) new plain name i is = by node.content plain is
   where
@@ -93,12 +82,57 @@ no_names (Some node) new plain name i is = by node.content plain is
     by (Directory names) plain is = cc
     by (Device type addresses) plain is = cc
 
+-- what is told of a node, but for its links and the times that reading it and changing its i-node leave
+abbrev pub told : Node → Content × ℕ × ℕ × ℕ × ℕ × ℕ
+told node = (node.content, node.permissions, node.uid, node.gid, node.size, node.modified)
+
+-- a node stays: a directory is one still, and of what is none the same is told
+abbrev pub Stays : Option Node → Option Node → Type 0
+Stays old new = (node : Node) → old ≡ Some node
+    → (next : Node) × (new ≡ Some next) × (is_directory next ≡ is_directory node) × (is_directory node ≡ false → told next ≡ told node)
+
+-- a node stays, with its names
+abbrev pub Keeps : Option Node → Option Node → Type 0
+Keeps old new = HasNamesOf old new × Stays old new
+
+pub keeps_same : (old : Option Node) → Keeps old old
+keeps_same old = (λ name i is. is, λ x is. (x, is, refl, λ plain. refl))
+
+pub keeps_then : (old mid new : Option Node) → Keeps old mid → Keeps mid new → Keeps old new
+keeps_then old mid new first second = (
+  λ name i is. second.0 name i (first.0 name i is),
+  λ x is.
+      let one = first.1 x is in
+      let two = second.1 one.0 one.1 in
+      (two.0, two.1, two.2 ∙ one.2, λ plain. two.3 (one.2 ∙ plain) ∙ one.3 plain),
+)
+
+-- where there is no node, all is kept
+pub keeps_none : (old new : Option Node) → old ≡ None → Keeps old new
+keeps_none old new none = (
+  no_names old new (ap (λ n. is_directory (unwrap_or n no_node)) none),
+  λ x is. let both : None ≡ Some x = sym none ∙ is in absurd (cc),
+)
+
+-- another node in place of one of which it keeps something
+set_keeps : (P : Option Node → Option Node → Type 0) → ((node : Option Node) → P node node) → (nodes : ℕ → Option Node) (i : ℕ) (node : Option Node)
+    → P (nodes i) node → (x : ℕ) → P (nodes x) (set_at nodes i node x)
+set_keeps P same nodes i node has x = elim (cases_eq x i) [
+  | inl here ↦
+      subst (λ n. P n (set_at nodes i node x)) (ap nodes (sym here))
+      (subst (P (nodes i)) (sym (ap (set_at nodes i node) here ∙ set_here nodes i node)) has)
+  | inr other ↦ subst (P (nodes x)) (sym (set_beside nodes i node x other)) (same (nodes x))
+]
+
+pub nodes_set : (nodes : ℕ → Option Node) (i : ℕ) (node : Option Node) → Keeps (nodes i) node → (x : ℕ) → Keeps (nodes x) (set_at nodes i node x)
+nodes_set = set_keeps Keeps keeps_same
+
 -- so where it alone changes, a path that led to it leads to it
 pub leads_still : (old new : Tree) (path : List ℕ) (i : ℕ) (changed : Option Node) → root new ≡ root old → new.nodes ≡ set_at old.nodes i changed
     → is_directory (unwrap_or (old.nodes i) no_node) ≡ false → walk old user path ≡ Ok i → (walk new user path ≡ Ok i) × (new.nodes i ≡ changed)
 leads_still old new path i changed same nodes plain is = (
   path_kept old new path i same
-      (λ x name j e. ap (λ (ns : ℕ → Option Node). found (ns x) name) nodes ∙ keeps_set old.nodes i changed (no_names (old.nodes i) changed plain) x name j e) is,
+      (λ x name j e. ap (λ (ns : ℕ → Option Node). found (ns x) name) nodes ∙ set_keeps HasNamesOf (λ node name j e. e) old.nodes i changed (no_names (old.nodes i) changed plain) x name j e) is,
   ap (λ (ns : ℕ → Option Node). ns i) nodes ∙ set_here old.nodes i changed,
 )
 
@@ -111,9 +145,9 @@ entered now size name i node =
 abbrev pub linked : ℕ → Option Node → Option Node
 linked now node = option_map (λ (x : Node). record (stamped now x) { links = x.links + 1 }) node
 
-linked_has : (now : ℕ) (node : Option Node) → HasNamesOf node (linked now node)
-linked_has now None name i is = is
-linked_has now (Some node) name i is = is
+pub linked_keeps : (now : ℕ) (node : Option Node) → Keeps node (linked now node)
+linked_keeps now None = keeps_same None
+linked_keeps now (Some node) = (λ name i is. is, λ x is. let same : node ≡ x = cc in (_, refl, ap is_directory same, λ plain. ap told same))
 
 -- what a map with a name more answers
 get_insert : (names : Names) (name word : List ℕ) (i : ℕ) → get (insert names name i) word ≡ cond (bytes_eq word name) (Some i) (get names word)
@@ -144,6 +178,34 @@ entered_has now size i name (Some node) names held fresh word j is = by node.con
     by (Directory ns) held is = let same : ns ≡ names = cc in insert_has ns name word i j (ap (λ (m : Names). get m name) same ∙ fresh) is
     by (Device type addresses) held is = cc
 
+-- what is searched is a directory
+searched_directory : (node : Node) (names : Names) → searched (Some node) ≡ Ok names → is_directory node ≡ true
+searched_directory node names held = by node.content held
+  where
+    by : (content : Content) → named (map_of content) ≡ Ok names → is_some (map_of content) ≡ true
+    by (Body bytes) held = cc
+    by (Directory ns) held = refl
+    by (Device type addresses) held = cc
+
+entered_keeps : (now size i : ℕ) (name : List ℕ) (node : Option Node) (names : Names) → searched node ≡ Ok names → get names name ≡ None
+    → Keeps node (entered now size name i node)
+entered_keeps now size i name node names held fresh = (entered_has now size i name node names held fresh, stays node held)
+  where
+    kind : (content : Content) → is_some (map_of (change_names (λ ns. insert ns name i) content)) ≡ is_some (map_of content)
+    kind (Body bytes) = refl
+    kind (Directory ns) = refl
+    kind (Device type addresses) = refl
+
+    stays : (node : Option Node) → searched node ≡ Ok names → Stays node (entered now size name i node)
+    stays None held x is = absurd (cc)
+    stays (Some node) held x is =
+        let same : node ≡ x = cc in (
+          _,
+          refl,
+          kind node.content ∙ ap is_directory same,
+          λ plain. let both : true ≡ false = sym (searched_directory node names held) ∙ (ap is_directory same ∙ plain) in absurd (true≢false both),
+        )
+
 -- the name is found then
 entered_found : (now size i : ℕ) (name : List ℕ) (node : Option Node) (names : Names) → searched node ≡ Ok names
     → found (entered now size name i node) name ≡ Ok i
@@ -157,11 +219,23 @@ entered_found now size i name (Some node) names held = by node.content held
         (get_insert ns name name i ∙ ap (λ b. cond b (Some i) (get ns name)) (bytes_same name name refl))
     by (Device type addresses) held = cc
 
--- node i is made, and has a name in directory d; what was found is found still
-pub record MakesName (old new : ℕ → Option Node) (d : ℕ) (name : List ℕ) (i : ℕ) (node : Node) : Type 0 where
-  pub apart : i ≢ d
-  pub kept : KeepsNames old new
+-- an entry for i in directory d, of a name that d hasn't
+pub record EntersName (old new : ℕ → Option Node) (d : ℕ) (name : List ℕ) (i : ℕ) : Type 0 where
+  pub kept : (x : ℕ) → Keeps (old x) (new x)
   pub named : found (new d) name ≡ Ok i
+
+pub name_entered : (nodes : ℕ → Option Node) (now size d i : ℕ) (name : List ℕ) (names : Names) → searched (nodes d) ≡ Ok names → get names name ≡ None
+    → EntersName nodes (set_at nodes d (entered now size name i (nodes d))) d name i
+name_entered nodes now size d i name names held fresh = record {
+  kept = nodes_set nodes d (entered now size name i (nodes d)) (entered_keeps now size i name (nodes d) names held fresh);
+  named = ap (λ n. found n name) (set_here nodes d (entered now size name i (nodes d))) ∙ entered_found now size i name (nodes d) names held;
+}
+
+-- node i is made, where there was none, and has a name in directory d
+pub record MakesName (old new : ℕ → Option Node) (d : ℕ) (name : List ℕ) (i : ℕ) (node : Node) : Type 0 where
+  pub free : old i ≡ None
+  pub apart : i ≢ d
+  pub enters : EntersName old new d name i
   pub stands : new i ≡ Some node
 
 -- a node in place of none, and then an entry for it
@@ -174,36 +248,72 @@ name_made nodes now size d i name node names free held fresh =
     let none : Err refusals.NotDirectory ≡ Ok names = sym (ap searched (ap nodes (sym same) ∙ free)) ∙ held in
     absurd (cc) in
     let there : searched (put d) ≡ Ok names = ap searched (set_beside nodes i (Some node) d (λ same. apart (sym same))) ∙ held in
-    let none_lost : HasNamesOf (nodes i) (Some node) = no_names (nodes i) (Some node) (ap (λ n. is_directory (unwrap_or n no_node)) free) in
+    let enters = name_entered put now size d i name names there fresh in
     record {
+      free = free;
       apart = apart;
-      kept = keeps_then nodes put _ (keeps_set nodes i (Some node) none_lost)
-          (keeps_set put d (entered now size name i (put d)) (entered_has now size i name (put d) names there fresh));
-      named = ap (λ n. found n name) (set_here put d (entered now size name i (put d))) ∙ entered_found now size i name (put d) names there;
+      enters = record {
+        kept = λ x. keeps_then (nodes x) (put x) _ (nodes_set nodes i (Some node) (keeps_none (nodes i) (Some node) free) x) (enters.kept x);
+        named = enters.named;
+      };
       stands = set_beside put d (entered now size name i (put d)) i apart ∙ set_here nodes i (Some node);
     }
 
 -- and then a link more to its directory
 pub name_linked : (old mid : ℕ → Option Node) (now d i : ℕ) (name : List ℕ) (node : Node) → MakesName old mid d name i node
     → MakesName old (set_at mid d (linked now (mid d))) d name i node
-name_linked old mid now d i name node makes = record {
-  apart = makes.apart;
-  kept = keeps_then old mid _ makes.kept (keeps_set mid d (linked now (mid d)) (linked_has now (mid d)));
-  named = ap (λ n. found n name) (set_here mid d (linked now (mid d))) ∙ linked_has now (mid d) name i makes.named;
-  stands = set_beside mid d (linked now (mid d)) i makes.apart ∙ makes.stands;
+name_linked old mid now d i name node makes =
+    let links = linked_keeps now (mid d) in
+    record {
+      free = makes.free;
+      apart = makes.apart;
+      enters = record {
+        kept = λ x. keeps_then (old x) (mid x) _ (makes.enters.kept x) (nodes_set mid d (linked now (mid d)) links x);
+        named = ap (λ n. found n name) (set_here mid d (linked now (mid d))) ∙ links.0 name i makes.enters.named;
+      };
+      stands = set_beside mid d (linked now (mid d)) i makes.apart ∙ makes.stands;
+    }
+
+-- a tree keeps the nodes of another one, with their names
+pub record Grows (old new : Tree) : Type 0 where
+  pub rooted : root new ≡ root old
+  pub kept : (x : ℕ) → Keeps (old.nodes x) (new.nodes x)
+
+pub grows_same : (tree : Tree) → Grows tree tree
+grows_same tree = record { rooted = refl; kept = λ x. keeps_same (tree.nodes x) }
+
+pub grows_then : (old mid new : Tree) → Grows old mid → Grows mid new → Grows old new
+grows_then old mid new first second = record {
+  rooted = second.rooted ∙ first.rooted;
+  kept = λ x. keeps_then (old.nodes x) (mid.nodes x) (new.nodes x) (first.kept x) (second.kept x);
 }
 
--- the path to the new name leads to the node
-pub leads_made : (old new : Tree) (path : List ℕ) (d i : ℕ) (name : List ℕ) (node : Node) → root new ≡ root old → Reaches old path d name
-    → MakesName old.nodes new.nodes d name i node → LeadsTo new path node
+-- what a path led to, it leads to still
+pub grown_path : (old new : Tree) (path : List ℕ) (i : ℕ) → Grows old new → walk old user path ≡ Ok i → walk new user path ≡ Ok i
+grown_path old new path i grows is = path_kept old new path i grows.rooted (λ x. (grows.kept x).0) is
+
+-- a path leads to a new name
+pub path_made : (old new : Tree) (path : List ℕ) (d i : ℕ) (name : List ℕ) → root new ≡ root old → Reaches old path d name
+    → EntersName old.nodes new.nodes d name i → walk new user path ≡ Ok i
 unfolding walk
-leads_made old new path d i name node same reached makes = record {
-  number = i;
-  walked = ap (λ r. walk_from new user r (components path)) same
-      ∙ (ap (walk_from new user (root old)) reached.parts
-      ∙ (walk_from-append new user (root old) reached.front (name ∷ [])
-      ∙ (ap (λ (r : Result ℕ Refusal). and_then r (λ j. walk_from new user j (name ∷ [])))
-      (walk_kept old new makes.kept reached.front (root old) d reached.walks)
-      ∙ ap (λ (r : Result ℕ Refusal). and_then r (λ j. Ok j)) makes.named)));
-  stands = makes.stands;
+path_made old new path d i name same reached enters =
+    ap (λ r. walk_from new user r (components path)) same
+    ∙ (ap (walk_from new user (root old)) reached.parts
+    ∙ (walk_from-append new user (root old) reached.front (name ∷ [])
+    ∙ (ap (λ (r : Result ℕ Refusal). and_then r (λ j. walk_from new user j (name ∷ [])))
+    (walk_kept old new (λ x. (enters.kept x).0) reached.front (root old) d reached.walks)
+    ∙ ap (λ (r : Result ℕ Refusal). and_then r (λ j. Ok j)) enters.named)))
+
+-- a tree grows by a path to a node where there was none
+pub record Gains (old new : Tree) (path : List ℕ) (node : Node) : Type 0 where
+  pub leads : LeadsTo new path node
+  pub free : old.nodes leads.number ≡ None
+  pub grows : Grows old new
+
+pub gains_made : (old new : Tree) (path : List ℕ) (d i : ℕ) (name : List ℕ) (node : Node) → root new ≡ root old → Reaches old path d name
+    → MakesName old.nodes new.nodes d name i node → Gains old new path node
+gains_made old new path d i name node same reached makes = record {
+  leads = record { number = i; walked = path_made old new path d i name same reached makes.enters; stands = makes.stands };
+  free = makes.free;
+  grows = record { rooted = same; kept = makes.enters.kept };
 }

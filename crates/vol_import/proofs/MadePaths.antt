@@ -9,8 +9,8 @@ use Rattle.vol_layout.specs.declared.edition.Edition.{Edition}
 use Rattle.vol_layout.specs.declared.edition.Edition.TheVariants.{V6, V7}
 use Rattle.vol_file.specs.Changes.{spliced}
 use Rattle.vol_dir.specs.Access.{user, grants, may_read}
-use Rattle.vol_dir.specs.Names.{get}
-use Rattle.vol_dir.specs.Tree.{Content, Body, Node, Tree, State, no_shape}
+use Rattle.vol_dir.specs.Names.{Names, get, insert, dot, dot_dot}
+use Rattle.vol_dir.specs.Tree.{Content, Body, Directory, Node, Tree, State, no_shape}
 use Rattle.vol_dir.specs.Walk.{root, map_of, is_directory, has_zero, walk, walk_parent}
 use Rattle.vol_dir.specs.declared.refusal.Refusal.{Refusal}
 use Rattle.vol_dir.specs.declared.refusal.Refusal.TheVariants as refusals
@@ -19,7 +19,7 @@ use Rattle.vol_change.specs.Effects.{after_create, after_mkdir}
 use Rattle.vol_change.specs.Nodes.{no_node, node_at, size_with_entry}
 use Rattle.vol_change.specs.Ready.{TakesName}
 use Rattle.vol_change.specs.Shapes.{new_directory_shape}
-use Rattle.vol_volume.specs.Answer.{answer, query_refusal, reply_of, reply_at, refused_or, read_bytes, stat_of}
+use Rattle.vol_volume.specs.Answer.{answer, kind_of_content, query_refusal, reply_of, reply_at, refused_or, read_bytes, stat_of}
 use Rattle.vol_volume.specs.Journal.{MayAnswer}
 use Rattle.vol_volume.specs.Step.{step, changed_by, on_node, on_parent}
 use Rattle.vol_volume.specs.Verdict.{verdict, is_free_number, is_device, first_of, of_node, of_parent, create_tests, mkdir_tests, truncate_tests}
@@ -31,7 +31,8 @@ use Rattle.vol_volume.specs.declared.queries.Reply.{Reply}
 use Rattle.vol_volume.specs.declared.queries.Reply.TheVariants as replies
 use Rattle.vol_volume.proofs.Accepted.{create_passed, mkdir_passed}
 use Rattle.vol_import.proofs.TreeWalks.{Reaches, passes_first, reaches, parent_found}
-use Rattle.vol_import.proofs.MadeNames.{LeadsTo, MakesName, entered, searched_names, path_kept, leads_still, name_made, name_linked, leads_made}
+use Rattle.vol_import.specs.MadeMembers.{HasFile}
+use Rattle.vol_import.proofs.MadeNames.{LeadsTo, MakesName, Gains, entered, searched_names, path_kept, leads_still, name_made, name_linked, gains_made}
 
 -- a number that can be taken has no node
 free_none : (tree : Tree) (i : ℕ) → is_free_number tree i ≡ true → tree.nodes i ≡ None
@@ -58,35 +59,41 @@ pub record Holds (tree : Tree) (path bytes : List ℕ) : Type 0 where
   pub content : node.content ≡ Body bytes
   pub size : node.size ≡ length bytes
 
--- an accepted Create leaves an empty file at its path
-pub create_holds : (state : State) (now perm : ℕ) (path : List ℕ) (done : Done) → verdict state (Create user now path perm) ≡ None
-    → MayAnswer state (Create user now path perm) done → Holds (step state (Create user now path perm) done).tree path []
+-- an accepted Create makes an empty file at its path
+pub create_gains : (state : State) (now perm : ℕ) (path : List ℕ) (done : Done) → verdict state (Create user now path perm) ≡ None
+    → MayAnswer state (Create user now path perm) done
+    → Gains state.tree (step state (Create user now path perm) done).tree path (new_node state.tree.geometry.edition user now perm (Body []) 1 0)
 unfolding verdict changed_by
-create_holds state now perm path (Made i) accepted free =
+create_gains state now perm path (Made i) accepted free =
     let node = new_node state.tree.geometry.edition user now perm (Body []) 1 0 in
     let first = passes_first state.tree path (of_parent (walk_parent state.tree user path) refusals.Exists (create_tests state user)) accepted in
     let parent = parent_found (walk_parent state.tree user path) refusals.Exists (create_tests state user) first.others_pass in
     let may = create_passed state user path parent.0 parent.1 accepted parent.2 in
     let size = size_with_entry (put_shape i no_shape (put_node i (Some node) state)) parent.0 in
     let reached = reaches state.tree path parent.0 parent.1 parent.2 in
-    record {
-      node = node;
-      leads = subst (λ (p : Option (Result (ℕ × List ℕ) Refusal)). LeadsTo (at_time now (on_parent state p (after_create state user now perm i))).tree path node)
-          (sym parent.2)
-          (leads_made state.tree (at_time now (after_create state user now perm i parent.0 parent.1)).tree path parent.0 i parent.1 node refl reached
-          (makes_name state path now size parent.0 i parent.1 node reached may.0.takes free));
-      content = refl;
-      size = refl;
-    }
-create_holds state now perm path (Wrote n) accepted free = absurd free
-create_holds state now perm path Plain accepted free = absurd free
+    subst (λ (p : Option (Result (ℕ × List ℕ) Refusal)). Gains state.tree (at_time now (on_parent state p (after_create state user now perm i))).tree path node)
+    (sym parent.2)
+    (gains_made state.tree (at_time now (after_create state user now perm i parent.0 parent.1)).tree path parent.0 i parent.1 node refl reached
+    (makes_name state path now size parent.0 i parent.1 node reached may.0.takes free))
+create_gains state now perm path (Wrote n) accepted free = absurd free
+create_gains state now perm path Plain accepted free = absurd free
 
--- an accepted Mkdir leaves a new directory there
-pub mkdir_leads : (state : State) (now perm : ℕ) (path : List ℕ) (done : Done) → verdict state (Mkdir user now path perm) ≡ None
+pub create_holds : (state : State) (now perm : ℕ) (path : List ℕ) (done : Done) → verdict state (Create user now path perm) ≡ None
+    → MayAnswer state (Create user now path perm) done → Holds (step state (Create user now path perm) done).tree path []
+create_holds state now perm path done accepted free = record {
+  node = new_node state.tree.geometry.edition user now perm (Body []) 1 0;
+  leads = (create_gains state now perm path done accepted free).leads;
+  content = refl;
+  size = refl;
+}
+
+-- an accepted Mkdir makes a directory there
+pub mkdir_gains : (state : State) (now perm : ℕ) (path : List ℕ) (done : Done) → verdict state (Mkdir user now path perm) ≡ None
     → MayAnswer state (Mkdir user now path perm) done
-    → (node : Node) × LeadsTo (step state (Mkdir user now path perm) done).tree path node × (is_directory node ≡ true)
+    → (names : Names) × Gains state.tree (step state (Mkdir user now path perm) done).tree path
+    (new_node state.tree.geometry.edition user now perm (Directory names) 2 32)
 unfolding verdict changed_by
-mkdir_leads state now perm path (Made i) accepted free =
+mkdir_gains state now perm path (Made i) accepted free =
     let first = passes_first state.tree path (of_parent (walk_parent state.tree user path) refusals.Exists (mkdir_tests state user)) accepted in
     let parent = parent_found (walk_parent state.tree user path) refusals.Exists (mkdir_tests state user) first.others_pass in
     let may = mkdir_passed state user path parent.0 parent.1 accepted parent.2 in
@@ -94,25 +101,25 @@ mkdir_leads state now perm path (Made i) accepted free =
     let put = set_at state.tree.nodes i (Some node) in
     let size = size_with_entry (put_shape i (new_directory_shape state.tree.geometry.edition) (put_node i (Some node) state)) parent.0 in
     let reached = reaches state.tree path parent.0 parent.1 parent.2 in (
-      node,
-      subst (λ (p : Option (Result (ℕ × List ℕ) Refusal)). LeadsTo (at_time now (on_parent state p (after_mkdir state user now perm i))).tree path node) (sym parent.2)
-          (leads_made state.tree (at_time now (after_mkdir state user now perm i parent.0 parent.1)).tree path parent.0 i parent.1 node refl reached
+      insert (insert [] dot i) dot_dot parent.0,
+      subst (λ (p : Option (Result (ℕ × List ℕ) Refusal)). Gains state.tree (at_time now (on_parent state p (after_mkdir state user now perm i))).tree path node)
+          (sym parent.2)
+          (gains_made state.tree (at_time now (after_mkdir state user now perm i parent.0 parent.1)).tree path parent.0 i parent.1 node refl reached
           (name_linked state.tree.nodes (set_at put parent.0 (entered now size parent.1 i (put parent.0))) now parent.0 i parent.1 node
           (makes_name state path now size parent.0 i parent.1 node reached may.0.takes free))),
-      refl,
     )
-mkdir_leads state now perm path (Wrote n) accepted free = absurd free
-mkdir_leads state now perm path Plain accepted free = absurd free
+mkdir_gains state now perm path (Wrote n) accepted free = absurd free
+mkdir_gains state now perm path Plain accepted free = absurd free
 
 -- where nothing speaks against a node, there is one
-node_found : (walked : Result ℕ Refusal) (others : ℕ → Option Refusal) → of_node walked others ≡ None → (i : ℕ) × (walked ≡ Ok i) × (others i ≡ None)
+pub node_found : (walked : Result ℕ Refusal) (others : ℕ → Option Refusal) → of_node walked others ≡ None → (i : ℕ) × (walked ≡ Ok i) × (others i ≡ None)
 node_found (Ok i) others e = (i, refl, e)
 node_found (Err refusal) others e = absurd (cc)
 
--- nor against its being a directory, it is none
-not_first : (test : Bool) (refusal : Refusal) (others : Option Refusal) → cond test (Some refusal) others ≡ None → test ≡ false
+-- a test that was passed, and those after it
+pub not_first : (test : Bool) (refusal : Refusal) (others : Option Refusal) → cond test (Some refusal) others ≡ None → (test ≡ false) × (others ≡ None)
 not_first true refusal others e = absurd (cc)
-not_first false refusal others e = refl
+not_first false refusal others e = (refl, e)
 
 -- a node without bytes, if there is one
 abbrev emptied : ℕ → Option Node → Option Node
@@ -136,7 +143,7 @@ unfolding verdict changed_by
 truncate_holds state now path done accepted there =
     let first = passes_first state.tree path (of_node (walk state.tree user path) (λ i. first_of (truncate_tests state.tree user 0 i))) accepted in
     let led = node_found (walk state.tree user path) (λ i. first_of (truncate_tests state.tree user 0 i)) first.others_pass in
-    let plain = not_first (is_directory (node_at state.tree led.0)) refusals.IsDirectory _ led.2 in
+    let plain = (not_first (is_directory (node_at state.tree led.0)) refusals.IsDirectory _ led.2).0 in
     let new = (at_time now (after_truncate state now 0 led.0)).tree in
     subst (λ (t : Tree). ((i : ℕ) → walk t user path ≡ Ok i → t.nodes i ≢ None) → Holds t path [])
     (sym (ap (λ (r : Result ℕ Refusal). (at_time now (on_node state r (after_truncate state now 0))).tree) led.1))
@@ -144,7 +151,7 @@ truncate_holds state now path done accepted there =
     (leads_still state.tree new path led.0 (emptied now (state.tree.nodes led.0)) refl refl plain led.1) (some led.0)) there
 
 -- bytes that are put into no bytes are all
-spliced_all : (bytes : List ℕ) → spliced [] 0 bytes ≡ bytes
+pub spliced_all : (bytes : List ℕ) → spliced [] 0 bytes ≡ bytes
 spliced_all bytes = ap (λ rest. bytes ++ rest) (drop_all (0 + length bytes) [] (omega arith)) ∙ append-nil bytes
 
 -- bytes that are written from the first byte on are all that an empty file has then
@@ -231,3 +238,13 @@ read_answered tree path bytes offset len plain held =
     (ap (λ (n : Option Node). read_tests (unwrap_or n no_node)) held.leads.stands ∙ ap held_tests held.content)
     ∙ (ap (λ (n : Option Node). Ok (replies.Bytes (read_bytes (body_of (unwrap_or n no_node).content) offset len))) held.leads.stands
     ∙ ap (λ (c : Content). Ok (replies.Bytes (read_bytes (body_of c) offset len))) held.content)
+
+-- so it is one that holds them
+abbrev pub holds_file : (tree : Tree) (path bytes : List ℕ) → list_any has_zero (path ∷ []) ≡ false → Holds tree path bytes → HasFile tree path bytes
+holds_file tree path bytes plain held = record {
+  stat = stat_of held.leads.number held.node;
+  found = stat_answered tree path held.node plain held.leads;
+  kind = ap kind_of_content held.content;
+  size = held.size;
+  read = λ offset len. read_answered tree path bytes offset len plain held;
+}

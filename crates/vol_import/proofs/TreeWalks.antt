@@ -31,19 +31,23 @@ abbrev pub named : Option Names → Result Names Refusal
 named held = option_map_or (λ (names : Names). Ok names) held (Err refusals.NotDirectory)
 
 -- where nothing speaks against a call, its first tests are passed
-pub record PassesFirst (tree : Tree) (path : List ℕ) (others : Option Refusal) : Type 0 where
+pub record PassesFirst (tree : Tree) (paths : List (List ℕ)) (others : Option Refusal) : Type 0 where
   pub good_id : is_bad_id tree.geometry.edition 0 0 ≡ false
-  pub no_zero : list_any has_zero (path ∷ []) ≡ false
+  pub no_zero : list_any has_zero paths ≡ false
   pub others_pass : others ≡ None
 
-pub passes_first : (tree : Tree) (path : List ℕ) (others : Option Refusal) → then_others tree user (path ∷ []) others ≡ None → PassesFirst tree path others
-passes_first tree path others is = by (is_bad_id tree.geometry.edition 0 0) (list_any has_zero (path ∷ [])) refl refl is
+pub passes_paths : (tree : Tree) (paths : List (List ℕ)) (others : Option Refusal) → then_others tree user paths others ≡ None → PassesFirst tree paths others
+passes_paths tree paths others is = by (is_bad_id tree.geometry.edition 0 0) (list_any has_zero paths) refl refl is
   where
-    by : (bad zero : Bool) → is_bad_id tree.geometry.edition 0 0 ≡ bad → list_any has_zero (path ∷ []) ≡ zero
-        → cond bad (Some refusals.BadId) (cond zero (Some refusals.Invalid) others) ≡ None → PassesFirst tree path others
+    by : (bad zero : Bool) → is_bad_id tree.geometry.edition 0 0 ≡ bad → list_any has_zero paths ≡ zero
+        → cond bad (Some refusals.BadId) (cond zero (Some refusals.Invalid) others) ≡ None → PassesFirst tree paths others
     by true zero b z e = cc
     by false true b z e = cc
     by false false b z e = record { good_id = b; no_zero = z; others_pass = e }
+
+pub passes_first : (tree : Tree) (path : List ℕ) (others : Option Refusal) → then_others tree user (path ∷ []) others ≡ None
+    → PassesFirst tree (path ∷ []) others
+passes_first tree path = passes_paths tree (path ∷ [])
 
 -- what comes before the last name, with a name before it
 abbrev longer : List ℕ → Option (List (List ℕ) × List ℕ) → List (List ℕ) × List ℕ
@@ -131,12 +135,11 @@ in_use_node : (geometry : Geometry) (image : List ℕ) (i : ℕ) → Rules3To7 g
 in_use_node geometry image i files used none =
     false≢true (sym (used_some geometry image i (used_first geometry image i used) files used) ∙ ap is_none none)
 
--- so every name of a tree leads to one
-pub names_lead : (geometry : Geometry) (image : List ℕ) → Rules3To7 geometry image → HasEntries geometry image
-    → (x : ℕ) (others : Names) (word : List ℕ) (y : ℕ) → search (tree geometry image) user x ≡ Ok others → get others word ≡ Some y
-    → (tree geometry image).nodes y ≢ None
-names_lead geometry image files entries x others word y is found =
-    elim (is_number geometry x) as (λ b. is_number geometry x ≡ b → (tree geometry image).nodes y ≢ None) [
+-- what is searched is the map of a directory
+pub searched_slots : (geometry : Geometry) (image : List ℕ) (x : ℕ) (others : Names) → search (tree geometry image) user x ≡ Ok others
+    → IsDirectory geometry image x × (names_of (slots geometry image x) ≡ others)
+searched_slots geometry image x others is =
+    elim (is_number geometry x) as (λ b. is_number geometry x ≡ b → IsDirectory geometry image x × (names_of (slots geometry image x) ≡ others)) [
       | true ↦ λ number.
           let low : 1 ≤ x = grind (arith, nat_tests) in
           let high : x ≤ geometry.last_inode = grind (arith, nat_tests) in
@@ -146,21 +149,30 @@ names_lead geometry image files entries x others word y is found =
           absurd (cc)
     ] refl
   where
-    other : kind_at geometry image x ≢ kinds.Directory → 1 ≤ x → x ≤ geometry.last_inode → (tree geometry image).nodes y ≢ None
+    other : kind_at geometry image x ≢ kinds.Directory → 1 ≤ x → x ≤ geometry.last_inode
+        → IsDirectory geometry image x × (names_of (slots geometry image x) ≡ others)
     other apart low high =
         let none : Err refusals.NotDirectory ≡ Ok others = sym (search-other geometry image user x low high apart) ∙ is in
         absurd (cc)
 
-    by_kind : 1 ≤ x → x ≤ geometry.last_inode → (kind : Kind) → kind_at geometry image x ≡ kind → (tree geometry image).nodes y ≢ None
+    by_kind : 1 ≤ x → x ≤ geometry.last_inode → (kind : Kind) → kind_at geometry image x ≡ kind
+        → IsDirectory geometry image x × (names_of (slots geometry image x) ≡ others)
     by_kind low high kinds.Directory e =
         let here : IsDirectory geometry image x = record { first = low; last = high; kind = e } in
         let same : Ok (names_of (slots geometry image x)) ≡ Ok others = sym (search-directory geometry image user x true here refl) ∙ is in
-        let held : names_of (slots geometry image x) ≡ others = cc in
-        in_use_node geometry image y files (found_in_use geometry image x word y entries here (ap (λ ns. get ns word) held ∙ found))
+        (here, cc)
     by_kind low high kinds.Free e = other (λ d. let f : kinds.Free ≡ kinds.Directory = sym e ∙ d in cc) low high
     by_kind low high kinds.Regular e = other (λ d. let f : kinds.Regular ≡ kinds.Directory = sym e ∙ d in cc) low high
     by_kind low high kinds.Special e = other (λ d. let f : kinds.Special ≡ kinds.Directory = sym e ∙ d in cc) low high
     by_kind low high kinds.Odd e = other (λ d. let f : kinds.Odd ≡ kinds.Directory = sym e ∙ d in cc) low high
+
+-- so every name of a tree leads to a node
+pub names_lead : (geometry : Geometry) (image : List ℕ) → Rules3To7 geometry image → HasEntries geometry image
+    → (x : ℕ) (others : Names) (word : List ℕ) (y : ℕ) → search (tree geometry image) user x ≡ Ok others → get others word ≡ Some y
+    → (tree geometry image).nodes y ≢ None
+names_lead geometry image files entries x others word y is found =
+    let here = searched_slots geometry image x others is in
+    in_use_node geometry image y files (found_in_use geometry image x word y entries here.0 (ap (λ ns. get ns word) here.1 ∙ found))
 
 -- and the root is one
 pub root_there : (geometry : Geometry) (image : List ℕ) → Rules3To7 geometry image → (tree geometry image).nodes (root (tree geometry image)) ≢ None

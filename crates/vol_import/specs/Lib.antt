@@ -7,6 +7,7 @@ pub use Rattle.vol_volume.specs.Volume
 pub mod Entries
 pub mod Faults
 pub mod Making
+pub mod MadeMembers
 pub mod Members
 pub mod Names
 pub mod Plan

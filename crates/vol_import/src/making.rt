@@ -2,7 +2,9 @@
 ghost use Rattle.std.specs.Prelude.{◌≡◌, ◌⊎◌, ◌+◌, IfOk, IfErr, OnOk, Ok, length, nat_le};
 ghost use Rattle.vol_judge.specs.Sound.{IsSound};
 ghost use Rattle.vol_volume.specs.Volume.{mounted, reads_as};
+ghost use Rattle.vol_import.specs.MadeMembers.{HasArchive};
 ghost use Rattle.vol_import.specs.Making.{AreMade, AreStopped, IsUnmounted, unread, unplanned, told, calls_to_make, IsStop, Tells, Imports, IsReason};
+ghost use Rattle.vol_import.specs.Members.{members};
 ghost use Rattle.vol_import.specs.Plan.{plan};
 
 use crate::checking::MemberFault;
@@ -58,6 +60,7 @@ pub fn import(
     now: u32,
 ) -> Result<Vec<u8>, ImportFault>
     ensures made { IfOk result (λ bytes. Imports edition image.items (calls_to_make (reads_as edition image.items).tree archive.now base.now now) bytes.items) }
+    ensures members { IfOk result (λ bytes. HasArchive (reads_as edition bytes.items).tree base.now now (members archive.now)) }
     ensures fault { IfErr result (IsReason edition image.items (calls_to_make (reads_as edition image.items).tree archive.now base.now now)) }
 {
     let mut volume = mount(alloc, edition, image)?;

@@ -1,5 +1,6 @@
 use Rattle.std.proofs.lemmas.Result.{err_from_is_err_and}
 use Rattle.vol_import.proofs.ImportFaults.{no_volume, no_calls, not_made, all_made}
+use Rattle.vol_import.proofs.MadeMembers.{archive_had}
 use Rattle.vol_import.proofs.making.import.Goals as goal
 
 pub returns-in_err-volume-clause-fault : goal.returns-in_err-volume-clause-fault
@@ -22,3 +23,6 @@ pub returns-clause-made : goal.returns-clause-made
 returns-clause-made c =
     all_made _ _ _ _ _ _ _ _ _ c.in_ok-volume.ensures.sound c.in_ok-volume.ensures.mounted c.in_ok-calls.ensures.ok c.in_ok-make.ensures.made
     c.unmount.ensures.consistent c.unmount.ensures.bytes
+
+pub returns-clause-members : goal.returns-clause-members
+returns-clause-members c = archive_had _ _ _ _ _ _ (returns-clause-made c)

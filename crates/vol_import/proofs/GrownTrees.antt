@@ -1,0 +1,177 @@
+-- What calls of an import leave: a tree that has grown, and a node of it that is changed.
+use Rattle.std.proofs.Common.{◌≡◌, ◌∙◌, sym, ap, subst, refl, ℕ, ◌+◌, max, true, false, List, [], ◌∷◌, length, Option, None, Some, Result, Ok, inl, inr}
+use Rattle.std.specs.List.{list_any}
+use Rattle.std.specs.Option.{option_map}
+use Rattle.std.proofs.lemmas.Bool.{cases_eq, true≢false}
+use Rattle.vol_file.specs.Changes.{spliced}
+use Rattle.vol_dir.specs.Access.{user}
+use Rattle.vol_dir.specs.Names.{get}
+use Rattle.vol_dir.specs.Tree.{Body, Node, Tree, State}
+use Rattle.vol_dir.specs.Walk.{root, has_zero, is_directory, walk, walk_parent}
+use Rattle.vol_dir.specs.declared.refusal.Refusal.{Refusal}
+use Rattle.vol_dir.specs.declared.refusal.Refusal.TheVariants as refusals
+use Rattle.vol_change.specs.Edits.{at_time, set_at, add_link, body_of, modified, with_owner, with_permission_bits, after_write}
+use Rattle.vol_change.specs.Effects.{after_chmod, after_chown, after_link}
+use Rattle.vol_change.specs.Nodes.{node_at, size_with_entry}
+use Rattle.vol_change.proofs.SideStates.{set_beside}
+use Rattle.vol_change.proofs.NodeEdits.{set_here}
+use Rattle.vol_volume.specs.Step.{step, changed_by, on_node, on_parent}
+use Rattle.vol_volume.specs.Verdict.{verdict, link_refusal, link_tests, of_node}
+use Rattle.vol_volume.specs.declared.calls.Call.TheVariants.{Chmod, Chown, Link, Write}
+use Rattle.vol_volume.specs.declared.calls.Done.{Done}
+use Rattle.vol_volume.proofs.Accepted.{link_passed}
+use Rattle.vol_import.proofs.MadeNames.{LeadsTo, HasNamesOf, Keeps, keeps_none, keeps_then, nodes_set, EntersName, Grows, Gains, linked, linked_keeps, searched_names, name_entered, grown_path, path_kept, path_made}
+use Rattle.vol_import.proofs.MadePaths.{node_found, not_first}
+use Rattle.vol_import.proofs.TreeWalks.{passes_paths, parent_found, reaches, searched}
+
+-- node i of a tree is changed
+pub record ChangesAt (old new : Tree) (i : ℕ) (change : Node → Node) : Type 0 where
+  pub rooted : root new ≡ root old
+  pub nodes : new.nodes ≡ set_at old.nodes i (option_map change (old.nodes i))
+
+-- bytes in place of none
+abbrev pub filled : ℕ → List ℕ → Node → Node
+filled now bytes node =
+    record (modified now node) { content = Body (spliced (body_of node.content) 0 bytes); size = max node.size (0 + length bytes) }
+
+-- a Write of some bytes to the front of a file
+pub write_changes : (state : State) (now : ℕ) (path bytes : List ℕ) (byte : ℕ) (done : Done) (i : ℕ) → walk state.tree user path ≡ Ok i
+    → ChangesAt state.tree (step state (Write user now path 0 (byte ∷ bytes)) done).tree i (filled now (byte ∷ bytes))
+unfolding changed_by
+write_changes state now path bytes byte done i walked =
+    subst (λ (r : Result ℕ Refusal). ChangesAt state.tree (at_time now (on_node state r (after_write state now 0 (byte ∷ bytes)))).tree i (filled now (byte ∷ bytes)))
+    (sym walked) (record { rooted = refl; nodes = refl })
+
+pub chown_changes : (state : State) (now : ℕ) (path : List ℕ) (uid gid : ℕ) (done : Done) (i : ℕ) → walk state.tree user path ≡ Ok i
+    → ChangesAt state.tree (step state (Chown user now path uid gid) done).tree i (with_owner now uid gid)
+unfolding changed_by
+chown_changes state now path uid gid done i walked =
+    subst (λ (r : Result ℕ Refusal). ChangesAt state.tree (at_time now (on_node state r (after_chown state now uid gid))).tree i (with_owner now uid gid))
+    (sym walked) (record { rooted = refl; nodes = refl })
+
+pub chmod_changes : (state : State) (now : ℕ) (path : List ℕ) (perm : ℕ) (done : Done) (i : ℕ) → walk state.tree user path ≡ Ok i
+    → ChangesAt state.tree (step state (Chmod user now path perm) done).tree i (with_permission_bits now perm)
+unfolding changed_by
+chmod_changes state now path perm done i walked =
+    subst (λ (r : Result ℕ Refusal). ChangesAt state.tree (at_time now (on_node state r (after_chmod state now perm))).tree i (with_permission_bits now perm))
+    (sym walked) (record { rooted = refl; nodes = refl })
+
+-- a path leads to the node that is changed
+leads_changed : (old new : Tree) (path : List ℕ) (node : Node) (change : Node → Node) (leads : LeadsTo old path node)
+    → ChangesAt old new leads.number change → HasNamesOf (Some node) (Some (change node)) → LeadsTo new path (change node)
+leads_changed old new path node change leads changes names =
+    let i = leads.number in
+    let after = option_map change (old.nodes i) in
+    let same : after ≡ Some (change node) = ap (option_map change) leads.stands in
+    record {
+      number = i;
+      walked = path_kept old new path i changes.rooted
+          (λ x. subst (λ (ns : ℕ → Option Node). HasNamesOf (old.nodes x) (ns x)) (sym changes.nodes)
+          (elim (cases_eq x i) [
+            | inl here ↦
+                subst (λ n. HasNamesOf n (set_at old.nodes i after x)) (sym (ap old.nodes here ∙ leads.stands))
+                (subst (HasNamesOf (Some node)) (sym (ap (set_at old.nodes i after) here ∙ (set_here old.nodes i after ∙ same))) names)
+            | inr other ↦ subst (HasNamesOf (old.nodes x)) (sym (set_beside old.nodes i after x other)) (λ name j is. is)
+          ])) leads.walked;
+      stands = ap (λ (ns : ℕ → Option Node). ns i) changes.nodes ∙ (set_here old.nodes i after ∙ same);
+    }
+
+-- a new node is changed
+pub gains_changed : (old mid new : Tree) (path : List ℕ) (node : Node) (change : Node → Node) (gains : Gains old mid path node)
+    → ChangesAt mid new gains.leads.number change → HasNamesOf (Some node) (Some (change node)) → Gains old new path (change node)
+unfolding leads_changed
+gains_changed old mid new path node change gains changes names =
+    let i = gains.leads.number in
+    let after = option_map change (mid.nodes i) in
+    record {
+      leads = leads_changed mid new path node change gains.leads changes names;
+      free = gains.free;
+      grows = record {
+        rooted = changes.rooted ∙ gains.grows.rooted;
+        kept = λ x. subst (λ (ns : ℕ → Option Node). Keeps (old.nodes x) (ns x)) (sym changes.nodes)
+            (elim (cases_eq x i) [
+              | inl here ↦ keeps_none (old.nodes x) (set_at mid.nodes i after x) (ap old.nodes here ∙ gains.free)
+              | inr other ↦ subst (Keeps (old.nodes x)) (sym (set_beside mid.nodes i after x other)) (gains.grows.kept x)
+            ]);
+      };
+    }
+
+-- a path leads to a directory
+abbrev pub LeadsToDirectory : Tree → List ℕ → Type 0
+LeadsToDirectory tree path = (node : Node) × LeadsTo tree path node × (is_directory node ≡ true)
+
+pub grown_directory : (old new : Tree) (path : List ℕ) → Grows old new → LeadsToDirectory old path → LeadsToDirectory new path
+grown_directory old new path grows led =
+    let i = led.1.number in
+    let stays = (grows.kept i).1 led.0 led.1.stands in
+    (stays.0, record { number = i; walked = grown_path old new path i grows led.1.walked; stands = stays.1 }, stays.2 ∙ led.2)
+
+-- a directory is changed, which keeps what it holds
+pub directory_changed : (old new : Tree) (path : List ℕ) (change : Node → Node) (led : LeadsToDirectory old path) → ChangesAt old new led.1.number change
+    → HasNamesOf (Some led.0) (Some (change led.0)) → is_directory (change led.0) ≡ is_directory led.0 → Grows old new
+directory_changed old new path change led changes names kind =
+    let i = led.1.number in
+    let keeps : Keeps (Some led.0) (Some (change led.0)) = (
+      names,
+      λ x is.
+          let same : led.0 ≡ x = cc in
+          (change led.0, refl, kind ∙ ap is_directory same, λ plain. absurd (true≢false (sym led.2 ∙ (ap is_directory same ∙ plain)))),
+    ) in
+    record {
+      rooted = changes.rooted;
+      kept = λ x. subst (λ (ns : ℕ → Option Node). Keeps (old.nodes x) (ns x)) (sym changes.nodes)
+          (nodes_set old.nodes i (option_map change (old.nodes i)) (subst (λ n. Keeps n (option_map change n)) (sym led.1.stands) keeps) x);
+    }
+
+-- two paths lead to one node
+abbrev pub LeadBoth : Tree → List ℕ → List ℕ → Type 0
+LeadBoth tree source target = (i : ℕ) × (walk tree user source ≡ Ok i) × (walk tree user target ≡ Ok i)
+
+pub grown_both : (old new : Tree) (source target : List ℕ) → Grows old new → LeadBoth old source target → LeadBoth new source target
+grown_both old new source target grows led = (led.0, grown_path old new source led.0 grows led.1, grown_path old new target led.0 grows led.2)
+
+-- an accepted Link
+pub link_grows : (state : State) (now : ℕ) (source target : List ℕ) (done : Done) → verdict state (Link user now source target) ≡ None
+    → Grows state.tree (step state (Link user now source target) done).tree × LeadBoth (step state (Link user now source target) done).tree source target
+    × (list_any has_zero (source ∷ target ∷ []) ≡ false)
+unfolding verdict changed_by
+link_grows state now source target done accepted =
+    let old = state.tree in
+    let first = passes_paths old (source ∷ target ∷ []) (of_node (walk old user source) (link_refusal state user target)) accepted in
+    let led = node_found (walk old user source) (link_refusal state user target) first.others_pass in
+    let i = led.0 in
+    let asked = not_first (is_directory (node_at old i)) refusals.IsDirectory _ led.2 in
+    let parent = parent_found (walk_parent old user target) refusals.Exists (link_tests state user i) asked.1 in
+    let d = parent.0 in
+    let name = parent.1 in
+    let may = link_passed state user source target i d name accepted led.1 parent.2 in
+    let reached = reaches old target d name parent.2 in
+    let mid = set_at old.nodes i (linked now (old.nodes i)) in
+    let size = size_with_entry (add_link now i state) d in
+    let links : (x : ℕ) → Keeps (old.nodes x) (mid x) = nodes_set old.nodes i (linked now (old.nodes i)) (linked_keeps now (old.nodes i)) in
+    let held : searched (old.nodes d) ≡ Ok reached.names = reached.searched in
+    let fresh : get reached.names name ≡ None = ap (λ names. get names name) (sym (searched_names (old.nodes d) reached.names held)) ∙ may.takes.fresh in
+    let there : searched (mid d) ≡ Ok reached.names = elim (cases_eq d i) [
+      | inl here ↦ ap searched (ap mid here ∙ set_here old.nodes i (linked now (old.nodes i))) ∙ (same_names (old.nodes i) ∙ (ap (λ j. searched (old.nodes j)) (sym here) ∙ held))
+      | inr other ↦ ap searched (set_beside old.nodes i (linked now (old.nodes i)) d other) ∙ held
+    ] in
+    let new = (at_time now (after_link state now i d name)).tree in
+    let enters = name_entered mid now size d i name reached.names there fresh in
+    let whole : EntersName old.nodes new.nodes d name i =
+    record { kept = λ x. keeps_then (old.nodes x) (mid x) (new.nodes x) (links x) (enters.kept x); named = enters.named } in
+    let grows : Grows old new = record { rooted = refl; kept = whole.kept } in
+    let both : LeadBoth new source target =
+    (i, grown_path old new source i grows led.1, path_made old new target d i name refl reached whole) in
+    let made : Grows old (at_time now (on_parent state (walk_parent old user target) (after_link state now i))).tree
+    × LeadBoth (at_time now (on_parent state (walk_parent old user target) (after_link state now i))).tree source target =
+    subst (λ (p : Option (Result (ℕ × List ℕ) Refusal)). Grows old (at_time now (on_parent state p (after_link state now i))).tree
+    × LeadBoth (at_time now (on_parent state p (after_link state now i))).tree source target) (sym parent.2) (grows, both) in
+    let all = subst (λ (r : Result ℕ Refusal).
+    Grows old (at_time now (on_node state r (λ j. on_parent state (walk_parent old user target) (after_link state now j)))).tree
+    × LeadBoth (at_time now (on_node state r (λ j. on_parent state (walk_parent old user target) (after_link state now j)))).tree source target)
+    (sym led.1) made in
+    (all.0, all.1, first.no_zero)
+  where
+    same_names : (node : Option Node) → searched (linked now node) ≡ searched node
+    same_names None = refl
+    same_names (Some node) = refl

@@ -7,7 +7,7 @@ use Rattle.std.proofs.lemmas.Bool.{cases_eq}
 use Rattle.vol_file.proofs.PlaceLists.{bytes_same}
 use Rattle.vol_dir.specs.Names.{Names, get, remove}
 use Rattle.vol_dir.specs.Tree.{Content, Body, Directory, Device, Node, Tree, State}
-use Rattle.vol_dir.specs.Walk.{map_of, search}
+use Rattle.vol_dir.specs.Walk.{root, map_of, search}
 use Rattle.vol_dir.proofs.NameMaps.{get_remove}
 use Rattle.vol_dir.specs.Access.{user}
 use Rattle.vol_change.specs.Edits.{set_at, change_names, modified, stamped, at_time, remove_entry, drop_link, release, remove_node}
@@ -36,7 +36,7 @@ stays_removed nodes i x is = elim (cases_eq x i) [
 ]
 
 -- a node with one link less
-abbrev unlinked : ℕ → Option Node → Option Node
+abbrev pub unlinked : ℕ → Option Node → Option Node
 unlinked now node = option_map (λ (node : Node). record (stamped now node) { links = node.links - 1 }) node
 
 unlinked_alike : (now : ℕ) (node : Option Node) → searched (unlinked now node) ≡ searched node
@@ -58,6 +58,14 @@ stays_released state now i =
     elim (nat_le (node_at state.tree i).links 1) as (λ b. Stays state.tree.nodes (cond b (remove_node i state) (drop_link now i state)).tree.nodes) [
       | true ↦ stays_removed state.tree.nodes i
       | false ↦ stays_unlinked state.tree.nodes now i
+    ]
+
+-- the root stays
+pub root_stays : (state : State) (now i : ℕ) → root (release now i state).tree ≡ root state.tree
+root_stays state now i =
+    elim (nat_le (node_at state.tree i).links 1) as (λ b. root (cond b (remove_node i state) (drop_link now i state)).tree ≡ root state.tree) [
+      | true ↦ refl
+      | false ↦ refl
     ]
 
 -- a directory with one name less
@@ -89,7 +97,7 @@ lost_name : (names : Names) (name : List ℕ) → get (remove names name) name �
 lost_name names name = get_remove names name name ∙ ap (λ b. cond b None (get names name)) (bytes_same name name refl)
 
 -- what else is found was there
-kept_name : (names : Names) (name word : List ℕ) (y : ℕ) → get (remove names name) word ≡ Some y → get names word ≡ Some y
+pub kept_name : (names : Names) (name word : List ℕ) (y : ℕ) → get (remove names name) word ≡ Some y → get names word ≡ Some y
 kept_name names name word y is =
     elim (bytes_eq name word) as (λ b. cond b None (get names word) ≡ Some y → get names word ≡ Some y) [
       | true ↦ λ e. cc

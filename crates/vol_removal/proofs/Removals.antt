@@ -1,15 +1,19 @@
 -- What a removal comes to, and why there is none.
-use Rattle.std.proofs.Common.{◌≡◌, ◌∙◌, sym, ap, subst, ℕ, List, [], ◌∷◌, ◌++◌, Err}
+use Rattle.std.proofs.Common.{◌≡◌, ◌∙◌, sym, ap, subst, refl, ℕ, List, [], ◌∷◌, ◌++◌, Err}
 use Rattle.vol_layout.specs.Geometry.{geometry_of}
 use Rattle.vol_judge.specs.Sound.{IsSound}
 use Rattle.vol_dir.specs.Tree.{Tree, tree}
+use Rattle.vol_change.specs.Ready.{Rules1To12}
 use Rattle.vol_volume.specs.Answer.{answer}
 use Rattle.vol_volume.specs.Faults.{IsFaultOf}
 use Rattle.vol_volume.specs.Volume.{Mounted, IsConsistent, Accepts, mounted, reads_as}
 use Rattle.vol_import.specs.Making.{AreMade}
 use Rattle.vol_import.proofs.MadeCalls.{imported}
+use Rattle.vol_removal.specs.Freeing.{FreesNumbers}
 use Rattle.vol_removal.specs.Removal.{IsRemoval, IsNotFound, names_of, call_of}
 use Rattle.vol_removal.specs.Removing.{Removes, IsReason, IsUnmounted, IsStop, unmounted}
+use Rattle.vol_removal.proofs.FreedBlocks.{blocks_free}
+use Rattle.vol_removal.proofs.FreedNumbers.{takes_taking, numbers_freed}
 use Rattle.vol_removal.proofs.GoneCalls.{call_gone}
 use Rattle.vol_removal.proofs.TakenPaths.{takes_last}
 use Rattle.vol_dir.specs.declared.refusal.Refusal.TheVariants as refusals
@@ -44,39 +48,47 @@ ends_with old new [] call made = record {
 }
 ends_with old new (first ∷ inner) call made = ends_with made.0 new inner call made.3
 
+-- the sizes of its image
+ended_sizes : (new : Mounted) (call : Call) (ends : EndsWith new call) → geometry_of ends.mid.edition ends.mid.image ≡ geometry_of new.edition new.image
+ended_sizes new call ends =
+    ends.accepts.performed.changes.ready.sizes ∙ ap (λ e. geometry_of e new.image) (sym ends.accepts.edition)
+
 -- after it the path leads to nothing
-ended_gone : (edition : Edition) (new : Mounted) (path bytes : List ℕ) (now : ℕ) (tree : Tree) → new.edition ≡ edition → bytes ≡ new.image
-    → EndsWith new (call_of now path (names_of tree path)) → answer (reads_as edition bytes).tree (queries.Stat user path) ≡ Err refusals.NoEntry
-ended_gone edition new path bytes now before kept left ends =
-    let g = geometry_of ends.mid.edition ends.mid.image in
-    let same : geometry_of edition bytes ≡ g =
-    ap (geometry_of edition) left ∙ (ap (λ e. geometry_of e new.image) (sym kept ∙ ends.accepts.edition) ∙ sym ends.accepts.performed.changes.ready.sizes) in
-    ap (λ b. answer (tree (geometry_of edition bytes) b) (queries.Stat user path)) left
-    ∙ (ap (λ g. answer (tree g new.image) (queries.Stat user path)) same
-    ∙ call_gone ends.mid new path now (names_of before path) ends.done ends.accepts)
+ended_gone : (new : Mounted) (path : List ℕ) (now : ℕ) (tree_before : Tree) → EndsWith new (call_of now path (names_of tree_before path))
+    → answer (reads_as new.edition new.image).tree (queries.Stat user path) ≡ Err refusals.NoEntry
+ended_gone new path now before ends =
+    ap (λ g. answer (tree g new.image) (queries.Stat user path)) (sym (ended_sizes new (call_of now path (names_of before path)) ends))
+    ∙ call_gone ends.mid new path now (names_of before path) ends.done ends.accepts
 
 -- all calls are made
-removes_from : (edition : Edition) (image path bytes : List ℕ) (now : ℕ) (new : Mounted) (calls : List Call) → IsSound edition image
-    → IsRemoval (reads_as edition image).tree path now calls → AreMade (mounted edition image) calls new → IsConsistent new → bytes ≡ new.image
-    → Removes edition image path now bytes
-removes_from edition image path bytes now new calls sound removal made consistent left =
+removes_from : (edition : Edition) (image path : List ℕ) (now : ℕ) (new : Mounted) (calls : List Call) → IsSound edition image
+    → IsRemoval (reads_as edition image).tree path now calls → AreMade (mounted edition image) calls new → IsConsistent new
+    → Removes edition image path now new.image
+removes_from edition image path now new calls sound removal made consistent =
     let before = (reads_as edition image).tree in
+    let old = mounted edition image in
     let last = takes_last before now path calls removal.takes in
-    let ends = ends_with (mounted edition image) new last.0 (call_of now path (names_of before path))
-    (subst (λ cs. AreMade (mounted edition image) cs new) last.1 made) in
+    let ends = ends_with old new last.0 (call_of now path (names_of before path)) (subst (λ cs. AreMade old cs new) last.1 made) in
+    let taking = takes_taking before now (path ∷ []) calls removal.takes in
+    let same = edition_kept old new calls made in
+    let ready = subst (λ g. Rules1To12 g new.image) (ended_sizes new (call_of now path (names_of before path)) ends) ends.accepts.performed.changes.ready in
     record {
       calls = calls;
       removal = removal;
-      made = imported edition image bytes calls new sound made consistent left;
-      gone = ended_gone edition new path bytes now before (edition_kept (mounted edition image) new calls made) left ends;
+      made = imported edition image new.image calls new sound made consistent refl;
+      gone = subst (λ e. answer (reads_as e new.image).tree (queries.Stat user path) ≡ Err refusals.NoEntry) same (ended_gone new path now before ends);
+      numbers = subst (λ e. FreesNumbers before calls (reads_as e new.image).tree) same (numbers_freed old new calls taking made ready same);
+      blocks = blocks_free old new calls sound taking made;
     }
 
 pub all_removed : (edition : Edition) (image path bytes : List ℕ) (now : ℕ) (old new : Mounted) (calls : List Call) → IsSound edition image
     → old ≡ mounted edition image → IsRemoval (reads_as old.edition old.image).tree path now calls → AreMade old calls new → IsConsistent new → bytes ≡ new.image
     → Removes edition image path now bytes
 all_removed edition image path bytes now old new calls sound is removal made consistent left =
-    removes_from edition image path bytes now new calls sound
-    (subst (λ (v : Mounted). IsRemoval (reads_as v.edition v.image).tree path now calls) is removal) (subst (λ (v : Mounted). AreMade v calls new) is made) consistent left
+    subst (Removes edition image path now) (sym left)
+    (removes_from edition image path now new calls sound
+    (subst (λ (v : Mounted). IsRemoval (reads_as v.edition v.image).tree path now calls) is removal)
+    (subst (λ (v : Mounted). AreMade v calls new) is made) consistent)
 
 -- what isn't mounted is told
 unmounted_reason : (edition : Edition) (image path : List ℕ) (now : ℕ) (why : MountFault) → IsFaultOf edition image why → IsReason edition image path now (unmounted why)

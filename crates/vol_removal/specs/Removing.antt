@@ -1,5 +1,6 @@
 -- Taking away what a path leads to, all or nothing.
 use Rattle.std.specs.Prelude.{◌≡◌, ℕ, List, true, Err}
+use Rattle.vol_layout.specs.Geometry.{geometry_of}
 use Rattle.vol_judge.specs.Sound.{IsSound, IsLeastBroken}
 use Rattle.vol_volume.specs.Answer.{answer}
 use Rattle.vol_volume.specs.Faults.{IsFaultOf}
@@ -11,18 +12,21 @@ use Rattle.vol_layout.specs.declared.edition.Edition.{Edition}
 use Rattle.vol_dir.specs.Access.{user}
 use Rattle.vol_volume.specs.declared.calls.Call.{Call}
 use Rattle.vol_volume.specs.declared.queries.Query.TheVariants as queries
+use Rattle.vol_removal.specs.Freeing.{FreesNumbers, FreesBlocks}
 use Rattle.vol_removal.specs.Removal.{IsRemoval}
 use Rattle.vol_volume.specs.declared.volume.MountFault.{MountFault}
 use Rattle.vol_volume.specs.declared.volume.MountFault.TheVariants as mounts
 use Rattle.vol_removal.specs.declared.faults.RemovalFault.{RemovalFault}
 use Rattle.vol_removal.specs.declared.faults.RemovalFault.TheVariants as faults
 
--- the bytes are what the calls that take away what a path leads to, with all that is below it, make of a sound image, all of them; the path leads to nothing then (rm)
+-- the bytes are what the calls that take away what a path leads to, with all that is below it, make of a sound image, all of them; the path leads to nothing then, and what lost its last name is free, with its blocks (rm)
 pub record Removes (edition : Edition) (image : List ℕ) (path : List ℕ) (now : ℕ) (bytes : List ℕ) : Type 0 where
   pub calls : List Call
   pub removal : IsRemoval (reads_as edition image).tree path now calls
   pub made : ImportsCalls edition image calls bytes
   pub gone : answer (reads_as edition bytes).tree (queries.Stat user path) ≡ Err NoEntry
+  pub numbers : FreesNumbers (reads_as edition image).tree calls (reads_as edition bytes).tree
+  pub blocks : FreesBlocks (geometry_of edition image) image bytes
 
 -- one of the calls that take away what a path leads to is refused so, after those before it were accepted (this project)
 pub record IsRefused (edition : Edition) (image : List ℕ) (path : List ℕ) (now : ℕ) (refusal : Refusal) (call : Call) : Type 0 where

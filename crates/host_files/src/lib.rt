@@ -4,7 +4,9 @@
 mod image_file;
 mod noted;
 mod saving_file;
+mod volume_front;
 
 pub use image_file::{ImageFiles, Kind, OpenFault, Stamp, expect_image, open_image, open_stamped};
 pub use noted::{Noted, noted_reader, noted_writer};
 pub use saving_file::{Content, is_pipe, save_file};
+pub use volume_front::{FrontFault, UpTo, read_up_to};

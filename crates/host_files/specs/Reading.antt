@@ -1,0 +1,63 @@
+-- How far the image in a file is read.
+use Rattle.std.specs.Prelude.{◌≡◌, ◌⊎◌, ℕ, ◌*◌, ◌<◌, ◌≤◌, ◌++◌, max, Bool, true, false, List, Option, length, take}
+use Rattle.std.specs.Io.KnownBytes.{Consumes, IsAtEnd}
+use Rattle.vol_layout.specs.Edition.{constants}
+use Rattle.vol_layout.specs.Geometry.{block_count, is_whole}
+use Rattle.vol_layout.specs.declared.edition.Edition.{Edition}
+use Rattle.pdp_words.specs.Devices.{IsReadWhole}
+use Rattle.host_files.specs.declared.image_file.Kind.{Kind}
+use Rattle.host_files.specs.declared.image_file.Kind.TheVariants as kinds
+use Rattle.host_files.specs.declared.volume_front.UpTo.{UpTo}
+use Rattle.host_files.specs.declared.volume_front.UpTo.TheVariants.{End, Volume}
+
+-- the known bytes lost `read` at their front: all that there were, or as many as its super-block says that the volume has, and no more than that (this project)
+pub record IsReadFar (edition : Edition) (old new : Option (List ℕ)) (read : List ℕ) : Type 0 where
+  pub front : Consumes old new read
+  pub whole : (is_whole edition read ≡ true) ⊎ IsAtEnd new
+  pub bound : length read ≤ max 1024 (512 * block_count edition read)
+
+-- the image is what was read; or its first 1024 bytes, only if the super-block says more blocks than any volume has, and rule 1 holds of neither (this project)
+abbrev pub IsImageOf : Edition → List ℕ → List ℕ → Type 0
+IsImageOf edition read image =
+    (image ≡ read)
+    ⊎ ((image ≡ take 1024 read) × ((constants edition).block_limit < block_count edition read)
+    × (is_whole edition read ≡ false)
+    × (is_whole edition image ≡ false))
+
+-- the image of what was read (this project)
+abbrev pub IsVolumeRead : Edition → Option (List ℕ) → Option (List ℕ) → List ℕ → Type 0
+IsVolumeRead edition old new image = (read : List ℕ) × IsReadFar edition old new read × IsImageOf edition read image
+
+-- a file was read so far, and gave these bytes (this project)
+abbrev pub IsReadUpTo : UpTo → Option (List ℕ) → Option (List ℕ) → List ℕ → Type 0
+IsReadUpTo End old new bytes = IsReadWhole old new bytes
+IsReadUpTo (Volume edition) old new bytes = IsVolumeRead edition old new bytes
+
+-- how far the file of an image is read that is to be changed: a regular file to its end, as its last bytes are kept behind the volume (this project)
+abbrev pub up_to_kept : Edition → Kind → UpTo
+up_to_kept edition kinds.Regular = End
+up_to_kept edition _ = Volume edition
+
+-- the known bytes lost more at their front than any volume has, and their super-block says more blocks than that (this project)
+abbrev pub IsEndless : Edition → Option (List ℕ) → Option (List ℕ) → Type 0
+IsEndless edition old new =
+    (read : List ℕ) × Consumes old new read × ((constants edition).block_limit < block_count edition read)
+    × (512 * (constants edition).block_limit < length read)
+
+-- a file that was read so far is past what it can have (this project)
+abbrev pub IsPast : UpTo → Option (List ℕ) → Option (List ℕ) → Type 0
+IsPast End old new = ⊥
+IsPast (Volume edition) old new = IsEndless edition old new
+
+-- the known bytes lost some at their front, which followed others, up to so many of both, or to their end (this project)
+pub record IsReadOn (old new : Option (List ℕ)) (before after : List ℕ) (most : ℕ) : Type 0 where
+  pub more : List ℕ
+  pub front : Consumes old new more
+  pub all : after ≡ before ++ more
+  pub bound : length after ≤ max most (length before)
+  pub end : length after < most → IsAtEnd new
+
+-- the known bytes lost at their front so many; or fewer, and all, where that came to their end (this project)
+abbrev pub IsSkipped : ℕ → Option (List ℕ) → Option (List ℕ) → Bool → Type 0
+IsSkipped most old new ended =
+    (lost : List ℕ) × Consumes old new lost × (ended ≡ true → IsAtEnd new × (length lost < most)) × (ended ≡ false → length lost ≡ most)

@@ -1,0 +1,155 @@
+//! The image in a file, which is read no further than its volume.
+ghost use Rattle.std.specs.Prelude.{◌≡◌, false, true, IfOk, OnErr, OnOk, IsErrOf};
+ghost use Rattle.pdp_words.specs.Devices.{LosesFront};
+ghost use Rattle.host_files.specs.Reading.{IsEndless, IsPast, IsReadOn, IsReadUpTo, IsSkipped, IsVolumeRead, up_to_kept};
+
+use crate::image_file::Kind;
+use pdp_words::{BLOCK, Image, LoadFault, Source, load};
+use std::alloc::Global;
+use std::io;
+use vol_layout::{Edition, Super};
+
+/// The end up to which a file is read.
+#[derive(Clone, Copy)]
+pub enum UpTo {
+    /// To its end.
+    End,
+    /// Up to the last block of the volume in it.
+    Volume(Edition),
+}
+
+impl UpTo {
+    /// The end up to which the file of an image that is to be changed is read: a regular file is read whole, since the bytes after its volume are kept.
+    pub fn kept(edition: Edition, kind: Kind) -> UpTo
+        ensures { result ≡ up_to_kept edition kind }
+    {
+        match kind {
+            Kind::Regular => UpTo::End,
+            Kind::Device | Kind::Directory | Kind::Stream => UpTo::Volume(edition),
+        }
+    }
+}
+
+/// Why a file was not read.
+#[derive(Clone, Copy)]
+pub enum FrontFault {
+    /// The source failed.
+    Device,
+    /// An allocation was refused.
+    NoMemory,
+    /// Its super-block says more blocks than any volume has, and it goes on past them.
+    Endless,
+}
+
+/// Bytes that one read asks for.
+const PIECE: usize = 64 * 1024;
+
+/// Where the super-block ends.
+const HEAD: usize = 1024;
+
+/// Reads a source up to `up_to`. Whatever is returned, the source has lost the bytes that were read.
+pub fn read_up_to<S: Source>(
+    alloc: Global,
+    up_to: UpTo,
+    source: &mut S,
+) -> Result<Image, FrontFault>
+    requires { S.failed source.old ≡ false }
+    ensures ok { IfOk result (IsReadUpTo up_to (S.remaining source.old) (S.remaining source.new)) }
+    ensures front { OnErr result (LosesFront (S.remaining source.old) (S.remaining source.new)) }
+    ensures device { IsErrOf result FrontFault.Device → S.failed source.new ≡ true }
+    ensures memory { IsErrOf result FrontFault.NoMemory → S.failed source.new ≡ false }
+    ensures endless { IsErrOf result FrontFault.Endless → IsPast up_to (S.remaining source.old) (S.remaining source.new) }
+{
+    match up_to {
+        UpTo::Volume(edition) => read_volume(alloc, edition, source),
+        UpTo::End => load(alloc, source).map_err(|fault| match fault {
+            LoadFault::Device => FrontFault::Device,
+            LoadFault::NoMemory => FrontFault::NoMemory,
+        }),
+    }
+}
+
+/// Reads the image of a volume up to the last block that its super-block says, or to the source's end. Where it says more blocks than
+/// any volume of the edition has, what follows the super-block is read and dropped: if it ends before it has one block more than the
+/// greatest volume, rule 1 doesn't hold of it, and else it is a fault.
+///
+/// Takes memory as `pdp_words::load` does, for what is kept.
+fn read_volume<S: Source>(
+    alloc: Global,
+    edition: Edition,
+    source: &mut S,
+) -> Result<Image, FrontFault>
+    requires { S.failed source.old ≡ false }
+    ensures ok { IfOk result (IsVolumeRead edition (S.remaining source.old) (S.remaining source.new)) }
+    ensures front { OnErr result (LosesFront (S.remaining source.old) (S.remaining source.new)) }
+    ensures device { IsErrOf result FrontFault.Device → S.failed source.new ≡ true }
+    ensures memory { IsErrOf result FrontFault.NoMemory → S.failed source.new ≡ false }
+    ensures endless { IsErrOf result FrontFault.Endless → IsEndless edition (S.remaining source.old) (S.remaining source.new) }
+{
+    let head = read_on(Vec::new(alloc), HEAD, source)?;
+    if head.len() < HEAD {
+        return Ok(Image::from_bytes(head));
+    }
+    let head = Image::from_bytes(head);
+    let blocks = Super { edition }.block_count(&head);
+    let greatest = edition.constants().block_limit;
+    if blocks <= greatest {
+        let bytes = read_on(head.into_bytes(), BLOCK * blocks as usize, source)?;
+        return Ok(Image::from_bytes(bytes));
+    }
+    match skip(source, BLOCK * (greatest as usize - 1)) {
+        Ok(true) => Ok(head),
+        Ok(false) => Err(FrontFault::Endless),
+        Err(_) => Err(FrontFault::Device),
+    }
+}
+
+/// Reads on behind `bytes`, until these are `most` or the source is at its end.
+fn read_on<S: Source>(
+    mut bytes: Vec<u8>,
+    most: usize,
+    source: &mut S,
+) -> Result<Vec<u8>, FrontFault>
+    requires { S.failed source.old ≡ false }
+    ensures ok { IfOk result (λ all. IsReadOn (S.remaining source.old) (S.remaining source.new) bytes.items all.items most) }
+    ensures working { OnOk result (S.failed source.new ≡ false) }
+    ensures front { OnErr result (LosesFront (S.remaining source.old) (S.remaining source.new)) }
+    ensures device { IsErrOf result FrontFault.Device → S.failed source.new ≡ true }
+    ensures memory { IsErrOf result FrontFault.NoMemory → S.failed source.new ≡ false }
+    ensures endless { IsErrOf result FrontFault.Endless → ⊥ }
+{
+    let mut piece = [0; PIECE];
+    'pieces: while bytes.len() < most {
+        let room = PIECE.min(most - bytes.len());
+        let Ok(count) = source.read(&mut piece[..room]) else {
+            return Err(FrontFault::Device);
+        };
+        if count == 0 {
+            return Ok(bytes);
+        }
+        if bytes.extend_from_slice(&piece[..count]).is_err() {
+            return Err(FrontFault::NoMemory);
+        }
+    }
+    Ok(bytes)
+}
+
+/// Reads up to `most` bytes and drops them. True if the source is at its end then.
+fn skip<S: Source>(source: &mut S, most: usize) -> io::Result<bool>
+    ensures ok { IfOk result (IsSkipped most (S.remaining source.old) (S.remaining source.new)) }
+    ensures front { OnErr result (LosesFront (S.remaining source.old) (S.remaining source.new)) }
+    ensures working { OnOk result (S.failed source.new ≡ S.failed source.old) }
+    ensures device { OnErr result (S.failed source.new ≡ true) }
+{
+    let mut piece = [0; PIECE];
+    let mut left = most;
+    'pieces: while left > 0 {
+        let room = PIECE.min(left);
+        let count = source.read(&mut piece[..room])?;
+        if count == 0 {
+            return Ok(true);
+        }
+        left -= count;
+    }
+    Ok(false)
+}

@@ -143,6 +143,7 @@ module _ (g : Geometry) (image : List ℕ) (d : ℕ) where
         ∙ ap (λ n. over from a + n) (below_same (λ t. weight d (from + (a + t)) (entry_at g image d (from + (a + t))))
         (λ t. weight d (from + a + t) (entry_at g image d (from + a + t))) b
         (λ t lt. ap (λ s. weight d s (entry_at g image d s)) (omega arith)))
+
     -- the slots of some blocks, and of those behind them
     pub over_two : (from mid end : ℕ) → from ≤ mid → mid ≤ end
         → over (32 * from) (32 * (end - from)) ≡ over (32 * from) (32 * (mid - from)) + over (32 * mid) (32 * (end - mid))

@@ -1,5 +1,5 @@
 //! Counting the entries of a directory by blocks: each is looked into once for all its places in a piece.
-ghost use Rattle.std.specs.Prelude.{◌≡◌, ℕ, ◌+◌, ◌-◌, ◌*◌, ◌≤◌, nat_le, if◌then◌else◌, All, IfOk};
+ghost use Rattle.std.specs.Prelude.{◌≡◌, ℕ, ◌+◌, ◌-◌, ◌*◌, ◌<◌, ◌≤◌, nat_le, if◌then◌else◌, All, IfOk};
 ghost use Rattle.std.specs.List.{sum_by};
 ghost use Rattle.vol_layout.specs.Geometry.{Fits};
 ghost use Rattle.vol_dir.specs.Entries.{entry_in, entry_at, slot_count};
@@ -76,37 +76,41 @@ fn stored_blocks(
     let mut named = Vec::new(alloc);
     let mut b = next_block(image, geometry, d, from, end);
     while b < end {
-        push_stored(image, geometry, &mut named, d, b)?;
-        b = next_block(image, geometry, d, b + 1, end);
+        b = push_next(image, geometry, &mut named, d, b, end)?;
     }
     Ok(named)
 }
 
-/// Adds the data block that holds logical block `b` of directory `d`, if one does.
-fn push_stored(
+/// Adds the data block that holds logical block `b` of directory `d`, if one does. Returns the next block to look at: `b` and
+/// what follows up to there is a hole, if none does.
+fn push_next(
     image: &Image,
     geometry: &Geometry,
     named: &mut Vec<Named>,
     d: u16,
     b: u32,
-) -> Result<(), AllocError>
+    end: u32,
+) -> Result<u32, AllocError>
     requires fits { Fits geometry.now image.now }
     requires first { 1 ≤ d }
     requires last { d ≤ geometry.now.last_inode }
-    requires whole { 32 * b + 32 ≤ slot_count geometry.now image.now d }
+    requires order { b < end }
+    requires whole { 32 * end ≤ slot_count geometry.now image.now d }
     requires named { All (IsNamed geometry.now) named.old.items }
+    ensures order { IfOk result (λ next. (b < next) × (next ≤ end)) }
     ensures named { IfOk result (λ _. All (IsNamed geometry.now) named.new.items) }
-    ensures same { IfOk result (λ _. (weight : Mark → ℕ) → sum_by (by_times (entries_of geometry.now image.now weight)) named.new.items
+    ensures same { IfOk result (λ next. (weight : Mark → ℕ) → sum_by (by_times (entries_of geometry.now image.now weight)) named.new.items
         ≡ sum_by (by_times (entries_of geometry.now image.now weight)) named.old.items
-        + below (λ t. entry_weight geometry.now weight (entry_at geometry.now image.now d (32 * b + t))) 32) }
+        + below (λ t. entry_weight geometry.now weight (entry_at geometry.now image.now d (32 * b + t))) (32 * (next - b))) }
 {
-    match block_at(image, geometry, d, b) {
-        Some(number) if geometry.in_zone(number) => {
-            named.push(Named { number, times: 1 })?;
-            Ok(())
-        }
-        _ => Ok(()),
+    let Some(number) = block_at(image, geometry, d, b) else {
+        return Ok(next_block(image, geometry, d, b, end));
+    };
+    if !geometry.in_zone(number) {
+        return Ok(b + 1);
     }
+    named.push(Named { number, times: 1 })?;
+    Ok(b + 1)
 }
 
 /// Counts the entries of a block, for each of its places.

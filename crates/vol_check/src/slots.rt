@@ -135,7 +135,16 @@ impl Sweep {
         match self.checker {
             Checker::Entries if from < whole => {
                 let tally = &self.tally;
-                count_blocks(alloc, tally, &mut seat.seat, image, geometry, d, from, whole)?;
+                count_blocks(
+                    alloc,
+                    tally,
+                    &mut seat.seat,
+                    image,
+                    geometry,
+                    d,
+                    from,
+                    whole,
+                )?;
                 Ok(whole)
             }
             _ => Ok(from),

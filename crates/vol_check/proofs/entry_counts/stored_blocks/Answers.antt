@@ -4,7 +4,7 @@ use Rattle.std.proofs.lemmas.List.Elements.{All-nil}
 use Rattle.vol_check.specs.declared.checker.Checker.TheVariants.{Entries}
 use Rattle.vol_check.specs.Levels.{IsNamed, by_times}
 use Rattle.vol_check.specs.Slots.{slot_weight, entries_of}
-use Rattle.vol_check.proofs.Noted.{marked_over, blank_weight, over_blank, over_next, entry_hole}
+use Rattle.vol_check.proofs.Noted.{marked_over, blank_weight, over_blank, over_two, entry_hole}
 use Rattle.vol_check.proofs.entry_counts.stored_blocks.Goals as goal
 
 pub loop-b-init : goal.loop-b-init
@@ -23,7 +23,7 @@ loop-b-init c =
       same = λ weight.
           let none = ap (sum_by (by_times (entries_of g image weight))) c.new-named.ensures.items in
           let blank = over_blank g image d (slot_weight Entries g weight) (blank_weight Entries g weight d) (32 * from) (32 * (b - from))
-              (λ s at before. entry_hole g image d from b s c.requires.fits next.hole at (omega (arith, before, low))) in
+          (λ s at before. entry_hole g image d from b s c.requires.fits next.hole at (omega (arith, before, low))) in
           omega arith;
     }
 
@@ -31,20 +31,17 @@ pub loop-b-preserved : goal.loop-b-preserved
 loop-b-preserved c =
     let g = c.args.geometry.now in
     let image = c.args.image.now in
-    let d = c.args.d in
-    let from = c.args.from in
-    let b = c.loop-b.b in
     let inv = c.loop-b.invariant in
-    let next = c.next_block-b-in-loop-b.ensures in
+    let order = c.in_ok-b.ensures.order in
     record {
-      low = omega (arith, inv.low, next.reached);
-      high = next.within;
-      named = c.in_ok-push_stored.ensures.named;
+      low = omega (arith, inv.low, order.0);
+      high = order.1;
+      named = c.in_ok-b.ensures.named;
       same = λ weight.
           let before = inv.same weight in
-          let now = c.in_ok-push_stored.ensures.same weight in
-          let more = over_next g image d (slot_weight Entries g weight) (blank_weight Entries g weight d) from b c.next_block-b-in-loop-b.result
-              c.requires.fits inv.low next.reached next.hole in
+          let now = c.in_ok-b.ensures.same weight in
+          let more = over_two g image c.args.d (slot_weight Entries g weight) (blank_weight Entries g weight c.args.d) c.args.from c.loop-b.b c.in_ok-b.b
+          inv.low (omega (arith, order.0)) in
           omega arith;
     }
 

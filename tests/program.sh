@@ -1088,6 +1088,9 @@ waits() {
 "$program" export 7 packed > packed.tar
 waits put hello '. .. a meanwhile' put 7 image /a /dev/stdin 3
 waits import packed.tar '. .. a meanwhile' import 7 image / 3
+waits 'put -t' hello '. .. meanwhile stdin' put -t / 7 image /dev/stdin 3
+echo '3 0 0 create /a 0644' > one_call
+waits play one_call '. .. a meanwhile' play 7 image /dev/stdin
 
 # What can be told of the image without its lock is told before anything is waited for.
 # tells LINE IMAGE: a change that would wait for its archive tells this line of an image at once, with status 3

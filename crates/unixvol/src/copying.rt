@@ -2,7 +2,7 @@
 ghost use Rattle.std.specs.Prelude.{◌≡◌, ◌≢◌, ◌⊎◌, ℕ, All, Bool, IfErr, IfOk, IfSome, List, None, Option, map};
 ghost use Rattle.std.specs.Process.{exit_status};
 ghost use Rattle.command_faults.specs.Streams.{ErrorStream, Hears, still};
-ghost use Rattle.unixvol.specs.Copying.{AreSaved, CopiesToEnd, IsFileToo, IsMomentAlone, ReadSaved, RunsCopy, RunsGet, RunsPut, name_of};
+ghost use Rattle.unixvol.specs.Copying.{AreGiven, AreSaved, CopiesToEnd, IsFileToo, IsMomentAlone, ReadSaved, RunsCopy, RunsGet, RunsPut, name_of};
 ghost use Rattle.unixvol.specs.Running.{Ends, GaveBytes, IsStatusOfFileOrMemory, IsUnread, host_files};
 ghost use Rattle.host_files.specs.Saving.{IsTaken};
 
@@ -10,7 +10,7 @@ use crate::explaining::{
     Named, explain_moment, explain_no_memory, explain_unwritten, finish, tell_fault,
 };
 use crate::host::Host;
-use crate::reading::{ReadFile, read_file, read_image, read_stamped};
+use crate::reading::{Begun, begin, read_file, read_stamped};
 use crate::saving::{save_answer, save_new};
 use crate::subject::Subject;
 use command_changes::put::{NewFile, put_files};
@@ -91,8 +91,14 @@ fn run_put<R: ImageFiles + Clock + Eprint + AllocGlobal>(
             fault: None,
         };
     }
-    let (read, stamp) = match read_image(host, volume.image) {
-        Ok(read) => read,
+    let read = ||
+        ensures given { IfOk result (λ files. AreGiven (GaveBytes R.File.remaining) (map (λ path. name_of path.now) paths.entry.now) files.items) }
+        ensures fault { IfErr result (IsUnread R.File.remaining) }
+    {
+        read_named(host, paths)
+    };
+    let begun = match begin(host, volume.image, read) {
+        Ok(begun) => begun,
         Err(status) => {
             return Ending {
                 status,
@@ -100,20 +106,13 @@ fn run_put<R: ImageFiles + Clock + Eprint + AllocGlobal>(
             };
         }
     };
-    // Its file stays open, and so locked, until what is made of it is saved.
-    let ReadFile {
-        bytes: image,
-        file: _locked,
-    } = read;
-    let files = match read_named(host, paths) {
-        Ok(files) => files,
-        Err(status) => {
-            return Ending {
-                status,
-                fault: None,
-            };
-        }
-    };
+    // The image's file stays open, and so locked, until what is made of it is saved.
+    let Begun {
+        given: files,
+        image,
+        stamp,
+        locked: _locked,
+    } = begun;
     let alloc = host.rt.alloc();
     let answer = put_files(alloc, volume.edition, image, directory, files, now.seconds);
     let status = save_answer(host, volume.image, stamp, &answer);

@@ -114,7 +114,7 @@ pub fn begin<
 
 /// The image that a command is to change, and its stamp. Where it can't be read, or isn't to be changed, prints so,
 /// and answers the status.
-pub fn read_image<R: ImageFiles + Clock + Eprint + AllocGlobal>(
+fn read_image<R: ImageFiles + Clock + Eprint + AllocGlobal>(
     host: &Host<'_, R>,
     path: &str,
 ) -> Result<(ReadFile<R::File>, Stamp), u8>

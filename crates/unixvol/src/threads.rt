@@ -1,13 +1,13 @@
 //! The commands of the program that several threads do. What is promised of them is promised if they return.
-ghost use Rattle.std.specs.Prelude.{◌≡◌, ◌⊎◌, ◌≤◌, length};
+ghost use Rattle.std.specs.Prelude.{◌≡◌, ◌⊎◌, ◌≤◌, All, IfErr, IfOk, length};
 ghost use Rattle.std.specs.Process.{exit_status};
 ghost use Rattle.command_words.specs.Asking.{IsWorkable};
 ghost use Rattle.command_faults.specs.Streams.{ErrorStream, Hears, streams};
-ghost use Rattle.unixvol.specs.Running.{IsEnd, RunsCheck, RunsPlay, RunsWork, WorksToEnd, host_files};
+ghost use Rattle.unixvol.specs.Running.{GaveBytes, IsEnd, IsUnread, RunsCheck, RunsPlay, RunsWork, WorksToEnd, host_files};
 
 use crate::explaining::{finish_printed, tell_fault};
 use crate::host::Host;
-use crate::reading::{ReadFile, read_file, read_files, read_image};
+use crate::reading::{Begun, begin, read_file, read_files};
 use crate::saving::save_played;
 use crate::subject::Subject;
 use command_faults::Ending;
@@ -128,8 +128,15 @@ fn run_play<R: ImageFiles + Clock + Eprint + AllocGlobal + Threads + Wait + Sync
     ensures { (errors : ErrorStream) → Hears errors result.fault
         → RunsPlay (streams O.contents O.failed output.old output.new errors) (host_files R.File.remaining R.File.contents R.had R.stood) volume.entry.edition (length scripts.now) result.status }
 {
-    let (read, stamp) = match read_image(host, volume.image) {
-        Ok(read) => read,
+    let read = ||
+        ensures given { IfOk result (λ files. All (λ file. GaveBytes R.File.remaining file.items) files.items) }
+        ensures count { IfOk result (λ files. length files.items ≡ length scripts.entry.now) }
+        ensures fault { IfErr result (IsUnread R.File.remaining) }
+    {
+        read_files(host, scripts)
+    };
+    let begun = match begin(host, volume.image, read) {
+        Ok(begun) => begun,
         Err(status) => {
             return Ending {
                 status,
@@ -137,20 +144,13 @@ fn run_play<R: ImageFiles + Clock + Eprint + AllocGlobal + Threads + Wait + Sync
             };
         }
     };
-    // Its file stays open, and so locked, until what is made of it is saved.
-    let ReadFile {
-        bytes: image,
-        file: _locked,
-    } = read;
-    let files = match read_files(host, scripts) {
-        Ok(files) => files,
-        Err(status) => {
-            return Ending {
-                status,
-                fault: None,
-            };
-        }
-    };
+    // The image's file stays open, and so locked, until what is made of it is saved.
+    let Begun {
+        given: files,
+        image,
+        stamp,
+        locked: _locked,
+    } = begun;
     let answer = vol_play::perform(
         host.rt,
         host.rt.alloc(),

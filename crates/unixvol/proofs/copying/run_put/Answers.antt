@@ -1,6 +1,8 @@
-use Rattle.std.proofs.Common.{arith, inl, inr, refl}
+use Rattle.std.proofs.Common.{arith, inl, inr, refl, rules}
 use Rattle.std.proofs.KnownBytes.{Keeps-refl}
 use Rattle.command_faults.specs.Streams.{still}
+use Rattle.unixvol.specs.Copying.{AreGiven}
+use Rattle.unixvol.specs.Running.{GaveBytes, IsUnread}
 use Rattle.unixvol.proofs.Concluded.{ends_imported, ends_unread}
 use Rattle.unixvol.proofs.copying.run_put.Goals as goal
 
@@ -16,29 +18,22 @@ returns-in-Some-clause-runs g c known failed errors hears =
 
 pub returns-in-Err-clause-runs : goal.returns-in-Err-clause-runs
 returns-in-Err-clause-runs g c known failed errors hears =
-    inr (
-      c.moment_file.ensures.none c.in_default.is,
-      inl (c.in-Err.ensures.fault, Keeps-refl known, refl, hears),
-    )
-
-pub returns-in-Err-read_named-clause-runs : goal.returns-in-Err-read_named-clause-runs
-returns-in-Err-read_named-clause-runs g c known failed errors hears =
-    inr (
-      c.moment_file.ensures.none c.in_default.is,
-      inl (c.in-Err-read_named.ensures.fault, Keeps-refl known, refl, hears),
-    )
+    let unread : IsUnread g.R.File.Read.remaining c.in-Err.status = elim c.in-Err.ensures.fault [ inl unread ↦ unread | inr called ↦ search rules ] in
+    inr (c.moment_file.ensures.none c.in_default.is, inl (unread, Keeps-refl known, refl, hears))
 
 pub returns-clause-runs : goal.returns-clause-runs
 returns-clause-runs g c known failed errors hears =
+    let called = c.in-Ok.ensures.given in
+    let given : AreGiven (GaveBytes g.R.File.Read.remaining) _ c.in-Ok.begun.given.items = search rules in
     inr (
       c.moment_file.ensures.none c.in_default.is,
       inr (
-        c.in-Ok.read.0.bytes.items,
-        c.in-Ok.read.1,
-        c.in-Ok-read_named.files.items,
+        c.in-Ok.begun.image.items,
+        c.in-Ok.begun.stamp,
+        c.in-Ok.begun.given.items,
         c.put_files-answer.result,
-        c.in-Ok.ensures.given,
-        (c.in-Ok-read_named.ensures.given, c.in-Ok-read_named.ensures.named),
+        c.in-Ok.ensures.image,
+        given,
         c.put_files-answer.ensures errors hears,
         Keeps-refl known,
         refl,
@@ -48,15 +43,12 @@ returns-clause-runs g c known failed errors hears =
 
 pub returns-in-Err-clause-ends : goal.returns-in-Err-clause-ends
 returns-in-Err-clause-ends g c known failed errors hears =
-    ends_unread g.R.File.Read.remaining (still known failed errors) c.in-Err.status c.in-Err.ensures.fault (Keeps-refl known)
-
-pub returns-in-Err-read_named-clause-ends : goal.returns-in-Err-read_named-clause-ends
-returns-in-Err-read_named-clause-ends g c known failed errors hears =
-    ends_unread g.R.File.Read.remaining (still known failed errors) c.in-Err-read_named.status c.in-Err-read_named.ensures.fault (Keeps-refl known)
+    let unread : IsUnread g.R.File.Read.remaining c.in-Err.status = elim c.in-Err.ensures.fault [ inl unread ↦ unread | inr called ↦ search rules ] in
+    ends_unread g.R.File.Read.remaining (still known failed errors) c.in-Err.status unread (Keeps-refl known)
 
 pub returns-clause-ends : goal.returns-clause-ends
 returns-clause-ends g c known failed errors hears =
-    ends_imported c.args.volume.edition c.in-Ok.read.0.bytes.items _ (still known failed errors) _ c.put_files-answer.result c.save_answer-status.result
+    ends_imported c.args.volume.edition c.in-Ok.begun.image.items _ (still known failed errors) _ c.put_files-answer.result c.save_answer-status.result
     (c.put_files-answer.ensures errors hears) (Keeps-refl known) refl c.save_answer-status.ensures
 
 pub returns-in-Some-clause-ends : goal.returns-in-Some-clause-ends

@@ -1,28 +1,28 @@
-use Rattle.std.proofs.Common.{◌∙◌, ap, inl, inr, length, refl}
+use Rattle.std.proofs.Common.{◌≡◌, ◌∙◌, All, ap, inl, inr, length, refl, rules}
 use Rattle.std.specs.Global.{Vec}
 use Rattle.std.proofs.KnownBytes.{Keeps-refl}
 use Rattle.std.proofs.lemmas.List.Elements.{All-same}
-use Rattle.unixvol.specs.Running.{GaveBytes}
+use Rattle.unixvol.specs.Running.{GaveBytes, IsUnread}
 use Rattle.unixvol.proofs.threads.run_play.Goals as goal
 
 pub returns-in-Err : goal.returns-in-Err
 returns-in-Err g c errors hears =
-    inl (c.in-Err.ensures.fault, Keeps-refl (g.O.Sink.contents c.args.output.now), refl, hears)
-
-pub returns-in-Err-read_files : goal.returns-in-Err-read_files
-returns-in-Err-read_files g c errors hears =
-    inl (c.in-Err-read_files.ensures.fault, Keeps-refl (g.O.Sink.contents c.args.output.now), refl, hears)
+    let unread : IsUnread g.R.File.Read.remaining c.in-Err.status = elim c.in-Err.ensures.fault [ inl unread ↦ unread | inr called ↦ search rules ] in
+    inl (unread, Keeps-refl (g.O.Sink.contents c.args.output.now), refl, hears)
 
 pub returns : goal.returns
 returns g c errors hears =
+    let called = c.in-Ok.ensures.given in
+    let given : All (λ (script : Vec _). GaveBytes g.R.File.Read.remaining script.items) c.in-Ok.begun.given.items = search rules in
+    let count : length c.in-Ok.begun.given.items ≡ length c.args.scripts.now = search rules in
     inr (
-      c.in-Ok.read.0.bytes.items,
-      c.in-Ok.read.1,
+      c.in-Ok.begun.image.items,
+      c.in-Ok.begun.stamp,
       c.deref.result.now,
       c.perform-answer.result,
-      c.in-Ok.ensures.given,
-      All-same (λ (script : Vec _). GaveBytes g.R.File.Read.remaining script.items) _ _ c.deref.ensures.value c.in-Ok-read_files.ensures.given,
-      ap length c.deref.ensures.value ∙ c.in-Ok-read_files.ensures.count,
+      c.in-Ok.ensures.image,
+      All-same (λ (script : Vec _). GaveBytes g.R.File.Read.remaining script.items) _ _ c.deref.ensures.value given,
+      ap length c.deref.ensures.value ∙ count,
       c.perform-answer.ensures errors hears,
       c.save_played-status.ensures,
     )

@@ -131,7 +131,8 @@ fi
 
 # A refused allocation has its line too: memory is kept too small for the image.
 truncate -s 100M large
-(ulimit -v 60000 && "$program" ls 6 large --explain) > output 2> error
+printf '\003\000\003\000\100\015' | dd of=large bs=1 seek=512 conv=notrunc status=none # 200,000 blocks
+(ulimit -v 60000 && "$program" ls 7 large --explain) > output 2> error
 has 'want of memory' '4 unixvol: 12 NoMemory unixvol: there was too little memory for this' "$? $(paste -s -d ' ' error)"
 
 # Lines that say in words what is wrong have no second one; a refusal of a member has one.

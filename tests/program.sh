@@ -724,8 +724,8 @@ for volume in made damaged; do
     wants "icheck of $volume to a full device" 3 none line
 done
 truncate -s 400M great_image
-put great_image 512 '02 00 FF FF'
-(ulimit -v 300000; runs icheck 6 great_image 1)
+put great_image 512 '03 00 03 00 40 0D' # 200,000 blocks
+(ulimit -v 60000; runs icheck 7 great_image 1)
 echo 'unixvol: 12 NoMemory' > line
 wants 'icheck in less memory than the image takes' 4 none line
 rm great_image
@@ -1106,6 +1106,29 @@ tells() {
 tells 'unixvol: cannot read missing' missing
 mkfifo unread
 tells 'unixvol: cannot write unread' unread
+
+# What has no end is read as far as its volume goes, in little memory.
+# limited STATUS OUTPUT LINE WORD..: the program prints OUTPUT, and tells LINE, if there is one
+limited() {
+    if [ -n "$3" ]; then echo "$3" > line; else : > line; fi
+    (ulimit -v 200000; exec timeout 120 "$program" "${@:4}" > output 2> error)
+    echo $? > status
+    wants "${*:4}, of what may have no end" "$1" "$2" line
+}
+limited 1 none 'unixvol: unsound, rule 2' ls 7 /dev/zero /
+limited 1 none 'unixvol: unsound, rule 2' cat 6 /dev/zero 1
+echo 'rule 2' > broken
+limited 1 broken '' icheck 6 /dev/zero 1
+limited 1 none 'unixvol: unsound, rule 2' rm 7 /dev/zero /a 1
+runs ls 7 "$samples/linux_made.v7" /
+cp output listed
+limited 0 listed '' ls 7 /dev/stdin / < <(cat "$samples/linux_made.v7" /dev/zero)
+image lying 4096
+put lying 512 '05 00 00 01 01 00' # 16,777,217 blocks
+limited 1 none 'unixvol: unsound, rule 1' ls 7 lying /
+limited 1 none 'unixvol: unsound, rule 1' ls 7 /dev/stdin / < <(cat lying)
+limited 3 none $'unixvol: cannot read /dev/stdin\nunixvol: /dev/stdin: it has more blocks than any volume, and its super-block says so' \
+    ls 7 /dev/stdin / --explain < <(cat lying /dev/zero)
 
 # Another program that writes the image, or puts another in its place, after a command has read it and before it saves: nothing is saved.
 # meddled LABEL SHELL-COMMAND: runs the command once `play` has read the image, and before it has printed all

@@ -5,7 +5,7 @@ ghost use Rattle.pdp_words.specs.Devices.{AppendsFront};
 ghost use Rattle.vol_layout.specs.Geometry.{Fits};
 ghost use Rattle.vol_layout.specs.Body.{body};
 ghost use Rattle.command_faults.specs.Faults.{fault_line};
-ghost use Rattle.command_reads.specs.Cat.{file_of, Cats, cat_line, cat_status, IsNoWriters, IsOfImage};
+ghost use Rattle.command_reads.specs.Cat.{file_of, Cats, PrintsFile, cat_line, cat_status, IsNoWriters, IsOfImage};
 
 use command_faults::fault::{CANNOT_WRITE, Fault, refusal_line, unsound_line};
 use command_faults::status::{BAD_FILE, NO_MEMORY, REFUSED};
@@ -104,8 +104,25 @@ pub fn cat<R: Source, W: Sink>(
         LoadFault::Device => CatFault::Device,
         LoadFault::NoMemory => CatFault::NoMemory,
     })?;
-    let geometry = open(edition, &image, ino)?;
-    show(&image, &geometry, ino, writer)
+    print_file(edition, ino, &image, writer)
+}
+
+/// Prints the body of i-node `ino` of an image to `writer`, as [`cat`] does.
+///
+/// Takes no memory: the body goes out through a buffer of 64 KiB. Costs the bytes written.
+pub fn print_file<W: Sink>(
+    edition: Edition,
+    ino: u16,
+    image: &Image,
+    writer: &mut W,
+) -> Result<(), CatFault>
+    ensures shown { PrintsFile (W.contents writer.old) (W.contents writer.new) image.now ino (file_of edition image.now ino) result }
+    ensures loaded { (result ≢ Err CatFault.Device) × (result ≢ Err CatFault.NoMemory) }
+    ensures writer { IsErrAnd result (λ fault. (count : ℕ) × (fault ≡ CatFault.Writer count)) → W.failed writer.new ≡ true }
+    ensures kept { IsNoWriters result → W.failed writer.new ≡ W.failed writer.old }
+{
+    let geometry = open(edition, image, ino)?;
+    show(image, &geometry, ino, writer)
 }
 
 /// The geometry of an image in which file `ino` can be printed.

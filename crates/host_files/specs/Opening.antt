@@ -1,6 +1,7 @@
 -- Which file an image is read from that a command changes.
 use Rattle.std.specs.Prelude.{◌≢◌, ℕ, List, Option}
-use Rattle.pdp_words.specs.Devices.{IsReadWhole}
+use Rattle.vol_layout.specs.declared.edition.Edition.{Edition}
+use Rattle.host_files.specs.Reading.{IsReadUpTo, up_to_kept}
 use Rattle.host_files.specs.declared.image_file.Kind.TheVariants as kinds
 use Rattle.host_files.specs.declared.image_file.Stamp.{Stamp}
 use Rattle.host_files.specs.declared.image_file.Try.{Try}
@@ -15,6 +16,7 @@ abbrev pub IsOpenTo : {F : Type 0} → (F → Stamp → Type 0) → Try F → Ty
 IsOpenTo had (Open file stamp) = OpensTo had file stamp
 IsOpenTo had _ = Unit {0}
 
--- some file, which opens to this stamp, gave these bytes from then on, all that it had left (std::io::Read)
-abbrev pub IsOpened : {F : Type 0} → (F → Option (List ℕ)) → (F → Stamp → Type 0) → List ℕ → Stamp → Type 0
-IsOpened {F} remaining had bytes stamp = (old : F) × (new : F) × OpensTo had old stamp × IsReadWhole (remaining old) (remaining new) bytes
+-- some file, which opens to this stamp, gave this image from then on: all that it had left, where it is a regular file, and else its volume's (this project)
+abbrev pub IsOpened : {F : Type 0} → Edition → (F → Option (List ℕ)) → (F → Stamp → Type 0) → List ℕ → Stamp → Type 0
+IsOpened {F} edition remaining had image stamp =
+    (old : F) × (new : F) × OpensTo had old stamp × IsReadUpTo (up_to_kept edition stamp.kind) (remaining old) (remaining new) image

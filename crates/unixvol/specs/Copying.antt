@@ -51,7 +51,7 @@ LeavesMoment streams stands now status =
 abbrev pub PutsFiles : Streams → HostFiles → Edition → List ℕ → List (List ℕ) → ℕ → ℕ → Type 0
 PutsFiles streams files edition directory names now status =
     RunsNothing streams files status
-    ⊎ ((image : List ℕ) × (stamp : Stamp) × (news : List NewFile) × (answer : Answer) × files.opened image stamp × AreGiven files.given names news
+    ⊎ ((image : List ℕ) × (stamp : Stamp) × (news : List NewFile) × (answer : Answer) × files.opened edition image stamp × AreGiven files.given names news
     × ImportsArchive edition image (told (calls_to_put (reads_as edition image).tree now directory news)) streams.said answer
     × Keeps streams.old streams.new × (streams.failed ≡ streams.had_failed) × EndsSaved (λ saved. files.taken saved × files.stood stamp) answer status)
 
@@ -74,7 +74,7 @@ ReadSaved taken read status =
 abbrev pub RunsGet : Streams → HostFiles → Edition → List (List ℕ) → ℕ → Type 0
 RunsGet streams files edition paths status =
     RunsNothing streams files status
-    ⊎ ((image : List ℕ) × (read : FilesRead) × files.given image × GetsFiles edition image paths streams.said read
+    ⊎ ((image : List ℕ) × (read : FilesRead) × files.shown edition image × GetsFiles edition image paths streams.said read
     × Keeps streams.old streams.new × (streams.failed ≡ streams.had_failed) × ReadSaved files.taken read status)
 
 -- several files are copied (this project)

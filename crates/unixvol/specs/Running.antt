@@ -8,10 +8,11 @@ use Rattle.clap.specs.declared.error.kind.ErrorKind.TheVariants as kinds
 use Rattle.vol_mkfs.specs.Blank.{blank_of, IsMade}
 use Rattle.vol_mkfs.specs.Mkfs.{is_size}
 use Rattle.vol_layout.specs.Ids.{is_bad_id}
-use Rattle.pdp_words.specs.Devices.{IsReadWhole, LosesFront}
+use Rattle.pdp_words.specs.Devices.{LosesFront}
 use Rattle.command_reads.specs.Get.{GetsFile}
 use Rattle.command_reads.specs.Looking.{Looks}
 use Rattle.command_reads.specs.declared.looks.Look.{Look}
+use Rattle.command_reads.specs.declared.looks.Look.TheVariants as looks
 use Rattle.vol_listing.specs.declared.options.Screen.{Screen}
 use Rattle.vol_listing.specs.declared.options.Screen.TheVariants as screens
 use Rattle.command_changes.specs.Changes.{Changes}
@@ -23,11 +24,12 @@ use Rattle.command_faults.specs.Streams.{Gets, Streams}
 use Rattle.command_changes.specs.Mkfs.{mkfs_line_at}
 use Rattle.command_changes.specs.Migrate.{MigratesVolume}
 use Rattle.vol_layout.specs.declared.edition.Edition.{Edition}
+use Rattle.vol_layout.specs.declared.edition.Edition.TheVariants.{V6}
 use Rattle.std.specs.Global.{Vec}
 use Rattle.vol_play.specs.Playing.{PlaysVolume}
 use Rattle.command_faults.specs.declared.answer.Answer.{Answer}
 use Rattle.command_reads.specs.declared.cat.CatFault.{CatFault}
-use Rattle.command_reads.specs.declared.cat.CatFault.TheVariants.{Device, NoMemory, Writer}
+use Rattle.command_reads.specs.declared.cat.CatFault.TheVariants.{Writer}
 use Rattle.command_words.specs.declared.invocation.Invocation.{Invocation}
 use Rattle.command_words.specs.declared.invocation.Invocation.TheVariants as invocations
 use Rattle.command_words.specs.declared.invocation.Work.{Work}
@@ -37,29 +39,50 @@ use Rattle.command_changes.specs.declared.mkfs.Made.{Made}
 use Rattle.command_changes.specs.declared.migrate.Migration.{Migration}
 use Rattle.vol_mkfs.specs.declared.blank.NewVolume.{NewVolume}
 use Rattle.host_files.specs.Opening.{IsOpened}
+use Rattle.host_files.specs.Reading.{IsReadUpTo}
+use Rattle.host_files.specs.declared.volume_front.UpTo.{UpTo}
+use Rattle.host_files.specs.declared.volume_front.UpTo.TheVariants.{End, Volume}
 use Rattle.host_files.specs.Saving.{IsTaken}
 use Rattle.host_files.specs.declared.image_file.Stamp.{Stamp}
 
+-- some file, which was read so far, gave these bytes (std::io::Read)
+abbrev pub Gave : {F : Type 0} → UpTo → (F → Option (List ℕ)) → List ℕ → Type 0
+Gave {F} up_to remaining bytes = (old : F) × (new : F) × IsReadUpTo up_to (remaining old) (remaining new) bytes
+
 -- some file gave these bytes, which are all that it had left (std::io::Read)
 abbrev pub GaveBytes : {F : Type 0} → (F → Option (List ℕ)) → List ℕ → Type 0
-GaveBytes {F} remaining bytes = (old : F) × (new : F) × IsReadWhole (remaining old) (remaining new) bytes
+GaveBytes remaining bytes = Gave End remaining bytes
 
--- a file isn't read, with this status: 3, where it can't be opened, can't be read on, or isn't to be changed; or 4, for want of memory, once some file was open and gave no more than a front of its bytes (this project)
+-- some file gave this image of a volume, or all that it had (std::io::Read)
+abbrev pub GaveImage : {F : Type 0} → Edition → (F → Option (List ℕ)) → List ℕ → Type 0
+GaveImage edition remaining image = Gave (Volume edition) remaining image ⊎ Gave End remaining image
+
+-- a file isn't read, with this status: 3, where it can't be opened, can't be read on, is past the greatest volume, or isn't to be changed; or 4, for want of memory, once some file was open and gave no more than a front of its bytes (this project)
 abbrev pub IsUnread : {F : Type 0} → (F → Option (List ℕ)) → ℕ → Type 0
 IsUnread {F} remaining status = (status ≡ 3) ⊎ ((status ≡ 4) × (old : F) × (new : F) × LosesFront (remaining old) (remaining new))
 
--- what files do for the program: none could be read, with this status; one gave these bytes; one that is to be changed gave these bytes, and had this stamp before; one took these bytes; something that stood at some path had this stamp (this project)
+-- what files do for the program: none could be read, with this status; one gave these bytes; one gave this image of a volume of an edition; the same, or all that it had; one that is to be changed gave such an image, and had this stamp before; one took these bytes; something that stood at some path had this stamp (this project)
 pub record HostFiles : Type 1 where
   pub unread : ℕ → Type 0
   pub given : List ℕ → Type 0
-  pub opened : List ℕ → Stamp → Type 0
+  pub shown : Edition → List ℕ → Type 0
+  pub checked : Edition → List ℕ → Type 0
+  pub opened : Edition → List ℕ → Stamp → Type 0
   pub taken : List ℕ → Type 0
   pub stood : Stamp → Type 0
 
 -- what files do, by what is known of them (std::io::Read and Write)
 abbrev pub host_files : {F : Type 0} → (F → Option (List ℕ)) → (F → Option (List ℕ)) → (F → Stamp → Type 0) → (Stamp → Type 0) → HostFiles
 host_files remaining contents had stood =
-    record { unread = IsUnread remaining; given = GaveBytes remaining; opened = IsOpened remaining had; taken = IsTaken contents; stood = stood }
+    record {
+      unread = IsUnread remaining;
+      given = GaveBytes remaining;
+      shown = λ edition. Gave (Volume edition) remaining;
+      checked = λ edition. GaveImage edition remaining;
+      opened = λ edition. IsOpened edition remaining had;
+      taken = IsTaken contents;
+      stood = stood;
+    }
 
 -- the status where a file can't be read or written, or where memory ran out (this project)
 abbrev pub IsStatusOfFileOrMemory : ℕ → Type 0
@@ -70,23 +93,18 @@ abbrev pub status_after : Result (Unit {0}) CatFault → ℕ
 status_after (Ok done) = 0
 status_after (Err fault) = cat_status fault
 
--- `cat` does with an image that a file gave: the image is shown; where it can't be had, nothing is written (this project)
-abbrev pub CatsGiven : (List ℕ → Type 0) → Option (List ℕ) → Option (List ℕ) → Edition → ℕ → Result (Unit {0}) CatFault → Type 0
-CatsGiven given old new edition i (Err Device) = Keeps old new
-CatsGiven given old new edition i (Err NoMemory) = Keeps old new
-CatsGiven given old new edition i result = (image : List ℕ) × given image × PrintsFile old new image i (file_of edition image i) result
-
--- `cat` prints of an image that a file gave: what goes out, that standard output failed where its fault is a writer's and else no more than before, and the status (this project)
-abbrev pub PrintsBody : (List ℕ → Type 0) → Option (List ℕ) → Option (List ℕ) → Bool → Bool → Edition → ℕ → ℕ → Type 0
-PrintsBody given old new had_failed failed edition i status =
-    (result : Result (Unit {0}) CatFault) × CatsGiven given old new edition i result
+-- `cat` prints: nothing, where a file isn't read; or of an image that a file gave, what goes out, that standard output failed where its fault is a writer's and else no more than before, and the status (this project)
+abbrev pub PrintsBody : (ℕ → Type 0) → (List ℕ → Type 0) → Option (List ℕ) → Option (List ℕ) → Bool → Bool → Edition → ℕ → ℕ → Type 0
+PrintsBody unread shown old new had_failed failed edition i status =
+    (unread status × Keeps old new × (failed ≡ had_failed))
+    ⊎ ((image : List ℕ) × (result : Result (Unit {0}) CatFault) × shown image × PrintsFile old new image i (file_of edition image i) result
     × (IsErrAnd result (λ fault. (count : ℕ) × (fault ≡ Writer count)) → failed ≡ true) × (IsNoWriters result → failed ≡ had_failed)
-    × (status ≡ status_after result)
+    × (status ≡ status_after result))
 
 -- `cat` runs: what goes out, and the status, which is 0 only where standard output didn't fail (this project)
-abbrev pub RunsCat : Streams → (List ℕ → Type 0) → Edition → ℕ → ℕ → Type 0
-RunsCat streams given edition i status =
-    PrintsBody given streams.old streams.new streams.had_failed streams.failed edition i status × (status ≡ 0 → streams.failed ≡ streams.had_failed) × streams.said []
+abbrev pub RunsCat : Streams → HostFiles → Edition → ℕ → ℕ → Type 0
+RunsCat streams files edition i status =
+    PrintsBody files.unread (files.shown edition) streams.old streams.new streams.had_failed streams.failed edition i status × (status ≡ 0 → streams.failed ≡ streams.had_failed) × streams.said []
 
 -- `mkfs` runs: nothing goes out; it is refused exactly where its numbers are no volume's, with the line of that; another line is that of memory, with its status; and a file took the volume, where it is done (this project)
 pub record RunsMkfs (streams : Streams) (taken : List ℕ → Type 0) (volume : NewVolume) (status : ℕ) : Type 0 where
@@ -127,24 +145,24 @@ RunsNothing streams files status =
 abbrev pub RunsMigrate : Streams → HostFiles → Migration → ℕ → Type 0
 RunsMigrate streams files migration status =
     RunsNothing streams files status
-    ⊎ ((image : List ℕ) × (answer : Answer) × files.given image × MigratesVolume image migration streams.said answer
+    ⊎ ((image : List ℕ) × (answer : Answer) × files.shown V6 image × MigratesVolume image migration streams.said answer
     × Keeps streams.old streams.new × (streams.failed ≡ streams.had_failed) × EndsSaved files.taken answer status)
 
 -- `get` runs: nothing is done; or the file at a path is printed of an image that a file gave (this project)
 abbrev pub RunsGetOne : Streams → HostFiles → Edition → List ℕ → ℕ → Type 0
 RunsGetOne streams files edition path status =
-    RunsNothing streams files status ⊎ ((image : List ℕ) × files.given image × GetsFile edition image path streams status)
+    RunsNothing streams files status ⊎ ((image : List ℕ) × files.shown edition image × GetsFile edition image path streams status)
 
 -- a checker runs: nothing is done; or what it finds in an image that a file gave is printed (this project)
 abbrev pub RunsCheck : Streams → HostFiles → Screen → Edition → Checker → ℕ → Type 0
 RunsCheck streams files screen edition checker status =
-    RunsNothing streams files status ⊎ ((image : List ℕ) × files.given image × Checks checker edition image screen streams status)
+    RunsNothing streams files status ⊎ ((image : List ℕ) × files.shown edition image × Checks checker edition image screen streams status)
 
 -- so many scripts are played: nothing is done; or files gave them, and they are played on an image that a file gave which may be changed, and the volume is saved where the system said that something had the stamp of the file that was read (this project)
 abbrev pub RunsPlay : Streams → HostFiles → Edition → ℕ → ℕ → Type 0
 RunsPlay streams files edition count status =
     RunsNothing streams files status
-    ⊎ ((image : List ℕ) × (stamp : Stamp) × (scripts : List (Vec ℕ)) × (answer : Answer) × files.opened image stamp
+    ⊎ ((image : List ℕ) × (stamp : Stamp) × (scripts : List (Vec ℕ)) × (answer : Answer) × files.opened edition image stamp
     × All (λ script. files.given script.items) scripts × (length scripts ≡ count)
     × PlaysVolume edition image scripts streams answer × EndsPlayed (λ saved. files.taken saved × files.stood stamp) answer status)
 
@@ -160,10 +178,19 @@ IsShownBy true screens.Stream = ⊥
 IsShownBy false (screens.Terminal columns) = ⊥
 IsShownBy false screens.Stream = Unit {0}
 
+-- the image that is looked at: `check` may have all that a file had, since it also says of which edition an image is (this project)
+abbrev pub IsSeen : HostFiles → Edition → Look → List ℕ → Type 0
+IsSeen files edition looks.Check image = files.checked edition image
+IsSeen files edition (looks.List path listing) image = files.shown edition image
+IsSeen files edition (looks.Export path) image = files.shown edition image
+IsSeen files edition (looks.Inode number form) image = files.shown edition image
+IsSeen files edition (looks.Super form) image = files.shown edition image
+IsSeen files edition (looks.Map picture) image = files.shown edition image
+
 -- an image is looked at: nothing is done; or what is looked at is shown of an image that a file gave (this project)
 abbrev pub RunsLook : Streams → HostFiles → Screen → Edition → Look → ℕ → Type 0
 RunsLook streams files screen edition look status =
-    RunsNothing streams files status ⊎ ((image : List ℕ) × files.given image × Looks edition image screen streams status look)
+    RunsNothing streams files status ⊎ ((image : List ℕ) × IsSeen files edition look image × Looks edition image screen streams status look)
 
 -- what standard input does for the program: it couldn't be read, with this status; it gave these bytes (this project)
 pub record HostInput : Type 1 where
@@ -204,7 +231,7 @@ LeavesTerminal streams status = (status ≡ 3) × Keeps streams.old streams.new 
 abbrev pub ChangesImage : Streams → HostFiles → HostInput → Edition → Change → ℕ → Type 0
 ChangesImage streams files input edition change status =
     RunsNothing streams files status ⊎ (TakesNothing streams files input change status
-    ⊎ ((image : List ℕ) × (stamp : Stamp) × (bytes : List ℕ) × (answer : Answer) × files.opened image stamp × IsGivenTo files.given input.given change bytes
+    ⊎ ((image : List ℕ) × (stamp : Stamp) × (bytes : List ℕ) × (answer : Answer) × files.opened edition image stamp × IsGivenTo files.given input.given change bytes
     × Changes edition image bytes streams answer change × EndsSaved (λ saved. files.taken saved × files.stood stamp) answer status))
 
 -- a change runs: where an archive is wanted of a terminal, nothing is done; else the volume is changed (this project)
@@ -223,7 +250,7 @@ IsPlainCommand _ = Unit {0}
 
 -- what a plain command asks for runs: what goes out, what files give and take, and the status; other things run elsewhere (this project)
 abbrev pub Runs : Streams → HostFiles → ℕ → Invocation → Type 0
-Runs streams files status (invocations.Cat volume i) = RunsCat streams files.given volume.edition i status
+Runs streams files status (invocations.Cat volume i) = RunsCat streams files volume.edition i status
 Runs streams files status (invocations.Get volume path) = RunsGetOne streams files volume.edition path.now status
 Runs streams files status (invocations.Mkfs image volume) = RunsMkfs streams files.taken volume status
 Runs streams files status (invocations.Migrate old new migration) = RunsMigrate streams files migration status

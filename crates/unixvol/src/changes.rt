@@ -13,7 +13,7 @@ use command_changes::Change;
 use command_changes::changing::perform;
 use command_faults::Ending;
 use command_line::VolumeFile;
-use host_files::ImageFiles;
+use host_files::{ImageFiles, UpTo};
 use pdp_words::IntoWrite;
 use std::fs::Files;
 use std::io::{self, Read, Write};
@@ -69,7 +69,7 @@ fn run<R: ImageFiles + Clock + Eprint + AllocGlobal, I: Read + Drop>(
             fault: None,
         };
     }
-    let begun = match begin(host, volume.image, || given_to(host, input, change)) {
+    let begun = match begin(host, volume, || given_to(host, input, change)) {
         Ok(begun) => begun,
         Err(status) => {
             return Ending {
@@ -114,7 +114,7 @@ fn given_to<R: Files + Eprint + AllocGlobal, I: Read + Drop>(
 {
     match change {
         Change::Put { file, .. } => read_file(host, file),
-        Change::Import { .. } => Ok(read_open(host, Named::Input, input)?.bytes),
+        Change::Import { .. } => Ok(read_open(host, Named::Input, UpTo::End, input)?.bytes),
         _ => Ok(Vec::new(host.rt.alloc())),
     }
 }

@@ -1,17 +1,15 @@
 //! `cat`, `get`, `mkfs` and `migrate`, which print all or nothing: what they open, and what they save.
-ghost use Rattle.std.specs.Prelude.{◌≡◌, ◌≢◌, ◌≤◌, ℕ, Bool, List, Option, true, IfOk, IsErrAnd};
+ghost use Rattle.std.specs.Prelude.{◌≡◌, ◌≢◌, ◌≤◌, ℕ, Bool, List, Option, IfOk};
 ghost use Rattle.std.specs.Io.KnownBytes.{Keeps};
 ghost use Rattle.std.specs.Process.{exit_status};
-ghost use Rattle.command_reads.specs.Cat.{IsNoWriters};
 ghost use Rattle.command_faults.specs.Streams.{ErrorStream, Hears, still, streams};
-ghost use Rattle.command_reads.specs.declared.cat.CatFault.TheVariants as faults;
-ghost use Rattle.unixvol.specs.Running.{IsPlainCommand, GaveBytes, CatsGiven, PrintsBody, RunsMigrate, RunsMkfs, Runs, RunsRead, RunsToEnd, Ends, host_files};
+ghost use Rattle.unixvol.specs.Running.{IsPlainCommand, IsUnread, Gave, PrintsBody, RunsMigrate, RunsMkfs, Runs, RunsRead, RunsToEnd, Ends, host_files};
 ghost use Rattle.host_files.specs.Saving.{IsTaken};
 
 use crate::explaining::{explain_cat, explain_command_line, finish, tell_fault};
 use crate::host::Host;
 use crate::looks::run_get;
-use crate::reading::read_stamped;
+use crate::reading::{read_stamped, read_volume};
 use crate::saving::{save_made, save_migrated};
 use crate::subject::Subject;
 use clap::Error;
@@ -21,14 +19,14 @@ use command_changes::mkfs::make_volume;
 use command_faults::Ending;
 use command_faults::status::DONE;
 use command_line::{Invocation, VolumeFile};
-use command_reads::CatFault;
-use command_reads::cat::cat;
-use host_files::{ImageFiles, noted_reader, noted_writer};
-use pdp_words::{IntoWrite, Sink};
-use std::fs::{self, Files};
-use std::io::{self, Write};
+use command_reads::cat::print_file;
+use host_files::{ImageFiles, UpTo, noted_writer};
+use pdp_words::{Image, IntoWrite, Sink};
+use std::fs::Files;
+use std::io::Write;
 use std::process::ExitCode;
 use std::rt::Clock;
+use vol_layout::Edition;
 use vol_mkfs::NewVolume;
 
 /// Does what was read of the command line, and answers how the program ends. What it prints goes to `output`,
@@ -110,16 +108,19 @@ fn run_cat<R: Files + Eprint + AllocGlobal, O: Sink>(
     volume: VolumeFile<'_>,
     ino: u16,
 ) -> u8
-    ensures shown { PrintsBody (GaveBytes R.File.remaining) (O.contents output.old) (O.contents output.new) (O.failed output.old) (O.failed output.new)
-        volume.entry.edition ino result }
+    ensures shown { PrintsBody (IsUnread R.File.remaining) (Gave (UpTo.Volume volume.entry.edition) R.File.remaining) (O.contents output.old) (O.contents output.new)
+        (O.failed output.old) (O.failed output.new) volume.entry.edition ino result }
     ensures whole { result ≡ 0 → O.failed output.new ≡ O.failed output.old }
     ensures silent { result ≢ 0 → result ≢ 3 → Keeps (O.contents output.old) (O.contents output.new) }
     ensures within { result ≤ 4 }
 {
-    let (outcome, error) = cat_file(host.rt, output, volume, ino);
-    match outcome {
+    let image = match read_volume(host, volume) {
+        Ok(image) => Image::from_bytes(image),
+        Err(status) => return status,
+    };
+    match print_file(volume.edition, ino, &image, output) {
         Ok(()) => DONE,
-        Err(fault) => explain_cat(host, fault, error, Subject::of_cat(volume.image, ino)),
+        Err(fault) => explain_cat(host, fault, Subject::of_cat(volume.image, ino)),
     }
 }
 
@@ -153,7 +154,7 @@ fn run_migrate<R: ImageFiles + Clock + Eprint + AllocGlobal>(
     ensures ends { (known : Option (List ℕ)) (failed : Bool) (errors : ErrorStream) → Hears errors result.fault
         → Ends (still known failed errors) result.status }
 {
-    let (image, stamp) = match read_stamped(host, old) {
+    let (image, stamp) = match read_stamped(host, Edition::V6, old) {
         Ok(read) => read,
         Err(status) => {
             return Ending {
@@ -167,26 +168,5 @@ fn run_migrate<R: ImageFiles + Clock + Eprint + AllocGlobal>(
     Ending {
         status,
         fault: answer.fault,
-    }
-}
-
-/// Prints the body of i-node `ino` of the volume in a file. With what comes of it goes the file's error, where it failed.
-fn cat_file<R: Files + AllocGlobal, O: Sink>(
-    rt: &R,
-    output: &mut O,
-    volume: VolumeFile<'_>,
-    ino: u16,
-) -> (Result<(), CatFault>, Option<io::Error>)
-    ensures shown { CatsGiven (GaveBytes R.File.remaining) (O.contents output.old) (O.contents output.new) volume.entry.edition ino result.0 }
-    ensures writer { IsErrAnd result.0 (λ fault. (count : ℕ) × (fault ≡ faults.Writer count)) → O.failed output.new ≡ true }
-    ensures kept { IsNoWriters result.0 → O.failed output.new ≡ O.failed output.old }
-{
-    match fs::open(rt, volume.image) {
-        Ok(file) => {
-            let mut source = noted_reader(file);
-            let outcome = cat(rt.alloc(), volume.edition, ino, &mut source, output);
-            (outcome, source.error())
-        }
-        Err(error) => (Err(CatFault::Device), Some(error)),
     }
 }

@@ -94,10 +94,8 @@ fn run_put<R: ImageFiles + Clock + Eprint + AllocGlobal>(
     let read = ||
         ensures given { IfOk result (λ files. AreGiven (GaveBytes R.File.remaining) (map (λ path. name_of path.now) paths.entry.now) files.items) }
         ensures fault { IfErr result (IsUnread R.File.remaining) }
-    {
-        read_named(host, paths)
-    };
-    let begun = match begin(host, volume.image, read) {
+    { read_named(host, paths) };
+    let begun = match begin(host, volume, read) {
         Ok(begun) => begun,
         Err(status) => {
             return Ending {
@@ -172,7 +170,7 @@ fn run_get<R: ImageFiles + Clock + Eprint + AllocGlobal>(
     ensures ends { (known : Option (List ℕ)) (failed : Bool) (errors : ErrorStream) → Hears errors result.fault
         → Ends (still known failed errors) result.status }
 {
-    let (image, stamp) = match read_stamped(host, volume.image) {
+    let (image, stamp) = match read_stamped(host, volume.edition, volume.image) {
         Ok(read) => read,
         Err(status) => {
             return Ending {

@@ -145,26 +145,19 @@ fn explain<R: Eprint + AllocGlobal>(
     }
 }
 
-/// Prints the line of a fault of `cat`, and answers its status. `error` is that of the image's file, where this failed. Standard
-/// output gets its second line once the run has ended.
+/// Prints the line of a fault of `cat`, and answers its status. Standard output gets its second line once the run has ended.
 pub fn explain_cat<R: Eprint + AllocGlobal>(
     host: &Host<'_, R>,
     fault: CatFault,
-    error: Option<io::Error>,
     subject: Subject<'_>,
 ) -> u8
     ensures { result ≡ cat_status fault }
 {
-    match fault {
-        CatFault::Device => explain_unread(host, Named::File(subject.image), reason_of(error)),
-        _ => {
-            // Where standard error can't be written either, the status tells.
-            let line = fault.line();
-            let _ = eprint!(host.rt; "{line}");
-            explain(host, &fault.as_fault(), None, Some(subject));
-            fault.status()
-        }
-    }
+    // Where standard error can't be written either, the status tells.
+    let line = fault.line();
+    let _ = eprint!(host.rt; "{line}");
+    explain(host, &fault.as_fault(), None, Some(subject));
+    fault.status()
 }
 
 /// Prints the text of a command line that asks for nothing that can be done, or the help that it

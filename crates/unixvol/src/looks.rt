@@ -1,13 +1,13 @@
 //! The commands that look at an image, sound or not, which may have printed something whatever their status is; and `get`, which prints
 //! all or nothing.
-ghost use Rattle.std.specs.Prelude.{◌≡◌, ◌≤◌};
+ghost use Rattle.std.specs.Prelude.{◌≡◌, ◌≤◌, IfErr, IfOk};
 ghost use Rattle.std.specs.Process.{exit_status};
 ghost use Rattle.command_faults.specs.Streams.{ErrorStream, Hears, streams};
-ghost use Rattle.unixvol.specs.Running.{Ends, IsEnd, IsShownBy, LooksToEnd, RunsGetOne, RunsLook, host_files};
+ghost use Rattle.unixvol.specs.Running.{Ends, IsEnd, IsSeen, IsShownBy, IsUnread, LooksToEnd, RunsGetOne, RunsLook, host_files};
 
 use crate::explaining::{finish_printed, tell_fault};
 use crate::host::Host;
-use crate::reading::read_file;
+use crate::reading::{read_checked, read_volume};
 use crate::subject::Subject;
 use command_faults::Ending;
 use command_line::VolumeFile;
@@ -87,7 +87,7 @@ fn run<R: ImageFiles + Eprint + AllocGlobal, O: Sink>(
     ensures ends { (errors : ErrorStream) → Hears errors result.fault
         → IsEnd (streams O.contents O.failed output.old output.new errors) result.status }
 {
-    let image = match read_file(host, volume.image) {
+    let image = match read_seen(host, volume, look) {
         Ok(image) => image,
         Err(status) => {
             return Ending {
@@ -97,6 +97,25 @@ fn run<R: ImageFiles + Eprint + AllocGlobal, O: Sink>(
         }
     };
     perform(host.rt.alloc(), volume.edition, image, look, screen, output)
+}
+
+/// The image that is looked at. Where it can't be read, prints so, and answers the status.
+fn read_seen<R: ImageFiles + Eprint + AllocGlobal>(
+    host: &Host<'_, R>,
+    volume: VolumeFile<'_>,
+    look: Look<'_>,
+) -> Result<Vec<u8>, u8>
+    ensures given { IfOk result (λ image. IsSeen (host_files R.File.remaining R.File.contents R.had R.stood) volume.entry.edition look.entry image.items) }
+    ensures fault { IfErr result (IsUnread R.File.remaining) }
+{
+    match look {
+        Look::Check => read_checked(host, volume),
+        Look::List { .. }
+        | Look::Export { .. }
+        | Look::Inode { .. }
+        | Look::Super { .. }
+        | Look::Map { .. } => read_volume(host, volume),
+    }
 }
 
 /// Prints the file at a path of the volume in a file, and answers how it ends.
@@ -111,7 +130,7 @@ pub fn run_get<R: ImageFiles + Eprint + AllocGlobal, O: Sink>(
     ensures ends { (errors : ErrorStream) → Hears errors result.fault
         → Ends (streams O.contents O.failed output.old output.new errors) result.status }
 {
-    let image = match read_file(host, volume.image) {
+    let image = match read_volume(host, volume) {
         Ok(image) => image,
         Err(status) => {
             return Ending {

@@ -1,29 +1,36 @@
-//! Files that are read to their ends.
+//! Files that are read to their ends, or as far as the volume in them goes.
 ghost use Rattle.std.specs.Prelude.{◌≡◌, ◌⊎◌, false, true, All, Err, IfErr, IfOk, IsErrOf, Ok, OnErr, length};
-ghost use Rattle.pdp_words.specs.Devices.{IsReadWhole, LosesFront};
+ghost use Rattle.pdp_words.specs.Devices.{LosesFront};
 ghost use Rattle.host_files.specs.Opening.{IsOpened};
-ghost use Rattle.unixvol.specs.Running.{GaveBytes, IsStatusOfFileOrMemory, IsUnread};
+ghost use Rattle.host_files.specs.Reading.{IsPast, IsReadUpTo};
+ghost use Rattle.unixvol.specs.Running.{Gave, GaveBytes, GaveImage, IsStatusOfFileOrMemory, IsUnread};
 
 use crate::explaining::{Named, explain_no_memory, explain_unread, explain_unwritten, reason_of};
 use crate::host::Host;
+use command_line::VolumeFile;
 use host_files::{
-    ImageFiles, Noted, OpenFault, Stamp, expect_image, noted_reader, open_image, open_stamped,
+    FrontFault, ImageFiles, Kind, Noted, OpenFault, Stamp, UpTo, expect_image, noted_reader,
+    open_image, open_stamped, read_up_to,
 };
-use pdp_words::{LoadFault, Source, load};
+use pdp_words::Source;
 use std::fs::{self, Files};
-use std::io::Read;
+use std::io::{self, Read};
 use std::rt::Clock;
+use vol_layout::Edition;
 
-/// A file that was read to its end.
+/// The reason for a file that has more blocks than any volume of its edition, if its super-block says so too.
+const ENDLESS: &str = "it has more blocks than any volume, and its super-block says so";
+
+/// A file that was read.
 #[derive(Drop)]
 pub struct ReadFile<F> {
-    /// All that it had.
+    /// What it gave.
     pub bytes: Vec<u8>,
     /// The file, which is open still.
     pub file: F,
 }
 
-/// The bytes of a file. Where it can't be read, prints so, and answers the status.
+/// The bytes of a file, read to its end. Where it can't be read, prints so, and answers the status.
 pub fn read_file<R: Files + Eprint + AllocGlobal>(
     host: &Host<'_, R>,
     path: &str,
@@ -31,9 +38,51 @@ pub fn read_file<R: Files + Eprint + AllocGlobal>(
     ensures given { IfOk result (λ bytes. GaveBytes R.File.remaining bytes.items) }
     ensures fault { IfErr result (IsUnread R.File.remaining) }
 {
+    read_so_far(host, UpTo::End, path)
+}
+
+/// The image of the volume in a file. Where it can't be read, prints so, and answers the status.
+pub fn read_volume<R: Files + Eprint + AllocGlobal>(
+    host: &Host<'_, R>,
+    volume: VolumeFile<'_>,
+) -> Result<Vec<u8>, u8>
+    ensures given { IfOk result (λ image. Gave (UpTo.Volume volume.entry.edition) R.File.remaining image.items) }
+    ensures fault { IfErr result (IsUnread R.File.remaining) }
+{
+    read_so_far(host, UpTo::Volume(volume.edition), volume.image)
+}
+
+/// The image that `check` reads: all of a regular file, whose volume may be one of the other edition, else the image of the volume. Where
+/// it can't be read, prints so, and answers the status.
+pub fn read_checked<R: ImageFiles + Eprint + AllocGlobal>(
+    host: &Host<'_, R>,
+    volume: VolumeFile<'_>,
+) -> Result<Vec<u8>, u8>
+    ensures given { IfOk result (λ image. GaveImage volume.entry.edition R.File.remaining image.items) }
+    ensures fault { IfErr result (IsUnread R.File.remaining) }
+{
+    let named = Named::File(volume.image);
+    match open_stamped(host.rt, volume.image) {
+        Ok((file, stamp)) if stamp.kind == Kind::Regular => {
+            Ok(read_open(host, named, UpTo::End, file)?.bytes)
+        }
+        Ok((file, _)) => Ok(read_open(host, named, UpTo::Volume(volume.edition), file)?.bytes),
+        Err(why) => Err(explain_unread(host, named, why)),
+    }
+}
+
+/// The bytes of a file, read up to `up_to`. Where it can't be read, prints so, and answers the status.
+fn read_so_far<R: Files + Eprint + AllocGlobal>(
+    host: &Host<'_, R>,
+    up_to: UpTo,
+    path: &str,
+) -> Result<Vec<u8>, u8>
+    ensures given { IfOk result (λ bytes. Gave up_to R.File.remaining bytes.items) }
+    ensures fault { IfErr result (IsUnread R.File.remaining) }
+{
     let named = Named::File(path);
     match fs::open(host.rt, path) {
-        Ok(file) => Ok(read_open(host, named, file)?.bytes),
+        Ok(file) => Ok(read_open(host, named, up_to, file)?.bytes),
         Err(why) => Err(explain_unread(host, named, why)),
     }
 }
@@ -57,17 +106,21 @@ pub fn read_files<R: Files + Eprint + AllocGlobal>(
     Ok(files)
 }
 
-/// The bytes of a file, and its stamp. Where it can't be read, prints so, and answers the status.
+/// The image of the volume in a file, and the file's stamp. Where it can't be read, prints so, and answers the status.
 pub fn read_stamped<R: ImageFiles + Eprint + AllocGlobal>(
     host: &Host<'_, R>,
+    edition: Edition,
     path: &str,
 ) -> Result<(Vec<u8>, Stamp), u8>
-    ensures given { IfOk result (λ read. GaveBytes R.File.remaining read.0.items) }
+    ensures given { IfOk result (λ read. Gave (UpTo.Volume edition) R.File.remaining read.0.items) }
     ensures fault { IfErr result (IsUnread R.File.remaining) }
 {
     let named = Named::File(path);
     match open_stamped(host.rt, path) {
-        Ok((file, stamp)) => Ok((read_open(host, named, file)?.bytes, stamp)),
+        Ok((file, stamp)) => Ok((
+            read_open(host, named, UpTo::Volume(edition), file)?.bytes,
+            stamp,
+        )),
         Err(why) => Err(explain_unread(host, named, why)),
     }
 }
@@ -77,7 +130,7 @@ pub fn read_stamped<R: ImageFiles + Eprint + AllocGlobal>(
 pub struct Begun<F, G> {
     /// What it is given beside the image.
     pub given: G,
-    /// All bytes of the image.
+    /// The image, with what is behind its volume, where it is a regular file.
     pub image: Vec<u8>,
     /// The stamp of the image's file before it was read.
     pub stamp: Stamp,
@@ -85,24 +138,24 @@ pub struct Begun<F, G> {
     pub locked: F,
 }
 
-/// Begins a command that changes the image at `path`: reads what it is given, by `read_given`, which may wait, and only then locks the
+/// Begins a command that changes the volume in a file: reads what it is given, by `read_given`, which may wait, and only then locks the
 /// image and reads it. Before that it looks whether the image can be opened. Where something can't be read, or the image isn't to be
 /// changed, prints so, and answers the status.
 pub fn begin<
     R: ImageFiles + Clock + Eprint + AllocGlobal,
     G: Drop,
     F: FnOnce() -> Result<G, u8> + Drop,
->(host: &Host<'_, R>, path: &str, read_given: F) -> Result<Begun<R::File, G>, u8>
+>(host: &Host<'_, R>, volume: VolumeFile<'_>, read_given: F) -> Result<Begun<R::File, G>, u8>
     requires { F.pre read_given }
-    ensures image { IfOk result (λ begun. IsOpened R.File.remaining R.had begun.image.items begun.stamp) }
+    ensures image { IfOk result (λ begun. IsOpened volume.entry.edition R.File.remaining R.had begun.image.items begun.stamp) }
     ensures given { IfOk result (λ begun. F.post read_given (Ok begun.given)) }
     ensures fault { IfErr result (λ status. IsUnread R.File.remaining status ⊎ F.post read_given (Err status)) }
 {
-    if let Err(fault) = expect_image(host.rt, path) {
-        return Err(explain_unopened(host, Named::File(path), fault));
+    if let Err(fault) = expect_image(host.rt, volume.image) {
+        return Err(explain_unopened(host, Named::File(volume.image), fault));
     }
     let given = read_given()?;
-    let (read, stamp) = read_image(host, path)?;
+    let (read, stamp) = read_image(host, volume)?;
     let ReadFile { bytes, file } = read;
     Ok(Begun {
         given,
@@ -116,14 +169,17 @@ pub fn begin<
 /// and answers the status.
 fn read_image<R: ImageFiles + Clock + Eprint + AllocGlobal>(
     host: &Host<'_, R>,
-    path: &str,
+    volume: VolumeFile<'_>,
 ) -> Result<(ReadFile<R::File>, Stamp), u8>
-    ensures given { IfOk result (λ image. IsOpened R.File.remaining R.had image.0.bytes.items image.1) }
+    ensures given { IfOk result (λ image. IsOpened volume.entry.edition R.File.remaining R.had image.0.bytes.items image.1) }
     ensures fault { IfErr result (IsUnread R.File.remaining) }
 {
-    let named = Named::File(path);
-    match open_image(host.rt, path) {
-        Ok((file, stamp)) => Ok((read_open(host, named, file)?, stamp)),
+    let named = Named::File(volume.image);
+    match open_image(host.rt, volume.image) {
+        Ok((file, stamp)) => {
+            let up_to = UpTo::kept(volume.edition, stamp.kind);
+            Ok((read_open(host, named, up_to, file)?, stamp))
+        }
         Err(fault) => Err(explain_unopened(host, named, fault)),
     }
 }
@@ -142,40 +198,44 @@ fn explain_unopened<R: Eprint + AllocGlobal>(
     }
 }
 
-/// Reads an open file to its end. Where it can't be read, prints so, and answers the status.
+/// Reads an open file up to `up_to`. Where it can't be read, prints so, and answers the status.
 pub fn read_open<R: Eprint + AllocGlobal, F: Read + Drop>(
     host: &Host<'_, R>,
     named: Named<'_>,
+    up_to: UpTo,
     file: F,
 ) -> Result<ReadFile<F>, u8>
-    ensures given { IfOk result (λ read. IsReadWhole (F.remaining file) (F.remaining read.file) read.bytes.items) }
+    ensures given { IfOk result (λ read. IsReadUpTo up_to (F.remaining file) (F.remaining read.file) read.bytes.items) }
     ensures fault { IfErr result (IsUnread F.remaining) }
 {
     let mut source = noted_reader(file);
-    let bytes = read_source(host, named, &mut source)?;
+    let bytes = read_source(host, named, up_to, &mut source)?;
     Ok(ReadFile {
         bytes,
         file: source.into_inner().into_inner(),
     })
 }
 
-/// Reads all that a source has left. Where it can't be read, prints so, and answers the status: that of a file only where
-/// the source failed, that of memory only where it didn't.
+/// Reads a source up to `up_to`. Where it can't be read, prints so, and answers the status: that of a file only where
+/// the source failed or is past what it can have, that of memory only where it didn't fail.
 fn read_source<R: Eprint + AllocGlobal, S: Source>(
     host: &Host<'_, R>,
     named: Named<'_>,
+    up_to: UpTo,
     source: &mut Noted<S>,
 ) -> Result<Vec<u8>, u8>
     requires { ⟦<Noted<S> as Source>⟧.failed source.old ≡ false }
-    ensures given { IfOk result (λ bytes. IsReadWhole (⟦<Noted<S> as Source>⟧.remaining source.old) (⟦<Noted<S> as Source>⟧.remaining source.new) bytes.items) }
+    ensures given { IfOk result (λ bytes. IsReadUpTo up_to (⟦<Noted<S> as Source>⟧.remaining source.old) (⟦<Noted<S> as Source>⟧.remaining source.new) bytes.items) }
     ensures front { OnErr result (LosesFront (⟦<Noted<S> as Source>⟧.remaining source.old) (⟦<Noted<S> as Source>⟧.remaining source.new)) }
-    ensures device { IsErrOf result 3 → ⟦<Noted<S> as Source>⟧.failed source.new ≡ true }
+    ensures device { IsErrOf result 3 → (⟦<Noted<S> as Source>⟧.failed source.new ≡ true)
+        ⊎ IsPast up_to (⟦<Noted<S> as Source>⟧.remaining source.old) (⟦<Noted<S> as Source>⟧.remaining source.new) }
     ensures memory { IsErrOf result 4 → ⟦<Noted<S> as Source>⟧.failed source.new ≡ false }
     ensures fault { IfErr result IsStatusOfFileOrMemory }
 {
-    match load(host.rt.alloc(), source) {
+    match read_up_to(host.rt.alloc(), up_to, source) {
         Ok(image) => Ok(image.into_bytes()),
-        Err(LoadFault::Device) => Err(explain_unread(host, named, reason_of(source.error()))),
-        Err(LoadFault::NoMemory) => Err(explain_no_memory(host)),
+        Err(FrontFault::Device) => Err(explain_unread(host, named, reason_of(source.error()))),
+        Err(FrontFault::Endless) => Err(explain_unread(host, named, io::Error::other(ENDLESS))),
+        Err(FrontFault::NoMemory) => Err(explain_no_memory(host)),
     }
 }

@@ -7,7 +7,7 @@ ghost use Rattle.unixvol.specs.Running.{GaveBytes, IsEnd, IsUnread, RunsCheck, R
 
 use crate::explaining::{finish_printed, tell_fault};
 use crate::host::Host;
-use crate::reading::{Begun, begin, read_file, read_files};
+use crate::reading::{Begun, begin, read_files, read_volume};
 use crate::saving::save_played;
 use crate::subject::Subject;
 use command_faults::Ending;
@@ -94,7 +94,7 @@ fn run_check<R: ImageFiles + Eprint + AllocGlobal + Threads + Wait + Sync, O: Si
     ensures { (errors : ErrorStream) → Hears errors result.fault
         → RunsCheck (streams O.contents O.failed output.old output.new errors) (host_files R.File.remaining R.File.contents R.had R.stood) screen volume.entry.edition checker result.status }
 {
-    let image = match read_file(host, volume.image) {
+    let image = match read_volume(host, volume) {
         Ok(image) => image,
         Err(status) => {
             return Ending {
@@ -132,10 +132,8 @@ fn run_play<R: ImageFiles + Clock + Eprint + AllocGlobal + Threads + Wait + Sync
         ensures given { IfOk result (λ files. All (λ file. GaveBytes R.File.remaining file.items) files.items) }
         ensures count { IfOk result (λ files. length files.items ≡ length scripts.entry.now) }
         ensures fault { IfErr result (IsUnread R.File.remaining) }
-    {
-        read_files(host, scripts)
-    };
-    let begun = match begin(host, volume.image, read) {
+    { read_files(host, scripts) };
+    let begun = match begin(host, volume, read) {
         Ok(begun) => begun,
         Err(status) => {
             return Ending {

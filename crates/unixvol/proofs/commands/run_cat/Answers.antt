@@ -1,9 +1,32 @@
-use Rattle.std.proofs.Common.{ap, sym, ◌∙◌}
-use Rattle.unixvol.specs.Running.{status_after}
+use Rattle.std.proofs.Common.{ap, inl, inr, refl, subst, sym, ◌∙◌}
+use Rattle.std.proofs.KnownBytes.{Keeps-refl}
+use Rattle.host_files.specs.declared.volume_front.UpTo.TheVariants.{Volume}
+use Rattle.unixvol.specs.Running.{Gave, status_after}
 use Rattle.unixvol.proofs.commands.run_cat.Goals as goal
 
-pub returns-in-Ok-clause-shown : goal.returns-in-Ok-clause-shown
-returns-in-Ok-clause-shown g c = (c.cat_file-outcome.result.0, c.cat_file-outcome.ensures.shown, c.cat_file-outcome.ensures.writer, c.cat_file-outcome.ensures.kept, sym (ap status_after c.in-Ok.is))
-
 pub returns-in-Err-clause-shown : goal.returns-in-Err-clause-shown
-returns-in-Err-clause-shown g c = (c.cat_file-outcome.result.0, c.cat_file-outcome.ensures.shown, c.cat_file-outcome.ensures.writer, c.cat_file-outcome.ensures.kept, c.explain_cat.ensures ∙ sym (ap status_after c.in-Err.is))
+returns-in-Err-clause-shown g c = inl (c.in-Err.ensures.fault, Keeps-refl (g.O.Sink.contents c.args.output.now), refl)
+
+pub returns-in-Ok-print_file-clause-shown : goal.returns-in-Ok-print_file-clause-shown
+returns-in-Ok-print_file-clause-shown g c =
+    inr (
+      c.from_bytes-image.result,
+      c.print_file.result,
+      subst (Gave (Volume c.args.volume.edition) g.R.File.Read.remaining) (sym c.from_bytes-image.ensures) c.in-Ok.ensures.given,
+      c.print_file.ensures.shown,
+      c.print_file.ensures.writer,
+      c.print_file.ensures.kept,
+      sym (ap status_after c.in-Ok-print_file.is),
+    )
+
+pub returns-clause-shown : goal.returns-clause-shown
+returns-clause-shown g c =
+    inr (
+      c.from_bytes-image.result,
+      c.print_file.result,
+      subst (Gave (Volume c.args.volume.edition) g.R.File.Read.remaining) (sym c.from_bytes-image.ensures) c.in-Ok.ensures.given,
+      c.print_file.ensures.shown,
+      c.print_file.ensures.writer,
+      c.print_file.ensures.kept,
+      c.explain_cat.ensures ∙ sym (ap status_after c.in-Err-print_file.is),
+    )

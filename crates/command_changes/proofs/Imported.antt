@@ -1,7 +1,11 @@
 -- What the import of an archive comes to, by what making its members came to.
-use Rattle.std.proofs.Common.{◌≡◌, ◌⊎◌, ℕ, List, [], None, Some, Ok, Err, IfOk, IfErr, Result, IsSome, Option, is_some, false, true≢false, inl, inr, refl, sym, subst, ◌∙◌, arith}
+use Rattle.std.proofs.Common.{◌≡◌, ◌⊎◌, ℕ, List, [], None, Some, Ok, Err, IfOk, IfErr, IfSome, Result, IsSome, Option, is_some, false, true≢false, inl, inr, refl, sym, subst, ◌∙◌, arith}
 use Rattle.std.specs.Global.{Vec}
-use Rattle.vol_import.specs.Making.{Imports, IsReason}
+use Rattle.vol_import.specs.MadeMembers.{HasArchive}
+use Rattle.vol_import.specs.Making.{Imports, IsReason, calls_to_make}
+use Rattle.vol_import.specs.Members.{members}
+use Rattle.vol_import.proofs.MadeMembers.{archive_had}
+use Rattle.vol_volume.specs.Volume.{reads_as}
 use Rattle.vol_layout.specs.declared.edition.Edition.{Edition}
 use Rattle.vol_volume.specs.declared.calls.Call.{Call}
 use Rattle.vol_import.specs.declared.faults.ArchiveFault.{ArchiveFault}
@@ -67,3 +71,15 @@ concluded edition image wanted errors (Ok bytes) answer made reason done told he
 }
 concluded edition image wanted errors (Err fault) answer made reason done told hears =
     not_imported edition image wanted errors fault answer reason told.0 told.1 hears
+
+-- what is saved has the members of the archive
+pub archive_saved : (edition : Edition) (image archive path : List ℕ) (now : ℕ) (said : List ℕ → Type 0) (answer : Answer)
+    → ImportsArchive edition image (calls_to_make (reads_as edition image).tree archive path now) said answer
+    → IfSome answer.image (λ saved. HasArchive (reads_as edition saved.items).tree path now (members archive))
+archive_saved edition image archive path now said answer imports = by answer.image imports.made
+  where
+    by : (saved : Option (Vec ℕ))
+        → IfSome saved (λ bytes. Imports edition image (calls_to_make (reads_as edition image).tree archive path now) bytes.items × said [])
+        → IfSome saved (λ saved. HasArchive (reads_as edition saved.items).tree path now (members archive))
+    by None made = tt
+    by (Some saved) made = archive_had edition image archive path saved.items now made.0

@@ -8,8 +8,9 @@ use Rattle.vol_layout.specs.declared.edition.Edition.{Edition}
 use Rattle.vol_volume.specs.Volume.{reads_as}
 use Rattle.vol_volume.specs.declared.calls.Call.{Call}
 use Rattle.vol_volume.specs.declared.calls.Call.TheVariants as calls
-use Rattle.vol_import.specs.MadeMembers.{HasFile}
+use Rattle.vol_import.specs.MadeMembers.{HasArchive, HasFile}
 use Rattle.vol_import.specs.Making.{calls_to_make}
+use Rattle.vol_import.specs.Members.{members}
 use Rattle.command_faults.specs.Changing.{ChangesVolume}
 use Rattle.command_faults.specs.Streams.{Streams}
 use Rattle.command_faults.specs.declared.answer.Answer.{Answer}
@@ -41,19 +42,20 @@ abbrev pub Salvages : Edition → List ℕ → Streams → Answer → Type 0
 Salvages edition image streams answer =
     SalvagesVolume edition image streams.said answer × Keeps streams.old streams.new × (streams.failed ≡ streams.had_failed)
 
--- an archive is imported below a path, and standard output is as it was (this project)
+-- an archive is imported below a path, and standard output is as it was; the tree that is to be saved has its members (this project)
 abbrev pub ImportsBelow : Edition → List ℕ → List ℕ → Streams → Answer → List ℕ → ℕ → Type 0
 ImportsBelow edition image archive streams answer path now =
     ImportsArchive edition image (calls_to_make (reads_as edition image).tree archive path now) streams.said answer
     × Keeps streams.old streams.new
     × (streams.failed ≡ streams.had_failed)
+    × IfSome answer.image (λ saved. HasArchive (reads_as edition saved.items).tree path now (members archive))
 
 -- what a path leads to is taken away, with all that is below it, and standard output is as it was (this project)
 abbrev pub RemovesBelow : Edition → List ℕ → Streams → Answer → List ℕ → ℕ → Type 0
 RemovesBelow edition image streams answer path now =
     RemovesTree edition image path now streams.said answer × Keeps streams.old streams.new × (streams.failed ≡ streams.had_failed)
 
--- what a change comes to, by the bytes that it is given: the calls that it stands for, all or none, or a new free list. Then PATH of `put` leads to a file of these bytes, that of `mkdir` to a directory, that of `mkdir -p` too unless its last name is `.` or `..`, and FROM of `mv` to nothing (this project)
+-- what a change comes to, by the bytes that it is given: the calls that it stands for, all or none, or a new free list. Then the members of the archive are below PATH of `import`, PATH of `put` leads to a file of these bytes, that of `mkdir` to a directory, that of `mkdir -p` too unless its last name is `.` or `..`, and FROM of `mv` to nothing (this project)
 abbrev pub Changes : Edition → List ℕ → List ℕ → Streams → Answer → Change → Type 0
 Changes edition image given streams answer (changes.Put path file now) =
     CallsLeave edition image streams answer (put_calls (reads_as edition image).tree now path.now given) (λ tree. HasFile tree path.now given)

@@ -28,11 +28,11 @@ use Rattle.vol_volume.specs.declared.calls.Record.{Record}
 use Rattle.vol_volume.specs.declared.queries.Query.TheVariants as queries
 
 -- each walk of a path leads to a node
-abbrev IsThere : List ℕ → Tree → Type 0
+abbrev pub IsThere : List ℕ → Tree → Type 0
 IsThere path tree = (i : ℕ) → walk tree user path ≡ Ok i → tree.nodes i ≢ None
 
 -- in a sound image it does
-there_in : (geometry : Geometry) (image path : List ℕ) (made : State) → Rules1To12 geometry image → state geometry image ≡ made → IsThere path made.tree
+pub there_in : (geometry : Geometry) (image path : List ℕ) (made : State) → Rules1To12 geometry image → state geometry image ≡ made → IsThere path made.tree
 there_in geometry image path made ready makes =
     let whole = ready_whole geometry image ready in
     let files : Rules3To7 geometry image = record { blocks = whole.blocks; sound = whole.sound } in

@@ -17,7 +17,7 @@ use Rattle.command_faults.specs.declared.answer.Answer.{Answer}
 use Rattle.command_changes.specs.Finding.{last_name}
 use Rattle.command_changes.specs.Import.{ImportsArchive}
 use Rattle.command_changes.specs.Mkdir.{HasDirectory, mkdir_all_calls, mkdir_call}
-use Rattle.command_changes.specs.Mv.{HasNothing, move_calls}
+use Rattle.command_changes.specs.Mv.{HasMoved, move_calls}
 use Rattle.command_changes.specs.Put.{put_calls}
 use Rattle.command_changes.specs.Rm.{RemovesTree}
 use Rattle.command_changes.specs.Salvage.{SalvagesVolume}
@@ -55,7 +55,7 @@ abbrev pub RemovesBelow : Edition → List ℕ → Streams → Answer → List �
 RemovesBelow edition image streams answer path now =
     RemovesTree edition image path now streams.said answer × Keeps streams.old streams.new × (streams.failed ≡ streams.had_failed)
 
--- what a change comes to, by the bytes that it is given: the calls that it stands for, all or none, or a new free list. Then the members of the archive are below PATH of `import`, PATH of `put` leads to a file of these bytes, that of `mkdir` to a directory, that of `mkdir -p` too unless its last name is `.` or `..`, and FROM of `mv` to nothing (this project)
+-- what a change comes to, by the bytes that it is given: the calls that it stands for, all or none, or a new free list. Then the members of the archive are below PATH of `import`, PATH of `put` leads to a file of these bytes, that of `mkdir` to a directory, that of `mkdir -p` too unless its last name is `.` or `..`; FROM of `mv` to nothing, and its new path to what FROM led to (this project)
 abbrev pub Changes : Edition → List ℕ → List ℕ → Streams → Answer → Change → Type 0
 Changes edition image given streams answer (changes.Put path file now) =
     CallsLeave edition image streams answer (put_calls (reads_as edition image).tree now path.now given) (λ tree. HasFile tree path.now given)
@@ -71,7 +71,8 @@ Changes edition image given streams answer (changes.MkdirAll path now) =
 Changes edition image given streams answer (changes.Ln from to now) =
     Calls edition image streams answer (calls.Link user now from.now to.now ∷ [])
 Changes edition image given streams answer (changes.Mv from to now) =
-    CallsLeave edition image streams answer (move_calls (reads_as edition image).tree now from.now to.now) (λ tree. HasNothing tree from.now)
+    CallsLeave edition image streams answer (move_calls (reads_as edition image).tree now from.now to.now)
+    (HasMoved (reads_as edition image).tree now from.now to.now)
 Changes edition image given streams answer (changes.Chmod path perm now) =
     Calls edition image streams answer (calls.Chmod user now path.now perm ∷ [])
 Changes edition image given streams answer (changes.Chown path uid gid now) =

@@ -56,7 +56,7 @@ searched_names (Some node) names is = by node.content is
     by (Device type addresses) is = absurd (cc)
 
 -- where nodes keep their names, a walk leads to where it led
-walk_kept : (old new : Tree) → KeepsNames old.nodes new.nodes → (names : List (List ℕ)) (x i : ℕ) → walk_from old user x names ≡ Ok i
+pub walk_kept : (old new : Tree) → KeepsNames old.nodes new.nodes → (names : List (List ℕ)) (x i : ℕ) → walk_from old user x names ≡ Ok i
     → walk_from new user x names ≡ Ok i
 walk_kept old new keeps [] x i is = is
 walk_kept old new keeps (name ∷ names) x i is =
@@ -167,7 +167,7 @@ insert_has names name word i j fresh is =
       | false ↦ λ other. is
     ] refl
 
-entered_has : (now size i : ℕ) (name : List ℕ) (node : Option Node) (names : Names) → searched node ≡ Ok names → get names name ≡ None
+pub entered_has : (now size i : ℕ) (name : List ℕ) (node : Option Node) (names : Names) → searched node ≡ Ok names → get names name ≡ None
     → HasNamesOf node (entered now size name i node)
 entered_has now size i name None names held fresh word j is = cc
 entered_has now size i name (Some node) names held fresh word j is = by node.content held is
@@ -207,7 +207,7 @@ entered_keeps now size i name node names held fresh = (entered_has now size i na
         )
 
 -- the name is found then
-entered_found : (now size i : ℕ) (name : List ℕ) (node : Option Node) (names : Names) → searched node ≡ Ok names
+pub entered_found : (now size i : ℕ) (name : List ℕ) (node : Option Node) (names : Names) → searched node ≡ Ok names
     → found (entered now size name i node) name ≡ Ok i
 entered_found now size i name None names held = cc
 entered_found now size i name (Some node) names held = by node.content held

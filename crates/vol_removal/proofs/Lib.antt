@@ -1,5 +1,5 @@
 mod FreedBlocks
-mod FreedNumbers
+pub mod FreedNumbers
 pub mod GoneCalls
 mod GoneNames
 pub mod GoneTrees

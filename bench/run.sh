@@ -251,6 +251,37 @@ compare 'ncheck, 10,000 directories deep' 1.5 0 output ncheck 7 wide.img 1
 compare 'dcheck, 60,000 names' 1.5 0 output dcheck 7 wide.img 1
 compare 'ncheck, 60,000 names' 1.5 0 output ncheck 7 wide.img 1
 
+# Images of 1 MB that were made to keep a command busy, each against an ordinary one of as many bytes. One run of each, which ends after 300 seconds.
+# Above 50 are only those whose time is the specified steps': icheck's one for each i-node and block that it names, and dcheck's one for each 64 logical blocks.
+"$plain" fill 7 plain.img 2048 20 100 || exit 1
+highest=124
+# hostile PATTERN COMMAND WORD..: a row of the table; the words follow the image
+hostile() {
+    local pattern=$1 command=$2 first
+    shift 2
+    "$plain" hostile 7 sparse.img 2048 20 "$pattern" || exit 1
+    microseconds output timeout 300 "$program" "$command" 7 sparse.img "$@" 2> /dev/null
+    first=$taken
+    microseconds output timeout 300 "$program" "$command" 7 plain.img "$@"
+    row "$command${*:+ $*}, $pattern" 50 "$first" "$taken"
+}
+for workers in 1 4; do
+    hostile file_rings icheck "$workers"
+    hostile file_fans icheck "$workers"
+    hostile directory_zeros dcheck "$workers"
+    hostile directory_entries dcheck "$workers"
+    hostile directory_entries ncheck "$workers"
+done
+for pattern in directory_zeros directory_names directory_fans; do hostile "$pattern" export; done
+hostile directory_zeros check
+for command in map super; do
+    hostile file_rings "$command"
+    hostile file_fans "$command"
+done
+hostile file_rings inode 3
+highest=0
+rm -f sparse.img plain.img
+
 # Four workers against one, on a volume whose files name 300,000 blocks: the whole command, and ten checks in memory.
 "$plain" fill 7 wide.img 380000 4500 28000 || exit 1
 side_by_side 'icheck, 300,000 blocks, 4 workers' 1 icheck 7 wide.img 4 -- icheck 7 wide.img 1

@@ -8,16 +8,17 @@ use Rattle.std.specs.Ordering.{nat_cmp, is_eq, is_lt, ordering_reverse}
 use Rattle.std.specs.declared.cmp.Ordering.{Ordering}
 use Rattle.std.specs.declared.cmp.Ordering.TheVariants.{Less, Equal, Greater}
 use Rattle.std.specs.Cmp.{tied_itself}
-use Rattle.std.proofs.lemmas.Bool.{or_parts, true≢false}
+use Rattle.std.proofs.lemmas.Bool.{true≢false}
 use Rattle.std.proofs.lemmas.Cmp.{nat_list_cmp_total}
 use Rattle.std.proofs.lemmas.List.{take_all, length-take}
 use Rattle.vol_layout.specs.Slot.{name_of, slot_at}
 use Rattle.vol_layout.specs.Body.{body}
 use Rattle.vol_layout.specs.declared.geometry.Geometry.{Geometry}
 use Rattle.vol_layout.specs.declared.slot.Slot.{Slot}
+use Rattle.vol_dir.proofs.Components.{one_piece}
 use Rattle.vol_dir.specs.Entries.{entry_in, entry_at, slot_count, slots}
 use Rattle.vol_dir.specs.Names.{Names, get, names_of, is_dots}
-use Rattle.vol_dir.specs.Walk.{onto_first, pieces, is_nil, components}
+use Rattle.vol_dir.specs.Walk.{is_nil, components}
 use Rattle.vol_dir.proofs.NameMaps.{sorted}
 use Rattle.vol_dir.proofs.Components.{components-nil}
 use Rattle.vol_dir.proofs.PathJoins.{components-join}
@@ -113,13 +114,6 @@ found_each (e ∷ es) h =
 pub directory_found : (geometry : Geometry) (image : List ℕ) (d : ℕ)
     → Each (λ (e : List ℕ × ℕ). get (names_of (slots geometry image d)) e.0 ≡ Some e.1) (names_of (slots geometry image d))
 directory_found geometry image d = found_each (names_of (slots geometry image d)) (sorted (slots geometry image d))
-
--- a name without a slash is one piece
-one_piece : (name : List ℕ) → list_any (λ c. c == 47) name ≡ false → pieces name ≡ name ∷ []
-one_piece [] h = refl
-one_piece (c ∷ name) h =
-    let parts = or_parts (c == 47) (list_any (λ c. c == 47) name) h in
-    ap (λ b. cond b ([] ∷ pieces name) (onto_first c (pieces name))) parts.0 ∙ ap (onto_first c) (one_piece name parts.1)
 
 -- a plain name of at most 14 bytes is its only component
 pub one_component : (name : List ℕ) → is_plain name ≡ true → IsShort name → components name ≡ name ∷ []

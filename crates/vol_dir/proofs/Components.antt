@@ -32,6 +32,13 @@ components-slashes (c ∷ path) =
       | false ↦ λ e. ap (λ b. map (take 14) (kept_at c path b)) e
     ] refl
 
+-- a path without a slash is one piece
+pub one_piece : (name : List ℕ) → list_any (λ c. eqb c 47) name ≡ false → pieces name ≡ name ∷ []
+one_piece [] h = refl
+one_piece (c ∷ name) h =
+    let parts = or_parts (eqb c 47) (list_any (λ c. eqb c 47) name) h in
+    ap (λ b. cond b ([] ∷ pieces name) (onto_first c (pieces name))) parts.0 ∙ ap (onto_first c) (one_piece name parts.1)
+
 -- a path's pieces begin with the bytes before its first slash; the others are those of the rest, whose first is empty
 pub record HasFirst (path : List ℕ) (n : ℕ) : Type 0 where
   pub others : List (List ℕ)

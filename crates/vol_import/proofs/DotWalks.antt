@@ -12,6 +12,7 @@ use Rattle.vol_layout.specs.Geometry.{geometry_of}
 use Rattle.vol_layout.specs.declared.edition.Edition.{Edition}
 use Rattle.vol_layout.specs.declared.geometry.Geometry.{Geometry}
 use Rattle.vol_file.proofs.PlaceLists.{bytes_same, same_bytes}
+use Rattle.vol_dir.proofs.Components.{one_piece}
 use Rattle.vol_dir.specs.Access.{user}
 use Rattle.vol_dir.specs.Entries.{HasEntries, entry_at}
 use Rattle.vol_dir.specs.Names.{Names, get, dot}
@@ -145,13 +146,6 @@ plain_pieces (c ∷ path) =
     onto : (ps : List (List ℕ)) → (c == 47) ≡ false → ArePlain ps → ArePlain (onto_first c ps)
     onto [] e plain = (ap (λ b. b || false) e, tt)
     onto (p ∷ ps) e plain = (ap (λ b. b || list_any (λ c. c == 47) p) e ∙ plain.0, plain.1)
-
--- a piece without a slash is one
-one_piece : (name : List ℕ) → list_any (λ c. c == 47) name ≡ false → pieces name ≡ name ∷ []
-one_piece [] h = refl
-one_piece (c ∷ name) h =
-    let parts = or_parts (c == 47) (list_any (λ c. c == 47) name) h in
-    ap (λ b. cond b ([] ∷ pieces name) (onto_first c (pieces name))) parts.0 ∙ ap (onto_first c) (one_piece name parts.1)
 
 plain_front : (n : ℕ) (name : List ℕ) → list_any (λ c. c == 47) name ≡ false → list_any (λ c. c == 47) (take n name) ≡ false
 plain_front zero name h = refl

@@ -1,12 +1,13 @@
 #!/usr/bin/env bash
 # Writes the manual page and the completions for bash and zsh, as the program describes itself: each command, word and option comes
-# from `--help`. Usage: manual/make.sh PROGRAM FOLDER. It writes FOLDER/unixvol.1, FOLDER/unixvol.bash and FOLDER/_unixvol.
+# from `--help`. What all commands have in common comes from sections.man. Usage: manual/make.sh PROGRAM FOLDER. It writes FOLDER/unixvol.1, FOLDER/unixvol.bash and FOLDER/_unixvol.
 set -euo pipefail
 # Texts are bytes, whatever the language of the system.
 export LC_ALL=C
 [ $# = 2 ] || { echo "usage: manual/make.sh PROGRAM FOLDER" >&2; exit 2; }
 program=$(realpath "$1")
 folder=$(realpath "$2")
+sections=$(realpath "$(dirname "$0")")/sections.man
 
 # help WORD..: the help of the program, or of the command that is named
 help() { "$program" "$@" --help; }
@@ -74,6 +75,7 @@ manual_page() {
     about_help | escaped
     echo ".SH EXIT STATUS"
     rest | verbatim
+    cat "$sections"
 }
 
 # kind WORD: what stands for a word of the command line: an edition, a file, a path in the volume, or anything

@@ -7,7 +7,7 @@ PREFIX ?= /usr/local
 .PHONY: help run build test bench faults wrong-bodies manual release install
 
 # The scripts of rows that the gate runs the built program through.
-ROWS = program words volumes looks checks checkers changes trees many_trees archives migrations plays explaining manual
+ROWS = program words volumes looks checks checkers changes trees many_trees archives migrations plays explaining manual readme
 
 help:
 	@echo 'make run                    prints the file in samples/hello.v6, by ./unixvol where it was built, else by the program in dist/'

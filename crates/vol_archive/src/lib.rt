@@ -12,6 +12,6 @@ pub mod writing;
 
 pub use exporting::{Start, StartFault, export, start_of};
 pub use found::{Found, Reason, Role};
-pub use members::put_archive;
+pub use members::{device_number, put_archive, special_kind};
 pub use walking::walk;
 pub use writing::WriteFault;

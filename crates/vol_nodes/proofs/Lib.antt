@@ -1,0 +1,4 @@
+pub mod HeldNodes
+pub mod ListedSlots
+pub mod ReadPieces
+pub mod RepliedNodes

@@ -1,0 +1,51 @@
+//! The bytes of a regular file.
+ghost use Rattle.std.specs.Prelude.{◌≡◌, ◌≤◌, length, Ok, Err, OnOk, MatchResult};
+ghost use Rattle.vol_layout.specs.Body.{body};
+ghost use Rattle.vol_layout.specs.Geometry.{Fits};
+ghost use Rattle.vol_dir.specs.Tree.{tree};
+ghost use Rattle.vol_nodes.specs.Nodes.{bytes_in, read_in, count_of, filled};
+
+use crate::fault::NodeFault;
+use crate::nodes::node_kind;
+use pdp_words::Image;
+use vol_layout::{Geometry, Kind};
+
+/// Returns Ok if node `i` is a regular file.
+fn regular(image: &Image, geometry: &Geometry, i: u16) -> Result<(), NodeFault>
+    requires fits { Fits geometry.now image.now }
+    ensures bytes { MatchResult result
+        (λ _. bytes_in (tree geometry.now image.now) i ≡ Ok (body geometry.now image.now i))
+        (λ fault. bytes_in (tree geometry.now image.now) i ≡ Err fault) }
+    ensures first { OnOk result (1 ≤ i) }
+    ensures last { OnOk result (i ≤ geometry.now.last_inode) }
+{
+    match node_kind(image, geometry, i) {
+        None => Err(NodeFault::Stale),
+        Some(Kind::Regular) => Ok(()),
+        Some(_) => Err(NodeFault::NotRegular),
+    }
+}
+
+/// Reads bytes of regular file `i` from byte `offset` on, as many as there are and `buffer` has room for, and returns how many: none
+/// at the end of the file and past it. The rest of `buffer` stays. Holes read as zeros.
+///
+/// Stale if no node has this number, then NotRegular; `buffer` stays.
+///
+/// Takes no memory. Costs what [`vol_file::read`] costs.
+pub fn read(
+    image: &Image,
+    geometry: &Geometry,
+    i: u16,
+    offset: u64,
+    buffer: &mut [u8],
+) -> Result<usize, NodeFault>
+    requires fits { Fits geometry.now image.now }
+    ensures count { result ≡ count_of (read_in (tree geometry.now image.now) i offset (length buffer.old)) }
+    ensures buffer { buffer.new ≡ filled (read_in (tree geometry.now image.now) i offset (length buffer.old)) buffer.old }
+{
+    regular(image, geometry, i)?;
+    match u32::try_from(offset) {
+        Ok(offset) => Ok(vol_file::read(image, geometry, i, offset, buffer)),
+        Err(_) => Ok(0),
+    }
+}

@@ -86,7 +86,7 @@ pub(crate) fn slashed(alloc: Global, path: &[u8]) -> Result<Vec<u8>, AllocError>
 }
 
 /// Whether a name has bytes, none of them a slash.
-fn is_plain(name: &[u8]) -> bool
+pub fn is_plain(name: &[u8]) -> bool
     ensures { result ≡ is_plain name.now }
 {
     !name.is_empty() && !name.contains(&b'/')

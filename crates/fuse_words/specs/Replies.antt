@@ -37,10 +37,11 @@ init_message unique settings =
     ++ little_bytes 2 0  -- map_alignment
     ++ replicate 32 0  -- unused
 
--- the attributes of a node (fuse_attr, 88 bytes)
-unfoldable pub attribute_bytes : Attributes → List ℕ
-attribute_bytes attributes =
-    little_bytes 8 attributes.ino
+-- bytes, and then the attributes of a node (fuse_attr, 88 bytes)
+unfoldable pub with_attributes : List ℕ → Attributes → List ℕ
+with_attributes front attributes =
+    front
+    ++ little_bytes 8 attributes.ino
     ++ little_bytes 8 attributes.size
     ++ little_bytes 8 attributes.blocks
     ++ little_bytes 8 attributes.accessed
@@ -77,23 +78,25 @@ no_attributes = record {
 -- the reply to LOOKUP (fuse_entry_out, 128 bytes)
 unfoldable pub entry_message : ℕ → Entry → List ℕ
 entry_message unique entry =
-    reply_header 128 unique
+    with_attributes
+    (reply_header 128 unique
     ++ little_bytes 8 entry.node
     ++ little_bytes 8 entry.generation
     ++ little_bytes 8 entry.name_seconds
     ++ little_bytes 8 entry.attribute_seconds
     ++ little_bytes 4 0  -- entry_valid_nsec
-    ++ little_bytes 4 0  -- attr_valid_nsec
-    ++ attribute_bytes entry.attributes
+    ++ little_bytes 4 0)  -- attr_valid_nsec
+    entry.attributes
 
 -- the reply to GETATTR (fuse_attr_out, 104 bytes)
 unfoldable pub attributes_message : ℕ → ℕ → Attributes → List ℕ
 attributes_message unique seconds attributes =
-    reply_header 104 unique
+    with_attributes
+    (reply_header 104 unique
     ++ little_bytes 8 seconds
     ++ little_bytes 4 0  -- attr_valid_nsec
-    ++ little_bytes 4 0  -- dummy
-    ++ attribute_bytes attributes
+    ++ little_bytes 4 0)  -- dummy
+    attributes
 
 -- the reply to OPEN and OPENDIR (fuse_open_out, 16 bytes)
 unfoldable pub open_message : ℕ → ℕ → ℕ → List ℕ

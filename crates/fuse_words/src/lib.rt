@@ -5,15 +5,15 @@
 pub mod directory;
 pub mod laws;
 pub mod operation;
+mod pushing;
 pub mod reply;
+pub mod reply_buffer;
 pub mod request;
 #[cfg(test)]
 mod tests;
 
 pub use directory::{EntryKind, push_entry};
 pub use operation::{Name, Operation};
-pub use reply::{
-    ASYNC_READ, Attributes, CACHE_DIRECTORY, Entry, KEEP_CACHE, Settings, Statistics,
-    attributes_reply, data_reply, entry_reply, init_reply, open_reply, statfs_reply, status_reply,
-};
+pub use reply::{ASYNC_READ, Attributes, CACHE_DIRECTORY, Entry, KEEP_CACHE, Settings, Statistics};
+pub use reply_buffer::{MOST_DATA, ReplyBuffer};
 pub use request::{Header, ROOT, Request, RequestFault, read_header, read_request};

@@ -1,6 +1,5 @@
 use crate::{
-    Entry, EntryKind, Operation, Settings, Statistics, attributes_reply, data_reply, entry_reply,
-    init_reply, open_reply, push_entry, read_request, statfs_reply,
+    Entry, EntryKind, Operation, ReplyBuffer, Settings, Statistics, push_entry, read_request,
 };
 use std::test::Fail;
 
@@ -46,20 +45,18 @@ fn requests_that_a_kernel_sent(rt: HostRuntime) -> Result<(), Fail> {
 #[test]
 fn replies_that_a_kernel_took(rt: HostRuntime) -> Result<(), Fail> {
     let alloc = rt.alloc();
-    let mut entries = Vec::new(alloc);
-    assert!(rt; push_entry(&mut entries, 64, 1, 1, EntryKind::Directory, b".")?);
-    assert!(rt; push_entry(&mut entries, 64, 5, 2, EntryKind::Regular, b"etc")?);
-    assert!(rt; !push_entry(&mut entries, 64, 6, 3, EntryKind::Regular, b"x")?);
-    assert_eq!(rt;
-        data_reply(alloc, 12, &entries)?.as_slice(),
-        LISTED.as_slice()
-    );
+    let mut entries = Vec::with_capacity(alloc, 64)?;
+    assert!(rt; push_entry(&mut entries, 64, 1, 1, EntryKind::Directory, b"."));
+    assert!(rt; push_entry(&mut entries, 64, 5, 2, EntryKind::Regular, b"etc"));
+    assert!(rt; !push_entry(&mut entries, 64, 6, 3, EntryKind::Regular, b"x"));
+    let mut reply = ReplyBuffer::new(alloc)?;
+    reply.put_data(12, &entries);
+    assert_eq!(rt; reply.as_slice(), LISTED.as_slice());
     Ok(())
 }
 
 #[test]
 fn all_other_replies(rt: HostRuntime) -> Result<(), Fail> {
-    let alloc = rt.alloc();
     let settings = Settings {
         max_readahead: 131072,
         flags: 1,
@@ -80,13 +77,21 @@ fn all_other_replies(rt: HostRuntime) -> Result<(), Fail> {
         fragment_size: 512,
     };
     let missing = Entry::missing(9);
-    let lengths = [
-        init_reply(alloc, 2, &settings)?.len(),
-        entry_reply(alloc, 4, &missing)?.len(),
-        attributes_reply(alloc, 6, 9, &missing.attributes)?.len(),
-        open_reply(alloc, 8, 3, 0)?.len(),
-        statfs_reply(alloc, 10, &sizes)?.len(),
-    ];
-    assert_eq!(rt; lengths, [80, 144, 120, 32, 96]);
+    let mut reply = ReplyBuffer::new(rt.alloc())?;
+    reply.put_init(2, &settings);
+    assert_eq!(rt; reply.as_slice().len(), 80);
+    reply.put_entry(4, &missing);
+    assert_eq!(rt; reply.as_slice().len(), 144);
+    reply.put_attributes(6, 9, &missing.attributes);
+    assert_eq!(rt; reply.as_slice().len(), 120);
+    reply.put_open(8, 3, 0);
+    assert_eq!(rt; reply.as_slice().len(), 32);
+    reply.put_statfs(10, &sizes);
+    assert_eq!(rt; reply.as_slice().len(), 96);
+    reply.put_status(12, 5);
+    assert_eq!(rt;
+        reply.as_slice(),
+        b"\x10\0\0\0\xfb\xff\xff\xff\x0c\0\0\0\0\0\0\0".as_slice()
+    );
     Ok(())
 }

@@ -7,7 +7,7 @@ use Rattle.fuse_words.proofs.directory.push_entry.Goals as goal
 
 pub returns-clause-pushed : goal.returns-clause-pushed
 returns-clause-pushed c =
-    dirent_put c.args.out.now.items c.push_u64.new.out.items c.push_u64-2.new.out.items c.push_u32.new.out.items c.push_u32-2.new.out.items c.extend_from_slice.new.self.items c.extend_from_slice-2.new.self.items c.args.ino c.args.next_offset c.args.kind c.args.name.now c.in_ok-push_u64.ensures c.in_ok-push_u64-2.ensures c.in_ok-push_u32.ensures
-    (c.in_ok-push_u32-2.ensures ∙ ap (λ n. c.push_u32.new.out.items ++ little_bytes 4 n) c.number.ensures)
-    c.in_ok-extend_from_slice.ensures.items
-    (c.in_ok-extend_from_slice-2.ensures.items ∙ ap (λ xs. c.extend_from_slice.new.self.items ++ xs) (take-replicate (padding (length c.args.name.now)) 8 0 (omega arith)))
+    dirent_put c.args.out.now.items c.push_u64.new.out.items c.push_u64-2.new.out.items c.push_u32.new.out.items c.push_u32-2.new.out.items c.push.new.out.items c.push-2.new.out.items c.args.ino c.args.next_offset c.args.kind c.args.name.now c.push_u64.ensures.items c.push_u64-2.ensures.items c.push_u32.ensures.items
+    (c.push_u32-2.ensures.items ∙ ap (λ n. c.push_u32.new.out.items ++ little_bytes 4 n) c.number.ensures)
+    c.push.ensures.items
+    (c.push-2.ensures.items ∙ ap (λ xs. c.push.new.out.items ++ xs) (take-replicate (padding (length c.args.name.now)) 8 0 (omega arith)))

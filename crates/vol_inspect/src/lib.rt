@@ -13,7 +13,7 @@ mod listing;
 mod picturing;
 mod placing;
 mod sharing;
-mod super_report;
+pub mod super_report;
 mod texts;
 mod uses;
 

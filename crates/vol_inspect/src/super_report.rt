@@ -58,8 +58,8 @@ pub fn inspect_super(
     Ok(super_report(alloc, image, &geometry)?)
 }
 
-/// The super-block of an image with a geometry.
-fn super_report(
+/// The super-block of an image with a geometry, as [`inspect_super`] reports it.
+pub fn super_report(
     alloc: Global,
     image: &Image,
     geometry: &Geometry,

@@ -1,0 +1,2 @@
+pub mod ListedEntries
+pub mod MessageLaws

@@ -1,0 +1,9 @@
+pub mod Answers
+pub mod Attributes
+pub mod Errno
+pub mod Listing
+pub mod Messages
+pub mod NodeNumbers
+pub mod Serving
+pub mod Statistics
+pub mod Streams

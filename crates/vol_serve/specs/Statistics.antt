@@ -1,0 +1,20 @@
+-- The sizes of a volume, as the kernel is told.
+use Rattle.std.specs.Prelude.{ℕ, ◌-◌, List, length}
+use Rattle.fuse_words.specs.declared.reply.Statistics.{Statistics}
+use Rattle.vol_layout.specs.declared.geometry.Geometry.{Geometry}
+use Rattle.vol_layout.specs.declared.mode.Kind.TheVariants as kinds
+use Rattle.vol_free.specs.FreeWalk.{free_walk}
+use Rattle.vol_reports.specs.Blocks.{kind_count}
+
+-- the sizes: the data blocks, the free ones up to the free list's first fault, and the i-nodes (fuse_kstatfs)
+unfoldable pub statistics_of : Geometry → List ℕ → Statistics
+statistics_of geometry image = record {
+  blocks = geometry.zone_end - geometry.zone_start;
+  free_blocks = length (free_walk geometry image).met;
+  available_blocks = length (free_walk geometry image).met;
+  inodes = geometry.last_inode;
+  free_inodes = kind_count geometry image kinds.Free;
+  block_size = 512;
+  name_length = 14;
+  fragment_size = 512;
+}

@@ -1,0 +1,88 @@
+//! What a node is, as the kernel is told.
+ghost use Rattle.std.specs.Prelude.{◌≡◌};
+ghost use Rattle.vol_layout.specs.Geometry.{Fits};
+ghost use Rattle.vol_dir.specs.Tree.{tree};
+ghost use Rattle.vol_serve.specs.Attributes.{type_of, device_of, attributes_of, attributes_in, entry_kind_in};
+
+use fuse_words::{Attributes, EntryKind};
+use pdp_words::Image;
+use vol_layout::{Geometry, Kind};
+use vol_nodes::{NodeFault, SpecialFile, special_file, stat};
+use vol_volume::Stat;
+
+/// The type bits of a node's mode, of Linux (stat.h).
+fn type_bits(kind: Kind, special: Option<SpecialFile>) -> u32
+    ensures { result ≡ type_of kind special }
+{
+    match kind {
+        Kind::Regular => 0o100000,
+        Kind::Directory => 0o040000,
+        _ => match special {
+            Some(SpecialFile { is_block: true, .. }) => 0o060000,
+            _ => 0o020000,
+        },
+    }
+}
+
+/// The kernel's number of a special file's device; 0 of another node.
+fn device(special: Option<SpecialFile>) -> u32
+    ensures { result ≡ device_of special }
+{
+    match special {
+        Some(file) => 256 * u32::from(file.major) + u32::from(file.minor),
+        None => 0,
+    }
+}
+
+/// The attributes of a node.
+fn attributes_of(stat: &Stat, special: Option<SpecialFile>) -> Attributes
+    ensures { result ≡ attributes_of stat.now special }
+{
+    Attributes {
+        ino: u64::from(stat.number),
+        size: u64::from(stat.size),
+        blocks: (u64::from(stat.size) + 511) / 512,
+        accessed: u64::from(stat.accessed),
+        modified: u64::from(stat.modified),
+        changed: u64::from(stat.changed.unwrap_or(stat.modified)),
+        mode: type_bits(stat.kind, special) + u32::from(stat.permissions),
+        links: u32::from(stat.links),
+        uid: u32::from(stat.uid),
+        gid: u32::from(stat.gid),
+        rdev: device(special),
+        block_size: 512,
+    }
+}
+
+/// The attributes of node `i`. Stale if no node has this number.
+pub(crate) fn node_attributes(
+    image: &Image,
+    geometry: &Geometry,
+    i: u16,
+) -> Result<Attributes, NodeFault>
+    requires { Fits geometry.now image.now }
+    ensures { result ≡ attributes_in (tree geometry.now image.now) i }
+{
+    match stat(image, geometry, i) {
+        Some(stat) => Ok(attributes_of(&stat, special_file(image, geometry, i))),
+        None => Err(NodeFault::Stale),
+    }
+}
+
+/// The kind of node `i`, as an entry of a directory says it.
+pub(crate) fn entry_kind(image: &Image, geometry: &Geometry, i: u16) -> EntryKind
+    requires { Fits geometry.now image.now }
+    ensures { result ≡ entry_kind_in (tree geometry.now image.now) i }
+{
+    let Some(stat) = stat(image, geometry, i) else {
+        return EntryKind::Unknown;
+    };
+    match stat.kind {
+        Kind::Regular => EntryKind::Regular,
+        Kind::Directory => EntryKind::Directory,
+        _ => match special_file(image, geometry, i) {
+            Some(SpecialFile { is_block: true, .. }) => EntryKind::Block,
+            _ => EntryKind::Character,
+        },
+    }
+}

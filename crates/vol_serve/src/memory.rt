@@ -1,0 +1,57 @@
+//! The memory that a server needs, taken once, so that no answer takes any.
+ghost use Rattle.std.specs.Prelude.{◌≡◌, ◌≤◌, vec_capacity, IfOk};
+ghost use Rattle.vol_layout.specs.Geometry.{Fits};
+ghost use Rattle.vol_serve.specs.Statistics.{statistics_of};
+
+use crate::statistics::statistics;
+use fuse_words::{MOST_DATA, ReplyBuffer, Statistics};
+use pdp_words::Image;
+use std::alloc::{AllocError, Global};
+use vol_layout::Geometry;
+
+/// Bytes of a request, at most: the 128 KiB of a write, and 4096 more. The kernel gives no request to a read with room for fewer than
+/// 8192 bytes.
+const MOST_REQUEST: usize = 135_168;
+
+/// Room for a reply, and for the bytes that one brings.
+#[derive(Debug, Drop)]
+pub(crate) struct Room {
+    /// The reply.
+    pub(crate) reply: ReplyBuffer,
+    /// The bytes of a file, or entries of a directory.
+    pub(crate) content: Vec<u8>,
+    pub(crate) ghost enough: { 131072 ≤ vec_capacity content },
+}
+
+/// What a server needs.
+#[derive(Debug, Drop)]
+pub(crate) struct Memory {
+    /// Room for a request.
+    pub(crate) request: Vec<u8>,
+    /// Room for its reply.
+    pub(crate) room: Room,
+    /// The sizes of the volume.
+    pub(crate) sizes: Statistics,
+}
+
+impl Memory {
+    /// Takes the memory for a volume, and counts its free blocks and i-nodes.
+    pub(crate) fn new(
+        alloc: Global,
+        image: &Image,
+        geometry: &Geometry,
+    ) -> Result<Memory, AllocError>
+        requires { Fits geometry.now image.now }
+        ensures { IfOk result (λ memory. memory.sizes ≡ statistics_of geometry.now image.now) }
+    {
+        let request = vec![in alloc; 0u8; MOST_REQUEST]?;
+        let reply = ReplyBuffer::new(alloc)?;
+        let content = Vec::with_capacity(alloc, MOST_DATA)?;
+        let sizes = statistics(alloc, image, geometry)?;
+        Ok(Memory {
+            request,
+            room: Room { reply, content },
+            sizes,
+        })
+    }
+}

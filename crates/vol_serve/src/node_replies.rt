@@ -1,0 +1,175 @@
+//! The replies to requests that are about a node.
+ghost use Rattle.std.specs.Prelude.{◌≡◌, Ok, Err, MatchResult};
+ghost use Rattle.vol_dir.specs.Tree.{tree};
+ghost use Rattle.vol_serve.specs.Answers.{node_reply, lookup_reply, attributes_reply, open_reply, open_directory_reply, read_reply, listing_reply};
+
+use crate::attributes::node_attributes;
+use crate::errno::RequestRefusal;
+use crate::listing::put_entries;
+use crate::memory::Room;
+use crate::node_numbers::node_number;
+use crate::served::Served;
+use fuse_words::{CACHE_DIRECTORY, Entry, KEEP_CACHE, MOST_DATA, Operation};
+use vol_layout::Kind;
+use vol_nodes::{NodeFault, look_up, read, stat};
+
+/// Seconds for which the kernel may keep names and attributes: an hour. The image never changes.
+const SECONDS: u64 = 3600;
+
+/// Puts the reply to an operation on node `i` into `room`, if it isn't refused.
+#[tactic(auto, unfolding(crate::specs::Answers::node_reply))]
+pub(crate) fn reply_of_node(
+    served: &Served<'_>,
+    unique: u64,
+    i: u16,
+    operation: Operation<'_>,
+    room: &mut Room,
+) -> Result<(), RequestRefusal>
+    ensures { MatchResult result
+        (λ _. node_reply served.now.geometry.now served.now.image.now unique i operation.entry ≡ Ok room.new.reply)
+        (λ refusal. node_reply served.now.geometry.now served.now.image.now unique i operation.entry ≡ Err refusal) }
+{
+    match operation {
+        Operation::Lookup { name } => put_looked_up(served, unique, i, name.into_slice(), room),
+        Operation::GetAttr => put_attributes(served, unique, i, room),
+        Operation::Open { flags } => put_opened(served, unique, i, flags, room),
+        Operation::OpenDir => put_opened_directory(served, unique, i, room),
+        Operation::Read { offset, size, .. } => put_bytes(served, unique, i, offset, size, room),
+        Operation::ReadDir { offset, size, .. } => {
+            put_listing(served, unique, i, offset, size, room)
+        }
+        _ => Err(RequestRefusal::Unserved),
+    }
+}
+
+/// Puts the reply to LOOKUP into `room`.
+fn put_looked_up(
+    served: &Served<'_>,
+    unique: u64,
+    dir: u16,
+    name: &[u8],
+    room: &mut Room,
+) -> Result<(), RequestRefusal>
+    ensures { MatchResult result
+        (λ _. lookup_reply served.now.geometry.now served.now.image.now unique dir name.now ≡ Ok room.new.reply)
+        (λ refusal. lookup_reply served.now.geometry.now served.now.image.now unique dir name.now ≡ Err refusal) }
+{
+    let i = look_up(served.image, served.geometry, dir, name)?;
+    let attributes = node_attributes(served.image, served.geometry, i)?;
+    let entry = Entry {
+        node: node_number(served.geometry.edition, i),
+        generation: 0,
+        name_seconds: SECONDS,
+        attribute_seconds: SECONDS,
+        attributes,
+    };
+    room.reply.put_entry(unique, &entry);
+    Ok(())
+}
+
+/// Puts the reply to GETATTR into `room`.
+fn put_attributes(
+    served: &Served<'_>,
+    unique: u64,
+    i: u16,
+    room: &mut Room,
+) -> Result<(), RequestRefusal>
+    ensures { MatchResult result
+        (λ _. attributes_reply (tree served.now.geometry.now served.now.image.now) unique i ≡ Ok room.new.reply)
+        (λ refusal. attributes_reply (tree served.now.geometry.now served.now.image.now) unique i ≡ Err refusal) }
+{
+    let attributes = node_attributes(served.image, served.geometry, i)?;
+    room.reply.put_attributes(unique, SECONDS, &attributes);
+    Ok(())
+}
+
+/// Puts the reply to OPEN into `room`.
+fn put_opened(
+    served: &Served<'_>,
+    unique: u64,
+    i: u16,
+    flags: u32,
+    room: &mut Room,
+) -> Result<(), RequestRefusal>
+    ensures { MatchResult result
+        (λ _. open_reply (tree served.now.geometry.now served.now.image.now) unique i flags ≡ Ok room.new.reply)
+        (λ refusal. open_reply (tree served.now.geometry.now served.now.image.now) unique i flags ≡ Err refusal) }
+{
+    let stat = stat(served.image, served.geometry, i).ok_or(NodeFault::Stale)?;
+    match stat.kind {
+        Kind::Regular if flags % 4 == 0 => {
+            room.reply.put_open(unique, 0, KEEP_CACHE);
+            Ok(())
+        }
+        Kind::Regular => Err(RequestRefusal::ReadOnly),
+        _ => Err(RequestRefusal::Node(NodeFault::NotRegular)),
+    }
+}
+
+/// Puts the reply to OPENDIR into `room`.
+fn put_opened_directory(
+    served: &Served<'_>,
+    unique: u64,
+    i: u16,
+    room: &mut Room,
+) -> Result<(), RequestRefusal>
+    ensures { MatchResult result
+        (λ _. open_directory_reply (tree served.now.geometry.now served.now.image.now) unique i ≡ Ok room.new.reply)
+        (λ refusal. open_directory_reply (tree served.now.geometry.now served.now.image.now) unique i ≡ Err refusal) }
+{
+    let stat = stat(served.image, served.geometry, i).ok_or(NodeFault::Stale)?;
+    match stat.kind {
+        Kind::Directory => {
+            room.reply.put_open(unique, 0, KEEP_CACHE | CACHE_DIRECTORY);
+            Ok(())
+        }
+        _ => Err(RequestRefusal::Node(NodeFault::NotDirectory)),
+    }
+}
+
+/// Puts the reply to READ into `room`.
+fn put_bytes(
+    served: &Served<'_>,
+    unique: u64,
+    i: u16,
+    offset: u64,
+    size: u32,
+    room: &mut Room,
+) -> Result<(), RequestRefusal>
+    ensures { MatchResult result
+        (λ _. read_reply (tree served.now.geometry.now served.now.image.now) unique i offset size ≡ Ok room.new.reply)
+        (λ refusal. read_reply (tree served.now.geometry.now served.now.image.now) unique i offset size ≡ Err refusal) }
+{
+    let size = MOST_DATA.min(size as usize);
+    // There is room, so nothing is refused.
+    let _ = room.content.resize(size, 0);
+    let count = read(served.image, served.geometry, i, offset, &mut room.content)?;
+    room.reply.put_data(unique, &room.content[..count]);
+    Ok(())
+}
+
+/// Puts the reply to READDIR into `room`.
+fn put_listing(
+    served: &Served<'_>,
+    unique: u64,
+    dir: u16,
+    offset: u64,
+    size: u32,
+    room: &mut Room,
+) -> Result<(), RequestRefusal>
+    ensures { MatchResult result
+        (λ _. listing_reply served.now.geometry.now served.now.image.now unique dir offset size ≡ Ok room.new.reply)
+        (λ refusal. listing_reply served.now.geometry.now served.now.image.now unique dir offset size ≡ Err refusal) }
+{
+    let size = MOST_DATA.min(size as usize);
+    put_entries(
+        served.image,
+        served.geometry,
+        dir,
+        offset,
+        size,
+        &mut room.content,
+    )?;
+    room.reply.put_data(unique, &room.content);
+    Ok(())
+}

@@ -1,0 +1,141 @@
+//! Requests from a reader, and replies to a writer, as /dev/fuse is: one read gives one request, and one write takes one reply.
+ghost use Rattle.std.specs.Prelude.{◌≡◌, ◌<◌, ◌≤◌, length, take, false, Ok, IfOk, MatchResult};
+ghost use Rattle.std.specs.Io.KnownBytes.{Keeps, Consumes, Appends};
+ghost use Rattle.vol_serve.specs.Streams.{has_reader_ended, has_writer_failed};
+
+use crate::messages::{Replies, Requests};
+use std::io::{self, Error, ErrorKind, Read, Write};
+
+/// The requests of a reader.
+#[derive(Debug, Drop)]
+pub struct RequestReader<R> {
+    reader: R,
+    ended: bool,
+    fault: Option<Error>,
+}
+
+/// The replies of a writer.
+#[derive(Debug, Drop)]
+pub struct ReplyWriter<W> {
+    writer: W,
+    failed: bool,
+    fault: Option<Error>,
+}
+
+impl<R: Read + Drop> RequestReader<R> {
+    /// The requests that each read of `reader` gives.
+    pub fn new(reader: R) -> RequestReader<R>
+        ensures { has_reader_ended result ≡ false }
+    {
+        RequestReader {
+            reader,
+            ended: false,
+            fault: None,
+        }
+    }
+
+    /// The error that ended the requests; None at the end of the reader's bytes. Of /dev/fuse it is the system's error 19
+    /// (ENODEV) once the volume is unmounted.
+    pub fn into_fault(self) -> Option<Error> {
+        self.fault
+    }
+}
+
+impl<W: Write + Drop> ReplyWriter<W> {
+    /// The replies go to `writer`, each by one write.
+    pub fn new(writer: W) -> ReplyWriter<W>
+        ensures { has_writer_failed result ≡ false }
+    {
+        ReplyWriter {
+            writer,
+            failed: false,
+            fault: None,
+        }
+    }
+
+    /// The error of the write that failed, if one did.
+    pub fn into_fault(self) -> Option<Error> {
+        self.fault
+    }
+}
+
+impl<R: Read> Requests for RequestReader<R> {
+    ghost use Rattle.std.specs.Prelude.{None};
+
+    // which bytes one read gives isn't known
+    ghost taken = { λ reader. None };
+
+    ghost has_ended = { has_reader_ended };
+
+    fn take(&mut self, buffer: &mut [u8]) -> Option<usize> {
+        match read_request(&mut self.reader, buffer) {
+            Ok(0) => {
+                self.ended = true;
+                None
+            }
+            Ok(count) => Some(count),
+            Err(fault) => {
+                self.ended = true;
+                self.fault = Some(fault);
+                None
+            }
+        }
+    }
+}
+
+impl<W: Write> Replies for ReplyWriter<W> {
+    ghost use Rattle.std.specs.Prelude.{None};
+
+    // which bytes one write took isn't known
+    ghost sent = { λ writer. None };
+
+    ghost has_failed = { has_writer_failed };
+
+    fn send(&mut self, reply: &[u8]) -> bool {
+        match write_reply(&mut self.writer, reply) {
+            Ok(()) => true,
+            Err(fault) => {
+                self.failed = true;
+                self.fault = Some(fault);
+                false
+            }
+        }
+    }
+}
+
+/// Reads one request, and returns how many bytes it has: none at the end. A read that a signal interrupted is tried again, and so is
+/// one whose request was withdrawn meanwhile, which the system calls NotFound.
+fn read_request<R: Read>(reader: &mut R, buffer: &mut [u8]) -> io::Result<usize>
+    ensures bound { IfOk result (λ count. count ≤ length buffer.new) }
+    ensures bytes { MatchResult result (λ count. Consumes (R.remaining reader.old) (R.remaining reader.new) (take count buffer.new))
+        (λ _. Keeps (R.remaining reader.old) (R.remaining reader.new)) }
+{
+    'tries: for _ in 0..u64::MAX {
+        match reader.read(buffer) {
+            Ok(count) => return Ok(count),
+            Err(fault) if is_final(&fault) => return Err(fault),
+            Err(_) => {}
+        }
+    }
+    Err(Error::from(ErrorKind::TimedOut))
+}
+
+/// Writes one reply by one write. A write that a signal interrupted is tried again. One whose request was withdrawn meanwhile counts as
+/// done: nobody waits for it. One that takes only a part is an error.
+fn write_reply<W: Write>(writer: &mut W, reply: &[u8]) -> io::Result<()> {
+    'tries: for _ in 0..u64::MAX {
+        match writer.write(reply) {
+            Ok(count) if count == reply.len() => return Ok(()),
+            Ok(_) => return Err(Error::from(ErrorKind::WriteZero)),
+            Err(fault) if fault.kind() == ErrorKind::NotFound => return Ok(()),
+            Err(fault) if fault.kind() != ErrorKind::Interrupted => return Err(fault),
+            Err(_) => {}
+        }
+    }
+    Err(Error::from(ErrorKind::TimedOut))
+}
+
+/// Returns true if a read that failed so isn't tried again.
+fn is_final(fault: &Error) -> bool {
+    !matches!(fault.kind(), ErrorKind::Interrupted | ErrorKind::NotFound)
+}

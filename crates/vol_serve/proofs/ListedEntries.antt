@@ -1,5 +1,5 @@
 -- The entries of a directory's slots, as they are listed.
-use Rattle.std.proofs.Common.{◌≡◌, ◌∙◌, sym, ap, ℕ, zero, suc, ◌+◌, ◌-◌, ◌<◌, ◌≤◌, ◌/◌, min, arith, List, [], ◌++◌, Option, None, Some, Ok, inl, inr}
+use Rattle.std.proofs.Common.{◌≡◌, ◌∙◌, sym, ap, ℕ, zero, suc, ◌+◌, ◌-◌, ◌<◌, ◌≤◌, ◌/◌, min, arith, List, [], ◌++◌, Option, None, Ok, inl, inr}
 use Rattle.std.proofs.lemmas.Bool.{cases_lt}
 use Rattle.fuse_words.specs.declared.directory.EntryKind.{EntryKind}
 use Rattle.vol_layout.specs.Edition.{constants}

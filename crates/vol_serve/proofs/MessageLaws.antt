@@ -1,5 +1,5 @@
 -- Messages that were taken or sent one after another.
-use Rattle.std.proofs.Common.{◌≡◌, ◌∙◌, sym, ap, subst, ℕ, List, [], ◌++◌, append_assoc, Option, None, Some}
+use Rattle.std.proofs.Common.{◌∙◌, sym, ap, subst, ℕ, List, [], ◌++◌, append_assoc, Option, None, Some}
 use Rattle.std.proofs.lemmas.List.{append-nil}
 use Rattle.vol_serve.specs.Messages.{Grows}
 

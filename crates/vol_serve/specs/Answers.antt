@@ -1,5 +1,5 @@
 -- The reply to each request.
-use Rattle.std.specs.Prelude.{ℕ, ◌+◌, ◌%◌, ◌==◌, ◌||◌, ◌&&◌, nat_lt, nat_le, min, bit_and, Bool, true, false, if◌then◌else◌, List, Option, None, Some, Result, Ok, Err}
+use Rattle.std.specs.Prelude.{ℕ, ◌%◌, ◌==◌, ◌||◌, ◌&&◌, nat_lt, nat_le, min, bit_and, Bool, if◌then◌else◌, List, Option, None, Some, Result, Ok, Err}
 use Rattle.std.specs.Option.{ok_or}
 use Rattle.fuse_words.specs.Replies.{status_message, init_message, entry_message, attributes_message, open_message, data_message, statfs_message}
 use Rattle.fuse_words.specs.Requests.{wants_reply, request_of}
@@ -17,7 +17,6 @@ use Rattle.vol_layout.specs.declared.geometry.Geometry.{Geometry}
 use Rattle.vol_layout.specs.declared.mode.Kind.{Kind}
 use Rattle.vol_layout.specs.declared.mode.Kind.TheVariants as kinds
 use Rattle.vol_dir.specs.Tree.{Tree, tree}
-use Rattle.vol_volume.specs.declared.queries.Stat.{Stat}
 use Rattle.vol_nodes.specs.Nodes.{stat_in, look_up, read_in}
 use Rattle.vol_nodes.specs.declared.fault.NodeFault.{NodeFault}
 use Rattle.vol_nodes.specs.declared.fault.NodeFault.TheVariants as nodes

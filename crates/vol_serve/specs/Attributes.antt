@@ -1,5 +1,5 @@
 -- What a node is, as the kernel is told.
-use Rattle.std.specs.Prelude.{ℕ, ◌+◌, ◌*◌, ◌/◌, Bool, true, false, if◌then◌else◌, Option, None, Some, Result, Ok, Err, unwrap_or}
+use Rattle.std.specs.Prelude.{ℕ, ◌+◌, ◌*◌, ◌/◌, if◌then◌else◌, Option, None, Some, Result, unwrap_or}
 use Rattle.std.specs.Option.{option_map, option_map_or, ok_or}
 use Rattle.fuse_words.specs.declared.directory.EntryKind.{EntryKind}
 use Rattle.fuse_words.specs.declared.directory.EntryKind.TheVariants as entries

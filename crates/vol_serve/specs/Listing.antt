@@ -1,5 +1,5 @@
 -- The entries of a directory, as READDIR gives them.
-use Rattle.std.specs.Prelude.{ℕ, zero, suc, ◌+◌, ◌-◌, nat_le, if◌then◌else◌, List, [], ◌++◌, length, Option, None, Some, Result, Ok}
+use Rattle.std.specs.Prelude.{ℕ, zero, suc, ◌+◌, ◌-◌, nat_le, if◌then◌else◌, List, [], ◌++◌, Option, None, Some, Result, Ok}
 use Rattle.fuse_words.specs.Replies.{dirent_bytes, dirent_size}
 use Rattle.fuse_words.specs.declared.directory.EntryKind.{EntryKind}
 use Rattle.vol_archive.specs.Walking.{is_plain}

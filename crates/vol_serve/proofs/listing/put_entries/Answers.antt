@@ -1,7 +1,7 @@
-use Rattle.std.proofs.Common.{◌≡◌, ◌∙◌, sym, ap, subst, ℕ, List, ◌++◌, ◌-◌, ◌+◌, min, arith, Option, vec_len}
+use Rattle.std.proofs.Common.{◌∙◌, ap, subst, ℕ, ◌++◌, ◌-◌, ◌+◌, min, arith, Option, vec_len}
 use Rattle.std.proofs.lemmas.List.{append-nil}
 use Rattle.vol_layout.specs.declared.slot.Slot.{Slot}
-use Rattle.vol_dir.specs.Entries.{entry_at, entry_in, slot_count}
+use Rattle.vol_dir.specs.Entries.{entry_at, slot_count}
 use Rattle.vol_dir.specs.Scanning.{GoesOn}
 use Rattle.vol_dir.specs.Tree.{tree}
 use Rattle.vol_serve.specs.Attributes.{entry_kind_in}

@@ -1,5 +1,5 @@
 -- `put_entries` has put the entries before `slot`, and the rest fit in the room that is left.
-use Rattle.std.proofs.Common.{◌≡◌, ◌+◌, ◌-◌, ◌^◌, ◌≤◌, ◌++◌, vec_len, vec_capacity}
+use Rattle.std.proofs.Common.{◌≡◌, ◌-◌, ◌^◌, ◌≤◌, ◌++◌, vec_len, vec_capacity}
 use Rattle.vol_dir.specs.Entries.{entry_at, slot_count}
 use Rattle.vol_dir.specs.Tree.{tree}
 use Rattle.vol_serve.specs.Attributes.{entry_kind_in}

@@ -1,6 +1,5 @@
-use Rattle.std.proofs.Common.{◌≡◌, ◌∙◌, refl, sym, ap, subst, ℕ, List, ◌+◌, length-append}
+use Rattle.std.proofs.Common.{◌∙◌, refl, sym, ap, subst, ◌+◌, length-append}
 use Rattle.std.proofs.lemmas.List.Elements.{filter_map-append}
-use Rattle.std.specs.List.{filter_map}
 use Rattle.vol_serve.specs.Answers.{reply_to}
 use Rattle.vol_serve.specs.Messages.{Grows}
 use Rattle.vol_serve.proofs.MessageLaws.{grows_more, grows_kept}

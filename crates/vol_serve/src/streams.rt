@@ -1,7 +1,9 @@
 //! Requests from a reader, and replies to a writer, as /dev/fuse is: one read gives one request, and one write takes one reply.
-ghost use Rattle.std.specs.Prelude.{◌≡◌, ◌<◌, ◌≤◌, length, take, false, Ok, IfOk, MatchResult};
+ghost use Rattle.std.specs.Prelude.{◌≡◌, ◌<◌, ◌≤◌, [], ◌∷◌, length, take, true, false, None, IfOk, IfSome, IfNone, MatchBool, MatchOption, MatchResult};
+ghost use Rattle.std.specs.Bool.{OnTrue, OnFalse};
 ghost use Rattle.std.specs.Io.KnownBytes.{Keeps, Consumes, Appends};
-ghost use Rattle.vol_serve.specs.Streams.{has_reader_ended, has_writer_failed};
+ghost use Rattle.vol_serve.specs.Messages.{Grows};
+ghost use Rattle.vol_serve.specs.Streams.{reader_in, has_reader_ended, read_fault, writer_in, is_withdrawn, has_writer_failed, write_fault};
 
 use crate::messages::{Replies, Requests};
 use std::io::{self, Error, ErrorKind, Read, Write};
@@ -18,6 +20,8 @@ pub struct RequestReader<R> {
 #[derive(Debug, Drop)]
 pub struct ReplyWriter<W> {
     writer: W,
+    // whether nobody waited for the last reply that was sent
+    withdrawn: bool,
     failed: bool,
     fault: Option<Error>,
 }
@@ -25,7 +29,9 @@ pub struct ReplyWriter<W> {
 impl<R: Read + Drop> RequestReader<R> {
     /// The requests that each read of `reader` gives.
     pub fn new(reader: R) -> RequestReader<R>
-        ensures { has_reader_ended result ≡ false }
+        ensures reader { reader_in result ≡ reader }
+        ensures fresh { has_reader_ended result ≡ false }
+        ensures fault { read_fault result ≡ None }
     {
         RequestReader {
             reader,
@@ -36,7 +42,9 @@ impl<R: Read + Drop> RequestReader<R> {
 
     /// The error that ended the requests; None at the end of the reader's bytes. Of /dev/fuse it is the system's error 19
     /// (ENODEV) once the volume is unmounted.
-    pub fn into_fault(self) -> Option<Error> {
+    pub fn into_fault(self) -> Option<Error>
+        ensures { result ≡ read_fault self }
+    {
         self.fault
     }
 }
@@ -44,30 +52,40 @@ impl<R: Read + Drop> RequestReader<R> {
 impl<W: Write + Drop> ReplyWriter<W> {
     /// The replies go to `writer`, each by one write.
     pub fn new(writer: W) -> ReplyWriter<W>
-        ensures { has_writer_failed result ≡ false }
+        ensures writer { writer_in result ≡ writer }
+        ensures fresh { has_writer_failed result ≡ false }
+        ensures fault { write_fault result ≡ None }
     {
         ReplyWriter {
             writer,
+            withdrawn: false,
             failed: false,
             fault: None,
         }
     }
 
     /// The error of the write that failed, if one did.
-    pub fn into_fault(self) -> Option<Error> {
+    pub fn into_fault(self) -> Option<Error>
+        ensures { result ≡ write_fault self }
+    {
         self.fault
     }
 }
 
 impl<R: Read> Requests for RequestReader<R> {
-    ghost use Rattle.std.specs.Prelude.{None};
-
     // which bytes one read gives isn't known
     ghost taken = { λ reader. None };
 
     ghost has_ended = { has_reader_ended };
 
-    fn take(&mut self, buffer: &mut [u8]) -> Option<usize> {
+    fn take(&mut self, buffer: &mut [u8]) -> Option<usize>
+        ensures bound { IfSome result (λ count. count ≤ length buffer.new) }
+        ensures taken { MatchOption result (Grows None None []) (λ count. Grows None None (take count buffer.new ∷ [])) }
+        ensures ended { IfNone result (has_reader_ended self.new ≡ true) }
+        ensures some { IfSome result (λ count. 0 < count) }
+        ensures bytes { MatchOption result (Keeps (R.remaining (reader_in self.old)) (R.remaining (reader_in self.new)))
+            (λ count. Consumes (R.remaining (reader_in self.old)) (R.remaining (reader_in self.new)) (take count buffer.new)) }
+    {
         match read_request(&mut self.reader, buffer) {
             Ok(0) => {
                 self.ended = true;
@@ -84,16 +102,24 @@ impl<R: Read> Requests for RequestReader<R> {
 }
 
 impl<W: Write> Replies for ReplyWriter<W> {
-    ghost use Rattle.std.specs.Prelude.{None};
-
     // which bytes one write took isn't known
     ghost sent = { λ writer. None };
 
     ghost has_failed = { has_writer_failed };
 
-    fn send(&mut self, reply: &[u8]) -> bool {
+    fn send(&mut self, reply: &[u8]) -> bool
+        ensures sent { OnTrue result (Grows None None (reply.now ∷ [])) }
+        ensures kept { OnFalse result (Grows None None []) }
+        ensures failed { OnFalse result (has_writer_failed self.new ≡ true) }
+        ensures bytes { OnTrue result (MatchBool (is_withdrawn self.new)
+            (Keeps (W.contents (writer_in self.old)) (W.contents (writer_in self.new)))
+            (Appends (W.contents (writer_in self.old)) (W.contents (writer_in self.new)) reply.now)) }
+    {
         match write_reply(&mut self.writer, reply) {
-            Ok(()) => true,
+            Ok(withdrawn) => {
+                self.withdrawn = withdrawn;
+                true
+            }
             Err(fault) => {
                 self.failed = true;
                 self.fault = Some(fault);
@@ -120,14 +146,17 @@ fn read_request<R: Read>(reader: &mut R, buffer: &mut [u8]) -> io::Result<usize>
     Err(Error::from(ErrorKind::TimedOut))
 }
 
-/// Writes one reply by one write. A write that a signal interrupted is tried again. One whose request was withdrawn meanwhile counts as
-/// done: nobody waits for it. One that takes only a part is an error.
-fn write_reply<W: Write>(writer: &mut W, reply: &[u8]) -> io::Result<()> {
+/// Writes one reply by one write. A write that a signal interrupted is tried again. One whose request was withdrawn meanwhile, which
+/// the system calls NotFound, counts as done, as nobody waits for it: then the result is true. One that takes only a part is an error.
+fn write_reply<W: Write>(writer: &mut W, reply: &[u8]) -> io::Result<bool>
+    ensures { IfOk result (λ withdrawn. MatchBool withdrawn (Keeps (W.contents writer.old) (W.contents writer.new))
+        (Appends (W.contents writer.old) (W.contents writer.new) reply.now)) }
+{
     'tries: for _ in 0..u64::MAX {
         match writer.write(reply) {
-            Ok(count) if count == reply.len() => return Ok(()),
+            Ok(count) if count == reply.len() => return Ok(false),
             Ok(_) => return Err(Error::from(ErrorKind::WriteZero)),
-            Err(fault) if fault.kind() == ErrorKind::NotFound => return Ok(()),
+            Err(fault) if fault.kind() == ErrorKind::NotFound => return Ok(true),
             Err(fault) if fault.kind() != ErrorKind::Interrupted => return Err(fault),
             Err(_) => {}
         }

@@ -1,3 +1,4 @@
+pub mod ArchiveFronts
 mod DotWalks
 mod GrownTrees
 pub mod ImportFaults

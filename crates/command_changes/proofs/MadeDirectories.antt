@@ -1,14 +1,14 @@
 -- What `mkdir -p` leaves at its path.
-use Rattle.std.proofs.Common.{◌≡◌, sym, ap, subst, refl, ◌∙◌, ℕ, zero, suc, ◌+◌, ◌<◌, ◌≤◌, ◌==◌, ◌&&◌, ◌||◌, if◌then◌else◌, Bool, true, false, not, List, [], ◌∷◌, ◌++◌, map, take, length, None, Some, arith, add-one}
+use Rattle.std.proofs.Common.{◌≡◌, sym, ap, subst, refl, ◌∙◌, ℕ, zero, suc, ◌+◌, ◌<◌, ◌≤◌, ◌==◌, ◌&&◌, ◌||◌, if◌then◌else◌, Bool, true, false, not, List, [], ◌∷◌, ◌++◌, map, take, length, None, Some, Ok, Err, arith, add-one}
 use Rattle.std.specs.Prelude.{Result, slice_index}
-use Rattle.std.specs.List.{flat_map, range_with_len}
+use Rattle.std.specs.List.{flat_map, list_any, range_with_len}
 use Rattle.std.proofs.lemmas.Bool.{eqb-true, eq-eqb}
 use Rattle.std.proofs.lemmas.List.{append-nil, take_all, take_more, flat_map_more}
 use Rattle.std.proofs.lemmas.List.Folds.{list_any-append}
 use Rattle.vol_layout.specs.Ids.{is_bad_id}
 use Rattle.vol_dir.specs.Access.{user}
 use Rattle.vol_dir.specs.Names.{is_dots}
-use Rattle.vol_dir.specs.Tree.{Tree, State}
+use Rattle.vol_dir.specs.Tree.{Node, Tree, State}
 use Rattle.vol_dir.specs.Walk.{root, components, has_zero, walk, walk_from}
 use Rattle.vol_dir.proofs.Components.{components-nil}
 use Rattle.vol_dir.proofs.PathJoins.{components-outer, walk-nothing}
@@ -19,11 +19,13 @@ use Rattle.vol_volume.specs.Step.{step}
 use Rattle.vol_volume.specs.Verdict.{verdict, of_node}
 use Rattle.vol_volume.specs.Volume.{reads_as}
 use Rattle.vol_volume.proofs.Journals.{after-append, legal-parts}
+use Rattle.vol_import.specs.MadeMembers.{HasDirectory}
+use Rattle.vol_import.proofs.MadeNames.{LeadsTo}
 use Rattle.vol_import.proofs.MadePaths.{mkdir_gains, walk_answered, stat_answered}
 use Rattle.vol_import.proofs.TreeWalks.{passes_first}
 use Rattle.command_faults.specs.Changing.{Makes}
 use Rattle.command_changes.specs.Finding.{found_by, found_kind, last_name, last_of}
-use Rattle.command_changes.specs.Mkdir.{HasDirectory, calls_unless, mkdir_all_calls, mkdir_at, mkdir_call, missing_calls, unless_found}
+use Rattle.command_changes.specs.Mkdir.{calls_unless, mkdir_all_calls, mkdir_at, mkdir_call, missing_calls, unless_found}
 use Rattle.command_changes.specs.declared.finding.Found.{Found}
 use Rattle.command_changes.specs.declared.finding.Found.TheVariants as founds
 use Rattle.vol_dir.specs.declared.refusal.Refusal.{Refusal}
@@ -55,6 +57,12 @@ unfolding walk query_refusal reply_of
 same_answer tree path other same =
     ap (λ has. answer_by tree has (components path)) same.zeros ∙ ap (answer_by tree (has_zero other)) same.names
 
+-- a path that leads to a node which is a directory
+leads_directory : (tree : Tree) (path : List ℕ) (node : Node) → list_any has_zero (path ∷ []) ≡ false → LeadsTo tree path node
+    → kind_of_content node.content ≡ kinds.Directory → HasDirectory tree path
+leads_directory tree path node plain leads kind =
+    record { stat = stat_of leads.number node; found = stat_answered tree path node plain leads; kind = kind }
+
 -- an accepted Mkdir leaves a directory at its path
 made_directory : (state : State) (now : ℕ) (path : List ℕ) (done : Done) → verdict state (mkdir_call now path) ≡ None
     → MayAnswer state (mkdir_call now path) done → HasDirectory (step state (mkdir_call now path) done).tree path
@@ -62,7 +70,24 @@ unfolding verdict
 made_directory state now path done accepted answered =
     let made = mkdir_gains state now 0o755 path done accepted answered in
     let plain = (passes_first state.tree path _ accepted).no_zero in
-    ap found_by (stat_answered (step state (mkdir_call now path) done).tree path _ plain made.1.leads)
+    leads_directory (step state (mkdir_call now path) done).tree path _ plain made.1.leads refl
+
+-- what is found to be a directory is one
+found_directory : (tree : Tree) (path : List ℕ) → found_by (answer tree (queries.Stat user path)) ≡ founds.Directory → HasDirectory tree path
+found_directory tree path = by (answer tree (queries.Stat user path)) refl
+  where
+    is_directory : (kind : Kind) → found_kind kind ≡ founds.Directory → kind ≡ kinds.Directory
+    is_directory kinds.Directory is = refl
+    is_directory kinds.Regular is = absurd (cc)
+    is_directory kinds.Special is = absurd (cc)
+    is_directory kinds.Free is = absurd (cc)
+    is_directory kinds.Odd is = absurd (cc)
+
+    by : (reply : Result Reply Refusal) → answer tree (queries.Stat user path) ≡ reply → found_by reply ≡ founds.Directory → HasDirectory tree path
+    by (Ok (replies.Stat stat)) found is = record { stat = stat; found = found; kind = is_directory stat.kind is }
+    by (Ok (replies.Bytes bytes)) found is = absurd (cc)
+    by (Ok (replies.Names names)) found is = absurd (cc)
+    by (Err refusal) found is = absurd (cc)
 
 -- the last of recorded calls
 last_record : (before : List Call) (call : Call) (journal : List Record) → map (λ (entry : Record). entry.call) journal ≡ before ++ call ∷ []
@@ -89,7 +114,7 @@ left_by state now before made path journal asked legal same =
     (λ accepted answered. made_directory mid now made done accepted answered) last.accepted last.answered in
     let whole : after state journal ≡ step mid parts.1.call done = ap (after state) parts.2 ∙ after-append state parts.0 (parts.1 ∷ []) in
     subst (λ (s : State). HasDirectory s.tree path) (sym whole)
-    (ap found_by (sym (same_answer (step mid parts.1.call done).tree made path same)) ∙ there)
+    (record { stat = there.stat; found = sym (same_answer (step mid parts.1.call done).tree made path same) ∙ there.found; kind = there.kind })
 
 -- only slashes stand behind the first n bytes of a path, if any
 record OnlySlashes (path : List ℕ) (n : ℕ) : Type 0 where
@@ -222,7 +247,7 @@ directory_left state now path journal plain asked legal = by (found_by (answer s
   where
     by : (found : Found) → found_by (answer state.tree (queries.Stat user path)) ≡ found
         → map (λ (entry : Record). entry.call) journal ≡ calls_unless state.tree now path found → HasDirectory (after state journal).tree path
-    by founds.Directory is asked = subst (λ (records : List Record). HasDirectory (after state records).tree path) (sym (no_records journal asked)) is
+    by founds.Directory is asked = subst (λ (records : List Record). HasDirectory (after state records).tree path) (sym (no_records journal asked)) (found_directory state.tree path is)
     by founds.File is asked = left_by state now [] path path journal asked legal (record { names = refl; zeros = refl })
     by founds.Nothing is asked =
         let end = missing_end state.tree now path plain is in

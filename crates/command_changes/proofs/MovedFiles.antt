@@ -13,8 +13,6 @@ use Rattle.vol_dir.proofs.PathJoins.{walk_from-append}
 use Rattle.vol_dir.specs.declared.refusal.Refusal.{Refusal}
 use Rattle.vol_dir.specs.declared.refusal.Refusal.TheVariants as refusals
 use Rattle.vol_layout.specs.Ids.{is_bad_id}
-use Rattle.vol_layout.specs.declared.edition.Edition.{Edition}
-use Rattle.vol_layout.specs.declared.edition.Edition.TheVariants.{V6, V7}
 use Rattle.vol_change.specs.Edits.{body_of, set_at, change_names, stamped, at_time, add_link, remove_entry, remove_node, drop_link, release}
 use Rattle.vol_change.specs.Effects.{after_link, after_unlink}
 use Rattle.vol_change.specs.Nodes.{no_node, node_at, names_at, number_of_name, size_with_entry}
@@ -30,10 +28,10 @@ use Rattle.vol_volume.specs.declared.queries.Reply.{Reply}
 use Rattle.vol_volume.specs.declared.queries.Reply.TheVariants as replies
 use Rattle.vol_volume.specs.declared.queries.Stat.{Stat}
 use Rattle.vol_volume.proofs.Accepted.{MayLink, link_passed}
-use Rattle.vol_import.proofs.MadeNames.{LeadsTo, KeepsNames, HasNamesOf, entered, found, linked, searched_names, no_names, entered_has, entered_found, walk_kept}
-use Rattle.vol_import.proofs.MadePaths.{node_found, not_first, stat_answered}
+use Rattle.vol_import.proofs.MadeNames.{LeadsTo, KeepsNames, entered, found, found_in, linked, linked_keeps, names_set, searched_names, no_names, entered_has, entered_found, walk_kept}
+use Rattle.vol_import.proofs.MadePaths.{good_id, node_found, not_first, stat_answered}
 use Rattle.vol_import.proofs.TreeWalks.{Reaches, named, searched, passes_first, reaches, parent_found}
-use Rattle.vol_removal.proofs.FreedNumbers.{found_in, is_map, searched_is, walk_joined}
+use Rattle.vol_removal.proofs.FreedNumbers.{is_map, searched_is, walk_joined}
 use Rattle.vol_removal.proofs.GoneTrees.{unlinked, without, root_stays}
 use Rattle.command_changes.specs.Mv.{LeadsOn}
 
@@ -103,18 +101,6 @@ apart nodes d i names held plain same =
     let both : true ≡ false = sym (searched_is (nodes d) names held) ∙ (ap (λ x. is_map (nodes x)) same ∙ plain) in
     absurd (cc)
 
--- another node in place of one whose names it has
-keeps_set : (nodes : ℕ → Option Node) (i : ℕ) (node : Option Node) → HasNamesOf (nodes i) node → KeepsNames nodes (set_at nodes i node)
-keeps_set nodes i node has x name j is = elim (cases_eq x i) [
-  | inl here ↦
-      ap (λ n. found n name) (ap (set_at nodes i node) here ∙ set_here nodes i node) ∙ has name j (ap (λ k. found (nodes k) name) (sym here) ∙ is)
-  | inr other ↦ ap (λ n. found n name) (set_beside nodes i node x other) ∙ is
-]
-
-linked_has : (now : ℕ) (node : Option Node) → HasNamesOf node (linked now node)
-linked_has now None name i is = is
-linked_has now (Some node) name i is = is
-
 -- the nodes where node i has a further name, in directory d
 record HasLink (old new : ℕ → Option Node) (now d i : ℕ) (name : List ℕ) : Type 0 where
   pub kept : KeepsNames old new
@@ -135,8 +121,8 @@ has_link nodes now size d i name names held fresh plain other =
     let entry = entered now size name i (put d) in
     let stands = set_beside put d entry i (λ same. other (sym same)) ∙ set_here nodes i (linked now (nodes i)) in
     record {
-      kept = λ x word j is. keeps_set put d entry (entered_has now size i name (put d) names there fresh) x word j
-          (keeps_set nodes i (linked now (nodes i)) (linked_has now (nodes i)) x word j is);
+      kept = λ x word j is. names_set put d entry (entered_has now size i name (put d) names there fresh) x word j
+          (names_set nodes i (linked now (nodes i)) (linked_keeps now (nodes i)).0 x word j is);
       named = ap (λ n. found n name) (set_here put d entry) ∙ entered_found now size i name (put d) names there;
       stands = stands;
       plain = ap is_map stands ∙ linked_plain now (nodes i) plain;
@@ -176,7 +162,7 @@ loses_by nodes now d i name changed last plain other is =
                 ∙ without_has now name word (nodes d) j (one here) (ap (λ k. found (nodes k) word) (sym here) ∙ found_old)
             | inr away ↦ ap (λ n. found n word) (set_beside nodes d less x away) ∙ found_old
           ] in
-          keeps_set mid i changed (no_names (mid i) changed (ap is_map beside ∙ plain)) x word j first;
+          names_set mid i changed (no_names (mid i) changed (ap is_map beside ∙ plain)) x word j first;
       last = last;
       stands = set_here mid i changed ∙ (is ∙ ap (λ n. cond last None (unlinked now n)) beside);
     }
@@ -276,10 +262,6 @@ abbrev read_of : ℕ → ℕ → Node → Result Reply Refusal
 read_of offset len node =
     refused_or (first_of ((is_directory node, refusals.IsDirectory) ∷ (is_device node.content, refusals.NotRegular) ∷ (false, refusals.Access) ∷ []))
     (Ok (replies.Bytes (read_bytes (body_of node.content) offset len)))
-
-good_id : (edition : Edition) → is_bad_id edition 0 0 ≡ false
-good_id V6 = refl
-good_id V7 = refl
 
 node_read : (tree : Tree) (path : List ℕ) (node : Node) (offset len : ℕ) → list_any has_zero (path ∷ []) ≡ false → LeadsTo tree path node
     → answer tree (queries.Read user path offset len) ≡ read_of offset len node

@@ -8,7 +8,7 @@ use Rattle.vol_layout.specs.declared.edition.Edition.{Edition}
 use Rattle.vol_volume.specs.Volume.{reads_as}
 use Rattle.vol_volume.specs.declared.calls.Call.{Call}
 use Rattle.vol_volume.specs.declared.calls.Call.TheVariants as calls
-use Rattle.vol_import.specs.MadeMembers.{HasArchive, HasFile}
+use Rattle.vol_import.specs.MadeMembers.{HasArchive, HasDirectory, HasFile}
 use Rattle.vol_import.specs.Making.{calls_to_make}
 use Rattle.vol_import.specs.Members.{members}
 use Rattle.command_faults.specs.Changing.{ChangesVolume}
@@ -16,7 +16,7 @@ use Rattle.command_faults.specs.Streams.{Streams}
 use Rattle.command_faults.specs.declared.answer.Answer.{Answer}
 use Rattle.command_changes.specs.Finding.{last_name}
 use Rattle.command_changes.specs.Import.{ImportsArchive}
-use Rattle.command_changes.specs.Mkdir.{HasDirectory, mkdir_all_calls, mkdir_call}
+use Rattle.command_changes.specs.Mkdir.{mkdir_all_calls, mkdir_call}
 use Rattle.command_changes.specs.Mv.{HasMoved, move_calls}
 use Rattle.command_changes.specs.Put.{put_calls}
 use Rattle.command_changes.specs.Rm.{RemovesTree}

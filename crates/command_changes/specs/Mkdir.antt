@@ -1,5 +1,5 @@
 -- The calls that make a directory, and those on the way to it.
-use Rattle.std.specs.Prelude.{◌≡◌, ℕ, ◌+◌, ◌==◌, ◌&&◌, ◌||◌, Bool, not, if◌then◌else◌, List, [], ◌∷◌, length, take, slice_index}
+use Rattle.std.specs.Prelude.{ℕ, ◌+◌, ◌==◌, ◌&&◌, ◌||◌, Bool, not, if◌then◌else◌, List, [], ◌∷◌, length, take, slice_index}
 use Rattle.std.specs.List.{flat_map, range_with_len}
 use Rattle.vol_dir.specs.Names.{is_dots}
 use Rattle.vol_dir.specs.Tree.{Tree}
@@ -45,7 +45,3 @@ calls_unless tree now path Nothing = missing_calls tree now path
 -- the calls that make a directory and those on the way to it, settled on the tree as it stands: one for each that is missing (mkdir -p)
 abbrev pub mkdir_all_calls : Tree → ℕ → List ℕ → List Call
 mkdir_all_calls tree now path = calls_unless tree now path (found_by (answer tree (queries.Stat user path)))
-
--- a question for a path answers that it is a directory (stat)
-abbrev pub HasDirectory : Tree → List ℕ → Type 0
-HasDirectory tree path = found_by (answer tree (queries.Stat user path)) ≡ Directory

@@ -23,12 +23,12 @@ pub(crate) fn import_archive(
     alloc: Global,
     edition: Edition,
     image: Vec<u8>,
-    archive: &[u8],
+    archive: Vec<u8>,
     path: &str,
     now: u32,
 ) -> Answer
     ensures { (errors : ErrorStream) → Hears errors result.fault
-        → ImportsArchive edition image.items (calls_to_make (reads_as edition image.items).tree archive.now path.now now) (says errors) result }
+        → ImportsArchive edition image.items (calls_to_make (reads_as edition image.items).tree archive.items path.now now) (says errors) result }
 {
     let outcome = import(alloc, edition, image, archive, path.as_bytes(), now);
     conclude(alloc, outcome)

@@ -12,7 +12,7 @@ use Rattle.vol_volume.specs.Volume.{Mounted, IsConsistent, mounted, reads_as}
 use Rattle.vol_import.specs.Entries.{block_at}
 use Rattle.vol_import.specs.Members.{members as read_members}
 use Rattle.vol_import.specs.Plan.{plan}
-use Rattle.vol_import.specs.Making.{AreMade, AreStopped, unmounted, unheaded, unread, unplanned, told, planned, calls_to_make, Tells, IsUnmounted, IsStop, Imports, IsReason}
+use Rattle.vol_import.specs.Making.{AreMade, AreStopped, TakesMemory, unmounted, unheaded, unread, unplanned, told, planned, calls_to_make, Tells, IsUnmounted, IsStop, Imports, IsReason}
 use Rattle.vol_import.proofs.MadeCalls.{imported}
 use Rattle.vol_dir.specs.declared.refusal.Refusal.{Refusal}
 use Rattle.vol_layout.specs.declared.edition.Edition.{Edition}
@@ -136,10 +136,10 @@ plan_told wanted why fault tells is = λ other.
 
 -- a fault of the archive is told
 pub archive_told : (tree : Tree) (archive base : List ℕ) (now : ℕ) (why : ArchiveFault) (fault : ImportFault)
-    → (why ≢ archives.NoMemory → read_members archive ≡ Err why) → (fault ≡ faults.NoMemory) ⊎ (fault ≡ unread archive why)
+    → (why ≢ archives.NoMemory → read_members archive ≡ Err why) → ((fault ≡ faults.NoMemory) × TakesMemory why) ⊎ (fault ≡ unread archive why)
     → Tells (calls_to_make tree archive base now) fault
 unfolding calls_to_make
-archive_told tree archive base now why fault tells (inl none) = λ other. absurd (other none)
+archive_told tree archive base now why fault tells (inl none) = λ other. absurd (other none.0)
 archive_told tree archive base now why fault tells (inr is) = λ other.
     let e : read_members archive ≡ Err why = tells (λ (same : why ≡ archives.NoMemory). other (is ∙ ap (unread archive) same)) in
     ap (planned tree archive base now) e ∙ ap Err (sym is)

@@ -30,7 +30,7 @@ pub record LeadsTo (tree : Tree) (path : List ℕ) (node : Node) : Type 0 where
   pub stands : tree.nodes number ≡ Some node
 
 -- what is found by a name in what is searched
-abbrev found_in : Result Names Refusal → List ℕ → Result ℕ Refusal
+abbrev pub found_in : Result Names Refusal → List ℕ → Result ℕ Refusal
 found_in names name = and_then names (λ (ns : Names). ok_or (get ns name) refusals.NoEntry)
 
 -- what user 0 finds by a name in a node, if there is one
@@ -127,12 +127,16 @@ set_keeps P same nodes i node has x = elim (cases_eq x i) [
 pub nodes_set : (nodes : ℕ → Option Node) (i : ℕ) (node : Option Node) → Keeps (nodes i) node → (x : ℕ) → Keeps (nodes x) (set_at nodes i node x)
 nodes_set = set_keeps Keeps keeps_same
 
+-- or one that has its names
+pub names_set : (nodes : ℕ → Option Node) (i : ℕ) (node : Option Node) → HasNamesOf (nodes i) node → KeepsNames nodes (set_at nodes i node)
+names_set = set_keeps HasNamesOf (λ node name j is. is)
+
 -- so where it alone changes, a path that led to it leads to it
 pub leads_still : (old new : Tree) (path : List ℕ) (i : ℕ) (changed : Option Node) → root new ≡ root old → new.nodes ≡ set_at old.nodes i changed
     → is_directory (unwrap_or (old.nodes i) no_node) ≡ false → walk old user path ≡ Ok i → (walk new user path ≡ Ok i) × (new.nodes i ≡ changed)
 leads_still old new path i changed same nodes plain is = (
   path_kept old new path i same
-      (λ x name j e. ap (λ (ns : ℕ → Option Node). found (ns x) name) nodes ∙ set_keeps HasNamesOf (λ node name j e. e) old.nodes i changed (no_names (old.nodes i) changed plain) x name j e) is,
+      (λ x name j e. ap (λ (ns : ℕ → Option Node). found (ns x) name) nodes ∙ names_set old.nodes i changed (no_names (old.nodes i) changed plain) x name j e) is,
   ap (λ (ns : ℕ → Option Node). ns i) nodes ∙ set_here old.nodes i changed,
 )
 

@@ -190,7 +190,7 @@ write_holds state now path bytes done held =
     (written_holds state now path bytes held)
 
 -- user 0 has numbers of both editions
-good_id : (edition : Edition) → is_bad_id edition 0 0 ≡ false
+pub good_id : (edition : Edition) → is_bad_id edition 0 0 ≡ false
 good_id V6 = refl
 good_id V7 = refl
 

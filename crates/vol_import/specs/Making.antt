@@ -63,6 +63,10 @@ unread archive (archives.Header at fault) = unheaded archive at fault
 unread archive (archives.Records at) = faults.Archive (archives.Records at)
 unread archive (archives.Unsupported at) = faults.Archive (archives.Unsupported at)
 
+-- telling a fault takes memory: that of a header with a field that is no number, for the member's path (this project)
+abbrev pub TakesMemory : ArchiveFault → Type 0
+TakesMemory fault = (at : ℕ) × (fault ≡ archives.Header at headers.Number)
+
 -- there are no calls that make the members of an archive, for this reason (this project)
 abbrev pub unplanned : PlanFault → ImportFault
 unplanned (plans.Member path cause) = faults.Member path cause

@@ -3,7 +3,7 @@ ghost use Rattle.std.specs.Prelude.{◌≡◌, ◌⊎◌, ◌+◌, IfOk, IfErr, 
 ghost use Rattle.vol_judge.specs.Sound.{IsSound};
 ghost use Rattle.vol_volume.specs.Volume.{mounted, reads_as};
 ghost use Rattle.vol_import.specs.MadeMembers.{HasArchive};
-ghost use Rattle.vol_import.specs.Making.{AreMade, AreStopped, IsUnmounted, unread, unplanned, told, calls_to_make, IsStop, Tells, Imports, IsReason};
+ghost use Rattle.vol_import.specs.Making.{AreMade, AreStopped, IsUnmounted, TakesMemory, unread, unplanned, told, calls_to_make, IsStop, Tells, Imports, IsReason};
 ghost use Rattle.vol_import.specs.Members.{members};
 ghost use Rattle.vol_import.specs.Plan.{plan};
 
@@ -50,18 +50,19 @@ impl From<MountFault> for ImportFault {
 /// [`plan`] gives are made, in their order and as user 0; or nothing is to be saved, and the fault says why: the image
 /// first, then the archive, the members, and the calls.
 ///
-/// Takes memory to mount the image, for the paths of the members twice, and for their bytes once, beside what the calls take.
+/// Takes memory to mount the image, for the paths of the members twice, and for their bytes once, beside what the calls take. The
+/// archive is dropped once its members are read.
 pub fn import(
     alloc: Global,
     edition: Edition,
     image: Vec<u8>,
-    archive: &[u8],
+    archive: Vec<u8>,
     base: &[u8],
     now: u32,
 ) -> Result<Vec<u8>, ImportFault>
-    ensures made { IfOk result (λ bytes. Imports edition image.items (calls_to_make (reads_as edition image.items).tree archive.now base.now now) bytes.items) }
-    ensures members { IfOk result (λ bytes. HasArchive (reads_as edition bytes.items).tree base.now now (members archive.now)) }
-    ensures fault { IfErr result (IsReason edition image.items (calls_to_make (reads_as edition image.items).tree archive.now base.now now)) }
+    ensures made { IfOk result (λ bytes. Imports edition image.items (calls_to_make (reads_as edition image.items).tree archive.items base.now now) bytes.items) }
+    ensures members { IfOk result (λ bytes. HasArchive (reads_as edition bytes.items).tree base.now now (members archive.items)) }
+    ensures fault { IfErr result (IsReason edition image.items (calls_to_make (reads_as edition image.items).tree archive.items base.now now)) }
 {
     let mut volume = mount(alloc, edition, image)?;
     let calls = calls_to_make(alloc, &volume, archive, base, now)?;
@@ -83,7 +84,7 @@ pub fn mount(alloc: Global, edition: Edition, image: Vec<u8>) -> Result<Volume, 
 
 /// An archive can't be read, for this reason. A member whose header has a field that is no number is named by the path in it.
 fn unread(alloc: Global, archive: &[u8], fault: ArchiveFault) -> ImportFault
-    ensures { (result ≡ ImportFault.NoMemory) ⊎ (result ≡ unread archive.now fault) }
+    ensures { ((result ≡ ImportFault.NoMemory) × TakesMemory fault) ⊎ (result ≡ unread archive.now fault) }
 {
     match fault {
         ArchiveFault::NoMemory => ImportFault::NoMemory,
@@ -118,20 +119,23 @@ pub fn unplanned(fault: PlanFault) -> ImportFault
     }
 }
 
-/// The calls that make the members of an archive below a path of a volume.
+/// The calls that make the members of an archive below a path of a volume. Drops the archive once its members are read.
 fn calls_to_make(
     alloc: Global,
     volume: &Volume,
-    archive: &[u8],
+    archive: Vec<u8>,
     base: &[u8],
     now: u32,
 ) -> Result<Vec<Call>, ImportFault>
-    ensures ok { IfOk result (λ calls. calls_to_make (reads_as volume.now.edition volume.now.image).tree archive.now base.now now ≡ Ok calls.items) }
-    ensures fault { IfErr result (Tells (calls_to_make (reads_as volume.now.edition volume.now.image).tree archive.now base.now now)) }
+    ensures ok { IfOk result (λ calls. calls_to_make (reads_as volume.now.edition volume.now.image).tree archive.items base.now now ≡ Ok calls.items) }
+    ensures fault { IfErr result (Tells (calls_to_make (reads_as volume.now.edition volume.now.image).tree archive.items base.now now)) }
 {
-    match members(alloc, archive) {
-        Ok(found) => calls_for(alloc, volume, base, now, found),
-        Err(fault) => Err(unread(alloc, archive, fault)),
+    match members(alloc, &archive) {
+        Ok(found) => {
+            drop(archive);
+            calls_for(alloc, volume, base, now, found)
+        }
+        Err(fault) => Err(unread(alloc, &archive, fault)),
     }
 }
 

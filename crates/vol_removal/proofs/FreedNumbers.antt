@@ -36,7 +36,7 @@ use Rattle.vol_volume.proofs.Accepted.{unlink_passed, rmdir_passed}
 use Rattle.vol_volume.proofs.Journals.{reads_made}
 use Rattle.vol_volume.proofs.NodeReadings.{node_of_kind, links_are}
 use Rattle.vol_import.specs.Making.{AreMade}
-use Rattle.vol_import.proofs.MadeNames.{KeepsNames, found, path_kept, searched_names}
+use Rattle.vol_import.proofs.MadeNames.{KeepsNames, found, found_in, path_kept, searched_names}
 use Rattle.vol_import.proofs.TreeWalks.{Reaches, named, searched, passes_first, reaches, parent_found}
 use Rattle.vol_removal.specs.Freeing.{own_names, led_to, takes_name, FreesNumbers}
 use Rattle.vol_removal.specs.Removal.{Takes, call_of, names_of}
@@ -123,10 +123,6 @@ walk_joined tree path front name d i parts walks found =
     ∙ (walk_from-append tree user (root tree) front (name ∷ [])
     ∙ (ap (λ (r : Result ℕ Refusal). and_then r (λ j. walk_from tree user j (name ∷ []))) walks
     ∙ ap (λ (r : Result ℕ Refusal). and_then r (λ j. Ok j)) found))
-
--- what is found by a name in a map
-abbrev pub found_in : Result Names Refusal → List ℕ → Result ℕ Refusal
-found_in names name = and_then names (λ (ns : Names). ok_or (get ns name) refusals.NoEntry)
 
 -- what a call that takes away a name leaves of the own names of nodes, and of the names that are found
 pub record TakesName (state new : State) (path : List ℕ) : Type 0 where

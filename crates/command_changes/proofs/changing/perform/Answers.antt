@@ -1,8 +1,5 @@
 use Rattle.std.proofs.Common.{◌≡◌, ℕ, List, IfOk, refl, rules, subst}
-use Rattle.vol_volume.specs.Volume.{reads_as}
-use Rattle.vol_import.specs.Making.{calls_to_make}
 use Rattle.command_faults.specs.Streams.{says}
-use Rattle.command_changes.specs.Import.{ImportsArchive}
 use Rattle.command_changes.proofs.CallsMade.{saved_leaves}
 use Rattle.command_changes.proofs.Imported.{archive_saved}
 use Rattle.command_changes.proofs.MadeDirectories.{directories_leave, directory_leaves}
@@ -19,9 +16,7 @@ returns-in-Put c known failed errors hears =
 
 pub returns-in-Import : goal.returns-in-Import
 returns-in-Import c known failed errors hears =
-    let does = subst (λ (archive : List ℕ). ImportsArchive c.args.edition c.args.image.items
-    (calls_to_make (reads_as c.args.edition c.args.image.items).tree archive c.in-Import.path.now c.in-Import.now) (says errors) c.import_archive.result)
-    c.deref.ensures.value (c.import_archive.ensures errors hears) in
+    let does = c.import_archive.ensures errors hears in
     rw c.in-Import.is (does, search rules, refl, archive_saved _ _ _ _ _ (says errors) _ does)
 
 pub returns-in-MkdirAll : goal.returns-in-MkdirAll

@@ -8,7 +8,7 @@ pub returns : goal.returns
 returns c errors hears =
     concluded _ _ _ errors _ _
     (subst (λ (path : List ℕ). IfOk c.import-outcome.result (λ bytes. Imports c.args.edition c.args.image.items
-    (calls_to_make (reads_as c.args.edition c.args.image.items).tree c.args.archive.now path c.args.now) bytes.items)) c.as_bytes.ensures.value c.import-outcome.ensures.made)
+    (calls_to_make (reads_as c.args.edition c.args.image.items).tree c.args.archive.items path c.args.now) bytes.items)) c.as_bytes.ensures.value c.import-outcome.ensures.made)
     (subst (λ (path : List ℕ). IfErr c.import-outcome.result (IsReason c.args.edition c.args.image.items
-    (calls_to_make (reads_as c.args.edition c.args.image.items).tree c.args.archive.now path c.args.now))) c.as_bytes.ensures.value c.import-outcome.ensures.fault)
+    (calls_to_make (reads_as c.args.edition c.args.image.items).tree c.args.archive.items path c.args.now))) c.as_bytes.ensures.value c.import-outcome.ensures.fault)
     c.conclude.ensures.made c.conclude.ensures.fault hears

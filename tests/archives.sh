@@ -504,6 +504,38 @@ extended 28160
 ROWS
 saves 'an image into which no front of an archive was imported' disk.img blank.v7
 
+# Input without end: what is no archive is refused, what follows an archive is left, and a header that claims too many bytes is refused.
+# endless LABEL STATUS LINE IMAGE WORD..: what the command writes is imported into IMAGE, and ends so within 20 seconds
+endless() {
+    "${@:5}" 2> /dev/null | timeout 20 "$program" import 7 "$4" '' 2000 > output 2> error
+    echo "${PIPESTATUS[1]}" > status
+    printf '%s' "$3" > line
+    wants "$1" "$2" none line
+}
+cp blank.v7 disk.img
+endless 'an import of lines without end' 1 'unixvol: archive, byte 0: no header of tar
+' disk.img yes
+endless 'an import of a header that claims 8 GB' 3 'unixvol: cannot read -
+' disk.img python3 -c 'import os, tarfile
+it = tarfile.TarInfo("great")
+it.size = 2**33 - 1
+os.write(1, it.tobuf(tarfile.USTAR_FORMAT))
+while True: os.write(1, bytes(65536))'
+endless 'an import of members without end' 3 'unixvol: cannot read -
+' disk.img python3 -c 'import os, tarfile
+member = tarfile.TarInfo("small").tobuf(tarfile.USTAR_FORMAT)
+while True: os.write(1, 128 * member)'
+saves 'an image into which no input without end was imported' disk.img blank.v7
+cp blank.v7 whole.img
+imports 7 whole.img plain
+endless 'an import of an archive with zeros behind it that do not end' 0 '' disk.img cat "$archives/plain.tar" /dev/zero
+saves 'an image into which an archive was imported with zeros behind it that do not end' disk.img whole.img
+cp blank.v7 disk.img
+endless 'an import of zeros without end' 0 '' disk.img cat /dev/zero
+saves 'an image into which zeros were imported' disk.img blank.v7
+(set -o pipefail; cat "$archives/plain.tar" <(head -c 1000000 /dev/zero) | "$program" import 7 disk.img '' 2000)
+has 'a pipe that an archive came from with a long last record' 0 $?
+
 # Trees that are exported, imported and exported alike: an empty one, directories, files.
 for edition in 6 7; do
     played "$edition" directories.img '1000 0 7 mkdir /b 700' '1000 0 7 mkdir /b/b 1777' '1000 0 7 mkdir /b/a 0' '1000 0 7 mkdir /a 755' \

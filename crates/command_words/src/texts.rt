@@ -352,7 +352,7 @@ Status:
      that a terminal can't show are a backslash and three octal digits
   2  the command line can't be read
   3  `unixvol: cannot read IMAGE`, `unixvol: cannot write IMAGE`, or `unixvol: cannot read -`: standard input failed,
-     or is a terminal
+     is a terminal, or gives an archive of more than 64 MiB and 64 times the size of IMAGE
   4  `unixvol: 12 NoMemory`";
 
 pub const IMPORTED: &str =

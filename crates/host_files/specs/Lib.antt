@@ -1,3 +1,4 @@
+pub mod Archives
 pub mod Opening
 pub mod Reading
 pub mod Saving

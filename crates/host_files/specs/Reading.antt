@@ -1,14 +1,15 @@
--- How far the image in a file is read.
+-- How far the image or the archive in a file is read.
 use Rattle.std.specs.Prelude.{◌≡◌, ◌⊎◌, ℕ, ◌*◌, ◌<◌, ◌≤◌, ◌++◌, max, Bool, true, false, List, Option, length, take}
 use Rattle.std.specs.Io.KnownBytes.{Consumes, IsAtEnd}
 use Rattle.vol_layout.specs.Edition.{constants}
 use Rattle.vol_layout.specs.Geometry.{block_count, is_whole}
 use Rattle.vol_layout.specs.declared.edition.Edition.{Edition}
 use Rattle.pdp_words.specs.Devices.{IsReadWhole}
+use Rattle.host_files.specs.Archives.{IsArchiveRead, IsLong}
 use Rattle.host_files.specs.declared.image_file.Kind.{Kind}
 use Rattle.host_files.specs.declared.image_file.Kind.TheVariants as kinds
 use Rattle.host_files.specs.declared.volume_front.UpTo.{UpTo}
-use Rattle.host_files.specs.declared.volume_front.UpTo.TheVariants.{End, Volume}
+use Rattle.host_files.specs.declared.volume_front.UpTo.TheVariants.{End, Volume, Archive}
 
 -- the known bytes lost `read` at their front: all that there were, or as many as its super-block says that the volume has, and no more than that (this project)
 pub record IsReadFar (edition : Edition) (old new : Option (List ℕ)) (read : List ℕ) : Type 0 where
@@ -32,6 +33,7 @@ IsVolumeRead edition old new image = (read : List ℕ) × IsReadFar edition old 
 abbrev pub IsReadUpTo : UpTo → Option (List ℕ) → Option (List ℕ) → List ℕ → Type 0
 IsReadUpTo End old new bytes = IsReadWhole old new bytes
 IsReadUpTo (Volume edition) old new bytes = IsVolumeRead edition old new bytes
+IsReadUpTo (Archive blocks) old new bytes = IsArchiveRead blocks old new bytes
 
 -- how far the file of an image is read that is to be changed: a regular file to its end, as its last bytes are kept behind the volume (this project)
 abbrev pub up_to_kept : Edition → Kind → UpTo
@@ -48,6 +50,7 @@ IsEndless edition old new =
 abbrev pub IsPast : UpTo → Option (List ℕ) → Option (List ℕ) → Type 0
 IsPast End old new = ⊥
 IsPast (Volume edition) old new = IsEndless edition old new
+IsPast (Archive blocks) old new = IsLong blocks old new
 
 -- the known bytes lost some at their front, which followed others, up to so many of both, or to their end (this project)
 pub record IsReadOn (old new : Option (List ℕ)) (before after : List ℕ) (most : ℕ) : Type 0 where

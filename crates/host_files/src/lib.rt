@@ -1,6 +1,7 @@
 //! Files of the host that hold an image: opening and locking them, whether they have changed, and saving in them.
 #![tactic(auto)]
 
+mod archive_front;
 mod image_file;
 mod noted;
 mod saving_file;

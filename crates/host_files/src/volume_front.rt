@@ -1,8 +1,9 @@
-//! The image in a file, which is read no further than its volume.
+//! The image or the archive in a file, which is read no further than this.
 ghost use Rattle.std.specs.Prelude.{◌≡◌, false, true, IfOk, OnErr, OnOk, IsErrOf};
 ghost use Rattle.pdp_words.specs.Devices.{LosesFront};
 ghost use Rattle.host_files.specs.Reading.{IsEndless, IsPast, IsReadOn, IsReadUpTo, IsSkipped, IsVolumeRead, up_to_kept};
 
+use crate::archive_front::read_archive;
 use crate::image_file::Kind;
 use pdp_words::{BLOCK, Image, LoadFault, Source, load};
 use std::alloc::Global;
@@ -16,6 +17,8 @@ pub enum UpTo {
     End,
     /// Up to the last block of the volume in it.
     Volume(Edition),
+    /// Up to the end of the archive in it, which has so many blocks at most.
+    Archive(u32),
 }
 
 impl UpTo {
@@ -37,12 +40,12 @@ pub enum FrontFault {
     Device,
     /// An allocation was refused.
     NoMemory,
-    /// Its super-block says more blocks than any volume has, and it goes on past them.
+    /// Its super-block says more blocks than any volume has, and it goes on past them; or its archive has more blocks than it may.
     Endless,
 }
 
 /// Bytes that one read asks for.
-const PIECE: usize = 64 * 1024;
+pub(crate) const PIECE: usize = 64 * 1024;
 
 /// Where the super-block ends.
 const HEAD: usize = 1024;
@@ -62,6 +65,7 @@ pub fn read_up_to<S: Source>(
 {
     match up_to {
         UpTo::Volume(edition) => read_volume(alloc, edition, source),
+        UpTo::Archive(blocks) => read_archive(alloc, blocks, source).map(Image::from_bytes),
         UpTo::End => load(alloc, source).map_err(|fault| match fault {
             LoadFault::Device => FrontFault::Device,
             LoadFault::NoMemory => FrontFault::NoMemory,
@@ -105,7 +109,7 @@ fn read_volume<S: Source>(
 }
 
 /// Reads on behind `bytes`, until these are `most` or the source is at its end.
-fn read_on<S: Source>(
+pub(crate) fn read_on<S: Source>(
     mut bytes: Vec<u8>,
     most: usize,
     source: &mut S,
@@ -118,6 +122,9 @@ fn read_on<S: Source>(
     ensures memory { IsErrOf result FrontFault.NoMemory → S.failed source.new ≡ false }
     ensures endless { IsErrOf result FrontFault.Endless → ⊥ }
 {
+    if bytes.len() >= most {
+        return Ok(bytes);
+    }
     let mut piece = [0; PIECE];
     'pieces: while bytes.len() < most {
         let room = PIECE.min(most - bytes.len());
@@ -135,7 +142,7 @@ fn read_on<S: Source>(
 }
 
 /// Reads up to `most` bytes and drops them. True if the source is at its end then.
-fn skip<S: Source>(source: &mut S, most: usize) -> io::Result<bool>
+pub(crate) fn skip<S: Source>(source: &mut S, most: usize) -> io::Result<bool>
     ensures ok { IfOk result (IsSkipped most (S.remaining source.old) (S.remaining source.new)) }
     ensures front { OnErr result (LosesFront (S.remaining source.old) (S.remaining source.new)) }
     ensures working { OnOk result (S.failed source.new ≡ S.failed source.old) }

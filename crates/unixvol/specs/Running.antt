@@ -41,7 +41,7 @@ use Rattle.vol_mkfs.specs.declared.blank.NewVolume.{NewVolume}
 use Rattle.host_files.specs.Opening.{IsOpened}
 use Rattle.host_files.specs.Reading.{IsReadUpTo}
 use Rattle.host_files.specs.declared.volume_front.UpTo.{UpTo}
-use Rattle.host_files.specs.declared.volume_front.UpTo.TheVariants.{End, Volume}
+use Rattle.host_files.specs.declared.volume_front.UpTo.TheVariants.{End, Volume, Archive}
 use Rattle.host_files.specs.Saving.{IsTaken}
 use Rattle.host_files.specs.declared.image_file.Stamp.{Stamp}
 
@@ -53,11 +53,15 @@ Gave {F} up_to remaining bytes = (old : F) × (new : F) × IsReadUpTo up_to (rem
 abbrev pub GaveBytes : {F : Type 0} → (F → Option (List ℕ)) → List ℕ → Type 0
 GaveBytes remaining bytes = Gave End remaining bytes
 
+-- some file gave this archive, of so many blocks at most, and what followed it, if anything, may be left (std::io::Read)
+abbrev pub GaveArchive : {F : Type 0} → (F → Option (List ℕ)) → List ℕ → Type 0
+GaveArchive remaining archive = (blocks : ℕ) × Gave (Archive blocks) remaining archive
+
 -- some file gave this image of a volume, or all that it had (std::io::Read)
 abbrev pub GaveImage : {F : Type 0} → Edition → (F → Option (List ℕ)) → List ℕ → Type 0
 GaveImage edition remaining image = Gave (Volume edition) remaining image ⊎ Gave End remaining image
 
--- a file isn't read, with this status: 3, where it can't be opened, can't be read on, is past the greatest volume, or isn't to be changed; or 4, for want of memory, once some file was open and gave no more than a front of its bytes (this project)
+-- a file isn't read, with this status: 3, where it can't be opened, can't be read on, is past the greatest volume or has a longer archive than it may, or isn't to be changed; or 4, for want of memory, once some file was open and gave no more than a front of its bytes (this project)
 abbrev pub IsUnread : {F : Type 0} → (F → Option (List ℕ)) → ℕ → Type 0
 IsUnread {F} remaining status = (status ≡ 3) ⊎ ((status ≡ 4) × (old : F) × (new : F) × LosesFront (remaining old) (remaining new))
 
@@ -192,14 +196,14 @@ abbrev pub RunsLook : Streams → HostFiles → Screen → Edition → Look → 
 RunsLook streams files screen edition look status =
     RunsNothing streams files status ⊎ ((image : List ℕ) × IsSeen files edition look image × Looks edition image screen streams status look)
 
--- what standard input does for the program: it couldn't be read, with this status; it gave these bytes (this project)
+-- what standard input does for the program: it couldn't be read, with this status; it gave this archive (this project)
 pub record HostInput : Type 1 where
   pub unread : ℕ → Type 0
   pub given : List ℕ → Type 0
 
 -- what standard input does, by what is known of it (std::io::Read)
 abbrev pub host_input : {F : Type 0} → (F → Option (List ℕ)) → HostInput
-host_input remaining = record { unread = IsUnread remaining; given = GaveBytes remaining }
+host_input remaining = record { unread = IsUnread remaining; given = GaveArchive remaining }
 
 -- the bytes that a change takes aren't read, with this status: those of the file that is put, or of the archive that standard input gives (this project)
 abbrev pub IsUngiven : (ℕ → Type 0) → (ℕ → Type 0) → Change → ℕ → Type 0

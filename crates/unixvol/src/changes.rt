@@ -1,8 +1,8 @@
 //! The commands that change a volume: what they open, and what they save.
-ghost use Rattle.std.specs.Prelude.{◌≡◌, ℕ, Bool, IfErr, IfOk, List, Option};
+ghost use Rattle.std.specs.Prelude.{◌≡◌, ◌+◌, ◌*◌, ◌/◌, ◌^◌, ◌≤◌, min, ℕ, Bool, IfErr, IfOk, List, Option};
 ghost use Rattle.std.specs.Process.{exit_status};
 ghost use Rattle.command_faults.specs.Streams.{ErrorStream, Hears, still};
-ghost use Rattle.unixvol.specs.Running.{ChangesToEnd, Ends, GaveBytes, IsGivenTo, IsUngiven, IsUnread, RunsChange, host_files, host_input, wants_terminal};
+ghost use Rattle.unixvol.specs.Running.{ChangesToEnd, Ends, GaveArchive, GaveBytes, IsGivenTo, IsUngiven, IsUnread, RunsChange, host_files, host_input, wants_terminal};
 
 use crate::explaining::{Named, explain_unread, finish, tell_fault};
 use crate::host::Host;
@@ -13,15 +13,23 @@ use command_changes::Change;
 use command_changes::changing::perform;
 use command_faults::Ending;
 use command_line::VolumeFile;
-use host_files::{ImageFiles, UpTo};
+use host_files::{ImageFiles, Kind, UpTo};
 use pdp_words::IntoWrite;
-use std::fs::Files;
 use std::io::{self, Read, Write};
 use std::process::ExitCode;
 use std::rt::Clock;
 
 /// What is told of standard input that is a terminal, where an archive is wanted.
 const TERMINAL: &str = "it is a terminal, which gives no archive";
+
+/// How many blocks an archive may have beside those by the size of the image: 64 MiB.
+const LEAST_ROOM: u32 = 131_072;
+
+/// How many blocks an archive may have for each block of the image: a member may have some blocks of headers, and take an i-node and a name.
+const ROOM: u32 = 64;
+
+/// More blocks than any volume has.
+const GREATEST: u64 = 1 << 24;
 
 /// Changes the volume in a file, and answers how the program ends. An archive is read from `input`, which is
 /// standard input; where this is a terminal, nothing is opened. A fault is one line on standard error. `errors` writes to
@@ -69,7 +77,7 @@ fn run<R: ImageFiles + Clock + Eprint + AllocGlobal, I: Read + Drop>(
             fault: None,
         };
     }
-    let begun = match begin(host, volume, || given_to(host, input, change)) {
+    let begun = match begin(host, volume, || given_to(host, volume.image, input, change)) {
         Ok(begun) => begun,
         Err(status) => {
             return Ending {
@@ -104,17 +112,39 @@ fn wants_terminal(is_terminal: bool, change: Change<'_>) -> bool
 }
 
 /// The bytes of the file that is put, or of the archive that is imported; none of another change.
-fn given_to<R: Files + Eprint + AllocGlobal, I: Read + Drop>(
+fn given_to<R: ImageFiles + Eprint + AllocGlobal, I: Read + Drop>(
     host: &Host<'_, R>,
+    image: &str,
     input: I,
     change: Change<'_>,
 ) -> Result<Vec<u8>, u8>
-    ensures given { IfOk result (λ given. IsGivenTo (GaveBytes R.File.remaining) (GaveBytes I.remaining) change.entry given.items) }
+    ensures given { IfOk result (λ given. IsGivenTo (GaveBytes R.File.remaining) (GaveArchive I.remaining) change.entry given.items) }
     ensures fault { IfErr result (IsUngiven (IsUnread R.File.remaining) (IsUnread I.remaining) change.entry) }
 {
     match change {
         Change::Put { file, .. } => read_file(host, file),
-        Change::Import { .. } => Ok(read_open(host, Named::Input, UpTo::End, input)?.bytes),
+        Change::Import { .. } => {
+            let blocks = archive_room(host.rt, image);
+            Ok(read_open(host, Named::Input, UpTo::Archive(blocks), input)?.bytes)
+        }
         _ => Ok(Vec::new(host.rt.alloc())),
     }
+}
+
+/// How many blocks an archive may have that is imported into the image at a path. An image that is no regular file counts as the greatest
+/// volume.
+fn archive_room<R: ImageFiles>(rt: &R, path: &str) -> u32
+    ensures { 131072 ≤ result }
+{
+    match rt.stamp_at(path) {
+        Ok(stamp) if stamp.kind == Kind::Regular => room_for(stamp.size),
+        _ => room_for(u64::MAX),
+    }
+}
+
+/// How many blocks an archive may have that is imported into an image of `size` bytes.
+fn room_for(size: u64) -> u32
+    ensures { result ≡ 131072 + 64 * min (size / 512) (2 ^ 24) }
+{
+    LEAST_ROOM + ROOM * (size / 512).min(GREATEST) as u32
 }

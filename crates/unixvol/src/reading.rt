@@ -1,4 +1,4 @@
-//! Files that are read to their ends, or as far as the volume in them goes.
+//! Files that are read to their ends, or as far as the volume or the archive in them goes.
 ghost use Rattle.std.specs.Prelude.{◌≡◌, ◌⊎◌, false, true, All, Err, IfErr, IfOk, IsErrOf, Ok, OnErr, length};
 ghost use Rattle.pdp_words.specs.Devices.{LosesFront};
 ghost use Rattle.host_files.specs.Opening.{IsOpened};
@@ -20,6 +20,9 @@ use vol_layout::Edition;
 
 /// The reason for a file that has more blocks than any volume of its edition, if its super-block says so too.
 const ENDLESS: &str = "it has more blocks than any volume, and its super-block says so";
+
+/// The reason for an archive that has more bytes than it may.
+const LONG: &str = "its archive has more bytes than an image of this size could take";
 
 /// A file that was read.
 #[derive(Drop)]
@@ -235,7 +238,17 @@ fn read_source<R: Eprint + AllocGlobal, S: Source>(
     match read_up_to(host.rt.alloc(), up_to, source) {
         Ok(image) => Ok(image.into_bytes()),
         Err(FrontFault::Device) => Err(explain_unread(host, named, reason_of(source.error()))),
-        Err(FrontFault::Endless) => Err(explain_unread(host, named, io::Error::other(ENDLESS))),
+        Err(FrontFault::Endless) => {
+            Err(explain_unread(host, named, io::Error::other(past(up_to))))
+        }
         Err(FrontFault::NoMemory) => Err(explain_no_memory(host)),
+    }
+}
+
+/// The reason for a file that is past what it can have.
+fn past(up_to: UpTo) -> &'static str {
+    match up_to {
+        UpTo::Archive(_) => LONG,
+        UpTo::End | UpTo::Volume(_) => ENDLESS,
     }
 }

@@ -241,7 +241,7 @@ for edition in 6 7; do
     runs ls -l "$edition" disk.img /cmd
     has 'a long line' '-rws--x--x 1 3 1 5000 1973-03-03 09:46:40 fourteen-bytes' "$(grep fourteen output | awk '{ $1 = ""; print substr($0, 2) }')"
     has 'the long line of a directory' 'drwxr-xr-x 2 3 1' "$(grep ' empty$' output | awk '{ print $2, $3, $4, $5 }')"
-    runs ls "$edition" disk.img /cmd/a.c
+    runs ls -d "$edition" disk.img /cmd/a.c
     has 'a file that is listed' 'a.c 1' "$(awk '{ print $2 }' output | sed 's,.*/,,') $(wc -l < output)"
     runs ls --json "$edition" disk.img /cmd
     has 'a listing as JSON' '5000 2505' "$(python3 -c '

@@ -6,12 +6,14 @@ use Rattle.std.proofs.lemmas.Bool.{ne_eqb}
 use Rattle.std.proofs.lemmas.Slice.Eq.{bytes_eq-Decides}
 use Rattle.clap.proofs.OnLiterals.{clap_on_literals}
 use Rattle.clap.specs.Words.{Row}
-use Rattle.command_words.specs.Asking.{AreLinesGiven, IsEditionNamed, IsGiven, Words, first_word, is_set, the_word, verb_of}
+use Rattle.command_words.specs.Asking.{AreLinesGiven, IsDepthGiven, IsEditionNamed, IsGiven, Words, first_word, is_set, the_word, verb_of}
 use Rattle.command_words.specs.Verbs.{verb_name}
 use Rattle.command_words.specs.declared.invocation.Invocation.{Invocation}
 use Rattle.command_words.specs.declared.invocation.Invocation.TheVariants as invocations
 use Rattle.command_words.specs.declared.invocation.Copying.TheVariants as copies
 use Rattle.command_words.specs.declared.invocation.Work.TheVariants as works
+use Rattle.vol_listing.specs.declared.options.Depth.{Depth}
+use Rattle.vol_listing.specs.declared.options.Depth.TheVariants as depths
 use Rattle.vol_listing.specs.declared.options.Lines.{Lines}
 use Rattle.vol_listing.specs.declared.options.Lines.TheVariants as lines
 use Rattle.command_reads.specs.declared.looks.Look.TheVariants as looks
@@ -51,11 +53,12 @@ at_names P holds editions are = go editions.ref_ptr editions.now are
 abbrev seen : Option (List ℕ × List Row) → List (List ℕ)
 seen None = []
 seen (Some met) = met.0 ∷ the_word (words_by met.1) (codes "EDITION") ∷ the_word (words_by met.1) (codes "IMAGE") ∷ the_word (words_by met.1) (codes "PATH")
-    ∷ the_word (words_by met.1) (codes "json") ∷ the_word (words_by met.1) (codes "long") ∷ the_word (words_by met.1) (codes "recursive") ∷ []
+    ∷ the_word (words_by met.1) (codes "json") ∷ the_word (words_by met.1) (codes "long") ∷ the_word (words_by met.1) (codes "recursive")
+    ∷ the_word (words_by met.1) (codes "directory") ∷ []
 
 -- the words of options that weren't given
 abbrev no_options : List (List ℕ)
-no_options = codes "false" ∷ codes "false" ∷ codes "false" ∷ []
+no_options = codes "false" ∷ codes "false" ∷ codes "false" ∷ codes "false" ∷ []
 
 -- the name of the command, and the words for the arguments of `ls`, where no option was given
 abbrev words_of : Edition → List ℕ → List ℕ → List (List ℕ)
@@ -114,6 +117,7 @@ record HasNoOptions (given : Words) : Type 0 where
   json : first_word (given (codes "json")) ≡ codes "false"
   long : first_word (given (codes "long")) ≡ codes "false"
   below : first_word (given (codes "recursive")) ≡ codes "false"
+  itself : first_word (given (codes "directory")) ≡ codes "false"
 
 -- an option whose word says so was not given
 unset : (words : List (List ℕ)) → first_word words ≡ codes "false" → is_set words ≡ false
@@ -128,6 +132,16 @@ plain given lines.Json none are = absurd (true≢false (sym are ∙ unset (given
 plain_given : (given : Words) (form : Lines) → HasNoOptions given → form ≡ lines.Plain → AreLinesGiven given form
 plain_given given form none is =
     subst (AreLinesGiven given) (sym is) (unset (given (codes "json")) none.json, unset (given (codes "long")) none.long)
+
+-- where no option was given, the names are listed
+to_names : (given : Words) (depth : Depth) → HasNoOptions given → IsDepthGiven given depth → depth ≡ depths.Names
+to_names given depths.Itself none is = absurd (true≢false (sym is ∙ unset (given (codes "directory")) none.itself))
+to_names given depths.Names none is = refl
+to_names given depths.Below none is = absurd (true≢false (sym is.1 ∙ unset (given (codes "recursive")) none.below))
+
+to_names_given : (given : Words) (depth : Depth) → HasNoOptions given → depth ≡ depths.Names → IsDepthGiven given depth
+to_names_given given depth none is =
+    subst (IsDepthGiven given) (sym is) (unset (given (codes "directory")) none.itself, unset (given (codes "recursive")) none.below)
 
 -- what `ls` asks for, by the words for its arguments
 asks_listing : (clock : Option ℕ) (given : Words) (edition : Edition) (image path : List ℕ) (invocation : Invocation) → bytes_eq (codes "ls") (verb_name (verb_of invocation)) ≡ true
@@ -159,7 +173,7 @@ asks_listing clock given edition image path (invocations.Look volume (looks.List
   is.0.1 ∙ i_is,
   is.1.0 ∙ p_is,
   plain given listing.lines none is.1.1,
-  is.1.2 ∙ unset (given (codes "recursive")) none.below,
+  to_names given listing.depth none is.1.2,
 )
 asks_listing clock given edition image path (invocations.Copy volume (copies.Put directory files now)) test e_is i_is p_is none is = absurd (true≢false (sym test))
 asks_listing clock given edition image path (invocations.Copy volume (copies.Get folder paths)) test e_is i_is p_is none is = absurd (true≢false (sym test))
@@ -175,6 +189,7 @@ no_options_by met edition image path is = record {
   json = ap (λ (l : List (List ℕ)). slice_index_or l 4 []) is;
   long = ap (λ (l : List (List ℕ)). slice_index_or l 5 []) is;
   below = ap (λ (l : List (List ℕ)). slice_index_or l 6 []) is;
+  itself = ap (λ (l : List (List ℕ)). slice_index_or l 7 []) is;
 }
 
 -- what `ls` asks for, by the command that was met and the rows of its words
@@ -220,7 +235,7 @@ listing_asks clock (Some met) edition image path (invocations.Look volume (looks
         (
           listed.2 ∙ sym end,
           plain_given (words_by met.1) listing.lines none listed.3,
-          listed.4 ∙ sym (unset (words_by met.1 (codes "recursive")) none.below),
+          to_names_given (words_by met.1) listing.depth none listed.4,
         ),
       ),
     )

@@ -1,11 +1,12 @@
 -- What the words of `ls` ask for.
-use Rattle.std.specs.Prelude.{◌≡◌, ◌≢◌, ◌↔◌, ◌∷◌, false, ℕ, List, [], Option, slice_index, codes}
+use Rattle.std.specs.Prelude.{◌≡◌, ◌≢◌, ◌↔◌, ◌∷◌, ℕ, List, [], Option, slice_index, codes}
 use Rattle.std.specs.Borrow.{Bor}
 use Rattle.command_words.specs.Asking.{IsEditionNamed}
 use Rattle.command_words.specs.declared.invocation.Invocation.{Invocation}
 use Rattle.command_words.specs.declared.invocation.Invocation.TheVariants as invocations
 use Rattle.command_line.specs.CommandLine.{MetAsks}
 use Rattle.command_line.specs.Words.{AreEditions, command_in, faults_of, unixvol_app}
+use Rattle.vol_listing.specs.declared.options.Depth.TheVariants as depths
 use Rattle.vol_listing.specs.declared.options.Lines.TheVariants as lines
 use Rattle.command_reads.specs.declared.looks.Look.TheVariants as looks
 use Rattle.vol_layout.specs.declared.edition.Edition.{Edition}
@@ -17,7 +18,7 @@ IsPlainWord word = slice_index word 0 ≢ 45
 -- what is asked for is the names in the directory of this path, each with its i-number, of the volume of this edition in this file (this project)
 abbrev pub IsListing : Edition → List ℕ → List ℕ → Invocation → Type 0
 IsListing edition image path (invocations.Look volume (looks.List directory listing)) =
-    (volume.edition ≡ edition) × (volume.image.now ≡ image) × (directory.now ≡ path) × (listing.lines ≡ lines.Plain) × (listing.below ≡ false)
+    (volume.edition ≡ edition) × (volume.image.now ≡ image) × (directory.now ≡ path) × (listing.lines ≡ lines.Plain) × (listing.depth ≡ depths.Names)
 IsListing edition image path _ = ⊥
 
 -- whatever the clock tells, clap takes `ls`, an edition and two words without a hyphen at their beginning, and they ask for that listing and nothing else (this project)

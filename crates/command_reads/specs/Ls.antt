@@ -1,12 +1,16 @@
 -- What the command that lists names prints.
-use Rattle.std.specs.Prelude.{◌≡◌, ℕ, List, Ok}
+use Rattle.std.specs.Prelude.{◌≡◌, ℕ, Bool, true, false, List, Ok}
 use Rattle.vol_judge.specs.Sound.{IsSound}
 use Rattle.vol_volume.specs.Volume.{reads_as}
+use Rattle.vol_volume.specs.declared.queries.Query.{Query}
 use Rattle.vol_volume.specs.declared.queries.Query.TheVariants as queries
 use Rattle.vol_volume.specs.declared.queries.Reply.TheVariants as replies
 use Rattle.vol_volume.specs.declared.queries.Stat.{Stat}
 use Rattle.vol_layout.specs.declared.edition.Edition.{Edition}
 use Rattle.vol_dir.specs.Access.{user}
+use Rattle.vol_dir.specs.Walk.{is_directory}
+use Rattle.vol_change.specs.Nodes.{node_at}
+use Rattle.vol_listing.specs.Depths.{is_bare}
 use Rattle.vol_listing.specs.Listing.{start_of, IsListingOf}
 use Rattle.vol_listing.specs.declared.options.Listing.{Listing}
 use Rattle.vol_listing.specs.declared.options.Screen.{Screen}
@@ -19,14 +23,24 @@ abbrev pub IsFound : Edition → List ℕ → List ℕ → ℕ → Type 0
 IsFound edition image path i =
     (stat : Stat) × (answer_of edition image (queries.Stat user path) ≡ Ok (replies.Stat stat)) × (i ≡ stat.number)
 
--- the image is sound, and this is a listing of what a path leads to in the tree that it reads as (this project)
+-- the question whose refusal a listing tells, by whether it is bare: such a listing is of a directory (ls, stat)
+abbrev pub question_by : Bool → List ℕ → Query
+question_by true path = queries.List user path
+question_by false path = queries.Stat user path
+
+-- the question whose refusal a listing tells (ls, stat)
+abbrev pub question_of : Listing → List ℕ → Query
+question_of listing path = question_by (is_bare listing) path
+
+-- the image is sound, and this is a listing of what a path leads to in the tree that it reads as, which is a directory where the listing is bare (this project)
 pub record IsListing (edition : Edition) (image path : List ℕ) (listing : Listing) (screen : Screen) (text : List ℕ) : Type 0 where
   pub sound : IsSound edition image
   pub inode : ℕ
   pub found : IsFound edition image path inode
+  pub opened : is_bare listing ≡ true → is_directory (node_at (reads_as edition image).tree inode) ≡ true
   pub listed : IsListingOf (reads_as edition image).tree listing screen (start_of path inode) text
 
--- what a path leads to is listed, or it is told why it isn't: want of memory, the least rule that the image breaks, or that the path leads nowhere (this project)
+-- what a path leads to is listed, or it is told why it isn't: want of memory, the least rule that the image breaks, that the path leads nowhere, or, of a bare listing, that it leads to no directory (this project)
 abbrev pub Lists : Edition → List ℕ → List ℕ → Listing → Screen → Streams → ℕ → Type 0
 Lists edition image path listing screen streams status =
-    PrintsOne (IsListing edition image path listing screen) (IsObstacle edition image (queries.Stat user path)) streams status
+    PrintsOne (IsListing edition image path listing screen) (IsObstacle edition image (question_of listing path)) streams status

@@ -1,27 +1,32 @@
 //! The command that lists the names in a directory.
-ghost use Rattle.std.specs.Prelude.{◌≡◌, IfErr, IfOk};
+ghost use Rattle.std.specs.Prelude.{◌≡◌, ◌≢◌, true, IfErr, IfOk, OnOk};
 ghost use Rattle.vol_layout.specs.Geometry.{Fits, geometry_of};
+ghost use Rattle.vol_layout.specs.declared.mode.Kind.TheVariants as kinds;
+ghost use Rattle.vol_dir.specs.declared.refusal.Refusal.TheVariants as refusals;
+ghost use Rattle.command_faults.specs.declared.fault.Fault.TheVariants as faults;
 ghost use Rattle.vol_judge.specs.Sound.{IsSound};
-ghost use Rattle.vol_volume.specs.declared.queries.Query.TheVariants as questions;
 ghost use Rattle.command_faults.specs.Streams.{ErrorStream, Hears, streams};
 ghost use Rattle.command_reads.specs.Queries.{IsObstacle};
-ghost use Rattle.command_reads.specs.Ls.{IsFound, IsListing, Lists};
-ghost use Rattle.vol_dir.specs.Access.{user};
+ghost use Rattle.command_reads.specs.Ls.{IsFound, IsListing, Lists, question_of};
+ghost use Rattle.vol_change.specs.Nodes.{node_at};
+ghost use Rattle.vol_dir.specs.Walk.{is_directory};
+ghost use Rattle.vol_listing.specs.Depths.{is_bare};
+ghost use Rattle.vol_volume.specs.Volume.{reads_as};
 
 use crate::printing::finish_bytes;
 use command_faults::{Ending, Fault};
 use pdp_words::{Image, Sink};
 use std::alloc::Global;
-use vol_dir::Cred;
+use vol_dir::{Cred, Refusal};
 use vol_judge::examine;
-use vol_layout::{Edition, Geometry};
+use vol_layout::{Edition, Geometry, Kind};
 use vol_listing::{Listing, Screen};
-use vol_volume::{Bytes, Query, Reply, ask_image};
+use vol_volume::{Bytes, Query, Reply, Stat, ask_image};
 
 /// Lists what stands at a path of a sound image: the names in a directory, in ascending order of their bytes, each on a line with its
 /// i-number, and where asked for with what its i-node says; then, where asked for, those of each directory below. What is no directory
-/// has a line of its own. Or the same as JSON, with names escaped, as a terminal gets them. The status is 0; 1 where the image
-/// isn't sound, or the path leads nowhere; 3 where `output` failed, 4 where memory ran out. Nothing goes out before all is known.
+/// has a line of its own, unless the listing is bare. Or the same as JSON, with names escaped, as a terminal gets them. The status is 0; 1 where the image
+/// isn't sound, or the path leads nowhere, or to no directory where the listing is bare; 3 where `output` failed, 4 where memory ran out. Nothing goes out before all is known.
 ///
 /// Costs what [`examine`] costs, a look at each i-node that is told of, and for each directory the walk of its path and sorting its
 /// names. Takes memory for that and for the text.
@@ -52,7 +57,7 @@ fn list_image(
     screen: Screen,
 ) -> Result<Vec<u8>, Fault>
     ensures text { IfOk result (λ text. IsListing edition image.now path.now listing screen text.items) }
-    ensures fault { IfErr result (λ fault. IsObstacle edition image.now (questions.Stat user path.now) fault) }
+    ensures fault { IfErr result (λ fault. IsObstacle edition image.now (question_of listing path.now) fault) }
 {
     match examine(alloc, edition, image, true)? {
         Ok(examined) => {
@@ -77,25 +82,27 @@ fn list_sound(
     requires sizes { geometry.now ≡ geometry_of edition image.now }
     requires fits { Fits geometry.now image.now }
     ensures text { IfOk result (λ text. IsListing edition image.now path.now listing screen text.items) }
-    ensures fault { IfErr result (λ fault. IsObstacle edition image.now (questions.Stat user path.now) fault) }
+    ensures fault { IfErr result (λ fault. IsObstacle edition image.now (question_of listing path.now) fault) }
 {
-    let inode = find(alloc, edition, image, geometry, path)?;
+    let inode = find(alloc, edition, image, geometry, path, listing)?;
     let path = path.as_bytes();
     Ok(vol_listing::list(alloc, image, geometry, path, inode, listing, screen)?)
 }
 
-/// The i-number of what stands at a path of a sound image.
+/// The i-number of what stands at a path of a sound image: of a directory, if the listing is bare.
 fn find(
     alloc: Global,
     edition: Edition,
     image: &Image,
     geometry: &Geometry,
     path: &str,
+    listing: Listing,
 ) -> Result<u16, Fault>
     requires sound { IsSound edition image.now }
     requires sizes { geometry.now ≡ geometry_of edition image.now }
     ensures found { IfOk result (λ i. IsFound edition image.now path.now i) }
-    ensures fault { IfErr result (λ fault. IsObstacle edition image.now (questions.Stat user path.now) fault) }
+    ensures opened { IfOk result (λ i. is_bare listing ≡ true → is_directory (node_at (reads_as edition image.now).tree i) ≡ true) }
+    ensures fault { IfErr result (λ fault. IsObstacle edition image.now (question_of listing path.now) fault) }
 {
     let path = Bytes::from_vec(Vec::from_slice(alloc, path.as_bytes())?);
     let query = Query::Stat {
@@ -103,9 +110,21 @@ fn find(
         path,
     };
     match ask_image(alloc, image, geometry, &query) {
-        Ok(Reply::Stat(stat)) => Ok(stat.number),
+        Ok(Reply::Stat(stat)) => number_of(stat, listing),
         Ok(Reply::Bytes(_)) => unreachable!(),
         Ok(Reply::Names(_)) => unreachable!(),
         Err(refusal) => Err(Fault::Refused(refusal)),
     }
+}
+
+/// The i-number of a node that is listed. A bare listing is refused of what is no directory.
+fn number_of(stat: Stat, listing: Listing) -> Result<u16, Fault>
+    ensures number { IfOk result (λ i. i ≡ stat.number) }
+    ensures opened { OnOk result (is_bare listing ≡ true → stat.kind ≡ kinds.Directory) }
+    ensures refused { IfErr result (λ fault. (fault ≡ faults.Refused refusals.NotDirectory) × (is_bare listing ≡ true) × (stat.kind ≢ kinds.Directory)) }
+{
+    if listing.is_bare() && stat.kind != Kind::Directory {
+        return Err(Fault::Refused(Refusal::NotDirectory));
+    }
+    Ok(stat.number)
 }

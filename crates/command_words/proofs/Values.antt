@@ -58,7 +58,7 @@ values_given clock given (invocations.Look volume (looks.Inode number form)) is 
 values_given clock given (invocations.Look volume (looks.Super form)) is = (edition_value volume.edition _ is.0.0, (tt, (tt, tt)))
 values_given clock given (invocations.Look volume (looks.Map picture)) is = (edition_value volume.edition _ is.0.0, (tt, (tt, tt)))
 values_given clock given (invocations.Look volume looks.Check) is = (edition_value volume.edition _ is.0.0, (tt, tt))
-values_given clock given (invocations.Look volume (looks.List path listing)) is = (edition_value volume.edition _ is.0.0, (tt, (tt, (tt, (tt, (tt, tt))))))
+values_given clock given (invocations.Look volume (looks.List path listing)) is = (edition_value volume.edition _ is.0.0, (tt, (tt, (tt, (tt, (tt, (tt, tt)))))))
 values_given clock given (invocations.Change volume (changes.Import path now)) is = (edition_value volume.edition _ is.0.0, (tt, (tt, ((now, is.1.1), tt))))
 values_given clock given (invocations.Change volume (changes.MkdirAll path now)) is = (edition_value volume.edition _ is.0.0, (tt, (tt, ((now, is.1.1), (tt, tt)))))
 values_given clock given (invocations.Change volume (changes.RmAll path now)) is = (edition_value volume.edition _ is.0.0, (tt, (tt, ((now, is.1.1), (tt, tt)))))

@@ -24,6 +24,8 @@ use Rattle.command_words.specs.declared.verbs.Verb.{Verb}
 use Rattle.command_words.specs.declared.verbs.Verb.TheVariants as verbs
 use Rattle.command_reads.specs.declared.looks.Form.{Form}
 use Rattle.command_reads.specs.declared.looks.Form.TheVariants as forms
+use Rattle.vol_listing.specs.declared.options.Depth.{Depth}
+use Rattle.vol_listing.specs.declared.options.Depth.TheVariants as depths
 use Rattle.vol_listing.specs.declared.options.Lines.{Lines}
 use Rattle.vol_listing.specs.declared.options.Lines.TheVariants as lines
 use Rattle.command_reads.specs.declared.looks.Look.{Look}
@@ -216,6 +218,12 @@ AreLinesGiven given lines.Plain = (is_set (given (codes "json")) ≡ false) × (
 AreLinesGiven given lines.Long = (is_set (given (codes "json")) ≡ false) × (is_set (given (codes "long")) ≡ true)
 AreLinesGiven given lines.Json = is_set (given (codes "json")) ≡ true
 
+-- the words ask for a listing that goes so far: not into a directory where they say so, else to all below where they say so (this project)
+abbrev pub IsDepthGiven : Words → Depth → Type 0
+IsDepthGiven given depths.Itself = is_set (given (codes "directory")) ≡ true
+IsDepthGiven given depths.Names = (is_set (given (codes "directory")) ≡ false) × (is_set (given (codes "recursive")) ≡ false)
+IsDepthGiven given depths.Below = (is_set (given (codes "directory")) ≡ false) × (is_set (given (codes "recursive")) ≡ true)
+
 -- the words describe what is looked at (this project)
 abbrev pub IsLookGiven : Words → Look → Type 0
 IsLookGiven given (looks.Export path) = path.now ≡ the_word given (codes "PATH")
@@ -224,7 +232,7 @@ IsLookGiven given (looks.Super form) = IsFormGiven given form
 IsLookGiven given (looks.Map picture) = IsPictureGiven given picture
 IsLookGiven given looks.Check = Unit {0}
 IsLookGiven given (looks.List path listing) = (path.now ≡ the_word given (codes "PATH")) × AreLinesGiven given listing.lines
-    × (listing.below ≡ is_set (given (codes "recursive")))
+    × IsDepthGiven given listing.depth
 
 -- the words of `put` for several files, in their order (this project)
 abbrev pub put_words : Words → List (List ℕ)

@@ -100,7 +100,8 @@ verb_name verbs.Migrate = codes "migrate"
 -- the words of a command, in their order (this project)
 abbrev pub arguments_of : Verb → List Argument
 arguments_of verbs.Cat = on_volume (number (codes "INO") ∷ [])
-arguments_of verbs.Ls = on_volume (maybe_path ∷ lettered (codes "long") 108 ∷ lettered (codes "recursive") 82 ∷ option (codes "json") ∷ [])
+arguments_of verbs.Ls = on_volume (maybe_path ∷ lettered (codes "long") 108 ∷ lettered (codes "recursive") 82
+    ∷ lettered (codes "directory") 100 ∷ option (codes "json") ∷ [])
 arguments_of verbs.Get = on_volume (word (codes "PATH") ∷ more_words ∷ valued (codes "output") 111 values.Folder ∷ [])
 arguments_of verbs.Export = on_volume (maybe_path ∷ [])
 arguments_of verbs.Inode = on_volume (number (codes "INO") ∷ option (codes "json") ∷ [])

@@ -307,6 +307,13 @@ const ALL_BELOW: Parameter = Parameter {
     help: texts::ALL_BELOW,
 };
 
+const ITSELF: Parameter = Parameter {
+    name: "directory",
+    kind: Kind::Flag,
+    need: Need::Flag(Some('d')),
+    help: texts::ITSELF,
+};
+
 const RECURSIVE: Parameter = Parameter {
     name: "recursive",
     kind: Kind::Flag,
@@ -360,7 +367,7 @@ const NEW: Parameter = Parameter {
 pub static CAT_WORDS: [Parameter; 3] = [EDITION, IMAGE, INO];
 
 /// The words of `ls`.
-pub static LS_WORDS: [Parameter; 6] = [EDITION, IMAGE, LISTED, LONG, ALL_BELOW, JSON];
+pub static LS_WORDS: [Parameter; 7] = [EDITION, IMAGE, LISTED, LONG, ALL_BELOW, ITSELF, JSON];
 
 /// The words of `get`.
 pub static GET_WORDS: [Parameter; 5] = [EDITION, IMAGE, REGULAR, MORE_GOT, OUTPUT];

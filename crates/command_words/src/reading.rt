@@ -1,6 +1,6 @@
 //! What the words after a command ask for.
 ghost use Rattle.std.specs.Prelude.{◌≡◌, ℕ, None, Option, IfOk, IfErr, codes};
-ghost use Rattle.command_words.specs.Asking.{AreLinesGiven, AsksFor, AsksForNothing, IsFormGiven, IsOneWrong, IsPictureGiven, IsValue, IsVolumeGiven, TellsOf, checker_verb};
+ghost use Rattle.command_words.specs.Asking.{AreLinesGiven, AsksFor, AsksForNothing, IsDepthGiven, IsFormGiven, IsOneWrong, IsPictureGiven, IsValue, IsVolumeGiven, TellsOf, checker_verb};
 ghost use Rattle.command_words.specs.Verbs.{arguments_of, of_checker};
 ghost use Rattle.command_words.specs.declared.parameters.Kind.TheVariants as kinds;
 ghost use Rattle.command_words.specs.declared.verbs.Verb.TheVariants as verbs;
@@ -18,7 +18,7 @@ use command_changes::{Change, Migration};
 use command_reads::{Form, Look, Picture};
 use std::alloc::Global;
 use vol_check::Checker;
-use vol_listing::{Lines, Listing};
+use vol_listing::{Depth, Lines, Listing};
 use vol_mkfs::NewVolume;
 
 /// Reads the words after a command. `clock` is the moment of the program's clock, in seconds since the beginning of 1970,
@@ -81,7 +81,7 @@ fn read_ls<'a, G: Given<'a>>(given: &G) -> Result<Invocation<'a>, Fault<'a>>
     let path = text_in(given, "PATH");
     let listing = Listing {
         lines: lines_in(given),
-        below: flag_in(given, "recursive"),
+        depth: depth_in(given),
     };
     Ok(Invocation::Look {
         volume,
@@ -99,6 +99,19 @@ fn lines_in<'a, G: Given<'a>>(given: &G) -> Lines
         Lines::Long
     } else {
         Lines::Plain
+    }
+}
+
+/// How far a listing is to go into a directory.
+fn depth_in<'a, G: Given<'a>>(given: &G) -> Depth
+    ensures { IsDepthGiven (G.words given.now) result }
+{
+    if flag_in(given, "directory") {
+        Depth::Itself
+    } else if flag_in(given, "recursive") {
+        Depth::Below
+    } else {
+        Depth::Names
     }
 }
 

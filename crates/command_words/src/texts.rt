@@ -89,19 +89,22 @@ pub const GID: &str = "The root directory's group";
 pub const NOW: &str =
     "The time of the volume and of its root: seconds since 1970, or a date as 2026-11-23T12:00:00Z; left out, now";
 
-pub const LS_ABOUT: &str = "Lists the names in a directory of a volume.";
+pub const LS_ABOUT: &str = "Lists the names in a directory of a volume, or a file.";
 
 pub const LS_MORE: &str = "\
 Example:
   unixvol ls 7 disk.img /usr
   unixvol ls -l -R 7 disk.img
+  unixvol ls -l -d 7 disk.img /usr/src
 
 It prints a line for each name, in ascending order of the names' bytes: the i-number, right-aligned in 5
-places, a space, and the name. `.` and `..` are among them. A PATH that leads to a file lists that alone.
+places, a space, and the name. `.` and `..` are among them. With any option PATH may lead to a file, which
+is then listed alone.
 
 With -l the i-number is followed by the kind and the permissions, as in -rw-r--r--, the number of links, the user, the
 group, the size in bytes or the two numbers of a device, and the time of modification in UTC. With -R the directories
-below are listed too, each after a line with its path and a colon. With --json it prints one array, with an object for
+below are listed too, each after a line with its path and a colon. With -d a directory is listed by itself, as a file is, and -R
+has no effect. With --json it prints one array, with an object for
 each name. Bytes of names and paths that are no printable ASCII are shown as a backslash and three octal digits, as text
 on a terminal only, in JSON always.
 
@@ -112,16 +115,18 @@ Status:
   0  the names were printed
   1  `unixvol: unsound, rule N`: the volume breaks this rule, and none before it; `unixvol check` says what breaks it
      `unixvol: 2 NoEntry`: there is no such name
-     `unixvol: 20 NotDirectory`: what PATH leads through is no directory
+     `unixvol: 20 NotDirectory`: what PATH leads through is no directory; without an option, PATH itself is none
   2  the command line can't be read
   3  `unixvol: cannot read IMAGE`, or `unixvol: cannot write -`: standard output failed
   4  `unixvol: 12 NoMemory`";
 
-pub const LISTED: &str = "The path of a directory or file in the volume; left out, the root";
+pub const LISTED: &str = "The path of a directory in the volume, or with an option of a file; left out, the root";
 
 pub const LONG_LINES: &str = "Tell what each i-node says";
 
 pub const ALL_BELOW: &str = "List the directories below too";
+
+pub const ITSELF: &str = "List a directory by itself, and not the names in it";
 
 pub const GET_ABOUT: &str =
     "Prints a file of a volume, found by its path, or writes several into a folder.";

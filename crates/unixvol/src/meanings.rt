@@ -236,6 +236,9 @@ fn not_directory(verb: Verb) -> &'static str {
         Verb::Rmdir | Verb::Export | Verb::Import => {
             "it, or something on the way to it, is no directory"
         }
+        Verb::Ls => {
+            "it, or something on the way to it, is no directory; `unixvol ls -l` lists a file too"
+        }
         Verb::Ln | Verb::Mv => "something on the way of one of the paths is no directory",
         _ => "something on the way to it is no directory",
     }

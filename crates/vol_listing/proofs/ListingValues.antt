@@ -11,11 +11,12 @@ use Rattle.serde_json.specs.View.{items_of}
 use Rattle.serde_json.specs.Written.{has_float, items_have_float, members_have_float}
 use Rattle.vol_dir.specs.Tree.{Tree}
 use Rattle.vol_change.specs.Nodes.{node_at}
-use Rattle.vol_dir.specs.Walk.{is_directory}
+use Rattle.vol_listing.specs.Depths.{opens}
 use Rattle.vol_listing.specs.ListingJson.{all_data, device_members, entries_data, entry_data, row_data, with_device, with_file, with_numbers}
 use Rattle.vol_listing.specs.Places.{joined, names_under}
 use Rattle.vol_listing.specs.Rows.{row_of}
 use Rattle.escaped_text.specs.Escaping.{escaped, escaped_byte}
+use Rattle.vol_listing.specs.declared.options.Depth.{Depth}
 use Rattle.vol_listing.specs.declared.places.Place.{Place}
 use Rattle.vol_listing.specs.declared.rows.Row.{Row}
 use Rattle.vol_listing.specs.declared.rows.Sort.{Sort}
@@ -121,9 +122,9 @@ places_whole tree (place ∷ places) =
     whole_append (entries_data tree place) (flat_map (entries_data tree) places) (entries_whole tree place) (places_whole tree places)
 
 -- or of all
-pub all_whole : (tree : Tree) (place : Place) (places : List Place) → AreWhole (all_data tree place places)
-all_whole tree place places =
-    elim (is_directory (node_at tree place.inode)) as (λ b. AreWhole (if b then entries_data tree place ++ flat_map (entries_data tree) places
+pub all_whole : (tree : Tree) (depth : Depth) (place : Place) (places : List Place) → AreWhole (all_data tree depth place places)
+all_whole tree depth place places =
+    elim (opens depth (node_at tree place.inode)) as (λ b. AreWhole (if b then entries_data tree place ++ flat_map (entries_data tree) places
     else row_data place.path (row_of place.inode (node_at tree place.inode)) ∷ [])) [
       | true ↦ whole_append (entries_data tree place) (flat_map (entries_data tree) places) (entries_whole tree place) (places_whole tree places)
       | false ↦ whole_more (row_data place.path (row_of place.inode (node_at tree place.inode))) [] (row_whole place.path (row_of place.inode (node_at tree place.inode))) refl

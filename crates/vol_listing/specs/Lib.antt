@@ -6,6 +6,7 @@ pub use Rattle.vol_dir.specs.Tree
 pub use Rattle.vol_dir.specs.Walk
 pub use Rattle.vol_layout.specs.Geometry
 pub mod Dates
+pub mod Depths
 pub mod Digits
 pub mod Json
 pub mod Laws

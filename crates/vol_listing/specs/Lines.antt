@@ -1,15 +1,16 @@
 -- The lines of a listing.
-use Rattle.std.specs.Prelude.{ℕ, Bool, if◌then◌else◌, List, [], ◌∷◌, ◌++◌, codes}
+use Rattle.std.specs.Prelude.{ℕ, if◌then◌else◌, List, [], ◌∷◌, ◌++◌, codes}
 use Rattle.std.specs.List.{flat_map}
 use Rattle.vol_dir.specs.Tree.{Tree}
-use Rattle.vol_dir.specs.Walk.{is_directory}
 use Rattle.escaped_text.specs.Escaping.{escaped}
 use Rattle.vol_change.specs.Nodes.{node_at}
+use Rattle.vol_listing.specs.Depths.{goes_below, opens}
 use Rattle.vol_listing.specs.Digits.{padded_number}
 use Rattle.vol_listing.specs.LongLines.{long_line}
 use Rattle.vol_listing.specs.Places.{names_under}
 use Rattle.vol_listing.specs.Rows.{row_of}
 use Rattle.vol_listing.specs.declared.lines.Style.{Style}
+use Rattle.vol_listing.specs.declared.options.Depth.{Depth}
 use Rattle.vol_listing.specs.declared.options.Screen.{Screen}
 use Rattle.vol_listing.specs.declared.options.Screen.TheVariants as screens
 use Rattle.vol_listing.specs.declared.places.Place.{Place}
@@ -42,9 +43,9 @@ section_text style tree place = shown style.screen place.path ++ (codes ":\n" ++
 abbrev pub other_text : Style → Tree → Place → List ℕ
 other_text style tree place = 10 ∷ section_text style tree place
 
--- the names of a directory, and, where the directories below it are asked for, theirs, each directory under its path and with an empty line between; of what is no directory, its own line (ls)
-abbrev pub lines_text : Style → Tree → Bool → Place → List Place → List ℕ
-lines_text style tree below place places =
-    if is_directory (node_at tree place.inode)
-    then (if below then section_text style tree place ++ flat_map (other_text style tree) places else names_text style tree place.path)
+-- the names of a directory, and, where the directories below it are asked for, theirs, each directory under its path and with an empty line between; of what isn't opened, its own line (ls)
+abbrev pub lines_text : Style → Tree → Depth → Place → List Place → List ℕ
+lines_text style tree depth place places =
+    if opens depth (node_at tree place.inode)
+    then (if goes_below depth then section_text style tree place ++ flat_map (other_text style tree) places else names_text style tree place.path)
     else line_of style tree (place.path, place.inode)

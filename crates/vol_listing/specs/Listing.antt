@@ -1,10 +1,12 @@
 -- What is listed of a volume, and how.
-use Rattle.std.specs.Prelude.{◌≡◌, ℕ, Bool, true, false, if◌then◌else◌, List, [], ◌∷◌}
+use Rattle.std.specs.Prelude.{◌≡◌, ℕ, if◌then◌else◌, List, [], ◌∷◌}
 use Rattle.vol_dir.specs.Tree.{Tree}
 use Rattle.vol_dir.specs.Walk.{is_nil}
 use Rattle.vol_listing.specs.ListingJson.{json_text}
 use Rattle.vol_listing.specs.Lines.{lines_text}
 use Rattle.vol_listing.specs.Places.{AllBelow}
+use Rattle.vol_listing.specs.declared.options.Depth.{Depth}
+use Rattle.vol_listing.specs.declared.options.Depth.TheVariants as depths
 use Rattle.vol_listing.specs.declared.options.Lines.{Lines}
 use Rattle.vol_listing.specs.declared.options.Lines.TheVariants as lines
 use Rattle.vol_listing.specs.declared.options.Listing.{Listing}
@@ -12,10 +14,10 @@ use Rattle.vol_listing.specs.declared.options.Screen.{Screen}
 use Rattle.vol_listing.specs.declared.places.Place.{Place}
 
 -- a listing in some form of what stands at a place, with the directories below it, where these are asked for (this project)
-abbrev pub listing_text : Lines → Bool → Screen → Tree → Place → List Place → List ℕ
-listing_text lines.Plain below screen tree place places = lines_text (record { is_long = false; screen = screen }) tree below place places
-listing_text lines.Long below screen tree place places = lines_text (record { is_long = true; screen = screen }) tree below place places
-listing_text lines.Json below screen tree place places = json_text tree place places
+abbrev pub listing_text : Lines → Depth → Screen → Tree → Place → List Place → List ℕ
+listing_text lines.Plain depth screen tree place places = lines_text (record { is_long = false; screen = screen }) tree depth place places
+listing_text lines.Long depth screen tree place places = lines_text (record { is_long = true; screen = screen }) tree depth place places
+listing_text lines.Json depth screen tree place places = json_text tree depth place places
 
 -- the path by which a listing begins: that of the root is a slash, where it has no bytes (this project)
 abbrev pub shown_path : List ℕ → List ℕ
@@ -26,11 +28,12 @@ abbrev pub start_of : List ℕ → ℕ → Place
 start_of path i = record { path = shown_path path; inode = i }
 
 -- these are the directories below one, where they are asked for; else there are none (ls -R)
-abbrev pub IsBelow : Bool → Tree → Place → List Place → Type 0
-IsBelow true tree place places = AllBelow tree place places
-IsBelow false tree place places = places ≡ []
+abbrev pub IsBelow : Depth → Tree → Place → List Place → Type 0
+IsBelow depths.Itself tree place places = places ≡ []
+IsBelow depths.Names tree place places = places ≡ []
+IsBelow depths.Below tree place places = AllBelow tree place places
 
 -- this is a listing of what stands at a place (this project)
 abbrev pub IsListingOf : Tree → Listing → Screen → Place → List ℕ → Type 0
 IsListingOf tree listing screen place text =
-    (places : List Place) × IsBelow listing.below tree place places × (text ≡ listing_text listing.lines listing.below screen tree place places)
+    (places : List Place) × IsBelow listing.depth tree place places × (text ≡ listing_text listing.lines listing.depth screen tree place places)

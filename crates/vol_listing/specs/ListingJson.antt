@@ -5,12 +5,13 @@ use Rattle.serde_json.specs.Data.{Data, Members, string, array, object, member, 
 use Rattle.serde_json.specs.View.{items_of}
 use Rattle.serde_json.specs.Written.{compact_text}
 use Rattle.vol_dir.specs.Tree.{Tree}
-use Rattle.vol_dir.specs.Walk.{is_directory}
 use Rattle.vol_change.specs.Nodes.{node_at}
+use Rattle.vol_listing.specs.Depths.{opens}
 use Rattle.vol_listing.specs.Json.{count}
 use Rattle.vol_listing.specs.Places.{joined, names_under}
 use Rattle.vol_listing.specs.Rows.{row_of}
 use Rattle.escaped_text.specs.Escaping.{escaped}
+use Rattle.vol_listing.specs.declared.options.Depth.{Depth}
 use Rattle.vol_listing.specs.declared.places.Place.{Place}
 use Rattle.vol_listing.specs.declared.rows.Row.{Row}
 use Rattle.vol_listing.specs.declared.rows.Sort.{Sort}
@@ -52,16 +53,16 @@ entry_data tree path entry = row_data (joined path entry.0) (row_of entry.1 (nod
 unfoldable pub entries_data : Tree → Place → List Data
 entries_data tree place = map (entry_data tree place.path) (names_under tree place.path)
 
--- what it says of all: the entries of a directory, and of those below it that are asked for; of what is no directory, itself (ls)
-abbrev pub all_data : Tree → Place → List Place → List Data
-all_data tree place places =
-    if is_directory (node_at tree place.inode)
+-- what it says of all: the entries of a directory, and of those below it that are asked for; of what isn't opened, itself (ls)
+abbrev pub all_data : Tree → Depth → Place → List Place → List Data
+all_data tree depth place places =
+    if opens depth (node_at tree place.inode)
     then entries_data tree place ++ flat_map (entries_data tree) places
     else row_data place.path (row_of place.inode (node_at tree place.inode)) ∷ []
 
 -- a listing as one array of objects, on one line (RFC 8259)
-abbrev pub json_text : Tree → Place → List Place → List ℕ
-json_text tree place places = compact_text (array (items_of (all_data tree place places))) ++ codes "\n"
+abbrev pub json_text : Tree → Depth → Place → List Place → List ℕ
+json_text tree depth place places = compact_text (array (items_of (all_data tree depth place places))) ++ codes "\n"
 
 -- with what a row says in numbers that every node has (this project)
 unfoldable pub with_numbers : Row → Members → Members

@@ -4,8 +4,10 @@ ghost use Rattle.vol_dir.specs.Tree.{tree};
 ghost use Rattle.vol_dir.specs.Walk.{is_directory};
 ghost use Rattle.vol_layout.specs.Geometry.{Fits};
 ghost use Rattle.vol_change.specs.Nodes.{node_at};
+ghost use Rattle.vol_listing.specs.Depths.{opens};
 ghost use Rattle.vol_listing.specs.Places.{names_in, names_under, IsVolume};
 
+use crate::options::Depth;
 use crate::rows::is_number;
 use pdp_words::Image;
 use std::alloc::{AllocError, Global};
@@ -21,6 +23,17 @@ pub(crate) fn is_directory(image: &Image, geometry: &Geometry, i: u16) -> bool
     ensures { result ≡ is_directory (node_at (tree geometry.now image.now) i) }
 {
     is_number(geometry, i) && kind(image, geometry, i) == Kind::Directory
+}
+
+/// True if a listing shows what node `i` holds, and not the node by itself.
+pub(crate) fn opens(image: &Image, geometry: &Geometry, depth: Depth, i: u16) -> bool
+    requires { Fits geometry.now image.now }
+    ensures { result ≡ opens depth (node_at (tree geometry.now image.now) i) }
+{
+    match depth {
+        Depth::Itself => false,
+        Depth::Names | Depth::Below => is_directory(image, geometry, i),
+    }
 }
 
 /// The names that a directory is found to have by its path, with their i-numbers, in ascending order of their bytes; none where the path

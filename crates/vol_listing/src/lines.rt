@@ -8,9 +8,9 @@ ghost use Rattle.vol_listing.specs.LongLines.{long_line};
 ghost use Rattle.vol_listing.specs.Places.{IsVolume};
 ghost use Rattle.vol_listing.specs.Lines.{shown, line_of, names_text, section_text, other_text, lines_text};
 
-use crate::directories::{is_directory, names};
+use crate::directories::{names, opens};
 use crate::long_lines::{padded, push_columns};
-use crate::options::Screen;
+use crate::options::{Depth, Screen};
 use crate::places::Place;
 use crate::rows::{Row, row_at};
 use escaped_text::push_escaped;
@@ -29,24 +29,24 @@ pub(crate) struct Style {
 }
 
 /// The names of a directory, and, where the directories below it are asked for, theirs, each directory under its path and with an empty
-/// line between; of what is no directory, its own line.
+/// line between; of what isn't opened, its own line.
 pub(crate) fn lines_text(
     alloc: Global,
     image: &Image,
     geometry: &Geometry,
     style: Style,
+    depth: Depth,
     place: &Place,
     places: &[Place],
-    below: bool,
 ) -> Result<Vec<u8>, AllocError>
     requires { IsVolume geometry.now image.now }
-    ensures { IfOk result (λ text. text.items ≡ lines_text style (tree geometry.now image.now) below place.now places.now) }
+    ensures { IfOk result (λ text. text.items ≡ lines_text style (tree geometry.now image.now) depth place.now places.now) }
 {
     let path = place.path.as_slice();
     let mut text = Vec::new(alloc);
-    if !is_directory(image, geometry, place.inode) {
+    if !opens(image, geometry, depth, place.inode) {
         push_line(image, geometry, style, path, place.inode, &mut text)?;
-    } else if below {
+    } else if depth.goes_below() {
         push_section(alloc, image, geometry, style, place, &mut text)?;
         push_others(alloc, image, geometry, style, places, &mut text)?;
     } else {

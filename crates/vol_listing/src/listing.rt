@@ -6,7 +6,7 @@ ghost use Rattle.vol_listing.specs.Places.{IsVolume};
 
 use crate::lines::{Style, lines_text};
 use crate::listing_json::json_text;
-use crate::options::{Lines, Listing, Screen};
+use crate::options::{Depth, Lines, Listing, Screen};
 use crate::places::{Place, all_below};
 use pdp_words::Image;
 use std::alloc::{AllocError, Global};
@@ -15,7 +15,7 @@ use vol_volume::Bytes;
 
 /// The listing of what a path leads to, which is the i-number `inode`: the names in a directory, in ascending order of their bytes, each on
 /// a line with its i-number, and where asked for with what its i-node says; then, where asked for, those of each directory below. What is
-/// no directory has a line of its own. Or the same as JSON, with names escaped, as a terminal gets them.
+/// no directory has a line of its own, and so has a directory that is asked for by itself. Or the same as JSON, with names escaped, as a terminal gets them.
 ///
 /// Costs a look at each i-node that is told of, and for each directory the walk of its path and sorting its names. Takes memory for that
 /// and for the text.
@@ -59,18 +59,18 @@ fn list_place(
     requires { IsVolume geometry.now image.now }
     ensures { IfOk result (λ text. IsListingOf (tree geometry.now image.now) listing screen start.now text.items) }
 {
-    let below = listing.below;
-    let places = places_below(alloc, image, geometry, start, below)?;
+    let depth = listing.depth;
+    let places = places_below(alloc, image, geometry, start, depth)?;
     let is_long = match listing.lines {
         Lines::Json => {
-            let text = json_text(alloc, image, geometry, start, &places)?;
+            let text = json_text(alloc, image, geometry, depth, start, &places)?;
             return Ok(text.into_bytes());
         }
         Lines::Plain => false,
         Lines::Long => true,
     };
     let style = Style { is_long, screen };
-    lines_text(alloc, image, geometry, style, start, &places, below)
+    lines_text(alloc, image, geometry, style, depth, start, &places)
 }
 
 /// The directories below one, where they are asked for.
@@ -79,14 +79,13 @@ fn places_below(
     image: &Image,
     geometry: &Geometry,
     start: &Place,
-    below: bool,
+    depth: Depth,
 ) -> Result<Vec<Place>, AllocError>
     requires { IsVolume geometry.now image.now }
-    ensures { IfOk result (λ places. IsBelow below (tree geometry.now image.now) start.now places.items) }
+    ensures { IfOk result (λ places. IsBelow depth (tree geometry.now image.now) start.now places.items) }
 {
-    if below {
-        all_below(alloc, image, geometry, start)
-    } else {
-        Ok(Vec::new(alloc))
+    match depth {
+        Depth::Itself | Depth::Names => Ok(Vec::new(alloc)),
+        Depth::Below => all_below(alloc, image, geometry, start),
     }
 }

@@ -8,8 +8,9 @@ ghost use Rattle.vol_listing.specs.ListingJson.{sort_word, row_data, entry_data,
 ghost use Rattle.vol_listing.specs.Places.{IsVolume};
 ghost use Rattle.escaped_text.specs.Escaping.{escaped};
 
-use crate::directories::{is_directory, names};
+use crate::directories::{names, opens};
 use crate::json::{line, put_count};
+use crate::options::Depth;
 use crate::places::{Place, joined};
 use crate::rows::{Row, Sort, row_at};
 use escaped_text::push_escaped;
@@ -19,19 +20,20 @@ use std::alloc::{AllocError, Global};
 use vol_layout::Geometry;
 use vol_volume::Bytes;
 
-/// One array on one line: an object for each entry of a directory, and of those below it that are given; of what is no directory, one
+/// One array on one line: an object for each entry of a directory, and of those below it that are given; of what isn't opened, one
 /// for itself.
 pub(crate) fn json_text(
     alloc: Global,
     image: &Image,
     geometry: &Geometry,
+    depth: Depth,
     place: &Place,
     places: &[Place],
 ) -> Result<String, AllocError>
     requires { IsVolume geometry.now image.now }
-    ensures { IfOk result (λ text. string_bytes text ≡ json_text (tree geometry.now image.now) place.now places.now) }
+    ensures { IfOk result (λ text. string_bytes text ≡ json_text (tree geometry.now image.now) depth place.now places.now) }
 {
-    let values = all_values(alloc, image, geometry, place, places)?;
+    let values = all_values(alloc, image, geometry, depth, place, places)?;
     line(alloc, &Value::Array(values))
 }
 
@@ -40,14 +42,15 @@ fn all_values(
     alloc: Global,
     image: &Image,
     geometry: &Geometry,
+    depth: Depth,
     place: &Place,
     places: &[Place],
 ) -> Result<Vec<Value>, AllocError>
     requires { IsVolume geometry.now image.now }
-    ensures { IfOk result (λ values. map view values.items ≡ all_data (tree geometry.now image.now) place.now places.now) }
+    ensures { IfOk result (λ values. map view values.items ≡ all_data (tree geometry.now image.now) depth place.now places.now) }
 {
     let mut values = Vec::new(alloc);
-    if is_directory(image, geometry, place.inode) {
+    if opens(image, geometry, depth, place.inode) {
         push_entries(alloc, image, geometry, place, &mut values)?;
         push_all(alloc, image, geometry, places, &mut values)?;
     } else {

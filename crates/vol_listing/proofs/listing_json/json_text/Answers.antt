@@ -14,7 +14,7 @@ line-requires c =
     let values = c.in_ok-values.values in
     let opened : view (Array values) ≡ array (items_of (map view values.items)) = search (rules, the_lemmas) in
     ap has_float (opened ∙ ap (λ (ds : List Data). array (items_of ds)) c.in_ok-values.ensures)
-    ∙ all_whole (tree c.args.geometry.now c.args.image.now) c.args.place.now c.args.places.now
+    ∙ all_whole (tree c.args.geometry.now c.args.image.now) c.args.depth c.args.place.now c.args.places.now
 
 pub returns : goal.returns
 returns c =

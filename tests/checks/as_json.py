@@ -35,16 +35,19 @@ def inode(lines):
 
 def super_block(lines):
     """The object of a super-block."""
-    found = {"fault": None}
+    found = {"fault": None, "free": [], "inode": []}
     for line in lines:
         name, *words = line.split(" ")
         if counts := re.match(r"(data blocks|i-nodes) (\d+), free (\d+)$", line):
             found[counts[1]] = int(counts[2])
             found["free blocks" if name == "data" else "free i-nodes"] = int(counts[3])
-        elif name == "free" and name in found:
+        elif name == "free":
             found["fault"] = {"fault": f"{name} {words[0]}", "number": int(words[1])}
-        elif name in ("free", "inode"):
-            found[name] = whole(words)
+        elif name.endswith("]"):
+            name, index = name[:-1].split("[")
+            if int(index) != len(found[name]):
+                sys.exit(f"{line}: not the next index")
+            found[name] += whole(words)
         else:
             found[name] = int(words[0])
     return found

@@ -30,7 +30,7 @@ super_data report =
     (member (codes "fault") (fault_data report.fault)
     (member (codes "flock") (count (slice_index report.flags 0))
     (member (codes "fmod") (count (slice_index report.flags 2))
-    (member (codes "free") (counts report.front.items)
+    (member (codes "free") (counts report.free.items)
     (member (codes "free blocks") (count report.free_blocks)
     (member (codes "free i-nodes") (count report.free_inodes)
     (member (codes "fsize") (count report.block_count)
@@ -69,7 +69,7 @@ unfoldable pub with_free : SuperReport → Members → Members
 with_free report members =
     put (codes "fault") (fault_data report.fault)
     (put (codes "free blocks") (count report.free_blocks)
-    (put (codes "free") (counts report.front.items)
+    (put (codes "free") (counts report.free.items)
     (put (codes "nfree") (count report.free_count) members)))
 
 -- with what the cache of i-numbers has, and how many i-nodes are free (this project)

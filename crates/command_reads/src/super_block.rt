@@ -121,7 +121,7 @@ fn put_flags(
     put_count(alloc, object, "ronly", u64::from(report.flags[3]))
 }
 
-/// Puts what the free list has.
+/// Puts what the free list has; the place of a number in the array is its index.
 #[tactic(auto, unfolding(crate::specs::SuperBlock::with_free))]
 fn put_free(
     alloc: Global,
@@ -130,10 +130,10 @@ fn put_free(
 ) -> Result<(), AllocError>
     ensures { OnOk result (members_view object.new.entries ≡ with_free report.now (members_view object.old.entries)) }
 {
-    let front = list(alloc, &report.front)?;
+    let free = list(alloc, &report.free)?;
     let fault = fault_value(alloc, report.fault)?;
     put_count(alloc, object, "nfree", u64::from(report.free_count))?;
-    put(object, alloc, "free", front)?;
+    put(object, alloc, "free", free)?;
     put_count(alloc, object, "free blocks", report.free_blocks as u64)?;
     put(object, alloc, "fault", fault)
 }

@@ -224,10 +224,11 @@ pub const SUPER_MORE: &str = "\
 Example:
   unixvol super 7 disk.img
 
-It prints each field by its name in the manual: the sizes, the front of the free list, the cache of free i-numbers, the
-flags and the time; and then how many data blocks and i-nodes there are, how many of them are free, and the fault at
-which the free list ends, if it has one. Of the volume's soundness only the image's size and its super-block's sizes are
-asked.
+It prints each field by its name in the manual: the sizes, the free array, the cache of free i-numbers, the flags and the
+time; and then how many data blocks and i-nodes there are, how many of them are free, and the fault at which the free
+list ends, if it has one. The numbers of an array that are in use are printed in its order, ten on a line behind the index
+of the first: free[0] is the link to the next block of the chain, and the last number is the next to be taken. Of the
+volume's soundness only the image's size and its super-block's sizes are asked.
 
 Status:
   0  the super-block was shown

@@ -1,14 +1,14 @@
 -- What is shown of an image.
-use Rattle.std.specs.Prelude.{◌≡◌, ℕ, ◌==◌, ◌||◌, nat_lt, List, Result, Ok, Err, IsOk, if◌then◌else◌, ◌+◌, ◌-◌, ◌*◌, [], ◌∷◌, length, map, reverse, slice_index, take}
+use Rattle.std.specs.Prelude.{◌≡◌, ℕ, ◌==◌, ◌||◌, nat_lt, List, Result, Ok, Err, IsOk, if◌then◌else◌, ◌+◌, ◌*◌, [], ◌∷◌, length, map, slice_index}
 use Rattle.std.specs.List.{range_with_len}
 use Rattle.pdp_words.specs.Words.{word, long}
+use Rattle.vol_layout.specs.Edition.{constants, number}
 use Rattle.vol_layout.specs.Geometry.{geometry_read, list_size, block_count}
 use Rattle.vol_layout.specs.Inode.{inode_of}
 use Rattle.vol_layout.specs.Super.{free_head, cache_head, flag_place, time_place}
 use Rattle.vol_layout.specs.declared.edition.Edition.{Edition}
 use Rattle.vol_layout.specs.declared.mode.Kind.TheVariants as kinds
 use Rattle.vol_layout.specs.declared.super_block.Flag.TheVariants as flags
-use Rattle.vol_free.specs.Numbers.{cache_len}
 use Rattle.vol_reports.specs.Blocks.{kind_count}
 use Rattle.vol_free.specs.FreeWalk.{free_walk}
 use Rattle.vol_layout.specs.declared.geometry.Geometry.{Geometry}
@@ -48,10 +48,18 @@ InspectsInode edition image i (Err NoMemory) = IsOk (node_in edition image i)
 InspectsInode edition image i (Err NoEntry) = node_in edition image i ≡ Err NoEntry
 InspectsInode edition image i (Err (Unsound fault)) = node_in edition image i ≡ Err (Unsound fault)
 
--- the i-numbers of the cache, the last of the array first (filsys.h)
+-- how many of an array's places are in use, by its count: all of them where that is greater (this project)
+abbrev pub used : ℕ → ℕ → ℕ
+used count places = if nat_lt places count then places else count
+
+-- the numbers of the free array that are in use, in its order (filsys.h)
+unfoldable pub free_numbers : Edition → List ℕ → List ℕ
+free_numbers edition image =
+    map (λ k. number edition image (free_head edition + 2) k) (range_with_len 0 (used (word image (free_head edition)) (constants edition).free_slots))
+
+-- the i-numbers of the cache that are in use, in its order (filsys.h)
 unfoldable pub cached_numbers : Edition → List ℕ → List ℕ
-cached_numbers edition image =
-    map (λ k. word image (cache_head edition + 2 + 2 * (cache_len edition image - 1 - k))) (range_with_len 0 (cache_len edition image))
+cached_numbers edition image = map (λ k. word image (cache_head edition + 2 + 2 * k)) (range_with_len 0 (used (word image (cache_head edition)) 100))
 
 -- flock, ilock, fmod and ronly (filsys.h)
 abbrev pub flag_bytes : Edition → List ℕ → List ℕ
@@ -59,13 +67,13 @@ flag_bytes edition image =
     slice_index image (flag_place edition flags.FreeLock) ∷ slice_index image (flag_place edition flags.InodeLock)
     ∷ slice_index image (flag_place edition flags.Modified) ∷ slice_index image (flag_place edition flags.ReadOnly) ∷ []
 
--- a report on the super-block of an image with a geometry; the front of the free list is as much of its array as the walk met (filsys.h)
+-- a report on the super-block of an image with a geometry (filsys.h)
 pub record IsSuperReport (g : Geometry) (image : List ℕ) (report : SuperReport) : Type 0 where
   pub geometry : report.geometry ≡ g
   pub list_size : report.list_size ≡ list_size image
   pub block_count : report.block_count ≡ block_count g.edition image
   pub free_count : report.free_count ≡ word image (free_head g.edition)
-  pub front : report.front.items ≡ take (word image (free_head g.edition)) (reverse (free_walk g image).met)
+  pub free : report.free.items ≡ free_numbers g.edition image
   pub free_blocks : report.free_blocks ≡ length (free_walk g image).met
   pub fault : report.fault ≡ (free_walk g image).fault
   pub cache_count : report.cache_count ≡ word image (cache_head g.edition)

@@ -1,6 +1,6 @@
 -- The text of what is shown.
-use Rattle.std.specs.Prelude.{ℕ, ◌+◌, ◌-◌, ◌==◌, nat_lt, Bool, true, false, if◌then◌else◌, List, [], ◌∷◌, ◌++◌, codes, decimal, take, Option, None, Some, slice_index}
-use Rattle.std.specs.List.{flat_map}
+use Rattle.std.specs.Prelude.{ℕ, ◌+◌, ◌-◌, ◌%◌, ◌==◌, nat_lt, Bool, true, false, if◌then◌else◌, List, [], ◌∷◌, ◌++◌, codes, decimal, length, take, Option, None, Some, slice_index}
+use Rattle.std.specs.List.{flat_map, range_with_len}
 use Rattle.std.specs.Fmt.{digits}
 use Rattle.vol_layout.specs.Inode.{kind_of, permissions_of, address_count}
 use Rattle.vol_layout.specs.declared.mode.Kind.{Kind}
@@ -87,8 +87,7 @@ abbrev pub sizes_text : SuperReport → List ℕ
 sizes_text report =
     codes "isize " ++ (decimal report.list_size
     ++ (codes "\nfsize " ++ (decimal report.block_count
-    ++ (codes "\nnfree " ++ (decimal report.free_count
-    ++ codes "\nfree")))))
+    ++ (codes "\nnfree " ++ decimal report.free_count))))
 
 -- the lines of the flags and of the time, behind the i-number cache (this project)
 abbrev pub guards_text : SuperReport → List ℕ
@@ -109,13 +108,25 @@ counts_text report =
     ++ (codes ", free " ++ (decimal report.free_inodes
     ++ codes "\n")))))))
 
--- the lines of the counts, and the front of the free list (this project)
+-- the beginning of a line of an array of this name: the index of the first number on it (this project)
+abbrev pub line_head : List ℕ → ℕ → List ℕ
+line_head name k = codes "\n" ++ (name ++ (codes "[" ++ (decimal k ++ codes "]")))
+
+-- number k of an array, ten on a line (this project)
+abbrev pub array_item : List ℕ → ℕ → ℕ → List ℕ
+array_item name n k = (if k % 10 == 0 then line_head name k else []) ++ (32 ∷ decimal n)
+
+-- the numbers of an array, ten on a line behind the index of the first (this project)
+unfoldable pub array_text : List ℕ → List ℕ → List ℕ
+array_text name numbers = flat_map (λ k. array_item name (slice_index numbers k) k) (range_with_len 0 (length numbers))
+
+-- the lines of the counts, and those of the free array (this project)
 abbrev pub free_text : SuperReport → List ℕ
-free_text report = sizes_text report ++ all_spaced report.front.items
+free_text report = sizes_text report ++ array_text (codes "free") report.free.items
 
 -- the lines of the i-number cache (this project)
 abbrev pub cache_text : SuperReport → List ℕ
-cache_text report = codes "\nninode " ++ (decimal report.cache_count ++ codes "\ninode") ++ all_spaced report.cache.items
+cache_text report = codes "\nninode " ++ decimal report.cache_count ++ array_text (codes "inode") report.cache.items
 
 -- the lines of what is counted, and of the fault (this project)
 abbrev pub found_text : SuperReport → List ℕ

@@ -1,11 +1,10 @@
 //! The super-block, with what it says of the volume.
-ghost use Rattle.std.specs.Prelude.{◌≡◌, ◌≤◌, length, take, IfOk};
+ghost use Rattle.std.specs.Prelude.{◌≡◌, ◌≤◌, length, IfOk};
 ghost use Rattle.vol_layout.specs.Geometry.{Fits};
 ghost use Rattle.vol_layout.specs.declared.mode.Kind.TheVariants as kinds;
 ghost use Rattle.vol_file.specs.Rules.{kind_at};
-ghost use Rattle.vol_free.specs.Numbers.{cache_len};
 ghost use Rattle.vol_reports.specs.Blocks.{is_kind, kind_count};
-ghost use Rattle.vol_inspect.specs.Inspecting.{InspectsSuper, IsSuperReport, cached_numbers, flag_bytes};
+ghost use Rattle.vol_inspect.specs.Inspecting.{InspectsSuper, IsSuperReport, cached_numbers, flag_bytes, free_numbers, used};
 
 use crate::fault::InspectFault;
 use pdp_words::Image;
@@ -25,15 +24,17 @@ pub struct SuperReport {
     pub block_count: u32,
     /// `s_nfree`: how many numbers of the free array are in use, as it is stored.
     pub free_count: u16,
-    /// The free blocks of that array, the next to be taken first, up to the first fault.
-    pub front: Vec<u32>,
+    /// `s_free`: the numbers of the array that are in use, in its order. The first is the link to the next block of the chain, and the
+    /// last is the next to be taken. If the count is above the array's length, all of them.
+    pub free: Vec<u32>,
     /// How many blocks the free list has, up to its first fault.
     pub free_blocks: usize,
     /// Why the walk over the free list ended before its end, with the count or number at fault.
     pub fault: Option<(FreeFault, u32)>,
     /// `s_ninode`: how many i-numbers of the cache are in use, as it is stored.
     pub cache_count: u16,
-    /// The i-numbers of the cache, the next to be taken first; none where the count is above 100.
+    /// `s_inode`: the i-numbers of the cache that are in use, in its order; the last is the next to be taken. If the count is above 100,
+    /// all of them.
     pub cache: Vec<u16>,
     /// How many i-nodes are free.
     pub free_inodes: u16,
@@ -71,16 +72,15 @@ pub fn super_report(
     let block = Super {
         edition: geometry.edition,
     };
-    let free_count = block.free_count(image);
     let walk = walk_free(alloc, image, geometry)?;
-    let front = Vec::from_slice(alloc, first(&walk.met, free_count))?;
+    let free = free_numbers(alloc, image, geometry.edition)?;
     let cache = cached_numbers(alloc, image, geometry.edition)?;
     Ok(SuperReport {
         geometry: *geometry,
         list_size: block.list_size(image),
         block_count: block.block_count(image),
-        free_count,
-        front,
+        free_count: block.free_count(image),
+        free,
         free_blocks: walk.met.len(),
         fault: walk.fault,
         cache_count: block.cache_count(image),
@@ -91,37 +91,44 @@ pub fn super_report(
     })
 }
 
-/// The first so many of some numbers, or all of them.
-fn first(numbers: &[u32], count: u16) -> &[u32]
-    ensures { result.now ≡ take count numbers.now }
+/// How many of an array's places are in use, by its count.
+fn used(count: u16, places: u16) -> u16
+    ensures value { result ≡ used count places }
+    ensures bound { result ≤ places }
 {
-    let end = numbers.len().min(count as usize);
-    &numbers[..end]
+    if count > places { places } else { count }
 }
 
-/// The i-numbers of the cache, the next to be taken first.
+/// The numbers of the free array that are in use, in its order.
+fn free_numbers(alloc: Global, image: &Image, edition: Edition) -> Result<Vec<u32>, AllocError>
+    requires { 1024 ≤ length image.now }
+    ensures { IfOk result (λ numbers. numbers.items ≡ free_numbers edition image.now) }
+{
+    let block = Super { edition };
+    let count = used(block.free_count(image), edition.constants().free_slots);
+    let mut numbers = Vec::new(alloc);
+    for k in 0..count {
+        numbers.push(block.free(image, k as usize))?;
+    }
+    Ok(numbers)
+}
+
+/// The i-numbers of the cache that are in use, in its order.
 fn cached_numbers(alloc: Global, image: &Image, edition: Edition) -> Result<Vec<u16>, AllocError>
     requires { 1024 ≤ length image.now }
     ensures { IfOk result (λ numbers. numbers.items ≡ cached_numbers edition image.now) }
 {
     let block = Super { edition };
-    let count = cache_len(image, edition);
+    let count = used(block.cache_count(image), CACHE_PLACES);
     let mut numbers = Vec::new(alloc);
     for k in 0..count {
-        numbers.push(block.cached(image, (count - 1 - k) as usize))?;
+        numbers.push(block.cached(image, k as usize))?;
     }
     Ok(numbers)
 }
 
-/// How many i-numbers the cache holds; a count above 100 is as 0.
-fn cache_len(image: &Image, edition: Edition) -> u16
-    requires { 1024 ≤ length image.now }
-    ensures value { result ≡ cache_len edition image.now }
-    ensures bound { result ≤ 100 }
-{
-    let count = Super { edition }.cache_count(image);
-    if count > 100 { 0 } else { count }
-}
+/// How many places the cache has for i-numbers.
+const CACHE_PLACES: u16 = 100;
 
 /// How many i-nodes are free.
 fn free_inodes(image: &Image, geometry: &Geometry) -> u16

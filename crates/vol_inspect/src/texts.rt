@@ -4,6 +4,8 @@ ghost use Rattle.std.specs.String.{string_bytes};
 ghost use Rattle.vol_inspect.specs.Texts.{
   octal_text,
   all_spaced,
+  array_item,
+  array_text,
   kind_name,
   range_text,
   below_text,
@@ -70,8 +72,8 @@ impl InodeReport {
 }
 
 impl SuperReport {
-    /// Appends the report's text: a line for each field by its name in `filsys.h`, the free blocks and the i-numbers behind
-    /// their counts; then how many data blocks and i-nodes there are, and how many are free; and a line for the fault of the
+    /// Appends the report's text: a line for each field by its name in `filsys.h`, and those of each array behind its count, ten numbers on a
+    /// line behind the index of the first; then how many data blocks and i-nodes there are, and how many are free; and a line for the fault of the
     /// free list, if it has one, as the checkers print it.
     ///
     /// Costs as much as the text is long.
@@ -85,12 +87,12 @@ impl SuperReport {
         self.push_found(text)
     }
 
-    /// Appends the lines of the counts, and the front of the free list.
+    /// Appends the lines of the counts, and those of the free array.
     fn push_free(&self, text: &mut String) -> Result<(), AllocError>
         ensures { OnOk result (string_bytes text.new ≡ string_bytes text.old ++ free_text self.now) }
     {
         self.push_sizes(text)?;
-        push_spaced(text, &self.front)
+        push_array(text, "free", &self.free)
     }
 
     /// Appends the lines of the i-number cache.
@@ -98,8 +100,8 @@ impl SuperReport {
         ensures { OnOk result (string_bytes text.new ≡ string_bytes text.old ++ cache_text self.now) }
     {
         let count = self.cache_count;
-        write!(text, "\nninode {count}\ninode")?;
-        push_spaced_words(text, &self.cache)
+        write!(text, "\nninode {count}")?;
+        push_words(text, "inode", &self.cache)
     }
 
     /// Appends the lines of what is counted, and of the fault.
@@ -120,7 +122,7 @@ impl SuperReport {
         let free_count = self.free_count;
         write!(
             text,
-            "isize {list_size}\nfsize {block_count}\nnfree {free_count}\nfree"
+            "isize {list_size}\nfsize {block_count}\nnfree {free_count}"
         )
     }
 
@@ -271,16 +273,35 @@ fn push_spaced(text: &mut String, numbers: &[u32]) -> Result<(), AllocError>
     Ok(())
 }
 
-/// Appends numbers with a space before each.
-fn push_spaced_words(text: &mut String, numbers: &[u16]) -> Result<(), AllocError>
-    ensures { OnOk result (string_bytes text.new ≡ string_bytes text.old ++ all_spaced numbers.now) }
+/// Appends the numbers of an array of this name, ten on a line behind the index of the first.
+fn push_array(text: &mut String, name: &str, numbers: &[u32]) -> Result<(), AllocError>
+    ensures { OnOk result (string_bytes text.new ≡ string_bytes text.old ++ array_text name.now numbers.now) }
 {
-    for number in numbers {
-        write!(text, " {number}")?;
+    for k in 0..numbers.len() {
+        push_item(text, name, numbers[k], k)?;
     }
     Ok(())
 }
 
+/// Appends the words of an array of this name, as [`push_array`] does.
+fn push_words(text: &mut String, name: &str, numbers: &[u16]) -> Result<(), AllocError>
+    ensures { OnOk result (string_bytes text.new ≡ string_bytes text.old ++ array_text name.now numbers.now) }
+{
+    for k in 0..numbers.len() {
+        push_item(text, name, u32::from(numbers[k]), k)?;
+    }
+    Ok(())
+}
+
+/// Appends number `k` of an array of this name, as the first of a line or behind others.
+fn push_item(text: &mut String, name: &str, number: u32, k: usize) -> Result<(), AllocError>
+    ensures { OnOk result (string_bytes text.new ≡ string_bytes text.old ++ array_item name.now number k) }
+{
+    if k % 10 == 0 {
+        write!(text, "\n{name}[{k}]")?;
+    }
+    write!(text, " {number}")
+}
 /// Appends the lines of the times.
 fn push_times(
     text: &mut String,

@@ -1,4 +1,4 @@
-use Rattle.std.proofs.Common.{◌≡◌, ℕ, List, ◌+◌, ◌-◌, ◌*◌, ◌++◌, ◌∷◌, [], ap, sym, arith, ◌∙◌, map}
+use Rattle.std.proofs.Common.{◌≡◌, ℕ, List, ◌+◌, ◌*◌, ◌++◌, ◌∷◌, [], ap, sym, arith, ◌∙◌, map}
 use Rattle.std.specs.List.{range_with_len}
 use Rattle.std.proofs.lemmas.List.FromFn.{map-range_with_len_more}
 use Rattle.pdp_words.specs.Words.{word}
@@ -8,7 +8,7 @@ use Rattle.vol_inspect.proofs.super_report.cached_numbers.Goals as goal
 
 pub loop-k-preserved : goal.loop-k-preserved
 loop-k-preserved c =
-    let f = λ (k : ℕ). word c.args.image.now (cache_head c.args.edition + 2 + 2 * (c.cache_len-count.result - 1 - k)) in
+    let f = λ (k : ℕ). word c.args.image.now (cache_head c.args.edition + 2 + 2 * k) in
     ◌∙◌ {A = List ℕ} c.in_ok-push.ensures.items
     (ap (λ xs. xs ++ c.cached.result ∷ []) c.loop-k.invariant
     ∙ (ap (λ x. map f (range_with_len 0 c.loop-k.k) ++ x ∷ []) c.cached.ensures
@@ -17,7 +17,6 @@ loop-k-preserved c =
 pub returns : goal.returns
 unfolding cached_numbers
 returns c =
-    let end : c.loop-k.k ≡ c.cache_len-count.result = omega arith in
+    let end : c.loop-k.k ≡ c.used-count.result = omega arith in
     c.loop-k.invariant
-    ∙ (ap (λ n. map (λ k. word c.args.image.now (cache_head c.args.edition + 2 + 2 * (c.cache_len-count.result - 1 - k))) (range_with_len 0 n)) end
-    ∙ ap (λ n. map (λ k. word c.args.image.now (cache_head c.args.edition + 2 + 2 * (n - 1 - k))) (range_with_len 0 n)) c.cache_len-count.ensures.value)
+    ∙ ap (λ n. map (λ k. word c.args.image.now (cache_head c.args.edition + 2 + 2 * k)) (range_with_len 0 n)) (end ∙ c.used-count.ensures.value)

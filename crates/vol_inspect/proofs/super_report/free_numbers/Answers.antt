@@ -1,0 +1,22 @@
+use Rattle.std.proofs.Common.{◌≡◌, ℕ, List, ◌+◌, ◌++◌, ◌∷◌, [], ap, sym, arith, ◌∙◌, map}
+use Rattle.std.specs.List.{range_with_len}
+use Rattle.std.proofs.lemmas.List.FromFn.{map-range_with_len_more}
+use Rattle.vol_layout.specs.Edition.{number}
+use Rattle.vol_layout.specs.Super.{free_head}
+use Rattle.vol_inspect.specs.Inspecting.{free_numbers}
+use Rattle.vol_inspect.proofs.super_report.free_numbers.Goals as goal
+
+pub loop-k-preserved : goal.loop-k-preserved
+loop-k-preserved c =
+    let f = λ (k : ℕ). number c.args.edition c.args.image.now (free_head c.args.edition + 2) k in
+    ◌∙◌ {A = List ℕ} c.in_ok-push.ensures.items
+    (ap (λ xs. xs ++ c.free.result ∷ []) c.loop-k.invariant
+    ∙ (ap (λ x. map f (range_with_len 0 c.loop-k.k) ++ x ∷ []) c.free.ensures
+    ∙ sym (map-range_with_len_more f 0 c.loop-k.k c.loop-k.k (omega arith))))
+
+pub returns : goal.returns
+unfolding free_numbers
+returns c =
+    let end : c.loop-k.k ≡ c.used-count.result = omega arith in
+    c.loop-k.invariant
+    ∙ ap (λ n. map (λ k. number c.args.edition c.args.image.now (free_head c.args.edition + 2) k) (range_with_len 0 n)) (end ∙ c.used-count.ensures.value)

@@ -187,7 +187,12 @@ get 7 disk --output= /d/f | invalid value '' for '<FOLDER>': it is empty
 put 7 disk /d/f | no value for '<FILE>': a file is missing
 put 7 disk /d/f a notamoment | invalid value 'notamoment' for '<NOW>': not a number from 0
 put 7 disk /d/f a 8 b | invalid value 'b' for '<MORE>': several files are put into a directory, by -t DIR
-put 7 disk -t /d | <PATH>
+put 7 disk -t /d | <FILE>
+put 7 --target-directory=/d disk | <FILE>
+put 7 disk | <PATH>
+rm 7 disk /d/f /d/g | nor a date as 2026-11-23T12:00:00Z; rm takes one PATH, and then the moment
+mkdir 7 disk /d/f /d/g | ; mkdir takes one PATH, and then the moment
+mv 7 disk /d/f /d/g /d/h | ; mv takes two paths, FROM and TO, and then the moment
 put 7 disk a -t | a value is required for '--target-directory <DIR>'
 put 7 disk -t /d -t /d a | '--target-directory <DIR>' cannot be used multiple times
 put 7 disk -t /d x/a b y/a | invalid value 'a' for '<FILE>': two files have this last name

@@ -17,11 +17,13 @@ mod building;
 mod explaining;
 mod found;
 pub mod laws;
+mod rewording;
 
 use building::Builder;
 pub use command_words::{Copying, Invocation, VolumeFile, Work};
 pub use explaining::asks_to_explain;
 use found::Found;
+pub use rewording::reworded;
 
 /// Reads the words of the command line, of which the first is the program's own name. `clock` is the moment of the
 /// program's clock, in seconds since the beginning of 1970, if it tells one; a command whose moment was left out means
@@ -96,12 +98,31 @@ fn told(alloc: Global, verb: Verb, fault: Fault<'_>) -> Result<Error, AllocError
 fn wrong_word(alloc: Global, verb: Verb, word: WrongWord<'_>) -> Result<Error, AllocError>
     ensures { IfOk result (λ error. kind_of error ≡ clap_kinds.ValueValidation) }
 {
-    let whole_name = format!(in alloc; "unixvol {}", verb.name())?;
+    let whole_name = whole_name(alloc, verb)?;
     let mut command = Builder::new(alloc)
         .command(verb)?
         .bin_name(whole_name.as_str())?;
-    let text = wrong_text(alloc, word)?;
+    let text = match verb.paths() {
+        Some(paths) if word.name == "NOW" => more_text(alloc, verb, paths, word)?,
+        _ => wrong_text(alloc, word)?,
+    };
     command.error(ErrorKind::ValueValidation, text.as_str())
+}
+
+/// The name of a command as the usage shows it.
+pub(crate) fn whole_name(alloc: Global, verb: Verb) -> Result<String, AllocError> {
+    format!(in alloc; "unixvol {}", verb.name())
+}
+
+/// What the error says of a word that is no moment, and that may have been meant as a further path.
+fn more_text(
+    alloc: Global,
+    verb: Verb,
+    paths: &str,
+    word: WrongWord<'_>,
+) -> Result<String, AllocError> {
+    let text = wrong_text(alloc, word)?;
+    format!(in alloc; "{text}; {} {paths}", verb.name())
 }
 
 /// What the error says of a word that is no value.

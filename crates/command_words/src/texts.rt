@@ -7,7 +7,8 @@ A fault is one line on standard error; one of the command line says what is wron
 below it. The status is 0 where all went well, 1 for a refusal, 2 for a fault of the command line, 3 where a
 file can't be read or written, and 4 for want of memory.
 With --explain, before or after a command, a second line says what the first means, what it is about, and the
-system's own reason where a file failed.";
+system's own reason where a file failed. If standard error is a terminal, that line comes without --explain too; the
+variable UNIXVOL_EXPLAIN turns this off where it is 0.";
 
 pub const EXPLAIN: &str = "Say in a second line what the line of a fault means";
 
@@ -36,7 +37,7 @@ Status:
 
 pub const EDITION: &str = "The edition of Unix that the volume is of";
 
-pub const EDITIONS: &str = "the editions are 6 and 7";
+pub const EDITIONS: &str = "6 for the Sixth, 7 for the Seventh";
 
 pub const IMAGE: &str = "The file that holds the volume's bytes";
 
@@ -48,6 +49,10 @@ pub const LONG: &str = "not a number from 0 to 4294967295 in decimal digits";
 
 pub const MOMENT: &str =
     "not a number from 0 to 4294967295 in decimal digits, nor a date as 2026-11-23T12:00:00Z";
+
+pub const ONE_PATH: &str = "takes one PATH, and then the moment";
+
+pub const TWO_PATHS: &str = "takes two paths, FROM and TO, and then the moment";
 
 pub const NO_CLOCK: &str = "the clock tells no moment from 1970 to 2106";
 
@@ -245,7 +250,7 @@ Example:
   unixvol map --svg 7 disk.img > disk.svg
 
 It draws a cell for each block, or for several where there are many, as a letter, with a legend below; on a terminal in
-colours, with as many in a row as COLUMNS says. A cell for several blocks shows the most telling of their uses: named
+colours, unless NO_COLOR says something or TERM is `dumb`, with as many in a row as COLUMNS says. A cell for several blocks shows the most telling of their uses: named
 twice, lost, super-block, boot, i-list, directory, pointer, file, chain (a block by which the free list goes on), free.
 Of the volume's soundness only the image's size and its super-block's sizes are asked.
 

@@ -144,6 +144,15 @@ impl Verb {
         }
     }
 
+    /// How many paths the command takes before its moment, for those that are often given more.
+    pub fn paths(self) -> Option<&'static str> {
+        match self {
+            Verb::Rm | Verb::Rmdir | Verb::Mkdir => Some(texts::ONE_PATH),
+            Verb::Ln | Verb::Mv => Some(texts::TWO_PATHS),
+            _ => None,
+        }
+    }
+
     /// What the command does, in a line of the help.
     pub fn about(self) -> &'static str {
         match self {

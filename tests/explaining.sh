@@ -73,8 +73,28 @@ explains 1 'unixvol: 2 NoEntry' 'unixvol: /grüße\: no file or directory has th
 # Rules that images break, in the words of `check`.
 explains 1 'unixvol: unsound, rule 12' 'unixvol: broken.v6: it breaks rule 12, that each link count is the number of entries; `unixvol check` says what breaks it' ls 6 broken.v6
 explains 1 'unixvol: unsound, rule 12' 'unixvol: broken.v7: it breaks rule 12, that each link count is the number of entries; `unixvol check` says what breaks it' rm 7 broken.v7 /d/f
-explains 1 'unixvol: unsound, rule 1' 'unixvol: hello: it breaks rule 1, that the image has all blocks of the volume; perhaps it is of the other edition' super 6 hello
-explains 1 'unixvol: unsound, rule 1' 'unixvol: hello: it breaks rule 1, that the image has all blocks of the volume; perhaps it is of the other edition' cat 6 hello 1
+explains 1 'unixvol: unsound, rule 1' 'unixvol: hello: it breaks rule 1, that the image has all blocks of the volume' super 6 hello
+explains 1 'unixvol: unsound, rule 1' 'unixvol: hello: it breaks rule 1, that the image has all blocks of the volume' cat 6 hello 1
+
+# The sizes of an image that is cut off, and the other edition where its rules 1 and 2 hold. A pipe isn't read again.
+head -c 100000 disk.v7 > cut.v7
+explains 1 'unixvol: unsound, rule 1' 'unixvol: cut.v7: it breaks rule 1, that the image has all blocks of the volume: it has 195 blocks, its super-block says 400' super 7 cut.v7
+explains 1 'unixvol: unsound, rule 1' 'unixvol: cut.v7: it breaks rule 1, that the image has all blocks of the volume: it has 195 blocks, its super-block says 400' export 7 cut.v7
+explains 1 'unixvol: unsound, rule 1' "unixvol: disk.v6: it breaks rule 1, that the image has all blocks of the volume: it has 400 blocks, its super-block says $((400 * 65536 + $(od -An -tu2 -j 516 -N 2 disk.v6))); rules 1 and 2 hold for edition 6" ls 7 disk.v6
+explains 1 'unixvol: unsound, rule 2' 'unixvol: disk.v7: it breaks rule 2, that the sizes are within their limits; rules 1 and 2 hold for edition 7' rm 6 disk.v7 /d/f
+cut='unixvol: /dev/stdin: it breaks rule 1, that the image has all blocks of the volume'
+has 'the second line of a pipe' "$cut" "$(head -c 2000 disk.v7 | "$program" cat 7 /dev/stdin 2 --explain 2>&1 | tail -n 1)"
+
+# On a terminal the second line comes without being asked, unless UNIXVOL_EXPLAIN is 0.
+if [ -n "$(command -v script)" ]; then
+    # watched: what a terminal shows of a path that leads nowhere
+    watched() { script -qec "'$program' get 6 disk.v6 /none" /dev/null < /dev/null | tr -d '\r'; }
+    none='unixvol: /none: no file or directory has this name'
+    has 'what a terminal is told' "$(printf '%s\n' 'unixvol: 2 NoEntry' "$none")" "$(watched)"
+    has 'what a terminal is told that wants no second line' 'unixvol: 2 NoEntry' "$(UNIXVOL_EXPLAIN=0 watched)"
+    has 'what a terminal is told where the variable says something else' "$none" "$(UNIXVOL_EXPLAIN=1 watched | tail -n 1)"
+fi
+
 grep -q 'each link count is the number of entries' <("$program" check 6 broken.v6)
 has 'the sentence of a rule is the one of check' 0 $?
 "$program" export 6 broken.v6 --explain > archive 2> error
@@ -187,6 +207,12 @@ has 'a file with --explain' 0 $?
 
 # The command line says itself what is wrong with it, with its place where it is no text.
 misread "error: invalid value '8'" --explain ls 8 "$image"
+misread "error: invalid value '8' for '<EDITION>': 6 for the Sixth, 7 for the Seventh" ls 8 "$image"
+has 'the usage where an edition is wrong' 'Usage: unixvol ls [OPTIONS] <EDITION> <IMAGE> [PATH]' "$(grep '^Usage' error)"
+misread "error: unexpected argument '--svg' found" super --svg 6 "$image"
+has 'the tip on an option that another command has' '' "$(grep 'tip:' error)"
+misread "error: unexpected argument '--jsn' found" super --jsn 6 "$image"
+has 'the tip on a misspelled option' "  tip: a similar argument exists: '--json'" "$(grep 'tip:' error)"
 misread 'error: ' --explain
 misread 'error: ' ls 6 "$image" --explain --explain
 misread 'error: word 1 of the command line is not UTF-8 text' $'\xff'

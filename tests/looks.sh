@@ -136,6 +136,12 @@ if [ -n "$(command -v script)" ]; then
         drawn "$columns" | cmp -s - wanted
         has "a map where COLUMNS is '$columns'" 0 $?
     done
+    # codes: how many codes for colours a terminal gets, of this kind
+    codes() { TERM=$1 script -qec "'$program' map 7 '$linux'" /dev/null < /dev/null | grep -o $'\e' | wc -l; }
+    has 'the codes for colours of a map' 500 "$(unset NO_COLOR && codes xterm)"
+    has 'the codes for colours where NO_COLOR says something' 0 "$(NO_COLOR=1 codes xterm)"
+    has 'the codes for colours where NO_COLOR is empty' 500 "$(NO_COLOR='' codes xterm)"
+    has 'the codes for colours of a dumb terminal' 0 "$(codes dumb)"
 fi
 runs map --svg 7 "$linux"
 has 'a map as SVG' 'http://www.w3.org/2000/svg 250' "$(python3 -c '

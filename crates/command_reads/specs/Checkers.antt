@@ -38,7 +38,7 @@ shown_line_text screen line = line_text (shown_line screen line)
 
 -- the text of a report as it is shown: to a terminal with its paths escaped, else as they are (this project)
 abbrev pub shown_text : Screen → List Line → List ℕ
-shown_text (screens.Terminal columns) report = flat_map (shown_line_text (screens.Terminal columns)) report
+shown_text (screens.Terminal columns colours) report = flat_map (shown_line_text (screens.Terminal columns colours)) report
 shown_text screens.Stream report = report_text report
 
 -- memory ran out, and nothing is printed (this project)

@@ -82,7 +82,7 @@ WritesBelow edition image start old new before after result =
 -- an export to a file or a pipe; a terminal gets no archive, as if it couldn't be written (this project)
 abbrev pub ExportsTo : Edition → List ℕ → Start → Streams → ℕ → Screen → Type 0
 ExportsTo edition image start streams status screens.Stream = ExportsBelow edition image start streams status
-ExportsTo edition image start streams status (screens.Terminal columns) = IsTold streams faults.Output status
+ExportsTo edition image start streams status (screens.Terminal columns colours) = IsTold streams faults.Output status
 
 -- an export from where it begins, or it is told why there is nothing to export (this project)
 abbrev pub ExportsFrom : Edition → List ℕ → Screen → Streams → ℕ → Result Start StartFault → Type 0

@@ -21,12 +21,12 @@ use Rattle.vol_listing.specs.declared.options.Screen.TheVariants as screens
 
 -- how many cells stand in a row: as many as a terminal has columns, and 64 where that isn't known (this project)
 abbrev pub width_on : Screen → ℕ
-width_on (screens.Terminal columns) = if columns == 0 then 64 else columns
+width_on (screens.Terminal columns colours) = if columns == 0 then 64 else columns
 width_on screens.Stream = 64
 
--- whether cells have colours (this project)
+-- whether cells have colours: on a terminal that is to show them (this project)
 abbrev pub is_coloured : Screen → Bool
-is_coloured (screens.Terminal columns) = true
+is_coloured (screens.Terminal columns colours) = colours
 is_coloured screens.Stream = false
 
 -- the least number of blocks for each cell with which so many blocks have no more cells than there is room for (this project)

@@ -25,7 +25,7 @@ const SQUARES: usize = 128;
 
 /// Draws what each block is used for of an image in which rules 1 and 2 hold, which may be any bytes otherwise. The
 /// status is 0; 1 where the image breaks one of these rules, 3 where `output` failed, 4 where memory ran out. Nothing goes out before
-/// all is known. Rows are as wide as the terminal, which alone has colours; there are at most 32, or 128 of 128 squares, so that a
+/// all is known. Rows are as wide as the terminal, which alone has colours, if it is to show them; there are at most 32, or 128 of 128 squares, so that a
 /// cell stands for several blocks of a large volume.
 ///
 /// Costs and takes memory for what [`block_uses`] does, and for the text.
@@ -120,7 +120,7 @@ fn width_on(screen: Screen) -> usize
     ensures few { result < 2 ^ 16 }
 {
     match screen {
-        Screen::Terminal { columns } if columns > 0 => columns as usize,
+        Screen::Terminal { columns, .. } if columns > 0 => columns as usize,
         Screen::Terminal { .. } | Screen::Stream => WIDTH,
     }
 }
@@ -129,7 +129,10 @@ fn width_on(screen: Screen) -> usize
 fn is_coloured(screen: Screen) -> bool
     ensures { result ≡ is_coloured screen }
 {
-    matches!(screen, Screen::Terminal { .. })
+    match screen {
+        Screen::Terminal { colours, .. } => colours,
+        Screen::Stream => false,
+    }
 }
 
 /// The least number of blocks for each cell with which so many blocks have no more cells than there is room for.

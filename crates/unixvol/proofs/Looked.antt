@@ -60,7 +60,7 @@ ends_below edition image start streams status (unbegun told) = ends_told streams
 ends_to : (edition : Edition) (image : List ℕ) (start : Start) (streams : Streams) (status : ℕ) (screen : Screen)
     → ExportsTo edition image start streams status screen → IsEnd streams status
 ends_to edition image start streams status screens.Stream exports = ends_below edition image start streams status exports
-ends_to edition image start streams status (screens.Terminal columns) told = ends_told streams _ status told
+ends_to edition image start streams status (screens.Terminal columns colours) told = ends_told streams _ status told
 
 ends_from : (edition : Edition) (image : List ℕ) (screen : Screen) (streams : Streams) (status : ℕ) (found : Result Start StartFault)
     → ExportsFrom edition image screen streams status found → IsEnd streams status

@@ -177,9 +177,9 @@ RunsWork streams files screen edition (works.Play scripts) status = RunsPlay str
 
 -- what shows standard output is a terminal with one column or more, where the system says that it is a terminal, and else none (this project)
 abbrev pub IsShownBy : Bool → Screen → Type 0
-IsShownBy true (screens.Terminal columns) = 1 ≤ columns
+IsShownBy true (screens.Terminal columns colours) = 1 ≤ columns
 IsShownBy true screens.Stream = ⊥
-IsShownBy false (screens.Terminal columns) = ⊥
+IsShownBy false (screens.Terminal columns colours) = ⊥
 IsShownBy false screens.Stream = Unit {0}
 
 -- the image that is looked at: `check` may have all that a file had, since it also says of which edition an image is (this project)

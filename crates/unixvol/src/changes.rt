@@ -53,7 +53,7 @@ pub fn run_to_end<
 {
     let mut errors = IntoWrite::new(errors);
     let ending = run(host, input, is_terminal, volume, change);
-    let subject = Subject::of_change(volume.image, change);
+    let subject = Subject::of_change(volume, change);
     tell_fault(host, &mut errors, &ending.fault, None, Some(subject));
     ExitCode::from(finish(host, output, ending.status))
 }

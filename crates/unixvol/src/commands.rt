@@ -22,7 +22,6 @@ use command_line::{Invocation, VolumeFile};
 use command_reads::cat::print_file;
 use host_files::{ImageFiles, UpTo, noted_writer};
 use pdp_words::{Image, IntoWrite, Sink};
-use std::fs::Files;
 use std::io::Write;
 use std::process::ExitCode;
 use std::rt::Clock;
@@ -102,7 +101,7 @@ fn carry_out<R: ImageFiles + Clock + Eprint + AllocGlobal, O: Sink>(
 }
 
 /// Prints the body of i-node `ino` of the volume in a file, and answers the status to end with.
-fn run_cat<R: Files + Eprint + AllocGlobal, O: Sink>(
+fn run_cat<R: ImageFiles + Eprint + AllocGlobal, O: Sink>(
     host: &Host<'_, R>,
     output: &mut O,
     volume: VolumeFile<'_>,
@@ -120,7 +119,7 @@ fn run_cat<R: Files + Eprint + AllocGlobal, O: Sink>(
     };
     match print_file(volume.edition, ino, &image, output) {
         Ok(()) => DONE,
-        Err(fault) => explain_cat(host, fault, Subject::of_cat(volume.image, ino)),
+        Err(fault) => explain_cat(host, fault, Subject::of_cat(volume, ino)),
     }
 }
 

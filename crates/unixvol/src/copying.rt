@@ -43,7 +43,7 @@ pub fn run_to_end<R: ImageFiles + Clock + Eprint + AllocGlobal, O: Write + Drop,
         volume.entry.edition copying.entry (exit_status result) }
 {
     let mut errors = IntoWrite::new(errors);
-    let subject = Subject::of_copying(volume.image, &copying);
+    let subject = Subject::of_copying(volume, &copying);
     let ending = run(host, volume, copying);
     tell_fault(host, &mut errors, &ending.fault, None, Some(subject));
     ExitCode::from(finish(host, output, ending.status))

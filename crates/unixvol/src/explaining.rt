@@ -11,12 +11,15 @@ ghost use Rattle.unixvol.specs.Running.{IsStatusOfFileOrMemory};
 
 use crate::host::Host;
 use crate::meanings::{self, meaning_of, shown};
+use crate::sizes::{Sizes, sizes_in};
 use crate::subject::Subject;
 use clap::error::ErrorKind;
 use command_faults::Fault;
 use command_faults::answer::tell;
 use command_faults::status::{BAD_COMMAND_LINE, BAD_FILE, DONE, NO_MEMORY};
+use command_line::reworded;
 use command_reads::CatFault;
+use host_files::ImageFiles;
 use pdp_words::{Sink, write_all};
 use std::io::{self, Write};
 
@@ -107,7 +110,7 @@ fn tell_why<R: Eprint + AllocGlobal>(host: &Host<'_, R>, file: Named<'_>, why: i
 }
 
 /// Prints the line of a fault, if a run met one, and its second line, if that is wanted.
-pub fn tell_fault<R: Eprint + AllocGlobal, E: Sink>(
+pub fn tell_fault<R: ImageFiles + Eprint + AllocGlobal, E: Sink>(
     host: &Host<'_, R>,
     errors: &mut E,
     fault: &Option<Fault>,
@@ -122,7 +125,7 @@ pub fn tell_fault<R: Eprint + AllocGlobal, E: Sink>(
 
 /// Prints the second line of a run, if it is wanted: the system's error, if standard output failed, or else what the fault
 /// means. A fault that says in words what is wrong has none, and if there is no memory for it, it is left out.
-fn explain<R: Eprint + AllocGlobal>(
+fn explain<R: ImageFiles + Eprint + AllocGlobal>(
     host: &Host<'_, R>,
     fault: &Option<Fault>,
     output: Option<io::Error>,
@@ -140,13 +143,29 @@ fn explain<R: Eprint + AllocGlobal>(
     let Some(fault) = fault else {
         return;
     };
-    if let Ok(Some(meaning)) = meaning_of(host.rt.alloc(), fault, subject) {
+    let sizes = sizes_of(host, fault, subject);
+    if let Ok(Some(meaning)) = meaning_of(host.rt.alloc(), fault, subject, sizes) {
         let _ = eprintln!(host.rt; "unixvol: {meaning}");
     }
 }
 
+/// The sizes that an image tells which breaks rule 1 or rule 2.
+fn sizes_of<R: ImageFiles + AllocGlobal>(
+    host: &Host<'_, R>,
+    fault: &Fault,
+    subject: Subject<'_>,
+) -> Option<Sizes> {
+    match fault {
+        Fault::Unsound(1 | 2)
+        | Fault::Worded {
+            rule: Some(1 | 2), ..
+        } => sizes_in(host.rt, subject.image, subject.edition),
+        _ => None,
+    }
+}
+
 /// Prints the line of a fault of `cat`, and answers its status. Standard output gets its second line once the run has ended.
-pub fn explain_cat<R: Eprint + AllocGlobal>(
+pub fn explain_cat<R: ImageFiles + Eprint + AllocGlobal>(
     host: &Host<'_, R>,
     fault: CatFault,
     subject: Subject<'_>,
@@ -181,7 +200,7 @@ pub fn explain_command_line<R: Eprint + AllocGlobal, O: Sink>(
         return explain_no_memory(host);
     }
     if error.use_stderr() {
-        let _ = host.rt.eprint(error);
+        tell_mistake(host, error);
         return BAD_COMMAND_LINE;
     }
     let Ok(text) = format!(in host.rt.alloc(); "{error}") else {
@@ -191,6 +210,14 @@ pub fn explain_command_line<R: Eprint + AllocGlobal, O: Sink>(
         Ok(()) => DONE,
         Err(_) => explain_unshown(host),
     }
+}
+
+/// Prints the text of a mistake on the command line, in better words if there are any.
+fn tell_mistake<R: Eprint + AllocGlobal>(host: &Host<'_, R>, error: &clap::Error) {
+    let _ = match reworded(host.rt.alloc(), host.words, error) {
+        Ok(Some(better)) => host.rt.eprint(&better),
+        Ok(None) | Err(_) => host.rt.eprint(error),
+    };
 }
 
 /// Prints that standard output can't be written, and answers the status. Its second line comes once the run has ended.

@@ -5,6 +5,8 @@
 pub struct Host<'a, R> {
     /// The system.
     pub rt: &'a R,
+    /// The words of the command line, of which the first is the program's own name.
+    pub words: &'a [String],
     /// Whether a second line says what the line of a fault means.
     pub explains: bool,
 }

@@ -33,6 +33,24 @@ pub fn screen<R: Env + AllocGlobal>(rt: &R, is_terminal: bool) -> Screen
     }
     Screen::Terminal {
         columns: terminal_width(rt),
+        colours: has_colours(rt),
+    }
+}
+
+/// True unless the variable NO_COLOR says something, or TERM says that the terminal is a dumb one.
+fn has_colours<R: Env + AllocGlobal>(rt: &R) -> bool {
+    let refused = match env::var(rt, "NO_COLOR") {
+        Ok(text) => !text.is_empty(),
+        Err(_) => false,
+    };
+    !refused && !is_variable(rt, "TERM", "dumb")
+}
+
+/// True if a variable of the environment has this value.
+pub fn is_variable<R: Env + AllocGlobal>(rt: &R, name: &str, value: &str) -> bool {
+    match env::var(rt, name) {
+        Ok(text) => text.as_str() == value,
+        Err(_) => false,
     }
 }
 
@@ -63,7 +81,7 @@ pub fn run_to_end<R: ImageFiles + Eprint + AllocGlobal, O: Write + Drop, E: Writ
     let mut errors = IntoWrite::new(errors);
     let mut output = noted_writer(output);
     let ending = run(host, screen, &mut output, volume, look);
-    let subject = Subject::of_look(volume.image, look);
+    let subject = Subject::of_look(volume, look);
     tell_fault(
         host,
         &mut errors,

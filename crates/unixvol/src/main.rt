@@ -10,6 +10,7 @@ mod looks;
 mod meanings;
 mod reading;
 mod saving;
+mod sizes;
 mod subject;
 mod threads;
 mod words;
@@ -34,7 +35,8 @@ fn main(rt: HostRuntime) -> ExitCode {
     };
     let host = Host {
         rt: &rt,
-        explains: command_line::asks_to_explain(words.as_slice()),
+        words: words.as_slice(),
+        explains: command_line::asks_to_explain(words.as_slice()) || is_watched(&rt),
     };
     let output = rt.stdout();
     let screen = looks::screen(&rt, output.is_terminal());
@@ -63,6 +65,11 @@ fn main(rt: HostRuntime) -> ExitCode {
         }
         read => commands::run_to_end(&host, output, rt.stderr(), read),
     }
+}
+
+/// True if standard error is a terminal, and the variable UNIXVOL_EXPLAIN isn't 0: then a fault has its second line without being asked.
+fn is_watched(rt: &HostRuntime) -> bool {
+    rt.stderr().is_terminal() && !looks::is_variable(rt, "UNIXVOL_EXPLAIN", "0")
 }
 
 /// The moment of the clock, in seconds since the beginning of 1970. `None` where the clock can't be read, or tells a moment

@@ -1,12 +1,13 @@
 //! What faults mean, in words.
 
+use crate::sizes::Sizes;
 use crate::subject::{About, Subject};
 use command_faults::Fault;
 use command_words::Verb;
 use escaped_text::push_escaped;
 use std::alloc::{AllocError, Global};
 use vol_dir::Refusal;
-use vol_findings::Rule;
+use vol_findings::{Rule, edition_number};
 
 /// What want of memory means.
 pub const NO_MEMORY: &str = "there was too little memory for this";
@@ -31,16 +32,17 @@ static RULES: [Rule; 12] = [
     Rule::Links,
 ];
 
-/// What a fault means, and what it is about. `None` of one that says in words what is wrong, as those of `export` and
+/// What a fault means, and what it is about; `sizes` are those that the image tells, if they are known. `None` of one that says in words what is wrong, as those of `export` and
 /// `import` do of entries and members.
 pub fn meaning_of(
     alloc: Global,
     fault: &Fault,
     subject: Subject<'_>,
+    sizes: Option<Sizes>,
 ) -> Result<Option<String>, AllocError> {
     match fault {
-        Fault::Unsound(rule) => rule_meaning(alloc, Some(*rule), subject),
-        Fault::Worded { rule, .. } => rule_meaning(alloc, *rule, subject),
+        Fault::Unsound(rule) => rule_meaning(alloc, Some(*rule), subject, sizes),
+        Fault::Worded { rule, .. } => rule_meaning(alloc, *rule, subject, sizes),
         Fault::BadLine { script, number, .. } => script_meaning(alloc, *script, *number, subject),
         Fault::Refused(refusal) => refusal_meaning(alloc, *refusal, subject),
         Fault::RefusedAt { refusal, .. } => named_meaning(alloc, *refusal, subject),
@@ -75,6 +77,7 @@ fn rule_meaning(
     alloc: Global,
     rule: Option<u8>,
     subject: Subject<'_>,
+    sizes: Option<Sizes>,
 ) -> Result<Option<String>, AllocError> {
     let Some(rule) = rule_of(rule) else {
         return Ok(None);
@@ -83,11 +86,32 @@ fn rule_meaning(
     let number = rule.number();
     let sentence = rule.sentence();
     let more = match rule {
-        Rule::Whole | Rule::Bounded => "; perhaps it is of the other edition",
-        _ => "; `unixvol check` says what breaks it",
+        Rule::Whole | Rule::Bounded => sizes_meaning(alloc, rule, sizes)?,
+        _ => String::from_str(alloc, "; `unixvol check` says what breaks it")?,
     };
     let text = format!(in alloc; "{image}: it breaks rule {number}, that {sentence}{more}")?;
     Ok(Some(text))
+}
+
+/// What an image that breaks rule 1 or rule 2 tells of its sizes, and of which edition it may be.
+fn sizes_meaning(
+    alloc: Global,
+    rule: Rule,
+    sizes: Option<Sizes>,
+) -> Result<String, AllocError> {
+    let mut text = String::new(alloc);
+    let Some(sizes) = sizes else {
+        return Ok(text);
+    };
+    if let (Rule::Whole, Some(said)) = (rule, sizes.said) {
+        let blocks = sizes.blocks;
+        write!(text, ": it has {blocks} blocks, its super-block says {said}")?;
+    }
+    if let Some(other) = sizes.other {
+        let number = edition_number(other);
+        write!(text, "; rules 1 and 2 hold for edition {number}")?;
+    }
+    Ok(text)
 }
 
 /// The rule of a number.

@@ -1,10 +1,11 @@
 //! What a command is about.
 
 use command_changes::Change;
-use command_line::{Copying, Invocation, Work};
+use command_line::{Copying, Invocation, VolumeFile, Work};
 use command_reads::Look;
 use command_words::Verb;
 use vol_check::Checker;
+use vol_layout::Edition;
 
 /// What a command is about: what the second line of a fault names.
 #[derive(Clone, Copy)]
@@ -13,6 +14,8 @@ pub struct Subject<'a> {
     pub verb: Verb,
     /// The file of the image that it reads, or else of the one that it makes.
     pub image: &'a str,
+    /// The edition that this image is taken for.
+    pub edition: Edition,
     /// What it does its work on.
     pub about: About<'a>,
 }
@@ -45,36 +48,42 @@ impl<'a> Subject<'a> {
     /// tells its faults itself.
     fn of_plain(invocation: &Invocation<'a>) -> Option<Subject<'a>> {
         match invocation {
-            Invocation::Get { volume, path } => Some(Subject {
-                verb: Verb::Get,
-                image: volume.image,
-                about: About::Path(path),
-            }),
-            Invocation::Mkfs { image, .. } => Some(Subject {
+            Invocation::Get { volume, path } => {
+                Some(Subject::new(*volume, Verb::Get, About::Path(path)))
+            }
+            Invocation::Mkfs { image, volume } => Some(Subject {
                 verb: Verb::Mkfs,
                 image,
+                edition: volume.edition,
                 about: About::Image,
             }),
             Invocation::Migrate { old, new, .. } => Some(Subject {
                 verb: Verb::Migrate,
                 image: old,
+                edition: Edition::V6,
                 about: About::Path(new),
             }),
             _ => None,
         }
     }
 
-    /// The body of an i-node of the volume in a file is about this.
-    pub fn of_cat(image: &'a str, ino: u16) -> Subject<'a> {
+    /// A command on the volume in a file is about this.
+    fn new(volume: VolumeFile<'a>, verb: Verb, about: About<'a>) -> Subject<'a> {
         Subject {
-            verb: Verb::Cat,
-            image,
-            about: About::Inode(ino),
+            verb,
+            image: volume.image,
+            edition: volume.edition,
+            about,
         }
     }
 
+    /// The body of an i-node of the volume in a file is about this.
+    pub fn of_cat(volume: VolumeFile<'a>, ino: u16) -> Subject<'a> {
+        Subject::new(volume, Verb::Cat, About::Inode(ino))
+    }
+
     /// A look at the image in a file is about this.
-    pub fn of_look(image: &'a str, look: Look<'a>) -> Subject<'a> {
+    pub fn of_look(volume: VolumeFile<'a>, look: Look<'a>) -> Subject<'a> {
         let (verb, about) = match look {
             Look::Export { path } => (Verb::Export, About::Path(path)),
             Look::Inode { number, .. } => (Verb::Inode, About::Inode(number)),
@@ -83,11 +92,11 @@ impl<'a> Subject<'a> {
             Look::Check => (Verb::Check, About::Image),
             Look::List { path, .. } => (Verb::Ls, About::Path(path)),
         };
-        Subject { verb, image, about }
+        Subject::new(volume, verb, about)
     }
 
     /// A change of the volume in a file is about this.
-    pub fn of_change(image: &'a str, change: Change<'a>) -> Subject<'a> {
+    pub fn of_change(volume: VolumeFile<'a>, change: Change<'a>) -> Subject<'a> {
         let (verb, about) = match change {
             Change::Put { path, .. } => (Verb::Put, About::Path(path)),
             Change::Import { path, .. } => (Verb::Import, About::Path(path)),
@@ -102,25 +111,25 @@ impl<'a> Subject<'a> {
             Change::Chown { path, .. } => (Verb::Chown, About::Path(path)),
             Change::Salvage => (Verb::Salvage, About::Image),
         };
-        Subject { verb, image, about }
+        Subject::new(volume, verb, about)
     }
 
     /// The copying of several files is about this; a line that is about one of them names it itself.
-    pub fn of_copying(image: &'a str, copying: &Copying<'a>) -> Subject<'a> {
+    pub fn of_copying(volume: VolumeFile<'a>, copying: &Copying<'a>) -> Subject<'a> {
         let (verb, about) = match copying {
             Copying::Put { directory, .. } => (Verb::Put, About::Path(directory)),
             Copying::Get { .. } => (Verb::Get, About::Image),
         };
-        Subject { verb, image, about }
+        Subject::new(volume, verb, about)
     }
 
     /// What several threads do with the volume in a file is about this.
-    pub fn of_work(image: &'a str, work: &'a Work<'a>) -> Subject<'a> {
+    pub fn of_work(volume: VolumeFile<'a>, work: &'a Work<'a>) -> Subject<'a> {
         let (verb, about) = match work {
             Work::Check { checker, .. } => (verb_of(*checker), About::Image),
             Work::Play { scripts } => (Verb::Play, About::Scripts(scripts)),
         };
-        Subject { verb, image, about }
+        Subject::new(volume, verb, about)
     }
 }
 

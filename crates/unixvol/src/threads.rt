@@ -46,7 +46,7 @@ pub fn run_to_end<
     let mut errors = IntoWrite::new(errors);
     let mut output = noted_writer(output);
     let ending = run(host, screen, &mut output, volume, &work);
-    let subject = Subject::of_work(volume.image, &work);
+    let subject = Subject::of_work(volume, &work);
     tell_fault(
         host,
         &mut errors,

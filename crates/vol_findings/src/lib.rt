@@ -8,6 +8,6 @@ mod rules;
 mod texts;
 
 pub use outcome::{Outcome, Outcomes, check_rules};
-pub use report::{Line, Report, make_report};
+pub use report::{Line, Report, edition_number, make_report, other_edition};
 pub use rules::Rule;
 pub use vol_judge::Finding;

@@ -117,7 +117,7 @@ fn push_note(text: &mut String, edition: Edition, image: &Image) -> Result<(), A
 }
 
 /// The other edition.
-fn other_edition(edition: Edition) -> Edition
+pub fn other_edition(edition: Edition) -> Edition
     ensures { result ≡ other_edition edition }
 {
     match edition {
@@ -127,7 +127,7 @@ fn other_edition(edition: Edition) -> Edition
 }
 
 /// The number of an edition.
-fn edition_number(edition: Edition) -> u8
+pub fn edition_number(edition: Edition) -> u8
     ensures { result ≡ edition_number edition }
 {
     match edition {

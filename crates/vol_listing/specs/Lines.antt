@@ -17,7 +17,7 @@ use Rattle.vol_listing.specs.declared.places.Place.{Place}
 
 -- a name or a path as it is shown: to a terminal escaped, else as its bytes are (this project)
 abbrev pub shown : Screen → List ℕ → List ℕ
-shown (screens.Terminal columns) name = escaped name
+shown (screens.Terminal columns colours) name = escaped name
 shown screens.Stream name = name
 
 -- the line of a name and its i-number (ls -i)

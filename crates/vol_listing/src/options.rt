@@ -72,8 +72,8 @@ impl Lines {
 /// What shows the output.
 #[derive(Clone, Copy, Debug, PartialEq, Eq)]
 pub enum Screen {
-    /// A terminal with so many columns.
-    Terminal { columns: u16 },
+    /// A terminal with so many columns, which is to show colours or not.
+    Terminal { columns: u16, colours: bool },
     /// A file, a pipe or a device.
     Stream,
 }

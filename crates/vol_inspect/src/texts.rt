@@ -288,7 +288,8 @@ fn push_words(text: &mut String, name: &str, numbers: &[u16]) -> Result<(), Allo
     ensures { OnOk result (string_bytes text.new ≡ string_bytes text.old ++ array_text name.now numbers.now) }
 {
     for k in 0..numbers.len() {
-        push_item(text, name, u32::from(numbers[k]), k)?;
+        let number = u32::from(numbers[k]);
+        push_item(text, name, number, k)?;
     }
     Ok(())
 }

@@ -1,9 +1,11 @@
 use Rattle.std.proofs.Common.{◌≡◌, ℕ, List, ◌+◌, ◌++◌, ◌∷◌, [], ap, sym, arith, ◌∙◌, map}
 use Rattle.std.specs.List.{range_with_len}
 use Rattle.std.proofs.lemmas.List.FromFn.{map-range_with_len_more}
+use Rattle.pdp_words.specs.Words.{word}
 use Rattle.vol_layout.specs.Edition.{number}
+use Rattle.vol_layout.specs.declared.edition.Constants.{Constants}
 use Rattle.vol_layout.specs.Super.{free_head}
-use Rattle.vol_inspect.specs.Inspecting.{free_numbers}
+use Rattle.vol_inspect.specs.Inspecting.{free_numbers, used}
 use Rattle.vol_inspect.proofs.super_report.free_numbers.Goals as goal
 
 pub loop-k-preserved : goal.loop-k-preserved
@@ -19,4 +21,6 @@ unfolding free_numbers
 returns c =
     let end : c.loop-k.k ≡ c.used-count.result = omega arith in
     c.loop-k.invariant
-    ∙ ap (λ n. map (λ k. number c.args.edition c.args.image.now (free_head c.args.edition + 2) k) (range_with_len 0 n)) (end ∙ c.used-count.ensures.value)
+    ∙ ap (λ n. map (λ k. number c.args.edition c.args.image.now (free_head c.args.edition + 2) k) (range_with_len 0 n)) (end ∙ (c.used-count.ensures.value
+    ∙ (ap (λ n. used n c.constants.result.free_slots) c.free_count.ensures
+    ∙ ap (λ (k : Constants). used (word c.args.image.now (free_head c.args.edition)) k.free_slots) c.constants.ensures)))

@@ -9,7 +9,7 @@ pub loop-k-preserved : goal.loop-k-preserved
 loop-k-preserved c =
     appended_more (λ k. array_item c.args.name.now (get_or c.args.numbers.now k 0) k) (string_bytes c.args.text.now)
     (string_bytes c.loop-k.text) (string_bytes c.push_item.new.text) 0 c.loop-k.k (c.loop-k.k + 1) c.loop-k.k refl (omega arith) c.loop-k.invariant
-    c.in_ok-push_item.ensures
+    (c.in_ok-push_item.ensures ∙ ap (λ n. string_bytes c.loop-k.text ++ array_item c.args.name.now n c.loop-k.k) c.from-number.ensures)
 
 pub returns : goal.returns
 unfolding array_text

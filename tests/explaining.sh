@@ -93,6 +93,26 @@ if [ -n "$(command -v script)" ]; then
     has 'what a terminal is told' "$(printf '%s\n' 'unixvol: 2 NoEntry' "$none")" "$(watched)"
     has 'what a terminal is told that wants no second line' 'unixvol: 2 NoEntry' "$(UNIXVOL_EXPLAIN=0 watched)"
     has 'what a terminal is told where the variable says something else' "$none" "$(UNIXVOL_EXPLAIN=1 watched | tail -n 1)"
+
+    # replaces WORD..: what a terminal is told of a volume that is made
+    replaces() { script -qec "'$program' $*" /dev/null < /dev/null | tr -d '\r'; }
+    cp disk.v6 old.img
+    has 'what is told of a sound volume that is replaced' 'unixvol: old.img: it held a sound volume of edition 6 with 1 file' "$(replaces mkfs 7 old.img 100 5 0 0 5)"
+    cp broken.v7 old.img
+    has 'what is told of an unsound volume that is replaced' 'unixvol: old.img: it held an unsound volume of edition 7 with 1 file' "$(replaces mkfs 6 old.img 100 5 0 0 5)"
+    cp hello old.img
+    has 'what is told of other bytes that migrate replaces' 'unixvol: old.img: it held 6 bytes that are no volume' "$(replaces migrate disk.v6 old.img 400 50 5)"
+    has 'what is told of a new file' '' "$(replaces mkfs 7 brand_new.img 100 5 0 0 5)"
+    has 'what is told of a file that is kept' "$(printf '%s\n' 'unixvol: cannot write hello' 'unixvol: hello: it is there already, and --new replaces no file')" "$(replaces mkfs --new 7 hello 100 5 0 0 5)"
+
+    # A lock that is waited for is told after a second.
+    if [ -n "$(command -v flock)" ]; then
+        cp disk.v6 locked.img
+        flock locked.img sleep 3 &
+        sleep 0.5
+        has 'what is told of a lock' 'unixvol: locked.img: waiting for another program that has it locked' "$(replaces rmdir 6 locked.img /e 5 | head -n 1)"
+        wait
+    fi
 fi
 
 grep -q 'each link count is the number of entries' <("$program" check 6 broken.v6)

@@ -282,6 +282,18 @@ has 'the sizes of a volume of 65,536 blocks' 012001000000 "$(bytes disk 512 6)"
 has 'the user and the group of its root' 01000200 "$(bytes disk 1092 4)"
 dated 'mkfs at 3' 3
 "$program" mkfs 6 6 20 2 0 0 1
+
+# With --new a file that is there is kept, also a link that leads nowhere.
+cp disk kept
+refuses 3 'unixvol: cannot write disk' mkfs --new 6 disk 20 2 0 0 1
+refuses 3 'unixvol: cannot write disk' migrate 6 disk 100 5 07 --new
+saves 'a volume that --new keeps' disk kept
+refuses 1 'unixvol: bounds' mkfs 6 disk 20 0 0 0 1 --new
+ln -s nothing link
+refuses 3 'unixvol: cannot write link' mkfs --new 6 link 20 2 0 0 1
+rm link disk
+prints none mkfs 6 disk 20 2 0 0 1 --new
+saves 'a volume that is made anew' disk 6
 rm disk
 refuses 1 'unixvol: bounds' migrate 6 disk 4294967295 65535 07
 prints none migrate 6 disk 100 5 07

@@ -20,7 +20,7 @@ pub mod laws;
 mod rewording;
 
 use building::Builder;
-pub use command_words::{Copying, Invocation, VolumeFile, Work};
+pub use command_words::{Copying, Invocation, MadeFile, VolumeFile, Work};
 pub use explaining::asks_to_explain;
 use found::Found;
 pub use rewording::reworded;

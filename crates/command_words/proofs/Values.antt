@@ -38,9 +38,9 @@ pub values_given : (clock : Option ℕ) (given : Words) (invocation : Invocation
 values_given clock given (invocations.Cat volume ino) is = (edition_value volume.edition _ is.0.0, (tt, (is.1.0, tt)))
 values_given clock given (invocations.Mkfs image volume) is = (
   edition_value volume.edition _ is.1.0,
-  (tt, (is.1.1.0, (is.1.2.0, (is.1.3.0, (is.1.4.0, ((volume.now, is.1.5), tt)))))),
+  (tt, (is.1.1.0, (is.1.2.0, (is.1.3.0, (is.1.4.0, ((volume.now, is.1.5), (tt, tt))))))),
 )
-values_given clock given (invocations.Migrate old new migration) is = (tt, (tt, (is.2.0.0, (is.2.1.0, ((migration.now, is.2.2), tt)))))
+values_given clock given (invocations.Migrate old new migration) is = (tt, (tt, (is.2.0.0, (is.2.1.0, ((migration.now, is.2.2), (tt, tt))))))
 values_given clock given (invocations.Get volume path) is = (edition_value volume.edition _ is.0.0, (tt, (tt, (tt, (tt, tt)))))
 values_given clock given (invocations.Change volume (changes.Put path file now)) is = (edition_value volume.edition _ is.0.0, (tt, (tt, (tt, (tt, (tt, (tt, tt)))))))
 values_given clock given (invocations.Change volume (changes.Rm path now)) is = (edition_value volume.edition _ is.0.0, (tt, (tt, ((now, is.1.1), (tt, tt)))))

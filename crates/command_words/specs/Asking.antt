@@ -17,6 +17,7 @@ use Rattle.command_words.specs.declared.invocation.Copying.{Copying}
 use Rattle.command_words.specs.declared.invocation.Copying.TheVariants as copies
 use Rattle.command_words.specs.declared.invocation.Invocation.{Invocation}
 use Rattle.command_words.specs.declared.invocation.Invocation.TheVariants as invocations
+use Rattle.command_words.specs.declared.invocation.MadeFile.{MadeFile}
 use Rattle.command_words.specs.declared.invocation.VolumeFile.{VolumeFile}
 use Rattle.command_words.specs.declared.invocation.Work.{Work}
 use Rattle.command_words.specs.declared.invocation.Work.TheVariants as works
@@ -155,6 +156,10 @@ verb_of (invocations.Work volume work) = work_verb work
 abbrev pub IsVolumeGiven : Words → VolumeFile → Type 0
 IsVolumeGiven given volume =
     IsEditionNamed volume.edition (the_word given (codes "EDITION")) × (volume.image.now ≡ the_word given (codes "IMAGE"))
+
+-- the words name this file that is made, by the argument for its path, and say whether nothing may stand there (this project)
+abbrev pub IsMadeGiven : Words → List ℕ → MadeFile → Type 0
+IsMadeGiven given name file = (file.path.now ≡ the_word given name) × (file.is_new ≡ is_set (given (codes "new")))
 
 -- the words describe this new volume (this project)
 abbrev pub IsNewVolumeGiven : Option ℕ → Words → NewVolume → Type 0
@@ -295,9 +300,9 @@ IsWorkGiven given (works.Play scripts) =
 -- the words describe what is asked for (this project)
 abbrev pub IsGiven : Option ℕ → Words → Invocation → Type 0
 IsGiven clock given (invocations.Cat volume ino) = IsVolumeGiven given volume × IsNumberGiven 65535 (the_word given (codes "INO")) ino
-IsGiven clock given (invocations.Mkfs image volume) = (image.now ≡ the_word given (codes "IMAGE")) × IsNewVolumeGiven clock given volume
+IsGiven clock given (invocations.Mkfs image volume) = IsMadeGiven given (codes "IMAGE") image × IsNewVolumeGiven clock given volume
 IsGiven clock given (invocations.Migrate old new migration) = (old.now ≡ the_word given (codes "OLD"))
-    × (new.now ≡ the_word given (codes "NEW")) × IsMigrationGiven clock given migration
+    × IsMadeGiven given (codes "NEW") new × IsMigrationGiven clock given migration
 IsGiven clock given (invocations.Get volume path) = IsVolumeGiven given volume × IsPathGiven given path.now
 IsGiven clock given (invocations.Change volume change) = IsVolumeGiven given volume × IsChangeGiven clock given change
 IsGiven clock given (invocations.Look volume look) = IsVolumeGiven given volume × IsLookGiven given look

@@ -112,7 +112,8 @@ arguments_of verbs.Icheck = of_checker
 arguments_of verbs.Dcheck = of_checker
 arguments_of verbs.Ncheck = of_checker
 arguments_of verbs.Mkfs =
-    on_volume (long_number (codes "FSIZE") ∷ number (codes "IBLOCKS") ∷ number (codes "UID") ∷ number (codes "GID") ∷ moment ∷ [])
+    on_volume (long_number (codes "FSIZE") ∷ number (codes "IBLOCKS") ∷ number (codes "UID") ∷ number (codes "GID") ∷ moment
+    ∷ option (codes "new") ∷ [])
 arguments_of verbs.Put = on_volume (word (codes "PATH") ∷ maybe_word (codes "FILE") ∷ maybe_word (codes "NOW") ∷ more_words
     ∷ valued (codes "target-directory") 116 values.Directory ∷ [])
 arguments_of verbs.Import = on_volume (maybe_path ∷ moment ∷ [])
@@ -126,7 +127,7 @@ arguments_of verbs.Chown = on_volume (word (codes "PATH") ∷ number (codes "UID
 arguments_of verbs.Salvage = on_volume []
 arguments_of verbs.Play = on_volume ((codes "SCRIPT", kinds.Scripts, needs.Several) ∷ [])
 arguments_of verbs.Migrate =
-    word (codes "OLD") ∷ word (codes "NEW") ∷ long_number (codes "FSIZE") ∷ number (codes "IBLOCKS") ∷ moment ∷ []
+    word (codes "OLD") ∷ word (codes "NEW") ∷ long_number (codes "FSIZE") ∷ number (codes "IBLOCKS") ∷ moment ∷ option (codes "new") ∷ []
 
 -- all commands, in the order in which the help lists them (this project)
 abbrev pub all_verbs : List Verb

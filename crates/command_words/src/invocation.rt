@@ -14,6 +14,15 @@ pub struct VolumeFile<'a> {
     pub image: &'a str,
 }
 
+/// A file that is made.
+#[derive(Clone, Copy, Debug, PartialEq, Eq)]
+pub struct MadeFile<'a> {
+    /// Its path.
+    pub path: &'a str,
+    /// True if nothing may stand there; else a file that does is replaced.
+    pub is_new: bool,
+}
+
 /// What several threads do with a volume.
 #[derive(Debug, PartialEq, Eq, Drop)]
 pub enum Work<'a> {
@@ -63,13 +72,13 @@ pub enum Invocation<'a> {
     },
     /// Make a volume in the file `image`.
     Mkfs {
-        image: &'a str,
+        image: MadeFile<'a>,
         volume: NewVolume,
     },
     /// Make a volume of the seventh edition in the file `new`, out of the one of the sixth in the file `old`.
     Migrate {
         old: &'a str,
-        new: &'a str,
+        new: MadeFile<'a>,
         migration: Migration,
     },
     /// Change the volume in a file.

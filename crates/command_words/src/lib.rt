@@ -15,7 +15,7 @@ pub mod verbs;
 
 pub use fault::{Fault, Said, WrongWord};
 pub use given::Given;
-pub use invocation::{Copying, Invocation, Moment, VolumeFile, Work};
+pub use invocation::{Copying, Invocation, MadeFile, Moment, VolumeFile, Work};
 pub use parameters::{Kind, Need, Parameter, ValueName};
 pub use reading::read;
 pub use verbs::{VERBS, Verb};

@@ -335,6 +335,13 @@ const JSON: Parameter = Parameter {
     help: texts::JSON,
 };
 
+const UNREPLACED: Parameter = Parameter {
+    name: "new",
+    kind: Kind::Flag,
+    need: Need::Flag(None),
+    help: texts::UNREPLACED,
+};
+
 const SVG: Parameter = Parameter {
     name: "svg",
     kind: Kind::Flag,
@@ -376,7 +383,7 @@ pub static GET_WORDS: [Parameter; 5] = [EDITION, IMAGE, REGULAR, MORE_GOT, OUTPU
 pub static CHECKER_WORDS: [Parameter; 3] = [EDITION, IMAGE, WORKERS];
 
 /// The words of `mkfs`.
-pub static MKFS_WORDS: [Parameter; 7] = [
+pub static MKFS_WORDS: [Parameter; 8] = [
     EDITION,
     NEW_IMAGE,
     BLOCKS,
@@ -384,6 +391,7 @@ pub static MKFS_WORDS: [Parameter; 7] = [
     UID,
     GID,
     MADE_NOW,
+    UNREPLACED,
 ];
 
 /// The words of `put`.
@@ -414,7 +422,8 @@ pub static VOLUME_WORDS: [Parameter; 2] = [EDITION, IMAGE];
 pub static PLAY_WORDS: [Parameter; 3] = [EDITION, IMAGE, SCRIPT];
 
 /// The words of `migrate`.
-pub static MIGRATE_WORDS: [Parameter; 5] = [OLD, NEW, BLOCKS, LIST_BLOCKS, MIGRATED];
+pub static MIGRATE_WORDS: [Parameter; 6] =
+    [OLD, NEW, BLOCKS, LIST_BLOCKS, MIGRATED, UNREPLACED];
 
 /// The words of `import`.
 pub static IMPORT_WORDS: [Parameter; 4] = [EDITION, IMAGE, IMPORTED, CALL_NOW];

@@ -1,6 +1,6 @@
 //! What the words after a command ask for.
 ghost use Rattle.std.specs.Prelude.{◌≡◌, ℕ, None, Option, IfOk, IfErr, codes};
-ghost use Rattle.command_words.specs.Asking.{AreLinesGiven, AsksFor, AsksForNothing, IsDepthGiven, IsFormGiven, IsOneWrong, IsPictureGiven, IsValue, IsVolumeGiven, TellsOf, checker_verb};
+ghost use Rattle.command_words.specs.Asking.{AreLinesGiven, AsksFor, AsksForNothing, IsDepthGiven, IsFormGiven, IsMadeGiven, IsOneWrong, IsPictureGiven, IsValue, IsVolumeGiven, TellsOf, checker_verb};
 ghost use Rattle.command_words.specs.Verbs.{arguments_of, of_checker};
 ghost use Rattle.command_words.specs.declared.parameters.Kind.TheVariants as kinds;
 ghost use Rattle.command_words.specs.declared.verbs.Verb.TheVariants as verbs;
@@ -10,7 +10,7 @@ use crate::given::{
     Given, edition_in, flag_in, long_in, moment_in, permissions_in, scripts_in, text_in,
     threads_in, word_in,
 };
-use crate::invocation::{Copying, Invocation, VolumeFile, Work};
+use crate::invocation::{Copying, Invocation, MadeFile, VolumeFile, Work};
 use crate::several::{PutFiles, file_in, files_in, no_more, not_empty, paths_in};
 use crate::texts;
 use crate::verbs::Verb;
@@ -228,7 +228,7 @@ fn read_mkfs<'a, G: Given<'a>>(given: &G, clock: Option<u32>) -> Result<Invocati
     ensures read { IfOk result (AsksFor clock verbs.Mkfs (G.words given.now)) }
     ensures refused { IfErr result (TellsOf (IsOneWrong clock (G.words given.now) (arguments_of verbs.Mkfs))) }
 {
-    let image = text_in(given, "IMAGE");
+    let image = made_in(given, "IMAGE");
     let volume = NewVolume {
         edition: edition_in(given)?,
         blocks: long_in(given, "FSIZE")?,
@@ -240,6 +240,16 @@ fn read_mkfs<'a, G: Given<'a>>(given: &G, clock: Option<u32>) -> Result<Invocati
     Ok(Invocation::Mkfs { image, volume })
 }
 
+/// The file that is made, of the path that was given for an argument.
+fn made_in<'a, G: Given<'a>>(given: &G, name: &str) -> MadeFile<'a>
+    ensures { IsMadeGiven (G.words given.now) name.now result }
+{
+    MadeFile {
+        path: text_in(given, name),
+        is_new: flag_in(given, "new"),
+    }
+}
+
 /// Reads the words of `migrate`.
 fn read_migrate<'a, G: Given<'a>>(
     given: &G,
@@ -249,7 +259,7 @@ fn read_migrate<'a, G: Given<'a>>(
     ensures refused { IfErr result (TellsOf (IsOneWrong clock (G.words given.now) (arguments_of verbs.Migrate))) }
 {
     let old = text_in(given, "OLD");
-    let new = text_in(given, "NEW");
+    let new = made_in(given, "NEW");
     let migration = Migration {
         blocks: long_in(given, "FSIZE")?,
         list_blocks: word_in(given, "IBLOCKS")?,

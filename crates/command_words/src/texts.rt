@@ -58,15 +58,18 @@ pub const NO_CLOCK: &str = "the clock tells no moment from 1970 to 2106";
 
 pub const OCTAL: &str = "not a number from 0 to 7777 in octal digits";
 
-pub const MKFS_ABOUT: &str = "Makes a new volume, with an empty root directory.";
+pub const MKFS_ABOUT: &str =
+    "Makes a new volume, with an empty root directory, and replaces a file that is there.";
 
 pub const MKFS_MORE: &str = "\
 Example:
   unixvol mkfs 6 disk.img 4000 100 0 0 173750400
+  unixvol mkfs --new 7 disk.img 8000 250 0 0
 
 It makes IMAGE, or replaces it, only where the volume was made: a new file is written beside IMAGE and
 then takes its place, with its permissions. A file that is there is replaced without asking, whatever it
-holds. Where IMAGE is a device or a pipe, the bytes are written into it.
+holds; where standard error is a terminal, a line says what it held. With --new nothing is written where something has
+this path already. Where IMAGE is a device or a pipe, the bytes are written into it.
 The root directory has permissions 0777; its size is 32, for `.` and `..`. All other data blocks are free.
 
 The sixth edition takes 1 to 4095 blocks of i-list with 16 i-nodes each, at most 65535 blocks in all, and
@@ -78,8 +81,10 @@ Status:
   1  `unixvol: bounds`: no volume has these sizes
      `unixvol: 104 BadId`: UID or GID is above the edition's highest
   2  the command line can't be read
-  3  `unixvol: cannot write IMAGE`
+  3  `unixvol: cannot write IMAGE`; with --new also where something has this path already
   4  `unixvol: 12 NoMemory`";
+
+pub const UNREPLACED: &str = "Replace nothing: where something has the path already, write nothing";
 
 pub const NEW_IMAGE: &str = "The file that is made or replaced";
 
@@ -598,7 +603,8 @@ pub const SCRIPT: &str = "The files that hold the scripts, 1 to 64";
 
 pub const SCRIPTS: &str = "there may be 1 to 64 scripts, and this is how many there are";
 
-pub const MIGRATE_ABOUT: &str = "Makes a volume of the seventh edition out of one of the sixth.";
+pub const MIGRATE_ABOUT: &str =
+    "Makes a volume of the seventh edition out of one of the sixth, and replaces a file that is there.";
 
 pub const MIGRATE_MORE: &str = "\
 Example:
@@ -609,7 +615,8 @@ Kinds, permissions, owners, links, sizes, bytes, and the times of access and mod
 are NOW. A block that was missing within a file still is. All other data blocks are free.
 
 OLD must be sound, and is not changed. NEW is made, or replaced, only where the volume was made: a new file is
-written beside it and then takes its place. NEW must be another file than OLD.
+written beside it and then takes its place. NEW must be another file than OLD. Where standard error is a terminal, a line
+says what a file held that was replaced. With --new nothing is written where something has the path NEW already.
 
 Status:
   0  the volume was made and saved
@@ -620,7 +627,7 @@ Status:
      `unixvol: 103 NoInode`: the highest i-number, one higher, is above 8 times IBLOCKS
      `unixvol: 28 NoSpace`: the files need more blocks than there are data blocks
   2  the command line can't be read
-  3  `unixvol: cannot read OLD`, `unixvol: cannot write NEW`
+  3  `unixvol: cannot read OLD`, `unixvol: cannot write NEW`; with --new also where something has this path already
   4  `unixvol: 12 NoMemory`";
 
 pub const OLD: &str = "The file that holds the old volume's bytes";

@@ -17,6 +17,9 @@ const TRIES: u32 = 3000;
 /// The pause between two tries, in milliseconds: half a minute in all.
 const PAUSE: u64 = 10;
 
+/// After how many tries a user is told that a lock is waited for: about a second.
+const PATIENCE: u32 = 100;
+
 /// Of which kind a file is.
 #[derive(Clone, Copy, PartialEq, Eq)]
 pub enum Kind {
@@ -213,11 +216,19 @@ pub fn expect_image<R: ImageFiles>(rt: &R, path: &str) -> Result<(), OpenFault> 
 }
 
 /// Opens the file of an image that is to be changed, locks it, and answers its stamp. The lock is gone once the file is closed.
-/// It waits, for half a minute at most, while another program has the file locked.
-pub fn open_image<R: ImageFiles + Clock>(rt: &R, path: &str) -> Result<(R::File, Stamp), OpenFault>
+/// It waits, for half a minute at most, while another program has the file locked; `is_watched` says whether standard error is told so
+/// after a second.
+pub fn open_image<R: ImageFiles + Clock + Eprint>(
+    rt: &R,
+    path: &str,
+    is_watched: bool,
+) -> Result<(R::File, Stamp), OpenFault>
     ensures { IfOk result (λ opened. OpensTo R.had opened.0 opened.1) }
 {
-    for _ in 0..TRIES {
+    for tried in 0..TRIES {
+        if is_watched && tried == PATIENCE {
+            let _ = eprintln!(rt; "unixvol: {path}: waiting for another program that has it locked");
+        }
         match try_open(rt, path) {
             Ok(Try::Open(file, stamp)) => return Ok((file, stamp)),
             Ok(Try::Stream) => return Err(OpenFault::Stream(io::Error::other(STREAM))),

@@ -18,7 +18,7 @@ use command_changes::migrate::migrate_image;
 use command_changes::mkfs::make_volume;
 use command_faults::Ending;
 use command_faults::status::DONE;
-use command_line::{Invocation, VolumeFile};
+use command_line::{Invocation, MadeFile, VolumeFile};
 use command_reads::cat::print_file;
 use host_files::{ImageFiles, UpTo, noted_writer};
 use pdp_words::{Image, IntoWrite, Sink};
@@ -123,10 +123,10 @@ fn run_cat<R: ImageFiles + Eprint + AllocGlobal, O: Sink>(
     }
 }
 
-/// Makes a new volume, saves it in the file `image`, and answers how it ends.
+/// Makes a new volume, saves it in a file, and answers how it ends.
 fn run_mkfs<R: ImageFiles + Clock + Eprint + AllocGlobal>(
     host: &Host<'_, R>,
-    image: &str,
+    image: MadeFile<'_>,
     volume: NewVolume,
 ) -> Ending
     ensures { (known : Option (List ℕ)) (failed : Bool) (errors : ErrorStream) → Hears errors result.fault
@@ -140,12 +140,12 @@ fn run_mkfs<R: ImageFiles + Clock + Eprint + AllocGlobal>(
     }
 }
 
-/// Makes a volume of the seventh edition out of the one in the file `old`, saves it in the file `new`, and answers
+/// Makes a volume of the seventh edition out of the one in the file `old`, saves it in a file, and answers
 /// how it ends.
 fn run_migrate<R: ImageFiles + Clock + Eprint + AllocGlobal>(
     host: &Host<'_, R>,
     old: &str,
-    new: &str,
+    new: MadeFile<'_>,
     migration: Migration,
 ) -> Ending
     ensures runs { (known : Option (List ℕ)) (failed : Bool) (errors : ErrorStream) → Hears errors result.fault

@@ -7,6 +7,8 @@ pub struct Host<'a, R> {
     pub rt: &'a R,
     /// The words of the command line, of which the first is the program's own name.
     pub words: &'a [String],
+    /// True if standard error is a terminal, where a user reads what is told.
+    pub is_watched: bool,
     /// Whether a second line says what the line of a fault means.
     pub explains: bool,
 }

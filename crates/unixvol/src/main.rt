@@ -9,6 +9,7 @@ mod host;
 mod looks;
 mod meanings;
 mod reading;
+mod replaced;
 mod saving;
 mod sizes;
 mod subject;
@@ -33,10 +34,13 @@ fn main(rt: HostRuntime) -> ExitCode {
             return ExitCode::from(explaining::explain_words(&rt, &error, place));
         }
     };
+    let is_watched = rt.stderr().is_terminal();
     let host = Host {
         rt: &rt,
         words: words.as_slice(),
-        explains: command_line::asks_to_explain(words.as_slice()) || is_watched(&rt),
+        is_watched,
+        explains: command_line::asks_to_explain(words.as_slice())
+            || is_watched && !looks::is_variable(&rt, "UNIXVOL_EXPLAIN", "0"),
     };
     let output = rt.stdout();
     let screen = looks::screen(&rt, output.is_terminal());
@@ -65,11 +69,6 @@ fn main(rt: HostRuntime) -> ExitCode {
         }
         read => commands::run_to_end(&host, output, rt.stderr(), read),
     }
-}
-
-/// True if standard error is a terminal, and the variable UNIXVOL_EXPLAIN isn't 0: then a fault has its second line without being asked.
-fn is_watched(rt: &HostRuntime) -> bool {
-    rt.stderr().is_terminal() && !looks::is_variable(rt, "UNIXVOL_EXPLAIN", "0")
 }
 
 /// The moment of the clock, in seconds since the beginning of 1970. `None` where the clock can't be read, or tells a moment

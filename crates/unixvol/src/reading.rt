@@ -178,7 +178,7 @@ fn read_image<R: ImageFiles + Clock + Eprint + AllocGlobal>(
     ensures fault { IfErr result (IsUnread R.File.remaining) }
 {
     let named = Named::File(volume.image);
-    match open_image(host.rt, volume.image) {
+    match open_image(host.rt, volume.image, host.is_watched) {
         Ok((file, stamp)) => {
             let up_to = UpTo::kept(volume.edition, stamp.kind);
             Ok((read_open(host, named, up_to, file)?, stamp))

@@ -5,9 +5,11 @@ ghost use Rattle.host_files.specs.Saving.{IsTaken, Saves};
 
 use crate::explaining::{Named, explain_no_memory, explain_unwritten};
 use crate::host::Host;
+use crate::replaced::{held_at, tell_replaced};
 use command_changes::Made;
+use command_line::MadeFile;
 use command_faults::Answer;
-use command_faults::status::BAD_FILE;
+use command_faults::status::{BAD_FILE, DONE};
 use host_files::{Content, ImageFiles, Kind, OpenFault, Stamp, open_image, save_file};
 use std::io;
 use std::rt::Clock;
@@ -56,11 +58,14 @@ pub fn save_played<R: ImageFiles + Eprint + AllocGlobal>(
     BAD_FILE
 }
 
-/// Saves what `mkfs` made in the file `image`, if it made anything, and answers the status to end with. A regular file
-/// that is there is locked meanwhile, if it can be opened.
+/// What is told of a file that is there and isn't to be replaced.
+const THERE: &str = "it is there already, and --new replaces no file";
+
+/// Saves what `mkfs` made in a file, if it made anything, and answers the status to end with. A regular file that is there is locked
+/// meanwhile, if it can be opened.
 pub fn save_made<R: ImageFiles + Clock + Eprint + AllocGlobal>(
     host: &Host<'_, R>,
-    image: &str,
+    file: MadeFile<'_>,
     made: &Made,
 ) -> u8
     ensures { MadeSaved (IsTaken R.File.contents) made.now result }
@@ -68,24 +73,57 @@ pub fn save_made<R: ImageFiles + Clock + Eprint + AllocGlobal>(
     let Some(volume) = &made.volume else {
         return made.status;
     };
-    let _locked = match lock_replaced(host, image) {
+    if is_kept(host, file) {
+        return explain_there(host, file.path);
+    }
+    let _locked = match lock_replaced(host, file.path) {
         Ok(locked) => locked,
         Err(status) => return status,
     };
-    save(host, image, None, Content::Volume(volume), made.status)
+    save_over(host, file.path, Content::Volume(volume), made.status)
 }
 
-/// Saves what `migrate` made in the file `path`, if it made anything, as [`save_new`] does, and answers the status to end with.
-pub fn save_migrated<R: ImageFiles + Clock + Eprint + AllocGlobal>(
+/// True if something stands at the path of a file that is to be made anew.
+fn is_kept<R: ImageFiles>(host: &Host<'_, R>, file: MadeFile<'_>) -> bool {
+    file.is_new && host.rt.is_there(file.path)
+}
+
+/// Prints that something stands at the path of a file that is to be made anew, and answers the status.
+fn explain_there<R: Eprint + AllocGlobal>(host: &Host<'_, R>, path: &str) -> u8
+    ensures { result ≡ 3 }
+{
+    explain_unwritten(host, Named::File(path), io::Error::other(THERE))
+}
+
+/// Saves a content in the file `path`, as [`save`] does, and tells a user what was replaced.
+fn save_over<R: ImageFiles + Eprint + AllocGlobal>(
     host: &Host<'_, R>,
     path: &str,
+    content: Content<'_>,
+    status: u8,
+) -> u8
+    ensures { ((result ≡ status) × Saves R.File.contents content.entry) ⊎ IsStatusOfFileOrMemory result }
+{
+    let held = held_at(host, path);
+    let saved = save(host, path, None, content, status);
+    if let (DONE, Some(held)) = (saved, held) {
+        tell_replaced(host, path, held);
+    }
+    saved
+}
+
+/// Saves what `migrate` made in a file, if it made anything, as [`save_new`] does, and answers the status to end with.
+pub fn save_migrated<R: ImageFiles + Clock + Eprint + AllocGlobal>(
+    host: &Host<'_, R>,
+    file: MadeFile<'_>,
     old: Stamp,
     answer: &Answer,
 ) -> u8
     ensures { EndsSaved (IsTaken R.File.contents) answer.now result }
 {
     match &answer.image {
-        Some(bytes) => save_new(host, path, old, bytes, answer.status),
+        Some(_) if is_kept(host, file) => explain_there(host, file.path),
+        Some(bytes) => save_new(host, file.path, old, bytes, answer.status),
         None => answer.status,
     }
 }
@@ -109,7 +147,7 @@ pub fn save_new<R: ImageFiles + Clock + Eprint + AllocGlobal>(
         Ok(locked) => locked,
         Err(status) => return status,
     };
-    save(host, path, None, Content::Bytes(bytes), status)
+    save_over(host, path, Content::Bytes(bytes), status)
 }
 
 /// Whether the file of a stamp stands at `path`, or at the end of the links that begin there.
@@ -128,7 +166,7 @@ fn lock_replaced<R: ImageFiles + Clock + Eprint + AllocGlobal>(
 ) -> Result<Option<R::File>, u8>
     ensures { IfErr result IsStatusOfFileOrMemory }
 {
-    match open_image(host.rt, path) {
+    match open_image(host.rt, path, host.is_watched) {
         Ok((file, stamp)) if stamp.kind == Kind::Regular => Ok(Some(file)),
         Err(OpenFault::Locked(why)) => Err(explain_unwritten(host, Named::File(path), why)),
         _ => Ok(None),

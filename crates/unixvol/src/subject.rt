@@ -53,7 +53,7 @@ impl<'a> Subject<'a> {
             }
             Invocation::Mkfs { image, volume } => Some(Subject {
                 verb: Verb::Mkfs,
-                image,
+                image: image.path,
                 edition: volume.edition,
                 about: About::Image,
             }),
@@ -61,7 +61,7 @@ impl<'a> Subject<'a> {
                 verb: Verb::Migrate,
                 image: old,
                 edition: Edition::V6,
-                about: About::Path(new),
+                about: About::Path(new.path),
             }),
             _ => None,
         }

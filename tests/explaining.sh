@@ -45,7 +45,7 @@ explains 1 'unixvol: 17 Exists' 'unixvol: /d/f to /d: the new name is there alre
 explains 1 'unixvol: 20 NotDirectory' 'unixvol: /d/f/x: something on the way to it is no directory' get 6 "$image" /d/f/x
 explains 1 'unixvol: 20 NotDirectory' 'unixvol: /d/f: it, or something on the way to it, is no directory' rmdir 6 "$image" /d/f
 explains 1 'unixvol: 20 NotDirectory' 'unixvol: /d/f: it, or something on the way to it, is no directory; `unixvol ls -l` lists a file too' ls 6 "$image" /d/f
-explains 1 'unixvol: 20 NotDirectory' 'unixvol: /d/f: it, or something on the way to it, is no directory' export 6 "$image" /d/f
+explains 1 'unixvol: 20 NotDirectory' 'unixvol: /d/f: it, or something on the way to it, is no directory; nothing is exported' export 6 "$image" /d/f
 explains 1 'unixvol: 21 IsDirectory' 'unixvol: /d: it is a directory, whose names `unixvol ls` lists' get 6 "$image" /d
 explains 1 'unixvol: 21 IsDirectory' 'unixvol: /d: it is a directory: rmdir removes an empty one, and rm -r one with all below it' rm 6 "$image" /d
 explains 1 'unixvol: 21 IsDirectory' 'unixvol: /d to /e: the first path leads to a directory, and only files get other names' ln 6 "$image" /d /e
@@ -79,7 +79,7 @@ explains 1 'unixvol: unsound, rule 1' 'unixvol: hello: it breaks rule 1, that th
 # The sizes of an image that is cut off, and the other edition where its rules 1 and 2 hold. A pipe isn't read again.
 head -c 100000 disk.v7 > cut.v7
 explains 1 'unixvol: unsound, rule 1' 'unixvol: cut.v7: it breaks rule 1, that the image has all blocks of the volume: it has 195 blocks, its super-block says 400' super 7 cut.v7
-explains 1 'unixvol: unsound, rule 1' 'unixvol: cut.v7: it breaks rule 1, that the image has all blocks of the volume: it has 195 blocks, its super-block says 400' export 7 cut.v7
+explains 1 'unixvol: unsound, rule 1' 'unixvol: cut.v7: it breaks rule 1, that the image has all blocks of the volume: it has 195 blocks, its super-block says 400; nothing is exported' export 7 cut.v7
 explains 1 'unixvol: unsound, rule 1' "unixvol: disk.v6: it breaks rule 1, that the image has all blocks of the volume: it has 400 blocks, its super-block says $((400 * 65536 + $(od -An -tu2 -j 516 -N 2 disk.v6))); rules 1 and 2 hold for edition 6" ls 7 disk.v6
 explains 1 'unixvol: unsound, rule 2' 'unixvol: disk.v7: it breaks rule 2, that the sizes are within their limits; rules 1 and 2 hold for edition 7' rm 6 disk.v7 /d/f
 cut='unixvol: /dev/stdin: it breaks rule 1, that the image has all blocks of the volume'

@@ -16,6 +16,9 @@ pub const NO_MEMORY: &str = "there was too little memory for this";
 const BAD_ID: &str =
     "the user or the group is above the edition's highest, 255 in the sixth and 32767 in the seventh";
 
+/// What is said of an export that wrote no byte.
+const NOTHING_EXPORTED: &str = "; nothing is exported";
+
 /// The rules of soundness, in the order of their numbers.
 static RULES: [Rule; 12] = [
     Rule::Whole,
@@ -89,7 +92,11 @@ fn rule_meaning(
         Rule::Whole | Rule::Bounded => sizes_meaning(alloc, rule, sizes)?,
         _ => String::from_str(alloc, "; `unixvol check` says what breaks it")?,
     };
-    let text = format!(in alloc; "{image}: it breaks rule {number}, that {sentence}{more}")?;
+    let end = match (rule, subject.verb) {
+        (Rule::Whole | Rule::Bounded, Verb::Export) => NOTHING_EXPORTED,
+        _ => "",
+    };
+    let text = format!(in alloc; "{image}: it breaks rule {number}, that {sentence}{more}{end}")?;
     Ok(Some(text))
 }
 
@@ -170,7 +177,14 @@ fn refusal_meaning(
     let words = words_of(refusal, subject.verb);
     match refusal {
         Refusal::NoMemory => Ok(Some(format!(in alloc; "{words}")?)),
-        _ => meaning(alloc, about_in(alloc, subject)?, words),
+        _ => {
+            let about = about_in(alloc, subject)?;
+            let end = match subject.verb {
+                Verb::Export => NOTHING_EXPORTED,
+                _ => "",
+            };
+            Ok(Some(format!(in alloc; "{about}: {words}{end}")?))
+        }
     }
 }
 

@@ -33,7 +33,7 @@ _unixvol() {
     fi
     case $command in
         cat) kinds='edition file any' options='--explain -h --help' ;;
-        ls) kinds='edition file path' options='-l --long -R --recursive --json --explain -h --help' ;;
+        ls) kinds='edition file path' options='-l --long -R --recursive -d --directory --json --explain -h --help' ;;
         get) kinds='edition file path any...' options='-o --output --explain -h --help' valued='-o=file --output=file' others='edition file path...' ;;
         export) kinds='edition file path' options='--explain -h --help' ;;
         inode) kinds='edition file any' options='--json --explain -h --help' ;;
@@ -43,7 +43,7 @@ _unixvol() {
         icheck) kinds='edition file any' options='--explain -h --help' ;;
         dcheck) kinds='edition file any' options='--explain -h --help' ;;
         ncheck) kinds='edition file any' options='--explain -h --help' ;;
-        mkfs) kinds='edition file any any any any any' options='--explain -h --help' ;;
+        mkfs) kinds='edition file any any any any any' options='--new --explain -h --help' ;;
         put) kinds='edition file path file any any...' options='-t --target-directory --explain -h --help' valued='-t=path --target-directory=path' others='edition file file...' ;;
         import) kinds='edition file path any' options='--explain -h --help' ;;
         rm) kinds='edition file path any' options='-r --recursive --explain -h --help' ;;
@@ -55,7 +55,7 @@ _unixvol() {
         chown) kinds='edition file path any any any' options='--explain -h --help' ;;
         salvage) kinds='edition file' options='--explain -h --help' ;;
         play) kinds='edition file file...' options='--explain -h --help' ;;
-        migrate) kinds='file file any any any' options='--explain -h --help' ;;
+        migrate) kinds='file file any any any' options='--new --explain -h --help' ;;
     esac
     if [[ $current == -* ]]; then
         mapfile -t COMPREPLY < <(compgen -W "$options" -- "$current")

@@ -415,7 +415,7 @@ for number in 65536 +1 0x1 '' ' 1' one; do
     misread "error: invalid value '$number' for '<UID>'" mkfs 6 volumes/kept 20 2 "$number" 0 0
     misread "error: invalid value '$number' for '<GID>'" mkfs 6 volumes/kept 20 2 0 "$number" 0
 done
-misread 'error: the following required arguments were not provided' mkfs 6 volumes/kept 20 2 0
+misread 'error: the following required arguments were not provided' mkfs 6 volumes/kept
 misread 'error: unexpected argument' mkfs 6 volumes/kept 20 2 0 0 0 0
 saves 'a file whose command line was misread' volumes/kept hello
 

@@ -187,6 +187,9 @@ get 7 disk --output= /d/f | invalid value '' for '<FOLDER>': it is empty
 put 7 disk /d/f | no value for '<FILE>': a file is missing
 put 7 disk /d/f a notamoment | invalid value 'notamoment' for '<NOW>': not a number from 0
 put 7 disk /d/f a 8 b | invalid value 'b' for '<MORE>': several files are put into a directory, by -t DIR
+mkfs 7 disk rk06 | invalid value 'rk06' for '<FSIZE>': not a number from 0 to 4294967295 in decimal digits, nor rk05
+mkfs 7 disk rk05 x | invalid value 'x' for '<IBLOCKS>'
+mkfs 7 disk rk05 5 65536 | invalid value '65536' for '<UID>'
 put 7 disk -t /d | <FILE>
 put 7 --target-directory=/d disk | <FILE>
 put 7 disk | <PATH>
@@ -283,7 +286,33 @@ has 'the user and the group of its root' 01000200 "$(bytes disk 1092 4)"
 dated 'mkfs at 3' 3
 "$program" mkfs 6 6 20 2 0 0 1
 
+# Disks by their names, and words that are left out: the sizes, and the i-list as mkfs of the edition reckoned it; the root is of user 0 and
+# group 0, and of this moment. The seventh edition's s_isize counts the first two blocks too.
+while read -r edition size blocks list; do
+    reads "mkfs $edition disk $size"
+    has "mkfs $edition $size" "0 isize $list fsize $blocks" "$(cat status) $("$program" super "$edition" disk | head -n 2 | paste -s -d ' ' -)"
+done << 'END'
+6 rk05 4872 103
+6 4000 4000 85
+6 rl01 10240 193
+6 rl02 20480 325
+6 20 20 1
+7 rk05 4872 196
+7 rl02 20480 821
+7 rp03 81200 3250
+7 20 20 3
+END
+dated 'mkfs without words' clock
+has 'the owner and the permissions of a root without words' 'drwxrwxrwx 2 0 0' "$("$program" ls -ld 7 disk | awk '{ print $2, $3, $4, $5 }')"
+prints none mkfs 7 disk rk05 50 3 4 5
+has 'an i-list, a user and a group that are said' 'isize 52 3 4' "$("$program" super 7 disk | head -n 1) $("$program" ls -ld 7 disk | awk '{ print $4, $5 }')"
+dated 'mkfs at 5' 5
+refuses 1 'unixvol: bounds' mkfs 6 disk rp06
+refuses 1 'unixvol: bounds' mkfs 6 disk rp03
+rm disk
+
 # With --new a file that is there is kept, also a link that leads nowhere.
+prints none mkfs 7 disk 65536 8191 1 02 3
 cp disk kept
 refuses 3 'unixvol: cannot write disk' mkfs --new 6 disk 20 2 0 0 1
 refuses 3 'unixvol: cannot write disk' migrate 6 disk 100 5 07 --new

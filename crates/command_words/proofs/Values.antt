@@ -7,7 +7,7 @@ use Rattle.vol_layout.specs.declared.edition.Edition.TheVariants.{V6, V7}
 use Rattle.command_reads.specs.declared.looks.Look.TheVariants as looks
 use Rattle.vol_check.specs.declared.checker.Checker.TheVariants as checkers
 use Rattle.command_changes.specs.declared.changes.Change.TheVariants as changes
-use Rattle.command_words.specs.Asking.{AreValues, AsksForNothing, IsEditionNamed, IsGiven, IsOneWrong, NameAsksFor, TellsOf, Words, verb_of}
+use Rattle.command_words.specs.Asking.{AreValues, AsksForNothing, IsEditionNamed, IsGiven, IsOneWrong, IsWordIfAny, IsWordOr, NameAsksFor, TellsOf, Words, verb_of}
 use Rattle.command_words.specs.Verbs.{Argument, IsNoCommand, arguments_of, verb_name}
 use Rattle.command_words.specs.declared.fault.Fault.{Fault}
 use Rattle.command_words.specs.declared.fault.Fault.TheVariants as faults
@@ -32,13 +32,27 @@ scripts_value items words are least most =
       subst (λ (n : ℕ). n ≤ 64) (sym same_length) most,
     )
 
+-- a word that gives a number is one
+word_value : (other number : ℕ) (words : List (List ℕ)) → IsWordOr other words number → IsWordIfAny words
+word_value other number [] is = tt
+word_value other number (word ∷ more) is = is.0
+
 -- the words of what is asked for are values of its command's arguments
 pub values_given : (clock : Option ℕ) (given : Words) (invocation : Invocation) → IsGiven clock given invocation
     → AreValues clock given (arguments_of (verb_of invocation))
 values_given clock given (invocations.Cat volume ino) is = (edition_value volume.edition _ is.0.0, (tt, (is.1.0, tt)))
 values_given clock given (invocations.Mkfs image volume) is = (
   edition_value volume.edition _ is.1.0,
-  (tt, (is.1.1.0, (is.1.2.0, (is.1.3.0, (is.1.4.0, ((volume.now, is.1.5), (tt, tt))))))),
+  (
+    tt,
+    (
+      (volume.blocks, is.1.1),
+      (
+        word_value _ _ (given (codes "IBLOCKS")) is.1.2,
+        (word_value _ _ (given (codes "UID")) is.1.3, (word_value _ _ (given (codes "GID")) is.1.4, ((volume.now, is.1.5), (tt, tt)))),
+      ),
+    ),
+  ),
 )
 values_given clock given (invocations.Migrate old new migration) is = (tt, (tt, (is.2.0.0, (is.2.1.0, ((migration.now, is.2.2), (tt, tt))))))
 values_given clock given (invocations.Get volume path) is = (edition_value volume.edition _ is.0.0, (tt, (tt, (tt, (tt, tt)))))

@@ -5,6 +5,7 @@ use Rattle.std.specs.Path.{path_file_name}
 use Rattle.std.specs.Str.{bytes_eq}
 use Rattle.vol_layout.specs.declared.edition.Edition.{Edition}
 use Rattle.vol_layout.specs.declared.edition.Edition.TheVariants.{V6, V7}
+use Rattle.command_words.specs.Disks.{AreBlocksOf, list_default}
 use Rattle.command_words.specs.Decimal.{IsNumberUpTo, IsNumberGiven, IsThreads, IsThreadsGiven}
 use Rattle.command_words.specs.Moment.{IsMomentOf}
 use Rattle.command_words.specs.Octal.{IsOctalUpTo, IsOctalGiven}
@@ -79,11 +80,23 @@ abbrev pub IsMomentGiven : Option ℕ → List (List ℕ) → ℕ → Type 0
 IsMomentGiven clock [] now = clock ≡ Some now
 IsMomentGiven clock (word ∷ more) now = IsMomentOf word now
 
+-- the number of 16 bits that was given, or another one where no word was given (this project)
+abbrev pub IsWordOr : ℕ → List (List ℕ) → ℕ → Type 0
+IsWordOr other [] number = number ≡ other
+IsWordOr other (word ∷ more) number = IsNumberGiven 65535 word number
+
+-- where a word was given, it is a number of 16 bits (this project)
+abbrev pub IsWordIfAny : List (List ℕ) → Type 0
+IsWordIfAny [] = Unit {0}
+IsWordIfAny (word ∷ more) = IsNumberUpTo 65535 word
+
 -- the words are a value of an argument of this kind (this project)
 abbrev pub IsValue : Option ℕ → Kind → List (List ℕ) → Type 0
 IsValue clock kinds.Edition words = (first_word words ≡ codes "6") ⊎ (first_word words ≡ codes "7")
 IsValue clock kinds.Text words = Unit {0}
 IsValue clock kinds.Word words = IsNumberUpTo 65535 (first_word words)
+IsValue clock kinds.WordOr words = IsWordIfAny words
+IsValue clock kinds.Blocks words = (blocks : ℕ) × AreBlocksOf (first_word words) blocks
 IsValue clock kinds.Long words = IsNumberUpTo 4294967295 (first_word words)
 IsValue clock kinds.Permissions words = IsOctalUpTo 4095 (first_word words)
 IsValue clock kinds.Threads words = IsThreads (first_word words)
@@ -161,13 +174,13 @@ IsVolumeGiven given volume =
 abbrev pub IsMadeGiven : Words → List ℕ → MadeFile → Type 0
 IsMadeGiven given name file = (file.path.now ≡ the_word given name) × (file.is_new ≡ is_set (given (codes "new")))
 
--- the words describe this new volume (this project)
+-- the words describe this new volume: an i-list that was left out is as mkfs reckoned it, and a user or a group is 0 (this project)
 abbrev pub IsNewVolumeGiven : Option ℕ → Words → NewVolume → Type 0
 IsNewVolumeGiven clock given volume = IsEditionNamed volume.edition (the_word given (codes "EDITION"))
-    × IsNumberGiven 4294967295 (the_word given (codes "FSIZE")) volume.blocks
-    × IsNumberGiven 65535 (the_word given (codes "IBLOCKS")) volume.list_blocks
-    × IsNumberGiven 65535 (the_word given (codes "UID")) volume.uid
-    × IsNumberGiven 65535 (the_word given (codes "GID")) volume.gid
+    × AreBlocksOf (the_word given (codes "FSIZE")) volume.blocks
+    × IsWordOr (list_default volume.edition volume.blocks) (given (codes "IBLOCKS")) volume.list_blocks
+    × IsWordOr 0 (given (codes "UID")) volume.uid
+    × IsWordOr 0 (given (codes "GID")) volume.gid
     × IsMomentGiven clock (given (codes "NOW")) volume.now
 
 -- the words describe this migration (this project)

@@ -1,5 +1,6 @@
 pub mod Asking
 pub mod Decimal
+pub mod Disks
 pub mod Moment
 pub mod Octal
 pub mod Verbs

@@ -30,6 +30,10 @@ word name = (name, kinds.Text, needs.Once)
 abbrev pub number : List ℕ → Argument
 number name = (name, kinds.Word, needs.Once)
 
+-- an argument for a number of 16 bits, which may be left out (this project)
+abbrev pub maybe_number : List ℕ → Argument
+maybe_number name = (name, kinds.WordOr, needs.Maybe)
+
 -- an argument for a number of 32 bits (this project)
 abbrev pub long_number : List ℕ → Argument
 long_number name = (name, kinds.Long, needs.Once)
@@ -112,7 +116,7 @@ arguments_of verbs.Icheck = of_checker
 arguments_of verbs.Dcheck = of_checker
 arguments_of verbs.Ncheck = of_checker
 arguments_of verbs.Mkfs =
-    on_volume (long_number (codes "FSIZE") ∷ number (codes "IBLOCKS") ∷ number (codes "UID") ∷ number (codes "GID") ∷ moment
+    on_volume ((codes "FSIZE", kinds.Blocks, needs.Once) ∷ maybe_number (codes "IBLOCKS") ∷ maybe_number (codes "UID") ∷ maybe_number (codes "GID") ∷ moment
     ∷ option (codes "new") ∷ [])
 arguments_of verbs.Put = on_volume (word (codes "PATH") ∷ maybe_word (codes "FILE") ∷ maybe_word (codes "NOW") ∷ more_words
     ∷ valued (codes "target-directory") 116 values.Directory ∷ [])

@@ -2,10 +2,12 @@
 ghost use Rattle.std.specs.Prelude.{◌≡◌, ◌≤◌, ℕ, List, None, IfOk, IfErr, codes, length, map, option_map, slice_get};
 ghost use Rattle.command_words.specs.Decimal.{IsNumberUpTo, IsNumberGiven, IsThreads, IsThreadsGiven};
 ghost use Rattle.command_words.specs.Octal.{IsOctalUpTo, IsOctalGiven};
-ghost use Rattle.command_words.specs.Asking.{IsEditionNamed, IsMomentGiven, IsValue, IsWrong, TellsOf, is_set, the_word};
+ghost use Rattle.command_words.specs.Disks.{AreBlocksOf};
+ghost use Rattle.command_words.specs.Asking.{IsEditionNamed, IsMomentGiven, IsValue, IsWordOr, IsWrong, TellsOf, is_set, the_word};
 ghost use Rattle.command_words.specs.declared.parameters.Kind.TheVariants as kinds;
 
 use crate::decimal::{long_of, threads_of, word_of};
+use crate::disks::blocks_of;
 use crate::fault::{Fault, Said, WrongWord};
 use crate::moment::moment_of;
 use crate::octal::permissions_of;
@@ -72,6 +74,30 @@ pub(crate) fn long_in<'a, G: Given<'a>>(given: &G, name: &'a str) -> Result<u32,
 {
     let text = text_in(given, name);
     long_of(text).ok_or(wrong(name, text, texts::LONG))
+}
+
+/// The number of 16 bits that was given for an argument, or another one where it was left out.
+pub(crate) fn word_or<'a, G: Given<'a>>(
+    given: &G,
+    name: &'a str,
+    other: u16,
+) -> Result<u16, Fault<'a>>
+    ensures read { IfOk result (IsWordOr other (G.words given.now name.now)) }
+    ensures refused { IfErr result (TellsOf (IsValue None kinds.WordOr (G.words given.now name.now) → ⊥)) }
+{
+    match given.first(name) {
+        Some(text) => word_of(text).ok_or(wrong(name, text, texts::WORD)),
+        None => Ok(other),
+    }
+}
+
+/// The number of blocks that was given.
+pub(crate) fn blocks_in<'a, G: Given<'a>>(given: &G) -> Result<u32, Fault<'a>>
+    ensures read { IfOk result (AreBlocksOf (the_word (G.words given.now) (codes "FSIZE"))) }
+    ensures refused { IfErr result (TellsOf (IsValue None kinds.Blocks (G.words given.now (codes "FSIZE")) → ⊥)) }
+{
+    let text = text_in(given, "FSIZE");
+    blocks_of(text).ok_or(wrong("FSIZE", text, texts::BLOCKS_OR_DISK))
 }
 
 /// The number of threads that was given for an argument.

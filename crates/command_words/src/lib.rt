@@ -2,6 +2,7 @@
 #![tactic(auto)]
 
 mod decimal;
+mod disks;
 pub mod fault;
 pub mod given;
 pub mod invocation;

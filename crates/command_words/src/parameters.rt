@@ -10,6 +10,10 @@ pub enum Kind {
     Text,
     /// A number of 16 bits.
     Word,
+    /// A number of 16 bits, if there is a word.
+    WordOr,
+    /// A number of 32 bits, or the name of a disk that has so many blocks.
+    Blocks,
     /// A number of 32 bits.
     Long,
     /// Permissions, in octal digits.
@@ -118,6 +122,20 @@ const BLOCKS: Parameter = Parameter {
     help: texts::BLOCKS,
 };
 
+const DISK_BLOCKS: Parameter = Parameter {
+    name: "FSIZE",
+    kind: Kind::Blocks,
+    need: Need::Once,
+    help: texts::DISK_BLOCKS,
+};
+
+const MADE_LIST_BLOCKS: Parameter = Parameter {
+    name: "IBLOCKS",
+    kind: Kind::WordOr,
+    need: Need::Maybe,
+    help: texts::MADE_LIST_BLOCKS,
+};
+
 const LIST_BLOCKS: Parameter = Parameter {
     name: "IBLOCKS",
     kind: Kind::Word,
@@ -127,15 +145,15 @@ const LIST_BLOCKS: Parameter = Parameter {
 
 const UID: Parameter = Parameter {
     name: "UID",
-    kind: Kind::Word,
-    need: Need::Once,
+    kind: Kind::WordOr,
+    need: Need::Maybe,
     help: texts::UID,
 };
 
 const GID: Parameter = Parameter {
     name: "GID",
-    kind: Kind::Word,
-    need: Need::Once,
+    kind: Kind::WordOr,
+    need: Need::Maybe,
     help: texts::GID,
 };
 
@@ -386,8 +404,8 @@ pub static CHECKER_WORDS: [Parameter; 3] = [EDITION, IMAGE, WORKERS];
 pub static MKFS_WORDS: [Parameter; 8] = [
     EDITION,
     NEW_IMAGE,
-    BLOCKS,
-    LIST_BLOCKS,
+    DISK_BLOCKS,
+    MADE_LIST_BLOCKS,
     UID,
     GID,
     MADE_NOW,

@@ -5,10 +5,11 @@ ghost use Rattle.command_words.specs.Verbs.{arguments_of, of_checker};
 ghost use Rattle.command_words.specs.declared.parameters.Kind.TheVariants as kinds;
 ghost use Rattle.command_words.specs.declared.verbs.Verb.TheVariants as verbs;
 
+use crate::disks::list_default;
 use crate::fault::Fault;
 use crate::given::{
-    Given, edition_in, flag_in, long_in, moment_in, permissions_in, scripts_in, text_in,
-    threads_in, word_in,
+    Given, blocks_in, edition_in, flag_in, long_in, moment_in, permissions_in, scripts_in, text_in,
+    threads_in, word_in, word_or,
 };
 use crate::invocation::{Copying, Invocation, MadeFile, VolumeFile, Work};
 use crate::several::{PutFiles, file_in, files_in, no_more, not_empty, paths_in};
@@ -229,12 +230,14 @@ fn read_mkfs<'a, G: Given<'a>>(given: &G, clock: Option<u32>) -> Result<Invocati
     ensures refused { IfErr result (TellsOf (IsOneWrong clock (G.words given.now) (arguments_of verbs.Mkfs))) }
 {
     let image = made_in(given, "IMAGE");
+    let edition = edition_in(given)?;
+    let blocks = blocks_in(given)?;
     let volume = NewVolume {
-        edition: edition_in(given)?,
-        blocks: long_in(given, "FSIZE")?,
-        list_blocks: word_in(given, "IBLOCKS")?,
-        uid: word_in(given, "UID")?,
-        gid: word_in(given, "GID")?,
+        edition,
+        blocks,
+        list_blocks: word_or(given, "IBLOCKS", list_default(edition, blocks))?,
+        uid: word_or(given, "UID", 0)?,
+        gid: word_or(given, "GID", 0)?,
         now: moment_in(given, clock)?,
     };
     Ok(Invocation::Mkfs { image, volume })

@@ -64,7 +64,7 @@ pub const MKFS_ABOUT: &str =
 pub const MKFS_MORE: &str = "\
 Example:
   unixvol mkfs 6 disk.img 4000 100 0 0 173750400
-  unixvol mkfs --new 7 disk.img 8000 250 0 0
+  unixvol mkfs --new 6 disk.img rk05
 
 It makes IMAGE, or replaces it, only where the volume was made: a new file is written beside IMAGE and
 then takes its place, with its permissions. A file that is there is replaced without asking, whatever it
@@ -75,6 +75,11 @@ The root directory has permissions 0777; its size is 32, for `.` and `..`. All o
 The sixth edition takes 1 to 4095 blocks of i-list with 16 i-nodes each, at most 65535 blocks in all, and
 user and group numbers up to 255; the seventh 1 to 8191 with 8 i-nodes each, at most 16777216, and numbers
 up to 32767. The first two blocks and the root's are needed too: FSIZE is at least IBLOCKS + 3.
+
+A disk's name stands for all its blocks: rk05 for 4,872, rl01 for 10,240, rl02 for 20,480, rp03 for 81,200 and rp06 for
+340,670, of which the last two are too many for the sixth edition. Its root disk, an RK05, had a volume of 4,000 blocks, and
+swapped to the rest. Where IBLOCKS is left out, it is FSIZE divided by 43 and by one more for each 1,000 blocks in the
+sixth edition, as its mkfs reckoned it, and a 25th of FSIZE in the seventh, at most 8187; one at least.
 
 Status:
   0  the volume was made and saved
@@ -92,9 +97,18 @@ pub const BLOCKS: &str = "How many blocks of 512 bytes the volume has";
 
 pub const LIST_BLOCKS: &str = "How many of them are the i-list";
 
-pub const UID: &str = "The root directory's user";
+pub const DISK_BLOCKS: &str =
+    "How many blocks of 512 bytes the volume has, or a disk that has so many: rk05, rl01, rl02, rp03 or rp06";
 
-pub const GID: &str = "The root directory's group";
+pub const MADE_LIST_BLOCKS: &str =
+    "How many of them are the i-list; left out, as many as mkfs of the edition took";
+
+pub const BLOCKS_OR_DISK: &str =
+    "not a number from 0 to 4294967295 in decimal digits, nor rk05, rl01, rl02, rp03 or rp06";
+
+pub const UID: &str = "The root directory's user; left out, 0";
+
+pub const GID: &str = "The root directory's group; left out, 0";
 
 pub const NOW: &str =
     "The time of the volume and of its root: seconds since 1970, or a date as 2026-11-23T12:00:00Z; left out, now";

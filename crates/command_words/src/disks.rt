@@ -1,0 +1,60 @@
+//! Sizes of new volumes: disks by their names, and i-lists.
+ghost use Rattle.std.specs.Prelude.{◌≡◌, None, ℕ, IfSome};
+ghost use Rattle.command_words.specs.Disks.{AreBlocksOf, disk_blocks, list_default, list_of};
+
+use crate::decimal::long_of;
+use vol_layout::Edition;
+
+/// The number of blocks that `text` writes: as [`long_of`] reads a number, or as the name of a disk. `None` where the text is anything
+/// else.
+pub(crate) fn blocks_of(text: &str) -> Option<u32>
+    ensures some { IfSome result (AreBlocksOf text.now) }
+    ensures none { result ≡ None → (blocks : ℕ) → AreBlocksOf text.now blocks → ⊥ }
+{
+    match long_of(text) {
+        Some(number) => Some(number),
+        None => disk_blocks(text),
+    }
+}
+
+/// How many blocks of 512 bytes the disk of a name has.
+fn disk_blocks(name: &str) -> Option<u32>
+    ensures { result ≡ disk_blocks name.now }
+{
+    if name == "rk05" {
+        Some(4_872)
+    } else if name == "rl01" {
+        Some(10_240)
+    } else if name == "rl02" {
+        Some(20_480)
+    } else if name == "rp03" {
+        Some(81_200)
+    } else if name == "rp06" {
+        Some(340_670)
+    } else {
+        None
+    }
+}
+
+/// How many blocks the i-list of a volume of so many blocks has, if nothing else is said: as `mkfs` of the edition reckoned it.
+pub(crate) fn list_default(edition: Edition, blocks: u32) -> u16
+    ensures { result ≡ list_default edition blocks }
+{
+    match edition {
+        Edition::V6 => list_of(4_095, blocks / (43 + blocks / 1_000)),
+        Edition::V7 => list_of(8_187, blocks / 25),
+    }
+}
+
+/// A number of blocks as that of an i-list: one at least, and at most so many.
+fn list_of(most: u16, blocks: u32) -> u16
+    ensures { result ≡ list_of most blocks }
+{
+    if blocks > u32::from(most) {
+        most
+    } else if blocks == 0 {
+        1
+    } else {
+        blocks as u16
+    }
+}

@@ -1,5 +1,6 @@
 -- What the queries Stat and List are answered.
-use Rattle.std.proofs.Common.{◌≡◌, ◌≢◌, ◌∙◌, ℕ, Bool, true, false, not, if◌then◌else◌, List, [], ◌∷◌, Option, None, Some, Result, Ok, Err, refl, ap, sym, subst}
+use Rattle.std.proofs.Common.{◌≡◌, ◌≢◌, ◌∙◌, ℕ, Bool, true, false, not, if◌then◌else◌, List, [], ◌∷◌, Option, None, Some, Result, Ok, Err, IfErr, IfOk, refl, ap, sym, subst}
+use Rattle.std.specs.Prelude.{OnOk}
 use Rattle.std.specs.List.{list_any}
 use Rattle.std.specs.Option.{is_some}
 use Rattle.vol_layout.specs.Ids.{is_bad_id}
@@ -107,7 +108,7 @@ stat_told tree path stat is = by (is_bad_id tree.geometry.edition 0 0) (list_any
         ap (λ j. stat_of j (node_at tree j)) (sym (ap (λ (s : Stat). s.number) same)) ∙ same
 
 -- what a Stat tells to be a directory is one
-pub directory_told : (tree : Tree) (path : List ℕ) (stat : Stat) → answer tree (queries.Stat user path) ≡ Ok (replies.Stat stat) → stat.kind ≡ kinds.Directory
+directory_told : (tree : Tree) (path : List ℕ) (stat : Stat) → answer tree (queries.Stat user path) ≡ Ok (replies.Stat stat) → stat.kind ≡ kinds.Directory
     → is_directory (node_at tree stat.number) ≡ true
 directory_told tree path stat is kind =
     a_directory (node_at tree stat.number).content (ap (λ (s : Stat). s.kind) (stat_told tree path stat is) ∙ kind)
@@ -130,8 +131,23 @@ no_directory_listed tree path stat is other = by (is_bad_id tree.geometry.editio
         let closed : is_directory (node_at tree i) ≡ false = no_directory (node_at tree i).content (λ h. other (sym kind ∙ h)) in
         rw closed refl
 
+-- what is answered to a Stat is what the tree tells
+pub stat_found : (tree : Tree) (path asked : List ℕ) (result : Result Reply Refusal) (reply : Reply) (stat : Stat) → Answers tree (queries.Stat user asked) result
+    → result ≡ Ok reply → reply ≡ replies.Stat stat → asked ≡ path → answer tree (queries.Stat user path) ≡ Ok (replies.Stat stat)
+stat_found tree path asked result reply stat answers is told same =
+    let here : Ok reply ≡ answer tree (queries.Stat user asked) = subst (Answers tree (queries.Stat user asked)) is answers in
+    ap (λ (p : List ℕ). answer tree (queries.Stat user p)) (sym same) ∙ (sym here ∙ ap Ok told)
+
+-- a number that is listed is that of a directory, where the listing is bare
+pub number_opened : {E : Type 0} (tree : Tree) (path : List ℕ) (stat : Stat) (bare : Bool) (result : Result ℕ E)
+    → answer tree (queries.Stat user path) ≡ Ok (replies.Stat stat) → IfOk result (λ i. i ≡ stat.number)
+    → OnOk result (bare ≡ true → stat.kind ≡ kinds.Directory) → IfOk result (λ i. bare ≡ true → is_directory (node_at tree i) ≡ true)
+number_opened tree path stat bare (Ok i) told number kind = λ is.
+    subst (λ j. is_directory (node_at tree j) ≡ true) (sym number) (directory_told tree path stat told (kind is))
+number_opened tree path stat bare (Err fault) told number kind = tt
+
 -- a bare listing of what a Stat tells to be no directory is refused
-pub bare_refused : (edition : Edition) (image path : List ℕ) (listing : Listing) (stat : Stat) (fault : Fault) → IsSound edition image
+bare_refused : (edition : Edition) (image path : List ℕ) (listing : Listing) (stat : Stat) (fault : Fault) → IsSound edition image
     → answer (reads_as edition image).tree (queries.Stat user path) ≡ Ok (replies.Stat stat)
     → (fault ≡ faults.Refused refusals.NotDirectory) × (is_bare listing ≡ true) × (stat.kind ≢ kinds.Directory)
     → IsObstacle edition image (question_of listing path) fault
@@ -140,6 +156,14 @@ bare_refused edition image path listing stat fault sound told is =
     let refused : answer tree (question_of listing path) ≡ Err refusals.NotDirectory =
         subst (λ (b : Bool). answer tree (question_by b path) ≡ Err refusals.NotDirectory) (sym is.1) (no_directory_listed tree path stat told is.2) in
     subst (IsObstacle edition image (question_of listing path)) (sym is.0) (sound, refused)
+
+-- where a number isn't listed, the listing is refused
+pub number_refused : {T : Type 0} (edition : Edition) (image path : List ℕ) (listing : Listing) (stat : Stat) (result : Result T Fault) → IsSound edition image
+    → answer (reads_as edition image).tree (queries.Stat user path) ≡ Ok (replies.Stat stat)
+    → IfErr result (λ fault. (fault ≡ faults.Refused refusals.NotDirectory) × (is_bare listing ≡ true) × (stat.kind ≢ kinds.Directory))
+    → IfErr result (IsObstacle edition image (question_of listing path))
+number_refused edition image path listing stat (Ok i) sound told refused = tt
+number_refused edition image path listing stat (Err fault) sound told refused = bare_refused edition image path listing stat fault sound told refused
 
 -- what refuses a Stat refuses each listing
 pub listing_refused : (edition : Edition) (image path asked : List ℕ) (listing : Listing) (refusal : Refusal) → IsSound edition image

@@ -41,4 +41,4 @@ inode_whole report =
 -- none of the super-block
 pub super_whole : (report : SuperReport) → has_float (super_data report) ≡ false
 unfolding super_data
-super_whole report = rw (fault_whole report.fault, counts_whole report.front.items, counts_whole report.cache.items) refl
+super_whole report = rw (fault_whole report.fault, counts_whole report.free.items, counts_whole report.cache.items) refl

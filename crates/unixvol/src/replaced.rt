@@ -79,7 +79,9 @@ fn file_count(image: &Image, geometry: &Geometry) -> u16
 {
     let mut count = 0;
     for before in 0..geometry.last_inode {
-        count += u16::from(is_file(image, geometry, before + 1));
+        if is_file(image, geometry, before + 1) {
+            count += 1;
+        }
     }
     count
 }

@@ -27,11 +27,7 @@ const PATH: &str = "<PATH>";
 /// An error of clap in words that help more, with the usage of the command that the words name: what the editions are, where a word is
 /// none; no tip to pass an option that isn't known as a value; and that a file is missing, where `put` has a directory and no file.
 /// `None` of an error that can stay as it is.
-pub fn reworded(
-    alloc: Global,
-    words: &[String],
-    error: &Error,
-) -> Result<Option<Error>, AllocError>
+pub fn reworded(alloc: Global, words: &[String], error: &Error) -> Result<Option<Error>, AllocError>
     ensures { IfOk result (λ told. IfSome told (λ better. kind_of better ≡ kind_of error.now)) }
 {
     let Some(verb) = verb_in(words) else {

@@ -154,7 +154,7 @@ bare_refused : (edition : Edition) (image path : List ℕ) (listing : Listing) (
 bare_refused edition image path listing stat fault sound told is =
     let tree = (reads_as edition image).tree in
     let refused : answer tree (question_of listing path) ≡ Err refusals.NotDirectory =
-        subst (λ (b : Bool). answer tree (question_by b path) ≡ Err refusals.NotDirectory) (sym is.1) (no_directory_listed tree path stat told is.2) in
+    subst (λ (b : Bool). answer tree (question_by b path) ≡ Err refusals.NotDirectory) (sym is.1) (no_directory_listed tree path stat told is.2) in
     subst (IsObstacle edition image (question_of listing path)) (sym is.0) (sound, refused)
 
 -- where a number isn't listed, the listing is refused

@@ -440,8 +440,7 @@ pub static VOLUME_WORDS: [Parameter; 2] = [EDITION, IMAGE];
 pub static PLAY_WORDS: [Parameter; 3] = [EDITION, IMAGE, SCRIPT];
 
 /// The words of `migrate`.
-pub static MIGRATE_WORDS: [Parameter; 6] =
-    [OLD, NEW, BLOCKS, LIST_BLOCKS, MIGRATED, UNREPLACED];
+pub static MIGRATE_WORDS: [Parameter; 6] = [OLD, NEW, BLOCKS, LIST_BLOCKS, MIGRATED, UNREPLACED];
 
 /// The words of `import`.
 pub static IMPORT_WORDS: [Parameter; 4] = [EDITION, IMAGE, IMPORTED, CALL_NOW];

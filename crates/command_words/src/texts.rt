@@ -144,7 +144,8 @@ Status:
   3  `unixvol: cannot read IMAGE`, or `unixvol: cannot write -`: standard output failed
   4  `unixvol: 12 NoMemory`";
 
-pub const LISTED: &str = "The path of a directory in the volume, or with an option of a file; left out, the root";
+pub const LISTED: &str =
+    "The path of a directory in the volume, or with an option of a file; left out, the root";
 
 pub const LONG_LINES: &str = "Tell what each i-node says";
 

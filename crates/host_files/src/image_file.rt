@@ -227,7 +227,9 @@ pub fn open_image<R: ImageFiles + Clock + Eprint>(
 {
     for tried in 0..TRIES {
         if is_watched && tried == PATIENCE {
-            let _ = eprintln!(rt; "unixvol: {path}: waiting for another program that has it locked");
+            let _ = eprintln!(rt;
+                "unixvol: {path}: waiting for another program that has it locked"
+            );
         }
         match try_open(rt, path) {
             Ok(Try::Open(file, stamp)) => return Ok((file, stamp)),

@@ -158,7 +158,8 @@ fn sizes_of<R: ImageFiles + AllocGlobal>(
     match fault {
         Fault::Unsound(1 | 2)
         | Fault::Worded {
-            rule: Some(1 | 2), ..
+            rule: Some(1 | 2),
+            ..
         } => sizes_in(host.rt, subject.image, subject.edition),
         _ => None,
     }

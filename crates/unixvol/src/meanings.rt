@@ -101,18 +101,17 @@ fn rule_meaning(
 }
 
 /// What an image that breaks rule 1 or rule 2 tells of its sizes, and of which edition it may be.
-fn sizes_meaning(
-    alloc: Global,
-    rule: Rule,
-    sizes: Option<Sizes>,
-) -> Result<String, AllocError> {
+fn sizes_meaning(alloc: Global, rule: Rule, sizes: Option<Sizes>) -> Result<String, AllocError> {
     let mut text = String::new(alloc);
     let Some(sizes) = sizes else {
         return Ok(text);
     };
     if let (Rule::Whole, Some(said)) = (rule, sizes.said) {
         let blocks = sizes.blocks;
-        write!(text, ": it has {blocks} blocks, its super-block says {said}")?;
+        write!(
+            text,
+            ": it has {blocks} blocks, its super-block says {said}"
+        )?;
     }
     if let Some(other) = sizes.other {
         let number = edition_number(other);

@@ -27,7 +27,7 @@ returns-in-Ok-Stat-clause-opened c =
     let here = tree (geometry_of c.args.edition image) image in
     let asked = c.from_vec-path.result in
     let answers : Answers here (queries.Stat user asked) c.ask_image.result =
-        subst (λ (g : Geometry). Answers (tree g image) (queries.Stat user asked) c.ask_image.result) c.requires.sizes c.ask_image.ensures in
+    subst (λ (g : Geometry). Answers (tree g image) (queries.Stat user asked) c.ask_image.result) c.requires.sizes c.ask_image.ensures in
     let same : asked ≡ c.args.path.now = c.from_vec-path.ensures ∙ (c.in_ok-from_slice.ensures.items ∙ c.as_bytes.ensures.value) in
     number_opened here c.args.path.now c.in-Ok-Stat.stat (is_bare c.args.listing) c.number_of.result
     (stat_found here c.args.path.now asked c.ask_image.result c.in-Ok-Stat.field-0 c.in-Ok-Stat.stat answers c.in-Ok-Stat.is c.in-Ok-Stat.field-0-is same)
@@ -39,7 +39,7 @@ returns-in-Ok-Stat-clause-fault c =
     let here = tree (geometry_of c.args.edition image) image in
     let asked = c.from_vec-path.result in
     let answers : Answers here (queries.Stat user asked) c.ask_image.result =
-        subst (λ (g : Geometry). Answers (tree g image) (queries.Stat user asked) c.ask_image.result) c.requires.sizes c.ask_image.ensures in
+    subst (λ (g : Geometry). Answers (tree g image) (queries.Stat user asked) c.ask_image.result) c.requires.sizes c.ask_image.ensures in
     let same : asked ≡ c.args.path.now = c.from_vec-path.ensures ∙ (c.in_ok-from_slice.ensures.items ∙ c.as_bytes.ensures.value) in
     number_refused c.args.edition image c.args.path.now c.args.listing c.in-Ok-Stat.stat c.number_of.result c.requires.sound
     (stat_found here c.args.path.now asked c.ask_image.result c.in-Ok-Stat.field-0 c.in-Ok-Stat.stat answers c.in-Ok-Stat.is c.in-Ok-Stat.field-0-is same)
@@ -51,6 +51,6 @@ returns-clause-fault c =
     let asked = c.from_vec-path.result in
     let same : asked ≡ c.args.path.now = c.from_vec-path.ensures ∙ (c.in_ok-from_slice.ensures.items ∙ c.as_bytes.ensures.value) in
     let answers : Answers (tree (geometry_of c.args.edition image) image) (queries.Stat user asked) c.ask_image.result =
-        subst (λ (g : Geometry). Answers (tree g image) (queries.Stat user asked) c.ask_image.result) c.requires.sizes c.ask_image.ensures in
+    subst (λ (g : Geometry). Answers (tree g image) (queries.Stat user asked) c.ask_image.result) c.requires.sizes c.ask_image.ensures in
     listing_refused c.args.edition image c.args.path.now asked c.args.listing c.in-Err.refusal c.requires.sound
     (subst (Answers (tree (geometry_of c.args.edition image) image) (queries.Stat user asked)) c.in-Err.is answers) same

@@ -4,6 +4,7 @@ ghost use Rattle.vol_layout.specs.Geometry.{Fits};
 
 use crate::host::Host;
 use crate::meanings::shown;
+use command_faults::status::DONE;
 use host_files::{ImageFiles, Kind, UpTo, noted_reader, read_up_to};
 use pdp_words::Image;
 use std::alloc::AllocError;
@@ -95,8 +96,20 @@ fn is_file(image: &Image, geometry: &Geometry, i: u16) -> bool
     matches!(kind(image, geometry, i), vol_layout::Kind::Regular)
 }
 
-/// Prints what a file held that was replaced.
-pub fn tell_replaced<R: Eprint + AllocGlobal>(host: &Host<'_, R>, path: &str, held: Held) {
+/// Prints what a file held that was replaced, if the status says that it was, and if that is known.
+pub fn tell_replaced<R: Eprint + AllocGlobal>(
+    host: &Host<'_, R>,
+    path: &str,
+    status: u8,
+    held: Option<Held>,
+) {
+    if let (DONE, Some(held)) = (status, held) {
+        tell_held(host, path, held);
+    }
+}
+
+/// Prints what a file held.
+fn tell_held<R: Eprint + AllocGlobal>(host: &Host<'_, R>, path: &str, held: Held) {
     let Ok(name) = shown(host.rt.alloc(), path) else {
         return;
     };

@@ -8,7 +8,7 @@ use crate::host::Host;
 use crate::replaced::{held_at, tell_replaced};
 use command_changes::Made;
 use command_faults::Answer;
-use command_faults::status::{BAD_FILE, DONE};
+use command_faults::status::BAD_FILE;
 use command_line::MadeFile;
 use host_files::{Content, ImageFiles, Kind, OpenFault, Stamp, open_image, save_file};
 use std::io;
@@ -80,7 +80,11 @@ pub fn save_made<R: ImageFiles + Clock + Eprint + AllocGlobal>(
         Ok(locked) => locked,
         Err(status) => return status,
     };
-    save_over(host, file.path, Content::Volume(volume), made.status)
+    let held = held_at(host, file.path);
+    let content = Content::Volume(volume);
+    let saved = save(host, file.path, None, content, made.status);
+    tell_replaced(host, file.path, saved, held);
+    saved
 }
 
 /// True if something stands at the path of a file that is to be made anew.
@@ -95,23 +99,6 @@ fn explain_there<R: Eprint + AllocGlobal>(host: &Host<'_, R>, path: &str) -> u8
     explain_unwritten(host, Named::File(path), io::Error::other(THERE))
 }
 
-/// Saves a content in the file `path`, as [`save`] does, and tells a user what was replaced.
-fn save_over<R: ImageFiles + Eprint + AllocGlobal>(
-    host: &Host<'_, R>,
-    path: &str,
-    content: Content<'_>,
-    status: u8,
-) -> u8
-    ensures { ((result ≡ status) × Saves R.File.contents content.entry) ⊎ IsStatusOfFileOrMemory result }
-{
-    let held = held_at(host, path);
-    let saved = save(host, path, None, content, status);
-    if let (DONE, Some(held)) = (saved, held) {
-        tell_replaced(host, path, held);
-    }
-    saved
-}
-
 /// Saves what `migrate` made in a file, if it made anything, as [`save_new`] does, and answers the status to end with.
 pub fn save_migrated<R: ImageFiles + Clock + Eprint + AllocGlobal>(
     host: &Host<'_, R>,
@@ -123,9 +110,25 @@ pub fn save_migrated<R: ImageFiles + Clock + Eprint + AllocGlobal>(
 {
     match &answer.image {
         Some(_) if is_kept(host, file) => explain_there(host, file.path),
-        Some(bytes) => save_new(host, file.path, old, bytes, answer.status),
+        Some(bytes) => save_over(host, file.path, old, bytes, answer.status),
         None => answer.status,
     }
+}
+
+/// Saves bytes in the file `path` as [`save_new`] does, and tells a user what was replaced.
+fn save_over<R: ImageFiles + Clock + Eprint + AllocGlobal>(
+    host: &Host<'_, R>,
+    path: &str,
+    old: Stamp,
+    bytes: &[u8],
+    status: u8,
+) -> u8
+    ensures { ((result ≡ status) × IsTaken R.File.contents bytes.now) ⊎ IsStatusOfFileOrMemory result }
+{
+    let held = held_at(host, path);
+    let saved = save_new(host, path, old, bytes, status);
+    tell_replaced(host, path, saved, held);
+    saved
 }
 
 /// Saves bytes in the file `path`, and answers the status to end with: `status`, where they are saved. The file with the stamp `old`,
@@ -147,7 +150,7 @@ pub fn save_new<R: ImageFiles + Clock + Eprint + AllocGlobal>(
         Ok(locked) => locked,
         Err(status) => return status,
     };
-    save_over(host, path, Content::Bytes(bytes), status)
+    save(host, path, None, Content::Bytes(bytes), status)
 }
 
 /// Whether the file of a stamp stands at `path`, or at the end of the links that begin there.

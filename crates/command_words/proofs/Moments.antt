@@ -1,9 +1,10 @@
--- The moment that is meant, where a word was given for it.
+-- The moment or the number that is meant, where a word was given for it.
 use Rattle.std.proofs.Common.{◌≡◌, ℕ, List, [], ◌∷◌, Option, Some, None, Result, IfErr, refl, sym, subst}
 use Rattle.std.specs.List.{slice_get}
 use Rattle.std.specs.Option.{ok_or}
 use Rattle.command_words.specs.Moment.{IsMomentOf}
-use Rattle.command_words.specs.Asking.{IsMomentGiven, TellsOf}
+use Rattle.command_words.specs.Decimal.{IsNumberUpTo}
+use Rattle.command_words.specs.Asking.{IsMomentGiven, IsWordIfAny, TellsOf}
 use Rattle.command_words.specs.declared.fault.Fault.{Fault}
 use Rattle.command_words.specs.declared.fault.Fault.TheVariants as faults
 
@@ -12,6 +13,11 @@ pub written : (clock : Option ℕ) (words : List (List ℕ)) (word : List ℕ) �
     → IsMomentOf word now
 written clock [] word first now given = cc
 written clock (other ∷ more) word first now given = let same : word ≡ other = cc in subst (λ (w : List ℕ). IsMomentOf w now) (sym same) given
+
+-- where words are a number of 16 bits, if there are any, the first is one
+pub first_number : (words : List (List ℕ)) (word : List ℕ) → Some word ≡ slice_get words 0 → IsWordIfAny words → IsNumberUpTo 65535 word
+first_number [] word first if_any = absurd (cc)
+first_number (other ∷ more) word first if_any = let same : word ≡ other = cc in subst (IsNumberUpTo 65535) (sym same) if_any
 
 -- a fault tells of what is wrong
 pub tells : (wrong : Type 0) (fault : Fault) → wrong → TellsOf wrong fault

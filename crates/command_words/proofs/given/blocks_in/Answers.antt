@@ -1,5 +1,5 @@
 -- Where the word writes no number of blocks, it is no value.
-use Rattle.std.proofs.Common.{ℕ, ap, codes, subst, sym}
+use Rattle.std.proofs.Common.{ℕ, codes, subst, sym}
 use Rattle.command_words.specs.Asking.{the_word}
 use Rattle.command_words.specs.Disks.{AreBlocksOf}
 use Rattle.command_words.proofs.Moments.{refused}

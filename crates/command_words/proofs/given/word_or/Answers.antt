@@ -1,0 +1,16 @@
+-- The first word, where there is one, is the number that is meant; where it is none, the words are no value.
+use Rattle.std.proofs.Common.{ℕ, Option, SomeIff, subst}
+use Rattle.std.specs.Str.Parse.{digits_value}
+use Rattle.command_words.specs.Asking.{IsWordIfAny}
+use Rattle.command_words.specs.Decimal.{IsNumberUpTo}
+use Rattle.command_words.proofs.Moments.{first_number, refused}
+use Rattle.command_words.proofs.given.word_or.Goals as goal
+
+pub returns-in-Some-clause-refused : goal.returns-in-Some-clause-refused
+returns-in-Some-clause-refused g c =
+    let words = g.G.Given.words c.args.given.now c.args.name.now in
+    let text = c.in-Some.text.now in
+    refused (IsWordIfAny words → ⊥) c.word_of.result c.ok_or.result c.wrong.result c.ok_or.ensures.value
+    (λ none if_any.
+        subst (λ (o : Option ℕ). SomeIff o (IsNumberUpTo 65535 text) (digits_value 10 text)) none c.word_of.ensures
+        (first_number words text c.in-Some.ensures if_any))

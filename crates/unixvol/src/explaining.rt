@@ -155,13 +155,15 @@ fn sizes_of<R: ImageFiles + AllocGlobal>(
     fault: &Fault,
     subject: Subject<'_>,
 ) -> Option<Sizes> {
-    match fault {
-        Fault::Unsound(1 | 2)
-        | Fault::Worded {
-            rule: Some(1 | 2),
-            ..
-        } => sizes_in(host.rt, subject.image, subject.edition),
-        _ => None,
+    let rule = match fault {
+        Fault::Unsound(rule) => *rule,
+        Fault::Worded { rule, .. } => rule.unwrap_or(0),
+        _ => 0,
+    };
+    if rule == 1 || rule == 2 {
+        sizes_in(host.rt, subject.image, subject.edition)
+    } else {
+        None
     }
 }
 

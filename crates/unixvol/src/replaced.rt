@@ -18,13 +18,20 @@ use vol_volume::judge;
 #[derive(Clone, Copy)]
 pub enum Held {
     /// A volume.
-    Volume {
-        edition: Edition,
-        is_sound: bool,
-        files: u16,
-    },
+    Volume(HeldVolume),
     /// So many bytes that are no volume.
     Bytes(usize),
+}
+
+/// A volume that a file held.
+#[derive(Clone, Copy)]
+pub struct HeldVolume {
+    /// The edition of which it is.
+    edition: Edition,
+    /// True if all twelve rules hold.
+    is_sound: bool,
+    /// How many regular files it has.
+    files: u16,
 }
 
 /// What the regular file at a path holds, for a user who is told of it once it is replaced. `None` if nobody reads what is told, if there is
@@ -49,10 +56,18 @@ fn held_in<R: AllocGlobal>(host: &Host<'_, R>, image: &Image) -> Result<Held, Al
     let sixth = volume_in(host, Edition::V6, image)?;
     let seventh = volume_in(host, Edition::V7, image)?;
     Ok(match (sixth, seventh) {
-        (_, Some(held @ Held::Volume { is_sound: true, .. })) => held,
-        (Some(held), _) | (None, Some(held)) => held,
+        (Some(sixth), Some(seventh)) => Held::Volume(sixth.or_sound(seventh)),
+        (Some(sixth), None) => Held::Volume(sixth),
+        (None, Some(seventh)) => Held::Volume(seventh),
         (None, None) => Held::Bytes(image.len()),
     })
+}
+
+impl HeldVolume {
+    /// This volume, or another one that is sound.
+    fn or_sound(self, other: HeldVolume) -> HeldVolume {
+        if other.is_sound { other } else { self }
+    }
 }
 
 /// The volume of an edition that some bytes are, if rules 1 and 2 hold for it.
@@ -60,13 +75,13 @@ fn volume_in<R: AllocGlobal>(
     host: &Host<'_, R>,
     edition: Edition,
     image: &Image,
-) -> Result<Option<Held>, AllocError> {
+) -> Result<Option<HeldVolume>, AllocError> {
     let Ok(geometry) = Geometry::read(edition, image) else {
         return Ok(None);
     };
     let is_sound = judge(host.rt.alloc(), edition, image, true)?.is_none();
     let files = file_count(image, &geometry);
-    Ok(Some(Held::Volume {
+    Ok(Some(HeldVolume {
         edition,
         is_sound,
         files,
@@ -114,11 +129,13 @@ fn tell_held<R: Eprint + AllocGlobal>(host: &Host<'_, R>, path: &str, held: Held
         return;
     };
     let _ = match held {
-        Held::Volume {
-            edition,
-            is_sound,
-            files,
-        } => {
+        Held::Volume(
+            HeldVolume {
+                edition,
+                is_sound,
+                files,
+            },
+        ) => {
             let sound = if is_sound { "a sound" } else { "an unsound" };
             let number = edition_number(edition);
             let word = if files == 1 { "file" } else { "files" };

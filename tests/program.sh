@@ -489,7 +489,9 @@ for numbers in '6 1 32 31' '7 2 16 15'; do
     # What is refused leaves the image as it was.
     refuses 1 'unixvol: 2 NoEntry' ls "$edition" "$tree" /none
     refuses 1 'unixvol: 20 NotDirectory' ls "$edition" "$tree" /hello/none
-    lists "$tree" /hello "   $first /hello"
+    refuses 1 'unixvol: 20 NotDirectory' ls "$edition" "$tree" /hello
+    printf '%s\n' "   $first /hello" > lines
+    prints lines ls -d "$edition" "$tree" /hello
     refuses 1 'unixvol: 2 NoEntry' get "$edition" "$tree" /none
     refuses 1 'unixvol: 20 NotDirectory' get "$edition" "$tree" /hello/none
     refuses 1 'unixvol: 21 IsDirectory' get "$edition" "$tree" /d

@@ -133,5 +133,6 @@ fn wrong_text(alloc: Global, word: WrongWord<'_>) -> Result<String, AllocError> 
         Said::Nothing => format!(in alloc; "no value for '<{name}>': {wanted}"),
         Said::Word(text) => format!(in alloc; "invalid value '{text}' for '<{name}>': {wanted}"),
         Said::Words(count) => format!(in alloc; "invalid value '{count}' for '<{name}>': {wanted}"),
+        Said::NoOption => format!(in alloc; "the option '--{name}' is missing: {wanted}"),
     }
 }

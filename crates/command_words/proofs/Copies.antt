@@ -57,6 +57,7 @@ puts clock given (invocations.Look volume (looks.List path listing)) put is = ab
 puts clock given (invocations.Cat volume ino) put is = absurd (true≢false (sym put))
 puts clock given (invocations.Mkfs i volume) put is = absurd (true≢false (sym put))
 puts clock given (invocations.Migrate old new migration) put is = absurd (true≢false (sym put))
+puts clock given (invocations.Serve volume) put is = absurd (true≢false (sym put))
 
 -- what `get` is asked for
 gets : (clock : Option ℕ) (given : Words) (invocation : Invocation) → is_get (verb_of invocation) ≡ true → IsGiven clock given invocation → IsGot given
@@ -89,6 +90,7 @@ gets clock given (invocations.Look volume (looks.List path listing)) got is = ab
 gets clock given (invocations.Cat volume ino) got is = absurd (true≢false (sym got))
 gets clock given (invocations.Mkfs i volume) got is = absurd (true≢false (sym got))
 gets clock given (invocations.Migrate old new migration) got is = absurd (true≢false (sym got))
+gets clock given (invocations.Serve volume) got is = absurd (true≢false (sym got))
 
 -- where neither one file nor several are put, nothing is asked for
 no_put : (clock : Option ℕ) (given : Words) → (IsPut clock given → ⊥) → AsksForNothing clock verbs.Put given

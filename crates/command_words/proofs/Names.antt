@@ -30,7 +30,8 @@ named text =
     (cond (bytes_eq text (codes "chmod")) verbs.Chmod
     (cond (bytes_eq text (codes "chown")) verbs.Chown
     (cond (bytes_eq text (codes "salvage")) verbs.Salvage
-    (cond (bytes_eq text (codes "play")) verbs.Play verbs.Migrate))))))))))))))))))))))
+    (cond (bytes_eq text (codes "play")) verbs.Play
+    (cond (bytes_eq text (codes "migrate")) verbs.Migrate verbs.Serve)))))))))))))))))))))))
 
 -- a command is found by its name
 named_by_its_name : (verb : Verb) → named (verb_name verb) ≡ verb
@@ -58,6 +59,7 @@ named_by_its_name verbs.Chown = refl
 named_by_its_name verbs.Salvage = refl
 named_by_its_name verbs.Play = refl
 named_by_its_name verbs.Migrate = refl
+named_by_its_name verbs.Serve = refl
 
 -- commands of one name are the same
 pub verb_name-injective : (one other : Verb) → verb_name one ≡ verb_name other → one ≡ other

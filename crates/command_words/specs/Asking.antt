@@ -103,6 +103,7 @@ IsValue clock kinds.Threads words = IsThreads (first_word words)
 IsValue clock kinds.Moment words = (now : ℕ) × IsMomentGiven clock words now
 IsValue clock kinds.Scripts words = (1 ≤ length words) × (length words ≤ 64)
 IsValue clock kinds.Flag words = Unit {0}
+IsValue clock kinds.Wanted words = is_set words ≡ true
 
 -- the words that were given for each of these arguments are a value of it (this project)
 abbrev pub AreValues : Option ℕ → Words → List Argument → Type 0
@@ -164,6 +165,7 @@ verb_of (invocations.Change volume change) = change_verb change
 verb_of (invocations.Look volume look) = look_verb look
 verb_of (invocations.Copy volume copying) = copying_verb copying
 verb_of (invocations.Work volume work) = work_verb work
+verb_of (invocations.Serve volume) = verbs.Serve
 
 -- the words name this volume (this project)
 abbrev pub IsVolumeGiven : Words → VolumeFile → Type 0
@@ -321,6 +323,7 @@ IsGiven clock given (invocations.Change volume change) = IsVolumeGiven given vol
 IsGiven clock given (invocations.Look volume look) = IsVolumeGiven given volume × IsLookGiven given look
 IsGiven clock given (invocations.Copy volume copying) = IsVolumeGiven given volume × IsCopyGiven clock given copying
 IsGiven clock given (invocations.Work volume work) = IsVolumeGiven given volume × IsWorkGiven given work
+IsGiven clock given (invocations.Serve volume) = IsVolumeGiven given volume × (is_set (given (codes "read-only")) ≡ true)
 
 -- the command with the words for its arguments asks for this (this project)
 abbrev pub AsksFor : Option ℕ → Verb → Words → Invocation → Type 0

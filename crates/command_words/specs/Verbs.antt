@@ -100,6 +100,7 @@ verb_name verbs.Chown = codes "chown"
 verb_name verbs.Salvage = codes "salvage"
 verb_name verbs.Play = codes "play"
 verb_name verbs.Migrate = codes "migrate"
+verb_name verbs.Serve = codes "serve"
 
 -- the words of a command, in their order (this project)
 abbrev pub arguments_of : Verb → List Argument
@@ -132,13 +133,14 @@ arguments_of verbs.Salvage = on_volume []
 arguments_of verbs.Play = on_volume ((codes "SCRIPT", kinds.Scripts, needs.Several) ∷ [])
 arguments_of verbs.Migrate =
     word (codes "OLD") ∷ word (codes "NEW") ∷ long_number (codes "FSIZE") ∷ number (codes "IBLOCKS") ∷ moment ∷ option (codes "new") ∷ []
+arguments_of verbs.Serve = on_volume ((codes "read-only", kinds.Wanted, needs.Flag None) ∷ [])
 
 -- all commands, in the order in which the help lists them (this project)
 abbrev pub all_verbs : List Verb
 all_verbs =
     verbs.Cat ∷ verbs.Ls ∷ verbs.Get ∷ verbs.Export ∷ verbs.Inode ∷ verbs.Super ∷ verbs.Map ∷ verbs.Check ∷ verbs.Icheck ∷ verbs.Dcheck
     ∷ verbs.Ncheck ∷ verbs.Mkfs ∷ verbs.Put ∷ verbs.Import ∷ verbs.Rm ∷ verbs.Rmdir ∷ verbs.Mkdir ∷ verbs.Ln ∷ verbs.Mv ∷ verbs.Chmod
-    ∷ verbs.Chown ∷ verbs.Salvage ∷ verbs.Play ∷ verbs.Migrate ∷ []
+    ∷ verbs.Chown ∷ verbs.Salvage ∷ verbs.Play ∷ verbs.Migrate ∷ verbs.Serve ∷ []
 
 -- the word names no command (this project)
 abbrev pub IsNoCommand : List ℕ → Type 0

@@ -33,6 +33,8 @@ pub enum Said<'a> {
     Word(&'a str),
     /// So many words.
     Words(usize),
+    /// Nothing, where an option is needed.
+    NoOption,
 }
 
 impl<'a> From<AllocError> for Fault<'a> {

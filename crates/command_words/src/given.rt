@@ -1,5 +1,5 @@
 //! The words that were given for the arguments of a command.
-ghost use Rattle.std.specs.Prelude.{◌≡◌, ◌≤◌, ℕ, List, None, IfOk, IfErr, codes, length, map, option_map, slice_get};
+ghost use Rattle.std.specs.Prelude.{◌≡◌, ◌≤◌, true, ℕ, List, None, IfOk, IfErr, codes, length, map, option_map, slice_get};
 ghost use Rattle.command_words.specs.Decimal.{IsNumberUpTo, IsNumberGiven, IsThreads, IsThreadsGiven};
 ghost use Rattle.command_words.specs.Octal.{IsOctalUpTo, IsOctalGiven};
 ghost use Rattle.command_words.specs.Disks.{AreBlocksOf};
@@ -40,6 +40,25 @@ pub(crate) fn flag_in<'a, G: Given<'a>>(given: &G, name: &str) -> bool
     ensures { result ≡ is_set (G.words given.now name.now) }
 {
     text_in(given, name) == SET
+}
+
+/// That an option was given.
+pub(crate) fn option_in<'a, G: Given<'a>>(
+    given: &G,
+    name: &'a str,
+    wanted: &'a str,
+) -> Result<(), Fault<'a>>
+    ensures read { IfOk result (λ _. is_set (G.words given.now name.now) ≡ true) }
+    ensures refused { IfErr result (TellsOf (IsValue None kinds.Wanted (G.words given.now name.now) → ⊥)) }
+{
+    if flag_in(given, name) {
+        return Ok(());
+    }
+    Err(Fault::Wrong(WrongWord {
+        name,
+        said: Said::NoOption,
+        wanted,
+    }))
 }
 
 /// The word that stands for an option that was given.

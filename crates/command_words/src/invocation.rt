@@ -101,4 +101,8 @@ pub enum Invocation<'a> {
         volume: VolumeFile<'a>,
         work: Work<'a>,
     },
+    /// Serve the volume in a file to Linux's FUSE, to be read.
+    Serve {
+        volume: VolumeFile<'a>,
+    },
 }

@@ -26,6 +26,8 @@ pub enum Kind {
     Scripts,
     /// No word of its own: whether the option is there.
     Flag,
+    /// No word of its own: the option has to be there.
+    Wanted,
 }
 
 /// How many words there are for an argument.
@@ -367,6 +369,13 @@ const SVG: Parameter = Parameter {
     help: texts::SVG,
 };
 
+const READ_ONLY: Parameter = Parameter {
+    name: "read-only",
+    kind: Kind::Wanted,
+    need: Need::Flag(None),
+    help: texts::READ_ONLY,
+};
+
 const SCRIPT: Parameter = Parameter {
     name: "SCRIPT",
     kind: Kind::Scripts,
@@ -441,6 +450,9 @@ pub static PLAY_WORDS: [Parameter; 3] = [EDITION, IMAGE, SCRIPT];
 
 /// The words of `migrate`.
 pub static MIGRATE_WORDS: [Parameter; 6] = [OLD, NEW, BLOCKS, LIST_BLOCKS, MIGRATED, UNREPLACED];
+
+/// The words of `serve`.
+pub static SERVE_WORDS: [Parameter; 3] = [EDITION, IMAGE, READ_ONLY];
 
 /// The words of `import`.
 pub static IMPORT_WORDS: [Parameter; 4] = [EDITION, IMAGE, IMPORTED, CALL_NOW];

@@ -8,8 +8,8 @@ ghost use Rattle.command_words.specs.declared.verbs.Verb.TheVariants as verbs;
 use crate::disks::list_default;
 use crate::fault::Fault;
 use crate::given::{
-    Given, blocks_in, edition_in, flag_in, long_in, moment_in, permissions_in, scripts_in, text_in,
-    threads_in, word_in, word_or,
+    Given, blocks_in, edition_in, flag_in, long_in, moment_in, option_in, permissions_in,
+    scripts_in, text_in, threads_in, word_in, word_or,
 };
 use crate::invocation::{Copying, Invocation, MadeFile, VolumeFile, Work};
 use crate::several::{PutFiles, file_in, files_in, no_more, not_empty, paths_in};
@@ -60,6 +60,7 @@ pub fn read<'a, G: Given<'a>>(
         Verb::Salvage => read_salvage(given),
         Verb::Play => read_play(alloc, given),
         Verb::Migrate => read_migrate(given, clock),
+        Verb::Serve => read_serve(given),
     }
 }
 
@@ -473,6 +474,16 @@ fn read_play<'a, G: Given<'a>>(alloc: Global, given: &G) -> Result<Invocation<'a
     let scripts = scripts_in(alloc, given)?;
     let work = Work::Play { scripts };
     Ok(Invocation::Work { volume, work })
+}
+
+/// Reads the words of `serve`.
+fn read_serve<'a, G: Given<'a>>(given: &G) -> Result<Invocation<'a>, Fault<'a>>
+    ensures read { IfOk result (AsksFor None verbs.Serve (G.words given.now)) }
+    ensures refused { IfErr result (TellsOf (IsOneWrong None (G.words given.now) (arguments_of verbs.Serve))) }
+{
+    let volume = volume_in(given)?;
+    option_in(given, "read-only", texts::WANTS_READ_ONLY)?;
+    Ok(Invocation::Serve { volume })
 }
 
 /// The edition and the file of the volume that were given.

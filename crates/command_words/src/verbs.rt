@@ -5,7 +5,8 @@ ghost use Rattle.command_words.specs.Verbs.{IsNoCommand, argument_of, arguments_
 use crate::parameters::{
     CAT_WORDS, CHECKER_WORDS, CHMOD_WORDS, CHOWN_WORDS, EXPORT_WORDS, GET_WORDS, IMPORT_WORDS,
     INODE_WORDS, LS_WORDS, MAP_WORDS, MIGRATE_WORDS, MKDIR_WORDS, MKFS_WORDS, NAMES_WORDS,
-    PLAY_WORDS, PUT_WORDS, Parameter, RM_WORDS, RMDIR_WORDS, SUPER_WORDS, VOLUME_WORDS,
+    PLAY_WORDS, PUT_WORDS, Parameter, RM_WORDS, RMDIR_WORDS, SERVE_WORDS, SUPER_WORDS,
+    VOLUME_WORDS,
 };
 use crate::texts;
 
@@ -36,10 +37,11 @@ pub enum Verb {
     Salvage,
     Play,
     Migrate,
+    Serve,
 }
 
 /// All commands, in the order in which the help lists them.
-pub static VERBS: [Verb; 24] = [
+pub static VERBS: [Verb; 25] = [
     Verb::Cat,
     Verb::Ls,
     Verb::Get,
@@ -64,6 +66,7 @@ pub static VERBS: [Verb; 24] = [
     Verb::Salvage,
     Verb::Play,
     Verb::Migrate,
+    Verb::Serve,
 ];
 
 impl Verb {
@@ -96,6 +99,7 @@ impl Verb {
             Verb::Salvage => "salvage",
             Verb::Play => "play",
             Verb::Migrate => "migrate",
+            Verb::Serve => "serve",
         }
     }
 
@@ -132,6 +136,7 @@ impl Verb {
             Verb::Chown => &CHOWN_WORDS,
             Verb::Play => &PLAY_WORDS,
             Verb::Migrate => &MIGRATE_WORDS,
+            Verb::Serve => &SERVE_WORDS,
         }
     }
 
@@ -180,6 +185,7 @@ impl Verb {
             Verb::Salvage => texts::SALVAGE_ABOUT,
             Verb::Play => texts::PLAY_ABOUT,
             Verb::Migrate => texts::MIGRATE_ABOUT,
+            Verb::Serve => texts::SERVE_ABOUT,
         }
     }
 
@@ -210,6 +216,7 @@ impl Verb {
             Verb::Salvage => texts::SALVAGE_MORE,
             Verb::Play => texts::PLAY_MORE,
             Verb::Migrate => texts::MIGRATE_MORE,
+            Verb::Serve => texts::SERVE_MORE,
         }
     }
 }

@@ -12,5 +12,5 @@ returns-in-Some-clause-refused g c =
     let text = c.in-Some.text.now in
     refused (IsWordIfAny words → ⊥) c.word_of.result c.ok_or.result c.wrong.result c.ok_or.ensures.value
     (λ none if_any.
-        subst (λ (o : Option ℕ). SomeIff o (IsNumberUpTo 65535 text) (digits_value 10 text)) none c.word_of.ensures
-        (first_number words text c.in-Some.ensures if_any))
+    subst (λ (o : Option ℕ). SomeIff o (IsNumberUpTo 65535 text) (digits_value 10 text)) none c.word_of.ensures
+    (first_number words text c.in-Some.ensures if_any))

@@ -93,3 +93,7 @@ returns-in-Play-clause-refused g c =
 pub returns-in-Migrate-clause-refused : goal.returns-in-Migrate-clause-refused
 returns-in-Migrate-clause-refused g c =
     rw c.in-Migrate.is (refuses_value c.args.clock verbs.Migrate (g.G.Given.words c.args.given.now) c.read_migrate.result c.read_migrate.ensures.refused)
+
+pub returns-in-Serve-clause-refused : goal.returns-in-Serve-clause-refused
+returns-in-Serve-clause-refused g c =
+    rw c.in-Serve.is (refuses_value c.args.clock verbs.Serve (g.G.Given.words c.args.given.now) c.read_serve.result c.read_serve.ensures.refused)

@@ -250,6 +250,7 @@ IsPlainCommand (invocations.Look volume look) = ⊥
 IsPlainCommand (invocations.Change volume change) = ⊥
 IsPlainCommand (invocations.Copy volume copying) = ⊥
 IsPlainCommand (invocations.Work volume work) = ⊥
+IsPlainCommand (invocations.Serve volume) = ⊥
 IsPlainCommand _ = Unit {0}
 
 -- what a plain command asks for runs: what goes out, what files give and take, and the status; other things run elsewhere (this project)
@@ -262,6 +263,7 @@ Runs streams files status (invocations.Look volume look) = ⊥
 Runs streams files status (invocations.Change volume change) = ⊥
 Runs streams files status (invocations.Copy volume copying) = ⊥
 Runs streams files status (invocations.Work volume work) = ⊥
+Runs streams files status (invocations.Serve volume) = ⊥
 
 -- what an error of the command line comes to: the status by its kind, which is 3 only where standard output failed, and no line of a command (this project)
 pub record Tells (streams : Streams) (kind : ErrorKind) (status : ℕ) : Type 0 where

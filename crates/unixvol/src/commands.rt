@@ -96,7 +96,8 @@ fn carry_out<R: ImageFiles + Clock + Eprint + AllocGlobal, O: Sink>(
         Invocation::Look { .. }
         | Invocation::Change { .. }
         | Invocation::Copy { .. }
-        | Invocation::Work { .. } => unreachable!(),
+        | Invocation::Work { .. }
+        | Invocation::Serve { .. } => unreachable!(),
     }
 }
 

@@ -11,6 +11,7 @@ mod meanings;
 mod reading;
 mod replaced;
 mod saving;
+mod serving;
 mod sizes;
 mod subject;
 mod threads;
@@ -23,9 +24,9 @@ use std::process::ExitCode;
 use std::rt::Clock;
 use std::time::{SystemTime, UNIX_EPOCH};
 
-/// Reads the words of the command line, and goes on in one of five functions: only what several threads do may wait, what looks at an
-/// image may print something and fail, only a change reads standard input, and only what copies files of a volume to the host saves
-/// several files.
+/// Reads the words of the command line, and goes on in one of six functions: only what several threads do may wait, what looks at an
+/// image may print something and fail, only a change and a server read standard input, and only what copies files of a volume to the
+/// host saves several files.
 fn main(rt: HostRuntime) -> ExitCode {
     let words = match words::words(&rt) {
         Ok(words) => words,
@@ -66,6 +67,9 @@ fn main(rt: HostRuntime) -> ExitCode {
         }
         Ok(Invocation::Copy { volume, copying }) => {
             copying::run_to_end(&host, output, rt.stderr(), volume, copying)
+        }
+        Ok(Invocation::Serve { volume }) => {
+            serving::run_to_end(&host, rt.stdin(), output, rt.stderr(), volume)
         }
         read => commands::run_to_end(&host, output, rt.stderr(), read),
     }

@@ -95,6 +95,11 @@ impl<'a> Subject<'a> {
         Subject::new(volume, verb, about)
     }
 
+    /// The serving of the volume in a file is about this.
+    pub fn of_serve(volume: VolumeFile<'a>) -> Subject<'a> {
+        Subject::new(volume, Verb::Serve, About::Image)
+    }
+
     /// A change of the volume in a file is about this.
     pub fn of_change(volume: VolumeFile<'a>, change: Change<'a>) -> Subject<'a> {
         let (verb, about) = match change {

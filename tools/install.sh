@@ -1,5 +1,5 @@
 #!/usr/bin/env bash
-# Installs the program, its manual page and its completions: ./unixvol where it was built, else the release in dist/. It says which.
+# Installs the program, unixvol-mount, their manual pages and the completions: ./unixvol where it was built, else the release in dist/. It says which.
 # Usage: tools/install.sh FOLDER
 set -euo pipefail
 folder=$(realpath -m "${1:?usage: $0 FOLDER}")
@@ -13,6 +13,8 @@ else
     echo "${release##*/}, from dist/, to $folder"
 fi
 install -D -m 755 "$program" "$folder/bin/unixvol"
+install -D -m 755 bin/unixvol-mount "$folder/bin/unixvol-mount"
 install -D -m 644 "$manual/unixvol.1" "$folder/share/man/man1/unixvol.1"
+install -D -m 644 manual/unixvol-mount.1 "$folder/share/man/man1/unixvol-mount.1"
 install -D -m 644 "$manual/unixvol.bash" "$folder/share/bash-completion/completions/unixvol"
 install -D -m 644 "$manual/_unixvol" "$folder/share/zsh/site-functions/_unixvol"

@@ -7,12 +7,12 @@ PREFIX ?= /usr/local
 .PHONY: help run build test bench faults wrong-bodies manual release install
 
 # The scripts of rows that the gate runs the built program through.
-ROWS = program words volumes looks checks checkers changes trees many_trees archives migrations plays explaining manual readme
+ROWS = program words volumes looks checks checkers changes trees many_trees archives migrations plays explaining serve mount manual readme
 
 help:
 	@echo 'make run                    prints the file in samples/hello.v6, by ./unixvol where it was built, else by the program in dist/'
-	@echo 'make install PREFIX=FOLDER  copies the program to FOLDER/bin, with its manual page and completions (to /usr/local without PREFIX): ./unixvol where it was'
-	@echo '                            built, else the program in dist/'
+	@echo 'make install PREFIX=FOLDER  copies the program and unixvol-mount to FOLDER/bin, with manual pages and completions (to /usr/local without PREFIX): ./unixvol'
+	@echo '                            where it was built, else the program in dist/'
 	@echo 'make build                  proves and builds the program, and leaves it as ./unixvol'
 	@echo 'make test                   the whole gate: every proof and test from nothing, then the built program from the shell'
 	@echo 'make bench                  times the program against one in plain Rust that does the same; needs rustc, and some minutes'

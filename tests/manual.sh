@@ -77,6 +77,7 @@ completes 'etc/empty etc/motd etc/passwd' get 7 disk.img etc/
 completes '--help' rm --he
 completes '--recursive' rm --re
 completes '--svg' map --s
+completes '--read-only' serve --re
 completes '' rm 7 disk.img /etc/motd 1
 completes '/etc' put 7 disk.img -t /et
 completes 'disk.img' put 7 disk.img -t /etc disk

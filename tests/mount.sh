@@ -1,0 +1,149 @@
+#!/usr/bin/env bash
+# Mounts volumes of both editions by bin/unixvol-mount with the built program, and compares what the kernel shows of them with what `export` writes.
+# It needs root and /dev/fuse, or else says that it skips this. Usage: tests/mount.sh PROGRAM. It prints a line for each row that fails, and ends
+# with 'N passed, N failed'.
+mount=$(realpath "$(dirname "$0")/../bin/unixvol-mount")
+. "$(dirname "$0")/rows.sh"
+export UNIXVOL=$program
+linux="$samples/linux_made.v7"
+
+# refuses_mount STATUS LINE WORD..: nothing is mounted, and the wrapper says this line
+refuses_mount() {
+    printf '%s\n' "$2" > line
+    "$mount" "${@:3}" > output 2> error < /dev/null
+    echo $? > status
+    wants "unixvol-mount ${*:3}" "$1" none line
+}
+
+# What is refused before anything is mounted.
+mkdir mnt
+usage='unixvol-mount: usage: unixvol-mount [--read-only] [--allow-other] EDITION IMAGE FOLDER'
+refuses_mount 2 "$usage"
+refuses_mount 2 "$usage" --read-only 7 "$linux"
+refuses_mount 1 'unixvol: unsound, rule 2' --read-only 6 "$linux" mnt
+refuses_mount 3 "unixvol: cannot read $PWD/none.img" --read-only 7 none.img mnt
+refuses_mount 3 "unixvol-mount: $PWD/none is no folder: make it by mkdir, or, if a server died there, unmount it by umount -l" --read-only 7 "$linux" none
+"$mount" 7 "$linux" mnt > output 2> error
+has 'a mount without --read-only' "2 error: the option '--read-only' is missing: nothing can be changed through a mounted volume yet" "$? $(head -n 1 error)"
+UNIXVOL=nothing refuses_mount 3 'unixvol-mount: there is no program nothing: install unixvol, or set UNIXVOL to where it is' --read-only 7 "$linux" mnt
+
+# mounted EDITION IMAGE: mounts the image on `mnt`, and waits until it is; `wrapper` is the process
+mounted() {
+    "$mount" --read-only "$1" "$2" mnt > said 2> told &
+    wrapper=$!
+    for _ in {1..100}; do
+        mountpoint -q mnt && return
+        kill -0 $wrapper 2> /dev/null || break
+        sleep 0.1
+    done
+    has "a mount of $2" '' "$(cat told)"
+}
+
+# ended: waits until the wrapper has ended, and takes its status
+ended() {
+    timeout 20 tail --pid=$wrapper -f /dev/null || kill -KILL $wrapper $(pgrep -P $wrapper)
+    wait $wrapper
+}
+
+# unmounted LABEL STATUS LINE: the wrapper ends so, and nothing is mounted
+unmounted() {
+    ended
+    has "$1" "$2 $3" "$? $(cat said told)"
+    mountpoint -q mnt
+    has "nothing is mounted after $1" 32 $?
+}
+
+skipped=
+[ "$(id -u)" = 0 ] || skipped='only root mounts here'
+[ -n "$skipped" ] || (: <> /dev/fuse) 2> /dev/null || skipped='there is no /dev/fuse'
+[ -n "$skipped" ] || unshare -m true 2> /dev/null || skipped='mounting is not allowed here'
+if [ -n "$skipped" ]; then
+    echo "skipped: mounts, since $skipped"
+    echo "$passed passed, $failed failed"
+    [ "$failed" = 0 ]
+    exit
+fi
+trap 'umount -l mnt 2> /dev/null; rm -rf "$folder"' EXIT
+
+# same EDITION IMAGE: find, diff, grep, cp and stat find in `mnt` what the archive of the image has
+same() {
+    rm -rf out copy
+    mkdir out
+    "$program" export "$1" "$2" 2> /dev/null | tar -xpf - -C out 2> error
+    has "what tar says of $2" '' "$(cat error)"
+    has "diff of $2" '' "$(diff -r out mnt 2>&1 | head -n 5)"
+    has "paths of $2" "$(cd out && find . | LC_ALL=C sort)" "$(cd mnt && find . | LC_ALL=C sort)"
+    # The root of an archive has no member of its own.
+    has "attributes of $2" "$(cd out && find . -mindepth 1 -type f -printf '%p %y %m %n %U %G %s %T@\n' | LC_ALL=C sort)" \
+        "$(cd mnt && find . -mindepth 1 -type f -printf '%p %y %m %n %U %G %s %T@\n' | LC_ALL=C sort)"
+    has "a search in $2" "$(cd out && grep -rl hello . | LC_ALL=C sort)" "$(cd mnt && grep -rl hello . | LC_ALL=C sort)"
+    cp -a mnt copy
+    has "a copy of $2" '' "$(diff -r out copy 2>&1 | head -n 5)"
+    has "i-numbers of $2" "$("$program" ls -R "$1" "$2" | awk '/^ *[0-9]+ / && $2 != "." && $2 != ".." { print $1 }' | sort -n)" \
+        "$(find mnt -mindepth 1 -printf '%i\n' | sort -n)"
+}
+
+mounted 7 "$linux"
+same 7 "$linux"
+has 'bytes from the middle of a file' "$("$program" get 7 "$linux" /usr/numbers | tail -c +4000 | md5sum)" "$(tail -c +4000 mnt/usr/numbers | md5sum)"
+has 'a name that is not there' 1 "$(test -e mnt/none; echo $?)"
+has 'a name of 15 bytes' 'File name too long' "$(LC_ALL=C cat mnt/usr/fifteen-bytes.. 2>&1 | sed 's/.*: //')"
+has 'a file that is made' 'Read-only file system' "$(LC_ALL=C touch mnt/new 2>&1 | sed 's/.*: //')"
+refuses_mount 3 "unixvol-mount: something is mounted on $PWD/mnt: unmount it, or take another folder" --read-only 7 "$linux" mnt
+umount mnt
+unmounted 'umount' 0 ''
+
+for edition in 6 7; do
+    "$program" mkfs "$edition" volume 6000 40 0 0 1000
+    printf '1001 0 0 %s\n' 'mkdir /d 755' 'mkdir /d/fourteen-bytes 700' 'create /d/fourteen-bytes/abcdefghijklmn 644' 'link /d/fourteen-bytes/abcdefghijklmn /x' \
+        'create /empty 4755' 'create /hole 600' 'write /hole 5000 6161' 'write /x 0 68656c6c6f' 'chown /empty 7 3' > script
+    "$program" play "$edition" volume script > played
+    head -c 1200000 /dev/urandom > random
+    "$program" put "$edition" volume /d/random random 1002
+    mounted "$edition" volume
+    same "$edition" volume
+    # Several readers at once.
+    for _ in 1 2 3 4; do (cp -r mnt "copy.$BASHPID" && diff -r out "copy.$BASHPID" > "diff.$BASHPID" 2>&1) & pids+=($!); done
+    wait "${pids[@]}"
+    has "four copies at once in edition $edition" '4 0' "$(ls diff.* | wc -l) $(cat diff.* | wc -c)"
+    rm -rf copy.* diff.*
+    pids=()
+    # (a shell without jobs lets those in the background ignore INT)
+    kill -TERM $wrapper
+    unmounted "a signal in edition $edition" 0 ''
+done
+
+# A volume that isn't sound is mounted with a line.
+changed "$linux" links.img $((1024 + 64 * 93 + 2)) 09
+mounted 7 links.img
+has 'a file of a volume that is not sound' welcome "$(cat mnt/etc/motd)"
+umount mnt
+unmounted 'umount of a volume that is not sound' 0 'unixvol: unsound, rule 12'
+
+# Open files: a plain umount is refused, a lazy one leaves them.
+mounted 7 "$linux"
+exec 9< mnt/etc/motd
+kill -TERM $wrapper
+sleep 0.3
+has 'a signal while a file is open' "unixvol-mount: $PWD/mnt is in use: end what uses it, and unmount it" "$(cat told)"
+umount -l mnt
+has 'a file that was open' welcome "$(cat <&9)"
+exec 9<&-
+unmounted 'umount -l' 0 "unixvol-mount: $PWD/mnt is in use: end what uses it, and unmount it"
+
+# The server dies, and nobody waits for ever.
+mounted 7 "$linux"
+exec 9< mnt/usr/numbers
+for signal in INT TERM HUP KILL; do
+    has "a file before $signal" welcome "$(timeout 10 cat mnt/etc/motd)"
+    kill -$signal "$(pgrep -P $wrapper)"
+done
+ended 2> none.txt
+has 'the wrapper of a server that was killed' "3 unixvol-mount: the server was killed, so $PWD/mnt is unmounted" "$? $(grep unixvol-mount: told)"
+has 'a file of a server that was killed' 'Transport endpoint is not connected' "$(LC_ALL=C timeout 10 cat <&9 2>&1 | sed 's/.*: //')"
+exec 9<&-
+mountpoint -q mnt
+has 'nothing is mounted after a server was killed' 32 $?
+
+echo "$passed passed, $failed failed"
+[ "$failed" = 0 ]

@@ -1,0 +1,105 @@
+#!/usr/bin/env bash
+# Runs `serve` of the built program under a pretended kernel (serves/kernel.py), which needs no rights and no /dev/fuse: names, attributes and bytes
+# are those that the other commands print, of both editions and of images that aren't sound, and each request that wants a reply gets one.
+# tests/mount.sh mounts volumes. Usage: tests/serve.sh PROGRAM. It prints a line for each row that fails, and ends with 'N passed, N failed'.
+kernel=$(realpath "$(dirname "$0")/serves/kernel.py")
+. "$(dirname "$0")/rows.sh"
+linux="$samples/linux_made.v7"
+
+# The words, and images that aren't served.
+misread "error: the option '--read-only' is missing: nothing can be changed through a mounted volume yet" serve 7 "$linux"
+misread 'error: the following required arguments were not provided' serve --read-only 7
+misread "error: invalid value '8' for '<EDITION>'" serve --read-only 8 "$linux"
+helps serve --help
+refuses 3 'unixvol: cannot read none.img' serve --read-only 7 none.img
+refuses 1 'unixvol: unsound, rule 2' serve --read-only 6 "$linux"
+head -c 5000 "$linux" > short.img
+refuses 1 'unixvol: unsound, rule 1' serve --read-only 7 short.img
+printf '%s\n' 'unixvol: unsound, rule 1' "unixvol: short.img: it breaks rule 1, that the image has all blocks of the volume; perhaps it is of the other edition" > line
+runs serve --read-only 7 short.img --explain
+wants 'serve of a short image, explained' 1 none line
+
+# An input that ends at once.
+prints none serve --read-only 7 "$linux"
+
+# node_at I: where i-node I of an image of the edition begins
+node_at() { echo $((1024 + (edition == 6 ? 32 : 64) * ($1 - 1))); }
+
+# number PATH: the i-number to which a path leads in the volume
+number() { "$program" ls "$edition" volume "$1" | awk 'NR == 1 { print $1 }'; }
+
+# breaks RULE IMAGE: the image breaks this rule, none before it; a server says so, and ends with its input
+breaks() {
+    printf 'unixvol: unsound, rule %s\n' "$1" > line
+    runs serve --read-only "$edition" "$2"
+    wants "serve of $2" 0 none line
+}
+
+# serves LABEL FILES LINE EDITION IMAGE: so many files are served as the other commands print them, and LINE is what the server says
+serves() {
+    has "$1" "$2 files; $3" "$(timeout 60 python3 "$kernel" tree "$program" "$4" "$5" 2>&1)"
+}
+
+# answers SEED EDITION IMAGE: random requests are answered
+answers() { has "random requests $1 to $3" '' "$(timeout 60 python3 "$kernel" random "$program" "$2" "$3" "$1" 1500 2>&1)"; }
+
+if ! command -v python3 > /dev/null; then
+    echo 'skipped: the pretended kernel, since there is no python3'
+    echo "$passed passed, $failed failed"
+    [ "$failed" = 0 ]
+    exit
+fi
+
+# A file with one request, and one with fewer bytes than a request has.
+python3 "$kernel" request > request
+"$program" serve --read-only 7 "$linux" < request > output 2> error
+has 'the reply to a request in a file' '0 80 50000000000000000200000000000000 ' "$? $(stat -c %s output) $(od -An -v -tx1 -N 16 output | tr -d ' \n') $(cat error)"
+head -c 39 request > short
+"$program" serve --read-only 7 "$linux" < short > output 2> error
+echo $? > status
+wants 'a file with less than a request' 0 none none
+"$program" serve --read-only 7 "$linux" < request > /dev/full 2> error
+has 'a reply that cannot be written' '3 unixvol: cannot write -' "$? $(cat error)"
+"$program" serve --explain --read-only 7 "$linux" < . > output 2> error
+has 'an input that is a folder' '3 unixvol: cannot read - unixvol: standard input: Is a directory (os error 21)' "$? $(paste -s -d ' ' error)"
+
+serves 'a volume that Linux wrote' 37 '' 7 "$linux"
+for edition in 6 7; do
+    # Names of 1 and 14 bytes and of bytes above 127, further names, holes, an empty file, each kind of block map, special files, permissions, owners.
+    "$program" mkfs "$edition" volume 6000 40 0 0 1000
+    printf '1001 0 0 %s\n' 'mkdir /d 755' 'mkdir /d/fourteen-bytes 700' 'create /d/fourteen-bytes/abcdefghijklmn 644' 'link /d/fourteen-bytes/abcdefghijklmn /x' \
+        'create /empty 4755' 'create /hole 600' 'write /hole 5000 6161' 'create /holes 644' 'write /holes 70000 62' 'write /holes 0 63' \
+        $'create /\xff\xfe 644' 'create /null 666' 'create /disk 600' 'chown /empty 7 3' 'write /x 0 68656c6c6f' > script
+    "$program" play "$edition" volume script > played
+    has 'the calls of a tree' 0 "$?"
+    head -c 1200000 /dev/urandom > random
+    "$program" put "$edition" volume /d/random random 1002
+    for ((n = 0; n < 70; n++)); do echo "1003 0 0 create /d/file$n 644"; done > script
+    "$program" play "$edition" volume script > played
+    for name in /null /disk; do
+        if [ "$edition" = 6 ]; then
+            put volume "$(node_at "$(number $name)")" "$([ $name = /null ] && echo B6A1 || echo 80E1)"
+        else
+            put volume "$(node_at "$(number $name)")" "$([ $name = /null ] && echo B621 || echo 8061)"
+        fi
+    done
+    serves "a volume of edition $edition" 81 '' "$edition" volume
+    for seed in 1 2; do answers "$edition$seed" "$edition" volume; done
+
+    # Images that aren't sound are served as far as entries lead, once with a line.
+    root=$((edition == 6 ? 1 : 2))
+    changed volume links.img "$(($(node_at "$(number /x)") + 2))" "$([ "$edition" = 6 ] && echo 09 || echo 0900)"
+    breaks 12 links.img
+    serves "a wrong link count in edition $edition" 81 'unixvol: unsound, rule 12' "$edition" links.img
+    d=$(number /d)
+    at=$(LC_ALL=C grep -abo fourteen-bytes volume | head -n 1 | cut -d : -f 1)
+    changed volume circle.img $((at - 2)) "$(printf '%02x%02x' $((root % 256)) $((root / 256)))"
+    serves "a directory that has the root in edition $edition" 80 "$(runs serve --read-only "$edition" circle.img; cat error)" "$edition" circle.img
+    changed volume free.img $((at - 2)) 2C01
+    serves "an entry without a file in edition $edition" 80 "$(runs serve --read-only "$edition" free.img; cat error)" "$edition" free.img
+    answers 3 "$edition" circle.img
+    answers 4 "$edition" free.img
+done
+
+echo "$passed passed, $failed failed"
+[ "$failed" = 0 ]

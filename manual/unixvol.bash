@@ -28,7 +28,7 @@ _unixvol() {
     while [[ ${before[0]:-} == -* ]]; do before=("${before[@]:1}"); done
     command=${before[0]:-}
     if [ -z "$command" ]; then
-        mapfile -t COMPREPLY < <(compgen -W 'cat ls get export inode super map check icheck dcheck ncheck mkfs put import rm rmdir mkdir ln mv chmod chown salvage play migrate help --explain -h --help -V --version' -- "$current")
+        mapfile -t COMPREPLY < <(compgen -W 'cat ls get export inode super map check icheck dcheck ncheck mkfs put import rm rmdir mkdir ln mv chmod chown salvage play migrate serve help --explain -h --help -V --version' -- "$current")
         return
     fi
     case $command in
@@ -56,6 +56,7 @@ _unixvol() {
         salvage) kinds='edition file' options='--explain -h --help' ;;
         play) kinds='edition file file...' options='--explain -h --help' ;;
         migrate) kinds='file file any any any' options='--new --explain -h --help' ;;
+        serve) kinds='edition file' options='--read-only --explain -h --help' ;;
     esac
     if [[ $current == -* ]]; then
         mapfile -t COMPREPLY < <(compgen -W "$options" -- "$current")
